@@ -1,0 +1,11 @@
+use Rattle.std.proofs.Common.{◌≡◌, List, ℕ, map, filter, take, string_bytes}
+use Rattle.dir_entry.specs.Entry.{shown as without_keys}
+use Rattle.ldap_msg.specs.View.{attribute_view}
+use Rattle.dir_search.specs.Selection.{is_selected, shown}
+use Rattle.dir_search.proofs.selecting.show_selected.Given as goal
+
+-- what is shown of the attributes so far
+abbrev pub invariant-loop-attribute : goal.invariant-loop-attribute
+invariant-loop-attribute l =
+    map attribute_view l.shown.items
+    ≡ map (shown l.schema l.types_only) (filter (λ a. is_selected l.schema (map string_bytes l.selectors) a.kind) (map without_keys (take l.attribute-index l.attributes)))

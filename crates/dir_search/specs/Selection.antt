@@ -1,0 +1,44 @@
+-- Which attributes of an entry are shown: RFC 4511 4.5.1.8. A schema, selectors and an entry flow in; what is shown of the
+-- entry flows out.
+use Rattle.std.specs.Prelude.{ℕ, List, [], ◌∷◌, Bool, true, false, ◌||◌, if◌then◌else◌, map, filter, codes, Option, Some, None}
+use Rattle.std.specs.List.{list_any}
+use Rattle.std.specs.Str.{bytes_eq}
+use Rattle.ldap_schema.specs.Schema.{SchemaModel, TypeModel, find, is_under, type_at}
+use Rattle.dir_entry.specs.Entry.{AttributeModel}
+use Rattle.ldap_msg.specs.Messages.{PartialAttributeValue, SearchResultEntryValue}
+use Rattle.dir_store.specs.Directory.{NamedEntry}
+
+-- a recognised description selects its type and the subtypes (RFC 4512 2.5.1); another one selects nothing
+abbrev pub is_named_by : SchemaModel → ℕ → Option ℕ → Bool
+is_named_by s t None = false
+is_named_by s t (Some u) = is_under s t u
+
+-- `*` selects every user attribute; `1.1` is no description, so that alone it selects none
+abbrev pub is_selected_by : SchemaModel → ℕ → List ℕ → Bool
+is_selected_by s t selector = bytes_eq selector (codes "*") || is_named_by s t (find s selector)
+
+-- No selector at all selects every user attribute.
+abbrev pub is_selected : SchemaModel → List (List ℕ) → ℕ → Bool
+is_selected s [] t = true
+is_selected s (selector ∷ selectors) t = list_any (is_selected_by s t) (selector ∷ selectors)
+
+-- a type goes by its first name, and by its object identifier if it has none
+abbrev pub first_of : List ℕ → List (List ℕ) → List ℕ
+first_of oid [] = oid
+first_of oid (name ∷ names) = name
+
+abbrev pub name_in : Option TypeModel → List ℕ
+name_in None = []
+name_in (Some t) = first_of t.oid t.names
+
+abbrev pub first_name : SchemaModel → ℕ → List ℕ
+first_name s t = name_in (type_at s t)
+
+-- typesOnly leaves the values out (RFC 4511 4.5.1.6)
+abbrev pub shown : SchemaModel → Bool → AttributeModel → PartialAttributeValue
+shown s types_only a = record { description = first_name s a.kind; values = if types_only then [] else a.values }
+
+-- What is shown of an entry: its name, and the selected attributes in its order.
+abbrev pub selected : SchemaModel → List (List ℕ) → Bool → NamedEntry → SearchResultEntryValue
+selected s selectors types_only e =
+    record { object_name = e.name; attributes = map (shown s types_only) (filter (λ a. is_selected s selectors a.kind) e.attributes) }

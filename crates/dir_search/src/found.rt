@@ -1,0 +1,12 @@
+//! What a search finds.
+
+use ldap_msg::SearchResultEntry;
+
+/// What a search finds.
+#[derive(Debug, Drop)]
+pub struct SearchAnswer {
+    /// The resultCode of the SearchResultDone.
+    pub code: u32,
+    /// In order of number.
+    pub entries: Vec<SearchResultEntry>,
+}

@@ -1,0 +1,3 @@
+pub mod Directory
+pub mod Stored
+pub mod Given

@@ -1,0 +1,494 @@
+//! Whole runs over texts. The expected octets are those of the worked examples, or come from an independent encoder.
+
+use crate::run::{Status, run};
+use std::alloc::Global;
+use std::io::{self, Read};
+use std::process::Abort;
+use std::test::*;
+
+const PLAIN: &[&str] = &["dird", "answer"];
+
+const SAMPLE: &[&str] = &["dird", "answer", "--sample"];
+
+/// What a run writes, its faults and its status.
+#[derive(Drop)]
+struct Ran {
+    output: Vec<u8>,
+    faults: Vec<u8>,
+    status: Status,
+}
+
+fn owned(alloc: Global, words: &[&str]) -> Result<Vec<String>, Fail> {
+    let mut all = Vec::new(alloc);
+    for word in words {
+        all.push(String::from_str(alloc, word)?)?;
+    }
+    Ok(all)
+}
+
+fn run_text(alloc: Global, words: &[&str], text: &[u8]) -> Result<Ran, Fail> {
+    let words = owned(alloc, words)?;
+    let mut input = text;
+    let mut output = Vec::new(alloc);
+    let mut faults = Vec::new(alloc);
+    let status = run(alloc, &words, &mut input, &mut output, &mut faults);
+    Ok(Ran {
+        output,
+        faults,
+        status,
+    })
+}
+
+/// Lines, each with its end.
+fn lines(alloc: Global, texts: &[&str]) -> Result<Vec<u8>, Fail> {
+    let mut all = Vec::new(alloc);
+    for text in texts {
+        all.extend_from_slice(text.as_bytes())?;
+        all.push(b'\n')?;
+    }
+    Ok(all)
+}
+
+/// Runs these lines, and compares what is written.
+fn check(
+    rt: &impl Abort,
+    alloc: Global,
+    words: &[&str],
+    input: &[&str],
+    output: &[&str],
+) -> Result<(), Fail> {
+    let Ran {
+        output: written,
+        faults,
+        status,
+    } = run_text(alloc, words, &lines(alloc, input)?)?;
+    assert!(rt; written.as_slice() == lines(alloc, output)?.as_slice());
+    assert!(rt; faults.is_empty());
+    assert_eq!(rt; status, Status::Done);
+    Ok(())
+}
+
+#[test]
+fn answers_with_the_entries_outside_the_false_and_undefined(rt: HostRuntime) -> Result<(), Fail> {
+    check(
+        &rt,
+        rt.alloc(),
+        SAMPLE,
+        &[
+            "302c020101632704000a01020a0100020100020100010100a20ea30c04056c6162656c040361626330040402636e",
+        ],
+        &[
+            "301a0201016415041164633d6578616d706c652c64633d636f6d3000",
+            "3023020101641e041a6f753d4974656d732c64633d6578616d706c652c64633d636f6d3000",
+            "303902010164340422636e3d416e6e612c6f753d4974656d732c64633d6578616d706c652c64633d636f6d300e300c0402636e31060404416e6e61",
+            "303b02010164360423636e3d416e204e612c6f753d4974656d732c64633d6578616d706c652c64633d636f6d300f300d0402636e31070405416e204e61",
+            "300c02010165070a010004000400",
+        ],
+    )
+}
+
+#[test]
+fn takes_upper_case_hex_and_skips_empty_lines(rt: HostRuntime) -> Result<(), Fail> {
+    check(
+        &rt,
+        rt.alloc(),
+        SAMPLE,
+        &[
+            "",
+            "302A020101632504000A01020A0100020100020100010100A30C04056C6162656C040361626330040402636E",
+        ],
+        &[
+            "303702010164320421636e3d416e612c6f753d4974656d732c64633d6578616d706c652c64633d636f6d300d300b0402636e31050403416e61",
+            "300c02010165070a010004000400",
+        ],
+    )
+}
+
+#[test]
+fn gives_the_notice_for_what_is_no_request(rt: HostRuntime) -> Result<(), Fail> {
+    let alloc = rt.alloc();
+    let text = lines(
+        alloc,
+        &[
+            "30800201016007020103040080000000",
+            "302a020101632504000a01020a0100020100020100010100a30c04056c6162656c040361626330040402636e",
+        ],
+    )?;
+    let Ran {
+        output,
+        faults,
+        status,
+    } = run_text(alloc, SAMPLE, &text)?;
+    let notice = "3024020100781f0a0102040004008a16312e332e362e312e342e312e313436362e3230303336";
+    assert!(rt; output.as_slice() == lines(alloc, &[notice])?.as_slice());
+    assert!(rt; faults.is_empty());
+    assert_eq!(rt; status, Status::Refused);
+    Ok(())
+}
+
+#[test]
+fn refuses_a_line_that_is_not_hex(rt: HostRuntime) -> Result<(), Fail> {
+    let alloc = rt.alloc();
+    let Ran {
+        output,
+        faults,
+        status,
+    } = run_text(alloc, SAMPLE, b"\n30zz\n")?;
+    assert!(rt; output.is_empty());
+    assert!(rt; faults.as_slice() == b"bad hex line 2\n".as_slice());
+    assert_eq!(rt; status.code(), 1);
+    Ok(())
+}
+
+#[test]
+fn ends_with_the_input(rt: HostRuntime) -> Result<(), Fail> {
+    let Ran {
+        output,
+        faults,
+        status,
+    } = run_text(rt.alloc(), SAMPLE, b"")?;
+    assert!(rt; output.is_empty() && faults.is_empty());
+    assert_eq!(rt; status.code(), 0);
+    Ok(())
+}
+
+#[test]
+fn refuses_a_bad_command_line(rt: HostRuntime) -> Result<(), Fail> {
+    let alloc = rt.alloc();
+    let refused = [
+        ["dird", "answr", "-x"].as_slice(),
+        ["dird", "answer", "more"].as_slice(),
+        ["dird"].as_slice(),
+    ];
+    for words in refused {
+        let Ran {
+            output,
+            faults,
+            status,
+        } = run_text(alloc, words, b"")?;
+        assert!(rt; output.is_empty() && !faults.is_empty());
+        assert_eq!(rt; status.code(), 2);
+    }
+    Ok(())
+}
+
+#[test]
+fn tells_its_version(rt: HostRuntime) -> Result<(), Fail> {
+    let Ran {
+        output,
+        faults,
+        status,
+    } = run_text(rt.alloc(), &["dird", "--version"], b"")?;
+    assert!(rt; output.as_slice() == b"dird 0.1.0\n".as_slice());
+    assert!(rt; faults.is_empty());
+    assert_eq!(rt; status.code(), 0);
+    Ok(())
+}
+
+/// A reader whose reads all fail.
+#[derive(Drop)]
+struct Failing;
+
+impl Read for Failing {
+    fn read(&mut self, _buf: &mut [u8]) -> io::Result<usize> {
+        Err(io::Error::from(io::ErrorKind::BrokenPipe))
+    }
+}
+
+#[test]
+fn tells_a_read_that_fails(rt: HostRuntime) -> Result<(), Fail> {
+    let alloc = rt.alloc();
+    let words = owned(alloc, SAMPLE)?;
+    let mut input = io::BufReader::new(alloc, Failing)?;
+    let mut output = Vec::new(alloc);
+    let mut faults = Vec::new(alloc);
+    let status = run(alloc, &words, &mut input, &mut output, &mut faults);
+    assert!(rt; output.is_empty());
+    assert!(rt; faults.as_slice() == b"cannot read\n".as_slice());
+    assert_eq!(rt; status.code(), 1);
+    Ok(())
+}
+
+#[test]
+fn shows_up_to_one_entries(rt: HostRuntime) -> Result<(), Fail> {
+    check(
+        &rt,
+        rt.alloc(),
+        SAMPLE,
+        &["301f020101631a04000a01020a0100020101020100010100a00030050403312e31"],
+        &[
+            "301a0201016415041164633d6578616d706c652c64633d636f6d3000",
+            "300c02010165070a010404000400",
+        ],
+    )
+}
+
+#[test]
+fn shows_up_to_five_entries(rt: HostRuntime) -> Result<(), Fail> {
+    check(
+        &rt,
+        rt.alloc(),
+        SAMPLE,
+        &["301f020101631a04000a01020a0100020105020100010100a00030050403312e31"],
+        &[
+            "301a0201016415041164633d6578616d706c652c64633d636f6d3000",
+            "3023020101641e041a6f753d4974656d732c64633d6578616d706c652c64633d636f6d3000",
+            "302a02010164250421636e3d416e612c6f753d4974656d732c64633d6578616d706c652c64633d636f6d3000",
+            "302b02010164260422636e3d416e6e612c6f753d4974656d732c64633d6578616d706c652c64633d636f6d3000",
+            "302c02010164270423636e3d416e616e612c6f753d4974656d732c64633d6578616d706c652c64633d636f6d3000",
+            "300c02010165070a010404000400",
+        ],
+    )
+}
+
+#[test]
+fn shows_up_to_six_entries(rt: HostRuntime) -> Result<(), Fail> {
+    check(
+        &rt,
+        rt.alloc(),
+        SAMPLE,
+        &["301f020101631a04000a01020a0100020106020100010100a00030050403312e31"],
+        &[
+            "301a0201016415041164633d6578616d706c652c64633d636f6d3000",
+            "3023020101641e041a6f753d4974656d732c64633d6578616d706c652c64633d636f6d3000",
+            "302a02010164250421636e3d416e612c6f753d4974656d732c64633d6578616d706c652c64633d636f6d3000",
+            "302b02010164260422636e3d416e6e612c6f753d4974656d732c64633d6578616d706c652c64633d636f6d3000",
+            "302c02010164270423636e3d416e616e612c6f753d4974656d732c64633d6578616d706c652c64633d636f6d3000",
+            "302c02010164270423636e3d416e204e612c6f753d4974656d732c64633d6578616d706c652c64633d636f6d3000",
+            "300c02010165070a010004000400",
+        ],
+    )
+}
+
+#[test]
+fn shows_up_to_seven_entries(rt: HostRuntime) -> Result<(), Fail> {
+    check(
+        &rt,
+        rt.alloc(),
+        SAMPLE,
+        &["301f020101631a04000a01020a0100020107020100010100a00030050403312e31"],
+        &[
+            "301a0201016415041164633d6578616d706c652c64633d636f6d3000",
+            "3023020101641e041a6f753d4974656d732c64633d6578616d706c652c64633d636f6d3000",
+            "302a02010164250421636e3d416e612c6f753d4974656d732c64633d6578616d706c652c64633d636f6d3000",
+            "302b02010164260422636e3d416e6e612c6f753d4974656d732c64633d6578616d706c652c64633d636f6d3000",
+            "302c02010164270423636e3d416e616e612c6f753d4974656d732c64633d6578616d706c652c64633d636f6d3000",
+            "302c02010164270423636e3d416e204e612c6f753d4974656d732c64633d6578616d706c652c64633d636f6d3000",
+            "300c02010165070a010004000400",
+        ],
+    )
+}
+
+#[test]
+fn shows_all_attributes_without_a_selector(rt: HostRuntime) -> Result<(), Fail> {
+    check(
+        &rt,
+        rt.alloc(),
+        SAMPLE,
+        &["3023020101631e04000a01020a0100020100020100010100a3090402636e0403616e613000"],
+        &[
+            "3081890201016481830421636e3d416e612c6f753d4974656d732c64633d6578616d706c652c64633d636f6d305e301a040b6f626a656374436c617373310b04046974656d0403746f70300b0402636e31050403416e613016040b6465736372697074696f6e310704056669727374300e04056c6162656c31050403616263300b040472616e6b3103040139",
+            "300c02010165070a010004000400",
+        ],
+    )
+}
+
+#[test]
+fn shows_all_attributes_by_an_asterisk(rt: HostRuntime) -> Result<(), Fail> {
+    check(
+        &rt,
+        rt.alloc(),
+        SAMPLE,
+        &[
+            "302b020101632604000a01020a0100020100020100010100a3090402636e0403616e61300804012a0403312e31",
+        ],
+        &[
+            "3081890201016481830421636e3d416e612c6f753d4974656d732c64633d6578616d706c652c64633d636f6d305e301a040b6f626a656374436c617373310b04046974656d0403746f70300b0402636e31050403416e613016040b6465736372697074696f6e310704056669727374300e04056c6162656c31050403616263300b040472616e6b3103040139",
+            "300c02010165070a010004000400",
+        ],
+    )
+}
+
+#[test]
+fn shows_no_attributes_by_one_dot_one(rt: HostRuntime) -> Result<(), Fail> {
+    check(
+        &rt,
+        rt.alloc(),
+        SAMPLE,
+        &["3028020101632304000a01020a0100020100020100010100a3090402636e0403616e6130050403312e31"],
+        &[
+            "302a02010164250421636e3d416e612c6f753d4974656d732c64633d6578616d706c652c64633d636f6d3000",
+            "300c02010165070a010004000400",
+        ],
+    )
+}
+
+#[test]
+fn ignores_one_dot_one_beside_another_selector(rt: HostRuntime) -> Result<(), Fail> {
+    check(
+        &rt,
+        rt.alloc(),
+        SAMPLE,
+        &[
+            "302e020101632904000a01020a0100020100020100010100a3090402636e0403616e61300b0403312e31040472616e6b",
+        ],
+        &[
+            "303702010164320421636e3d416e612c6f753d4974656d732c64633d6578616d706c652c64633d636f6d300d300b040472616e6b3103040139",
+            "300c02010165070a010004000400",
+        ],
+    )
+}
+
+#[test]
+fn shows_subtypes_of_a_selected_supertype(rt: HostRuntime) -> Result<(), Fail> {
+    check(
+        &rt,
+        rt.alloc(),
+        SAMPLE,
+        &[
+            "3032020101632d04000a01020a0100020100020100010100a30b0402636e0405616e616e61300d04044e414d4504056c6162656c",
+        ],
+        &[
+            "304a02010164450423636e3d416e616e612c6f753d4974656d732c64633d6578616d706c652c64633d636f6d301e300d0402636e31070405416e616e61300d04067469636b65743103040137",
+            "300c02010165070a010004000400",
+        ],
+    )
+}
+
+#[test]
+fn shows_just_a_selected_subtype(rt: HostRuntime) -> Result<(), Fail> {
+    check(
+        &rt,
+        rt.alloc(),
+        SAMPLE,
+        &[
+            "302d020101632804000a01020a0100020100020100010100a30b0402636e0405616e616e61300804067469636b6574",
+        ],
+        &[
+            "303b02010164360423636e3d416e616e612c6f753d4974656d732c64633d6578616d706c652c64633d636f6d300f300d04067469636b65743103040137",
+            "300c02010165070a010004000400",
+        ],
+    )
+}
+
+#[test]
+fn ignores_an_unknown_selector(rt: HostRuntime) -> Result<(), Fail> {
+    check(
+        &rt,
+        rt.alloc(),
+        SAMPLE,
+        &[
+            "302b020101632604000a01020a0100020100020100010100a3090402636e0403616e61300804066e6f73756368",
+        ],
+        &[
+            "302a02010164250421636e3d416e612c6f753d4974656d732c64633d6578616d706c652c64633d636f6d3000",
+            "300c02010165070a010004000400",
+        ],
+    )
+}
+
+#[test]
+fn shows_an_attribute_once_that_is_selected_twice(rt: HostRuntime) -> Result<(), Fail> {
+    check(
+        &rt,
+        rt.alloc(),
+        SAMPLE,
+        &[
+            "303c020101633704000a01020a0100020100020100010100a3090402636e0403616e6130190402636e040a636f6d6d6f6e4e616d650407322e352e342e33",
+        ],
+        &[
+            "303702010164320421636e3d416e612c6f753d4974656d732c64633d6578616d706c652c64633d636f6d300d300b0402636e31050403416e61",
+            "300c02010165070a010004000400",
+        ],
+    )
+}
+
+#[test]
+fn leaves_values_out_by_types_only(rt: HostRuntime) -> Result<(), Fail> {
+    check(
+        &rt,
+        rt.alloc(),
+        SAMPLE,
+        &["3023020101631e04000a01020a01000201000201000101ffa3090402636e0403616e613000"],
+        &[
+            "306902010164640421636e3d416e612c6f753d4974656d732c64633d6578616d706c652c64633d636f6d303f300f040b6f626a656374436c617373310030060402636e3100300f040b6465736372697074696f6e3100300904056c6162656c31003008040472616e6b3100",
+            "300c02010165070a010004000400",
+        ],
+    )
+}
+
+#[test]
+fn answers_two_searches_on_two_lines(rt: HostRuntime) -> Result<(), Fail> {
+    check(
+        &rt,
+        rt.alloc(),
+        SAMPLE,
+        &[
+            "302a020101632504000a01020a0100020100020100010100a30c04056c6162656c040361626330040402636e",
+            "3024020102631f04000a01020a010002010002010001010087067469636b657430040402636e",
+        ],
+        &[
+            "303702010164320421636e3d416e612c6f753d4974656d732c64633d6578616d706c652c64633d636f6d300d300b0402636e31050403416e61",
+            "300c02010165070a010004000400",
+            "303b02010264360423636e3d416e616e612c6f753d4974656d732c64633d6578616d706c652c64633d636f6d300f300d0402636e31070405416e616e61",
+            "300c02010265070a010004000400",
+        ],
+    )
+}
+
+#[test]
+fn refuses_another_base(rt: HostRuntime) -> Result<(), Fail> {
+    check(
+        &rt,
+        rt.alloc(),
+        SAMPLE,
+        &[
+            "302b0201056326041164633d6578616d706c652c64633d636f6d0a01020a0100020100020100010100a0003000",
+        ],
+        &["300c02010565070a013504000400"],
+    )
+}
+
+#[test]
+fn refuses_another_scope(rt: HostRuntime) -> Result<(), Fail> {
+    check(
+        &rt,
+        rt.alloc(),
+        SAMPLE,
+        &[
+            "301a020105631504000a01000a0100020100020100010100a0003000",
+            "301a020106631504000a01030a0100020100020100010100a0003000",
+        ],
+        &[
+            "300c02010565070a013504000400",
+            "300c02010665070a013504000400",
+        ],
+    )
+}
+
+#[test]
+fn answers_nothing_over_no_entries(rt: HostRuntime) -> Result<(), Fail> {
+    check(
+        &rt,
+        rt.alloc(),
+        PLAIN,
+        &["301e020101631904000a01020a0100020100020100010100a00030040402636e"],
+        &["300c02010165070a010004000400"],
+    )
+}
+
+#[test]
+fn takes_any_deref_and_large_ids(rt: HostRuntime) -> Result<(), Fail> {
+    check(
+        &rt,
+        rt.alloc(),
+        SAMPLE,
+        &[
+            "302a02047fffffff632204000a01020a0103020100020100010100a3090402636e0403616e6130040402636e",
+        ],
+        &[
+            "303a02047fffffff64320421636e3d416e612c6f753d4974656d732c64633d6578616d706c652c64633d636f6d300d300b0402636e31050403416e61",
+            "300f02047fffffff65070a010004000400",
+        ],
+    )
+}

@@ -1,0 +1,5 @@
+pub mod Number
+pub mod Element
+pub mod Reading
+pub mod Header
+pub mod Values

@@ -1,0 +1,4 @@
+pub mod Truths
+pub mod Leaves
+pub mod Items
+pub mod Rows

@@ -1,0 +1,7 @@
+use Rattle.std.proofs.Common.{take}
+use Rattle.ldap_filter.specs.View.{views}
+use Rattle.ldap_eval.specs.Bound.{AreBoundTo}
+use Rattle.ldap_eval.proofs.binding.+bind.Given as goal
+
+abbrev pub invariant-bind_all-loop-filter : goal.invariant-bind_all-loop-filter
+invariant-bind_all-loop-filter l = AreBoundTo l.schema (views (take l.filter-index l.filters)) l.parts.items

@@ -1,0 +1,7 @@
+use Rattle.std.proofs.Common.{◌≡◌, drop, map}
+use Rattle.ldap_match.specs.Truth.{truth_or, disjunction}
+use Rattle.ldap_eval.specs.Bound.{leaf_on}
+use Rattle.ldap_eval.proofs.evaluating.any_of.Given as goal
+
+abbrev pub invariant-loop-attribute : goal.invariant-loop-attribute
+invariant-loop-attribute l = truth_or l.truth (disjunction (map (leaf_on l.leaf) (drop l.attribute-index l.attributes))) ≡ disjunction (map (leaf_on l.leaf) l.attributes)

@@ -1,0 +1,64 @@
+-- The value of a bound filter on the keys of an entry, and what it is bound to. Only the evaluation of filters, and the
+-- plans made of bound filters, look at it.
+use Rattle.std.specs.Prelude.{ℕ, ◌+◌, List, [], ◌∷◌, Bool, true, false, cond, map, nat_eq, ◌≡◌}
+use Rattle.ldap_schema.specs.Schema.{SchemaModel, TypeModel, is_under}
+use Rattle.ldap_match.specs.Truth.{truth_not, conjunction, disjunction}
+use Rattle.ldap_match.specs.Item.{Item}
+use Rattle.ldap_match.specs.Keyed.{test_value, test_for}
+use Rattle.ldap_match.specs.declared.truth.Truth.{Truth}
+use Rattle.ldap_match.specs.declared.truth.Truth.TheVariants.{False, Undefined}
+use Rattle.dir_entry.specs.Entry.{KeyedAttribute, attributes_of, IsKeyedBy}
+use Rattle.ldap_filter.specs.Tree.{Tree, Trees, no_trees, tree}
+use Rattle.ldap_eval.specs.Value.{item_value, filter_value}
+use Rattle.ldap_eval.specs.declared.bound.Leaf.{Leaf}
+use Rattle.ldap_eval.specs.declared.bound.BoundFilter.{BoundFilter, fold-BoundFilter}
+use Rattle.ldap_eval.specs.declared.bound.BoundFilter.TheVariants as bound
+use Rattle.ldap_eval.specs.declared.bound.BoundFilter.TheOpen.{BoundFilter-F}
+
+-- a leaf on one attribute: its test, where the attribute is of its type, else False
+abbrev pub leaf_on : Leaf → KeyedAttribute → Truth
+leaf_on leaf a = cond (nat_eq a.kind leaf.type_id) (test_value leaf.test a.keys) False
+
+-- a leaf on an entry: the `or` over the attributes
+abbrev pub leaf_value : List KeyedAttribute → Leaf → Truth
+leaf_value e leaf = disjunction (map (leaf_on leaf) e)
+
+-- one level, with each part already valued
+abbrev pub value_step : List KeyedAttribute → BoundFilter-F Truth → Truth
+value_step e (BoundFilter-F.And v) = conjunction v.items
+value_step e (BoundFilter-F.Or v) = disjunction v.items
+value_step e (BoundFilter-F.Not b) = truth_not b.value
+value_step e BoundFilter-F.Undefined = Undefined
+value_step e (BoundFilter-F.Leaf leaf) = leaf_value e leaf
+
+-- the value of a bound filter on an entry
+abbrev pub bound_value : List KeyedAttribute → BoundFilter → Truth
+bound_value e = fold-BoundFilter Truth (value_step e)
+
+abbrev pub leaf_if : Bool → BoundFilter → List BoundFilter → List BoundFilter
+leaf_if true leaf leaves = leaf ∷ leaves
+leaf_if false leaf leaves = leaves
+
+-- from a number on, a leaf for each type under a type, with the test that an item makes of it
+abbrev pub leaves_from : SchemaModel → Item → ℕ → List TypeModel → ℕ → List BoundFilter
+leaves_from s item t [] i = []
+leaves_from s item t (x ∷ xs) i = leaf_if (is_under s i t) (bound.Leaf (record { type_id = i; test = test_for s item i })) (leaves_from s item t xs (i + 1))
+
+-- a leaf for each type under a type
+abbrev pub leaves_for : SchemaModel → Item → ℕ → List BoundFilter
+leaves_for s item t = leaves_from s item t s.types 0
+
+-- A bound item has the item's value on every entry that is keyed by the schema.
+abbrev pub IsBoundItem : SchemaModel → List ℕ → Item → BoundFilter → Type 0
+IsBoundItem s description item b = (e : List KeyedAttribute) → IsKeyedBy s e → bound_value e b ≡ item_value s description item (attributes_of e)
+
+-- A bound filter stands for a filter under a schema: it has the filter's value on every entry that is keyed by the schema.
+abbrev pub IsBoundTo : SchemaModel → Tree → BoundFilter → Type 0
+IsBoundTo s t b = (e : List KeyedAttribute) → IsKeyedBy s e → bound_value e b ≡ filter_value s t (attributes_of e)
+
+-- bound filters stand for filters, one by one
+abbrev pub AreBoundTo : SchemaModel → Trees → List BoundFilter → Type 0
+AreBoundTo s no_trees [] = Unit {0}
+AreBoundTo s no_trees (b ∷ bs) = ⊥
+AreBoundTo s (tree t ts) [] = ⊥
+AreBoundTo s (tree t ts) (b ∷ bs) = IsBoundTo s t b × AreBoundTo s ts bs

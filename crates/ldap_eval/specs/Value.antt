@@ -1,0 +1,46 @@
+-- The three-valued value of a filter on an entry: RFC 4511 4.5.1.7. A schema, a filter's tree and an entry's attributes
+-- flow in, a truth flows out; keys, indexes and memory are not here.
+use Rattle.std.specs.Prelude.{ℕ, List, cond, Option, None, Some, filter, map}
+use Rattle.ldap_schema.specs.Schema.{SchemaModel, find, is_under}
+use Rattle.ldap_match.specs.Truth.{truth_and, truth_or, truth_not, disjunction}
+use Rattle.ldap_match.specs.Item.{Item, present, equal, is_answerable, item_on_attribute}
+use Rattle.ldap_match.specs.declared.truth.Truth.{Truth}
+use Rattle.ldap_match.specs.declared.truth.Truth.TheVariants.{True, False, Undefined}
+use Rattle.dir_entry.specs.Entry.{AttributeModel}
+use Rattle.ldap_filter.specs.Tree.{Tree, conj, disj, negation, equality, presence, Trees, no_trees, tree}
+
+-- the attributes of a type and of its subtypes (RFC 4512 2.5.1)
+abbrev pub attributes_under : SchemaModel → ℕ → List AttributeModel → List AttributeModel
+attributes_under s t e = filter (λ a. is_under s a.kind t) e
+
+-- The item on a type: Undefined, where the type lacks the rule or the assertion is not in its syntax; else the `or` of the
+-- item on each attribute of the type and its subtypes (RFC 4511 4.5.1.7).
+abbrev pub item_on_type : SchemaModel → Item → ℕ → List AttributeModel → Truth
+item_on_type s item t e = cond (is_answerable s item t) (disjunction (map (λ a. item_on_attribute s item a.kind a.values) (attributes_under s t e))) Undefined
+
+abbrev pub item_on : SchemaModel → Item → Option ℕ → List AttributeModel → Truth
+item_on s item None e = Undefined
+item_on s item (Some t) e = item_on_type s item t e
+
+-- The item on an entry: Undefined, where the description is not recognised (RFC 4511 4.5.1.7).
+abbrev pub item_value : SchemaModel → List ℕ → Item → List AttributeModel → Truth
+item_value s description item e = item_on s item (find s description) e
+
+abbrev mutual
+  -- The value of a filter on an entry (RFC 4511 4.5.1.7).
+  pub filter_value : SchemaModel → Tree → List AttributeModel → Truth
+  filter_value s (conj ts) e = all_value s ts e
+  filter_value s (disj ts) e = any_value s ts e
+  filter_value s (negation t) e = truth_not (filter_value s t e)
+  filter_value s (equality d a) e = item_value s d (equal a) e
+  filter_value s (presence d) e = item_value s d present e
+
+  -- the `and` of filters
+  pub all_value : SchemaModel → Trees → List AttributeModel → Truth
+  all_value s no_trees e = True
+  all_value s (tree t ts) e = truth_and (filter_value s t e) (all_value s ts e)
+
+  -- the `or` of filters
+  pub any_value : SchemaModel → Trees → List AttributeModel → Truth
+  any_value s no_trees e = False
+  any_value s (tree t ts) e = truth_or (filter_value s t e) (any_value s ts e)

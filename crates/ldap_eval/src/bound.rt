@@ -1,0 +1,24 @@
+// Bound filters. Plain data, for evaluation and for plans.
+// What must not be here: how a filter is bound, and what it says of an entry.
+
+use ldap_match::Test;
+use ldap_schema::TypeId;
+
+/// A test on the attributes of one type, and not of its subtypes.
+#[derive(Drop)]
+pub struct Leaf {
+    pub type_id: TypeId,
+    pub test: Test,
+}
+
+/// A filter with its assertions made ready under one schema: an item is an `or` of leaves, one for each type under its type,
+/// each with the test that the item makes of that type.
+#[derive(Drop)]
+pub enum BoundFilter {
+    And(Vec<BoundFilter>),
+    Or(Vec<BoundFilter>),
+    Not(Box<BoundFilter>),
+    /// An item that is Undefined on every entry.
+    Undefined,
+    Leaf(Leaf),
+}

@@ -1,0 +1,12 @@
+//! Filters on entries: a schema and a filter flow in once, then entries, and a three-valued truth flows out. Messages,
+//! plans and indexes are not here.
+#![tactic(auto)]
+
+mod asking;
+mod binding;
+mod bound;
+mod evaluating;
+
+pub use binding::bind;
+pub use bound::{BoundFilter, Leaf};
+pub use evaluating::value;

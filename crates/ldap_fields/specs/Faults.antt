@@ -1,0 +1,12 @@
+-- Wire, between elements and messages: what a fault says of the octets.
+-- In: a fault and a part of the grammar. Out: what the fault means there. Not here: limits of filters.
+use Rattle.ldap_fields.specs.declared.fault.MsgFault.{MsgFault}
+use Rattle.ldap_fields.specs.declared.fault.MsgFault.TheVariants.{TooLarge, NotAMessage, TooDeep, TooManyItems, NoMemory}
+
+-- A fault of a reader without limits: the octets are not in the grammar, or memory ran out.
+abbrev pub IsPlainFault : MsgFault → Type 0 → Type 0
+IsPlainFault NotAMessage InGrammar = InGrammar → ⊥
+IsPlainFault NoMemory InGrammar = Unit {0}
+IsPlainFault TooLarge InGrammar = ⊥
+IsPlainFault TooDeep InGrammar = ⊥
+IsPlainFault TooManyItems InGrammar = ⊥

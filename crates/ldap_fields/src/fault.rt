@@ -1,0 +1,44 @@
+//! Wire, between elements and messages: why octets are no message.
+//! In: nothing. Out: the refusals E7 to E10, and want of memory. Not here: faults of one element.
+
+ghost use Rattle.std.specs.Prelude.{◌≡◌};
+ghost use Rattle.ldap_fields.specs.declared.fault.MsgFault.TheVariants.{NoMemory};
+
+use std::alloc::{AllocError, AllocFailed};
+use thiserror::Error;
+
+/// Why octets are not read as a message or a filter.
+#[derive(Clone, Copy, Debug, PartialEq, Eq, Error)]
+pub enum MsgFault {
+    /// A message of more than 1048576 octets.
+    #[error("E7: a message of more than 1048576 octets")]
+    TooLarge,
+    /// The octets are not in the grammar of RFC 4511.
+    #[error("E8: no message")]
+    NotAMessage,
+    /// A filter more than 64 deep.
+    #[error("E9: a filter more than 64 deep")]
+    TooDeep,
+    /// A filter of more than 512 items.
+    #[error("E10: a filter of more than 512 items")]
+    TooManyItems,
+    /// Memory ran out.
+    #[error("out of memory")]
+    NoMemory,
+}
+
+impl From<AllocError> for MsgFault {
+    ghost from_gives = { λ _ e. e ≡ NoMemory };
+
+    fn from(_e: AllocError) -> MsgFault {
+        MsgFault::NoMemory
+    }
+}
+
+impl<T: Drop> From<AllocFailed<T>> for MsgFault {
+    ghost from_gives = { λ _ e. e ≡ NoMemory };
+
+    fn from(_e: AllocFailed<T>) -> MsgFault {
+        MsgFault::NoMemory
+    }
+}

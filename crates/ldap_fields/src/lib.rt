@@ -1,0 +1,16 @@
+//! Wire, between elements and messages: the fields that messages and filters are made of.
+//! In: octets. Out: a field's value and the octets after it, or a named fault; and a row's octets.
+//! Not here: which fields a message has.
+#![tactic(auto)]
+
+mod fault;
+mod fields;
+mod optional;
+mod rows;
+mod writing;
+
+pub use fault::MsgFault;
+pub use fields::{element, field, flag_field, number_field, octets_field, text, text_field};
+pub use optional::{flag_or_false, has_first, optional_octets, optional_text};
+pub use rows::{elements, texts_field, texts_or_none, values_field};
+pub use writing::{put_texts, put_values};

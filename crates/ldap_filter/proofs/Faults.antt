@@ -1,0 +1,106 @@
+-- Wire, filters: why a filter was refused, at each exit.
+use Rattle.std.proofs.Common.{◌≡◌, ℕ, suc, ◌-◌, ◌<◌, List, [], ◌++◌, refl, sym, ap, subst, ◌∙◌, ◌⊎◌, inl, inr, arith}
+use Rattle.std.proofs.lemmas.List.{append-nil}
+use Rattle.std.specs.Str.{IsUtf8}
+use Rattle.ldap_filter.specs.Tree.{Tree, conj, disj, negation, equality, presence}
+use Rattle.ldap_filter.specs.Grammar.{octet_of, IsBody, IsFilter, IsAssertion}
+use Rattle.ldap_fields.specs.Fields.{HasField}
+use Rattle.ldap_fields.specs.Faults.{IsPlainFault}
+use Rattle.ldap_filter.specs.Limits.{IsOctet, Opens, under, along, Reads, IsFault, IsRowFault}
+use Rattle.ldap_fields.specs.declared.fault.MsgFault.{MsgFault}
+use Rattle.ldap_fields.specs.declared.fault.MsgFault.TheVariants.{TooLarge, NotAMessage, TooDeep, TooManyItems, NoMemory}
+use Rattle.ldap_fields.proofs.Same.{same_field}
+use Rattle.ldap_filter.proofs.Unique.{filter_field, negation_of, row_of, front_unique}
+
+-- a filter at the front has the field that was read
+pub at_field : (octets content rest : List ℕ) (first : ℕ) → HasField octets first content rest
+    → ((t : Tree) → octet_of t ≡ first → IsBody t content → ⊥) → IsFault NotAMessage 0 0 octets
+at_field octets content rest first f none t s x is e =
+    let same = same_field octets is.content content x rest (octet_of t) first (filter_field t octets s x is e) f in
+    none t same.first (subst (IsBody t) same.content is.inside)
+
+known : (t : Tree) → IsOctet (octet_of t)
+known (conj ts) = inl (omega arith, omega arith)
+known (disj ts) = inl (omega arith, omega arith)
+known (negation t) = inl (omega arith, omega arith)
+known (equality d a) = inl (omega arith, omega arith)
+known (presence d) = inr refl
+
+pub no_field : (octets : List ℕ) → (((first : ℕ) × (content rest : List ℕ) × HasField octets first content rest) → ⊥) → IsFault NotAMessage 0 0 octets
+no_field octets none t s x is e = none (octet_of t, is.content, x, filter_field t octets s x is e)
+
+pub unknown : (octets content rest : List ℕ) (first : ℕ) → HasField octets first content rest → (IsOctet first → ⊥) → IsFault NotAMessage 0 0 octets
+unknown octets content rest first f never = at_field octets content rest first f (λ t e h. never (subst IsOctet e (known t)))
+
+pub row_fault : (e : MsgFault) (limit items : ℕ) (octets content rest : List ℕ) (first : ℕ) → HasField octets first content rest → (first ≡ 160) ⊎ (first ≡ 161) → 0 < limit → 0 < items
+    → IsRowFault e (limit - 1) (items - 1) content → IsFault e limit items octets
+row_fault NotAMessage limit items octets content rest first f is deep some fault =
+    at_field octets content rest first f (λ t e h. let r = row_of t content first e is h in fault r.trees r.are_filters)
+row_fault TooDeep limit items octets content rest first f is deep some (k, o) =
+    let e : suc (limit - 1) ≡ limit = omega arith in
+    (suc k, subst (λ (n : ℕ). Opens n (suc k) octets) e (along first content rest o.done o.after o.before f is o.parts o.are_filters o.items o.opens))
+row_fault TooManyItems limit items octets content rest first f is deep some (d, o) =
+    let e : suc (items - 1) ≡ items = omega arith in
+    (suc d, subst (λ (n : ℕ). Opens (suc d) n octets) e (along first content rest o.done o.after o.before f is o.parts o.are_filters o.items o.opens))
+row_fault NoMemory limit items octets content rest first f is deep some fault = tt
+row_fault TooLarge limit items octets content rest first f is deep some fault = fault
+
+pub not_fault : (e : MsgFault) (limit items : ℕ) (octets content rest : List ℕ) → HasField octets 162 content rest → 0 < limit → 0 < items
+    → IsFault e (limit - 1) (items - 1) content → IsFault e limit items octets
+not_fault NotAMessage limit items octets content rest f deep some fault =
+    at_field octets content rest 162 f (λ t e h. let n = negation_of t content e h in fault n.inner content [] n.is_filter (sym (append-nil content)))
+not_fault TooDeep limit items octets content rest f deep some (k, o) =
+    let e : suc (limit - 1) ≡ limit = omega arith in
+    (suc k, subst (λ (n : ℕ). Opens n (suc k) octets) e (under content rest f o))
+not_fault TooManyItems limit items octets content rest f deep some (d, o) =
+    let e : suc (items - 1) ≡ items = omega arith in
+    (suc d, subst (λ (n : ℕ). Opens (suc d) n octets) e (under content rest f o))
+not_fault NoMemory limit items octets content rest f deep some fault = tt
+not_fault TooLarge limit items octets content rest f deep some fault = fault
+
+pub trailing : (limit items left : ℕ) (octets content rest after : List ℕ) (u : Tree) → HasField octets 162 content rest → Reads limit items content u left after → (after ≡ [] → ⊥) → IsFault NotAMessage 0 0 octets
+trailing limit items left octets content rest after u f reads some =
+    at_field octets content rest 162 f (λ t e h.
+    let n = negation_of t content e h in
+    let same = front_unique u n.inner reads.spelling content after [] reads.is_filter n.is_filter (sym reads.parts ∙ sym (append-nil content)) in
+    some same.1)
+
+is_equality : (t : Tree) (content : List ℕ) → octet_of t ≡ 163 → IsBody t content → (d a : List ℕ) × IsAssertion d a content
+is_equality (equality d a) content e h = (d, a, h)
+is_equality (conj ts) content e h = absurd (omega arith)
+is_equality (disj ts) content e h = absurd (omega arith)
+is_equality (negation t) content e h = absurd (omega arith)
+is_equality (presence d) content e h = absurd (omega arith)
+
+is_presence : (t : Tree) (content : List ℕ) → octet_of t ≡ 135 → IsBody t content → IsUtf8 content
+is_presence (presence d) content e h = subst IsUtf8 (sym h.0) h.1
+is_presence (conj ts) content e h = absurd (omega arith)
+is_presence (disj ts) content e h = absurd (omega arith)
+is_presence (negation t) content e h = absurd (omega arith)
+is_presence (equality d a) content e h = absurd (omega arith)
+
+pub assertion_fault : (e : MsgFault) (limit items : ℕ) (octets content rest : List ℕ) → HasField octets 163 content rest → IsPlainFault e ((d a : List ℕ) × IsAssertion d a content) → IsFault e limit items octets
+assertion_fault NotAMessage limit items octets content rest f fault = at_field octets content rest 163 f (λ t e h. fault (is_equality t content e h))
+assertion_fault TooDeep limit items octets content rest f fault = absurd fault
+assertion_fault TooManyItems limit items octets content rest f fault = absurd fault
+assertion_fault NoMemory limit items octets content rest f fault = tt
+assertion_fault TooLarge limit items octets content rest f fault = fault
+
+pub presence_fault : (e : MsgFault) (limit items : ℕ) (octets content rest : List ℕ) → HasField octets 135 content rest → IsPlainFault e (IsUtf8 content) → IsFault e limit items octets
+presence_fault NotAMessage limit items octets content rest f fault = at_field octets content rest 135 f (λ t e h. fault (is_presence t content e h))
+presence_fault TooDeep limit items octets content rest f fault = absurd fault
+presence_fault TooManyItems limit items octets content rest f fault = absurd fault
+presence_fault NoMemory limit items octets content rest f fault = tt
+presence_fault TooLarge limit items octets content rest f fault = fault
+
+pub not_reads : (limit items left : ℕ) (octets content rest after : List ℕ) (u : Tree) → HasField octets 162 content rest → 0 < limit → 0 < items → Reads (limit - 1) (items - 1) content u left after → after ≡ []
+    → Reads limit items octets (negation u) left rest
+not_reads limit items left octets content rest after u f deep some reads e =
+    let whole : reads.spelling ≡ content = sym (append-nil reads.spelling) ∙ ap (λ (x : List ℕ). reads.spelling ++ x) (sym e) ∙ sym reads.parts in
+    record {
+      spelling = f.spelling;
+      is_filter = record { content = content; is_element = f.is_element; inside = subst (IsFilter u) whole reads.is_filter };
+      parts = f.parts;
+      deep = omega (arith, reads.deep);
+      many = omega (arith, reads.many);
+    }

@@ -1,0 +1,25 @@
+-- Wire, filters: the tree that a `Filter` stands for.
+-- In: a filter in memory. Out: its tree. Not here: octets.
+use Rattle.std.specs.Prelude.{List, [], ◌∷◌, map}
+use Rattle.std.specs.String.{string_bytes}
+use Rattle.ldap_filter.specs.Tree.{Tree, conj, disj, negation, equality, presence, Trees, no_trees, tree}
+use Rattle.ldap_filter.specs.declared.tree.Filter.{Filter, fold-Filter}
+use Rattle.ldap_filter.specs.declared.tree.Filter.TheOpen.{Filter-F}
+
+abbrev pub row : List Tree → Trees
+row [] = no_trees
+row (t ∷ ts) = tree t (row ts)
+
+-- one level, with each filter inside already seen as its tree
+abbrev pub view_step : Filter-F Tree → Tree
+view_step (Filter-F.And v) = conj (row v.items)
+view_step (Filter-F.Or v) = disj (row v.items)
+view_step (Filter-F.Not b) = negation b.value
+view_step (Filter-F.Equal d a) = equality (string_bytes d) a.items
+view_step (Filter-F.Present d) = presence (string_bytes d)
+
+abbrev pub view : Filter → Tree
+view = fold-Filter Tree view_step
+
+abbrev pub views : List Filter → Trees
+views fs = row (map view fs)

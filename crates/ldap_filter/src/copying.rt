@@ -1,0 +1,42 @@
+//! Wire, filters: a copy.
+//! In: a filter. Out: an equal one. Not here: octets.
+
+ghost use Rattle.std.specs.Prelude.{◌≡◌, IfOk};
+ghost use Rattle.ldap_filter.specs.View.{view, views};
+
+use crate::tree::Filter;
+use std::alloc::{AllocError, Global};
+
+/// A copy that stands for the same tree. An `Err` is want of memory.
+#[cycle(copy)]
+pub fn copy_filter(alloc: Global, filter: &Filter) -> Result<Filter, AllocError>
+    ensures { IfOk result (λ f. view f ≡ view filter.now) }
+{
+    match filter {
+        Filter::And(filters) => Ok(Filter::And(copy_row(alloc, filters)?)),
+        Filter::Or(filters) => Ok(Filter::Or(copy_row(alloc, filters)?)),
+        Filter::Not(inner) => Ok(Filter::Not(Box::new(alloc, copy_filter(alloc, inner)?)?)),
+        Filter::Equal {
+            description,
+            assertion,
+        } => Ok(Filter::Equal {
+            description: String::from_str(alloc, description.as_str())?,
+            assertion: Vec::from_slice(alloc, assertion)?,
+        }),
+        Filter::Present(description) => Ok(Filter::Present(String::from_str(
+            alloc,
+            description.as_str(),
+        )?)),
+    }
+}
+
+#[cycle(copy)]
+fn copy_row(alloc: Global, filters: &[Filter]) -> Result<Vec<Filter>, AllocError>
+    ensures { IfOk result (λ v. views v.items ≡ views filters.now) }
+{
+    let mut copies = Vec::new(alloc);
+    for filter in filters {
+        copies.push(copy_filter(alloc, filter)?)?;
+    }
+    Ok(copies)
+}

@@ -1,0 +1,75 @@
+//! Wire, filters: the one spelling that is written.
+//! In: a filter. Out: its octets at the end of a buffer, all or none. Not here: limits.
+
+ghost use Rattle.std.specs.Prelude.{◌≡◌, ◌<◌, ◌≤◌, ◌^◌, ◌++◌, length, OnOk, OnErr, IsErrOf};
+ghost use Rattle.ldap_filter.specs.Tree.{Tree};
+ghost use Rattle.ldap_filter.specs.View.{view, views};
+ghost use Rattle.ldap_filter.specs.Grammar.{filter_content, filter_bytes, filters_bytes, HasTexts, IsFilter};
+
+use crate::tree::Filter;
+use ldap_ber::{WriteError, write};
+use std::alloc::Global;
+
+#[cycle(write)]
+fn put_filter(alloc: Global, filter: &Filter, out: &mut Vec<u8>) -> Result<(), WriteError>
+    ensures ok { OnOk result (out.new.items ≡ out.old.items ++ filter_bytes (view filter.now)) }
+    ensures fits { OnOk result (length (filter_content (view filter.now)) < 2 ^ 32) }
+    ensures too_long { IsErrOf result WriteError.TooLong
+        → 2 ^ 32 ≤ length (filter_content (view filter.now)) }
+    ensures err { OnErr result (out.new.items ≡ out.old.items) }
+{
+    let mut content = Vec::new(alloc);
+    match filter {
+        Filter::And(filters) => {
+            put_row(alloc, filters, &mut content)?;
+            write(0xa0, &content, out)
+        }
+        Filter::Or(filters) => {
+            put_row(alloc, filters, &mut content)?;
+            write(0xa1, &content, out)
+        }
+        Filter::Not(inner) => {
+            put_filter(alloc, inner, &mut content)?;
+            write(0xa2, &content, out)
+        }
+        Filter::Equal {
+            description,
+            assertion,
+        } => {
+            write(0x04, description.as_bytes(), &mut content)?;
+            write(0x04, assertion, &mut content)?;
+            write(0xa3, &content, out)
+        }
+        Filter::Present(description) => write(0x87, description.as_bytes(), out),
+    }
+}
+
+#[cycle(write)]
+fn put_row(alloc: Global, filters: &[Filter], out: &mut Vec<u8>) -> Result<(), WriteError>
+    ensures ok { OnOk result (out.new.items ≡ out.old.items ++ filters_bytes (views filters.now)) }
+    ensures too_long { IsErrOf result WriteError.TooLong
+        → 2 ^ 32 ≤ length (filters_bytes (views filters.now)) }
+{
+    for filter in filters {
+        put_filter(alloc, filter, out)?;
+    }
+    Ok(())
+}
+
+/// Writes the one shortest form of a filter at the end. E3 only where the content of its element is
+/// over 4294967295 octets, and it is then never written. An `Err` changes nothing.
+pub fn write_filter(alloc: Global, filter: &Filter, out: &mut Vec<u8>) -> Result<(), WriteError>
+    ensures ok { OnOk result (out.new.items ≡ out.old.items ++ filter_bytes (view filter.now)) }
+    ensures fits { OnOk result (length (filter_content (view filter.now)) < 2 ^ 32) }
+    ensures too_long { IsErrOf result WriteError.TooLong
+        → 2 ^ 32 ≤ length (filter_content (view filter.now)) }
+    ensures err { OnErr result (out.new.items ≡ out.old.items) }
+{
+    put_filter(alloc, filter, out)
+}
+
+/// What is written is in the grammar, where its content is short enough to be written.
+pub fn is_spelling()
+    ensures { (t : Tree) → HasTexts t → length (filter_content t) < 2 ^ 32
+        → IsFilter t (filter_bytes t) }
+{}

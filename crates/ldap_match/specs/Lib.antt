@@ -1,0 +1,4 @@
+pub mod Truth
+pub mod Meaning
+pub mod Item
+pub mod Keyed

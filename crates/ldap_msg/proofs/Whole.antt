@@ -1,0 +1,56 @@
+-- Wire, messages: a message within the limits is read: what stands open at a filter's place is in the filter of the message.
+use Rattle.std.proofs.Common.{◌≡◌, ◌^◌, ◌<◌, ℕ, List, [], Result, Ok, Err, refl, sym, subst, arith}
+use Rattle.std.specs.Prelude.{MatchResult, IfOk, IfErr}
+use Rattle.ldap_fields.specs.declared.fault.MsgFault.{MsgFault}
+use Rattle.ldap_fields.specs.declared.fault.MsgFault.TheVariants.{TooLarge, NotAMessage, TooDeep, TooManyItems, NoMemory}
+use Rattle.ldap_fields.specs.Fields.{HasField}
+use Rattle.ldap_fields.proofs.Same.{step, same_field, number_unique}
+use Rattle.ldap_filter.specs.Limits.{Opens}
+use Rattle.ldap_filter.proofs.Unique.{opens_within}
+use Rattle.ldap_msg.specs.Messages.{search, search_entry, search_done, extended, OperationValue, request, response, MessageValue}
+use Rattle.ldap_msg.specs.Grammar.{operation_octet, IsOperation, IsMessageContent, IsMessage}
+use Rattle.ldap_msg.specs.Limits.{FilterStandsAt, ContentHasFilterAt, IsLimitFault, IsFault, IsWithin}
+use Rattle.ldap_msg.proofs.Parts.{number_part, Target, target_part, target_unique, Bounds, bounds_part, bounds_unique, target_of, bounds_of, content_one}
+use Rattle.ldap_msg.proofs.Exits.{whole_fault, limit_weaker, message_inside, message_at}
+
+in_operation : {d k : ℕ} (op : OperationValue) (content place : List ℕ) → operation_octet op ≡ 99 → IsOperation op content → FilterStandsAt content place → IsWithin op → Opens d k place → (d < 64) × (k < 512)
+in_operation (response (search_entry s)) content place e h at within o = absurd (omega arith)
+in_operation (response (search_done s)) content place e h at within o = absurd (omega arith)
+in_operation (response (extended s)) content place e h at within o = absurd (omega arith)
+in_operation (request (search s)) content place e h at within o =
+    let target : Target = record { base = at.base; scope = at.scope; deref = at.deref } in
+    let bounds : Bounds = record { size = at.size; time = at.time; types_only = at.types_only } in
+    let a = step target_part target_unique _ target (target_of s) content at.middle at.target h in
+    let b = step bounds_part bounds_unique _ bounds (bounds_of s) at.middle place at.bounds a.next in
+    let f = b.next.first in
+    let inside = opens_within place o s.filter f.spelling b.next.rest f.is_filter f.parts in
+    (omega (arith, inside.0, within.0), omega (arith, inside.1, within.1))
+
+in_content : {d k : ℕ} (m : MessageValue) (content place : List ℕ) → IsMessageContent m content → ContentHasFilterAt content place → IsWithin m.op → Opens d k place → (d < 64) × (k < 512)
+in_content m content place h at within o =
+    let s = step (number_part 2 (2 ^ 31)) (number_unique 2 (2 ^ 31)) _ at.id m.id content at.rest at.id_field h.parts in
+    let p = s.next.first in
+    let same = same_field at.rest p.content at.operation.content s.next.rest at.operation.rest (operation_octet m.op) 99 p.field at.operation.field in
+    in_operation m.op at.operation.content place same.first (subst (IsOperation m.op) same.content p.inside) at.operation.stands_at within o
+
+pub only_content : {X : Type 0} (view : X → MessageValue) (r : Result X MsgFault) (content : List ℕ) → IfOk r (λ x. IsMessageContent (view x) content)
+    → IfErr r (λ e. IsLimitFault e ((m : MessageValue) × IsMessageContent m content) (ContentHasFilterAt content))
+    → (m : MessageValue) → IsMessageContent m content → IsWithin m.op → MatchResult r (λ x. view x ≡ m) (λ e. e ≡ NoMemory)
+only_content view (Ok x) content found fault m h within = content_one (view x) m content found h
+only_content view (Err NotAMessage) content found fault m h within = absurd (fault (m, h))
+only_content view (Err TooDeep) content found (place, k, at, o) m h within = absurd (omega (arith, (in_content m content place h at within o).0))
+only_content view (Err TooManyItems) content found (place, d, at, o) m h within = absurd (omega (arith, (in_content m content place h at within o).1))
+only_content view (Err NoMemory) content found fault m h within = refl
+only_content view (Err TooLarge) content found fault m h within = absurd fault
+
+pub only_whole : {X : Type 0} (view : X → MessageValue) (r : Result X MsgFault) (o content rest : List ℕ) → HasField o 48 content rest → IfOk r (λ x. IsMessageContent (view x) content)
+    → IfErr r (λ e. IsLimitFault e ((m : MessageValue) × IsMessageContent m content) (ContentHasFilterAt content))
+    → (m : MessageValue) → IsMessage o m → IsWithin m.op → MatchResult r (λ x. view x ≡ m) (λ e. e ≡ NoMemory)
+only_whole view r o content rest p found fault m h within =
+    let same = same_field o content h.content rest [] 48 48 p h.field in
+    only_content view r content found fault m (subst (IsMessageContent m) (sym same.content) h.inside) within
+
+pub whole_faults : {X : Type 0} (r : Result X MsgFault) (o content rest : List ℕ) → HasField o 48 content rest → rest ≡ []
+    → IfErr r (λ e. IsLimitFault e ((m : MessageValue) × IsMessageContent m content) (ContentHasFilterAt content)) → IfErr r (λ e. IsFault e o)
+whole_faults (Ok x) o content rest p e fault = tt
+whole_faults (Err f) o content rest p e fault = whole_fault f o (limit_weaker f _ _ _ _ (message_inside o content rest p) (message_at o content rest p e) fault)

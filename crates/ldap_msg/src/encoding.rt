@@ -1,0 +1,87 @@
+//! Wire, messages: the one spelling of a message that is written.
+//! In: a message. Out: its octets, or an error. Not here: the parts of each operation.
+
+ghost use Rattle.std.specs.Prelude.{◌≡◌, ◌%◌, ◌^◌, ◌<◌, ◌≤◌, ◌++◌, ℕ, List, length, IfOk, IsErrOf, OnOk};
+ghost use Rattle.ldap_msg.specs.Messages.{MessageValue};
+ghost use Rattle.ldap_msg.specs.View.{operation_view, view};
+ghost use Rattle.ldap_msg.specs.Grammar.{operation_octet, IsMessage};
+ghost use Rattle.ldap_msg.specs.Written.{operation_content, operation_bytes, message_content, message_bytes, IsInRange};
+
+use crate::encoding_control::put_controls;
+use crate::encoding_entry::entry_content;
+use crate::encoding_field::put_number;
+use crate::encoding_result::{extended_content, result_content};
+use crate::encoding_search::search_content;
+use crate::message::{Message, ProtocolOp, Request, Response};
+use ldap_ber::{WriteError, write};
+use std::alloc::Global;
+
+/// The content of an operation's element.
+fn operation_content(alloc: Global, op: &ProtocolOp) -> Result<Vec<u8>, WriteError>
+    ensures ok { IfOk result (λ v. v.items ≡ operation_content (operation_view op.now)) }
+    ensures too_long { IsErrOf result WriteError.TooLong
+        → 2 ^ 32 ≤ length (operation_content (operation_view op.now)) }
+{
+    match op {
+        ProtocolOp::Request(Request::Search(search)) => search_content(alloc, search),
+        ProtocolOp::Response(Response::SearchEntry(entry)) => entry_content(alloc, entry),
+        ProtocolOp::Response(Response::SearchDone(done)) => result_content(alloc, done),
+        ProtocolOp::Response(Response::Extended(extended)) => extended_content(alloc, extended),
+    }
+}
+
+/// The first octet of an operation's element.
+fn operation_octet(op: &ProtocolOp) -> u8
+    ensures octet { result ≡ operation_octet (operation_view op.now) }
+    ensures low_tag { result % 32 < 31 }
+{
+    match op {
+        ProtocolOp::Request(Request::Search(_)) => 0x63,
+        ProtocolOp::Response(Response::SearchEntry(_)) => 0x64,
+        ProtocolOp::Response(Response::SearchDone(_)) => 0x65,
+        ProtocolOp::Response(Response::Extended(_)) => 0x78,
+    }
+}
+
+/// Writes an operation's element.
+fn put_operation(alloc: Global, op: &ProtocolOp, out: &mut Vec<u8>) -> Result<(), WriteError>
+    ensures ok { OnOk result (out.new.items ≡ out.old.items ++ operation_bytes (operation_view op.now)) }
+    ensures too_long { IsErrOf result WriteError.TooLong
+        → 2 ^ 32 ≤ length (operation_content (operation_view op.now)) }
+{
+    let content = operation_content(alloc, op)?;
+    write(operation_octet(op), &content, out)
+}
+
+/// The content of a message's element.
+fn message_content(alloc: Global, message: &Message) -> Result<Vec<u8>, WriteError>
+    ensures ok { IfOk result (λ v. v.items ≡ message_content (view message.now)) }
+    ensures too_long { IsErrOf result WriteError.TooLong
+        → 2 ^ 32 ≤ length (message_content (view message.now)) }
+{
+    let mut content = Vec::new(alloc);
+    put_number(0x02, message.id, &mut content)?;
+    put_operation(alloc, &message.op, &mut content)?;
+    put_controls(alloc, &message.controls, &mut content)?;
+    Ok(content)
+}
+
+/// The octets of a message, in the one shortest form (RFC 4511 5.1). E3 only where the content of the
+/// message is over 4294967295 octets, and it is then never written.
+pub fn encode(alloc: Global, message: &Message) -> Result<Vec<u8>, WriteError>
+    ensures ok { IfOk result (λ v. v.items ≡ message_bytes (view message.now)) }
+    ensures fits { OnOk result (length (message_content (view message.now)) < 2 ^ 32) }
+    ensures too_long { IsErrOf result WriteError.TooLong
+        → 2 ^ 32 ≤ length (message_content (view message.now)) }
+{
+    let content = message_content(alloc, message)?;
+    let mut octets = Vec::new(alloc);
+    write(0x30, &content, &mut octets)?;
+    Ok(octets)
+}
+
+/// What is written for values in their ranges is in the grammar.
+pub fn is_message()
+    ensures { (m : MessageValue) → IsInRange m → length (message_content m) < 2 ^ 32
+        → IsMessage (message_bytes m) m }
+{}

@@ -1,0 +1,73 @@
+-- Loops over tables, a step at a time. Facts on lists flow in and out; no value of the program is here.
+use Rattle.std.proofs.Common.{ℕ, ◌+◌, ◌-◌, ◌<◌, ◌≤◌, zero, suc, List, [], ◌∷◌, ◌++◌, Bool, true, false, cond, ◌||◌, Option, None, Some, ◌≡◌, refl, ap, sym, subst, ◌∙◌, map, length, take, drop, get_or, nat_eq, append_assoc, add-one, drop-cons, arith}
+use Rattle.std.specs.List.{list_any, position_from}
+use Rattle.ldap_schema.specs.Schema.{TypeModel, led, superior_of, superiors, superiors_from, all_superiors}
+
+-- the element at a place and what stands behind it
+pub opened : {A : Type 0} (xs : List A) (i : ℕ) (x : A) → i < length xs → x ≡ get_or xs i x → drop i xs ≡ x ∷ drop (i + 1) xs
+opened xs i x lt is = drop-cons xs i x lt ∙ ap (λ (y : _). y ∷ drop (suc i) xs) (sym is) ∙ ap (λ (n : ℕ). x ∷ drop n xs) (sym (add-one i))
+
+pub found_here : {A : Type 0} (p : A → Bool) (xs : List A) (i : ℕ) (x : A) → i < length xs → x ≡ get_or xs i x → p x ≡ true → position_from p i (drop i xs) ≡ Some i
+found_here p xs i x lt is h = rw (opened xs i x lt is, h) refl
+
+pub found_later : {A : Type 0} (p : A → Bool) (xs : List A) (i : ℕ) (x : A) → i < length xs → x ≡ get_or xs i x → p x ≡ false → position_from p i (drop i xs) ≡ position_from p (i + 1) (drop (i + 1) xs)
+found_later p xs i x lt is h = rw (opened xs i x lt is, h) refl
+
+pub list_any-map : {A B : Type 0} (p : B → Bool) (f : A → B) (xs : List A) → list_any p (map f xs) ≡ list_any (λ x. p (f x)) xs
+list_any-map p f [] = refl
+list_any-map p f (x ∷ xs) = rw (list_any-map p f xs) refl
+
+pub pushed_out : {A C : Type 0} (f : A → C) (old : List A) (x : A) (t : List C) → map f (old ++ x ∷ []) ++ t ≡ map f old ++ f x ∷ t
+pushed_out f [] x t = refl
+pushed_out f (o ∷ old) x t = ap (λ (z : List _). f o ∷ z) (pushed_out f old x t)
+
+pub copied_more : {A B C : Type 0} (f : A → C) (g : B → C) (old new : List A) (x : A) (ys : List B) (i : ℕ) (d : B) → i < length ys → new ≡ old ++ x ∷ [] → f x ≡ g (get_or ys i d) → map f old ++ map g (drop i ys) ≡ map g ys → map f new ++ map g (drop (i + 1) ys) ≡ map g ys
+copied_more f g old new x ys i d lt pushed same so_far =
+    ap (λ (z : List _). map f z ++ map g (drop (i + 1) ys)) pushed
+    ∙ pushed_out f old x (map g (drop (i + 1) ys))
+    ∙ ap (λ (z : _). map f old ++ z ∷ map g (drop (i + 1) ys)) same
+    ∙ ap (λ (n : ℕ). map f old ++ g (get_or ys i d) ∷ map g (drop n ys)) (add-one i)
+    ∙ ap (λ (z : List _). map f old ++ map g z) (sym (drop-cons ys i d lt))
+    ∙ so_far
+
+row_at_front : (ts xs : List TypeModel) (i j : ℕ) → j < length xs → superiors_from ts (drop j xs) i ≡ superiors (length ts) ts i ∷ superiors_from ts (drop (suc j) xs) (i + 1)
+row_at_front ts [] i j lt = absurd (omega (arith, lt))
+row_at_front ts (x ∷ xs) i zero lt = refl
+row_at_front ts (x ∷ xs) i (suc j) lt = row_at_front ts xs i j (omega (arith, lt))
+
+pub row_more : {A : Type 0} (items : A → List ℕ) (ts : List TypeModel) (old new : List A) (x : A) (i : ℕ) → i < length ts → new ≡ old ++ x ∷ [] → items x ≡ superiors (length ts) ts i
+    → map items old ++ superiors_from ts (drop i ts) i ≡ all_superiors ts → map items new ++ superiors_from ts (drop (i + 1) ts) (i + 1) ≡ all_superiors ts
+row_more items ts old new x i lt pushed is so_far =
+    ap (λ (z : List _). map items z ++ superiors_from ts (drop (i + 1) ts) (i + 1)) pushed
+    ∙ pushed_out items old x (superiors_from ts (drop (i + 1) ts) (i + 1))
+    ∙ ap (λ (z : List ℕ). map items old ++ z ∷ superiors_from ts (drop (i + 1) ts) (i + 1)) is
+    ∙ ap (λ (z : List (List ℕ)). map items old ++ z) (sym (row_at_front ts ts i i lt ∙ ap (λ (n : ℕ). superiors (length ts) ts i ∷ superiors_from ts (drop n ts) (i + 1)) (sym (add-one i))))
+    ∙ so_far
+
+pub one_up : (m k : ℕ) (ts : List TypeModel) (t u : ℕ) → m ≡ suc k → superior_of ts t ≡ Some u → superiors m ts t ≡ u ∷ superiors k ts u
+one_up m k ts t u e is = rw (e, is) refl
+
+pub step_up : (n i : ℕ) (ts : List TypeModel) (t u : ℕ) (old new all : List ℕ) → i < n → superior_of ts t ≡ Some u → new ≡ old ++ u ∷ [] → old ++ superiors (n - i) ts t ≡ all → new ++ superiors (n - (i + 1)) ts u ≡ all
+step_up n i ts t u old new all lt is pushed so_far =
+    ap (λ (z : List ℕ). z ++ superiors (n - (i + 1)) ts u) pushed
+    ∙ append_assoc old (u ∷ []) (superiors (n - (i + 1)) ts u)
+    ∙ ap (λ (z : List ℕ). old ++ z) (sym (one_up (n - i) (n - (i + 1)) ts t u (omega arith) is))
+    ∙ so_far
+
+pub no_way_up : (m : ℕ) (ts : List TypeModel) (t : ℕ) → superior_of ts t ≡ None → superiors m ts t ≡ []
+no_way_up zero ts t is = refl
+no_way_up (suc k) ts t is = rw is refl
+
+pub or_false : (a b r : Bool) → false ≡ a → r ≡ b → r ≡ (a || b)
+or_false true b r h e = absurd (cc)
+or_false false b r h e = e
+
+pub append-nil : {A : Type 0} (xs : List A) → xs ++ [] ≡ xs
+append-nil [] = refl
+append-nil (x ∷ xs) = ap (λ (y : List _). x ∷ y) (append-nil xs)
+
+pub without_rest : {A : Type 0} (xs rest all : List A) → rest ≡ [] → xs ++ rest ≡ all → xs ≡ all
+without_rest xs rest all e h = sym (append-nil xs) ∙ ap (λ (y : List _). xs ++ y) (sym e) ∙ h
+
+pub no_more : (m : ℕ) (ts : List TypeModel) (t : ℕ) → m ≡ 0 → superiors m ts t ≡ []
+no_more m ts t e = rw e refl

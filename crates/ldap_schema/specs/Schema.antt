@@ -1,0 +1,112 @@
+-- A schema: types and classes by number, and what a name stands for. RFC 4512 2.4, 2.5, 4.1. Plain data and questions
+-- to it; where it comes from and what values mean is not here.
+use Rattle.std.specs.Prelude.{ℕ, zero, suc, ◌+◌, List, [], ◌∷◌, Bool, true, false, cond, ◌&&◌, ◌||◌, Option, None, Some, ◌≡◌, nat_eq, length, map, slice_get}
+use Rattle.std.specs.List.{list_any, position_from}
+use Rattle.std.specs.Char.{to_ascii_lowercase}
+use Rattle.std.specs.Str.{bytes_eq}
+use Rattle.ldap_syntax.specs.declared.rule.Rule.{Rule}
+use Rattle.ldap_syntax.specs.declared.rule.Syntax.{Syntax}
+use Rattle.ldap_schema.specs.declared.class.ClassKind.{ClassKind}
+
+-- An attribute type: its names with the first one first, the number of its superior type, and what is in effect for it,
+-- own or inherited (RFC 4512 4.1.2).
+pub record TypeModel : Type 0 where
+  pub oid : List ℕ
+  pub names : List (List ℕ)
+  pub superior : Option ℕ
+  pub syntax : Syntax
+  pub equality : Option Rule
+  pub ordering : Option Rule
+  pub is_single_value : Bool
+
+-- An object class: its superclasses by number of class, its required and allowed types by number of type (RFC 4512 4.1.1).
+pub record ClassModel : Type 0 where
+  pub oid : List ℕ
+  pub names : List (List ℕ)
+  pub superiors : List ℕ
+  pub kind : ClassKind
+  pub required : List ℕ
+  pub allowed : List ℕ
+
+pub record SchemaModel : Type 0 where
+  pub types : List TypeModel
+  pub classes : List ClassModel
+
+-- names are the same without regard to case (RFC 4512 1.4, descr)
+abbrev pub is_same_name : List ℕ → List ℕ → Bool
+is_same_name a b = bytes_eq (map to_ascii_lowercase a) (map to_ascii_lowercase b)
+
+-- a name or the object identifier of what has these names (RFC 4512 1.4, oid)
+abbrev pub is_called : List ℕ → List ℕ → List (List ℕ) → Bool
+is_called name oid names = bytes_eq name oid || list_any (is_same_name name) names
+
+-- the type of a description (RFC 4512 2.5); a description with options stands for none
+abbrev pub find : SchemaModel → List ℕ → Option ℕ
+find s d = position_from (λ t. is_called d t.oid t.names) 0 s.types
+
+-- the class of a name or an object identifier
+abbrev pub class_named : SchemaModel → List ℕ → Option ℕ
+class_named s d = position_from (λ c. is_called d c.oid c.names) 0 s.classes
+
+-- what a type has that the schema has
+abbrev pub type_at : SchemaModel → ℕ → Option TypeModel
+type_at s t = slice_get s.types t
+
+abbrev pub superior_in : Option TypeModel → Option ℕ
+superior_in None = None
+superior_in (Some t) = t.superior
+
+-- the type that a type's SUP names (RFC 4512 4.1.2)
+abbrev pub superior_of : List TypeModel → ℕ → Option ℕ
+superior_of ts t = superior_in (slice_get ts t)
+
+abbrev pub led : Option ℕ → (ℕ → List ℕ) → List ℕ
+led None f = []
+led (Some u) f = u ∷ f u
+
+-- the types that a type's SUP leads to, nearest first, in so many steps at most
+abbrev pub superiors : ℕ → List TypeModel → ℕ → List ℕ
+superiors zero ts t = []
+superiors (suc k) ts t = led (superior_of ts t) (λ u. superiors k ts u)
+
+abbrev pub found_row : Option (List ℕ) → List ℕ
+found_row None = []
+found_row (Some row) = row
+
+-- the row of a table
+abbrev pub row_at : List (List ℕ) → ℕ → List ℕ
+row_at table t = found_row (slice_get table t)
+
+-- of each type, from a number on, the types that its SUP leads to
+abbrev pub superiors_from : List TypeModel → List TypeModel → ℕ → List (List ℕ)
+superiors_from ts [] t = []
+superiors_from ts (x ∷ xs) t = superiors (length ts) ts t ∷ superiors_from ts xs (t + 1)
+
+abbrev pub all_superiors : List TypeModel → List (List ℕ)
+all_superiors ts = superiors_from ts ts 0
+
+-- A type under another: it is the type, or its SUP leads there (RFC 4512 2.5.1).
+abbrev pub is_under : SchemaModel → ℕ → ℕ → Bool
+is_under s a b = nat_eq a b || list_any (λ u. nat_eq u b) (superiors (length s.types) s.types a)
+
+-- the chain of SUPs from one type to another
+pub data IsUnder (s : SchemaModel) : ℕ → ℕ → Type 0 where
+  is_itself : {a : ℕ} → IsUnder s a a
+  goes_up : {a c : ℕ} (b : ℕ) → superior_of s.types a ≡ Some b → IsUnder s b c → IsUnder s a c
+
+abbrev pub if_led : Option ℕ → (ℕ → Bool) → Bool
+if_led None f = true
+if_led (Some u) f = f u
+
+-- whether a type's SUPs end within so many steps
+abbrev pub ends_within : ℕ → List TypeModel → ℕ → Bool
+ends_within zero ts t = if_led (superior_of ts t) (λ u. false)
+ends_within (suc k) ts t = if_led (superior_of ts t) (λ u. ends_within k ts u)
+
+abbrev pub are_loopless : List TypeModel → List TypeModel → ℕ → Bool
+are_loopless ts [] t = true
+are_loopless ts (x ∷ xs) t = ends_within (length ts) ts t && are_loopless ts xs (t + 1)
+
+-- No SUP leads back to where it began (RFC 4512 4.1.2).
+abbrev pub IsLoopless : List TypeModel → Type 0
+IsLoopless ts = are_loopless ts ts 0 ≡ true

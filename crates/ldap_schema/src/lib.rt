@@ -1,0 +1,15 @@
+//! Schemas: names and numbers flow in, the types and classes that they stand for flow out. What a value means under a
+//! type's rule, and entries, are not here.
+#![tactic(auto)]
+
+mod attribute_type;
+mod building;
+mod built_in;
+mod class;
+mod naming;
+mod schema;
+mod tables;
+
+pub use attribute_type::{AttributeType, TypeId};
+pub use class::{ClassId, ClassKind, ObjectClass};
+pub use schema::Schema;

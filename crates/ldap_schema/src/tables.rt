@@ -1,0 +1,95 @@
+// Questions to the tables of a schema. Slices of types and classes flow in; numbers and yes or no flow out.
+// What must not be here: the schema that holds the tables.
+
+ghost use Rattle.std.specs.Prelude.{◌≡◌, IfOk, map, nat_eq, length};
+ghost use Rattle.std.specs.List.{list_any, position_from};
+ghost use Rattle.ldap_schema.specs.Schema.{is_called as is_called_by, all_superiors, superiors as superiors_of, superior_of, row_at};
+
+use crate::attribute_type::{AttributeType, TypeId};
+use crate::class::{ClassId, ObjectClass};
+use crate::naming::is_called;
+use std::alloc::{AllocError, Global};
+
+/// The first type that the name or object identifier calls.
+pub fn type_called(types: &[AttributeType], name: &[u8]) -> Option<TypeId>
+    ensures { result ≡ position_from (λ t. is_called_by name.now t.oid t.names) 0 types.now }
+{
+    for (number, attribute_type) in types.iter().enumerate() {
+        if is_called(name, attribute_type.oid(), attribute_type.names()) {
+            return Some(TypeId::new(number));
+        }
+    }
+    None
+}
+
+/// The first class that the name or object identifier calls.
+pub fn class_called(classes: &[ObjectClass], name: &[u8]) -> Option<ClassId>
+    ensures { result ≡ position_from (λ c. is_called_by name.now c.oid c.names) 0 classes.now }
+{
+    for (number, class) in classes.iter().enumerate() {
+        if is_called(name, class.oid(), class.names()) {
+            return Some(ClassId::new(number));
+        }
+    }
+    None
+}
+
+/// Whether the type is in the list.
+pub fn is_among(types: &[TypeId], type_id: TypeId) -> bool
+    ensures { result ≡ list_any (λ t. nat_eq t type_id) types.now }
+{
+    types.iter().any(|other| *other == type_id)
+}
+
+/// The row of a type in the table of superior types; empty, where there is none.
+pub fn superiors_at(table: &[Vec<TypeId>], type_id: TypeId) -> &[TypeId]
+    ensures { result.now ≡ row_at (map (λ v. v.items) table.now) type_id }
+{
+    match table.get(type_id.number()) {
+        Some(row) => row.as_slice(),
+        None => &[],
+    }
+}
+
+/// Of each type the types that its SUP leads to.
+pub fn superiors_of_all(
+    alloc: Global,
+    types: &[AttributeType],
+) -> Result<Vec<Vec<TypeId>>, AllocError>
+    ensures { IfOk result (λ table. map (λ v. v.items) table.items ≡ all_superiors types.now) }
+{
+    let mut table = Vec::new(alloc);
+    for number in 0..types.len() {
+        table.push(superiors(alloc, types, TypeId::new(number))?)?;
+    }
+    Ok(table)
+}
+
+/// The types that the type's SUP leads to, nearest first, in as many steps as there are types at most.
+fn superiors(
+    alloc: Global,
+    types: &[AttributeType],
+    type_id: TypeId,
+) -> Result<Vec<TypeId>, AllocError>
+    ensures { IfOk result (λ v. v.items ≡ superiors_of (length types.now) types.now type_id) }
+{
+    let mut found = Vec::new(alloc);
+    let mut current = type_id;
+    for _ in 0..types.len() {
+        match superior(types, current) {
+            Some(above) => {
+                found.push(above)?;
+                current = above;
+            }
+            None => return Ok(found),
+        }
+    }
+    Ok(found)
+}
+
+/// The type that the type's SUP names.
+fn superior(types: &[AttributeType], type_id: TypeId) -> Option<TypeId>
+    ensures { result ≡ superior_of types.now type_id }
+{
+    types.get(type_id.number())?.superior()
+}

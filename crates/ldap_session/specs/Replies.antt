@@ -1,0 +1,43 @@
+-- The messages that answer a message: RFC 4511 4.5.2 and 4.4.1. A directory and a message flow in, messages flow out.
+use Rattle.std.specs.Prelude.{◌≡◌, ◌≤◌, ◌^◌, ◌⊎◌, ℕ, List, [], ◌∷◌, ◌++◌, map, codes, Some, None, length}
+use Rattle.ldap_msg.specs.Messages.{SearchRequestValue, SearchResultEntryValue, LdapResultValue, RequestValue, search, ResponseValue, search_entry, search_done, extended, OperationValue, request, response, MessageValue}
+use Rattle.ldap_msg.specs.Grammar.{IsMessage}
+use Rattle.ldap_msg.specs.Limits.{IsWithin}
+use Rattle.ldap_msg.specs.Written.{message_content}
+use Rattle.dir_store.specs.Directory.{Directory}
+use Rattle.dir_search.specs.Answer.{answer}
+
+-- a response with the messageID of its request, and no controls
+abbrev pub reply : ℕ → ResponseValue → MessageValue
+reply id r = record { id = id; op = response r; controls = [] }
+
+-- a result that has a code and nothing else
+abbrev pub outcome : ℕ → LdapResultValue
+outcome code = record { code = code; matched_dn = []; diagnostic_message = []; referral = [] }
+
+-- The answer of a search: a SearchResultEntry for each entry, in order, and then the SearchResultDone.
+abbrev pub search_replies : Directory → ℕ → SearchRequestValue → List MessageValue
+search_replies d id q =
+    map (λ (e : SearchResultEntryValue). reply id (search_entry e)) (answer d q).entries ++ reply id (search_done (outcome (answer d q).code)) ∷ []
+
+-- the responses to a request
+abbrev pub replies : Directory → ℕ → RequestValue → List MessageValue
+replies d id (search q) = search_replies d id q
+
+-- The Notice of Disconnection with protocolError (2): messageID 0, responseName 1.3.6.1.4.1.1466.20036 (RFC 4511 4.4.1).
+abbrev pub notice : MessageValue
+notice = reply 0 (extended (record { result = outcome 2; response_name = Some (codes "1.3.6.1.4.1.1466.20036"); response_value = None }))
+
+-- Octets that are a request: a message of the grammar, within the limits of size, depth and count.
+pub record IsRequest (octets : List ℕ) (id : ℕ) (r : RequestValue) : Type 0 where
+  pub message : MessageValue
+  pub is_message : IsMessage octets message
+  pub size : length octets ≤ 1048576
+  pub within : IsWithin message.op
+  pub id_is : message.id ≡ id
+  pub request_is : message.op ≡ request r
+
+-- some message has a content that no length of at most four octets can say
+abbrev pub HasTooLong : List MessageValue → Type 0
+HasTooLong [] = ⊥
+HasTooLong (m ∷ ms) = (2 ^ 32 ≤ length (message_content m)) ⊎ HasTooLong ms

@@ -1,0 +1,5 @@
+pub mod Text
+pub mod Numbers
+pub mod Identifiers
+pub mod Meaning
+pub mod Keys

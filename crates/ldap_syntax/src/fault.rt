@@ -1,0 +1,34 @@
+// Why a value has no key. Nothing flows in; what a rule or the want of memory refuses flows out.
+// What must not be here: faults of a schema, of an entry or of a message.
+
+ghost use Rattle.std.specs.Prelude.{◌≡◌};
+ghost use Rattle.ldap_syntax.specs.declared.fault.ValueError.TheVariants.{NoMemory};
+
+use std::alloc::{AllocError, AllocFailed};
+use thiserror::Error;
+
+/// Why a value has no key.
+#[derive(Clone, Copy, Debug, PartialEq, Eq, Error)]
+pub enum ValueError {
+    /// The value is not in the rule's syntax (RFC 4517 3.3).
+    #[error("E11: the value is not in the syntax")]
+    NotInSyntax,
+    #[error("out of memory")]
+    NoMemory,
+}
+
+impl From<AllocError> for ValueError {
+    ghost from_gives = { λ _ e. e ≡ NoMemory };
+
+    fn from(_e: AllocError) -> ValueError {
+        ValueError::NoMemory
+    }
+}
+
+impl<T: Drop> From<AllocFailed<T>> for ValueError {
+    ghost from_gives = { λ _ e. e ≡ NoMemory };
+
+    fn from(_e: AllocFailed<T>) -> ValueError {
+        ValueError::NoMemory
+    }
+}

@@ -1,0 +1,98 @@
+// Whole numbers as they are written, and their keys. Octets flow in; a yes or no, or a key's octets, flow out.
+// What must not be here: rules and syntaxes.
+
+ghost use Rattle.std.specs.Prelude.{◌≡◌, IfOk};
+ghost use Rattle.ldap_syntax.specs.Numbers.{is_digit as is_digit_octet, are_digits as are_digit_octets, is_whole as is_whole_number, is_number as is_number_text, is_integer as is_integer_text};
+ghost use Rattle.ldap_syntax.specs.Keys.{number_key as number_key_of, counted as counted_digits, turned as turned_octets};
+
+use std::alloc::{AllocError, Global};
+
+/// Whether the octet is a decimal digit.
+pub fn is_digit(octet: u8) -> bool
+    ensures { result ≡ is_digit_octet octet }
+{
+    b'0' <= octet && octet <= b'9'
+}
+
+/// Whether all octets are decimal digits.
+fn are_digits(octets: &[u8]) -> bool
+    ensures { result ≡ are_digit_octets octets.now }
+{
+    octets.iter().all(|octet| is_digit(*octet))
+}
+
+/// Whether the octets are digits of which the first is not 0.
+fn is_whole(digits: &[u8]) -> bool
+    ensures { result ≡ is_whole_number digits.now }
+{
+    match digits {
+        [] => false,
+        [first, rest @ ..] => b'0' < *first && *first <= b'9' && are_digits(rest),
+    }
+}
+
+/// Whether the octets are a number without leading zeros (RFC 4512 1.4, number).
+pub fn is_number(digits: &[u8]) -> bool
+    ensures { result ≡ is_number_text digits.now }
+{
+    match digits {
+        [] => false,
+        [only] => is_digit(*only),
+        [_, _, ..] => is_whole(digits),
+    }
+}
+
+/// Whether the octets are an integer's: no leading zeros, and no `-0` (RFC 4517 3.3.16).
+pub fn is_integer(value: &[u8]) -> bool
+    ensures { result ≡ is_integer_text value.now }
+{
+    match value {
+        [] => false,
+        [first, rest @ ..] => {
+            if *first == b'-' {
+                is_whole(rest)
+            } else {
+                is_number(value)
+            }
+        }
+    }
+}
+
+/// The octets of an integer's key: a sign, so many ones as there are digits and a zero, and the digits; of a negative
+/// number every octet behind the sign is turned round. So byte order is the numbers' order.
+pub fn number_key(alloc: Global, value: &[u8]) -> Result<Vec<u8>, AllocError>
+    ensures { IfOk result (λ v. v.items ≡ number_key_of value.now) }
+{
+    match value {
+        [] => Ok(Vec::new(alloc)),
+        [first, rest @ ..] => {
+            let mut key = Vec::new(alloc);
+            if *first == b'-' {
+                let digits = counted(alloc, rest)?;
+                key.push(0)?;
+                key.extend_from_slice(turned(alloc, digits.as_slice())?.as_slice())?;
+            } else {
+                key.push(1)?;
+                key.extend_from_slice(counted(alloc, value)?.as_slice())?;
+            }
+            Ok(key)
+        }
+    }
+}
+
+/// Each octet turned round, so that the greatest comes first.
+fn turned(alloc: Global, octets: &[u8]) -> Result<Vec<u8>, AllocError>
+    ensures { IfOk result (λ v. v.items ≡ turned_octets octets.now) }
+{
+    octets.iter().map(|octet| 255 - *octet).collect(alloc)
+}
+
+/// So many ones as there are digits, a zero, and the digits.
+fn counted(alloc: Global, digits: &[u8]) -> Result<Vec<u8>, AllocError>
+    ensures { IfOk result (λ v. v.items ≡ counted_digits digits.now) }
+{
+    let mut out: Vec<u8> = digits.iter().map(|_| 1).collect(alloc)?;
+    out.push(0)?;
+    out.extend_from_slice(digits)?;
+    Ok(out)
+}

@@ -1,0 +1,193 @@
+//! The pair in two slots of 32 octets, of which one is written at a time. Pairs flow in and out; a device is called. How a
+//! slot is spelled and in which order its octets are written is decided below this file.
+ghost use Rattle.std.specs.Prelude.{◌≡◌, ◌≢◌, replicate, ◌≤◌, ◌+◌, ◌^◌, ◌↔◌, ◌⊎◌, ℕ, List, length, OnOk, OnErr, IfOk, IsErrOf, IsOk, Some, None};
+ghost use Rattle.view_store.specs.Device.{Only, HasRisen, LeavesOnly};
+ghost use Rattle.view_store.specs.Store.{IsKept, IsFormerOrNew};
+ghost use Rattle.view_store.specs.Slots.{found, IsWellPlaced, taken_from, sequence_of};
+
+use crate::device::Device;
+use crate::fault::ViewStoreError;
+use crate::reading::read_taken;
+use crate::slot::{MAX_NUMBER, Pair};
+use crate::state::{Gates, State};
+use crate::writing::{opened_gates, write_empty, write_pair};
+use std::marker::Model;
+
+/// The stored pair of a replica on a device of 64 octets.
+#[derive(Drop)]
+pub struct ViewStore<D: Device> {
+    device: D,
+    state: State,
+}
+
+impl<D: Device> Model for ViewStore<D> {
+    ghost use Rattle.view_store.specs.Stored.{Stored};
+
+    ghost Value = { Stored D };
+
+    ghost use Rattle.view_store.specs.Status.{status_of};
+    ghost use Rattle.view_store.specs.Store.{IsInMind};
+
+    ghost view = { λ s. record { device = s.device; status = status_of s.state } };
+
+    ghost invariant = { λ s. IsInMind s.state (D.seen s.device) (D.may_leave s.device) };
+}
+
+impl<D: Device> ViewStore<D> {
+    ghost use Rattle.view_store.specs.declared.state.Status.TheVariants as status;
+
+    /// A store over a device, which is not called. It can be used once `format` or `load` has answered Ok.
+    pub fn new(device: D) -> Self
+        ensures device { result.device ≡ device }
+        ensures status { result.status ≡ status.New }
+    {
+        ViewStore {
+            device,
+            state: State::New,
+        }
+    }
+
+    /// The device, for a store to be made anew.
+    pub fn into_device(self) -> D
+        ensures { result ≡ self.device }
+    {
+        let ViewStore { device, state: _ } = self;
+        device
+    }
+
+    /// Stores a pair in the place of the former one. A crash at any moment of the call leaves one of the two; once it
+    /// has answered Ok, the new one. After E21 every further call answers `Failed`.
+    pub fn store(&mut self, view: u64, restarts: u64) -> Result<(), ViewStoreError>
+        ensures stored { OnOk result (found (D.seen self.new.device) ≡ Some (record { view = view; restarts = restarts })) }
+        ensures durable { OnOk result (Only (D.seen self.new.device) (D.may_leave self.new.device)) }
+        ensures ready { OnOk result ((self.old.status ≡ status.Ready) × (self.new.status ≡ status.Ready)) }
+
+        ensures placed { OnOk result (IsWellPlaced (D.seen self.old.device) → IsWellPlaced (D.seen self.new.device)) }
+
+        // A crash at any moment of the call leaves the former pair or the new one, over an image that `format` and stores
+        // left, whole or stopped.
+        ensures any_moment { self.old.status ≡ status.Ready → IsWellPlaced (D.seen self.old.device)
+            → LeavesOnly D.moment D.left_since self.old.device self.new.device
+            (IsFormerOrNew (found (D.seen self.old.device)) (record { view = view; restarts = restarts })) }
+
+        // E21 only where the device failed, and then the store has failed; before that it was ready.
+        ensures device_failed { IsErrOf result ViewStoreError.DeviceFailed → HasRisen (D.failure_count self.old.device) (D.failure_count self.new.device)
+            × (self.old.status ≡ status.Ready) × (self.new.status ≡ status.Failed) }
+
+        // E22 exactly where the store isn't ready yet, or a number is past the greatest; nothing is written.
+        ensures no_pair { IsErrOf result ViewStoreError.NoPair ↔ (self.old.status ≡ status.New) ⊎ ((self.old.status ≡ status.Ready)
+            × ((2 ^ 63 ≤ view) ⊎ (2 ^ 63 ≤ restarts) ⊎ (2 ^ 63 ≤ sequence_of (taken_from (D.seen self.old.device)) + 1))) }
+        ensures no_pair_same { IsErrOf result ViewStoreError.NoPair → self.new ≡ self.old }
+
+        // A store that has failed answers so, and calls no device.
+        ensures failed { IsErrOf result ViewStoreError.Failed ↔ (self.old.status ≡ status.Failed) }
+        ensures failed_same { IsErrOf result ViewStoreError.Failed → self.new ≡ self.old }
+    {
+        let (sequence, gates) = match self.state {
+            State::New => return Err(ViewStoreError::NoPair),
+            State::Failed => return Err(ViewStoreError::Failed),
+            State::Ready(sequence, gates) => (sequence, gates),
+        };
+        if view > MAX_NUMBER || restarts > MAX_NUMBER || sequence >= MAX_NUMBER {
+            return Err(ViewStoreError::NoPair);
+        }
+        let pair = Pair { view, restarts };
+        match write_pair(&mut self.device, sequence, gates, pair) {
+            Ok(()) => {
+                self.state = State::Ready(sequence + 1, opened_gates(sequence, gates));
+                Ok(())
+            }
+            Err(_) => {
+                self.state = State::Failed;
+                Err(ViewStoreError::DeviceFailed)
+            }
+        }
+    }
+
+    /// The pair that the device holds. A crash after it leaves that pair.
+    pub fn load(&mut self) -> Result<Pair, ViewStoreError>
+        ensures found { IfOk result (λ pair. found (D.seen self.old.device) ≡ Some pair) }
+        ensures durable { OnOk result (Only (D.seen self.old.device) (D.may_leave self.new.device)) }
+        ensures ready { OnOk result (self.new.status ≡ status.Ready) }
+        ensures seen { D.seen self.new.device ≡ D.seen self.old.device }
+
+        // It writes nothing: a crash at any moment of the call leaves what it might have left before.
+        ensures any_moment { self.old.status ≢ status.Failed
+            → LeavesOnly D.moment D.left_since self.old.device self.new.device (D.may_leave self.old.device) }
+
+        // E22 exactly where no pair is found; the store isn't ready then.
+        ensures no_pair { IsErrOf result ViewStoreError.NoPair → (found (D.seen self.old.device) ≡ None) × (self.new.status ≡ status.New) }
+
+        // E21 only where the device failed, and then the store has failed.
+        ensures device_failed { IsErrOf result ViewStoreError.DeviceFailed
+            → HasRisen (D.failure_count self.old.device) (D.failure_count self.new.device) × (self.new.status ≡ status.Failed) }
+
+        // A store that has failed answers so, and calls no device.
+        ensures failed { IsErrOf result ViewStoreError.Failed ↔ (self.old.status ≡ status.Failed) }
+        ensures failed_same { IsErrOf result ViewStoreError.Failed → self.new ≡ self.old }
+    {
+        if let State::Failed = self.state {
+            return Err(ViewStoreError::Failed);
+        }
+        let taken = match read_taken(&mut self.device) {
+            Ok(taken) => taken,
+            Err(_) => {
+                self.state = State::Failed;
+                return Err(ViewStoreError::DeviceFailed);
+            }
+        };
+        match taken {
+            Some((slot, gates)) => {
+                self.state = State::Ready(slot.sequence, gates);
+                Ok(slot.pair)
+            }
+            None => {
+                self.state = State::New;
+                Err(ViewStoreError::NoPair)
+            }
+        }
+    }
+
+    /// Makes the device hold no pair: 64 zeros. A stop inside it promises nothing.
+    pub fn format(&mut self) -> Result<(), ViewStoreError>
+        ensures empty { OnOk result (D.seen self.new.device ≡ replicate 64 0) }
+        ensures placed { OnOk result (IsWellPlaced (D.seen self.new.device)) }
+        ensures no_pair_found { OnOk result (found (D.seen self.new.device) ≡ None) }
+        ensures durable { OnOk result (Only (D.seen self.new.device) (D.may_leave self.new.device)) }
+        ensures ready { OnOk result (self.new.status ≡ status.Ready) }
+
+        // E22 exactly where the device is longer than 64 octets; nothing is written.
+        ensures no_pair { IsErrOf result ViewStoreError.NoPair → (65 ≤ length (D.seen self.old.device))
+            × (D.seen self.new.device ≡ D.seen self.old.device) × (self.new.status ≡ status.New) }
+
+        // E21 only where the device failed, and then the store has failed.
+        ensures device_failed { IsErrOf result ViewStoreError.DeviceFailed
+            → HasRisen (D.failure_count self.old.device) (D.failure_count self.new.device) × (self.new.status ≡ status.Failed) }
+
+        // A store that has failed answers so, and calls no device.
+        ensures failed { IsErrOf result ViewStoreError.Failed ↔ (self.old.status ≡ status.Failed) }
+        ensures failed_same { IsErrOf result ViewStoreError.Failed → self.new ≡ self.old }
+    {
+        if let State::Failed = self.state {
+            return Err(ViewStoreError::Failed);
+        }
+        match write_empty(&mut self.device) {
+            Ok(true) => {
+                let gates = Gates {
+                    first: false,
+                    second: false,
+                };
+                self.state = State::Ready(0, gates);
+                Ok(())
+            }
+            Ok(false) => {
+                self.state = State::New;
+                Err(ViewStoreError::NoPair)
+            }
+            Err(_) => {
+                self.state = State::Failed;
+                Err(ViewStoreError::DeviceFailed)
+            }
+        }
+    }
+}

@@ -1,0 +1,5 @@
+//! Tests of the stored view over a device in memory: outside vectors, stops at each device call, each call failing in turn.
+#![tactic(auto)]
+
+#[cfg(test)]
+mod tests;

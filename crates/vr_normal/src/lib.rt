@@ -1,0 +1,18 @@
+//! The normal case of Viewstamped Replication Revisited (Liskov and Cowling 2012, 4.1; "VRR" below): requests, PREPARE,
+//! PREPAREOK, COMMIT and the primary's beat. Each handler is its definition in `vr_state`; at an error nothing has changed.
+#![tactic(auto)]
+
+pub mod acknowledgements;
+pub mod beat;
+pub mod commit;
+pub mod prepare;
+pub mod prepare_ok;
+pub mod request;
+pub mod sending;
+pub mod standing;
+
+pub use beat::beat_primary;
+pub use commit::on_commit;
+pub use prepare::on_prepare;
+pub use prepare_ok::on_prepare_ok;
+pub use request::on_request;

@@ -1,0 +1,124 @@
+// PREPARE: a backup takes a record in and says how much it has.
+// In: the sender, its view, a record, its place and a commit-number. Out: the replica's step by VRR 4.1, steps 4 and 7.
+// No reply is here: only a primary answers clients.
+ghost use Rattle.std.specs.Prelude.{◌≡◌, ◌+◌, ◌==◌, cond, length, IfOk, OnOk, OnErr};
+ghost use Rattle.vr_normal.specs.Rules.{acknowledge_or_ask, on_prepare_at, taken_in_at};
+ghost use Rattle.vr_state.specs.NormalCase.{take_in};
+ghost use Rattle.vr_state.specs.Views.{state, outcome, view_to_store};
+
+use crate::sending::{send_one, sending};
+use crate::standing::{commit_to, follows, is_behind};
+use std::alloc::{AllocError, Global};
+use vr_state::message::{Outputs, PeerMessage, Send};
+use vr_state::payload::Payload;
+use vr_state::replica::Replica;
+use vr_state::words::Entry;
+
+/// What comes with a PREPARE of the replica with index `from`, whose record stands at the place `op_number`. At an error,
+/// which is want of memory, nothing has changed.
+pub fn on_prepare<P: Payload>(
+    alloc: Global,
+    replica: &mut Replica<P>,
+    from: u64,
+    view_number: u64,
+    entry: Entry<P>,
+    op_number: u64,
+    commit_number: u64,
+) -> Result<Outputs<P>, AllocError>
+    ensures step { IfOk result (λ out. outcome replica.new out ≡ on_prepare_at replica.old from view_number entry op_number commit_number) }
+    ensures store { IfOk result (λ out. out.store ≡ view_to_store (state replica.old) (state replica.new)) }
+    ensures err { OnErr result (state replica.new ≡ state replica.old) }
+    ensures index { replica.new.index ≡ replica.old.index }
+    ensures count { replica.new.count ≡ replica.old.count }
+{
+    if is_behind(replica, view_number) {
+        let sends = send_one(alloc, from, PeerMessage::GetState { view_number })?;
+        Ok(sending(alloc, sends))
+    } else if follows(replica, view_number) {
+        answer_prepare(
+            alloc,
+            replica,
+            from,
+            view_number,
+            entry,
+            op_number,
+            commit_number,
+        )
+    } else {
+        Ok(sending(alloc, Vec::new(alloc)))
+    }
+}
+
+/// Takes a record in, learns of a commit and says how much there is. At an error nothing has changed.
+fn answer_prepare<P: Payload>(
+    alloc: Global,
+    replica: &mut Replica<P>,
+    from: u64,
+    view_number: u64,
+    entry: Entry<P>,
+    op_number: u64,
+    commit_number: u64,
+) -> Result<Outputs<P>, AllocError>
+    ensures step { IfOk result (λ out. outcome replica.new out ≡ taken_in_at replica.old from view_number entry op_number commit_number) }
+    ensures store { IfOk result (λ out. out.store ≡ view_to_store (state replica.old) (state replica.new)) }
+    ensures err { OnErr result (state replica.new ≡ state replica.old) }
+    ensures index { replica.new.index ≡ replica.old.index }
+    ensures count { replica.new.count ≡ replica.old.count }
+{
+    let held = held_with(replica, op_number);
+    let sends = acknowledge_or_ask(alloc, from, view_number, op_number, held)?;
+    take_in(replica, entry, op_number)?;
+    commit_to(replica, commit_number);
+    Ok(sending(alloc, sends))
+}
+
+/// How many records the log has once a record of this place is taken in.
+fn held_with<P: Payload>(replica: &Replica<P>, op_number: u64) -> u64
+    ensures { result ≡ cond (op_number == length replica.now.log + 1) op_number (length replica.now.log) }
+{
+    let held = replica.log.len() as u64;
+    if op_number == held + 1 {
+        op_number
+    } else {
+        held
+    }
+}
+
+/// Takes a record in, if its place is the next. At an error nothing has changed.
+fn take_in<P: Payload>(
+    replica: &mut Replica<P>,
+    entry: Entry<P>,
+    op_number: u64,
+) -> Result<(), AllocError>
+    ensures ok { OnOk result (state replica.new ≡ take_in entry op_number (state replica.old)) }
+    ensures err { OnErr result (state replica.new ≡ state replica.old) }
+    ensures index { replica.new.index ≡ replica.old.index }
+    ensures count { replica.new.count ≡ replica.old.count }
+{
+    if op_number == replica.log.len() as u64 + 1 {
+        replica.append(entry)
+    } else {
+        Ok(())
+    }
+}
+
+/// A PREPAREOK for all that it then has, or a GETSTATE where earlier records are missing. Its only error is want of memory.
+fn acknowledge_or_ask<P: Payload>(
+    alloc: Global,
+    from: u64,
+    view_number: u64,
+    op_number: u64,
+    held: u64,
+) -> Result<Vec<Send<P>>, AllocError>
+    ensures { IfOk result (λ sends. sends.items ≡ acknowledge_or_ask from view_number op_number held) }
+{
+    let message = if op_number <= held {
+        PeerMessage::PrepareOk {
+            view_number,
+            op_number: held,
+        }
+    } else {
+        PeerMessage::GetState { view_number }
+    };
+    send_one(alloc, from, message)
+}

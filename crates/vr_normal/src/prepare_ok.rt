@@ -1,0 +1,89 @@
+// PREPAREOK: the primary hears how much a backup has, commits what f of them have, and answers the clients.
+// In: the sender, its view and how many records it has. Out: the replica's step by VRR 4.1, step 5.
+// No message to another replica is here.
+ghost use Rattle.std.specs.Prelude.{◌≡◌, IfOk, OnErr};
+ghost use Rattle.vr_normal.specs.Rules.{acknowledged_at, on_prepare_ok_at};
+ghost use Rattle.vr_state.specs.Outcome.{replies_between};
+ghost use Rattle.vr_state.specs.Views.{state, outcome, view_to_store};
+
+use crate::acknowledgements::{reached, with_acknowledgement};
+use crate::sending::sending;
+use crate::standing::leads;
+use std::alloc::{AllocError, Global};
+use vr_state::log::Log;
+use vr_state::message::Outputs;
+use vr_state::payload::Payload;
+use vr_state::replica::Replica;
+use vr_state::words::Reply;
+
+/// What comes with a PREPAREOK of the replica with index `from`. At an error, which is want of memory, nothing has changed.
+pub fn on_prepare_ok<P: Payload>(
+    alloc: Global,
+    replica: &mut Replica<P>,
+    from: u64,
+    view_number: u64,
+    op_number: u64,
+) -> Result<Outputs<P>, AllocError>
+    ensures step { IfOk result (λ out. outcome replica.new out ≡ on_prepare_ok_at replica.old from view_number op_number) }
+    ensures store { IfOk result (λ out. out.store ≡ view_to_store (state replica.old) (state replica.new)) }
+    ensures err { OnErr result (state replica.new ≡ state replica.old) }
+    ensures index { replica.new.index ≡ replica.old.index }
+    ensures count { replica.new.count ≡ replica.old.count }
+{
+    if leads(replica, view_number) && op_number <= replica.log.len() as u64 {
+        acknowledge(alloc, replica, from, op_number)
+    } else {
+        Ok(sending(alloc, Vec::new(alloc)))
+    }
+}
+
+/// Notes an acknowledgement, and commits and answers what f others have acknowledged. At an error nothing has changed.
+fn acknowledge<P: Payload>(
+    alloc: Global,
+    replica: &mut Replica<P>,
+    from: u64,
+    op_number: u64,
+) -> Result<Outputs<P>, AllocError>
+    ensures step { IfOk result (λ out. outcome replica.new out ≡ acknowledged_at replica.old from op_number) }
+    ensures store { IfOk result (λ out. out.store ≡ None) }
+    ensures view { replica.new.view_number ≡ replica.old.view_number }
+    ensures err { OnErr result (state replica.new ≡ state replica.old) }
+    ensures index { replica.new.index ≡ replica.old.index }
+    ensures count { replica.new.count ≡ replica.old.count }
+{
+    let acknowledged = with_acknowledgement(alloc, &replica.acknowledged, from, op_number)?;
+    let reached = reached(&acknowledged, replica.index);
+    let held = replica.log.len() as u64;
+    let commit_number = replica.commit_number.max(reached.min(held));
+    let replies = replies_between(alloc, &replica.log, replica.commit_number, commit_number)?;
+    replica.acknowledged = acknowledged;
+    replica.commit_number = commit_number;
+    Ok(Outputs {
+        store: None,
+        sends: Vec::new(alloc),
+        replies,
+    })
+}
+
+/// Replies for the records after the place `after` up to the place `last`. Its only error is want of memory.
+pub fn replies_between<P: Payload>(
+    alloc: Global,
+    log: &Log<P>,
+    after: u64,
+    last: u64,
+) -> Result<Vec<Reply>, AllocError>
+    ensures { IfOk result (λ replies. replies.items ≡ replies_between after last log.now) }
+{
+    let records = log.as_slice();
+    let end = last.min(records.len() as u64);
+    let mut replies = Vec::new(alloc);
+    for before in after..end {
+        let entry = &records[before as usize];
+        replies.push(Reply {
+            client: entry.client,
+            request_number: entry.request_number,
+            op_number: before + 1,
+        })?;
+    }
+    Ok(replies)
+}

@@ -1,0 +1,10 @@
+pub mod Tests
+pub mod Lists
+pub mod Clients
+pub mod Better
+pub mod Best
+pub mod Reached
+pub mod Executed
+pub mod Keeps
+pub mod Steps
+pub mod StepPromises

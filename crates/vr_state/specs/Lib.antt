@@ -1,0 +1,12 @@
+pub mod Lists
+pub mod State
+pub mod Outcome
+pub mod ClientOrder
+pub mod ClientTable
+pub mod NormalCase
+pub mod ViewChange
+pub mod StateTransfer
+pub mod Recovery
+pub mod Step
+pub mod StepLaw
+pub mod Views

@@ -1,0 +1,55 @@
+-- What each step keeps, whatever the other replicas do. In: the step of one replica. Out: the clauses of the law on steps.
+-- What holds of a whole cluster stands in the crate above, over all schedules.
+use Rattle.std.specs.Prelude.{◌≡◌, ℕ, ◌/◌, ◌<◌, ◌≤◌, ◌⊎◌, nat_le, true, false, List, length, take, Some, slice_index}
+use Rattle.vr_state.specs.declared.words.Entry.{Entry}
+use Rattle.vr_state.specs.declared.words.Latest.{Latest}
+use Rattle.vr_state.specs.declared.words.Reply.{Reply}
+use Rattle.vr_state.specs.declared.message.Change.{Change}
+use Rattle.vr_state.specs.declared.event.Event.{Event}
+use Rattle.vr_state.specs.declared.event.Event.TheVariants.{Request}
+use Rattle.vr_state.specs.Lists.{In, IsNamedIn}
+use Rattle.vr_state.specs.State.{State, is_normal}
+use Rattle.vr_state.specs.ClientTable.{latest}
+use Rattle.vr_state.specs.Outcome.{others, count, noted}
+use Rattle.vr_state.specs.NormalCase.{on_prepare_ok}
+use Rattle.vr_state.specs.ViewChange.{best}
+use Rattle.vr_state.specs.Step.{step}
+
+-- A replica's view never falls, so none recovers below its stored view.
+abbrev pub ViewsRise : Type 0 → Type 0
+ViewsRise P = (n i : ℕ) (r : State P) (e : Event P) → r.view_number ≤ (step n i r e).state.view_number
+
+-- Its commit-number never falls.
+abbrev pub CommitsRise : Type 0 → Type 0
+CommitsRise P = (n i : ℕ) (r : State P) (e : Event P) → r.commit_number ≤ (step n i r e).state.commit_number
+
+-- A replica that isn't normal after a step has the log that it had: hearing of a later view cuts nothing.
+abbrev pub LogIsKept : Type 0 → Type 0
+LogIsKept P = (n i : ℕ) (r : State P) (e : Event P) → is_normal (step n i r e).state.status ≡ false → (step n i r e).state.log ≡ r.log
+
+-- While a replica is normal in one view, its log gets no shorter.
+abbrev pub LogOnlyGrows : Type 0 → Type 0
+LogOnlyGrows P = (n i : ℕ) (r : State P) (e : Event P) →
+    is_normal r.status ≡ true → (step n i r e).state.view_number ≡ r.view_number → length r.log ≤ length (step n i r e).state.log
+
+-- Each reply of a step names one of the records that the replica has committed after it.
+abbrev pub RepliesAreExecuted : Type 0 → Type 0
+RepliesAreExecuted P = (n i : ℕ) (r : State P) (e : Event P) (reply : Reply) →
+    In reply (step n i r e).replies → IsNamedIn reply (take (step n i r e).state.commit_number (step n i r e).state.log)
+
+-- A request with a number not above the client's latest changes nothing.
+abbrev pub RepeatsChangeNothing : Type 0 → Type 0
+RepeatsChangeNothing P = (n i : ℕ) (r : State P) (e : Entry P) (last : Latest) →
+    latest e.client r.log ≡ Some last → e.request_number ≤ last.request_number → (step n i r (Request e)).state ≡ r
+
+-- What a PREPAREOK newly commits, f other replicas have acknowledged.
+abbrev pub CommitsAreAcknowledged : Type 0 → Type 0
+CommitsAreAcknowledged P = (n i : ℕ) (r : State P) (from v p : ℕ) →
+    let s = (on_prepare_ok n i r from v p).state in
+    (s.commit_number ≡ r.commit_number) ⊎ (n / 2 ≤ count (λ j. nat_le s.commit_number (slice_index s.acknowledged j)) (others n i))
+
+-- The log that a new primary takes is of the latest normal view among those noted, and the longest of that view.
+abbrev pub BestIsTaken : Type 0 → Type 0
+BestIsTaken P = (xs : List (ℕ × Change P)) (js : List ℕ) (c : Change P) → best xs js ≡ Some c →
+    (j : ℕ) (d : Change P) → In j js → noted j xs ≡ Some d →
+    (d.last_normal_view < c.last_normal_view) ⊎ ((d.last_normal_view ≡ c.last_normal_view) × (length d.log ≤ length c.log))

@@ -1,0 +1,94 @@
+// A replica: its state, the table beside its log, and who it is.
+// In: an index and a count, and records to append. Out: the first replica of a cluster, and its log with the table of it.
+// The steps stand in the crates above, and what each must do in specs/.
+ghost use Rattle.std.specs.Prelude.{◌≡◌, ◌<◌, length, IfOk, OnOk, OnErr};
+ghost use Rattle.vr_state.specs.ClientTable.{IsTableOf};
+
+use crate::client_table::ClientTable;
+use crate::log::Log;
+use crate::message::{Change, Response};
+use crate::words::{Entry, Latest, Status};
+use std::alloc::{AllocError, Global};
+
+/// A replica (VRR 4, Figure 2). Its fields are open to the crates that make its steps; callers above see its `state`.
+#[derive(Drop)]
+pub struct Replica<P> {
+    /// Its index among all, from 0.
+    pub index: u64,
+    /// How many replicas there are.
+    pub count: u64,
+    pub view_number: u64,
+    pub status: Status,
+    /// The last view in which its status was normal.
+    pub last_normal_view: u64,
+    pub log: Log<P>,
+    pub commit_number: u64,
+    /// The client table of the log.
+    pub client_table: ClientTable,
+    /// At a normal primary: by index, how many records each other has.
+    pub acknowledged: Vec<u64>,
+    /// The senders of STARTVIEWCHANGE for its view, as noted.
+    pub start_view_changes: Vec<u64>,
+    /// The first DOVIEWCHANGE of each sender for its view.
+    pub do_view_changes: Vec<(u64, Change<P>)>,
+    /// The nonce of its recovery.
+    pub nonce: u64,
+    /// Of each sender the first RECOVERYRESPONSE of its greatest view.
+    pub responses: Vec<(u64, Response<P>)>,
+    ghost placed: { index < count },
+    ghost counted: { length acknowledged.items ≡ count },
+    ghost tabled: { IsTableOf client_table log },
+}
+
+impl<P: Drop> Replica<P> {
+    ghost use Rattle.vr_state.specs.State.{first};
+    ghost use Rattle.vr_state.specs.Views.{state};
+    ghost use Rattle.vr_state.specs.NormalCase.{append};
+
+    /// The replica at the start of a cluster: normal in view 0, with nothing. Its only error is want of memory.
+    pub fn first(alloc: Global, index: u64, count: u64) -> Result<Self, AllocError>
+        requires { index < count }
+        ensures state { IfOk result (λ replica. state replica ≡ first count) }
+        ensures index { IfOk result (λ replica. replica.index ≡ index) }
+        ensures count { IfOk result (λ replica. replica.count ≡ count) }
+    {
+        let acknowledged = vec![in alloc; 0; count as usize]?;
+        Ok(Replica {
+            index,
+            count,
+            view_number: 0,
+            status: Status::Normal,
+            last_normal_view: 0,
+            log: Log::new(alloc),
+            commit_number: 0,
+            client_table: ClientTable::new(alloc),
+            acknowledged,
+            start_view_changes: Vec::new(alloc),
+            do_view_changes: Vec::new(alloc),
+            nonce: 0,
+            responses: Vec::new(alloc),
+        })
+    }
+
+    /// Appends a record and notes it in the client table. At an error nothing has changed.
+    pub fn append(&mut self, entry: Entry<P>) -> Result<(), AllocError>
+        ensures ok { OnOk result (state self.new ≡ append entry (state self.old)) }
+        ensures err { OnErr result (state self.new ≡ state self.old) }
+        ensures index { self.new.index ≡ self.old.index }
+        ensures count { self.new.count ≡ self.old.count }
+    {
+        let client = entry.client;
+        let latest = Latest {
+            op_number: self.log.len() as u64 + 1,
+            request_number: entry.request_number,
+        };
+        self.log.push(entry)?;
+        match self.client_table.set(client, latest) {
+            Ok(()) => Ok(()),
+            Err(error) => {
+                self.log.pop();
+                Err(error)
+            }
+        }
+    }
+}

@@ -1,0 +1,98 @@
+-- Worked schedules: what a lab over n replicas prints, by computing. In: a script of events and looks at replicas.
+-- Out: its lines in order, one refl a script. Nothing else is proved here.
+use Rattle.std.proofs.Common.{◌≡◌, ℕ, ◌-◌, List, [], ◌∷◌, ◌++◌, length, take, Option, Some, None, refl}
+use Rattle.vr_state.specs.State.{State}
+use Rattle.vr_state.specs.declared.words.Entry.{Entry}
+use Rattle.vr_state.specs.declared.words.Status.{Status}
+use Rattle.vr_world.specs.Committed.{committed}
+use Rattle.vr_world.specs.World.{World, WorldEvent, ReplyBy, happens, start, after}
+use Rattle.vr_state.specs.declared.words.Status.TheVariants.{Normal, Recovering}
+use Rattle.vr_world.specs.World.WorldEvent.{Request, Deliver, Suspect, Beat, Crash, Recover}
+
+-- An event, some deliveries in turn, or a look at a replica.
+pub data Action : Type 0 where
+  Do : WorldEvent ℕ → Action
+  DeliverAll : List ℕ → Action
+  Look : ℕ → Action
+
+-- A reply, or what a look shows.
+pub data Line : Type 0 where
+  Replied : (replica client request_number op_number : ℕ) → Line
+  IsIn : (replica view_number : ℕ) (status : Status) (log commit_number : ℕ) → Line
+  IsDown : (replica : ℕ) → Line
+
+-- A request of a client without home, for nothing.
+abbrev ask : ℕ → ℕ → ℕ → Action
+ask i c s = Do (Request i (record { client = record { home = 0; life = 0; number = c }; request_number = s; payload = 0 }))
+
+-- A line for each of these replies, the oldest first.
+abbrev lines : List ReplyBy → List Line
+lines [] = []
+lines (t ∷ ts) = lines ts ++ Replied t.replica t.reply.client.number t.reply.request_number t.reply.op_number ∷ []
+
+-- The replies of the second world that the first has not.
+abbrev news : World ℕ → World ℕ → List Line
+news old w = lines (take (length w.replies - length old.replies) w.replies)
+
+-- what a look shows
+abbrev line : ℕ → Option (State ℕ) → Line
+line i None = IsDown i
+line i (Some r) = IsIn i r.view_number r.status (length r.log) r.commit_number
+
+-- deliveries in turn
+abbrev all_delivered : ℕ → List ℕ → World ℕ → World ℕ
+all_delivered n [] w = w
+all_delivered n (k ∷ ks) w = all_delivered n ks (happens n w (Deliver k))
+
+-- What the script prints from this world on.
+abbrev printed : ℕ → World ℕ → List Action → List Line
+printed n w [] = []
+printed n w (Do e ∷ rest) = let next = happens n w e in news w next ++ printed n next rest
+printed n w (DeliverAll ks ∷ rest) = let next = all_delivered n ks w in news w next ++ printed n next rest
+printed n w (Look i ∷ rest) = line i (w.replicas i) ∷ printed n w rest
+
+-- A record outlives the primary that took it: it is committed in the next view, and asked again it is answered again.
+primary_crashes : printed 3 (start 3) (ask 0 7 1 ∷ DeliverAll (1 ∷ []) ∷ Do (Crash 0) ∷ Do (Suspect 1) ∷ DeliverAll (5 ∷ 7 ∷ 8 ∷ []) ∷ ask 1 7 1 ∷ DeliverAll (10 ∷ 11 ∷ []) ∷ ask 1 7 1 ∷ Look 1 ∷ [])
+    ≡ Replied 1 7 1 1 ∷ Replied 1 7 1 1 ∷ IsIn 1 1 Normal 1 1 ∷ []
+primary_crashes = refl
+
+-- Hearing of a later view cuts no log: replica 2 holds the one committed record through two views.
+log_stays_whole : printed 5 (start 5) (ask 0 7 1 ∷ DeliverAll (1 ∷ 2 ∷ 5 ∷ 6 ∷ []) ∷ Do (Suspect 1) ∷ Do (Suspect 3) ∷ Do (Suspect 4) ∷ DeliverAll (9 ∷ 18 ∷ 10 ∷ 14 ∷ 12 ∷ 16 ∷ 19 ∷ 20 ∷ []) ∷ Do (Beat 1) ∷ DeliverAll (26 ∷ []) ∷ Look 2 ∷ Do (Crash 1) ∷ Do (Crash 0) ∷ Do (Suspect 2) ∷ Do (Suspect 2) ∷ DeliverAll (36 ∷ 37 ∷ 45 ∷ 41 ∷ 40 ∷ 44 ∷ 46 ∷ 47 ∷ 50 ∷ 51 ∷ 52 ∷ 53 ∷ []) ∷ Look 2 ∷ [])
+    ≡ Replied 0 7 1 1 ∷ IsIn 2 0 Normal 1 0 ∷ Replied 2 7 1 1 ∷ IsIn 2 2 Normal 1 1 ∷ []
+log_stays_whole = refl
+
+-- A request that is executed is answered again, and a backup commits at a beat.
+asked_again : printed 3 (start 3) (ask 0 7 1 ∷ DeliverAll (1 ∷ 3 ∷ []) ∷ Look 1 ∷ ask 0 7 1 ∷ Do (Beat 0) ∷ DeliverAll (4 ∷ []) ∷ Look 1 ∷ [])
+    ≡ Replied 0 7 1 1 ∷ IsIn 1 0 Normal 1 0 ∷ Replied 0 7 1 1 ∷ IsIn 1 0 Normal 1 1 ∷ []
+asked_again = refl
+
+-- An acknowledgement of the old view still counts at its primary, beside the new view: both have the same record.
+old_view_commits : printed 3 (start 3) (ask 0 7 1 ∷ DeliverAll (1 ∷ []) ∷ Do (Suspect 1) ∷ DeliverAll (5 ∷ 7 ∷ 8 ∷ []) ∷ ask 1 7 1 ∷ DeliverAll (10 ∷ 11 ∷ []) ∷ DeliverAll (3 ∷ []) ∷ Look 0 ∷ DeliverAll (9 ∷ []) ∷ Look 0 ∷ Look 1 ∷ [])
+    ≡ Replied 1 7 1 1 ∷ Replied 0 7 1 1 ∷ IsIn 0 0 Normal 1 1 ∷ IsIn 0 1 Normal 1 1 ∷ IsIn 1 1 Normal 1 1 ∷ []
+old_view_commits = refl
+
+-- A backup that misses a record gets the whole state, and acknowledges all of it.
+missing_record : printed 3 (start 3) (ask 0 7 1 ∷ ask 0 7 2 ∷ DeliverAll (4 ∷ 5 ∷ 6 ∷ 7 ∷ []) ∷ Look 2 ∷ [])
+    ≡ Replied 0 7 1 1 ∷ Replied 0 7 2 2 ∷ IsIn 2 0 Normal 2 0 ∷ []
+missing_record = refl
+
+-- A replica that left a view before it crashed doesn't recover into it: the stored view keeps its promise.
+promise_outlives_crash : printed 3 (start 3) (ask 0 7 1 ∷ Do (Suspect 2) ∷ Do (Crash 2) ∷ Do (Recover 2 5) ∷ DeliverAll (5 ∷ 6 ∷ 7 ∷ 8 ∷ []) ∷ Look 2 ∷ DeliverAll (4 ∷ 9 ∷ 13 ∷ []) ∷ Do (Beat 2) ∷ DeliverAll (14 ∷ 16 ∷ 17 ∷ 19 ∷ 20 ∷ []) ∷ Look 2 ∷ DeliverAll (18 ∷ []) ∷ [])
+    ≡ IsIn 2 1 Recovering 0 0 ∷ IsIn 2 1 Normal 1 0 ∷ Replied 1 7 1 1 ∷ []
+promise_outlives_crash = refl
+
+-- A STARTVIEW that comes again is dropped: the log doesn't go back.
+start_view_repeated : printed 3 (start 3) (Do (Suspect 1) ∷ DeliverAll (2 ∷ 4 ∷ 5 ∷ 7 ∷ []) ∷ ask 1 7 1 ∷ DeliverAll (10 ∷ 11 ∷ []) ∷ DeliverAll (7 ∷ []) ∷ Look 2 ∷ [])
+    ≡ Replied 1 7 1 1 ∷ IsIn 2 1 Normal 1 0 ∷ []
+start_view_repeated = refl
+
+-- a record
+abbrev one : Entry ℕ
+one = record { client = record { home = 0; life = 0; number = 7 }; request_number = 1; payload = 5 }
+
+-- The committed list of the first schedule, before and after the acknowledgement.
+committed_before : committed 3 (after 3 (Request 0 one ∷ [])).messages ≡ []
+committed_before = refl
+
+committed_after : committed 3 (after 3 (Request 0 one ∷ Deliver 1 ∷ [])).messages ≡ one ∷ []
+committed_after = refl
