@@ -7,4 +7,4 @@ mod searching;
 mod selecting;
 
 pub use found::SearchAnswer;
-pub use searching::{SIZE_LIMIT_EXCEEDED, SUCCESS, UNWILLING_TO_PERFORM, search};
+pub use searching::search;

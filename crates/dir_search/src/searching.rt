@@ -19,18 +19,9 @@ use crate::selecting::select;
 use dir_store::{Store, StoredEntry};
 use ldap_eval::{BoundFilter, bind, value};
 use ldap_match::Truth;
-use ldap_msg::{Scope, SearchRequest};
+use ldap_msg::{ResultCode, Scope, SearchRequest};
 use ldap_schema::Schema;
 use std::alloc::{AllocError, Global};
-
-/// resultCode success (RFC 4511 4.1.9).
-pub const SUCCESS: u32 = 0;
-
-/// resultCode sizeLimitExceeded (RFC 4511 4.1.9).
-pub const SIZE_LIMIT_EXCEEDED: u32 = 4;
-
-/// resultCode unwillingToPerform (RFC 4511 4.1.9).
-pub const UNWILLING_TO_PERFORM: u32 = 53;
 
 /// Whether the request's base and scope are served: the empty name and the whole subtree.
 fn is_request_served(request: &SearchRequest) -> bool
@@ -85,7 +76,7 @@ fn matching_entries(
             continue;
         }
         if is_full(limit, entries.as_slice().len()) {
-            let code = SIZE_LIMIT_EXCEEDED;
+            let code = ResultCode::SIZE_LIMIT_EXCEEDED;
             return Ok(SearchAnswer { code, entries });
         }
         let entry = select(
@@ -97,7 +88,7 @@ fn matching_entries(
         )?;
         entries.push(entry)?;
     }
-    let code = SUCCESS;
+    let code = ResultCode::SUCCESS;
     Ok(SearchAnswer { code, entries })
 }
 
@@ -113,7 +104,7 @@ pub fn search(
 {
     if !is_request_served(request) {
         return Ok(SearchAnswer {
-            code: UNWILLING_TO_PERFORM,
+            code: ResultCode::UNWILLING_TO_PERFORM,
             entries: Vec::new(alloc),
         });
     }

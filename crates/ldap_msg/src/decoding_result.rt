@@ -8,7 +8,7 @@ ghost use Rattle.ldap_msg.specs.Messages.{LdapResultValue, ExtendedResponseValue
 ghost use Rattle.ldap_msg.specs.View.{result_view, extended_view};
 ghost use Rattle.ldap_msg.specs.Grammar.{IsOutcome, HasLdapResult, IsSearchResultDone, IsExtendedResponse};
 
-use crate::result::{ExtendedResponse, LdapResult};
+use crate::result::{ExtendedResponse, LdapResult, ResultCode};
 use ldap_fields::{
     MsgFault, elements, number_field, optional_octets, optional_text, text_field, texts_or_none,
 };
@@ -37,7 +37,7 @@ fn result_field(alloc: Global, octets: &[u8]) -> Result<(LdapResult, &[u8]), Msg
     let (referral, rest) = texts_or_none(alloc, 0xa3, rest)?;
     Ok((
         LdapResult {
-            code,
+            code: ResultCode::new(code),
             matched_dn,
             diagnostic_message,
             referral,

@@ -37,7 +37,7 @@ pub fn result_content(alloc: Global, ldap_result: &LdapResult) -> Result<Vec<u8>
         → 2 ^ 32 ≤ length (result_content (result_view ldap_result.now)) }
 {
     let mut content = Vec::new(alloc);
-    put_number(0x0a, ldap_result.code, &mut content)?;
+    put_number(0x0a, ldap_result.code.number(), &mut content)?;
     write(0x04, ldap_result.matched_dn.as_bytes(), &mut content)?;
     write(
         0x04,

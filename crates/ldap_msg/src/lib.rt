@@ -26,5 +26,5 @@ pub use ldap_ber::WriteError as EncodeError;
 pub use ldap_fields::MsgFault;
 pub use ldap_filter::Filter;
 pub use message::{Control, Message, ProtocolOp, Request, Response};
-pub use result::{ExtendedResponse, LdapResult};
+pub use result::{ExtendedResponse, LdapResult, ResultCode};
 pub use search::{DerefAliases, Scope, SearchRequest};

@@ -9,19 +9,16 @@ use crate::fault::AnswerError;
 use dir_search::search;
 use dir_store::Store;
 use ldap_msg::{
-    EncodeError, ExtendedResponse, LdapResult, Message, ProtocolOp, Response, SearchRequest,
-    SearchResultEntry, encode,
+    EncodeError, ExtendedResponse, LdapResult, Message, ProtocolOp, Response, ResultCode,
+    SearchRequest, SearchResultEntry, encode,
 };
 use std::alloc::Global;
-
-/// resultCode protocolError (RFC 4511 4.1.9).
-const PROTOCOL_ERROR: u32 = 2;
 
 /// responseName of the Notice of Disconnection (RFC 4511 4.4.1).
 const NOTICE_OF_DISCONNECTION: &str = "1.3.6.1.4.1.1466.20036";
 
 /// A result with a code and nothing else.
-fn result_of(alloc: Global, code: u32) -> LdapResult
+fn result_of(alloc: Global, code: ResultCode) -> LdapResult
     ensures { result_view result ≡ outcome code }
 {
     LdapResult {
@@ -90,7 +87,7 @@ pub fn notice_of_disconnection(alloc: Global) -> Result<Vec<Vec<u8>>, AnswerErro
 {
     let response_name = String::from_str(alloc, NOTICE_OF_DISCONNECTION)?;
     let notice = ExtendedResponse {
-        result: result_of(alloc, PROTOCOL_ERROR),
+        result: result_of(alloc, ResultCode::PROTOCOL_ERROR),
         response_name: Some(response_name),
         response_value: None,
     };
