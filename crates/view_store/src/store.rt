@@ -2,7 +2,7 @@
 //! slot is spelled and in which order its octets are written is decided below this file.
 ghost use Rattle.std.specs.Prelude.{◌≡◌, ◌≢◌, replicate, ◌≤◌, ◌+◌, ◌^◌, ◌↔◌, ◌⊎◌, ℕ, List, length, OnOk, OnErr, IfOk, IsErrOf, IsOk, Some, None};
 ghost use Rattle.view_store.specs.Device.{Only, HasRisen, LeavesOnly};
-ghost use Rattle.view_store.specs.Store.{IsKept, IsFormerOrNew};
+ghost use Rattle.view_store.specs.Store.{IsFormerOrNew};
 ghost use Rattle.view_store.specs.Slots.{found, IsWellPlaced, taken_from, sequence_of};
 
 use crate::device::Device;
