@@ -1,11 +1,13 @@
 -- Keys of values, and entries with one attribute more. Facts on lists flow in and out; no value of the program is here.
-use Rattle.std.proofs.Common.{ℕ, List, [], ◌∷◌, ◌++◌, Bool, ◌&&◌, Option, Some, ◌≡◌, refl, ap, sym, subst, ◌∙◌, map}
+use Rattle.std.proofs.Common.{ℕ, List, [], ◌∷◌, ◌++◌, Bool, ◌&&◌, Option, None, Some, ◌≡◌, refl, ap, ap₂, sym, subst, ◌∙◌, map}
 use Rattle.std.specs.List.{list_all}
 use Rattle.ldap_syntax.specs.declared.rule.Rule.{Rule}
 use Rattle.ldap_schema.specs.Schema.{SchemaModel}
 use Rattle.ldap_match.specs.Item.{equality_of}
 use Rattle.ldap_match.specs.Keyed.{key_at, AreKeysBy, AreKeysOf}
 use Rattle.dir_entry.specs.Entry.{KeyedAttribute, IsKeyedBy}
+use Rattle.dir_entry.specs.Compared.{picked}
+use Rattle.dir_entry.proofs.Picked.{map_picked}
 
 pub list_all-map : {A B : Type 0} (p : B → Bool) (f : A → B) (xs : List A) → list_all p (map f xs) ≡ list_all (λ x. p (f x)) xs
 list_all-map p f [] = refl
@@ -21,3 +23,28 @@ keyed_from s t r items values keys e h = subst (λ (o : Option Rule). AreKeysBy 
 pub keyed_push : (s : SchemaModel) (e : List KeyedAttribute) (a : KeyedAttribute) → AreKeysOf s a.kind a.values a.keys → IsKeyedBy s e → IsKeyedBy s (e ++ a ∷ [])
 keyed_push s [] a h k = (h, tt)
 keyed_push s (b ∷ e) a h k = (k.0, keyed_push s e a h k.1)
+
+map_join : {A B : Type 0} (f : A → B) (xs ys : List A) → map f (xs ++ ys) ≡ map f xs ++ map f ys
+map_join f [] ys = refl
+map_join f (x ∷ xs) ys = ap (λ (zs : List _). f x ∷ zs) (map_join f xs ys)
+
+keyed_by_join : (s : SchemaModel) (o : Option Rule) (vs ks ws ls : List (List ℕ)) → AreKeysBy s o vs ks → AreKeysBy s o ws ls → AreKeysBy s o (vs ++ ws) (ks ++ ls)
+keyed_by_join s None vs ks ws ls h k = tt
+keyed_by_join s (Some r) vs ks ws ls h k = map_join (key_at s r) vs ws ∙ ap₂ (λ (a b : List (Option (List ℕ))). a ++ b) h k ∙ sym (map_join Some ks ls)
+
+pub keyed_join : (s : SchemaModel) (t : ℕ) (vs ks ws ls : List (List ℕ)) → AreKeysOf s t vs ks → AreKeysOf s t ws ls → AreKeysOf s t (vs ++ ws) (ks ++ ls)
+keyed_join s t vs ks ws ls h k = keyed_by_join s (equality_of s t) vs ks ws ls h k
+
+keyed_by_picked : (s : SchemaModel) (o : Option Rule) (ms : List Bool) (vs ks : List (List ℕ)) → AreKeysBy s o vs ks → AreKeysBy s o (picked ms vs) (picked ms ks)
+keyed_by_picked s None ms vs ks h = tt
+keyed_by_picked s (Some r) ms vs ks h = map_picked (key_at s r) ms vs ∙ ap (picked ms) h ∙ sym (map_picked Some ms ks)
+
+pub keyed_picked : (s : SchemaModel) (t : ℕ) (ms : List Bool) (vs ks : List (List ℕ)) → AreKeysOf s t vs ks → AreKeysOf s t (picked ms vs) (picked ms ks)
+keyed_picked s t ms vs ks h = keyed_by_picked s (equality_of s t) ms vs ks h
+
+-- an attribute that has the picked ones of another's values and keys
+pub keyed_kept : (s : SchemaModel) (a b : KeyedAttribute) (ms : List Bool) → b.kind ≡ a.kind → b.values ≡ picked ms a.values → b.keys ≡ picked ms a.keys → AreKeysOf s a.kind a.values a.keys → AreKeysOf s b.kind b.values b.keys
+keyed_kept s a b ms k v w h =
+    subst (λ (t : ℕ). AreKeysOf s t b.values b.keys) (sym k)
+    (subst (λ (vs : List (List ℕ)). AreKeysOf s a.kind vs b.keys) (sym v)
+    (subst (λ (ks : List (List ℕ)). AreKeysOf s a.kind (picked ms a.values) ks) (sym w) (keyed_picked s a.kind ms a.values a.keys h)))

@@ -1,1 +1,7 @@
 pub mod Entry
+pub mod Values
+pub mod Adding
+pub mod Editing
+pub mod Classes
+pub mod Naming
+pub mod Compared

@@ -1,17 +1,21 @@
 // An attribute with its keys. A type and values flow in; they and their keys flow out.
 // What must not be here: other attributes of an entry.
 
-ghost use Rattle.std.specs.Prelude.{◌≡◌, ◌↔◌, map, false, Some, is_some, IfOk, IsErrOf};
+ghost use Rattle.std.specs.Prelude.{◌≡◌, ◌↔◌, ◌++◌, map, false, Some, is_some, IfOk, IsErrOf};
 ghost use Rattle.std.specs.List.{list_all};
 ghost use Rattle.ldap_match.specs.Meaning.{meaning};
 ghost use Rattle.ldap_match.specs.Item.{is_of_syntax as is_of_type_syntax};
 ghost use Rattle.ldap_match.specs.Keyed.{key_at, AreKeysOf};
+ghost use Rattle.std.specs.Str.{bytes_eq};
+ghost use Rattle.dir_entry.specs.Compared.{picked};
 ghost use Rattle.dir_entry.specs.Entry.{are_in_syntax};
+ghost use Rattle.dir_entry.specs.Values.{has_repeats, has_twice as has_some_twice};
 
-use ldap_match::{equality_rule, is_of_syntax, key};
+use crate::repeats::has_twice;
+use ldap_match::{equality_rule, is_of_syntax, key, tests_are_items};
 use ldap_schema::{Schema, TypeId};
 use ldap_syntax::{Key, Rule, ValueError};
-use std::alloc::Global;
+use std::alloc::{AllocError, Global};
 use std::marker::Model;
 
 /// An attribute of an entry: a type and its values (RFC 4512 2.2).
@@ -59,6 +63,105 @@ impl Attribute {
         })
     }
 
+    /// The attribute with these values after its own, and their keys. A value that is not in the type's syntax is refused as E11.
+    pub fn with_values(
+        self,
+        alloc: Global,
+        schema: &Schema,
+        more: Vec<Vec<u8>>,
+    ) -> Result<Attribute, ValueError>
+        ensures kind { IfOk result (λ a. a.kind ≡ self.kind) }
+        ensures values { IfOk result (λ a. a.values ≡ self.values ++ map (λ v. v.items) more.items) }
+        ensures keyed { IfOk result (λ a. AreKeysOf schema.now self.kind self.values self.keys → AreKeysOf schema.now a.kind a.values a.keys) }
+
+        // E11 only where one of the values is not in the type's syntax.
+        ensures refused { IsErrOf result ValueError.NotInSyntax → are_in_syntax schema.now self.kind (map (λ v. v.items) more.items) ≡ false }
+    {
+        let Attribute {
+            type_id,
+            mut values,
+            mut keys,
+        } = self;
+        let mut more_keys = keys_of(alloc, schema, type_id, more.as_slice())?;
+        let mut more = more;
+        values.append(&mut more)?;
+        keys.append(&mut more_keys)?;
+        Ok(Attribute {
+            type_id,
+            values,
+            keys,
+        })
+    }
+
+    /// The attribute with the other's values after its own; their types are the same.
+    pub fn joined(self, other: Attribute) -> Result<Attribute, AllocError>
+        ensures kind { IfOk result (λ a. a.kind ≡ self.kind) }
+        ensures values { IfOk result (λ a. a.values ≡ self.values ++ other.values) }
+        ensures keys { IfOk result (λ a. a.keys ≡ self.keys ++ other.keys) }
+    {
+        let Attribute {
+            type_id,
+            mut values,
+            mut keys,
+        } = self;
+        let Attribute {
+            values: mut more,
+            keys: mut more_keys,
+            ..
+        } = other;
+        values.append(&mut more)?;
+        keys.append(&mut more_keys)?;
+        Ok(Attribute {
+            type_id,
+            values,
+            keys,
+        })
+    }
+
+    /// The attribute with the values that are marked.
+    pub fn kept(self, alloc: Global, marks: &[bool]) -> Result<Attribute, AllocError>
+        ensures kind { IfOk result (λ a. a.kind ≡ self.kind) }
+        ensures values { IfOk result (λ a. a.values ≡ picked marks.now self.values) }
+        ensures keys { IfOk result (λ a. a.keys ≡ picked marks.now self.keys) }
+    {
+        let Attribute {
+            type_id,
+            values,
+            keys,
+        } = self;
+        let values = pick(alloc, marks, values)?;
+        let keys = pick(alloc, marks, keys)?;
+        Ok(Attribute {
+            type_id,
+            values,
+            keys,
+        })
+    }
+
+    /// A copy.
+    pub fn copy(&self, alloc: Global) -> Result<Attribute, AllocError>
+        ensures { IfOk result (λ a. a ≡ self.now) }
+    {
+        Ok(Attribute {
+            type_id: self.type_id,
+            values: copy_values(alloc, self.values.as_slice())?,
+            keys: copy_keys(alloc, self.keys.as_slice())?,
+        })
+    }
+
+    /// Whether two of the values are equivalent under the type's EQUALITY rule. It takes time as sorting does; its only error is
+    /// want of memory.
+    pub fn has_repeats(&self, alloc: Global, schema: &Schema) -> Result<bool, AllocError>
+        ensures { AreKeysOf schema.now self.now.kind self.now.values self.now.keys
+            → IfOk result (λ b. b ≡ has_repeats schema.now self.now.kind self.now.values) }
+    {
+        tests_are_items();
+        match equality_rule(schema, self.type_id) {
+            Some(_) => has_repeated_key(alloc, self.keys.as_slice()),
+            None => has_repeated_value(alloc, self.values.as_slice()),
+        }
+    }
+
     /// The type.
     pub fn type_id(&self) -> TypeId
         ensures { result ≡ self.now.kind }
@@ -79,6 +182,86 @@ impl Attribute {
     {
         self.keys.as_slice()
     }
+}
+
+/// The items that are marked.
+fn pick<T: Drop>(alloc: Global, marks: &[bool], items: Vec<T>) -> Result<Vec<T>, AllocError>
+    ensures { IfOk result (λ v. v.items ≡ picked marks.now items.items) }
+{
+    let mut picked = Vec::new(alloc);
+    let mut rest = marks;
+    for item in items {
+        match rest.split_first() {
+            Some((mark, behind)) => {
+                if *mark {
+                    picked.push(item)?;
+                }
+                rest = behind;
+            }
+            None => return Ok(picked),
+        }
+    }
+    Ok(picked)
+}
+
+/// A copy of a list of values.
+fn copy_values(alloc: Global, values: &[Vec<u8>]) -> Result<Vec<Vec<u8>>, AllocError>
+    ensures { IfOk result (λ r. map (λ v. v.items) r.items ≡ map (λ v. v.items) values.now) }
+{
+    let mut copy = Vec::with_capacity(alloc, values.len())?;
+    for value in values {
+        copy.push(value.to_vec(alloc)?)?;
+    }
+    Ok(copy)
+}
+
+/// A copy of a list of keys.
+fn copy_keys(alloc: Global, keys: &[Key]) -> Result<Vec<Key>, AllocError>
+    ensures { IfOk result (λ r. r.items ≡ keys.now) }
+{
+    let mut copy = Vec::with_capacity(alloc, keys.len())?;
+    for key in keys {
+        copy.push(Key::new(key.as_octets().to_vec(alloc)?))?;
+    }
+    Ok(copy)
+}
+
+/// Whether two of the keys are the same.
+fn has_repeated_key(alloc: Global, keys: &[Key]) -> Result<bool, AllocError>
+    ensures { IfOk result (λ b. b ≡ has_some_twice bytes_eq keys.now) }
+{
+    let octets = octets_of_keys(alloc, keys)?;
+    has_twice(alloc, octets.as_slice())
+}
+
+/// Whether two of the values are the same octets.
+fn has_repeated_value(alloc: Global, values: &[Vec<u8>]) -> Result<bool, AllocError>
+    ensures { IfOk result (λ b. b ≡ has_some_twice bytes_eq (map (λ v. v.items) values.now)) }
+{
+    let octets = octets_of_values(alloc, values)?;
+    has_twice(alloc, octets.as_slice())
+}
+
+/// The octets of each key.
+pub fn octets_of_keys(alloc: Global, keys: &[Key]) -> Result<Vec<&[u8]>, AllocError>
+    ensures { IfOk result (λ v. map (λ octets. octets.now) v.items ≡ keys.now) }
+{
+    let mut list = Vec::new(alloc);
+    for key in keys {
+        list.push(key.as_octets())?;
+    }
+    Ok(list)
+}
+
+/// The octets of each value.
+pub fn octets_of_values(alloc: Global, values: &[Vec<u8>]) -> Result<Vec<&[u8]>, AllocError>
+    ensures { IfOk result (λ v. map (λ octets. octets.now) v.items ≡ map (λ v. v.items) values.now) }
+{
+    let mut list = Vec::new(alloc);
+    for value in values {
+        list.push(value.as_slice())?;
+    }
+    Ok(list)
 }
 
 /// Whether each value is in the type's syntax.

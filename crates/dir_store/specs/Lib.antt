@@ -1,3 +1,4 @@
 pub mod Directory
 pub mod Stored
-pub mod Given
+pub mod Adding
+pub mod Refused

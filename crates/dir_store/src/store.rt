@@ -1,16 +1,19 @@
-//! The entries in order of number, under one schema. New entries flow in; the list of all flows out.
-ghost use Rattle.std.specs.Prelude.{◌≡◌, ◌++◌, ◌∷◌, [], List, map, OnOk, OnErr, IfOk, IsErrOf};
-ghost use Rattle.dir_entry.specs.Entry.{AttributeModel, attributes_of, IsKeyedBy};
-ghost use Rattle.ldap_msg.specs.View.{attribute_view};
-ghost use Rattle.dir_store.specs.Given.{StandFor, HasUnknown, HasInvalid};
+//! The entries in order of number, under one schema. Adds flow in; the list of all entries flows out.
+ghost use Rattle.std.specs.Prelude.{◌≡◌, [], map, Ok, OnErr, IfOk, IfErr};
+ghost use Rattle.std.specs.List.{list_any};
+ghost use Rattle.std.specs.Str.{bytes_eq};
+ghost use Rattle.std.specs.String.{string_bytes};
+ghost use Rattle.ldap_msg.specs.View.{add_view};
+ghost use Rattle.dir_entry.specs.Entry.{IsKeyedBy};
+ghost use Rattle.dir_store.specs.Adding.{applied, reply_to, is_held, entry_asked as entry_that_is_asked};
+ghost use Rattle.dir_store.specs.Refused.{RefusedAs};
 ghost use Rattle.dir_store.specs.Stored.{named, AreKeyedBy};
 
-use crate::fault::StoreError;
+use crate::adding::entry_asked;
+use crate::fault::{AddError, code_of_refusal};
 use crate::stored::StoredEntry;
-use dir_entry::Entry;
-use ldap_msg::PartialAttribute;
+use ldap_msg::{AddRequest, ResultCode};
 use ldap_schema::Schema;
-use ldap_syntax::ValueError;
 use std::alloc::{AllocError, Global};
 use std::marker::Model;
 
@@ -34,42 +37,13 @@ impl Model for Store {
     ghost invariant = { λ s. AreKeyedBy s.schema s.entries.items };
 }
 
-/// A copy of a list of values.
-fn copy_values(alloc: Global, values: &[Vec<u8>]) -> Result<Vec<Vec<u8>>, AllocError>
-    ensures { IfOk result (λ r. map (λ v. v.items) r.items ≡ map (λ v. v.items) values.now) }
+/// Whether one of the entries has the name.
+fn is_name_of(entries: &[StoredEntry], name: &str) -> bool
+    ensures { result ≡ list_any (λ e. bytes_eq (string_bytes e.name) name.now) entries.now }
 {
-    let mut copy = Vec::with_capacity(alloc, values.len())?;
-    for value in values {
-        copy.push(value.to_vec(alloc)?)?;
-    }
-    Ok(copy)
-}
-
-/// An entry of these attributes under a schema.
-fn entry_of(
-    alloc: Global,
-    schema: &Schema,
-    attributes: &[PartialAttribute],
-) -> Result<Entry, StoreError>
-    ensures ok { IfOk result (λ e. StandFor schema.now (map attribute_view attributes.now) (attributes_of e)) }
-    ensures keyed { IfOk result (λ e. IsKeyedBy schema.now e) }
-    ensures unknown { IsErrOf result StoreError.UnknownType → HasUnknown schema.now (map attribute_view attributes.now) }
-    ensures invalid { IsErrOf result StoreError.NotInSyntax → HasInvalid schema.now (map attribute_view attributes.now) }
-{
-    let mut entry = Entry::new(alloc);
-    for attribute in attributes {
-        let type_id = match schema.find(&attribute.description) {
-            Some(type_id) => type_id,
-            None => return Err(StoreError::UnknownType),
-        };
-        let values = copy_values(alloc, &attribute.values)?;
-        match entry.add(alloc, schema, type_id, values) {
-            Ok(()) => {}
-            Err(ValueError::NotInSyntax) => return Err(StoreError::NotInSyntax),
-            Err(ValueError::NoMemory) => return Err(StoreError::NoMemory),
-        }
-    }
-    Ok(entry)
+    entries
+        .iter()
+        .any(|stored| stored.name.as_bytes() == name.as_bytes())
 }
 
 impl Store {
@@ -84,28 +58,42 @@ impl Store {
         }
     }
 
-    /// Adds an entry at the end, with the next number. An `Err` leaves the directory as it was.
-    pub fn add(
-        &mut self,
-        alloc: Global,
-        name: &str,
-        attributes: &[PartialAttribute],
-    ) -> Result<(), StoreError>
-        ensures ok { OnOk result ((given : List AttributeModel) × StandFor self.old.schema (map attribute_view attributes.now) given
-            × (self.new.entries ≡ self.old.entries ++ record { name = name.now; attributes = given } ∷ [])) }
-        ensures schema { self.new.schema ≡ self.old.schema }
+    /// Adds an entry at the end, with the next number, or refuses it with the code of the first check that fails (RFC 4511
+    /// 4.7): 68, then 17, 21 or 20 of each attribute in order, then 19 and 65. A refusal and want of memory, the only error, leave
+    /// the directory as it was.
+    pub fn add(&mut self, alloc: Global, request: &AddRequest) -> Result<ResultCode, AllocError>
+        ensures directory { IfOk result (λ code. self.new ≡ applied self.old (add_view request.now)) }
+        ensures code { IfOk result (λ code. code ≡ reply_to self.old (add_view request.now)) }
         ensures err { OnErr result (self.new ≡ self.old) }
-
-        // A description is not recognised.
-        ensures unknown { IsErrOf result StoreError.UnknownType → HasUnknown self.old.schema (map attribute_view attributes.now) }
-
-        // A value is not in its type's syntax.
-        ensures invalid { IsErrOf result StoreError.NotInSyntax → HasInvalid self.old.schema (map attribute_view attributes.now) }
     {
-        let entry = entry_of(alloc, &self.schema, attributes)?;
-        let name = String::from_str(alloc, name)?;
-        self.entries.push(StoredEntry { name, entry })?;
-        Ok(())
+        match self.new_entry(alloc, request) {
+            Ok(stored) => {
+                self.entries.push(stored)?;
+                Ok(ResultCode::SUCCESS)
+            }
+            Err(error) => code_of_refusal(error),
+        }
+    }
+
+    /// Whether an entry has the name.
+    fn holds(&self, name: &str) -> bool
+        ensures { result ≡ is_held name.now self.now.entries }
+    {
+        is_name_of(self.entries.as_slice(), name)
+    }
+
+    /// The entry that an add asks for.
+    fn new_entry(&self, alloc: Global, request: &AddRequest) -> Result<StoredEntry, AddError>
+        ensures ok { IfOk result (λ e. entry_that_is_asked self.now (add_view request.now) ≡ Ok (named e)) }
+        ensures keyed { IfOk result (λ e. IsKeyedBy self.now.schema e.entry) }
+        ensures refused { IfErr result (λ e. RefusedAs e (entry_that_is_asked self.now (add_view request.now))) }
+    {
+        if self.holds(&request.entry) {
+            return Err(AddError::Refused(ResultCode::ENTRY_ALREADY_EXISTS));
+        }
+        let entry = entry_asked(alloc, &self.schema, request.attributes.as_slice())?;
+        let name = String::from_str(alloc, &request.entry)?;
+        Ok(StoredEntry { name, entry })
     }
 
     /// The schema.

@@ -8,6 +8,8 @@ use std::alloc::Global;
 pub enum Job {
     /// One session over one local list of entries; with `sample` it is the built-in sample.
     Answer { sample: bool },
+    /// A lab script over replicas in memory.
+    Lab,
 }
 
 /// Reads the words of the command line, the program's name first.
@@ -19,16 +21,22 @@ pub fn read_words<'a>(alloc: Global, words: &'a [String]) -> Result<Job, Error> 
     let answer = Command::new(alloc, "answer")
         .about("Answer LDAP messages: each input line is one message in hex, each response a line")
         .arg(sample)?;
+    let lab = Command::new(alloc, "lab").about(
+        "Play a script of requests, deliveries, view changes, crashes and recoveries with real replicas",
+    );
     let command = Command::new(alloc, "dird")
         .version("0.1.0")
         .about("An LDAPv3 directory server whose answers are proved")
         .subcommand_required(true)
         .arg_required_else_help(true)
-        .subcommand(answer)?;
+        .subcommand(answer)?
+        .subcommand(lab)?;
     let matches = command.try_get_matches_from(words)?;
-    let sample = match matches.subcommand() {
-        Some((_, inner)) => inner.get_flag("sample"),
-        None => false,
-    };
-    Ok(Job::Answer { sample })
+    match matches.subcommand() {
+        Some(("lab", _)) => Ok(Job::Lab),
+        Some((_, inner)) => Ok(Job::Answer {
+            sample: inner.get_flag("sample"),
+        }),
+        None => Ok(Job::Answer { sample: false }),
+    }
 }

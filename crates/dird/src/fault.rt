@@ -3,7 +3,7 @@
 ghost use Rattle.std.specs.Prelude.{◌≡◌};
 ghost use Rattle.dird.specs.declared.fault.Fault.TheVariants.{NoMemory};
 
-use dir_store::StoreError;
+use lab_script::ScriptError;
 use ldap_session::AnswerError;
 use std::alloc::{AllocError, AllocFailed};
 use thiserror::Error;
@@ -13,6 +13,8 @@ use thiserror::Error;
 pub enum Fault {
     #[error("bad hex line {0}")]
     BadHexLine(u64),
+    #[error("bad line {0}")]
+    BadLine(u64),
     #[error("cannot read")]
     CannotRead,
     #[error("cannot write")]
@@ -34,11 +36,11 @@ impl From<AnswerError> for Fault {
     }
 }
 
-impl From<StoreError> for Fault {
-    fn from(error: StoreError) -> Fault {
+impl From<ScriptError> for Fault {
+    fn from(error: ScriptError) -> Fault {
         match error {
-            StoreError::UnknownType | StoreError::NotInSyntax => Fault::BadSample,
-            StoreError::NoMemory => Fault::NoMemory,
+            ScriptError::BadLine { number } => Fault::BadLine(number),
+            ScriptError::NoMemory => Fault::NoMemory,
         }
     }
 }

@@ -5,8 +5,11 @@
 mod answering;
 mod command;
 mod fault;
+mod lab;
+mod local;
 mod run;
 mod sample;
+mod status;
 
 use run::run as run_words;
 use std::io::{self, BufReader, BufWriter, Write};
@@ -27,5 +30,7 @@ fn main(rt: HostRuntime) -> io::Result<ExitCode> {
     Ok(ExitCode::from(status.code()))
 }
 
+#[cfg(test)]
+mod add_tests;
 #[cfg(test)]
 mod tests;

@@ -1,14 +1,17 @@
 //! Whole runs over texts. The expected octets are those of the worked examples, or come from an independent encoder.
 
-use crate::run::{Status, run};
+use crate::run::run;
+use crate::status::Status;
 use std::alloc::Global;
 use std::io::{self, Read};
 use std::process::Abort;
 use std::test::*;
 
-const PLAIN: &[&str] = &["dird", "answer"];
+pub const PLAIN: &[&str] = &["dird", "answer"];
 
-const SAMPLE: &[&str] = &["dird", "answer", "--sample"];
+pub const SAMPLE: &[&str] = &["dird", "answer", "--sample"];
+
+const LAB: &[&str] = &["dird", "lab"];
 
 /// What a run writes, its faults and its status.
 #[derive(Drop)]
@@ -50,7 +53,7 @@ fn lines(alloc: Global, texts: &[&str]) -> Result<Vec<u8>, Fail> {
 }
 
 /// Runs these lines, and compares what is written.
-fn check(
+pub fn check(
     rt: &impl Abort,
     alloc: Global,
     words: &[&str],
@@ -491,4 +494,307 @@ fn takes_any_deref_and_large_ids(rt: HostRuntime) -> Result<(), Fail> {
             "300f02047fffffff65070a010004000400",
         ],
     )
+}
+
+#[test]
+fn a_repeated_request_is_answered_again(rt: HostRuntime) -> Result<(), Fail> {
+    check(
+        &rt,
+        rt.alloc(),
+        LAB,
+        &[
+            "replicas 3",
+            "request 0 7 1 noop",
+            "deliver 1 3",
+            "state 1",
+            "request 0 7 1 noop",
+            "beat 0",
+            "deliver 4",
+            "state 1",
+        ],
+        &[
+            "reply replica=0 client=7 number=1 op=1 code=0",
+            "state replica=1 view=0 status=normal log=1 commit=0",
+            "reply replica=0 client=7 number=1 op=1 code=0",
+            "state replica=1 view=0 status=normal log=1 commit=1",
+        ],
+    )
+}
+
+#[test]
+fn a_new_primary_takes_the_best_log(rt: HostRuntime) -> Result<(), Fail> {
+    check(
+        &rt,
+        rt.alloc(),
+        LAB,
+        &[
+            "replicas 3",
+            "request 0 7 1 noop",
+            "deliver 1",
+            "suspect 1",
+            "deliver 5 7 8",
+            "request 1 7 1 noop",
+            "deliver 10 11",
+            "deliver 3",
+            "state 0",
+            "deliver 9",
+            "state 0",
+            "state 1",
+        ],
+        &[
+            "reply replica=1 client=7 number=1 op=1 code=0",
+            "reply replica=0 client=7 number=1 op=1 code=0",
+            "state replica=0 view=0 status=normal log=1 commit=1",
+            "state replica=0 view=1 status=normal log=1 commit=1",
+            "state replica=1 view=1 status=normal log=1 commit=1",
+        ],
+    )
+}
+
+#[test]
+fn a_view_changes_after_a_crash(rt: HostRuntime) -> Result<(), Fail> {
+    check(
+        &rt,
+        rt.alloc(),
+        LAB,
+        &[
+            "replicas 3",
+            "request 0 7 1 noop",
+            "deliver 1",
+            "crash 0",
+            "suspect 1",
+            "deliver 5 7 8",
+            "request 1 7 1 noop",
+            "deliver 10 11",
+            "request 1 7 1 noop",
+            "state 1",
+        ],
+        &[
+            "reply replica=1 client=7 number=1 op=1 code=0",
+            "reply replica=1 client=7 number=1 op=1 code=0",
+            "state replica=1 view=1 status=normal log=1 commit=1",
+        ],
+    )
+}
+
+#[test]
+fn no_log_is_cut_too_early(rt: HostRuntime) -> Result<(), Fail> {
+    check(
+        &rt,
+        rt.alloc(),
+        LAB,
+        &[
+            "replicas 5",
+            "request 0 7 1 noop",
+            "deliver 1 2 5 6",
+            "suspect 1",
+            "suspect 3",
+            "suspect 4",
+            "deliver 9 18 10 14 12 16 19 20",
+            "beat 1",
+            "deliver 26",
+            "state 2",
+            "crash 1",
+            "crash 0",
+            "suspect 2",
+            "suspect 2",
+            "deliver 36 37 45 41 40 44 46 47 50 51 52 53",
+            "state 2",
+        ],
+        &[
+            "reply replica=0 client=7 number=1 op=1 code=0",
+            "state replica=2 view=0 status=normal log=1 commit=0",
+            "reply replica=2 client=7 number=1 op=1 code=0",
+            "state replica=2 view=2 status=normal log=1 commit=1",
+        ],
+    )
+}
+
+#[test]
+fn a_backup_gets_what_it_lacks(rt: HostRuntime) -> Result<(), Fail> {
+    check(
+        &rt,
+        rt.alloc(),
+        LAB,
+        &[
+            "replicas 3",
+            "request 0 7 1 noop",
+            "request 0 7 2 noop",
+            "deliver 4 5 6 7",
+            "state 2",
+        ],
+        &[
+            "reply replica=0 client=7 number=1 op=1 code=0",
+            "reply replica=0 client=7 number=2 op=2 code=0",
+            "state replica=2 view=0 status=normal log=2 commit=0",
+        ],
+    )
+}
+
+#[test]
+fn a_replica_recovers_into_its_promised_view(rt: HostRuntime) -> Result<(), Fail> {
+    check(
+        &rt,
+        rt.alloc(),
+        LAB,
+        &[
+            "replicas 3",
+            "request 0 7 1 noop",
+            "suspect 2",
+            "crash 2",
+            "recover 2 5",
+            "deliver 5 6 7 8",
+            "state 2",
+            "deliver 4 9 13",
+            "beat 2",
+            "deliver 14 16 17 19 20",
+            "state 2",
+            "deliver 18",
+        ],
+        &[
+            "state replica=2 view=1 status=recovering log=0 commit=0",
+            "state replica=2 view=1 status=normal log=1 commit=0",
+            "reply replica=1 client=7 number=1 op=1 code=0",
+        ],
+    )
+}
+
+#[test]
+fn a_start_view_that_comes_again_is_dropped(rt: HostRuntime) -> Result<(), Fail> {
+    check(
+        &rt,
+        rt.alloc(),
+        LAB,
+        &[
+            "replicas 3",
+            "suspect 1",
+            "deliver 2 4 5 7",
+            "request 1 7 1 noop",
+            "deliver 10 11",
+            "deliver 7",
+            "state 2",
+        ],
+        &[
+            "reply replica=1 client=7 number=1 op=1 code=0",
+            "state replica=2 view=1 status=normal log=1 commit=0",
+        ],
+    )
+}
+
+#[test]
+fn a_replica_that_is_down_says_so(rt: HostRuntime) -> Result<(), Fail> {
+    check(
+        &rt,
+        rt.alloc(),
+        LAB,
+        &[
+            "replicas 7",
+            "crash 6",
+            "state 6",
+            "state 7",
+            "crash 9223372036854775807",
+            "deliver 1 9223372036854775807",
+            "beat 6",
+            "suspect 6",
+            "request 6 1 1 noop",
+            "recover 5 1",
+            "state 5",
+            "recover 6 1",
+            "state 6",
+            "crash 6",
+            "recover 6 1",
+            "state 6",
+        ],
+        &[
+            "state replica=6 down",
+            "state replica=5 view=0 status=normal log=0 commit=0",
+            "state replica=6 view=0 status=recovering log=0 commit=0",
+            "state replica=6 down",
+        ],
+    )
+}
+
+#[test]
+fn messages_come_twice_and_out_of_order(rt: HostRuntime) -> Result<(), Fail> {
+    // Messages 1 and 2 are PREPAREs of the first record, 3 and 4 of the second. The second is taken in only after the first,
+    // and what comes again changes nothing. 5 asks for the state; 6 and 7 acknowledge one record and two.
+    check(
+        &rt,
+        rt.alloc(),
+        LAB,
+        &[
+            "replicas 3",
+            "request 0 7 1 noop",
+            "request 0 7 2 noop",
+            "deliver 3",
+            "state 1",
+            "deliver 1 3 3 1",
+            "state 1",
+            "deliver 7 6 7",
+            "state 0",
+        ],
+        &[
+            "state replica=1 view=0 status=normal log=0 commit=0",
+            "state replica=1 view=0 status=normal log=2 commit=0",
+            "reply replica=0 client=7 number=1 op=1 code=0",
+            "reply replica=0 client=7 number=2 op=2 code=0",
+            "state replica=0 view=0 status=normal log=2 commit=2",
+        ],
+    )
+}
+
+/// Runs a script that is refused, and compares the fault.
+fn check_refused(rt: &impl Abort, alloc: Global, text: &[u8], fault: &str) -> Result<(), Fail> {
+    let Ran {
+        output,
+        faults,
+        status,
+    } = run_text(alloc, LAB, text)?;
+    assert!(rt; output.is_empty());
+    assert!(rt; faults.as_slice() == fault.as_bytes());
+    assert_eq!(rt; status, Status::Refused);
+    Ok(())
+}
+
+#[test]
+fn a_line_that_is_not_in_the_language_refuses_the_script(rt: HostRuntime) -> Result<(), Fail> {
+    let alloc = rt.alloc();
+    check_refused(&rt, alloc, b"", "bad line 1\n")?;
+    check_refused(&rt, alloc, b"replicas 4\n", "bad line 1\n")?;
+    check_refused(&rt, alloc, b"state 0\n", "bad line 1\n")?;
+    check_refused(&rt, alloc, b"replicas 3\nstate 0\n\n", "bad line 3\n")?;
+    check_refused(&rt, alloc, b"replicas 3\ndeliver\n", "bad line 2\n")?;
+    check_refused(&rt, alloc, b"replicas 3\nstate  0\n", "bad line 2\n")?;
+    check_refused(&rt, alloc, b"replicas 3\nstate +0\n", "bad line 2\n")?;
+    check_refused(
+        &rt,
+        alloc,
+        b"replicas 3\nstate 9223372036854775808\n",
+        "bad line 2\n",
+    )?;
+    check_refused(
+        &rt,
+        alloc,
+        b"replicas 3\nrequest 0 7 1 delete x\n",
+        "bad line 2\n",
+    )?;
+    check_refused(
+        &rt,
+        alloc,
+        b"replicas 3\nsearch 0 1 |sub|(&)\n",
+        "bad line 2\n",
+    )
+}
+
+#[test]
+fn lines_may_end_by_a_carriage_return(rt: HostRuntime) -> Result<(), Fail> {
+    let Ran {
+        output,
+        faults,
+        status,
+    } = run_text(rt.alloc(), LAB, b"replicas 5\r\ncrash 4\r\nstate 4")?;
+    assert!(&rt; output.as_slice() == b"state replica=4 down\n".as_slice());
+    assert!(&rt; faults.is_empty());
+    assert_eq!(&rt; status, Status::Done);
+    Ok(())
 }

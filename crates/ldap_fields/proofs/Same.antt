@@ -1,12 +1,12 @@
 -- Wire, between elements and messages: the field at the front of octets is one, and what a part lacks the whole lacks.
 use Rattle.std.proofs.Common.{◌≡◌, ◌<◌, length, ℕ, Bool, true, false, Option, Some, None, List, [], ◌∷◌, ◌++◌, refl, sym, ap, subst, ◌∙◌, inl, inr, arith}
-use Rattle.std.specs.Prelude.{pos}
+use Rattle.std.specs.Prelude.{ℤ, pos, negsuc}
 use Rattle.std.specs.Str.{IsUtf8}
 use Rattle.std.proofs.lemmas.List.{append_cancel_left, length-append}
 use Rattle.ldap_ber.specs.Element.{IsElement}
 use Rattle.ldap_ber.specs.Values.{IsValue, IsInteger, IsBoolean}
 use Rattle.ldap_ber.proofs.Elements.{one}
-use Rattle.ldap_fields.specs.Fields.{HasField, Seq, HasText, HasNumber, HasFlag, BeginsOtherwise, Optional, HasTextOrNone, HasOctetsOrNone, HasFlagOrFalse}
+use Rattle.ldap_fields.specs.Fields.{HasField, Seq, HasText, HasNumber, HasInteger, HasFlag, BeginsOtherwise, Optional, HasTextOrNone, HasOctetsOrNone, HasFlagOrFalse}
 use Rattle.ldap_fields.specs.Faults.{IsPlainFault}
 use Rattle.ldap_fields.specs.declared.fault.MsgFault.{MsgFault}
 use Rattle.ldap_fields.specs.declared.fault.MsgFault.TheVariants.{TooLarge, NotAMessage, TooDeep, TooManyItems, NoMemory}
@@ -75,6 +75,22 @@ pub number_unique : (f l v w : ℕ) (o x y : List ℕ) → HasNumber o f l v x �
 number_unique f l v w o x y p q =
     let s = same_field o p.content q.content x y f f p.field q.field in
     record { value = same_value q.content v w (subst (λ (c : List ℕ). IsValue c (pos v)) s.content p.number.is_value) q.number.is_value; rest = s.rest }
+
+same_integer : (content : List ℕ) (y z : ℤ) → IsValue content y → IsValue content z → y ≡ z
+same_integer [] y z p q = absurd p
+same_integer (a ∷ bs) (pos m) (pos n) p q = ap pos (p.1 ∙ sym q.1)
+same_integer (a ∷ bs) (negsuc m) (negsuc n) p q = ap negsuc (p.1 ∙ sym q.1)
+same_integer (a ∷ bs) (pos m) (negsuc n) p q = absurd (omega (arith, p.0, q.0))
+same_integer (a ∷ bs) (negsuc m) (pos n) p q = absurd (omega (arith, p.0, q.0))
+
+-- an integer has one content's value
+pub integer_one : (y z : ℤ) (content : List ℕ) → IsInteger content y → IsInteger content z → y ≡ z
+integer_one y z content p q = same_integer content y z p.is_value q.is_value
+
+pub integer_unique : (f : ℕ) (v w : ℤ) (o x y : List ℕ) → HasInteger o f v x → HasInteger o f w y → Same ℤ v w x y
+integer_unique f v w o x y p q =
+    let s = same_field o p.content q.content x y f f p.field q.field in
+    record { value = integer_one v w q.content (subst (λ (c : List ℕ). IsInteger c v) s.content p.number) q.number; rest = s.rest }
 
 same_flag : (content : List ℕ) (v w : Bool) → IsBoolean content v → IsBoolean content w → v ≡ w
 same_flag [] v w p q = absurd p
@@ -146,6 +162,9 @@ text_inside o content rest f p (t, r, h) = subst IsUtf8 (sym (same_field o conte
 
 pub number_inside : (o content rest : List ℕ) (f l : ℕ) → HasField o f content rest → (n : ℕ) × (r : List ℕ) × HasNumber o f l n r → (n : ℕ) × IsInteger content (pos n) × (n < l)
 number_inside o content rest f l p (n, r, h) = (n, subst (λ (c : List ℕ). IsInteger c (pos n)) (sym (same_field o content h.content rest r f f p h.field).content) h.number, h.small)
+
+pub integer_inside : (o content rest : List ℕ) (f : ℕ) → HasField o f content rest → (z : ℤ) × (r : List ℕ) × HasInteger o f z r → (z : ℤ) × IsInteger content z
+integer_inside o content rest f p (z, r, h) = (z, subst (λ (c : List ℕ). IsInteger c z) (sym (same_field o content h.content rest r f f p h.field).content) h.number)
 
 pub flag_inside : (o content rest : List ℕ) (f : ℕ) → HasField o f content rest → (b : Bool) × (r : List ℕ) × HasFlag o f b r → (b : Bool) × IsBoolean content b
 flag_inside o content rest f p (b, r, h) = (b, subst (λ (c : List ℕ). IsBoolean c b) (sym (same_field o content h.content rest r f f p h.field).content) h.flag)

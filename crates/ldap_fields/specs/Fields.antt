@@ -1,6 +1,6 @@
 -- Wire, between elements and messages: fields at the front of octets.
 -- In: lists of octets. Out: a field's value, and the octets after it. Not here: reading from the left.
-use Rattle.std.specs.Prelude.{◌≡◌, ◌≢◌, ℕ, ◌<◌, List, [], ◌∷◌, ◌++◌, Bool, false, ◌⊎◌, pos, Option, Some, None}
+use Rattle.std.specs.Prelude.{◌≡◌, ◌≢◌, ℕ, ◌<◌, List, [], ◌∷◌, ◌++◌, Bool, false, ◌⊎◌, ℤ, pos, Option, Some, None}
 use Rattle.std.specs.Str.{IsUtf8}
 use Rattle.ldap_ber.specs.Element.{IsElement}
 use Rattle.ldap_ber.specs.Values.{IsInteger, IsBoolean}
@@ -34,6 +34,12 @@ pub record HasNumber (octets : List ℕ) (first limit n : ℕ) (rest : List ℕ)
   pub field : HasField octets first content rest
   pub number : IsInteger content (pos n)
   pub small : n < limit
+
+-- An INTEGER of at most eight octets (X.690 8.3).
+pub record HasInteger (octets : List ℕ) (first : ℕ) (z : ℤ) (rest : List ℕ) : Type 0 where
+  pub content : List ℕ
+  pub field : HasField octets first content rest
+  pub number : IsInteger content z
 
 -- A BOOLEAN (X.690 8.2).
 pub record HasFlag (octets : List ℕ) (first : ℕ) (b : Bool) (rest : List ℕ) : Type 0 where

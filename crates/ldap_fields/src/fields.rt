@@ -2,10 +2,10 @@
 //! In: octets. Out: the value of the field at the front and the octets after it, or a fault.
 //! Not here: fields that may be left out, rows.
 
-ghost use Rattle.std.specs.Prelude.{◌≡◌, ℕ, ◌<◌, List, Bool, IfOk, IfErr, string_bytes, pos};
+ghost use Rattle.std.specs.Prelude.{◌≡◌, ℕ, ℤ, ◌<◌, List, Bool, IfOk, IfErr, string_bytes, pos};
 ghost use Rattle.std.specs.Str.{IsUtf8};
 ghost use Rattle.ldap_ber.specs.Values.{IsInteger, IsBoolean};
-ghost use Rattle.ldap_fields.specs.Fields.{HasField, HasText, HasNumber, HasFlag};
+ghost use Rattle.ldap_fields.specs.Fields.{HasField, HasText, HasNumber, HasInteger, HasFlag};
 ghost use Rattle.ldap_fields.specs.Faults.{IsPlainFault};
 
 use crate::fault::MsgFault;
@@ -65,6 +65,17 @@ fn number(limit: u32, content: &[u8]) -> Result<u32, MsgFault>
     }
 }
 
+/// The integer of at most eight octets whose content this is; E8 where there is none.
+pub fn small_integer(content: &[u8]) -> Result<i64, MsgFault>
+    ensures found { IfOk result (IsInteger content.now) }
+    ensures fault { IfErr result (λ e. IsPlainFault e ((z : ℤ) × IsInteger content.now z)) }
+{
+    match integer(content) {
+        Ok(z) => Ok(z),
+        Err(_) => Err(MsgFault::NotAMessage),
+    }
+}
+
 /// The boolean whose content this is.
 fn flag(content: &[u8]) -> Result<bool, MsgFault>
     ensures found { IfOk result (IsBoolean content.now) }
@@ -107,6 +118,17 @@ pub fn number_field(first: u8, limit: u32, octets: &[u8]) -> Result<(u32, &[u8])
     let (content, rest) = field(first, octets)?;
     let n = number(limit, content)?;
     Ok((n, rest))
+}
+
+/// The integer of a field, and the octets after it; E8 for one of more than eight octets.
+pub fn integer_field(first: u8, octets: &[u8]) -> Result<(i64, &[u8]), MsgFault>
+    ensures found { IfOk result (λ x. HasInteger octets.now first x.0 x.1.now) }
+    ensures fault { IfErr result (λ e. IsPlainFault e ((z : ℤ) × (rest : List ℕ)
+        × HasInteger octets.now first z rest)) }
+{
+    let (content, rest) = field(first, octets)?;
+    let z = small_integer(content)?;
+    Ok((z, rest))
 }
 
 /// The flag of a field, and the octets after it.

@@ -5,12 +5,17 @@
 
 mod fault;
 mod fields;
+mod numbers;
 mod optional;
 mod rows;
 mod writing;
 
 pub use fault::MsgFault;
-pub use fields::{element, field, flag_field, number_field, octets_field, text, text_field};
+pub use fields::{
+    element, field, flag_field, integer_field, number_field, octets_field, small_integer, text,
+    text_field,
+};
+pub use numbers::{put_flag, put_number, put_optional_octets, put_optional_text};
 pub use optional::{flag_or_false, has_first, optional_octets, optional_text};
 pub use rows::{elements, texts_field, texts_or_none, values_field};
-pub use writing::{put_texts, put_values};
+pub use writing::{copied, put_texts, put_values};

@@ -6,6 +6,18 @@ ghost use Rattle.ldap_ber.specs.Element.{element_bytes};
 ghost use Rattle.ldap_fields.specs.Rows.{row_bytes};
 
 use ldap_ber::{WriteError, write};
+use std::alloc::Global;
+
+/// A copy of octets, as a content; the only error is want of memory.
+pub fn copied(alloc: Global, octets: &[u8]) -> Result<Vec<u8>, WriteError>
+    ensures ok { IfOk result (λ v. v.items ≡ octets.now) }
+    ensures no_memory { IfErr result (λ e. e ≡ WriteError.NoMemory) }
+{
+    match Vec::from_slice(alloc, octets) {
+        Ok(copy) => Ok(copy),
+        Err(_) => Err(WriteError::NoMemory),
+    }
+}
 
 /// Writes texts of first octet 04, one after the other. E3 only where the row is longer than a
 /// length can say.

@@ -1,11 +1,11 @@
 -- Tests on keys against items on values. Facts on lists flow in and out; the values of a program are not here.
-use Rattle.std.proofs.Common.{ℕ, List, [], ◌∷◌, Bool, true, ◌||◌, Option, None, Some, is_some, ◌≡◌, ◌↔◌, refl, ap, ap₂, sym, ◌∙◌, map}
+use Rattle.std.proofs.Common.{ℕ, List, [], ◌∷◌, Bool, true, false, ◌||◌, Option, None, Some, is_some, ◌≡◌, ◌↔◌, refl, ap, ap₂, sym, ◌∙◌, map}
 use Rattle.std.specs.Bool.{Decides}
 use Rattle.std.specs.List.{list_any}
 use Rattle.std.specs.Str.{bytes_eq}
 use Rattle.std.proofs.lemmas.Bool.Decides.{same_from_decides, Decides-int_eq}
 use Rattle.std.proofs.lemmas.Slice.Eq.{bytes_eq-Decides}
-use Rattle.ldap_syntax.specs.Meaning.{Meaning, number, text, identifier}
+use Rattle.ldap_syntax.specs.Meaning.{Meaning, number, text, truth, octets, identifier}
 use Rattle.ldap_syntax.specs.Keys.{KeysArePresentAsMeanings, KeysAreEqualAsMeanings}
 use Rattle.ldap_syntax.specs.declared.rule.Family.{Family}
 use Rattle.ldap_syntax.specs.declared.rule.Family.TheVariants as family
@@ -14,19 +14,39 @@ use Rattle.ldap_schema.specs.Schema.{SchemaModel}
 use Rattle.ldap_match.specs.Meaning.{meaning, meaning_by, dotted, identified}
 use Rattle.ldap_match.specs.Truth.{truth_of}
 use Rattle.ldap_match.specs.Item.{Item, present, equal, is_equal_meaning, is_meant, equality_of, satisfied, equality_by, item_on_attribute}
+use Rattle.ldap_match.specs.declared.testing.Test.TheVariants as test
 use Rattle.ldap_match.specs.Keyed.{key_at, key_by, equality_test, test_by, test_for, test_value, AreKeysBy, AreKeysOf}
 
 -- whether meanings are equal, decided
 pub equal_decides : (m n : Meaning) → Decides (is_equal_meaning m n) (m ≡ n)
 equal_decides (number a) (number b) = (λ h. ap number ((Decides-int_eq a b).0 h), λ e. (Decides-int_eq a b).1 (cc))
 equal_decides (text a) (text b) = (λ h. ap text ((bytes_eq-Decides a b).0 h), λ e. (bytes_eq-Decides a b).1 (cc))
+equal_decides (truth true) (truth true) = (λ h. refl, λ e. refl)
+equal_decides (truth true) (truth false) = (λ h. cc, λ e. cc)
+equal_decides (truth false) (truth true) = (λ h. cc, λ e. cc)
+equal_decides (truth false) (truth false) = (λ h. refl, λ e. refl)
+equal_decides (octets a) (octets b) = (λ h. ap octets ((bytes_eq-Decides a b).0 h), λ e. (bytes_eq-Decides a b).1 (cc))
 equal_decides (identifier a) (identifier b) = (λ h. ap identifier ((bytes_eq-Decides a b).0 h), λ e. (bytes_eq-Decides a b).1 (cc))
 equal_decides (number a) (text b) = (λ h. cc, λ e. cc)
+equal_decides (number a) (truth b) = (λ h. cc, λ e. cc)
+equal_decides (number a) (octets b) = (λ h. cc, λ e. cc)
 equal_decides (number a) (identifier b) = (λ h. cc, λ e. cc)
 equal_decides (text a) (number b) = (λ h. cc, λ e. cc)
+equal_decides (text a) (truth b) = (λ h. cc, λ e. cc)
+equal_decides (text a) (octets b) = (λ h. cc, λ e. cc)
 equal_decides (text a) (identifier b) = (λ h. cc, λ e. cc)
+equal_decides (truth a) (number b) = (λ h. cc, λ e. cc)
+equal_decides (truth a) (text b) = (λ h. cc, λ e. cc)
+equal_decides (truth a) (octets b) = (λ h. cc, λ e. cc)
+equal_decides (truth a) (identifier b) = (λ h. cc, λ e. cc)
+equal_decides (octets a) (number b) = (λ h. cc, λ e. cc)
+equal_decides (octets a) (text b) = (λ h. cc, λ e. cc)
+equal_decides (octets a) (truth b) = (λ h. cc, λ e. cc)
+equal_decides (octets a) (identifier b) = (λ h. cc, λ e. cc)
 equal_decides (identifier a) (number b) = (λ h. cc, λ e. cc)
 equal_decides (identifier a) (text b) = (λ h. cc, λ e. cc)
+equal_decides (identifier a) (truth b) = (λ h. cc, λ e. cc)
+equal_decides (identifier a) (octets b) = (λ h. cc, λ e. cc)
 
 same_test : (k l : List ℕ) (m n : Meaning) → (l ≡ k) ↔ (n ≡ m) → bytes_eq l k ≡ is_equal_meaning n m
 same_test k l m n h =
@@ -55,10 +75,17 @@ by_family : (s : SchemaModel) (r : Rule) (f : Family) → KeysArePresentAsMeanin
     → ((v : List ℕ) → is_some (key_by s r f v) ≡ is_some (meaning_by s r f v))
     × ((v w : List ℕ) (m n : Meaning) (k l : List ℕ) → meaning_by s r f v ≡ Some m → meaning_by s r f w ≡ Some n → key_by s r f v ≡ Some k → key_by s r f w ≡ Some l → (k ≡ l) ↔ (m ≡ n))
 by_family s r family.Identifier p q = (λ v. identified_some (dotted s v), λ v w m n k l. identified_equal (dotted s v) (dotted s w) m n k l)
+by_family s r family.Name p q = (λ v. p r v, λ v w m n k l. q r v w m n k l)
 by_family s r family.Ignore p q = (λ v. p r v, λ v w m n k l. q r v w m n k l)
-by_family s r family.Ia5 p q = (λ v. p r v, λ v w m n k l. q r v w m n k l)
+by_family s r family.Exact p q = (λ v. p r v, λ v w m n k l. q r v w m n k l)
 by_family s r family.Numeric p q = (λ v. p r v, λ v w m n k l. q r v w m n k l)
+by_family s r family.Boolean p q = (λ v. p r v, λ v w m n k l. q r v w m n k l)
 by_family s r family.Integer p q = (λ v. p r v, λ v w m n k l. q r v w m n k l)
+by_family s r family.Octet p q = (λ v. p r v, λ v w m n k l. q r v w m n k l)
+by_family s r family.Telephone p q = (λ v. p r v, λ v w m n k l. q r v w m n k l)
+by_family s r family.Time p q = (λ v. p r v, λ v w m n k l. q r v w m n k l)
+by_family s r family.Ia5 p q = (λ v. p r v, λ v w m n k l. q r v w m n k l)
+by_family s r family.Ia5Exact p q = (λ v. p r v, λ v w m n k l. q r v w m n k l)
 
 pub keys_mean : KeysArePresentAsMeanings → KeysAreEqualAsMeanings → (s : SchemaModel) (r : Rule) → KeysMean s r
 keys_mean p q s r = let h = by_family s r r.family p q in record { is_present = h.0; is_equal = h.1 }
@@ -100,3 +127,14 @@ by_rule s (Some r) a values keys h e = by_meaning s r a values keys (key_at s r 
 pub tests_item : (s : SchemaModel) (asked : Item) (t : ℕ) (values keys : List (List ℕ)) → ((r : Rule) → KeysMean s r) → AreKeysOf s t values keys → test_value (test_for s asked t) keys ≡ item_on_attribute s asked t values
 tests_item s present t values keys h e = refl
 tests_item s (equal a) t values keys h e = by_rule s (equality_of s t) a values keys h e
+
+-- what has no meaning has no key, so nobody can tell
+none_is : {A : Type 0} (o : Option A) → is_some o ≡ false → o ≡ None
+none_is None e = refl
+none_is (Some x) e = absurd (cc)
+
+unknown_by : (s : SchemaModel) (r : Rule) (a : List ℕ) → KeysMean s r → meaning s r a ≡ None → test.Unknown ≡ test_by s (Some r) a
+unknown_by s r a h e = ap equality_test (sym (none_is (key_at s r a) (h.is_present a ∙ ap is_some e)))
+
+pub unknown_test : (s : SchemaModel) (r : Rule) (t : ℕ) (a : List ℕ) → KeysArePresentAsMeanings → KeysAreEqualAsMeanings → Some r ≡ equality_of s t → meaning s r a ≡ None → test.Unknown ≡ test_for s (equal a) t
+unknown_test s r t a p q e m = unknown_by s r a (keys_mean p q s r) m ∙ ap (λ (o : Option Rule). test_by s o a) e

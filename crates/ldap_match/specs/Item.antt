@@ -1,11 +1,11 @@
 -- An item on one attribute: RFC 4511 4.5.1.7. An item, a type and values flow in, a truth flows out; keys and entries are
 -- not here.
-use Rattle.std.specs.Prelude.{ℕ, List, Bool, true, false, Option, None, Some, is_some, slice_get}
+use Rattle.std.specs.Prelude.{ℕ, List, Bool, true, false, not, Option, None, Some, is_some, slice_get}
 use Rattle.std.specs.List.{list_any}
 use Rattle.std.specs.Str.{bytes_eq}
 use Rattle.std.specs.Ordering.{int_eq}
-use Rattle.ldap_syntax.specs.Meaning as syntax
-use Rattle.ldap_syntax.specs.Meaning.{Meaning, number, text, identifier}
+use Rattle.ldap_syntax.specs.Syntaxes as syntax
+use Rattle.ldap_syntax.specs.Meaning.{Meaning, number, text, truth, octets, identifier}
 use Rattle.ldap_syntax.specs.declared.rule.Rule.{Rule}
 use Rattle.ldap_syntax.specs.declared.rule.Syntax.{Syntax}
 use Rattle.ldap_syntax.specs.declared.rule.Syntax.TheVariants as syntax_of
@@ -20,10 +20,16 @@ pub data Item : Type 0 where
   present : Item
   equal : List ℕ → Item
 
+abbrev pub is_same_truth : Bool → Bool → Bool
+is_same_truth true b = b
+is_same_truth false b = not b
+
 -- whether two meanings are equal
 abbrev pub is_equal_meaning : Meaning → Meaning → Bool
 is_equal_meaning (number a) (number b) = int_eq a b
 is_equal_meaning (text a) (text b) = bytes_eq a b
+is_equal_meaning (truth a) (truth b) = is_same_truth a b
+is_equal_meaning (octets a) (octets b) = bytes_eq a b
 is_equal_meaning (identifier a) (identifier b) = bytes_eq a b
 is_equal_meaning m n = false
 
@@ -60,11 +66,8 @@ is_valid_by s (Some r) v = is_some (meaning s r v)
 
 -- the values of a syntax, where a name may stand for an object identifier (RFC 4517 3.3.26)
 abbrev pub is_in_syntax : SchemaModel → Syntax → List ℕ → Bool
-is_in_syntax s syntax_of.DirectoryString v = syntax.is_in_syntax syntax_of.DirectoryString v
-is_in_syntax s syntax_of.Ia5String v = syntax.is_in_syntax syntax_of.Ia5String v
-is_in_syntax s syntax_of.Integer v = syntax.is_in_syntax syntax_of.Integer v
-is_in_syntax s syntax_of.NumericString v = syntax.is_in_syntax syntax_of.NumericString v
 is_in_syntax s syntax_of.ObjectIdentifier v = is_some (dotted s v)
+is_in_syntax s x v = syntax.is_in_syntax x v
 
 abbrev pub is_of_rule : SchemaModel → Syntax → Option Rule → List ℕ → Bool
 is_of_rule s x None v = is_in_syntax s x v

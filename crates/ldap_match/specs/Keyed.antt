@@ -17,10 +17,7 @@ use Rattle.ldap_match.specs.declared.testing.Test.TheVariants as test
 
 abbrev pub key_by : SchemaModel → Rule → Family → List ℕ → Option (List ℕ)
 key_by s r family.Identifier v = dotted s v
-key_by s r family.Ignore v = syntax.key_at r v
-key_by s r family.Ia5 v = syntax.key_at r v
-key_by s r family.Numeric v = syntax.key_at r v
-key_by s r family.Integer v = syntax.key_at r v
+key_by s r f v = syntax.key_at r v
 
 -- a value's key under a rule; none, where the value isn't in the syntax
 abbrev pub key_at : SchemaModel → Rule → List ℕ → Option (List ℕ)

@@ -3,7 +3,7 @@
 use Rattle.std.specs.Prelude.{ℕ, List, cond, Option, None, Some, slice_get}
 use Rattle.ldap_syntax.specs.Identifiers.{is_numericoid}
 use Rattle.ldap_syntax.specs.Meaning as syntax
-use Rattle.ldap_syntax.specs.Meaning.{Meaning, number, text, identifier}
+use Rattle.ldap_syntax.specs.Meaning.{Meaning, identifier}
 use Rattle.ldap_syntax.specs.declared.rule.Family.{Family}
 use Rattle.ldap_syntax.specs.declared.rule.Family.TheVariants as family
 use Rattle.ldap_syntax.specs.declared.rule.Rule.{Rule}
@@ -40,10 +40,7 @@ identified (Some oid) = Some (identifier oid)
 -- What a value means under a rule; nothing, where it isn't in the rule's syntax (RFC 4517 3.3, 4.2).
 abbrev pub meaning_by : SchemaModel → Rule → Family → List ℕ → Option Meaning
 meaning_by s r family.Identifier v = identified (dotted s v)
-meaning_by s r family.Ignore v = syntax.meaning r v
-meaning_by s r family.Ia5 v = syntax.meaning r v
-meaning_by s r family.Numeric v = syntax.meaning r v
-meaning_by s r family.Integer v = syntax.meaning r v
+meaning_by s r f v = syntax.meaning r v
 
 abbrev pub meaning : SchemaModel → Rule → List ℕ → Option Meaning
 meaning s r v = meaning_by s r r.family v

@@ -41,9 +41,7 @@ pub fn key(alloc: Global, schema: &Schema, rule: Rule, value: &[u8]) -> Result<K
                 }
             }
         }
-        Family::Ignore | Family::Ia5 | Family::Numeric | Family::Integer => {
-            key_of(alloc, rule, value)
-        }
+        _ => key_of(alloc, rule, value),
     }
 }
 
@@ -85,9 +83,7 @@ fn is_meaningful(schema: &Schema, rule: Rule, value: &[u8]) -> bool
 {
     match rule.family {
         Family::Identifier => is_identifier(schema, value),
-        Family::Ignore | Family::Ia5 | Family::Numeric | Family::Integer => {
-            has_meaning(rule, value)
-        }
+        _ => has_meaning(rule, value),
     }
 }
 

@@ -40,7 +40,10 @@ pub fn equality_test(
     };
     match key(alloc, schema, rule, assertion) {
         Ok(key) => Ok(Test::Equal(key)),
-        Err(ValueError::NotInSyntax) => Ok(Test::Unknown),
+        Err(ValueError::NotInSyntax) => {
+            keys_compare();
+            Ok(Test::Unknown)
+        }
         Err(ValueError::NoMemory) => Err(AllocError),
     }
 }
@@ -54,11 +57,11 @@ pub fn item_on_attribute(test: &Test, keys: &[Key]) -> Truth
     ensures value { (s : SchemaModel) (asked : Item) (t : ℕ) (values : List (List ℕ)) → test.now ≡ test_for s asked t
         → AreKeysOf s t values keys.now → result ≡ item.item_on_attribute s asked t values }
 {
+    tests_are_items();
     match test {
         Test::Present => Truth::True,
         Test::Unknown => Truth::Undefined,
         Test::Equal(key) => {
-            tests_are_items();
             if has_key(keys, key) {
                 Truth::True
             } else {

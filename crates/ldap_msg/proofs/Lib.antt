@@ -1,5 +1,5 @@
-pub mod Parts
+pub mod Choices
+pub mod Unique
 pub mod Exits
 pub mod Whole
-pub mod Puts
 pub mod Spelled

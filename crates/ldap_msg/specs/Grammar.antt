@@ -1,108 +1,72 @@
 -- Wire, messages: the octets that spell a message (RFC 4511 4 and Appendix B; X.690 as RFC 4511 5.1 narrows it).
--- In: a value and octets. Out: whether the octets spell it. Not here: limits, the one spelling that is written.
--- Each part is a relation of a value, the octets where it begins, and the octets that follow it.
-use Rattle.std.specs.Prelude.{◌^◌, ◌≤◌, ℕ, Bool, List, []}
-use Rattle.ldap_fields.specs.Fields.{Seq, HasText, HasNumber, HasFlag, HasPart, HasFlagOrFalse, HasTextOrNone, HasOctetsOrNone}
-use Rattle.ldap_fields.specs.Rows.{AreRow, AreTexts, AreValues, AreElements, HasRowOrNone}
-use Rattle.ldap_filter.specs.Tree.{Tree}
-use Rattle.ldap_filter.specs.Grammar.{HasFilter}
-use Rattle.ldap_msg.specs.Messages.{SearchRequestValue, PartialAttributeValue, SearchResultEntryValue, LdapResultValue, ExtendedResponseValue, ControlValue, search, search_entry, search_done, extended, OperationValue, request, response, MessageValue}
-use Rattle.ldap_msg.specs.declared.search.Scope.{Scope}
-use Rattle.ldap_msg.specs.declared.search.Scope.TheVariants.{BaseObject, SingleLevel, WholeSubtree, SubordinateSubtree}
-use Rattle.ldap_msg.specs.declared.search.DerefAliases.{DerefAliases}
-use Rattle.ldap_msg.specs.declared.search.DerefAliases.TheVariants.{NeverDerefAliases, DerefInSearching, DerefFindingBaseObj, DerefAlways}
+-- In: a value and octets. Out: whether the octets spell it. Not here: the parts of each operation, limits, the one spelling that is written.
+use Rattle.std.specs.Prelude.{◌^◌, ◌≤◌, ℕ, List, []}
+use Rattle.ldap_fields.specs.Fields.{Seq, HasNumber, HasPart}
+use Rattle.ldap_parts.specs.Grammar.{IsLdapResult, AreControls}
+use Rattle.ldap_requests.specs.Grammar.{IsBindRequest, IsUnbindRequest, IsSearchRequest, IsCompareRequest, IsAbandonRequest, IsExtendedRequest}
+use Rattle.ldap_updates.specs.Grammar.{IsModifyRequest, IsAddRequest, IsDelRequest, IsModifyDnRequest}
+use Rattle.ldap_responses.specs.Grammar.{IsSearchResultEntry, IsExtendedResponse}
+use Rattle.ldap_msg.specs.Messages.{bind, unbind, search, modify, add, delete, modify_dn, compare, abandon, extended_request, RequestValue, bind_response, search_entry, search_done, modify_response, add_response, delete_response, modify_dn_response, compare_response, extended, ResponseValue, OperationValue, request, response, MessageValue}
 
--- scope: baseObject (0), singleLevel (1), wholeSubtree (2) (RFC 4511 4.5.1), subordinateSubtree (3)
-abbrev pub scope_number : Scope → ℕ
-scope_number BaseObject = 0
-scope_number SingleLevel = 1
-scope_number WholeSubtree = 2
-scope_number SubordinateSubtree = 3
+-- the first octet of a request: its application tag, constructed but for a NULL, a text or an integer (RFC 4511 4.2 to 4.12)
+abbrev pub request_octet : RequestValue → ℕ
+request_octet (bind x) = 96
+request_octet unbind = 66
+request_octet (search x) = 99
+request_octet (modify x) = 102
+request_octet (add x) = 104
+request_octet (delete x) = 74
+request_octet (modify_dn x) = 108
+request_octet (compare x) = 110
+request_octet (abandon x) = 80
+request_octet (extended_request x) = 119
 
--- derefAliases: neverDerefAliases (0) to derefAlways (3) (RFC 4511 4.5.1)
-abbrev pub deref_number : DerefAliases → ℕ
-deref_number NeverDerefAliases = 0
-deref_number DerefInSearching = 1
-deref_number DerefFindingBaseObj = 2
-deref_number DerefAlways = 3
+-- the content of a request
+abbrev pub IsRequestContent : RequestValue → List ℕ → Type 0
+IsRequestContent (bind x) content = IsBindRequest x content
+IsRequestContent unbind content = IsUnbindRequest content
+IsRequestContent (search x) content = IsSearchRequest x content
+IsRequestContent (modify x) content = IsModifyRequest x content
+IsRequestContent (add x) content = IsAddRequest x content
+IsRequestContent (delete x) content = IsDelRequest x content
+IsRequestContent (modify_dn x) content = IsModifyDnRequest x content
+IsRequestContent (compare x) content = IsCompareRequest x content
+IsRequestContent (abandon x) content = IsAbandonRequest x content
+IsRequestContent (extended_request x) content = IsExtendedRequest x content
 
--- baseObject LDAPDN, scope ENUMERATED, derefAliases ENUMERATED
-abbrev pub IsTarget : List ℕ → Scope → DerefAliases → List ℕ → List ℕ → Type 0
-IsTarget base scope deref octets rest =
-    Seq (HasText octets 4 base) (λ octets. Seq (HasNumber octets 10 4 (scope_number scope)) (λ octets. HasNumber octets 10 4 (deref_number deref) rest))
+-- the first octet of a response: its application tag, constructed (RFC 4511 4.2 to 4.12)
+abbrev pub response_octet : ResponseValue → ℕ
+response_octet (bind_response x) = 97
+response_octet (search_entry x) = 100
+response_octet (search_done x) = 101
+response_octet (modify_response x) = 103
+response_octet (add_response x) = 105
+response_octet (delete_response x) = 107
+response_octet (modify_dn_response x) = 109
+response_octet (compare_response x) = 111
+response_octet (extended x) = 120
 
--- sizeLimit INTEGER (0 .. maxInt), timeLimit INTEGER (0 .. maxInt), typesOnly BOOLEAN
-abbrev pub IsBounds : ℕ → ℕ → Bool → List ℕ → List ℕ → Type 0
-IsBounds size time types_only octets rest =
-    Seq (HasNumber octets 2 (2 ^ 31) size) (λ octets. Seq (HasNumber octets 2 (2 ^ 31) time) (λ octets. HasFlag octets 1 types_only rest))
+-- the content of a response
+abbrev pub IsResponseContent : ResponseValue → List ℕ → Type 0
+IsResponseContent (bind_response x) content = IsLdapResult x content
+IsResponseContent (search_entry x) content = IsSearchResultEntry x content
+IsResponseContent (search_done x) content = IsLdapResult x content
+IsResponseContent (modify_response x) content = IsLdapResult x content
+IsResponseContent (add_response x) content = IsLdapResult x content
+IsResponseContent (delete_response x) content = IsLdapResult x content
+IsResponseContent (modify_dn_response x) content = IsLdapResult x content
+IsResponseContent (compare_response x) content = IsLdapResult x content
+IsResponseContent (extended x) content = IsExtendedResponse x content
 
--- filter Filter, attributes AttributeSelection, and elements that are ignored
-abbrev pub IsQuestion : Tree → List (List ℕ) → List ℕ → Type 0
-IsQuestion filter attributes octets = Seq (HasFilter filter octets) (λ octets. Seq (HasPart (AreTexts attributes) octets 48) AreElements)
-
--- SearchRequest ::= [APPLICATION 3] SEQUENCE (RFC 4511 4.5.1)
-abbrev pub IsSearchRequest : SearchRequestValue → List ℕ → Type 0
-IsSearchRequest s content =
-    Seq (IsTarget s.base s.scope s.deref_aliases content) (λ octets. Seq (IsBounds s.size_limit s.time_limit s.types_only octets) (IsQuestion s.filter s.attributes))
-
--- PartialAttribute ::= SEQUENCE { type AttributeDescription, vals SET OF AttributeValue } (RFC 4511 4.1.7)
-abbrev pub IsPartialAttribute : PartialAttributeValue → List ℕ → Type 0
-IsPartialAttribute a content = Seq (HasText content 4 a.description) (λ octets. Seq (HasPart (AreValues a.values) octets 49) AreElements)
-
--- a partial attribute in its list
-abbrev pub HasPartialAttribute : PartialAttributeValue → List ℕ → List ℕ → Type 0
-HasPartialAttribute a octets rest = HasPart (IsPartialAttribute a) octets 48 rest
-
--- SearchResultEntry ::= [APPLICATION 4] SEQUENCE { objectName LDAPDN, attributes PartialAttributeList } (RFC 4511 4.5.2)
-abbrev pub IsSearchResultEntry : SearchResultEntryValue → List ℕ → Type 0
-IsSearchResultEntry e content = Seq (HasText content 4 e.object_name) (λ octets. Seq (HasPart (AreRow HasPartialAttribute e.attributes) octets 48) AreElements)
-
--- resultCode ENUMERATED, matchedDN LDAPDN, diagnosticMessage LDAPString
-abbrev pub IsOutcome : ℕ → List ℕ → List ℕ → List ℕ → List ℕ → Type 0
-IsOutcome code matched_dn diagnostic_message octets rest =
-    Seq (HasNumber octets 10 (2 ^ 31) code) (λ octets. Seq (HasText octets 4 matched_dn) (λ octets. HasText octets 4 diagnostic_message rest))
-
--- LDAPResult ::= SEQUENCE { .. referral [3] Referral OPTIONAL } (RFC 4511 4.1.9), up to what follows it
-abbrev pub HasLdapResult : LdapResultValue → List ℕ → List ℕ → Type 0
-HasLdapResult r octets rest =
-    Seq (IsOutcome r.code r.matched_dn r.diagnostic_message octets) (λ octets. HasRowOrNone (λ t octets rest. HasText octets 4 t rest) octets 163 r.referral rest)
-
--- SearchResultDone ::= [APPLICATION 5] LDAPResult (RFC 4511 4.5.2)
-abbrev pub IsSearchResultDone : LdapResultValue → List ℕ → Type 0
-IsSearchResultDone r content = Seq (HasLdapResult r content) AreElements
-
--- ExtendedResponse ::= [APPLICATION 24] SEQUENCE { COMPONENTS OF LDAPResult, responseName [10] LDAPOID OPTIONAL,
--- responseValue [11] OCTET STRING OPTIONAL } (RFC 4511 4.12)
-abbrev pub IsExtendedResponse : ExtendedResponseValue → List ℕ → Type 0
-IsExtendedResponse r content =
-    Seq (HasLdapResult r.result content) (λ octets. Seq (HasTextOrNone octets 138 r.response_name) (λ octets. Seq (HasOctetsOrNone octets 139 r.response_value) AreElements))
-
--- Control ::= SEQUENCE { controlType LDAPOID, criticality BOOLEAN DEFAULT FALSE, controlValue OCTET STRING OPTIONAL } (RFC 4511 4.1.11)
-abbrev pub IsControl : ControlValue → List ℕ → Type 0
-IsControl c content =
-    Seq (HasText content 4 c.control_type) (λ octets. Seq (HasFlagOrFalse octets 1 c.criticality) (λ octets. Seq (HasOctetsOrNone octets 4 c.value) AreElements))
-
--- a control in its list
-abbrev pub HasControl : ControlValue → List ℕ → List ℕ → Type 0
-HasControl c octets rest = HasPart (IsControl c) octets 48 rest
-
--- controls [0] Controls OPTIONAL (RFC 4511 4.1.1), and elements that are ignored
-abbrev pub AreControls : List ControlValue → List ℕ → Type 0
-AreControls controls octets = Seq (HasRowOrNone HasControl octets 160 controls) AreElements
-
--- the first octet of an operation: its application tag, constructed (RFC 4511 4.2 to 4.14)
+-- the first octet of an operation
 abbrev pub operation_octet : OperationValue → ℕ
-operation_octet (request (search s)) = 99
-operation_octet (response (search_entry e)) = 100
-operation_octet (response (search_done r)) = 101
-operation_octet (response (extended r)) = 120
+operation_octet (request r) = request_octet r
+operation_octet (response r) = response_octet r
 
 -- the content of an operation
 abbrev pub IsOperation : OperationValue → List ℕ → Type 0
-IsOperation (request (search s)) content = IsSearchRequest s content
-IsOperation (response (search_entry e)) content = IsSearchResultEntry e content
-IsOperation (response (search_done r)) content = IsSearchResultDone r content
-IsOperation (response (extended r)) content = IsExtendedResponse r content
+IsOperation (request r) content = IsRequestContent r content
+IsOperation (response r) content = IsResponseContent r content
 
 -- protocolOp CHOICE (RFC 4511 4.1.1)
 abbrev pub HasOperation : OperationValue → List ℕ → List ℕ → Type 0

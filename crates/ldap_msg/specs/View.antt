@@ -1,74 +1,43 @@
 -- Wire, messages: the value that a message in memory stands for.
 -- In: a message in memory. Out: its value. Not here: octets of the wire.
 use Rattle.std.specs.Prelude.{map, string_bytes}
-use Rattle.std.specs.Option.{option_map}
-use Rattle.ldap_filter.specs.View.{view as filter_view}
-use Rattle.ldap_msg.specs.Messages.{SearchRequestValue, PartialAttributeValue, SearchResultEntryValue, LdapResultValue, ExtendedResponseValue, ControlValue, RequestValue, search, ResponseValue, search_entry, search_done, extended, OperationValue, request, response, MessageValue}
-use Rattle.ldap_msg.specs.declared.search.SearchRequest.{SearchRequest}
-use Rattle.ldap_msg.specs.declared.entry.PartialAttribute.{PartialAttribute}
-use Rattle.ldap_msg.specs.declared.entry.SearchResultEntry.{SearchResultEntry}
-use Rattle.ldap_msg.specs.declared.result.LdapResult.{LdapResult}
-use Rattle.ldap_msg.specs.declared.result.ExtendedResponse.{ExtendedResponse}
-use Rattle.ldap_msg.specs.declared.message.Control.{Control}
+pub use Rattle.ldap_parts.specs.View.{attribute_view, result_view, control_view}
+pub use Rattle.ldap_requests.specs.View.{bind_view, search_view, compare_view, extended_request_view}
+pub use Rattle.ldap_updates.specs.View.{modify_view, add_view, modify_dn_view}
+pub use Rattle.ldap_responses.specs.View.{entry_view, extended_view}
+use Rattle.ldap_msg.specs.Messages.{RequestValue, bind, unbind, search, modify, add, delete, modify_dn, compare, abandon, extended_request, ResponseValue, bind_response, search_entry, search_done, modify_response, add_response, delete_response, modify_dn_response, compare_response, extended, OperationValue, request, response, MessageValue}
 use Rattle.ldap_msg.specs.declared.message.Request.{Request}
-use Rattle.ldap_msg.specs.declared.message.Request.TheVariants.{Search}
+use Rattle.ldap_msg.specs.declared.message.Request.TheVariants.{Bind, Unbind, Search, Modify, Add, Delete, ModifyDn, Compare, Abandon, Extended}
 use Rattle.ldap_msg.specs.declared.message.Response.{Response}
-use Rattle.ldap_msg.specs.declared.message.Response.TheVariants.{SearchEntry, SearchDone, Extended}
+use Rattle.ldap_msg.specs.declared.message.Response.TheVariants.{Bind as BindResponse, SearchEntry, SearchDone, Modify as ModifyResponse, Add as AddResponse, Delete as DeleteResponse, ModifyDn as ModifyDnResponse, Compare as CompareResponse, Extended as ExtendedResponse}
 use Rattle.ldap_msg.specs.declared.message.ProtocolOp.{ProtocolOp}
 use Rattle.ldap_msg.specs.declared.message.ProtocolOp.TheVariants.{Request as RequestOp, Response as ResponseOp}
 use Rattle.ldap_msg.specs.declared.message.Message.{Message}
 
--- the value of a search request
-abbrev pub search_view : SearchRequest → SearchRequestValue
-search_view s = record {
-  base = string_bytes s.base;
-  scope = s.scope;
-  deref_aliases = s.deref_aliases;
-  size_limit = s.size_limit;
-  time_limit = s.time_limit;
-  types_only = s.types_only;
-  filter = filter_view s.filter;
-  attributes = map string_bytes s.attributes.items;
-}
-
--- the value of an attribute and its values
-abbrev pub attribute_view : PartialAttribute → PartialAttributeValue
-attribute_view a = record { description = string_bytes a.description; values = map (λ v. v.items) a.values.items }
-
--- the value of an entry that a search found
-abbrev pub entry_view : SearchResultEntry → SearchResultEntryValue
-entry_view e = record { object_name = string_bytes e.object_name; attributes = map attribute_view e.attributes.items }
-
--- the value of a result
-abbrev pub result_view : LdapResult → LdapResultValue
-result_view r = record {
-  code = r.code;
-  matched_dn = string_bytes r.matched_dn;
-  diagnostic_message = string_bytes r.diagnostic_message;
-  referral = map string_bytes r.referral.items;
-}
-
--- the value of an extended response
-abbrev pub extended_view : ExtendedResponse → ExtendedResponseValue
-extended_view r = record {
-  result = result_view r.result;
-  response_name = option_map string_bytes r.response_name;
-  response_value = option_map (λ v. v.items) r.response_value;
-}
-
--- the value of a control
-abbrev pub control_view : Control → ControlValue
-control_view c = record { control_type = string_bytes c.control_type; criticality = c.criticality; value = option_map (λ v. v.items) c.value }
-
 -- the value of a request
 abbrev pub request_view : Request → RequestValue
-request_view (Search s) = search (search_view s)
+request_view (Bind x) = bind (bind_view x)
+request_view Unbind = unbind
+request_view (Search x) = search (search_view x)
+request_view (Modify x) = modify (modify_view x)
+request_view (Add x) = add (add_view x)
+request_view (Delete x) = delete (string_bytes x)
+request_view (ModifyDn x) = modify_dn (modify_dn_view x)
+request_view (Compare x) = compare (compare_view x)
+request_view (Abandon x) = abandon x
+request_view (Extended x) = extended_request (extended_request_view x)
 
 -- the value of a response
 abbrev pub response_view : Response → ResponseValue
-response_view (SearchEntry e) = search_entry (entry_view e)
-response_view (SearchDone r) = search_done (result_view r)
-response_view (Extended r) = extended (extended_view r)
+response_view (BindResponse x) = bind_response (result_view x)
+response_view (SearchEntry x) = search_entry (entry_view x)
+response_view (SearchDone x) = search_done (result_view x)
+response_view (ModifyResponse x) = modify_response (result_view x)
+response_view (AddResponse x) = add_response (result_view x)
+response_view (DeleteResponse x) = delete_response (result_view x)
+response_view (ModifyDnResponse x) = modify_dn_response (result_view x)
+response_view (CompareResponse x) = compare_response (result_view x)
+response_view (ExtendedResponse x) = extended (extended_view x)
 
 -- the value of an operation
 abbrev pub operation_view : ProtocolOp → OperationValue

@@ -6,14 +6,14 @@ ghost use Rattle.std.specs.Bool.{OnTrue, OnFalse};
 ghost use Rattle.ldap_msg.specs.Messages.{OperationValue, MessageValue};
 ghost use Rattle.ldap_msg.specs.View.{operation_view, view};
 ghost use Rattle.ldap_msg.specs.Grammar.{operation_octet, IsOperation, HasOperation, IsIdFor, IsMessageContent, IsMessage};
-ghost use Rattle.ldap_msg.specs.Limits.{FilterStandsAt, OperationHasFilterAt, ContentHasFilterAt, IsLimitFault, IsFault, IsWithin};
+ghost use Rattle.ldap_requests.specs.Limits.{FilterStandsAt, IsLimitFault};
+ghost use Rattle.ldap_msg.specs.Limits.{OperationHasFilterAt, ContentHasFilterAt, IsFault, IsWithin};
 
-use crate::decoding_control::controls_of;
-use crate::decoding_entry::entry_of;
-use crate::decoding_result::{extended_of, result_of};
-use crate::decoding_search::search_of;
-use crate::message::{Message, ProtocolOp, Request, Response};
+use crate::decoding_request::{is_request, request_of};
+use crate::decoding_response::response_of;
+use crate::message::{Message, ProtocolOp};
 use ldap_fields::{MsgFault, element, field, number_field};
+use ldap_parts::controls_of;
 use std::alloc::Global;
 
 /// How many octets a message may have, its header included.
@@ -28,12 +28,10 @@ fn operation_of(alloc: Global, first: u8, content: &[u8]) -> Result<ProtocolOp, 
         × (operation_octet op ≡ first) × IsOperation op content.now) (λ place. (first ≡ 99)
         × FilterStandsAt content.now place)) }
 {
-    match first {
-        0x63 => Ok(ProtocolOp::Request(Request::Search(search_of(alloc, content)?))),
-        0x64 => Ok(ProtocolOp::Response(Response::SearchEntry(entry_of(alloc, content)?))),
-        0x65 => Ok(ProtocolOp::Response(Response::SearchDone(result_of(alloc, content)?))),
-        0x78 => Ok(ProtocolOp::Response(Response::Extended(extended_of(alloc, content)?))),
-        _ => Err(MsgFault::NotAMessage),
+    if is_request(first) {
+        Ok(ProtocolOp::Request(request_of(alloc, first, content)?))
+    } else {
+        Ok(ProtocolOp::Response(response_of(alloc, first, content)?))
     }
 }
 

@@ -7,13 +7,12 @@ ghost use Rattle.ldap_msg.specs.View.{operation_view, view};
 ghost use Rattle.ldap_msg.specs.Grammar.{operation_octet, IsMessage};
 ghost use Rattle.ldap_msg.specs.Written.{operation_content, operation_bytes, message_content, message_bytes, IsInRange};
 
-use crate::encoding_control::put_controls;
-use crate::encoding_entry::entry_content;
-use crate::encoding_field::put_number;
-use crate::encoding_result::{extended_content, result_content};
-use crate::encoding_search::search_content;
-use crate::message::{Message, ProtocolOp, Request, Response};
+use crate::encoding_request::{request_content, request_octet};
+use crate::encoding_response::{response_content, response_octet};
+use crate::message::{Message, ProtocolOp};
 use ldap_ber::{WriteError, write};
+use ldap_fields::put_number;
+use ldap_parts::put_controls;
 use std::alloc::Global;
 
 /// The content of an operation's element.
@@ -23,10 +22,8 @@ fn operation_content(alloc: Global, op: &ProtocolOp) -> Result<Vec<u8>, WriteErr
         → 2 ^ 32 ≤ length (operation_content (operation_view op.now)) }
 {
     match op {
-        ProtocolOp::Request(Request::Search(search)) => search_content(alloc, search),
-        ProtocolOp::Response(Response::SearchEntry(entry)) => entry_content(alloc, entry),
-        ProtocolOp::Response(Response::SearchDone(done)) => result_content(alloc, done),
-        ProtocolOp::Response(Response::Extended(extended)) => extended_content(alloc, extended),
+        ProtocolOp::Request(request) => request_content(alloc, request),
+        ProtocolOp::Response(response) => response_content(alloc, response),
     }
 }
 
@@ -36,10 +33,8 @@ fn operation_octet(op: &ProtocolOp) -> u8
     ensures low_tag { result % 32 < 31 }
 {
     match op {
-        ProtocolOp::Request(Request::Search(_)) => 0x63,
-        ProtocolOp::Response(Response::SearchEntry(_)) => 0x64,
-        ProtocolOp::Response(Response::SearchDone(_)) => 0x65,
-        ProtocolOp::Response(Response::Extended(_)) => 0x78,
+        ProtocolOp::Request(request) => request_octet(request),
+        ProtocolOp::Response(response) => response_octet(response),
     }
 }
 

@@ -4,27 +4,23 @@
 #![tactic(auto)]
 
 mod decoding;
-mod decoding_control;
-mod decoding_entry;
-mod decoding_result;
-mod decoding_search;
+mod decoding_request;
+mod decoding_response;
 mod encoding;
-mod encoding_control;
-mod encoding_entry;
-mod encoding_field;
-mod encoding_result;
-mod encoding_search;
-mod entry;
+mod encoding_request;
+mod encoding_response;
 mod message;
-mod result;
-mod search;
 
 pub use decoding::{MAX_MESSAGE, decode, one_message};
 pub use encoding::{encode, is_message};
-pub use entry::{PartialAttribute, SearchResultEntry};
 pub use ldap_ber::WriteError as EncodeError;
 pub use ldap_fields::MsgFault;
 pub use ldap_filter::Filter;
-pub use message::{Control, Message, ProtocolOp, Request, Response};
-pub use result::{ExtendedResponse, LdapResult, ResultCode};
-pub use search::{DerefAliases, Scope, SearchRequest};
+pub use ldap_parts::{Attribute, Control, LdapResult, PartialAttribute, ResultCode};
+pub use ldap_requests::{
+    AttributeValueAssertion, AuthenticationChoice, BindRequest, CompareRequest, DerefAliases,
+    ExtendedRequest, SaslCredentials, Scope, SearchRequest,
+};
+pub use ldap_responses::{ExtendedResponse, SearchResultEntry};
+pub use ldap_updates::{AddRequest, Change, ModifyDnRequest, ModifyOperation, ModifyRequest};
+pub use message::{Message, ProtocolOp, Request, Response};

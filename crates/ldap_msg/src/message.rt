@@ -1,9 +1,10 @@
 //! Wire, messages: the envelope and its operations.
 //! In: nothing. Out: the types. Not here: octets, the parts of each operation.
 
-use crate::entry::SearchResultEntry;
-use crate::result::{ExtendedResponse, LdapResult};
-use crate::search::SearchRequest;
+use ldap_parts::{Control, LdapResult};
+use ldap_requests::{BindRequest, CompareRequest, ExtendedRequest, SearchRequest};
+use ldap_responses::{ExtendedResponse, SearchResultEntry};
+use ldap_updates::{AddRequest, ModifyDnRequest, ModifyRequest};
 
 /// LDAPMessage (RFC 4511 4.1.1).
 #[derive(Debug, Drop)]
@@ -25,26 +26,47 @@ pub enum ProtocolOp {
 /// An operation that a client sends.
 #[derive(Debug, Drop)]
 pub enum Request {
+    /// BindRequest (RFC 4511 4.2).
+    Bind(BindRequest),
+    /// UnbindRequest (RFC 4511 4.3).
+    Unbind,
     /// SearchRequest (RFC 4511 4.5.1).
     Search(SearchRequest),
+    /// ModifyRequest (RFC 4511 4.6).
+    Modify(ModifyRequest),
+    /// AddRequest (RFC 4511 4.7).
+    Add(AddRequest),
+    /// DelRequest (RFC 4511 4.8): a name as text.
+    Delete(String),
+    /// ModifyDNRequest (RFC 4511 4.9).
+    ModifyDn(ModifyDnRequest),
+    /// CompareRequest (RFC 4511 4.10).
+    Compare(CompareRequest),
+    /// AbandonRequest (RFC 4511 4.11): the messageID of what is abandoned, or any integer that eight octets hold.
+    Abandon(i64),
+    /// ExtendedRequest (RFC 4511 4.12).
+    Extended(ExtendedRequest),
 }
 
 /// An operation that a server sends.
 #[derive(Debug, Drop)]
 pub enum Response {
+    /// BindResponse (RFC 4511 4.2.2); its serverSaslCreds are ignored.
+    Bind(LdapResult),
     /// SearchResultEntry (RFC 4511 4.5.2).
     SearchEntry(SearchResultEntry),
     /// SearchResultDone (RFC 4511 4.5.2).
     SearchDone(LdapResult),
+    /// ModifyResponse (RFC 4511 4.6).
+    Modify(LdapResult),
+    /// AddResponse (RFC 4511 4.7).
+    Add(LdapResult),
+    /// DelResponse (RFC 4511 4.8).
+    Delete(LdapResult),
+    /// ModifyDNResponse (RFC 4511 4.9).
+    ModifyDn(LdapResult),
+    /// CompareResponse (RFC 4511 4.10).
+    Compare(LdapResult),
     /// ExtendedResponse (RFC 4511 4.12), the Notice of Disconnection too (RFC 4511 4.4.1).
     Extended(ExtendedResponse),
-}
-
-/// Control (RFC 4511 4.1.11).
-#[derive(Debug, Drop)]
-pub struct Control {
-    /// controlType, an object identifier as text.
-    pub control_type: String,
-    pub criticality: bool,
-    pub value: Option<Vec<u8>>,
 }

@@ -1,2 +1,5 @@
 pub mod Schema
+pub mod Superclasses
+pub mod ObjectClassType
+pub mod Tables
 pub mod BuiltIn

@@ -17,6 +17,7 @@ pub record TypeModel : Type 0 where
   pub syntax : Syntax
   pub equality : Option Rule
   pub ordering : Option Rule
+  pub substrings : Option Rule
   pub is_single_value : Bool
 
 -- An object class: its superclasses by number of class, its required and allowed types by number of type (RFC 4512 4.1.1).
@@ -47,6 +48,19 @@ find s d = position_from (λ t. is_called d t.oid t.names) 0 s.types
 -- the class of a name or an object identifier
 abbrev pub class_named : SchemaModel → List ℕ → Option ℕ
 class_named s d = position_from (λ c. is_called d c.oid c.names) 0 s.classes
+
+-- a type or a class goes by its first name, and by its object identifier if it has none (RFC 4512 4.1)
+abbrev pub first_name_of : List ℕ → List (List ℕ) → List ℕ
+first_name_of oid [] = oid
+first_name_of oid (name ∷ names) = name
+
+abbrev pub class_name_in : Option ClassModel → Option (List ℕ)
+class_name_in None = None
+class_name_in (Some c) = Some (first_name_of c.oid c.names)
+
+-- the first name of a class that the schema has
+abbrev pub class_name : SchemaModel → ℕ → Option (List ℕ)
+class_name s c = class_name_in (slice_get s.classes c)
 
 -- what a type has that the schema has
 abbrev pub type_at : SchemaModel → ℕ → Option TypeModel

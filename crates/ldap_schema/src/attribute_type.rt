@@ -48,6 +48,7 @@ pub struct AttributeType {
     pub(crate) syntax: Syntax,
     pub(crate) equality: Option<Rule>,
     pub(crate) ordering: Option<Rule>,
+    pub(crate) substrings: Option<Rule>,
     pub(crate) is_single_value: bool,
 }
 
@@ -58,7 +59,7 @@ impl Model for AttributeType {
 
     ghost Value = { TypeModel };
 
-    ghost view = { λ t. record { oid = string_bytes t.oid; names = map string_bytes t.names.items; superior = t.superior; syntax = t.syntax; equality = t.equality; ordering = t.ordering; is_single_value = t.is_single_value } };
+    ghost view = { λ t. record { oid = string_bytes t.oid; names = map string_bytes t.names.items; superior = t.superior; syntax = t.syntax; equality = t.equality; ordering = t.ordering; substrings = t.substrings; is_single_value = t.is_single_value } };
 }
 
 impl AttributeType {
@@ -102,6 +103,13 @@ impl AttributeType {
         ensures { result ≡ self.now.ordering }
     {
         self.ordering
+    }
+
+    /// The SUBSTR rule in effect, own or inherited.
+    pub fn substrings(&self) -> Option<Rule>
+        ensures { result ≡ self.now.substrings }
+    {
+        self.substrings
     }
 
     /// Whether an entry has at most one value of it.

@@ -15,6 +15,7 @@ pub struct Effect {
     pub syntax: Syntax,
     pub equality: Rule,
     pub ordering: Option<Rule>,
+    pub substrings: Option<Rule>,
     pub is_single_value: bool,
 }
 
@@ -45,6 +46,7 @@ pub fn add_type(
       syntax = effect.syntax;
       equality = Some effect.equality;
       ordering = effect.ordering;
+      substrings = effect.substrings;
       is_single_value = effect.is_single_value;
     } ∷ []) }
 {
@@ -55,6 +57,7 @@ pub fn add_type(
         syntax: effect.syntax,
         equality: Some(effect.equality),
         ordering: effect.ordering,
+        substrings: effect.substrings,
         is_single_value: effect.is_single_value,
     })?;
     Ok(())

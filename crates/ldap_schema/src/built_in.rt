@@ -17,6 +17,7 @@ const IDENTIFIER: Effect = Effect {
         syntax: Syntax::ObjectIdentifier,
     },
     ordering: None,
+    substrings: None,
     is_single_value: false,
 };
 
@@ -27,6 +28,24 @@ const TEXT: Effect = Effect {
         syntax: Syntax::DirectoryString,
     },
     ordering: None,
+    substrings: Some(Rule {
+        family: Family::Ignore,
+        syntax: Syntax::DirectoryString,
+    }),
+    is_single_value: false,
+};
+
+const TELEPHONE: Effect = Effect {
+    syntax: Syntax::TelephoneNumber,
+    equality: Rule {
+        family: Family::Telephone,
+        syntax: Syntax::TelephoneNumber,
+    },
+    ordering: None,
+    substrings: Some(Rule {
+        family: Family::Telephone,
+        syntax: Syntax::TelephoneNumber,
+    }),
     is_single_value: false,
 };
 
@@ -37,6 +56,10 @@ const DOMAIN: Effect = Effect {
         syntax: Syntax::Ia5String,
     },
     ordering: None,
+    substrings: Some(Rule {
+        family: Family::Ia5,
+        syntax: Syntax::Ia5String,
+    }),
     is_single_value: true,
 };
 
@@ -50,6 +73,10 @@ const LABEL: Effect = Effect {
         family: Family::Ignore,
         syntax: Syntax::DirectoryString,
     }),
+    substrings: Some(Rule {
+        family: Family::Ignore,
+        syntax: Syntax::DirectoryString,
+    }),
     is_single_value: false,
 };
 
@@ -60,6 +87,7 @@ const TICKET: Effect = Effect {
         syntax: Syntax::NumericString,
     },
     ordering: None,
+    substrings: None,
     is_single_value: false,
 };
 
@@ -73,7 +101,44 @@ const RANK: Effect = Effect {
         family: Family::Integer,
         syntax: Syntax::Integer,
     }),
+    substrings: None,
     is_single_value: true,
+};
+
+const TIME: Effect = Effect {
+    syntax: Syntax::GeneralizedTime,
+    equality: Rule {
+        family: Family::Time,
+        syntax: Syntax::GeneralizedTime,
+    },
+    ordering: Some(Rule {
+        family: Family::Time,
+        syntax: Syntax::GeneralizedTime,
+    }),
+    substrings: None,
+    is_single_value: false,
+};
+
+const TRUTH: Effect = Effect {
+    syntax: Syntax::Boolean,
+    equality: Rule {
+        family: Family::Boolean,
+        syntax: Syntax::Boolean,
+    },
+    ordering: None,
+    substrings: None,
+    is_single_value: true,
+};
+
+const OCTETS: Effect = Effect {
+    syntax: Syntax::OctetString,
+    equality: Rule {
+        family: Family::Octet,
+        syntax: Syntax::OctetString,
+    },
+    ordering: None,
+    substrings: None,
+    is_single_value: false,
 };
 
 /// The types in the order of their numbers.
@@ -83,7 +148,7 @@ pub fn built_in_types(alloc: Global) -> Result<Vec<AttributeType>, AllocError>
     let mut types = Vec::new(alloc);
     let all = &mut types;
     let name = TypeId::new(1);
-    let label = TypeId::new(8);
+    let label = TypeId::new(9);
     add_type(alloc, all, "2.5.4.0", &["objectClass"], None, IDENTIFIER)?;
     add_type(alloc, all, "2.5.4.41", &["name"], None, TEXT)?;
     add_type(
@@ -98,6 +163,14 @@ pub fn built_in_types(alloc: Global) -> Result<Vec<AttributeType>, AllocError>
     add_type(alloc, all, "2.5.4.10", &["o"], Some(name), TEXT)?;
     add_type(alloc, all, "2.5.4.11", &["ou"], Some(name), TEXT)?;
     add_type(alloc, all, "2.5.4.13", &["description"], None, TEXT)?;
+    add_type(
+        alloc,
+        all,
+        "2.5.4.20",
+        &["telephoneNumber"],
+        None,
+        TELEPHONE,
+    )?;
     add_type(
         alloc,
         all,
@@ -116,6 +189,9 @@ pub fn built_in_types(alloc: Global) -> Result<Vec<AttributeType>, AllocError>
         TICKET,
     )?;
     add_type(alloc, all, "2.25.20120201.3", &["rank"], None, RANK)?;
+    add_type(alloc, all, "2.25.20120201.4", &["seen"], None, TIME)?;
+    add_type(alloc, all, "2.25.20120201.5", &["active"], None, TRUTH)?;
+    add_type(alloc, all, "2.25.20120201.6", &["blob"], None, OCTETS)?;
     Ok(types)
 }
 
@@ -133,8 +209,17 @@ pub fn built_in_classes(alloc: Global) -> Result<Vec<ObjectClass>, AllocError>
     let o = TypeId::new(4);
     let ou = TypeId::new(5);
     let description = TypeId::new(6);
-    let dc = TypeId::new(7);
-    let own = &[TypeId::new(8), TypeId::new(9), TypeId::new(10), description];
+    let telephone_number = TypeId::new(7);
+    let dc = TypeId::new(8);
+    let own = &[
+        TypeId::new(9),
+        TypeId::new(10),
+        TypeId::new(11),
+        description,
+        TypeId::new(12),
+        TypeId::new(13),
+        TypeId::new(14),
+    ];
     add_class(
         alloc,
         all,
@@ -163,7 +248,7 @@ pub fn built_in_classes(alloc: Global) -> Result<Vec<ObjectClass>, AllocError>
         top,
         kind,
         &[ou],
-        &[description],
+        &[description, telephone_number],
     )?;
     add_class(
         alloc,
@@ -173,7 +258,7 @@ pub fn built_in_classes(alloc: Global) -> Result<Vec<ObjectClass>, AllocError>
         top,
         kind,
         &[sn, cn],
-        &[description],
+        &[description, telephone_number],
     )?;
     add_class(
         alloc,

@@ -3,6 +3,7 @@
 
 ghost use Rattle.std.specs.Prelude.{◌≡◌, map, ℕ};
 ghost use Rattle.std.specs.String.{string_bytes};
+ghost use Rattle.ldap_schema.specs.Schema.{first_name_of};
 
 use crate::attribute_type::TypeId;
 use std::marker::Model;
@@ -81,6 +82,16 @@ impl ObjectClass {
         ensures { map string_bytes result.now ≡ self.now.names }
     {
         self.names.as_slice()
+    }
+
+    /// The first name, or the object identifier where it has none.
+    pub fn first_name(&self) -> &str
+        ensures { result.now ≡ first_name_of self.now.oid self.now.names }
+    {
+        match self.names.as_slice() {
+            [] => self.oid.as_str(),
+            [first, ..] => first.as_str(),
+        }
     }
 
     /// The classes that it is a direct subclass of, in the order written.

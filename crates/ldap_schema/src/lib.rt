@@ -8,6 +8,7 @@ mod built_in;
 mod class;
 mod naming;
 mod schema;
+mod superclasses;
 mod tables;
 
 pub use attribute_type::{AttributeType, TypeId};

@@ -1,14 +1,19 @@
-// The schema: a table of types and one of classes, and which type is under which, computed once. Names and numbers flow
+// The schema: a table of types and one of classes, and which type and class is under which, computed once. Names and numbers flow
 // in; types, classes and numbers flow out. What must not be here: reading a schema from text, values.
 
-ghost use Rattle.std.specs.Prelude.{◌≡◌, IfOk, slice_get, length, ◌↔◌, IsTrue};
+ghost use Rattle.std.specs.Prelude.{◌≡◌, IfOk, IfSome, IsSome, option_map, slice_get, length, ◌↔◌, IsTrue};
 ghost use Rattle.std.specs.Option.{option_copied};
-ghost use Rattle.ldap_schema.specs.Schema.{find as find_type, class_named, is_under as is_under_type, IsUnder};
+ghost use Rattle.ldap_schema.specs.Schema.{find as find_type, class_named, class_name, is_under as is_under_type, IsUnder};
+ghost use Rattle.ldap_schema.specs.Superclasses.{missing_superclasses as superclasses_missing, is_subclass as is_class_under, IsSubclass};
+ghost use Rattle.ldap_schema.specs.ObjectClassType.{IsObjectClassType};
 ghost use Rattle.ldap_schema.specs.BuiltIn.{built_in as built_in_schema};
 
 use crate::attribute_type::{AttributeType, TypeId};
 use crate::built_in::{built_in_classes, built_in_types};
 use crate::class::{ClassId, ObjectClass};
+use crate::superclasses::{
+    is_class_among, superclasses_at, superclasses_of_all, with_superclasses,
+};
 use crate::tables::{class_called, is_among, superiors_at, superiors_of_all, type_called};
 use std::alloc::{AllocError, Global};
 use std::marker::Model;
@@ -20,17 +25,23 @@ pub struct Schema {
     classes: Vec<ObjectClass>,
     /// Of each type the types that its SUP leads to.
     superiors: Vec<Vec<TypeId>>,
+    /// Of each class it and its superclasses.
+    superclasses: Vec<Vec<ClassId>>,
+    /// The type objectClass.
+    object_class: TypeId,
 }
 
 impl Model for Schema {
-    ghost use Rattle.std.specs.Prelude.{map, length, ◌≡◌};
-    ghost use Rattle.ldap_schema.specs.Schema.{SchemaModel, TypeModel, all_superiors, IsLoopless};
+    ghost use Rattle.std.specs.Prelude.{map};
+    ghost use Rattle.ldap_schema.specs.Schema.{SchemaModel};
+    ghost use Rattle.ldap_schema.specs.Tables.{AreTablesOf};
 
     ghost Value = { SchemaModel };
 
     ghost view = { λ s. record { types = s.types.items; classes = s.classes.items } };
 
-    ghost invariant = { λ s. (map (λ v. v.items) s.superiors.items ≡ all_superiors s.types.items) × IsLoopless s.types.items };
+    ghost invariant = { λ s. AreTablesOf (record { types = s.types.items; classes = s.classes.items })
+        (map (λ v. v.items) s.superiors.items) (map (λ v. v.items) s.superclasses.items) s.object_class };
 }
 
 impl Schema {
@@ -40,11 +51,46 @@ impl Schema {
     {
         let types = built_in_types(alloc)?;
         let superiors = superiors_of_all(alloc, types.as_slice())?;
+        let classes = built_in_classes(alloc)?;
+        let superclasses = superclasses_of_all(alloc, classes.as_slice())?;
         Ok(Schema {
             types,
-            classes: built_in_classes(alloc)?,
+            classes,
             superiors,
+            superclasses,
+            object_class: TypeId::new(0),
         })
+    }
+
+    /// The type objectClass (RFC 4512 3.3), whose values are matched as object identifiers.
+    pub fn object_class_type(&self) -> TypeId
+        ensures { IsObjectClassType self.now result }
+    {
+        self.object_class
+    }
+
+    /// The superclasses that are missing among the classes (RFC 4512 2.4): for each class in turn, missing ones included, its
+    /// direct superclasses in the order written. Each class is looked at once; its only error is want of memory.
+    pub fn missing_superclasses(
+        &self,
+        alloc: Global,
+        classes: &[ClassId],
+    ) -> Result<Vec<ClassId>, AllocError>
+        ensures { IfOk result (λ v. v.items ≡ superclasses_missing self.now classes.now) }
+    {
+        let all = with_superclasses(alloc, self.classes.as_slice(), classes)?;
+        all.iter().skip(classes.len()).copied().collect(alloc)
+    }
+
+    /// Whether the first class is the second one, or the second is a superclass of it (RFC 4512 2.4).
+    pub fn is_subclass(&self, below: ClassId, above: ClassId) -> bool
+        ensures table { result ≡ is_class_under self.now below above }
+
+        // It is the chain of superclasses.
+        ensures chain { IsTrue result ↔ IsSubclass self.now below above }
+    {
+        below == above
+            || is_class_among(superclasses_at(self.superclasses.as_slice(), below), above)
     }
 
     /// The type that the description stands for, by a name in any case or by its object identifier. A description that
@@ -88,6 +134,14 @@ impl Schema {
         ensures { option_copied result ≡ slice_get self.now.classes class_id }
     {
         self.classes.as_slice().get(class_id.number())
+    }
+
+    /// The first name of a class, by which the class is found again; none, where the number is another schema's.
+    pub fn class_name(&self, class_id: ClassId) -> Option<&str>
+        ensures name { option_map (λ n. n.now) result ≡ class_name self.now class_id }
+        ensures found { IfSome result (λ n. IsSome (class_named self.now n.now)) }
+    {
+        Some(self.object_class(class_id)?.first_name())
     }
 
     /// How many types there are; they are numbered from 0.

@@ -1,1 +1,2 @@
 pub mod ReplyLists
+pub mod Folds

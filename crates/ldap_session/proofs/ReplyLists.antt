@@ -4,7 +4,7 @@ use Rattle.std.specs.Prelude.{Option, Some, None, IfSome, IfNone}
 use Rattle.ldap_msg.specs.Grammar.{IsMessage}
 use Rattle.ldap_msg.specs.Limits.{IsWithin}
 use Rattle.ldap_msg.specs.View.{request_view, entry_view}
-use Rattle.ldap_msg.specs.declared.entry.SearchResultEntry.{SearchResultEntry}
+use Rattle.ldap_responses.specs.declared.entry.SearchResultEntry.{SearchResultEntry}
 use Rattle.ldap_msg.specs.declared.message.Request.{Request}
 use Rattle.std.proofs.lemmas.List.{map-append}
 use Rattle.ldap_msg.specs.Messages.{MessageValue, SearchRequestValue, SearchResultEntryValue, LdapResultValue, OperationValue, RequestValue, request, response, search_entry, search_done}

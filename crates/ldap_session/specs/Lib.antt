@@ -1,1 +1,4 @@
 pub mod Replies
+pub mod Session
+pub mod Written
+pub mod Runs

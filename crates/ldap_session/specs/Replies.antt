@@ -1,6 +1,6 @@
 -- The messages that answer a message: RFC 4511 4.5.2 and 4.4.1. A directory and a message flow in, messages flow out.
 use Rattle.std.specs.Prelude.{◌≡◌, ◌≤◌, ◌^◌, ◌⊎◌, ℕ, List, [], ◌∷◌, ◌++◌, map, codes, Some, None, length}
-use Rattle.ldap_msg.specs.Messages.{SearchRequestValue, SearchResultEntryValue, LdapResultValue, RequestValue, search, ResponseValue, search_entry, search_done, extended, OperationValue, request, response, MessageValue}
+use Rattle.ldap_msg.specs.Messages.{SearchRequestValue, SearchResultEntryValue, LdapResultValue, RequestValue, ResponseValue, search_entry, search_done, extended, request, response, MessageValue}
 use Rattle.ldap_msg.specs.Grammar.{IsMessage}
 use Rattle.ldap_msg.specs.Limits.{IsWithin}
 use Rattle.ldap_msg.specs.Written.{message_content}
@@ -19,10 +19,6 @@ outcome code = record { code = code; matched_dn = []; diagnostic_message = []; r
 abbrev pub search_replies : Directory → ℕ → SearchRequestValue → List MessageValue
 search_replies d id q =
     map (λ (e : SearchResultEntryValue). reply id (search_entry e)) (answer d q).entries ++ reply id (search_done (outcome (answer d q).code)) ∷ []
-
--- the responses to a request
-abbrev pub replies : Directory → ℕ → RequestValue → List MessageValue
-replies d id (search q) = search_replies d id q
 
 -- The Notice of Disconnection with protocolError (2): messageID 0, responseName 1.3.6.1.4.1.1466.20036 (RFC 4511 4.4.1).
 abbrev pub notice : MessageValue

@@ -1,6 +1,6 @@
 //! The responses to a search, written. A directory and a request flow in, octets flow out, one `Vec` a message.
 ghost use Rattle.std.specs.Prelude.{◌≡◌, ◌≤◌, ◌^◌, ◌++◌, ◌∷◌, [], ℕ, List, map, length, IfOk, IsErrOf, codes};
-ghost use Rattle.ldap_msg.specs.Messages.{search_entry};
+ghost use Rattle.ldap_msg.specs.Messages.{search_entry, bind_response as bind_outcome, add_response as add_outcome};
 ghost use Rattle.ldap_msg.specs.View.{entry_view, response_view, result_view, search_view};
 ghost use Rattle.ldap_msg.specs.Written.{message_bytes, message_content};
 ghost use Rattle.ldap_session.specs.Replies.{reply, outcome, search_replies, notice, HasTooLong};
@@ -18,7 +18,7 @@ use std::alloc::Global;
 const NOTICE_OF_DISCONNECTION: &str = "1.3.6.1.4.1.1466.20036";
 
 /// A result with a code and nothing else.
-fn result_of(alloc: Global, code: ResultCode) -> LdapResult
+pub fn result_of(alloc: Global, code: ResultCode) -> LdapResult
     ensures { result_view result ≡ outcome code }
 {
     LdapResult {
@@ -78,6 +78,32 @@ pub fn search_responses(
     let mut responses = entry_responses(alloc, id, answer.entries)?;
     responses.push(write_response(alloc, id, done)?)?;
     Ok(responses)
+}
+
+/// One response, written.
+pub fn one_response(alloc: Global, id: u32, response: Response) -> Result<Vec<Vec<u8>>, AnswerError>
+    ensures ok { IfOk result (λ r. map (λ v. v.items) r.items ≡ message_bytes (reply id (response_view response)) ∷ []) }
+    ensures too_long { IsErrOf result AnswerError.TooLong → HasTooLong (reply id (response_view response) ∷ []) }
+{
+    let mut responses = Vec::new(alloc);
+    responses.push(write_response(alloc, id, response)?)?;
+    Ok(responses)
+}
+
+/// The response to a bind, written.
+pub fn bind_response(alloc: Global, id: u32, code: ResultCode) -> Result<Vec<Vec<u8>>, AnswerError>
+    ensures ok { IfOk result (λ r. map (λ v. v.items) r.items ≡ message_bytes (reply id (bind_outcome (outcome code))) ∷ []) }
+    ensures too_long { IsErrOf result AnswerError.TooLong → HasTooLong (reply id (bind_outcome (outcome code)) ∷ []) }
+{
+    one_response(alloc, id, Response::Bind(result_of(alloc, code)))
+}
+
+/// The response to an add, written.
+pub fn add_response(alloc: Global, id: u32, code: ResultCode) -> Result<Vec<Vec<u8>>, AnswerError>
+    ensures ok { IfOk result (λ r. map (λ v. v.items) r.items ≡ message_bytes (reply id (add_outcome (outcome code))) ∷ []) }
+    ensures too_long { IsErrOf result AnswerError.TooLong → HasTooLong (reply id (add_outcome (outcome code)) ∷ []) }
+{
+    one_response(alloc, id, Response::Add(result_of(alloc, code)))
 }
 
 /// The Notice of Disconnection, written.

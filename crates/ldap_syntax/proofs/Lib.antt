@@ -1,3 +1,10 @@
 pub mod Words
+pub mod Ascii
+pub mod Spaces
 pub mod Digits
+pub mod Utf8
+pub mod Fit
+pub mod Present
 pub mod Compare
+pub mod Search
+pub mod Seams

@@ -1,5 +1,9 @@
 pub mod Text
 pub mod Numbers
 pub mod Identifiers
+pub mod Times
+pub mod Syntaxes
+pub mod Families
 pub mod Meaning
+pub mod Parts
 pub mod Keys

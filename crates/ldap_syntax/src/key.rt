@@ -3,6 +3,7 @@
 
 ghost use Rattle.std.specs.Prelude.{◌≡◌};
 ghost use Rattle.std.specs.Str.{bytes_eq};
+ghost use Rattle.ldap_syntax.specs.Meaning.{is_before as is_before_octets};
 
 use std::marker::Model;
 
@@ -41,5 +42,12 @@ impl Key {
         ensures { result ≡ bytes_eq self.now other.now }
     {
         self.octets.as_slice() == other.octets.as_slice()
+    }
+
+    /// Whether this key stands before the other in byte order.
+    pub fn is_before(&self, other: &Key) -> bool
+        ensures { result ≡ is_before_octets self.now other.now }
+    {
+        self.octets.as_slice() < other.octets.as_slice()
     }
 }

@@ -2,68 +2,70 @@
 // What must not be here: a schema's names, entries.
 
 ghost use Rattle.std.specs.Prelude.{◌≡◌, ◌↔◌, None, Some, IfOk, IsErrOf, is_some};
-ghost use Rattle.ldap_syntax.specs.Meaning.{is_in_syntax as is_in_the_syntax, is_all_ascii, are_digits_or_spaces as are_all_digits_or_spaces, meaning};
-ghost use Rattle.ldap_syntax.specs.Keys.{key_at, key_in, KeysArePresentAsMeanings, KeysAreEqualAsMeanings, KeysAreOrderedAsMeanings};
+ghost use Rattle.ldap_syntax.specs.Meaning.{spelled, meaning, part_meaning, ValuesOfTheSyntaxMean};
+ghost use Rattle.ldap_syntax.specs.Keys.{text_key as text_key_of, key_at, key_in, part_key_at, KeysArePresentAsMeanings, KeysAreEqualAsMeanings, KeysAreOrderedAsMeanings, PartsStandAsMeanings};
 
+use crate::admitting::{is_boolean, is_in_syntax, is_part_of, text_of};
 use crate::fault::ValueError;
 use crate::identifying::is_numericoid;
 use crate::key::Key;
-use crate::numbering::{is_digit, is_integer, number_key};
+use crate::numbering::{is_integer, number_key};
+use crate::offering::has_substrings;
 use crate::preparing::{Part, prepare};
-use crate::rule::{Family, Rule, Syntax};
+use crate::rule::{Family, Rule};
+use crate::timing::is_time;
 use std::alloc::Global;
 
-/// Whether the value is in the syntax (RFC 4517 3.3). A value with an octet over 7F is in none for now.
-pub fn is_in_syntax(syntax: Syntax, value: &[u8]) -> bool
-    ensures { result ≡ is_in_the_syntax syntax value.now }
-{
-    match syntax {
-        Syntax::DirectoryString => !value.is_empty() && is_ascii(value),
-        Syntax::Ia5String => is_ascii(value),
-        Syntax::Integer => is_integer(value),
-        Syntax::NumericString => !value.is_empty() && are_digits_or_spaces(value),
-        Syntax::ObjectIdentifier => is_numericoid(value),
-    }
-}
-
-fn is_ascii(value: &[u8]) -> bool
-    ensures { result ≡ is_all_ascii value.now }
-{
-    value.iter().all(|octet| *octet < 128)
-}
-
-fn are_digits_or_spaces(value: &[u8]) -> bool
-    ensures { result ≡ are_all_digits_or_spaces value.now }
-{
-    value.iter().all(|octet| is_digit(*octet) || *octet == b' ')
-}
-
-/// The value's key under the rule: keys of one rule compare as the meanings of the values do (`keys_compare`).
+/// The value's key under the rule: keys of one rule compare as the meanings of the values do (`keys_compare`). Time grows with
+/// the value's length alone. The key of a text takes what `prepare` takes; that of an integer two allocations, and a third where
+/// it is negative, each with its growths; any other key one.
 pub fn key_of(alloc: Global, rule: Rule, value: &[u8]) -> Result<Key, ValueError>
     ensures key { IfOk result (λ k. key_at rule value.now ≡ Some k) }
 
     // E11 comes exactly where the value means nothing under the rule.
     ensures not_in_syntax { IsErrOf result ValueError.NotInSyntax ↔ (meaning rule value.now ≡ None) }
 {
-    if !is_in_syntax(rule.syntax, value) {
+    if !has_meaning(rule, value) {
         return Err(ValueError::NotInSyntax);
     }
     match rule.family {
-        Family::Identifier => {
-            if !is_numericoid(value) {
-                return Err(ValueError::NotInSyntax);
-            }
+        Family::Integer => Ok(Key::new(number_key(alloc, value)?)),
+        Family::Ignore
+        | Family::Exact
+        | Family::Numeric
+        | Family::Telephone
+        | Family::Ia5
+        | Family::Ia5Exact => text_key(alloc, rule.family, value, Part::Whole),
+        Family::Identifier | Family::Name | Family::Boolean | Family::Octet | Family::Time => {
             Ok(Key::new(Vec::from_slice(alloc, value)?))
         }
-        Family::Ignore | Family::Ia5 | Family::Numeric => {
-            Ok(Key::new(prepare(alloc, value, rule.family, Part::Whole)?))
-        }
-        Family::Integer => {
-            if !is_integer(value) {
-                return Err(ValueError::NotInSyntax);
-            }
-            Ok(Key::new(number_key(alloc, value)?))
-        }
+    }
+}
+
+/// The key of a part of a substring assertion under the rule: a key has the keys of parts exactly where the value has the
+/// parts (`parts_compare`). Time and allocations are those of `prepare`.
+pub fn part_key_of(alloc: Global, rule: Rule, part: Part, octets: &[u8]) -> Result<Key, ValueError>
+    ensures key { IfOk result (λ k. part_key_at rule part octets.now ≡ Some k) }
+
+    // E11 comes exactly where the octets are no part of a value, or the family has no substrings rule.
+    ensures not_in_syntax { IsErrOf result ValueError.NotInSyntax
+        ↔ (part_meaning rule part octets.now ≡ None) }
+{
+    if !has_substrings(rule.family) || !is_part_of(rule.syntax, octets) {
+        return Err(ValueError::NotInSyntax);
+    }
+    text_key(alloc, rule.family, octets, part)
+}
+
+/// The key of the octets' prepared text.
+fn text_key(alloc: Global, family: Family, octets: &[u8], part: Part) -> Result<Key, ValueError>
+    ensures key { IfOk result (λ k. text_key_of (spelled family part octets.now) ≡ Some k) }
+    ensures not_in_syntax { IsErrOf result ValueError.NotInSyntax
+        ↔ (spelled family part octets.now ≡ None) }
+{
+    match text_of(octets) {
+        Some(text) => Ok(Key::new(prepare(alloc, text, family, part)?.into_bytes())),
+        None => Err(ValueError::NotInSyntax),
     }
 }
 
@@ -76,14 +78,34 @@ pub fn has_meaning(rule: Rule, value: &[u8]) -> bool
     }
     match rule.family {
         Family::Identifier => is_numericoid(value),
-        Family::Ignore | Family::Ia5 | Family::Numeric => true,
+        Family::Name => false,
+        Family::Boolean => is_boolean(value),
         Family::Integer => is_integer(value),
+        Family::Octet => true,
+        Family::Time => is_time(value),
+        Family::Ignore
+        | Family::Exact
+        | Family::Numeric
+        | Family::Telephone
+        | Family::Ia5
+        | Family::Ia5Exact => text_of(value).is_some(),
     }
 }
+
+/// Under a rule that is used on its syntax (`is_used_on`), a value means something exactly where it is in the syntax: so
+/// `key_of` answers E11 exactly where it is not.
+pub fn values_mean()
+    ensures { ValuesOfTheSyntaxMean }
+{}
 
 /// Keys compare as meanings do, and a value has a key exactly where it has a meaning.
 pub fn keys_compare()
     ensures present { KeysArePresentAsMeanings }
     ensures equal { KeysAreEqualAsMeanings }
     ensures ordered { KeysAreOrderedAsMeanings }
+{}
+
+/// A key has the keys of parts exactly where the value's meaning has the parts.
+pub fn parts_compare()
+    ensures { PartsStandAsMeanings }
 {}

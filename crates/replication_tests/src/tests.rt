@@ -6,20 +6,20 @@ use std::marker::Model;
 use std::process::Abort;
 use std::test::*;
 use vr_normal::acknowledgements::{acknowledging, reached, with_acknowledgement};
-use vr_normal::prepare_ok::replies_between;
-use vr_normal::sending::{copy_message, send_all, send_one, sending};
-use vr_normal::standing::{commit_to, follows, is_behind, leads};
 use vr_normal::{beat_primary, on_commit, on_prepare, on_prepare_ok, on_request};
 use vr_state::client_table::ClientTable;
 use vr_state::log::Log;
 use vr_state::message::{Change, Outputs, PeerMessage, Response, Snapshot};
 use vr_state::payload::Payload;
 use vr_state::replica::Replica;
+use vr_state::replies::replies_between;
+use vr_state::sending::{copy_message, send_all, send_one, sending};
+use vr_state::standing::{commit_to, follows, is_behind, leads};
 use vr_state::words::{Client, Entry, Latest, Reply, Status};
 
 /// What the records of these tests ask for: some octets, in memory of their own.
 #[derive(Drop)]
-struct Text {
+pub struct Text {
     octets: Vec<u8>,
 }
 
@@ -38,7 +38,7 @@ impl Payload for Text {
     }
 }
 
-const SEVEN: Client = Client {
+pub const SEVEN: Client = Client {
     home: 0,
     life: 0,
     number: 7,
@@ -51,32 +51,32 @@ const EIGHT: Client = Client {
 };
 
 /// The numbers that stand for each kind of message in `numbers`.
-const PREPARE: u64 = 101;
+pub const PREPARE: u64 = 101;
 
-const PREPARE_OK: u64 = 102;
+pub const PREPARE_OK: u64 = 102;
 
 const COMMIT: u64 = 103;
 
-const START_VIEW_CHANGE: u64 = 104;
+pub const START_VIEW_CHANGE: u64 = 104;
 
-const DO_VIEW_CHANGE: u64 = 105;
+pub const DO_VIEW_CHANGE: u64 = 105;
 
-const START_VIEW: u64 = 106;
+pub const START_VIEW: u64 = 106;
 
 const GET_STATE: u64 = 107;
 
-const NEW_STATE: u64 = 108;
+pub const NEW_STATE: u64 = 108;
 
-const RECOVERY: u64 = 109;
+pub const RECOVERY: u64 = 109;
 
-const RECOVERY_RESPONSE: u64 = 110;
+pub const RECOVERY_RESPONSE: u64 = 110;
 
 /// PREPARE of client 7's request 1, `a`, at place 1 of view 0, and of its request 2, `b`, at place 2; nothing is committed.
-const PREPARE_A: [u64; 9] = [PREPARE, 0, 0, 0, 7, 1, 97, 1, 0];
+pub const PREPARE_A: [u64; 9] = [PREPARE, 0, 0, 0, 7, 1, 97, 1, 0];
 
 const PREPARE_B: [u64; 9] = [PREPARE, 0, 0, 0, 7, 2, 98, 2, 0];
 
-fn record(
+pub fn record(
     alloc: Global,
     client: Client,
     request_number: u64,
@@ -91,7 +91,7 @@ fn record(
 }
 
 /// Two records, client 7's request 1, `a`, and client 8's request 5, `bc`; the first is committed.
-fn held(alloc: Global) -> Result<Snapshot<Text>, AllocError> {
+pub fn held(alloc: Global) -> Result<Snapshot<Text>, AllocError> {
     let mut log = Log::new(alloc);
     log.push(record(alloc, SEVEN, 1, b"a")?)?;
     log.push(record(alloc, EIGHT, 5, b"bc")?)?;
@@ -101,7 +101,7 @@ fn held(alloc: Global) -> Result<Snapshot<Text>, AllocError> {
     })
 }
 
-fn reply(request_number: u64, op_number: u64) -> Reply {
+pub fn reply(request_number: u64, op_number: u64) -> Reply {
     Reply {
         client: SEVEN,
         request_number,
@@ -122,7 +122,7 @@ fn add_record(numbers: &mut Vec<u64>, entry: &Entry<Text>) -> Result<(), AllocEr
 }
 
 /// A log in numbers: how many records it has, and each of them.
-fn add_log(numbers: &mut Vec<u64>, log: &Log<Text>) -> Result<(), AllocError> {
+pub fn add_log(numbers: &mut Vec<u64>, log: &Log<Text>) -> Result<(), AllocError> {
     numbers.push(log.len() as u64)?;
     for entry in log.as_slice() {
         add_record(numbers, entry)?;
@@ -131,7 +131,7 @@ fn add_log(numbers: &mut Vec<u64>, log: &Log<Text>) -> Result<(), AllocError> {
 }
 
 /// A message in numbers: its kind, and its fields in their order.
-fn numbers(alloc: Global, message: &PeerMessage<Text>) -> Result<Vec<u64>, AllocError> {
+pub fn numbers(alloc: Global, message: &PeerMessage<Text>) -> Result<Vec<u64>, AllocError> {
     let mut all = Vec::new(alloc);
     match message {
         PeerMessage::Prepare {
@@ -189,7 +189,7 @@ fn numbers(alloc: Global, message: &PeerMessage<Text>) -> Result<Vec<u64>, Alloc
 }
 
 /// Asserts that the step sends this message to these replicas in their order, and answers nobody.
-fn assert_sends(
+pub fn assert_sends(
     rt: &impl Abort,
     alloc: Global,
     out: &Outputs<Text>,

@@ -1,9 +1,8 @@
 // The sample's six entries, each with `objectClass: top` last. A schema flows in, entries flow out.
 // What must not be here: filters.
 
-use dir_entry::Entry;
+use dir_entry::{Entry, EntryError};
 use ldap_schema::Schema;
-use ldap_syntax::ValueError;
 use std::alloc::Global;
 
 /// Adds one attribute by its name.
@@ -13,9 +12,9 @@ pub fn add(
     entry: &mut Entry,
     name: &str,
     values: &[&[u8]],
-) -> Result<(), ValueError> {
+) -> Result<(), EntryError> {
     let Some(type_id) = schema.find(name) else {
-        return Err(ValueError::NotInSyntax);
+        return Err(EntryError::InvalidAttributeSyntax);
     };
     let mut owned = Vec::new(alloc);
     for value in values {
@@ -24,7 +23,7 @@ pub fn add(
     entry.add(alloc, schema, type_id, owned)
 }
 
-fn domain(alloc: Global, schema: &Schema) -> Result<Entry, ValueError> {
+fn domain(alloc: Global, schema: &Schema) -> Result<Entry, EntryError> {
     let mut entry = Entry::new(alloc);
     add(
         alloc,
@@ -37,7 +36,7 @@ fn domain(alloc: Global, schema: &Schema) -> Result<Entry, ValueError> {
     Ok(entry)
 }
 
-fn unit(alloc: Global, schema: &Schema) -> Result<Entry, ValueError> {
+fn unit(alloc: Global, schema: &Schema) -> Result<Entry, EntryError> {
     let mut entry = Entry::new(alloc);
     add(
         alloc,
@@ -50,7 +49,7 @@ fn unit(alloc: Global, schema: &Schema) -> Result<Entry, ValueError> {
     Ok(entry)
 }
 
-fn item(alloc: Global, schema: &Schema, name: &[u8], rank: &[u8]) -> Result<Entry, ValueError> {
+fn item(alloc: Global, schema: &Schema, name: &[u8], rank: &[u8]) -> Result<Entry, EntryError> {
     let mut entry = Entry::new(alloc);
     add(alloc, schema, &mut entry, "objectClass", &[b"item", b"top"])?;
     add(alloc, schema, &mut entry, "cn", &[name])?;
@@ -59,7 +58,7 @@ fn item(alloc: Global, schema: &Schema, name: &[u8], rank: &[u8]) -> Result<Entr
 }
 
 /// The entries in the order of their numbers.
-pub fn sample(alloc: Global, schema: &Schema) -> Result<Vec<Entry>, ValueError> {
+pub fn sample(alloc: Global, schema: &Schema) -> Result<Vec<Entry>, EntryError> {
     let mut entries = Vec::new(alloc);
     entries.push(domain(alloc, schema)?)?;
     entries.push(unit(alloc, schema)?)?;

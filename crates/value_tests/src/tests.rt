@@ -2,12 +2,12 @@
 // What must not be here: expected values that the program made.
 
 use crate::sample::{add, sample};
-use dir_entry::Entry;
+use dir_entry::{Entry, EntryError};
 use ldap_eval::{bind, value};
 use ldap_filter::Filter;
 use ldap_match::{Truth, named_oid};
 use ldap_schema::Schema;
-use ldap_syntax::{Family, Part, Rule, Syntax, ValueError, key_of, prepare};
+use ldap_syntax::ValueError;
 use std::alloc::{AllocError, Global};
 use std::test::*;
 
@@ -212,43 +212,12 @@ fn schema_by_name(rt: HostRuntime) -> Result<(), Fail> {
 }
 
 #[test]
-fn text_is_prepared(rt: HostRuntime) -> Result<(), Fail> {
-    let alloc = rt.alloc();
-    let text = prepare(alloc, b" An\t  Na\x00 ", Family::Ignore, Part::Whole)?;
-    assert_eq!(rt; text.as_slice(), b" an  na ".as_slice());
-    let blank = prepare(alloc, b"   ", Family::Ia5, Part::Whole)?;
-    assert_eq!(rt; blank.as_slice(), b"  ".as_slice());
-    let digits = prepare(alloc, b" 1 23 ", Family::Numeric, Part::Whole)?;
-    assert_eq!(rt; digits.as_slice(), b"123".as_slice());
-    Ok(())
-}
-
-#[test]
-fn numbers_stand_in_order(rt: HostRuntime) -> Result<(), Fail> {
-    let alloc = rt.alloc();
-    let rule = Rule {
-        family: Family::Integer,
-        syntax: Syntax::Integer,
-    };
-    let low = key_of(alloc, rule, b"-10")?;
-    let middle = key_of(alloc, rule, b"-3")?;
-    let high = key_of(alloc, rule, b"10")?;
-    let higher = key_of(alloc, rule, b"1234567890123456789012345678901234567890")?;
-    assert!(rt; low.as_octets() < middle.as_octets());
-    assert!(rt; middle.as_octets() < high.as_octets());
-    assert!(rt; high.as_octets() < higher.as_octets());
-    let refused = key_of(alloc, rule, b"-0").err();
-    assert_eq!(rt; refused, Some(ValueError::NotInSyntax));
-    Ok(())
-}
-
-#[test]
 fn a_value_outside_its_syntax_is_refused(rt: HostRuntime) -> Result<(), Fail> {
     let alloc = rt.alloc();
     let schema = Schema::built_in(alloc)?;
     let mut entry = Entry::new(alloc);
     let refused = add(alloc, &schema, &mut entry, "rank", &[b"1", b"one"]);
-    assert_eq!(rt; refused, Err(ValueError::NotInSyntax));
+    assert_eq!(rt; refused, Err(EntryError::InvalidAttributeSyntax));
     assert!(rt; entry.attributes().is_empty());
     let text = format!(in alloc; "{}", ValueError::NotInSyntax)?;
     assert_eq!(rt; text.as_str(), "E11: the value is not in the syntax");

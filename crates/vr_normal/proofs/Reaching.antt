@@ -4,18 +4,8 @@ use Rattle.std.proofs.Common.{◌≡◌, ◌≢◌, ℕ, ◌+◌, ◌<◌, ◌�
 use Rattle.std.proofs.lemmas.Bool.{lt-leb}
 use Rattle.vr_state.specs.Outcome.{count, tick, others}
 use Rattle.vr_state.specs.NormalCase.{reached}
-use Rattle.vr_normal.proofs.Others.{others_with, others_without}
-
--- a count goes on with one at the end
-count_end : (p : ℕ → Bool) (xs : List ℕ) (k : ℕ) → count p (xs ++ k ∷ []) ≡ tick (p k) (count p xs)
-count_end p [] k = refl
-count_end p (x ∷ xs) k = ap (tick (p x)) (count_end p xs k) ∙ go (p x) (p k)
-  where
-    go : (a b : Bool) → tick a (tick b (count p xs)) ≡ tick b (tick a (count p xs))
-    go true true = refl
-    go true false = refl
-    go false true = refl
-    go false false = refl
+use Rattle.vr_state.proofs.Noted.{count_end}
+use Rattle.vr_state.proofs.Others.{others_with, others_without}
 
 -- One more of the others passes.
 pub count_with : (p : ℕ → Bool) (i k n : ℕ) → n ≡ count p (others k i) → k ≢ i → p k ≡ true → n + 1 ≡ count p (others (k + 1) i)

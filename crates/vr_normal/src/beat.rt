@@ -4,11 +4,11 @@ ghost use Rattle.std.specs.Prelude.{◌≡◌, IfOk};
 ghost use Rattle.vr_normal.specs.Rules.{beat_at, prepare_again_at, tell_commit_at};
 ghost use Rattle.vr_state.specs.Views.{state, outcome, view_to_store};
 
-use crate::sending::{send_all, sending};
 use std::alloc::{AllocError, Global};
 use vr_state::message::{Outputs, PeerMessage, Send};
 use vr_state::payload::Payload;
 use vr_state::replica::Replica;
+use vr_state::sending::{send_all, sending};
 
 /// The beat of a normal primary: what isn't committed is prepared again, or the others hear how much is. Its only error is
 /// want of memory.

@@ -5,14 +5,15 @@ ghost use Rattle.std.specs.Prelude.{◌≡◌, length, IfOk, OnErr};
 ghost use Rattle.vr_normal.specs.Rules.{ask_if_short, on_commit_at};
 ghost use Rattle.vr_state.specs.Views.{state, outcome, view_to_store};
 
-use crate::sending::{send_one, sending};
-use crate::standing::{commit_to, follows, is_behind};
 use std::alloc::{AllocError, Global};
 use vr_state::message::{Outputs, PeerMessage, Send};
 use vr_state::payload::Payload;
 use vr_state::replica::Replica;
+use vr_state::sending::{send_one, sending};
+use vr_state::standing::{commit_to, follows, is_behind};
 
-/// What comes with a COMMIT of the replica with index `from`. At an error, which is want of memory, nothing has changed.
+/// What comes with a COMMIT of the replica with index `from`. At an error, which is want of memory, nothing has changed. It
+/// looks at no record.
 pub fn on_commit<P: Payload>(
     alloc: Global,
     replica: &mut Replica<P>,

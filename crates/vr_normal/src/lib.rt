@@ -8,8 +8,6 @@ pub mod commit;
 pub mod prepare;
 pub mod prepare_ok;
 pub mod request;
-pub mod sending;
-pub mod standing;
 
 pub use beat::beat_primary;
 pub use commit::on_commit;

@@ -6,16 +6,17 @@ ghost use Rattle.vr_normal.specs.Rules.{acknowledge_or_ask, on_prepare_at, taken
 ghost use Rattle.vr_state.specs.NormalCase.{take_in};
 ghost use Rattle.vr_state.specs.Views.{state, outcome, view_to_store};
 
-use crate::sending::{send_one, sending};
-use crate::standing::{commit_to, follows, is_behind};
 use std::alloc::{AllocError, Global};
 use vr_state::message::{Outputs, PeerMessage, Send};
 use vr_state::payload::Payload;
 use vr_state::replica::Replica;
+use vr_state::sending::{send_one, sending};
+use vr_state::standing::{commit_to, follows, is_behind};
 use vr_state::words::Entry;
 
 /// What comes with a PREPARE of the replica with index `from`, whose record stands at the place `op_number`. At an error,
-/// which is want of memory, nothing has changed.
+/// which is want of memory, nothing has changed. It costs one record at the end of the log and its note in the client table; no
+/// log is walked.
 pub fn on_prepare<P: Payload>(
     alloc: Global,
     replica: &mut Replica<P>,

@@ -3,20 +3,19 @@
 // No message to another replica is here.
 ghost use Rattle.std.specs.Prelude.{◌≡◌, IfOk, OnErr};
 ghost use Rattle.vr_normal.specs.Rules.{acknowledged_at, on_prepare_ok_at};
-ghost use Rattle.vr_state.specs.Outcome.{replies_between};
 ghost use Rattle.vr_state.specs.Views.{state, outcome, view_to_store};
 
 use crate::acknowledgements::{reached, with_acknowledgement};
-use crate::sending::sending;
-use crate::standing::leads;
 use std::alloc::{AllocError, Global};
-use vr_state::log::Log;
 use vr_state::message::Outputs;
 use vr_state::payload::Payload;
 use vr_state::replica::Replica;
-use vr_state::words::Reply;
+use vr_state::replies::replies_between;
+use vr_state::sending::sending;
+use vr_state::standing::leads;
 
-/// What comes with a PREPAREOK of the replica with index `from`. At an error, which is want of memory, nothing has changed.
+/// What comes with a PREPAREOK of the replica with index `from`. At an error, which is want of memory, nothing has changed. It
+/// costs the square of the number of replicas, and the records that it newly commits; no other record is looked at.
 pub fn on_prepare_ok<P: Payload>(
     alloc: Global,
     replica: &mut Replica<P>,
@@ -63,27 +62,4 @@ fn acknowledge<P: Payload>(
         sends: Vec::new(alloc),
         replies,
     })
-}
-
-/// Replies for the records after the place `after` up to the place `last`. Its only error is want of memory.
-pub fn replies_between<P: Payload>(
-    alloc: Global,
-    log: &Log<P>,
-    after: u64,
-    last: u64,
-) -> Result<Vec<Reply>, AllocError>
-    ensures { IfOk result (λ replies. replies.items ≡ replies_between after last log.now) }
-{
-    let records = log.as_slice();
-    let end = last.min(records.len() as u64);
-    let mut replies = Vec::new(alloc);
-    for before in after..end {
-        let entry = &records[before as usize];
-        replies.push(Reply {
-            client: entry.client,
-            request_number: entry.request_number,
-            op_number: before + 1,
-        })?;
-    }
-    Ok(replies)
 }

@@ -5,15 +5,16 @@ ghost use Rattle.std.specs.Prelude.{◌≡◌, [], IfOk, OnErr};
 ghost use Rattle.vr_normal.specs.Rules.{prepare_at, reply_again, request_at};
 ghost use Rattle.vr_state.specs.Views.{state, outcome, view_to_store};
 
-use crate::sending::{send_all, sending};
-use crate::standing::leads;
 use std::alloc::{AllocError, Global};
 use vr_state::message::{Outputs, PeerMessage};
 use vr_state::payload::Payload;
 use vr_state::replica::Replica;
+use vr_state::sending::{send_all, sending};
+use vr_state::standing::leads;
 use vr_state::words::{Entry, Reply};
 
-/// What comes with a client's request. At an error, which is want of memory, nothing has changed.
+/// What comes with a client's request. At an error, which is want of memory, nothing has changed. It costs a look-up in the
+/// client table, the logarithm of the number of clients, and a copy of the one record for each replica; no log is walked.
 pub fn on_request<P: Payload>(
     alloc: Global,
     replica: &mut Replica<P>,

@@ -8,3 +8,7 @@ pub mod Executed
 pub mod Keeps
 pub mod Steps
 pub mod StepPromises
+pub mod Others
+pub mod Between
+pub mod Stores
+pub mod Noted

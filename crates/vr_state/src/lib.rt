@@ -10,8 +10,12 @@ pub mod client_table;
 pub mod event;
 pub mod log;
 pub mod message;
+pub mod noting;
 pub mod payload;
 pub mod replica;
+pub mod replies;
+pub mod sending;
+pub mod standing;
 pub mod words;
 
 /// What each step keeps, whatever the other replicas do and whatever the replica's state was: a law on the definitions, so its

@@ -1,12 +1,12 @@
 // A replica: its state, the table beside its log, and who it is.
-// In: an index and a count, and records to append. Out: the first replica of a cluster, and its log with the table of it.
+// In: an index and a count, records, logs. Out: a replica at its start or after a crash, and its log with the table of it.
 // The steps stand in the crates above, and what each must do in specs/.
 ghost use Rattle.std.specs.Prelude.{◌≡◌, ◌<◌, length, IfOk, OnOk, OnErr};
 ghost use Rattle.vr_state.specs.ClientTable.{IsTableOf};
 
 use crate::client_table::ClientTable;
 use crate::log::Log;
-use crate::message::{Change, Response};
+use crate::message::{Change, Response, Snapshot};
 use crate::words::{Entry, Latest, Status};
 use std::alloc::{AllocError, Global};
 
@@ -41,9 +41,10 @@ pub struct Replica<P> {
 }
 
 impl<P: Drop> Replica<P> {
-    ghost use Rattle.vr_state.specs.State.{first};
+    ghost use Rattle.vr_state.specs.State.{first, recovering};
     ghost use Rattle.vr_state.specs.Views.{state};
     ghost use Rattle.vr_state.specs.NormalCase.{append};
+    ghost use Rattle.vr_state.specs.ViewChange.{adopt};
 
     /// The replica at the start of a cluster: normal in view 0, with nothing. Its only error is want of memory.
     pub fn first(alloc: Global, index: u64, count: u64) -> Result<Self, AllocError>
@@ -70,6 +71,38 @@ impl<P: Drop> Replica<P> {
         })
     }
 
+    /// The replica after a crash: recovering in its stored view with this nonce, and with nothing else. Its only error is want of
+    /// memory.
+    pub fn recovering(
+        alloc: Global,
+        index: u64,
+        count: u64,
+        view_number: u64,
+        nonce: u64,
+    ) -> Result<Self, AllocError>
+        requires { index < count }
+        ensures state { IfOk result (λ replica. state replica ≡ recovering count view_number nonce) }
+        ensures index { IfOk result (λ replica. replica.index ≡ index) }
+        ensures count { IfOk result (λ replica. replica.count ≡ count) }
+    {
+        let acknowledged = vec![in alloc; 0; count as usize]?;
+        Ok(Replica {
+            index,
+            count,
+            view_number,
+            status: Status::Recovering,
+            last_normal_view: 0,
+            log: Log::new(alloc),
+            commit_number: 0,
+            client_table: ClientTable::new(alloc),
+            acknowledged,
+            start_view_changes: Vec::new(alloc),
+            do_view_changes: Vec::new(alloc),
+            nonce,
+            responses: Vec::new(alloc),
+        })
+    }
+
     /// Appends a record and notes it in the client table. At an error nothing has changed.
     pub fn append(&mut self, entry: Entry<P>) -> Result<(), AllocError>
         ensures ok { OnOk result (state self.new ≡ append entry (state self.old)) }
@@ -90,5 +123,34 @@ impl<P: Drop> Replica<P> {
                 Err(error)
             }
         }
+    }
+
+    /// Is normal in this view with this log, and commits what is committed of it. The client table is made anew, by one walk
+    /// of the log, before anything changes. At an error nothing has changed.
+    pub fn adopt(
+        &mut self,
+        alloc: Global,
+        view_number: u64,
+        held: Snapshot<P>,
+    ) -> Result<(), AllocError>
+        ensures ok { OnOk result (state self.new ≡ adopt self.old.count view_number held (state self.old)) }
+        ensures err { OnErr result (state self.new ≡ state self.old) }
+        ensures index { self.new.index ≡ self.old.index }
+        ensures count { self.new.count ≡ self.old.count }
+    {
+        let Snapshot { log, commit_number } = held;
+        let client_table = ClientTable::of_log(alloc, &log)?;
+        let kept = log.len() as u64;
+        self.view_number = view_number;
+        self.status = Status::Normal;
+        self.last_normal_view = view_number;
+        self.log = log;
+        self.commit_number = self.commit_number.max(commit_number.min(kept));
+        self.client_table = client_table;
+        self.acknowledged.fill(0);
+        self.start_view_changes = Vec::new(alloc);
+        self.do_view_changes = Vec::new(alloc);
+        self.responses = Vec::new(alloc);
+        Ok(())
     }
 }

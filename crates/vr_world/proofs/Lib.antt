@@ -19,3 +19,8 @@ pub mod Theorems
 pub mod Replies
 pub mod StepsKeep
 pub mod Promises
+pub mod Places
+pub mod Deeds
+pub mod Telling
+pub mod Stepping
+pub mod Played

@@ -5,23 +5,13 @@ use Rattle.std.specs.List.{list_any}
 use Rattle.vr_state.specs.Outcome.{Outcome, to_all}
 use Rattle.vr_state.specs.State.{State, first, recovering}
 use Rattle.vr_state.specs.Step.{step}
-use Rattle.vr_state.specs.declared.message.PeerMessage.{PeerMessage}
 use Rattle.vr_state.specs.declared.message.Send.{Send}
 use Rattle.vr_state.specs.declared.words.Entry.{Entry}
 use Rattle.vr_state.specs.declared.words.Reply.{Reply}
 use Rattle.vr_state.specs.declared.event.Event.TheVariants as event
 use Rattle.vr_state.specs.declared.message.PeerMessage.TheVariants.{Recovery}
-
--- A message as the network has it: by whom, to whom, and what it says.
-pub record Message (P : Type 0) : Type 0 where
-  pub from : ℕ
-  pub to : ℕ
-  pub body : PeerMessage P
-
--- A reply to a client, and the replica that gave it.
-pub record ReplyBy : Type 0 where
-  pub replica : ℕ
-  pub reply : Reply
+pub use Rattle.vr_world.specs.declared.words.Message.{Message}
+pub use Rattle.vr_world.specs.declared.words.ReplyBy.{ReplyBy}
 
 -- The world: the replicas that are up, what outlives their crashes, and all that was ever sent or answered.
 pub record World (P : Type 0) : Type 0 where

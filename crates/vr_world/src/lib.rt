@@ -1,9 +1,23 @@
-//! Replicas under every schedule: what replication promises, whatever the network and crashes do.
-//! The definitions of a world and of what is committed are in `specs/`; here stands the law over them.
+//! Replicas under every schedule: what replication promises, whatever the network and crashes do, and a lab that plays
+//! schedules with real replicas. The definitions of a world, of what is committed and of what a lab shows are in `specs/`; here
+//! stands the law over them, and the lab whose replies it speaks of.
 #![tactic(auto)]
 
 ghost use Rattle.vr_world.specs.Law.{ChosenAgree, CommittedIsLongest, CommittedGrows, ReplicasAgree};
 ghost use Rattle.vr_world.specs.Law.{NumbersRise, RepliesAreCommitted, StepsKeep};
+
+mod acting;
+mod asking;
+mod cluster;
+pub mod events;
+pub mod lab;
+mod moving;
+mod placing;
+mod posting;
+mod returning;
+pub mod words;
+
+pub use lab::Lab;
 
 /// The law: for every odd number of replicas of at least three and every list of events (requests, deliveries of any message
 /// ever sent, suspicions, beats, crashes, recoveries) there is one list of committed records, which only grows. The payload

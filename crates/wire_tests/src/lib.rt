@@ -3,8 +3,16 @@
 #![tactic(auto)]
 
 #[cfg(test)]
+mod binds_and_adds;
+#[cfg(test)]
 mod elements;
 #[cfg(test)]
 mod filters;
 #[cfg(test)]
 mod messages;
+#[cfg(test)]
+mod operations;
+#[cfg(test)]
+mod streams;
+#[cfg(test)]
+mod updates;

@@ -133,7 +133,7 @@ fn parts_of_a_search(rt: HostRuntime) -> Result<(), Fail> {
     assert_eq!(rt; message.controls.len(), 0);
     let is_search = match &message.op {
         ProtocolOp::Request(Request::Search(search)) => is_the_search(search),
-        ProtocolOp::Response(_) => false,
+        _ => false,
     };
     assert!(rt; is_search);
     Ok(())

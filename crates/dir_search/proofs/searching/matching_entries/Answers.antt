@@ -3,7 +3,7 @@ use Rattle.std.proofs.Common.{◌≡◌, ◌+◌, ◌++◌, ◌∷◌, [], refl,
 use Rattle.std.proofs.lemmas.List.{map-append, length-map}
 use Rattle.ldap_filter.specs.View.{view as filter_view}
 use Rattle.ldap_msg.specs.Messages.{SearchResultEntryValue}
-use Rattle.ldap_msg.specs.declared.entry.SearchResultEntry.{SearchResultEntry}
+use Rattle.ldap_responses.specs.declared.entry.SearchResultEntry.{SearchResultEntry}
 use Rattle.ldap_msg.specs.View.{entry_view}
 use Rattle.dir_store.specs.Directory.{NamedEntry}
 use Rattle.dir_store.specs.Stored.{named}

@@ -13,3 +13,8 @@ pub returns-else-has_key-clause-value : goal.returns-else-has_key-clause-value
 returns-else-has_key-clause-value c = λ s asked t values h k.
     ap truth_of c.if-has_key.ensures ∙ sym (ap (λ (x : Test). test_value x c.args.keys.now) c.in-Equal.is) ∙ ap (λ (x : Test). test_value x c.args.keys.now) h
     ∙ c.tests_are_items.ensures s asked t values c.args.keys.now k
+
+pub returns-in-Unknown-clause-value : goal.returns-in-Unknown-clause-value
+returns-in-Unknown-clause-value c = λ s asked t values h k.
+    sym (ap (λ (x : Test). test_value x c.args.keys.now) c.in-Unknown.is) ∙ ap (λ (x : Test). test_value x c.args.keys.now) h
+    ∙ c.tests_are_items.ensures s asked t values c.args.keys.now k

@@ -1,7 +1,8 @@
 -- Wire, messages: the goals of `message_of` that no tactic closes, each by one lemma over plain lists.
 use Rattle.std.proofs.lemmas.Result.{err_from_is_err_and}
 use Rattle.ldap_msg.specs.View.{operation_view}
-use Rattle.ldap_msg.proofs.Exits.{limit_weaker, from_plain, content_operation, content_at, content_id, content_controls}
+use Rattle.ldap_requests.proofs.Exits.{limit_weaker, from_plain}
+use Rattle.ldap_msg.proofs.Exits.{content_operation, content_at, content_id, content_controls}
 use Rattle.ldap_msg.proofs.decoding.message_of.Goals as goal
 
 pub returns-in_err-op-clause-fault : goal.returns-in_err-op-clause-fault

@@ -1,6 +1,7 @@
 -- Wire, messages: the goals of `operation_field` that no tactic closes, each by one lemma over plain lists.
 use Rattle.std.proofs.lemmas.Result.{err_from_is_err_and}
-use Rattle.ldap_msg.proofs.Exits.{limit_weaker, operation_inside, operation_at}
+use Rattle.ldap_requests.proofs.Exits.{limit_weaker}
+use Rattle.ldap_msg.proofs.Exits.{operation_inside, operation_at}
 use Rattle.ldap_msg.proofs.decoding.operation_field.Goals as goal
 
 pub returns-in_err-op-clause-fault : goal.returns-in_err-op-clause-fault

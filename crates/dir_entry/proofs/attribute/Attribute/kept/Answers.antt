@@ -1,0 +1,11 @@
+use Rattle.std.proofs.Common.{ℕ, Vec, Global, List, map, ap, sym, ◌∙◌, ◌≡◌}
+use Rattle.dir_entry.specs.Entry.{KeyedAttribute}
+use Rattle.dir_entry.specs.Compared.{picked}
+use Rattle.dir_entry.proofs.Picked.{map_picked}
+use Rattle.dir_entry.proofs.attribute.Attribute.kept.Goals as goal
+
+pub returns-clause-values : goal.returns-clause-values
+returns-clause-values c =
+    ap (map (λ (v : Vec ℕ Global). v.items)) c.in_ok-values.ensures
+    ∙ map_picked (λ (v : Vec ℕ Global). v.items) c.args.marks.now c.self.inside.values.items
+    ∙ ap (λ (a : KeyedAttribute). picked c.args.marks.now a.values) c.self.view_is

@@ -1,0 +1,5 @@
+pub mod Sample
+pub mod Lines
+pub mod Ended
+pub mod Begun
+pub mod Status

@@ -1,0 +1,6 @@
+pub mod Keys
+pub mod Fronts
+pub mod Spelled
+pub mod Parted
+pub mod NameTexts
+pub mod Rising

@@ -1,0 +1,5 @@
+use Rattle.ldap_dn.proofs.Parted.{parts_parted}
+use Rattle.ldap_dn.proofs.cutting.pieces_are_parted.Goals as goal
+
+pub returns : goal.returns
+returns c = parts_parted

@@ -1,0 +1,5 @@
+use Rattle.ldap_dn.proofs.NameTexts.{names_of_texts}
+use Rattle.ldap_dn.proofs.name.names_are_of_texts.Goals as goal
+
+pub returns : goal.returns
+returns c = names_of_texts

@@ -1,0 +1,20 @@
+//! Names: texts and a schema flow in; names that compare by their relative names flow out, and their one printed form.
+//! Entries, and where they stand, are not here.
+#![tactic(auto)]
+
+mod comparing;
+mod cutting;
+mod fault;
+mod name;
+mod printing;
+mod rdn;
+mod reading;
+mod scanning;
+mod token;
+
+pub use cutting::pieces_are_parted;
+pub use fault::NameError;
+pub use name::{Name, names_are_of_texts};
+pub use rdn::{Rdn, TypeAndKey, TypeAndValue, keys_are_rising};
+pub use scanning::tokens_are_spelled;
+pub use token::Token;

@@ -1,0 +1,185 @@
+// Names printed. Relative names and a schema flow in, their one text flows out.
+// What must not be here: keys, how texts are read.
+
+ghost use Rattle.std.specs.Prelude.{◌≡◌, ◌++◌, chars, true, map, reverse, flat_map, ◌∷◌, string_bytes, IfOk, OnOk};
+ghost use Rattle.ldap_schema.specs.Schema.{first_name_of};
+ghost use Rattle.ldap_dn.specs.Printed as printed;
+
+use crate::rdn::{Rdn, TypeAndValue};
+use ldap_schema::{AttributeType, Schema, TypeId};
+use std::alloc::{AllocError, Global};
+
+/// Whether the character is escaped wherever it stands.
+fn is_special(c: char) -> bool
+    ensures { result ≡ printed.is_special c }
+{
+    c == '"' || c == '+' || c == ',' || c == ';' || c == '<' || c == '>' || c == '\\'
+}
+
+/// Whether the character is escaped, as the first, the last or any one of its value.
+fn is_escaped(is_first: bool, is_last: bool, c: char) -> bool
+    ensures { result ≡ printed.is_escaped is_first is_last c }
+{
+    is_special(c) || (is_first && (c == ' ' || c == '#')) || (is_last && c == ' ')
+}
+
+/// Puts a character, behind a backslash where it is escaped.
+fn put_character(out: &mut String, escaped: bool, c: char) -> Result<(), AllocError>
+    ensures { OnOk result (string_bytes out.new ≡ string_bytes out.old ++ printed.printed_character escaped c) }
+{
+    if c == '\0' {
+        return out.push_str("\\00");
+    }
+    if escaped {
+        out.push('\\')?;
+    }
+    out.push(c)
+}
+
+/// Puts the characters of a value.
+fn put_characters(out: &mut String, characters: &[char]) -> Result<(), AllocError>
+    ensures { OnOk result (string_bytes out.new ≡ string_bytes out.old ++ printed.printed_from true characters.now) }
+{
+    let mut is_first = true;
+    let mut left = characters.len();
+    for c in characters {
+        left -= 1;
+        put_character(out, is_escaped(is_first, left == 0, *c), *c)?;
+        is_first = false;
+    }
+    Ok(())
+}
+
+/// The characters of a text.
+fn characters(alloc: Global, text: &str) -> Result<Vec<char>, AllocError>
+    ensures { IfOk result (λ v. v.items ≡ chars text.now) }
+{
+    text.chars().collect(alloc)
+}
+
+/// Puts a value.
+fn put_value(alloc: Global, out: &mut String, value: &str) -> Result<(), AllocError>
+    ensures { OnOk result (string_bytes out.new ≡ string_bytes out.old ++ printed.printed_value value.now) }
+{
+    let characters = characters(alloc, value)?;
+    put_characters(out, characters.as_slice())
+}
+
+/// The first name of a type, or its object identifier.
+fn first_name(attribute_type: &AttributeType) -> &str
+    ensures { result.now ≡ first_name_of attribute_type.now.oid attribute_type.now.names }
+{
+    match attribute_type.names().first() {
+        Some(name) => name.as_str(),
+        None => attribute_type.oid(),
+    }
+}
+
+/// The first name of the type of a number.
+fn type_name(schema: &Schema, type_id: TypeId) -> &str
+    ensures { result.now ≡ printed.type_name schema.now type_id }
+{
+    match schema.attribute_type(type_id) {
+        Some(attribute_type) => first_name(attribute_type),
+        None => "",
+    }
+}
+
+/// Puts a type and a value.
+fn put_type_and_value(
+    alloc: Global,
+    out: &mut String,
+    schema: &Schema,
+    one: &TypeAndValue,
+) -> Result<(), AllocError>
+    ensures { OnOk result (string_bytes out.new ≡ string_bytes out.old ++ printed.printed_type_and_value schema.now one.now) }
+{
+    out.push_str(type_name(schema, one.type_id))?;
+    out.push('=')?;
+    put_value(alloc, out, one.value.as_str())
+}
+
+/// Puts types and values, each behind a `+`.
+fn put_more(
+    alloc: Global,
+    out: &mut String,
+    schema: &Schema,
+    list: &[TypeAndValue],
+) -> Result<(), AllocError>
+    ensures { OnOk result (string_bytes out.new ≡ string_bytes out.old ++ flat_map (λ y. 43 ∷ y) (map (printed.printed_type_and_value schema.now) list.now)) }
+{
+    for one in list {
+        out.push('+')?;
+        put_type_and_value(alloc, out, schema, one)?;
+    }
+    Ok(())
+}
+
+/// Puts types and values with a `+` between them.
+fn put_rdn(
+    alloc: Global,
+    out: &mut String,
+    schema: &Schema,
+    list: &[TypeAndValue],
+) -> Result<(), AllocError>
+    ensures { OnOk result (string_bytes out.new ≡ string_bytes out.old ++ printed.printed_rdn schema.now list.now) }
+{
+    match list.split_first() {
+        Some((first, more)) => {
+            put_type_and_value(alloc, out, schema, first)?;
+            put_more(alloc, out, schema, more)
+        }
+        None => Ok(()),
+    }
+}
+
+/// Puts relative names, each behind a `,`.
+fn put_more_rdns(
+    alloc: Global,
+    out: &mut String,
+    schema: &Schema,
+    rdns: &[&Rdn],
+) -> Result<(), AllocError>
+    ensures { OnOk result (string_bytes out.new ≡ string_bytes out.old ++ flat_map (λ y. 44 ∷ y) (map (λ r. printed.printed_rdn schema.now r.spelling) (map (λ r. r.now) rdns.now))) }
+{
+    for rdn in rdns {
+        out.push(',')?;
+        put_rdn(alloc, out, schema, rdn.types_and_values())?;
+    }
+    Ok(())
+}
+
+/// Puts relative names with a `,` between them.
+fn put_rdns(
+    alloc: Global,
+    out: &mut String,
+    schema: &Schema,
+    rdns: &[&Rdn],
+) -> Result<(), AllocError>
+    ensures { OnOk result (string_bytes out.new ≡ string_bytes out.old ++ printed.separated 44 (map (λ r. printed.printed_rdn schema.now r.spelling) (map (λ r. r.now) rdns.now))) }
+{
+    match rdns.split_first() {
+        Some((first, more)) => {
+            put_rdn(alloc, out, schema, first.types_and_values())?;
+            put_more_rdns(alloc, out, schema, more)
+        }
+        None => Ok(()),
+    }
+}
+
+/// The relative names, the last one first.
+fn leaf_first(alloc: Global, rdns: &[Rdn]) -> Result<Vec<&Rdn>, AllocError>
+    ensures { IfOk result (λ v. map (λ r. r.now) v.items ≡ reverse rdns.now) }
+{
+    rdns.iter().rev().collect(alloc)
+}
+
+/// The printed form of relative names, the root's first.
+pub fn print(alloc: Global, schema: &Schema, rdns: &[Rdn]) -> Result<String, AllocError>
+    ensures { IfOk result (λ t. string_bytes t ≡ printed.printed_name schema.now rdns.now) }
+{
+    let order = leaf_first(alloc, rdns)?;
+    let mut out = String::new(alloc);
+    put_rdns(alloc, &mut out, schema, order.as_slice())?;
+    Ok(out)
+}

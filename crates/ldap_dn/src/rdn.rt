@@ -1,0 +1,87 @@
+// Relative names. Types, values and keys flow in; they, and a comparison, flow out.
+// What must not be here: texts, whole names.
+
+ghost use Rattle.std.specs.Prelude.{◌≡◌};
+ghost use Rattle.ldap_dn.specs.Rising.{KeysAreRising};
+
+use ldap_schema::TypeId;
+use ldap_syntax::Key;
+use std::marker::Model;
+
+/// A type and a value of it, as it was written in a name (RFC 4512 2.3.1).
+#[derive(Drop)]
+pub struct TypeAndValue {
+    pub(crate) type_id: TypeId,
+    pub(crate) value: String,
+}
+
+impl Model for TypeAndValue {
+    ghost use Rattle.std.specs.Prelude.{string_bytes};
+    ghost use Rattle.ldap_dn.specs.Names as names;
+
+    ghost Value = { names.TypeAndValue };
+
+    ghost view = { λ t. record { kind = t.type_id; value = string_bytes t.value } };
+}
+
+impl TypeAndValue {
+    /// The type.
+    pub fn type_id(&self) -> TypeId
+        ensures { result ≡ self.now.kind }
+    {
+        self.type_id
+    }
+
+    /// The value.
+    pub fn value(&self) -> &str
+        ensures { result.now ≡ self.now.value }
+    {
+        self.value.as_str()
+    }
+}
+
+/// A type, and the key of a value of it under the type's EQUALITY rule.
+#[derive(Drop)]
+pub struct TypeAndKey {
+    pub(crate) type_id: TypeId,
+    pub(crate) key: Key,
+}
+
+impl Model for TypeAndKey {
+    ghost use Rattle.ldap_dn.specs.Names as names;
+
+    ghost Value = { names.TypeAndKey };
+
+    ghost view = { λ t. record { kind = t.type_id; key = t.key } };
+}
+
+/// A relative name (RFC 4512 2.3.1).
+#[derive(Drop)]
+pub struct Rdn {
+    /// In rising order of type, each type once.
+    pub(crate) keys: Vec<TypeAndKey>,
+    /// In the order written.
+    pub(crate) spelling: Vec<TypeAndValue>,
+}
+
+impl Model for Rdn {
+    ghost use Rattle.ldap_dn.specs.Names.{RdnModel};
+
+    ghost Value = { RdnModel };
+
+    ghost view = { λ r. record { keys = r.keys.items; spelling = r.spelling.items } };
+}
+
+impl Rdn {
+    /// Its types and values in the order written.
+    pub fn types_and_values(&self) -> &[TypeAndValue]
+        ensures { result.now ≡ self.now.spelling }
+    {
+        self.spelling.as_slice()
+    }
+}
+
+/// The types with their keys of a relative name that is read stand in rising order, each type once: they are a set.
+pub fn keys_are_rising()
+    ensures { KeysAreRising }
+{}

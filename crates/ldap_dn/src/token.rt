@@ -1,0 +1,27 @@
+// One octet of a name's text. An octet, plain or escaped, flows in; what it is flows out.
+// What must not be here: texts, types, values.
+
+/// An octet of a name's text, as it stands there or spelled by an escape (RFC 4514 3).
+#[derive(Clone, Copy, Debug, PartialEq, Eq)]
+pub enum Token {
+    Plain(u8),
+    Escaped(u8),
+}
+
+/// Where a reader of octets stands between tokens, or inside one.
+#[derive(Clone, Copy, Debug, PartialEq, Eq)]
+pub enum Scan {
+    Between,
+    /// Behind a backslash.
+    Escape,
+    /// Behind a backslash and this octet, which is to be a hexadecimal digit.
+    Half(u8),
+}
+
+/// What the next octet does to a reader.
+#[derive(Clone, Copy, Debug, PartialEq, Eq)]
+pub enum Step {
+    Refuses,
+    Reads(Scan),
+    Gives(Token),
+}

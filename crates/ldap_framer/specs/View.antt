@@ -1,0 +1,10 @@
+-- Wire, streams: the value that a framer stands for.
+-- In: a framer. Out: what it holds. Not here: memory.
+use Rattle.std.specs.Prelude.{map}
+use Rattle.ldap_msg.specs.View.{view}
+use Rattle.ldap_framer.specs.Framed.{Framed}
+use Rattle.ldap_framer.specs.declared.framer.Framer.{Framer}
+
+-- the messages that wait, the octets behind them, the fault
+abbrev pub framed : Framer → Framed
+framed f = record { ready = map view f.ready.items; rest = f.buffer.items; fault = f.fault }

@@ -1,0 +1,120 @@
+//! Wire, streams: a framer, which takes a stream in pieces.
+//! In: pieces of a stream. Out: its messages, one after the other, or the fault where it stops.
+//! Not here: sockets, what a message asks for.
+
+ghost use Rattle.std.specs.Prelude.{◌≡◌, ◌⊎◌, ℕ, List, [], ◌∷◌, ◌++◌, OnOk, IfErr, IfSome, IfNone, None};
+ghost use Rattle.std.specs.Bool.{OnTrue, OnFalse};
+ghost use Rattle.ldap_msg.specs.Messages.{MessageValue};
+ghost use Rattle.ldap_msg.specs.View.{view};
+ghost use Rattle.ldap_framer.specs.Framed.{HasSeen, Takes, IsFeedFault};
+ghost use Rattle.ldap_framer.specs.View.{framed};
+ghost use Rattle.ldap_framer.specs.declared.fault.FrameFault.{FrameFault};
+
+use crate::cutting::cut;
+use crate::fault::FrameFault;
+use bytes::BytesMut;
+use ldap_msg::{Message, MsgFault};
+use std::alloc::Global;
+use std::collections::VecDeque;
+
+/// Cuts a stream into messages. A piece costs what its octets and its whole messages cost: what is
+/// left of a message is kept where it lies, and looked at again in its first six octets alone.
+#[derive(Drop)]
+pub struct Framer {
+    alloc: Global,
+    buffer: BytesMut,
+    ready: VecDeque<Message>,
+    fault: Option<MsgFault>,
+}
+
+impl Framer {
+    /// A framer that has seen nothing.
+    pub fn new(alloc: Global) -> Framer
+        ensures ready { (framed result).ready ≡ [] }
+        ensures rest { (framed result).rest ≡ [] }
+        ensures fault { (framed result).fault ≡ None }
+        ensures stream { HasSeen (framed result) [] [] }
+    {
+        Framer {
+            alloc,
+            buffer: BytesMut::new(alloc),
+            ready: VecDeque::new(alloc),
+            fault: None,
+        }
+    }
+
+    /// Takes the next piece of the stream. E7 to E10 where the stream stops, after which each call is
+    /// Failed; the messages before are still handed out. Want of memory changes nothing.
+    pub fn feed(&mut self, piece: &[u8]) -> Result<(), FrameFault>
+        // The messages of the piece behind what was left join those that wait.
+        ensures ok { OnOk result (Takes (framed self.old) piece.now (framed self.new)) }
+        ensures awaits { OnOk result ((framed self.new).fault ≡ None) }
+        // Which fault it is, and what it leaves.
+        ensures fault { IfErr result (λ e. IsFeedFault e (framed self.old) piece.now (framed self.new)) }
+        // However the stream was cut: with those that wait, the messages handed out are those of the whole stream so far.
+        ensures stream { (stream : List ℕ) (handed : List MessageValue)
+            → HasSeen (framed self.old) stream handed
+            → OnOk result (HasSeen (framed self.new) (stream ++ piece.now) handed) }
+        ensures stopped { (stream : List ℕ) (handed : List MessageValue)
+            → HasSeen (framed self.old) stream handed → IfErr result (λ e. (e ≡ FrameFault.NoMemory)
+            ⊎ HasSeen (framed self.new) (stream ++ piece.now) handed) }
+    {
+        self.take(piece)
+    }
+
+    /// The same, by what the piece makes of what was left.
+    fn take(&mut self, piece: &[u8]) -> Result<(), FrameFault>
+        ensures ok { OnOk result (Takes (framed self.old) piece.now (framed self.new)) }
+        ensures awaits { OnOk result ((framed self.new).fault ≡ None) }
+        ensures fault { IfErr result (λ e. IsFeedFault e (framed self.old) piece.now (framed self.new)) }
+    {
+        if self.fault.is_some() {
+            return Err(FrameFault::Failed);
+        }
+        let before = self.buffer.len();
+        self.buffer.extend_from_slice(piece)?;
+        match cut(self.alloc, self.buffer.as_slice()) {
+            Ok(mut cut) => {
+                if self.ready.append(&mut cut.messages).is_err() {
+                    self.buffer.truncate(before);
+                    return Err(FrameFault::NoMemory);
+                }
+                match cut.fault {
+                    None => {
+                        self.buffer.advance(cut.taken);
+                        Ok(())
+                    }
+                    Some(fault) => {
+                        self.fault = Some(fault);
+                        Err(FrameFault::Refused(fault))
+                    }
+                }
+            }
+            Err(_) => {
+                self.buffer.truncate(before);
+                Err(FrameFault::NoMemory)
+            }
+        }
+    }
+
+    /// The next message, taken out. It takes no memory.
+    pub fn next(&mut self) -> Option<Message>
+        ensures some { IfSome result (λ m. (framed self.old).ready ≡ view m ∷ (framed self.new).ready) }
+        ensures none { IfNone result (((framed self.old).ready ≡ []) × ((framed self.new).ready ≡ [])) }
+        ensures rest { (framed self.new).rest ≡ (framed self.old).rest }
+        ensures fault { (framed self.new).fault ≡ (framed self.old).fault }
+        ensures stream { (stream : List ℕ) (handed : List MessageValue)
+            → HasSeen (framed self.old) stream handed
+            → IfSome result (λ m. HasSeen (framed self.new) stream (handed ++ view m ∷ [])) }
+    {
+        self.ready.pop_front()
+    }
+
+    /// Whether octets are left that begin a message and are not a whole one.
+    pub fn holds_part(&self) -> bool
+        ensures yes { OnTrue result (((framed self.now).fault ≡ None) × ((framed self.now).rest ≡ [] → ⊥)) }
+        ensures no { OnFalse result (((framed self.now).fault ≡ None) → (framed self.now).rest ≡ []) }
+    {
+        self.fault.is_none() && !self.buffer.is_empty()
+    }
+}

@@ -1,9 +1,0 @@
--- Wire, messages: what the loops of `put_attributes` keep, and what grows less.
-use Rattle.std.proofs.Common.{◌≡◌, ◌++◌, take, map}
-use Rattle.ldap_fields.specs.Rows.{row_bytes}
-use Rattle.ldap_msg.specs.View.{attribute_view}
-use Rattle.ldap_msg.specs.Written.{attribute_bytes}
-use Rattle.ldap_msg.proofs.encoding_entry.put_attributes.Given as goal
-
-abbrev pub invariant-loop-attribute : goal.invariant-loop-attribute
-invariant-loop-attribute l = l.out.items ≡ l.initial.out.items ++ row_bytes attribute_bytes (map attribute_view (take l.attribute-index l.attributes))

@@ -1,0 +1,10 @@
+-- Wire, parts of messages: the goals of `controls_of` that no tactic closes, each by one lemma over plain lists.
+use Rattle.std.proofs.lemmas.Result.{err_from_is_err_and}
+use Rattle.ldap_fields.proofs.Same.{plain_weaker}
+use Rattle.ldap_parts.proofs.Exits.{controls_end}
+use Rattle.ldap_parts.proofs.decoding_control.controls_of.Goals as goal
+
+pub returns-in_err-elements-clause-fault : goal.returns-in_err-elements-clause-fault
+returns-in_err-elements-clause-fault c =
+    let p = err_from_is_err_and c.from_residual-in_err-elements.result c.from_residual-in_err-elements.ensures.1 in
+    rw (p.1, p.2) (plain_weaker c.in_err-elements.field-0.0 _ _ (controls_end c.args.octets.now c.in_ok-controls.rest.now _ c.in_ok-controls.ensures.found) c.in_err-elements.ensures.fault)

@@ -1,0 +1,24 @@
+//! Wire, parts of messages: what several operations share: results, attributes, controls.
+//! In: octets, or a part. Out: the part and the octets after it, or a named fault; or its one spelling.
+//! Not here: which operation has which part, filters, the envelope.
+#![tactic(auto)]
+
+mod attribute;
+mod control;
+mod decoding_attribute;
+mod decoding_control;
+mod decoding_result;
+mod encoding_attribute;
+mod encoding_control;
+mod encoding_result;
+mod result;
+
+pub use attribute::{Attribute, PartialAttribute};
+pub use control::Control;
+pub use decoding_attribute::{attribute_field, attribute_of, attributes_field};
+pub use decoding_control::controls_of;
+pub use decoding_result::{result_field, result_of};
+pub use encoding_attribute::{attribute_content, put_attributes};
+pub use encoding_control::put_controls;
+pub use encoding_result::result_content;
+pub use result::{LdapResult, ResultCode};

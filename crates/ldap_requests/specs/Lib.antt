@@ -1,0 +1,5 @@
+pub mod Values
+pub mod View
+pub mod Grammar
+pub mod Written
+pub mod Limits

@@ -1,0 +1,27 @@
+//! Wire, requests: a bind.
+//! In: nothing. Out: the types. Not here: octets, who may bind.
+
+/// BindRequest (RFC 4511 4.2).
+#[derive(Debug, Drop)]
+pub struct BindRequest {
+    /// Any integer that eight octets hold, so that a version other than 3 can be answered.
+    pub version: i64,
+    /// name, a name as text; empty for an anonymous bind.
+    pub name: String,
+    pub authentication: AuthenticationChoice,
+}
+
+/// AuthenticationChoice (RFC 4511 4.2).
+#[derive(Debug, Drop)]
+pub enum AuthenticationChoice {
+    /// A password.
+    Simple(Vec<u8>),
+    Sasl(SaslCredentials),
+}
+
+/// SaslCredentials (RFC 4511 4.2).
+#[derive(Debug, Drop)]
+pub struct SaslCredentials {
+    pub mechanism: String,
+    pub credentials: Option<Vec<u8>>,
+}

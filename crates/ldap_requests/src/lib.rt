@@ -1,0 +1,30 @@
+//! Wire, requests: what a client asks for beside updates.
+//! In: the content of an operation, or a request. Out: the request, or a named fault; or its one content.
+//! Not here: updates, the envelope, what a request is answered.
+#![tactic(auto)]
+
+mod bind;
+mod compare;
+mod decoding_bind;
+mod decoding_compare;
+mod decoding_extended;
+mod decoding_search;
+mod encoding_bind;
+mod encoding_compare;
+mod encoding_extended;
+mod encoding_search;
+mod extended;
+mod search;
+
+pub use bind::{AuthenticationChoice, BindRequest, SaslCredentials};
+pub use compare::{AttributeValueAssertion, CompareRequest};
+pub use decoding_bind::bind_of;
+pub use decoding_compare::compare_of;
+pub use decoding_extended::{abandon_of, extended_request_of, unbind_of};
+pub use decoding_search::search_of;
+pub use encoding_bind::bind_content;
+pub use encoding_compare::compare_content;
+pub use encoding_extended::{abandon_content, extended_request_content};
+pub use encoding_search::search_content;
+pub use extended::ExtendedRequest;
+pub use search::{DerefAliases, Scope, SearchRequest};

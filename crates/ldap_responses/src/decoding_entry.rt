@@ -1,0 +1,28 @@
+//! Wire, responses: reading an entry that a search found.
+//! In: the content of its element. Out: the entry, or a fault. Not here: the envelope.
+
+ghost use Rattle.std.specs.Prelude.{IfOk, IfErr};
+ghost use Rattle.ldap_fields.specs.Faults.{IsPlainFault};
+ghost use Rattle.ldap_responses.specs.Values.{SearchResultEntryValue};
+ghost use Rattle.ldap_responses.specs.View.{entry_view};
+ghost use Rattle.ldap_responses.specs.Grammar.{IsSearchResultEntry};
+
+use crate::entry::SearchResultEntry;
+use ldap_fields::{MsgFault, elements, text_field};
+use ldap_parts::attributes_field;
+use std::alloc::Global;
+
+/// The entry whose content this is.
+pub fn entry_of(alloc: Global, content: &[u8]) -> Result<SearchResultEntry, MsgFault>
+    ensures found { IfOk result (λ e. IsSearchResultEntry (entry_view e) content.now) }
+    ensures fault { IfErr result (λ e. IsPlainFault e ((v : SearchResultEntryValue)
+        × IsSearchResultEntry v content.now)) }
+{
+    let (object_name, rest) = text_field(alloc, 0x04, content)?;
+    let (attributes, rest) = attributes_field(alloc, rest)?;
+    elements(rest)?;
+    Ok(SearchResultEntry {
+        object_name,
+        attributes,
+    })
+}

@@ -1,0 +1,24 @@
+//! Wire, responses: writing an extended response.
+//! In: a response. Out: the content of its element. Not here: the envelope.
+
+ghost use Rattle.std.specs.Prelude.{◌≡◌, ◌^◌, ◌≤◌, length, IfOk, IsErrOf};
+ghost use Rattle.ldap_responses.specs.View.{extended_view};
+ghost use Rattle.ldap_responses.specs.Written.{extended_content};
+
+use crate::extended::ExtendedResponse;
+use ldap_ber::WriteError;
+use ldap_fields::{put_optional_octets, put_optional_text};
+use ldap_parts::result_content;
+use std::alloc::Global;
+
+/// The content of an extended response.
+pub fn extended_content(alloc: Global, extended: &ExtendedResponse) -> Result<Vec<u8>, WriteError>
+    ensures ok { IfOk result (λ v. v.items ≡ extended_content (extended_view extended.now)) }
+    ensures too_long { IsErrOf result WriteError.TooLong
+        → 2 ^ 32 ≤ length (extended_content (extended_view extended.now)) }
+{
+    let mut content = result_content(alloc, &extended.result)?;
+    put_optional_text(0x8a, &extended.response_name, &mut content)?;
+    put_optional_octets(0x8b, &extended.response_value, &mut content)?;
+    Ok(content)
+}

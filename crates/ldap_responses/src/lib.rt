@@ -1,0 +1,18 @@
+//! Wire, responses: what a server sends beside plain results.
+//! In: the content of an operation, or a response. Out: the response, or a named fault; or its one content.
+//! Not here: the envelope, what a response answers.
+#![tactic(auto)]
+
+mod decoding_entry;
+mod decoding_extended;
+mod encoding_entry;
+mod encoding_extended;
+mod entry;
+mod extended;
+
+pub use decoding_entry::entry_of;
+pub use decoding_extended::extended_of;
+pub use encoding_entry::entry_content;
+pub use encoding_extended::extended_content;
+pub use entry::SearchResultEntry;
+pub use extended::ExtendedResponse;

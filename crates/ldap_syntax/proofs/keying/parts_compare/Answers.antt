@@ -1,0 +1,5 @@
+use Rattle.ldap_syntax.proofs.Compare.{parts_stand}
+use Rattle.ldap_syntax.proofs.keying.parts_compare.Goals as goal
+
+pub returns : goal.returns
+returns c = parts_stand

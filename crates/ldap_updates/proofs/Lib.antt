@@ -1,0 +1,5 @@
+pub mod Unique
+pub mod Exits
+pub mod Spelled
+pub mod Modifies
+pub mod Names

@@ -1,0 +1,13 @@
+//! Wire, updates: an add.
+//! In: nothing. Out: the type. Not here: octets, what an add does.
+
+use ldap_parts::Attribute;
+
+/// AddRequest (RFC 4511 4.7).
+#[derive(Debug, Drop)]
+pub struct AddRequest {
+    /// entry, a name as text.
+    pub entry: String,
+    /// Each has a value at least.
+    pub attributes: Vec<Attribute>,
+}

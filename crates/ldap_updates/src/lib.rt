@@ -1,0 +1,24 @@
+//! Wire, updates: the operations that change the directory.
+//! In: the content of an operation, or an update. Out: the update, or a named fault; or its one content.
+//! Not here: the envelope, what an update does.
+#![tactic(auto)]
+
+mod add;
+mod decoding_add;
+mod decoding_modify;
+mod decoding_name;
+mod encoding_add;
+mod encoding_modify;
+mod encoding_name;
+mod modify;
+mod modify_dn;
+
+pub use add::AddRequest;
+pub use decoding_add::add_of;
+pub use decoding_modify::modify_of;
+pub use decoding_name::{delete_of, modify_dn_of};
+pub use encoding_add::add_content;
+pub use encoding_modify::modify_content;
+pub use encoding_name::{delete_content, modify_dn_content};
+pub use modify::{Change, ModifyOperation, ModifyRequest};
+pub use modify_dn::ModifyDnRequest;

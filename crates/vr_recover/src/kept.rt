@@ -1,0 +1,18 @@
+// What keeping a response has changed.
+// In: the list of responses before. Out: what it takes to have it back. No rule of the protocol is here.
+
+use vr_state::message::Response;
+
+/// What was changed as a response was kept.
+#[derive(Drop)]
+pub enum Kept<P> {
+    /// The sender's earlier response stays.
+    Nothing,
+    /// It stands at the end.
+    Added,
+    /// It has taken this place from an earlier one.
+    Changed {
+        place: usize,
+        old: (u64, Response<P>),
+    },
+}

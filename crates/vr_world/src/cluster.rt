@@ -1,0 +1,30 @@
+// A cluster: real replicas, what outlives their crashes, and all messages that were ever sent.
+// In: steps of replicas. Out: the cluster after them, and what is shown. Which event leads to which step stands in `lab`.
+// Nothing is ever taken out of the network: a loss is a message that is never delivered.
+ghost use Rattle.std.specs.Prelude.{◌≡◌, length, slice_index};
+ghost use Rattle.vr_world.specs.Placed.{ArePlaced};
+
+use crate::events::LabReply;
+use crate::words::Message;
+use vr_state::replica::Replica;
+
+/// Replicas by index, and the network between them.
+#[derive(Drop)]
+pub struct Cluster<P> {
+    /// How many replicas there are.
+    pub count: u64,
+    /// The replicas that are up.
+    pub up: Vec<Option<Replica<P>>>,
+    /// The views that outlive a crash.
+    pub stored: Vec<u64>,
+    /// The nonces that each replica has used.
+    pub nonces: Vec<Vec<u64>>,
+    /// Each message that was ever sent, the oldest first.
+    pub messages: Vec<Message<P>>,
+    /// What was shown so far.
+    pub shown: Vec<LabReply>,
+    ghost all_up: { length up.items ≡ count },
+    ghost all_stored: { length stored.items ≡ count },
+    ghost all_nonces: { length nonces.items ≡ count },
+    ghost placed: { ArePlaced count up.items stored.items },
+}
