@@ -6,3 +6,5 @@ pub mod Grammar
 pub mod Parted
 pub mod NameTexts
 pub mod Rising
+pub mod Ordered
+pub mod OrderLaws

@@ -8,14 +8,14 @@ ghost use Rattle.ldap_dn.specs.Names.{are_same_keys as are_same_types_and_keys, 
 use crate::rdn::{Rdn, TypeAndKey};
 
 /// Whether the types and the keys are the same.
-fn is_same_key(a: &TypeAndKey, b: &TypeAndKey) -> bool
+pub fn is_same_key(a: &TypeAndKey, b: &TypeAndKey) -> bool
     ensures { result ≡ (nat_eq a.now.kind b.now.kind && bytes_eq a.now.key b.now.key) }
 {
     a.type_id.number() == b.type_id.number() && a.key.is_same(&b.key)
 }
 
 /// Whether the lists of types and keys are the same.
-fn are_same_keys(a: &[TypeAndKey], b: &[TypeAndKey]) -> bool
+pub fn are_same_keys(a: &[TypeAndKey], b: &[TypeAndKey]) -> bool
     ensures { result ≡ are_same_types_and_keys a.now b.now }
 {
     let mut rest = b;

@@ -6,15 +6,18 @@ mod comparing;
 mod cutting;
 mod fault;
 mod name;
+mod ordering;
 mod printing;
 mod rdn;
 mod reading;
 mod scanning;
 mod token;
 
+pub use comparing::is_front;
 pub use cutting::pieces_are_parted;
 pub use fault::NameError;
 pub use name::{Name, names_are_of_texts};
+pub use ordering::equal_is_same;
 pub use rdn::{Rdn, TypeAndKey, TypeAndValue, keys_are_rising};
 pub use scanning::tokens_are_spelled;
 pub use token::Token;

@@ -10,7 +10,7 @@ ghost use Rattle.ldap_dn.specs.Texts.{name_of_text};
 use crate::comparing::is_front;
 use crate::fault::NameError;
 use crate::printing::print;
-use crate::rdn::Rdn;
+use crate::rdn::{Rdn, copy_rdns};
 use crate::reading::rdns;
 use crate::scanning::tokens;
 use ldap_schema::Schema;
@@ -44,6 +44,29 @@ impl Name {
         let tokens = tokens(alloc, text.as_bytes())?;
         let rdns = rdns(alloc, schema, tokens.as_slice())?;
         Ok(Name { rdns })
+    }
+
+    /// The name of these relative names, the root's first. Takes no memory.
+    pub fn from_rdns(rdns: Vec<Rdn>) -> Name
+        ensures { result ≡ rdns.items }
+    {
+        Name { rdns }
+    }
+
+    /// The relative names, the root's first. Takes no memory.
+    pub fn into_rdns(self) -> Vec<Rdn>
+        ensures { result.items ≡ self }
+    {
+        self.rdns
+    }
+
+    /// A copy.
+    pub fn copy(&self, alloc: Global) -> Result<Name, AllocError>
+        ensures { IfOk result (λ n. n ≡ self.now) }
+    {
+        Ok(Name {
+            rdns: copy_rdns(alloc, self.rdns())?,
+        })
     }
 
     /// The one printed form (RFC 4514 2): types by first name, the values as they were written, and nothing escaped that need not

@@ -1,11 +1,12 @@
 // Relative names. Types, values and keys flow in; they, and a comparison, flow out.
 // What must not be here: texts, whole names.
 
-ghost use Rattle.std.specs.Prelude.{◌≡◌};
+ghost use Rattle.std.specs.Prelude.{◌≡◌, IfOk};
 ghost use Rattle.ldap_dn.specs.Rising.{KeysAreRising};
 
 use ldap_schema::TypeId;
 use ldap_syntax::Key;
+use std::alloc::{AllocError, Global};
 use std::marker::Model;
 
 /// A type and a value of it, as it was written in a name (RFC 4512 2.3.1).
@@ -72,7 +73,63 @@ impl Model for Rdn {
     ghost view = { λ r. record { keys = r.keys.items; spelling = r.spelling.items } };
 }
 
+/// A copy of types with values.
+fn copy_spelling(alloc: Global, spelling: &[TypeAndValue]) -> Result<Vec<TypeAndValue>, AllocError>
+    ensures { IfOk result (λ v. v.items ≡ spelling.now) }
+{
+    let mut copy = Vec::with_capacity(alloc, spelling.len())?;
+    for written in spelling {
+        copy.push(TypeAndValue {
+            type_id: written.type_id,
+            value: written.value.clone()?,
+        })?;
+    }
+    Ok(copy)
+}
+
+/// A copy of types with keys.
+fn copy_keys(alloc: Global, keys: &[TypeAndKey]) -> Result<Vec<TypeAndKey>, AllocError>
+    ensures { IfOk result (λ v. v.items ≡ keys.now) }
+{
+    let mut copy = Vec::with_capacity(alloc, keys.len())?;
+    for key in keys {
+        copy.push(TypeAndKey {
+            type_id: key.type_id,
+            key: copy_key(alloc, &key.key)?,
+        })?;
+    }
+    Ok(copy)
+}
+
+/// A copy of a key.
+fn copy_key(alloc: Global, key: &Key) -> Result<Key, AllocError>
+    ensures { IfOk result (λ k. k ≡ key.now) }
+{
+    Ok(Key::new(key.as_octets().to_vec(alloc)?))
+}
+
+/// A copy of relative names.
+pub fn copy_rdns(alloc: Global, rdns: &[Rdn]) -> Result<Vec<Rdn>, AllocError>
+    ensures { IfOk result (λ v. v.items ≡ rdns.now) }
+{
+    let mut copy = Vec::with_capacity(alloc, rdns.len())?;
+    for rdn in rdns {
+        copy.push(rdn.copy(alloc)?)?;
+    }
+    Ok(copy)
+}
+
 impl Rdn {
+    /// A copy.
+    pub fn copy(&self, alloc: Global) -> Result<Rdn, AllocError>
+        ensures { IfOk result (λ r. r ≡ self.now) }
+    {
+        Ok(Rdn {
+            keys: copy_keys(alloc, self.keys.as_slice())?,
+            spelling: copy_spelling(alloc, self.spelling.as_slice())?,
+        })
+    }
+
     /// Its types and values in the order written.
     pub fn types_and_values(&self) -> &[TypeAndValue]
         ensures { result.now ≡ self.now.spelling }

@@ -1,8 +1,14 @@
 -- The item that the code asks. Plain data flows in, the definition's item flows out.
-use Rattle.ldap_match.specs.Item.{Item, present, equal}
+use Rattle.ldap_filter.specs.Item.{SubstringsValue}
+use Rattle.ldap_filter.specs.ItemView.{substrings_view}
+use Rattle.ldap_match.specs.Item.{Item, present, equal, at_least, at_most, substrings}
+use Rattle.ldap_eval.specs.Value.{parts_of}
 use Rattle.ldap_eval.specs.declared.asking.Asked.{Asked}
-use Rattle.ldap_eval.specs.declared.asking.Asked.TheVariants.{Presence, Equality}
+use Rattle.ldap_eval.specs.declared.asking.Asked.TheVariants.{Presence, Equality, AtLeast, AtMost, Substrings}
 
 abbrev pub item_of : Asked → Item
 item_of Presence = present
 item_of (Equality a) = equal a.now
+item_of (AtLeast a) = at_least a.now
+item_of (AtMost a) = at_most a.now
+item_of (Substrings s) = substrings (parts_of (substrings_view s.now))

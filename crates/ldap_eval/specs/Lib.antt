@@ -1,3 +1,4 @@
 pub mod Value
 pub mod Asked
 pub mod Bound
+pub mod Ruled

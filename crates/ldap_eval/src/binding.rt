@@ -11,7 +11,10 @@ ghost use Rattle.ldap_eval.specs.Bound.{IsBoundTo, AreBoundTo, IsBoundItem, leav
 use crate::asking::Asked;
 use crate::bound::{BoundFilter, Leaf};
 use ldap_filter::Filter;
-use ldap_match::{Test, equality_test, is_comparable, tests_are_items};
+use ldap_match::{
+    Test, at_least_test, at_most_test, equality_test, has_parts_of, is_comparable, is_ordered,
+    substrings_test, tests_are_items,
+};
 use ldap_schema::{Schema, TypeId};
 use std::alloc::{AllocError, Global};
 
@@ -27,15 +30,44 @@ pub fn bind(alloc: Global, schema: &Schema, filter: &Filter) -> Result<BoundFilt
         Filter::Equal {
             description,
             assertion,
+        }
+        | Filter::Approx {
+            description,
+            assertion,
         } => bind_item(
             alloc,
             schema,
             description.as_str(),
             Asked::Equality(assertion.as_slice()),
         ),
+        Filter::Substrings(parts) => bind_item(
+            alloc,
+            schema,
+            parts.description.as_str(),
+            Asked::Substrings(parts),
+        ),
+        Filter::AtLeast {
+            description,
+            assertion,
+        } => bind_item(
+            alloc,
+            schema,
+            description.as_str(),
+            Asked::AtLeast(assertion.as_slice()),
+        ),
+        Filter::AtMost {
+            description,
+            assertion,
+        } => bind_item(
+            alloc,
+            schema,
+            description.as_str(),
+            Asked::AtMost(assertion.as_slice()),
+        ),
         Filter::Present(description) => {
             bind_item(alloc, schema, description.as_str(), Asked::Presence)
         }
+        Filter::Extensible(_) => Ok(BoundFilter::Undefined),
     }
 }
 
@@ -67,19 +99,35 @@ fn bind_item(
     let Some(type_id) = schema.find(description) else {
         return Ok(BoundFilter::Undefined);
     };
-    if !is_answerable(schema, asked, type_id) {
+    if !is_answerable(alloc, schema, asked, type_id)? {
         return Ok(BoundFilter::Undefined);
     }
     Ok(BoundFilter::Or(leaves(alloc, schema, asked, type_id)?))
 }
 
 /// Whether the type has the item's rule, and the assertion is in its syntax.
-fn is_answerable(schema: &Schema, asked: Asked, type_id: TypeId) -> bool
-    ensures { result ≡ is_answerable_item schema.now (item_of asked.entry) type_id }
+fn is_answerable(
+    alloc: Global,
+    schema: &Schema,
+    asked: Asked,
+    type_id: TypeId,
+) -> Result<bool, AllocError>
+    ensures { IfOk result (λ b. b ≡ is_answerable_item schema.now (item_of asked.entry) type_id) }
 {
     match asked {
-        Asked::Presence => true,
-        Asked::Equality(assertion) => is_comparable(schema, type_id, assertion),
+        Asked::Presence => Ok(true),
+        Asked::Equality(assertion) => Ok(is_comparable(schema, type_id, assertion)),
+        Asked::AtLeast(assertion) | Asked::AtMost(assertion) => {
+            Ok(is_ordered(schema, type_id, assertion))
+        }
+        Asked::Substrings(parts) => has_parts_of(
+            alloc,
+            schema,
+            type_id,
+            &parts.initial,
+            &parts.any,
+            &parts.last,
+        ),
     }
 }
 
@@ -118,5 +166,15 @@ fn item_test(
     match asked {
         Asked::Presence => Ok(Test::Present),
         Asked::Equality(assertion) => equality_test(alloc, schema, type_id, assertion),
+        Asked::AtLeast(assertion) => at_least_test(alloc, schema, type_id, assertion),
+        Asked::AtMost(assertion) => at_most_test(alloc, schema, type_id, assertion),
+        Asked::Substrings(parts) => substrings_test(
+            alloc,
+            schema,
+            type_id,
+            &parts.initial,
+            &parts.any,
+            &parts.last,
+        ),
     }
 }

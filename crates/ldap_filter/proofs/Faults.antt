@@ -1,15 +1,18 @@
 -- Wire, filters: why a filter was refused, at each exit.
 use Rattle.std.proofs.Common.{◌≡◌, ℕ, suc, ◌-◌, ◌<◌, List, [], ◌++◌, refl, sym, ap, subst, ◌∙◌, ◌⊎◌, inl, inr, arith}
 use Rattle.std.proofs.lemmas.List.{append-nil}
-use Rattle.std.specs.Str.{IsUtf8}
-use Rattle.ldap_filter.specs.Tree.{Tree, conj, disj, negation, equality, presence}
-use Rattle.ldap_filter.specs.Grammar.{octet_of, IsBody, IsFilter, IsAssertion}
+use Rattle.ldap_ber.specs.Element.{IsElement}
+use Rattle.ldap_filter.specs.Item.{Item}
+use Rattle.ldap_filter.specs.Tree.{Tree, conj, disj, negation, item}
+use Rattle.ldap_filter.specs.ItemGrammar.{item_octet, IsItem}
+use Rattle.ldap_filter.specs.Grammar.{octet_of, IsBody, IsFilter}
 use Rattle.ldap_fields.specs.Fields.{HasField}
 use Rattle.ldap_fields.specs.Faults.{IsPlainFault}
-use Rattle.ldap_filter.specs.Limits.{IsOctet, Opens, under, along, Reads, IsFault, IsRowFault}
+use Rattle.ldap_filter.specs.Limits.{IsOctet, IsItemTree, Opens, under, along, Reads, IsFault, IsRowFault}
 use Rattle.ldap_fields.specs.declared.fault.MsgFault.{MsgFault}
 use Rattle.ldap_fields.specs.declared.fault.MsgFault.TheVariants.{TooLarge, NotAMessage, TooDeep, TooManyItems, NoMemory}
 use Rattle.ldap_fields.proofs.Same.{same_field}
+use Rattle.ldap_filter.proofs.Items.{item_known}
 use Rattle.ldap_filter.proofs.Unique.{filter_field, negation_of, row_of, front_unique}
 
 -- a filter at the front has the field that was read
@@ -23,8 +26,7 @@ known : (t : Tree) → IsOctet (octet_of t)
 known (conj ts) = inl (omega arith, omega arith)
 known (disj ts) = inl (omega arith, omega arith)
 known (negation t) = inl (omega arith, omega arith)
-known (equality d a) = inl (omega arith, omega arith)
-known (presence d) = inr refl
+known (item i) = item_known i
 
 pub no_field : (octets : List ℕ) → (((first : ℕ) × (content rest : List ℕ) × HasField octets first content rest) → ⊥) → IsFault NotAMessage 0 0 octets
 no_field octets none t s x is e = none (octet_of t, is.content, x, filter_field t octets s x is e)
@@ -65,33 +67,30 @@ trailing limit items left octets content rest after u f reads some =
     let same = front_unique u n.inner reads.spelling content after [] reads.is_filter n.is_filter (sym reads.parts ∙ sym (append-nil content)) in
     some same.1)
 
-is_equality : (t : Tree) (content : List ℕ) → octet_of t ≡ 163 → IsBody t content → (d a : List ℕ) × IsAssertion d a content
-is_equality (equality d a) content e h = (d, a, h)
-is_equality (conj ts) content e h = absurd (omega arith)
-is_equality (disj ts) content e h = absurd (omega arith)
-is_equality (negation t) content e h = absurd (omega arith)
-is_equality (presence d) content e h = absurd (omega arith)
+pub an_item : (t : Tree) (content : List ℕ) (n : ℕ) → octet_of t ≡ n → (n ≡ 160 → ⊥) → (n ≡ 161 → ⊥) → (n ≡ 162 → ⊥) → IsBody t content → (i : Item) × (item_octet i ≡ n) × IsItem i content
+an_item (item i) content n e p q r h = (i, e, h)
+an_item (conj ts) content n e p q r h = absurd (p (sym e))
+an_item (disj ts) content n e p q r h = absurd (q (sym e))
+an_item (negation t) content n e p q r h = absurd (r (sym e))
 
-is_presence : (t : Tree) (content : List ℕ) → octet_of t ≡ 135 → IsBody t content → IsUtf8 content
-is_presence (presence d) content e h = subst IsUtf8 (sym h.0) h.1
-is_presence (conj ts) content e h = absurd (omega arith)
-is_presence (disj ts) content e h = absurd (omega arith)
-is_presence (negation t) content e h = absurd (omega arith)
-is_presence (equality d a) content e h = absurd (omega arith)
+pub item_fault : (e : MsgFault) (limit items : ℕ) (octets content rest : List ℕ) (n : ℕ) → HasField octets n content rest → (n ≡ 160 → ⊥) → (n ≡ 161 → ⊥) → (n ≡ 162 → ⊥) → IsPlainFault e ((i : Item) × (item_octet i ≡ n) × IsItem i content) → IsFault e limit items octets
+item_fault NotAMessage limit items octets content rest n f p q r fault = at_field octets content rest n f (λ t e h. fault (an_item t content n e p q r h))
+item_fault TooDeep limit items octets content rest n f p q r fault = absurd fault
+item_fault TooManyItems limit items octets content rest n f p q r fault = absurd fault
+item_fault NoMemory limit items octets content rest n f p q r fault = tt
+item_fault TooLarge limit items octets content rest n f p q r fault = fault
 
-pub assertion_fault : (e : MsgFault) (limit items : ℕ) (octets content rest : List ℕ) → HasField octets 163 content rest → IsPlainFault e ((d a : List ℕ) × IsAssertion d a content) → IsFault e limit items octets
-assertion_fault NotAMessage limit items octets content rest f fault = at_field octets content rest 163 f (λ t e h. fault (is_equality t content e h))
-assertion_fault TooDeep limit items octets content rest f fault = absurd fault
-assertion_fault TooManyItems limit items octets content rest f fault = absurd fault
-assertion_fault NoMemory limit items octets content rest f fault = tt
-assertion_fault TooLarge limit items octets content rest f fault = fault
-
-pub presence_fault : (e : MsgFault) (limit items : ℕ) (octets content rest : List ℕ) → HasField octets 135 content rest → IsPlainFault e (IsUtf8 content) → IsFault e limit items octets
-presence_fault NotAMessage limit items octets content rest f fault = at_field octets content rest 135 f (λ t e h. fault (is_presence t content e h))
-presence_fault TooDeep limit items octets content rest f fault = absurd fault
-presence_fault TooManyItems limit items octets content rest f fault = absurd fault
-presence_fault NoMemory limit items octets content rest f fault = tt
-presence_fault TooLarge limit items octets content rest f fault = fault
+pub item_reads : (limit items : ℕ) (octets content rest : List ℕ) (n : ℕ) (t : Tree) → HasField octets n content rest → 0 < limit → 0 < items → IsItemTree n content t → Reads limit items octets t (items - 1) rest
+item_reads limit items octets content rest n (item i) f deep some is = record {
+  spelling = f.spelling;
+  is_filter = record { content = content; is_element = subst (λ (m : ℕ). IsElement f.spelling m content) (sym is.0) f.is_element; inside = is.1 };
+  parts = f.parts;
+  deep = omega (arith, deep);
+  many = omega (arith, some);
+}
+item_reads limit items octets content rest n (conj ts) f deep some is = absurd is
+item_reads limit items octets content rest n (disj ts) f deep some is = absurd is
+item_reads limit items octets content rest n (negation t) f deep some is = absurd is
 
 pub not_reads : (limit items left : ℕ) (octets content rest after : List ℕ) (u : Tree) → HasField octets 162 content rest → 0 < limit → 0 < items → Reads (limit - 1) (items - 1) content u left after → after ≡ []
     → Reads limit items octets (negation u) left rest

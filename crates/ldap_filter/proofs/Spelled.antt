@@ -1,10 +1,11 @@
 -- Wire, filters: what is written is in the grammar.
-use Rattle.std.proofs.Common.{ℕ, ◌<◌, List, ◌%◌, length, refl, sym, arith}
-use Rattle.std.proofs.lemmas.List.{length-append, append-nil}
+use Rattle.std.proofs.Common.{ℕ, ◌<◌, List, ◌%◌, length, refl, arith}
+use Rattle.std.proofs.lemmas.List.{length-append}
 use Rattle.ldap_ber.specs.Element.{length_octets, element_bytes}
 use Rattle.ldap_ber.proofs.Written.{written as element_written}
-use Rattle.ldap_filter.specs.Tree.{Tree, conj, disj, negation, equality, presence, Trees, no_trees, tree}
+use Rattle.ldap_filter.specs.Tree.{Tree, conj, disj, negation, item, Trees, no_trees, tree}
 use Rattle.ldap_filter.specs.Grammar.{octet_of, IsBody, AreFilters, IsFilter, HasTexts, HaveTexts, filter_content, filter_bytes, filters_bytes}
+use Rattle.ldap_filter.proofs.ItemsSpelled.{item_low, item_written}
 
 inner : (first : ℕ) (content : List ℕ) → length (element_bytes first content) < 4294967296 → length content < 4294967296
 inner first content small = omega (arith, length-append (length_octets (length content)) content)
@@ -13,8 +14,7 @@ low : (t : Tree) → octet_of t % 32 < 31
 low (conj ts) = omega arith
 low (disj ts) = omega arith
 low (negation t) = omega arith
-low (equality d a) = omega arith
-low (presence d) = omega arith
+low (item i) = item_low i
 
 mutual
   pub body_written : (t : Tree) → HasTexts t → length (filter_content t) < 4294967296 → IsBody t (filter_content t)
@@ -23,15 +23,7 @@ mutual
   body_written (negation t) h small =
       let less = inner (octet_of t) (filter_content t) small in
       record { content = filter_content t; is_element = element_written (octet_of t) (filter_content t) (low t) less; inside = body_written t h less }
-  body_written (equality d a) h small =
-      let one : length (element_bytes 4 d) < 4294967296 = omega (arith, length-append (element_bytes 4 d) (element_bytes 4 a)) in
-      let two : length (element_bytes 4 a) < 4294967296 = omega (arith, length-append (element_bytes 4 d) (element_bytes 4 a)) in
-      record {
-        rest = element_bytes 4 a;
-        first = record { field = record { spelling = element_bytes 4 d; is_element = element_written 4 d (omega arith) (inner 4 d one); parts = refl }; text = h };
-        next = record { spelling = element_bytes 4 a; is_element = element_written 4 a (omega arith) (inner 4 a two); parts = sym (append-nil (element_bytes 4 a)) };
-      }
-  body_written (presence d) h small = (refl, h)
+  body_written (item i) h small = item_written i h small
 
   pub rows_written : (ts : Trees) → HaveTexts ts → length (filters_bytes ts) < 4294967296 → AreFilters ts (filters_bytes ts)
   rows_written no_trees h small = refl

@@ -1,7 +1,8 @@
 -- Wire, filters: a description and an assertion, field by field, and what the limits leave of a filter.
 use Rattle.std.proofs.Common.{◌≡◌, ℕ, ◌≤◌, List, [], ◌++◌, refl, sym, ◌∙◌, arith}
 use Rattle.ldap_filter.specs.Tree.{Tree, depth, count}
-use Rattle.ldap_filter.specs.Grammar.{IsFilter, IsAssertion}
+use Rattle.ldap_filter.specs.Grammar.{IsFilter}
+use Rattle.ldap_filter.specs.ItemGrammar.{IsAssertion}
 use Rattle.ldap_fields.specs.Fields.{HasField}
 use Rattle.ldap_filter.specs.Limits.{Reads, IsFault}
 use Rattle.ldap_fields.specs.declared.fault.MsgFault.{MsgFault}

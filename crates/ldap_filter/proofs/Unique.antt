@@ -2,11 +2,12 @@
 use Rattle.std.proofs.Common.{◌≡◌, ℕ, suc, ◌+◌, ◌<◌, ◌≤◌, List, [], ◌∷◌, ◌++◌, refl, sym, ap, subst, ◌∙◌, ◌⊎◌, inl, inr, append_assoc, arith}
 use Rattle.std.proofs.lemmas.List.{append-nil, append_cancel_right}
 use Rattle.ldap_ber.specs.Element.{IsElement}
-use Rattle.ldap_fields.proofs.Same.{same_spelled, same_field, not_nothing, text_unique, octets_unique}
-use Rattle.ldap_filter.specs.Tree.{Tree, conj, disj, negation, equality, presence, Trees, no_trees, tree, depth, depths, count, counts}
-use Rattle.ldap_filter.specs.Grammar.{octet_of, IsBody, AreFilters, IsFilter, IsAssertion}
+use Rattle.ldap_fields.proofs.Same.{same_spelled, same_field, not_nothing}
+use Rattle.ldap_filter.specs.Tree.{Tree, conj, disj, negation, item, Trees, no_trees, tree, depth, depths, count, counts}
+use Rattle.ldap_filter.specs.Grammar.{octet_of, IsBody, AreFilters, IsFilter}
 use Rattle.ldap_fields.specs.Fields.{HasField}
 use Rattle.ldap_filter.specs.Limits.{Opens, here, under, along}
+use Rattle.ldap_filter.proofs.Items.{item_unique, is_no_row}
 
 same_whole : (octets c d : List ℕ) (f g : ℕ) → IsElement octets f c → IsElement octets g d → (f ≡ g) × (c ≡ d)
 same_whole octets c d f g is₁ is₂ = let same = same_spelled octets octets [] [] c d f g is₁ is₂ refl in (same.first, same.content)
@@ -14,14 +15,6 @@ same_whole octets c d f g is₁ is₂ = let same = same_spelled octets octets []
 -- the field that a filter is
 pub filter_field : (t : Tree) (octets s rest : List ℕ) (is : IsFilter t s) → octets ≡ s ++ rest → HasField octets (octet_of t) is.content rest
 filter_field t octets s rest is e = record { spelling = s; is_element = is.is_element; parts = e }
-
-same_assertion : (d a e b content : List ℕ) → IsAssertion d a content → IsAssertion e b content → equality d a ≡ equality e b
-same_assertion d a e b content p q =
-    let one = text_unique 4 d e content p.rest q.rest p.first q.first in
-    let two = octets_unique 4 a b q.rest [] [] (subst (λ (o : List ℕ). HasField o 4 a []) one.rest p.next) q.next in
-    let same₁ : d ≡ e = one.value in
-    let same₂ : a ≡ b = two.value in
-    cc
 
 not_empty : (t : Tree) (ts : Trees) (c : List ℕ) → AreFilters (tree t ts) c → c ≡ [] → ⊥
 not_empty t ts c q e = not_nothing q.first q.rest q.is_first.content (octet_of t) q.is_first.is_element (sym q.parts ∙ e)
@@ -37,28 +30,19 @@ mutual
   body_unique (negation t) (negation u) c e p q =
       let same = same_whole c p.content q.content (octet_of t) (octet_of u) p.is_element q.is_element in
       ap negation (body_unique t u q.content same.0 (subst (IsBody t) same.1 p.inside) q.inside)
-  body_unique (equality d a) (equality e b) c same p q = same_assertion d a e b c p q
-  body_unique (presence d) (presence e) c same p q = ap presence (sym p.0 ∙ q.0)
+  body_unique (item i) (item j) c e p q = ap item (item_unique i j c e p q)
   body_unique (conj ts) (disj us) c e p q = absurd (omega arith)
   body_unique (conj ts) (negation u) c e p q = absurd (omega arith)
-  body_unique (conj ts) (equality d a) c e p q = absurd (omega arith)
-  body_unique (conj ts) (presence d) c e p q = absurd (omega arith)
+  body_unique (conj ts) (item j) c e p q = absurd ((is_no_row j).conj (sym e))
   body_unique (disj ts) (conj us) c e p q = absurd (omega arith)
   body_unique (disj ts) (negation u) c e p q = absurd (omega arith)
-  body_unique (disj ts) (equality d a) c e p q = absurd (omega arith)
-  body_unique (disj ts) (presence d) c e p q = absurd (omega arith)
+  body_unique (disj ts) (item j) c e p q = absurd ((is_no_row j).disj (sym e))
   body_unique (negation t) (conj us) c e p q = absurd (omega arith)
   body_unique (negation t) (disj us) c e p q = absurd (omega arith)
-  body_unique (negation t) (equality d a) c e p q = absurd (omega arith)
-  body_unique (negation t) (presence d) c e p q = absurd (omega arith)
-  body_unique (equality d a) (conj us) c e p q = absurd (omega arith)
-  body_unique (equality d a) (disj us) c e p q = absurd (omega arith)
-  body_unique (equality d a) (negation u) c e p q = absurd (omega arith)
-  body_unique (equality d a) (presence b) c e p q = absurd (omega arith)
-  body_unique (presence d) (conj us) c e p q = absurd (omega arith)
-  body_unique (presence d) (disj us) c e p q = absurd (omega arith)
-  body_unique (presence d) (negation u) c e p q = absurd (omega arith)
-  body_unique (presence d) (equality b a) c e p q = absurd (omega arith)
+  body_unique (negation t) (item j) c e p q = absurd ((is_no_row j).negation (sym e))
+  body_unique (item i) (conj us) c e p q = absurd ((is_no_row i).conj e)
+  body_unique (item i) (disj us) c e p q = absurd ((is_no_row i).disj e)
+  body_unique (item i) (negation u) c e p q = absurd ((is_no_row i).negation e)
 
   pub row_unique : (ts us : Trees) (c : List ℕ) → AreFilters ts c → AreFilters us c → ts ≡ us
   row_unique no_trees no_trees c p q = refl
@@ -109,8 +93,7 @@ positive : (t : Tree) → (0 < depth t) × (0 < count t)
 positive (conj ts) = (omega arith, omega arith)
 positive (disj ts) = (omega arith, omega arith)
 positive (negation t) = (omega arith, omega arith)
-positive (equality d a) = (omega arith, omega arith)
-positive (presence d) = (omega arith, omega arith)
+positive (item i) = (omega arith, omega arith)
 
 pub record IsNegation (t : Tree) (content : List ℕ) : Type 0 where
   pub inner : Tree
@@ -121,8 +104,7 @@ pub negation_of : (t : Tree) (content : List ℕ) → octet_of t ≡ 162 → IsB
 negation_of (negation t) content e h = record { inner = t; is = refl; is_filter = h }
 negation_of (conj ts) content e h = absurd (omega arith)
 negation_of (disj ts) content e h = absurd (omega arith)
-negation_of (equality d a) content e h = absurd (omega arith)
-negation_of (presence d) content e h = absurd (omega arith)
+negation_of (item i) content e h = absurd ((is_no_row i).negation e)
 
 pub record IsRow (t : Tree) (content : List ℕ) : Type 0 where
   pub trees : Trees
@@ -134,8 +116,7 @@ pub row_of : (t : Tree) (content : List ℕ) (first : ℕ) → octet_of t ≡ fi
 row_of (conj ts) content first e is h = record { trees = ts; are_filters = h; deep = refl; many = refl }
 row_of (disj ts) content first e is h = record { trees = ts; are_filters = h; deep = refl; many = refl }
 row_of (negation t) content first e is h = absurd (elim is [ inl p ↦ omega arith | inr p ↦ omega arith ])
-row_of (equality d a) content first e is h = absurd (elim is [ inl p ↦ omega arith | inr p ↦ omega arith ])
-row_of (presence d) content first e is h = absurd (elim is [ inl p ↦ omega arith | inr p ↦ omega arith ])
+row_of (item i) content first e is h = absurd (elim is [ inl p ↦ (is_no_row i).conj (e ∙ p) | inr p ↦ (is_no_row i).disj (e ∙ p) ])
 
 in_row : {d k : ℕ} (us : Trees) (after : List ℕ) → AreFilters us after → (after ≡ [] → ⊥)
     → ((t : Tree) (s rest : List ℕ) → IsFilter t s → after ≡ s ++ rest → (d < depth t) × (k < count t)) → (d < depths us) × (k < counts us)

@@ -2,22 +2,16 @@
 -- In: a tree and octets. Out: whether the octets spell it, and the one spelling that is written.
 -- Not here: limits. A length may be spelled in several ways, so a filter has several spellings.
 use Rattle.std.specs.Prelude.{◌≡◌, ℕ, List, [], ◌++◌}
-use Rattle.std.specs.Str.{IsUtf8}
 use Rattle.ldap_ber.specs.Element.{IsElement, element_bytes}
-use Rattle.ldap_fields.specs.Fields.{HasField, HasText, Seq}
-use Rattle.ldap_filter.specs.Tree.{Tree, conj, disj, negation, equality, presence, Trees, no_trees, tree}
+use Rattle.ldap_filter.specs.Tree.{Tree, conj, disj, negation, item, Trees, no_trees, tree}
+use Rattle.ldap_filter.specs.ItemGrammar.{item_octet, IsItem, item_content, IsSpellable}
 
--- The first octet: the context tags 0 to 3 constructed, and 7 primitive.
+-- The first octet: the context tags 0 to 2 constructed, or an item's.
 abbrev pub octet_of : Tree → ℕ
 octet_of (conj ts) = 160
 octet_of (disj ts) = 161
 octet_of (negation t) = 162
-octet_of (equality d a) = 163
-octet_of (presence d) = 135
-
--- AttributeValueAssertion (RFC 4511 4.1.6): a description and an assertion.
-abbrev pub IsAssertion : List ℕ → List ℕ → List ℕ → Type 0
-IsAssertion d a content = Seq (HasText content 4 d) (λ octets. HasField octets 4 a [])
+octet_of (item i) = item_octet i
 
 -- what an element spells, where its content spells it
 pub record Spells (In : List ℕ → Type 0) (octet : ℕ) (octets : List ℕ) : Type 0 where
@@ -39,8 +33,7 @@ abbrev mutual
   IsBody (conj ts) content = AreFilters ts content
   IsBody (disj ts) content = AreFilters ts content
   IsBody (negation t) content = Spells (IsBody t) (octet_of t) content
-  IsBody (equality d a) content = IsAssertion d a content
-  IsBody (presence d) content = (content ≡ d) × IsUtf8 d
+  IsBody (item i) content = IsItem i content
 
   -- filters, one after the other
   pub AreFilters : Trees → List ℕ → Type 0
@@ -63,8 +56,7 @@ abbrev mutual
   filter_content (conj ts) = filters_bytes ts
   filter_content (disj ts) = filters_bytes ts
   filter_content (negation t) = element_bytes (octet_of t) (filter_content t)
-  filter_content (equality d a) = element_bytes 4 d ++ element_bytes 4 a
-  filter_content (presence d) = d
+  filter_content (item i) = item_content i
 
   -- what is written for filters, one after the other
   pub filters_bytes : Trees → List ℕ
@@ -75,14 +67,13 @@ abbrev mutual
 abbrev pub filter_bytes : Tree → List ℕ
 filter_bytes t = element_bytes (octet_of t) (filter_content t)
 
--- each description is text
+-- each description is text, and each substrings item has a part
 abbrev mutual
   pub HasTexts : Tree → Type 0
   HasTexts (conj ts) = HaveTexts ts
   HasTexts (disj ts) = HaveTexts ts
   HasTexts (negation t) = HasTexts t
-  HasTexts (equality d a) = IsUtf8 d
-  HasTexts (presence d) = IsUtf8 d
+  HasTexts (item i) = IsSpellable i
 
   pub HaveTexts : Trees → Type 0
   HaveTexts no_trees = Unit {0}

@@ -3,13 +3,21 @@
 use Rattle.std.specs.Prelude.{◌≡◌, ℕ, suc, ◌+◌, ◌≤◌, ◌⊎◌, List, ◌++◌}
 use Rattle.ldap_fields.specs.declared.fault.MsgFault.{MsgFault}
 use Rattle.ldap_fields.specs.declared.fault.MsgFault.TheVariants.{TooLarge, NotAMessage, TooDeep, TooManyItems, NoMemory}
-use Rattle.ldap_filter.specs.Tree.{Tree, Trees, depth, count, depths, counts}
+use Rattle.ldap_filter.specs.Tree.{Tree, conj, disj, negation, item, Trees, depth, count, depths, counts}
+use Rattle.ldap_filter.specs.ItemGrammar.{item_octet, IsItem}
 use Rattle.ldap_filter.specs.Grammar.{IsFilter, AreFilters}
 use Rattle.ldap_fields.specs.Fields.{HasField}
 
 -- the first octet of some filter
 abbrev pub IsOctet : ℕ → Type 0
-IsOctet first = ((160 ≤ first) × (first ≤ 163)) ⊎ (first ≡ 135)
+IsOctet first = ((160 ≤ first) × (first ≤ 166)) ⊎ ((168 ≤ first) × (first ≤ 169)) ⊎ (first ≡ 135)
+
+-- the tree is an item that an element of this first octet and content spells
+abbrev pub IsItemTree : ℕ → List ℕ → Tree → Type 0
+IsItemTree first content (item i) = (item_octet i ≡ first) × IsItem i content
+IsItemTree first content (conj ts) = ⊥
+IsItemTree first content (disj ts) = ⊥
+IsItemTree first content (negation t) = ⊥
 
 -- a filter at the front, within the limits; left is what is left of the items
 pub record Reads (depth_limit items : ℕ) (octets : List ℕ) (t : Tree) (left : ℕ) (rest : List ℕ) : Type 0 where

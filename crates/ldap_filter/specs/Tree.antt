@@ -1,15 +1,15 @@
 -- Wire, filters: a filter without where it lies in memory, its depth and its count of items.
 -- In: nothing. Out: the model of a filter. Not here: octets, values.
-use Rattle.std.specs.Prelude.{ℕ, suc, ◌+◌, max, List}
+use Rattle.std.specs.Prelude.{ℕ, suc, ◌+◌, max}
+use Rattle.ldap_filter.specs.Item.{Item}
 
--- A filter (RFC 4511 4.5.1.7); a text is its octets.
+-- A filter (RFC 4511 4.5.1.7).
 mutual
   pub data Tree : Type 0 where
     conj : Trees → Tree
     disj : Trees → Tree
     negation : Tree → Tree
-    equality : List ℕ → List ℕ → Tree
-    presence : List ℕ → Tree
+    item : Item → Tree
 
   pub data Trees : Type 0 where
     no_trees : Trees
@@ -21,8 +21,7 @@ abbrev mutual
   depth (conj ts) = suc (depths ts)
   depth (disj ts) = suc (depths ts)
   depth (negation t) = suc (depth t)
-  depth (equality d a) = 1
-  depth (presence d) = 1
+  depth (item i) = 1
 
   pub depths : Trees → ℕ
   depths no_trees = 0
@@ -34,8 +33,7 @@ abbrev mutual
   count (conj ts) = suc (counts ts)
   count (disj ts) = suc (counts ts)
   count (negation t) = suc (count t)
-  count (equality d a) = 1
-  count (presence d) = 1
+  count (item i) = 1
 
   pub counts : Trees → ℕ
   counts no_trees = 0

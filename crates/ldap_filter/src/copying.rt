@@ -4,6 +4,7 @@
 ghost use Rattle.std.specs.Prelude.{◌≡◌, IfOk};
 ghost use Rattle.ldap_filter.specs.View.{view, views};
 
+use crate::copying_item::{copy_extensible, copy_octets, copy_substrings, copy_text};
 use crate::tree::Filter;
 use std::alloc::{AllocError, Global};
 
@@ -20,13 +21,33 @@ pub fn copy_filter(alloc: Global, filter: &Filter) -> Result<Filter, AllocError>
             description,
             assertion,
         } => Ok(Filter::Equal {
-            description: String::from_str(alloc, description.as_str())?,
-            assertion: Vec::from_slice(alloc, assertion)?,
+            description: copy_text(alloc, description)?,
+            assertion: copy_octets(alloc, assertion)?,
         }),
-        Filter::Present(description) => Ok(Filter::Present(String::from_str(
-            alloc,
-            description.as_str(),
-        )?)),
+        Filter::Substrings(filter) => Ok(Filter::Substrings(copy_substrings(alloc, filter)?)),
+        Filter::AtLeast {
+            description,
+            assertion,
+        } => Ok(Filter::AtLeast {
+            description: copy_text(alloc, description)?,
+            assertion: copy_octets(alloc, assertion)?,
+        }),
+        Filter::AtMost {
+            description,
+            assertion,
+        } => Ok(Filter::AtMost {
+            description: copy_text(alloc, description)?,
+            assertion: copy_octets(alloc, assertion)?,
+        }),
+        Filter::Present(description) => Ok(Filter::Present(copy_text(alloc, description)?)),
+        Filter::Approx {
+            description,
+            assertion,
+        } => Ok(Filter::Approx {
+            description: copy_text(alloc, description)?,
+            assertion: copy_octets(alloc, assertion)?,
+        }),
+        Filter::Extensible(assertion) => Ok(Filter::Extensible(copy_extensible(alloc, assertion)?)),
     }
 }
 

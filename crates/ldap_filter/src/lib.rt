@@ -3,13 +3,18 @@
 //! Not here: what a filter means on an entry, filter texts, other fields of a search.
 #![tactic(auto)]
 
-mod assertion;
 mod copying;
+mod copying_item;
+mod item;
+mod parts;
 mod reading;
+mod reading_item;
 mod tree;
 mod writing;
+mod writing_item;
 
 pub use copying::copy_filter;
+pub use item::{MatchingRuleAssertion, SubstringFilter};
 pub use reading::{MAX_DEPTH, MAX_ITEMS, one_filter, read_filter};
 pub use tree::Filter;
 pub use writing::{is_spelling, write_filter};

@@ -9,9 +9,9 @@ ghost use Rattle.ldap_filter.specs.View.{view, views};
 ghost use Rattle.ldap_filter.specs.Grammar.{IsFilter};
 ghost use Rattle.ldap_filter.specs.Limits.{IsOctet, Reads, ReadsRow, IsFault, IsRowFault};
 
-use crate::assertion::assertion;
+use crate::reading_item::item_of;
 use crate::tree::Filter;
-use ldap_fields::{MsgFault, element, text};
+use ldap_fields::{MsgFault, element};
 use std::alloc::Global;
 
 /// How deep a filter may be: an item is 1 deep, and `and`, `or` and `not` add 1.
@@ -25,7 +25,7 @@ fn is_octet(first: u8) -> bool
     ensures yes { OnTrue result (IsOctet first) }
     ensures no { OnFalse result (IsOctet first → ⊥) }
 {
-    matches!(first, 0xa0..=0xa3 | 0x87)
+    matches!(first, 0xa0..=0xa6 | 0xa8..=0xa9 | 0x87)
 }
 
 #[cycle(filter)]
@@ -66,22 +66,10 @@ fn filter_of(
             let inner = Box::new(alloc, inner)?;
             Ok((Filter::Not(inner), left, rest))
         }
-        0xa3 => {
-            let (description, assertion) = assertion(alloc, content)?;
-            Ok((
-                Filter::Equal {
-                    description,
-                    assertion,
-                },
-                items - 1,
-                rest,
-            ))
+        _ => {
+            let item = item_of(alloc, element.first, content)?;
+            Ok((item, items - 1, rest))
         }
-        0x87 => {
-            let description = text(alloc, content)?;
-            Ok((Filter::Present(description), items - 1, rest))
-        }
-        _ => unreachable!(),
     }
 }
 

@@ -1,6 +1,8 @@
 //! Wire, filters: the type.
 //! In: nothing. Out: the type. Not here: octets, values.
 
+use crate::item::{MatchingRuleAssertion, SubstringFilter};
+
 /// A filter (RFC 4511 4.5.1.7): an item, or filters under `and`, `or` and `not`.
 #[derive(Clone, Debug, PartialEq, Eq, Drop)]
 pub enum Filter {
@@ -15,6 +17,25 @@ pub enum Filter {
         description: String,
         assertion: Vec<u8>,
     },
+    /// `substrings`: a value of the described attribute has these parts.
+    Substrings(SubstringFilter),
+    /// `greaterOrEqual`: a value of the described attribute is not less than the assertion.
+    AtLeast {
+        description: String,
+        assertion: Vec<u8>,
+    },
+    /// `lessOrEqual`: a value of the described attribute is less than the assertion or equals it.
+    AtMost {
+        description: String,
+        assertion: Vec<u8>,
+    },
     /// `present`: the described attribute is there.
     Present(String),
+    /// `approxMatch`: a value of the described attribute is approximately the assertion.
+    Approx {
+        description: String,
+        assertion: Vec<u8>,
+    },
+    /// `extensibleMatch`: a value satisfies a rule that the filter names.
+    Extensible(MatchingRuleAssertion),
 }

@@ -7,6 +7,7 @@ ghost use Rattle.ldap_filter.specs.View.{view, views};
 ghost use Rattle.ldap_filter.specs.Grammar.{filter_content, filter_bytes, filters_bytes, HasTexts, IsFilter};
 
 use crate::tree::Filter;
+use crate::writing_item::{put_assertion, put_extensible, put_substrings};
 use ldap_ber::{WriteError, write};
 use std::alloc::Global;
 
@@ -35,12 +36,22 @@ fn put_filter(alloc: Global, filter: &Filter, out: &mut Vec<u8>) -> Result<(), W
         Filter::Equal {
             description,
             assertion,
-        } => {
-            write(0x04, description.as_bytes(), &mut content)?;
-            write(0x04, assertion, &mut content)?;
-            write(0xa3, &content, out)
-        }
+        } => put_assertion(alloc, 0xa3, description.as_str(), assertion, out),
+        Filter::Substrings(parts) => put_substrings(alloc, parts, out),
+        Filter::AtLeast {
+            description,
+            assertion,
+        } => put_assertion(alloc, 0xa5, description.as_str(), assertion, out),
+        Filter::AtMost {
+            description,
+            assertion,
+        } => put_assertion(alloc, 0xa6, description.as_str(), assertion, out),
         Filter::Present(description) => write(0x87, description.as_bytes(), out),
+        Filter::Approx {
+            description,
+            assertion,
+        } => put_assertion(alloc, 0xa8, description.as_str(), assertion, out),
+        Filter::Extensible(assertion) => put_extensible(alloc, assertion, out),
     }
 }
 

@@ -1,24 +1,33 @@
 -- An item on one attribute: RFC 4511 4.5.1.7. An item, a type and values flow in, a truth flows out; keys and entries are
 -- not here.
-use Rattle.std.specs.Prelude.{ℕ, List, Bool, true, false, not, Option, None, Some, is_some, slice_get}
+use Rattle.std.specs.Prelude.{ℕ, List, [], ◌∷◌, Bool, true, false, not, cond, ◌||◌, Option, None, Some, is_some, slice_get}
+use Rattle.std.specs.Int.Signed.{lt_z}
 use Rattle.std.specs.List.{list_any}
 use Rattle.std.specs.Str.{bytes_eq}
 use Rattle.std.specs.Ordering.{int_eq}
 use Rattle.ldap_syntax.specs.Syntaxes as syntax
-use Rattle.ldap_syntax.specs.Meaning.{Meaning, number, text, truth, octets, identifier}
+use Rattle.ldap_syntax.specs.Families.{is_ordering, has_substrings}
+use Rattle.ldap_syntax.specs.Meaning.{Meaning, number, text, truth, octets, identifier, is_before, part_meaning}
+use Rattle.ldap_syntax.specs.declared.preparing.Part.TheVariants.{Initial, Any, Final}
+use Rattle.ldap_syntax.specs.declared.rule.Family.{Family}
 use Rattle.ldap_syntax.specs.declared.rule.Rule.{Rule}
 use Rattle.ldap_syntax.specs.declared.rule.Syntax.{Syntax}
 use Rattle.ldap_syntax.specs.declared.rule.Syntax.TheVariants as syntax_of
 use Rattle.ldap_schema.specs.Schema.{SchemaModel, TypeModel}
 use Rattle.ldap_match.specs.Meaning.{dotted, meaning}
+use Rattle.ldap_match.specs.Parts.{PartsModel, has_parts}
 use Rattle.ldap_match.specs.Truth.{truth_of}
 use Rattle.ldap_match.specs.declared.truth.Truth.{Truth}
 use Rattle.ldap_match.specs.declared.truth.Truth.TheVariants.{True, Undefined}
 
--- what an item asks of an attribute: that it is there, or that a value is equal (RFC 4511 4.5.1.7.1, 4.5.1.7.5)
+-- What an item asks of an attribute: that it is there, that a value is equal, not less, or less or equal, or that a value has
+-- parts (RFC 4511 4.5.1.7.1 to 4.5.1.7.5).
 pub data Item : Type 0 where
   present : Item
   equal : List ℕ → Item
+  at_least : List ℕ → Item
+  at_most : List ℕ → Item
+  substrings : PartsModel → Item
 
 abbrev pub is_same_truth : Bool → Bool → Bool
 is_same_truth true b = b
@@ -38,6 +47,29 @@ abbrev pub is_meant : Meaning → Option Meaning → Bool
 is_meant m None = false
 is_meant m (Some n) = is_equal_meaning n m
 
+-- whether a meaning stands before another: numbers by size, texts by code points (RFC 4517 4.2.5 and its kin)
+abbrev pub is_less_meaning : Meaning → Meaning → Bool
+is_less_meaning (number a) (number b) = lt_z a b
+is_less_meaning (text a) (text b) = is_before a b
+is_less_meaning m n = false
+
+-- whether a value's meaning is not less than this (RFC 4511 4.5.1.7.3)
+abbrev pub is_at_least : Meaning → Option Meaning → Bool
+is_at_least m None = false
+is_at_least m (Some n) = not (is_less_meaning n m)
+
+-- whether a value's meaning is less than this, or equals it (RFC 4511 4.5.1.7.4)
+abbrev pub is_at_most : Meaning → Option Meaning → Bool
+is_at_most m None = false
+is_at_most m (Some n) = is_less_meaning n m || is_equal_meaning n m
+
+-- whether a value's meaning has the prepared parts (RFC 4511 4.5.1.7.2)
+abbrev pub has_prepared : PartsModel → Option Meaning → Bool
+has_prepared p (Some (text t)) = has_parts p t
+has_prepared p m = false
+
+-- ---- the rules of a type
+
 abbrev pub equality_in : Option TypeModel → Option Rule
 equality_in None = None
 equality_in (Some t) = t.equality
@@ -46,23 +78,94 @@ equality_in (Some t) = t.equality
 abbrev pub equality_of : SchemaModel → ℕ → Option Rule
 equality_of s t = equality_in (slice_get s.types t)
 
--- True if a value means what the assertion means, Undefined if the assertion means nothing, else False
+-- a rule whose family is so
+abbrev pub of_family : (Family → Bool) → Option Rule → Option Rule
+of_family offers None = None
+of_family offers (Some r) = cond (offers r.family) (Some r) None
+
+abbrev pub beside : Option Rule → Option Rule → Option Rule
+beside None r = None
+beside (Some o) r = r
+
+abbrev pub ordering_in : Option TypeModel → Option Rule
+ordering_in None = None
+ordering_in (Some t) = beside t.ordering (of_family is_ordering t.equality)
+
+-- The ORDERING rule in effect for a type; none, where the type lacks it. The rules of one type are of one family, so values
+-- mean under it what they mean under the EQUALITY rule.
+abbrev pub ordering_of : SchemaModel → ℕ → Option Rule
+ordering_of s t = ordering_in (slice_get s.types t)
+
+abbrev pub substrings_in : Option TypeModel → Option Rule
+substrings_in None = None
+substrings_in (Some t) = beside t.substrings (of_family has_substrings t.equality)
+
+-- the SUBSTR rule in effect for a type; none, where the type lacks it
+abbrev pub substrings_of : SchemaModel → ℕ → Option Rule
+substrings_of s t = substrings_in (slice_get s.types t)
+
+-- ---- the parts of an assertion
+
+abbrev pub some_of : Option (List ℕ) → Option (Option (List ℕ))
+some_of None = None
+some_of (Some x) = Some (Some x)
+
+-- a part that may be left out, made by f; nothing, where f makes nothing of the part
+abbrev pub end_by : (List ℕ → Option (List ℕ)) → Option (List ℕ) → Option (Option (List ℕ))
+end_by f None = Some None
+end_by f (Some v) = some_of (f v)
+
+abbrev pub put_before : Option (List ℕ) → Option (List (List ℕ)) → Option (List (List ℕ))
+put_before (Some x) (Some xs) = Some (x ∷ xs)
+put_before o os = None
+
+-- each of the parts, made by f; nothing, where f makes nothing of one
+abbrev pub each_by : (List ℕ → Option (List ℕ)) → List (List ℕ) → Option (List (List ℕ))
+each_by f [] = Some []
+each_by f (v ∷ vs) = put_before (f v) (each_by f vs)
+
+abbrev pub three_parts : Option (Option (List ℕ)) → Option (List (List ℕ)) → Option (Option (List ℕ)) → Option PartsModel
+three_parts (Some i) (Some a) (Some l) = Some (record { initial = i; any = a; last = l })
+three_parts i a l = None
+
+-- The prepared parts under a rule; nothing, where one is no part of a value of the rule's syntax (RFC 4517 3.3.30).
+abbrev pub prepared_parts : Rule → PartsModel → Option PartsModel
+prepared_parts r p = three_parts (end_by (part_meaning r Initial) p.initial) (each_by (part_meaning r Any) p.any) (end_by (part_meaning r Final) p.last)
+
+-- ---- an item on an attribute
+
+-- True if a value passes what the assertion asks, Undefined if the assertion means nothing, else False
+abbrev pub answered : {A : Type 0} → (A → Option Meaning → Bool) → SchemaModel → Rule → Option A → List (List ℕ) → Truth
+answered asks s r None values = Undefined
+answered asks s r (Some m) values = truth_of (list_any (λ v. asks m (meaning s r v)) values)
+
+-- the same by the rule of a type; Undefined, where the type lacks it
+abbrev pub by_rule : {A : Type 0} → (A → Option Meaning → Bool) → (Rule → Option A) → SchemaModel → Option Rule → List (List ℕ) → Truth
+by_rule asks asserted s None values = Undefined
+by_rule asks asserted s (Some r) values = answered asks s r (asserted r) values
+
+-- an equality item: whether a value means what the assertion means (RFC 4511 4.5.1.7.1)
 abbrev pub satisfied : SchemaModel → Rule → Option Meaning → List (List ℕ) → Truth
-satisfied s r None values = Undefined
-satisfied s r (Some m) values = truth_of (list_any (λ v. is_meant m (meaning s r v)) values)
+satisfied s r m values = answered is_meant s r m values
 
 abbrev pub equality_by : SchemaModel → Option Rule → List ℕ → List (List ℕ) → Truth
-equality_by s None assertion values = Undefined
-equality_by s (Some r) assertion values = satisfied s r (meaning s r assertion) values
+equality_by s o a values = by_rule is_meant (λ r. meaning s r a) s o values
 
 -- An item on the values of one attribute, by the rules of its own type (RFC 4511 4.5.1.7).
 abbrev pub item_on_attribute : SchemaModel → Item → ℕ → List (List ℕ) → Truth
 item_on_attribute s present t values = True
-item_on_attribute s (equal assertion) t values = equality_by s (equality_of s t) assertion values
+item_on_attribute s (equal a) t values = equality_by s (equality_of s t) a values
+item_on_attribute s (at_least a) t values = by_rule is_at_least (λ r. meaning s r a) s (ordering_of s t) values
+item_on_attribute s (at_most a) t values = by_rule is_at_most (λ r. meaning s r a) s (ordering_of s t) values
+item_on_attribute s (substrings p) t values = by_rule has_prepared (λ r. prepared_parts r p) s (substrings_of s t) values
 
 abbrev pub is_valid_by : SchemaModel → Option Rule → List ℕ → Bool
 is_valid_by s None v = false
 is_valid_by s (Some r) v = is_some (meaning s r v)
+
+abbrev pub are_valid_by : Option Rule → PartsModel → Bool
+are_valid_by None p = false
+are_valid_by (Some r) p = is_some (prepared_parts r p)
 
 -- the values of a syntax, where a name may stand for an object identifier (RFC 4517 3.3.26)
 abbrev pub is_in_syntax : SchemaModel → Syntax → List ℕ → Bool
@@ -84,4 +187,7 @@ is_of_syntax s t v = is_of_type s (slice_get s.types t) v
 -- whether the type has the item's rule, and the assertion is in its syntax; presence needs neither
 abbrev pub is_answerable : SchemaModel → Item → ℕ → Bool
 is_answerable s present t = true
-is_answerable s (equal assertion) t = is_valid_by s (equality_of s t) assertion
+is_answerable s (equal a) t = is_valid_by s (equality_of s t) a
+is_answerable s (at_least a) t = is_valid_by s (ordering_of s t) a
+is_answerable s (at_most a) t = is_valid_by s (ordering_of s t) a
+is_answerable s (substrings p) t = are_valid_by (substrings_of s t) p

@@ -1,15 +1,18 @@
 -- Keys where a schema is known, and a test made of an item. Only the evaluation of filters names them.
-use Rattle.std.specs.Prelude.{ℕ, List, Option, None, Some, map, ◌≡◌}
+use Rattle.std.specs.Prelude.{ℕ, List, Bool, not, ◌||◌, Option, None, Some, map, ◌≡◌}
 use Rattle.std.specs.List.{list_any}
 use Rattle.std.specs.Str.{bytes_eq}
 use Rattle.ldap_syntax.specs.Keys as syntax
+use Rattle.ldap_syntax.specs.Meaning.{is_before}
+use Rattle.ldap_syntax.specs.declared.preparing.Part.TheVariants.{Initial, Any, Final}
 use Rattle.ldap_syntax.specs.declared.rule.Family.{Family}
 use Rattle.ldap_syntax.specs.declared.rule.Family.TheVariants as family
 use Rattle.ldap_syntax.specs.declared.rule.Rule.{Rule}
 use Rattle.ldap_schema.specs.Schema.{SchemaModel}
 use Rattle.ldap_match.specs.Meaning.{dotted}
 use Rattle.ldap_match.specs.Truth.{truth_of}
-use Rattle.ldap_match.specs.Item.{Item, present, equal, equality_of}
+use Rattle.ldap_match.specs.Parts.{PartsModel, has_parts}
+use Rattle.ldap_match.specs.Item.{Item, present, equal, at_least, at_most, substrings, equality_of, ordering_of, substrings_of, end_by, each_by, three_parts}
 use Rattle.ldap_match.specs.declared.truth.Truth.{Truth}
 use Rattle.ldap_match.specs.declared.truth.Truth.TheVariants.{True, Undefined}
 use Rattle.ldap_match.specs.declared.testing.Test.{Test}
@@ -23,24 +26,51 @@ key_by s r f v = syntax.key_at r v
 abbrev pub key_at : SchemaModel → Rule → List ℕ → Option (List ℕ)
 key_at s r v = key_by s r r.family v
 
+-- the key of each part under a rule; none, where one is no part of a value
+abbrev pub part_keys_at : Rule → PartsModel → Option PartsModel
+part_keys_at r p = three_parts (end_by (syntax.part_key_at r Initial) p.initial) (each_by (syntax.part_key_at r Any) p.any) (end_by (syntax.part_key_at r Final) p.last)
+
+abbrev pub test_of : {A : Type 0} → (A → Test) → Option A → Test
+test_of make None = test.Unknown
+test_of make (Some k) = make k
+
+abbrev pub test_by_rule : {A : Type 0} → (A → Test) → (Rule → Option A) → Option Rule → Test
+test_by_rule make keyed None = test.Unknown
+test_by_rule make keyed (Some r) = test_of make (keyed r)
+
+-- an equality item's
 abbrev pub equality_test : Option (List ℕ) → Test
-equality_test None = test.Unknown
-equality_test (Some k) = test.Equal k
+equality_test k = test_of test.Equal k
 
 abbrev pub test_by : SchemaModel → Option Rule → List ℕ → Test
-test_by s None assertion = test.Unknown
-test_by s (Some r) assertion = equality_test (key_at s r assertion)
+test_by s o a = test_by_rule test.Equal (λ r. key_at s r a) o
 
 -- the test that an item makes of the attributes of one type
 abbrev pub test_for : SchemaModel → Item → ℕ → Test
 test_for s present t = test.Present
-test_for s (equal assertion) t = test_by s (equality_of s t) assertion
+test_for s (equal a) t = test_by s (equality_of s t) a
+test_for s (at_least a) t = test_by_rule test.AtLeast (λ r. key_at s r a) (ordering_of s t)
+test_for s (at_most a) t = test_by_rule test.AtMost (λ r. key_at s r a) (ordering_of s t)
+test_for s (substrings p) t = test_by_rule test.Parts (λ r. part_keys_at r p) (substrings_of s t)
+
+-- whether a value's key passes
+abbrev pub is_same_key : List ℕ → List ℕ → Bool
+is_same_key k x = bytes_eq x k
+
+abbrev pub is_key_at_least : List ℕ → List ℕ → Bool
+is_key_at_least k x = not (is_before x k)
+
+abbrev pub is_key_at_most : List ℕ → List ℕ → Bool
+is_key_at_most k x = is_before x k || bytes_eq x k
 
 -- a test on the keys of an attribute's values
 abbrev pub test_value : Test → List (List ℕ) → Truth
 test_value test.Present keys = True
 test_value test.Unknown keys = Undefined
-test_value (test.Equal k) keys = truth_of (list_any (λ x. bytes_eq x k) keys)
+test_value (test.Equal k) keys = truth_of (list_any (is_same_key k) keys)
+test_value (test.AtLeast k) keys = truth_of (list_any (is_key_at_least k) keys)
+test_value (test.AtMost k) keys = truth_of (list_any (is_key_at_most k) keys)
+test_value (test.Parts p) keys = truth_of (list_any (has_parts p) keys)
 
 abbrev pub AreKeysBy : SchemaModel → Option Rule → List (List ℕ) → List (List ℕ) → Type 0
 AreKeysBy s None values keys = Unit {0}

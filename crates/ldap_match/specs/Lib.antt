@@ -1,4 +1,5 @@
 pub mod Truth
 pub mod Meaning
+pub mod Parts
 pub mod Item
 pub mod Keyed

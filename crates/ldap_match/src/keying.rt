@@ -3,12 +3,13 @@
 
 ghost use Rattle.std.specs.Prelude.{◌≡◌, ◌↔◌, IfOk, IsErrOf, None, Some, option_map, is_some};
 ghost use Rattle.ldap_match.specs.Meaning.{meaning, named_oid as named_identifier, dotted};
-ghost use Rattle.ldap_match.specs.Item.{equal, equality_of, is_answerable, is_of_syntax as is_of_type_syntax, is_in_syntax as is_in_schema_syntax};
+ghost use Rattle.ldap_match.specs.Item.{equal, at_least, at_most, equality_of, ordering_of, substrings_of, is_answerable, is_of_syntax as is_of_type_syntax, is_in_syntax as is_in_schema_syntax};
 ghost use Rattle.ldap_match.specs.Keyed.{key_at};
 
 use ldap_schema::{Schema, TypeId};
 use ldap_syntax::{
-    Family, Key, Rule, Syntax, ValueError, has_meaning, is_in_syntax, is_numericoid, key_of,
+    Family, Key, Rule, Syntax, ValueError, has_meaning, has_ordering, has_substrings, is_in_syntax,
+    is_numericoid, key_of,
 };
 use std::alloc::Global;
 
@@ -64,6 +65,48 @@ pub fn equality_rule(schema: &Schema, type_id: TypeId) -> Option<Rule>
     ensures { result ≡ equality_of schema.now type_id }
 {
     schema.attribute_type(type_id)?.equality()
+}
+
+/// The ORDERING rule in effect for the type; none, where it lacks one or is another schema's. It keys values as the EQUALITY
+/// rule does.
+pub fn ordering_rule(schema: &Schema, type_id: TypeId) -> Option<Rule>
+    ensures { result ≡ ordering_of schema.now type_id }
+{
+    let attribute_type = schema.attribute_type(type_id)?;
+    attribute_type.ordering()?;
+    let rule = attribute_type.equality()?;
+    if has_ordering(rule.family) {
+        Some(rule)
+    } else {
+        None
+    }
+}
+
+/// The SUBSTR rule in effect for the type; none, where it lacks one or is another schema's. It keys values as the EQUALITY
+/// rule does.
+pub fn substrings_rule(schema: &Schema, type_id: TypeId) -> Option<Rule>
+    ensures { result ≡ substrings_of schema.now type_id }
+{
+    let attribute_type = schema.attribute_type(type_id)?;
+    attribute_type.substrings()?;
+    let rule = attribute_type.equality()?;
+    if has_substrings(rule.family) {
+        Some(rule)
+    } else {
+        None
+    }
+}
+
+/// Whether an ordering item on the type can be answered: the type has an ORDERING rule, and the assertion means something
+/// under it. Takes no memory.
+pub fn is_ordered(schema: &Schema, type_id: TypeId, assertion: &[u8]) -> bool
+    ensures at_least { result ≡ is_answerable schema.now (at_least assertion.now) type_id }
+    ensures at_most { result ≡ is_answerable schema.now (at_most assertion.now) type_id }
+{
+    match ordering_rule(schema, type_id) {
+        Some(rule) => is_meaningful(schema, rule, assertion),
+        None => false,
+    }
 }
 
 /// Whether an equality item on the type can be answered: the type has an EQUALITY rule, and the assertion means something

@@ -3,9 +3,17 @@
 #![tactic(auto)]
 
 mod keying;
+mod parts;
 mod testing;
 mod truth;
 
-pub use keying::{equality_rule, is_comparable, is_of_syntax, key, named_oid};
-pub use testing::{Test, equality_test, item_on_attribute, tests_are_items};
+pub use keying::{
+    equality_rule, is_comparable, is_of_syntax, is_ordered, key, named_oid, ordering_rule,
+    substrings_rule,
+};
+pub use parts::{PartKeys, part_keys};
+pub use testing::{
+    Test, at_least_test, at_most_test, equality_test, has_parts_of, item_on_attribute,
+    substrings_test, tests_are_items,
+};
 pub use truth::{Truth, laws};

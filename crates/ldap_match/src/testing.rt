@@ -1,18 +1,21 @@
 // Items made into tests, and tests on an attribute's keys. A schema and an assertion flow in once; then tests and keys
 // flow in, truths flow out, and no memory is taken. What must not be here: entries, filters.
 
-ghost use Rattle.std.specs.Prelude.{◌≡◌, ℕ, List, IfOk};
+ghost use Rattle.std.specs.Prelude.{◌≡◌, ℕ, List, IfOk, map};
+ghost use Rattle.std.specs.Option.{option_map};
 ghost use Rattle.std.specs.List.{list_any};
-ghost use Rattle.std.specs.Str.{bytes_eq};
 ghost use Rattle.ldap_schema.specs.Schema.{SchemaModel};
 ghost use Rattle.ldap_match.specs.Item as item;
-ghost use Rattle.ldap_match.specs.Item.{Item, equal};
-ghost use Rattle.ldap_match.specs.Keyed.{test_for, test_value, AreKeysOf};
+ghost use Rattle.ldap_match.specs.Item.{Item, equal, at_least, at_most, substrings, is_answerable};
+ghost use Rattle.ldap_match.specs.Parts.{has_parts};
+ghost use Rattle.ldap_match.specs.Truth.{truth_of};
+ghost use Rattle.ldap_match.specs.Keyed.{key_at, test_for, test_value, AreKeysOf, is_same_key, is_key_at_least, is_key_at_most};
 
-use crate::keying::{equality_rule, key};
+use crate::keying::{equality_rule, key, ordering_rule, substrings_rule};
+use crate::parts::{PartKeys, part_keys};
 use crate::truth::Truth;
 use ldap_schema::{Schema, TypeId};
-use ldap_syntax::{Key, ValueError, keys_compare};
+use ldap_syntax::{Key, Rule, ValueError, keys_compare, parts_compare};
 use std::alloc::{AllocError, Global};
 
 /// What an item asks of the attributes of one type, with the assertion's key under the rule of that type.
@@ -24,6 +27,31 @@ pub enum Test {
     Unknown,
     /// That a value's key is this one.
     Equal(Key),
+    /// That a value's key does not stand before this one.
+    AtLeast(Key),
+    /// That a value's key stands before this one or is this one.
+    AtMost(Key),
+    /// That a value's key has these parts.
+    Parts(PartKeys),
+}
+
+/// The value's key under the rule; none, where it means nothing under it.
+fn key_or_none(
+    alloc: Global,
+    schema: &Schema,
+    rule: Rule,
+    value: &[u8],
+) -> Result<Option<Key>, AllocError>
+    ensures { IfOk result (λ k. k ≡ key_at schema.now rule value.now) }
+{
+    match key(alloc, schema, rule, value) {
+        Ok(key) => Ok(Some(key)),
+        Err(ValueError::NotInSyntax) => {
+            keys_compare();
+            Ok(None)
+        }
+        Err(ValueError::NoMemory) => Err(AllocError),
+    }
 }
 
 /// The test that an equality item makes of the attributes of the type.
@@ -38,12 +66,95 @@ pub fn equality_test(
     let Some(rule) = equality_rule(schema, type_id) else {
         return Ok(Test::Unknown);
     };
-    match key(alloc, schema, rule, assertion) {
-        Ok(key) => Ok(Test::Equal(key)),
-        Err(ValueError::NotInSyntax) => {
-            keys_compare();
-            Ok(Test::Unknown)
-        }
+    match key_or_none(alloc, schema, rule, assertion)? {
+        Some(key) => Ok(Test::Equal(key)),
+        None => Ok(Test::Unknown),
+    }
+}
+
+/// The test that a greaterOrEqual item makes of the attributes of the type.
+pub fn at_least_test(
+    alloc: Global,
+    schema: &Schema,
+    type_id: TypeId,
+    assertion: &[u8],
+) -> Result<Test, AllocError>
+    ensures { IfOk result (λ t. t ≡ test_for schema.now (at_least assertion.now) type_id) }
+{
+    let Some(rule) = ordering_rule(schema, type_id) else {
+        return Ok(Test::Unknown);
+    };
+    match key_or_none(alloc, schema, rule, assertion)? {
+        Some(key) => Ok(Test::AtLeast(key)),
+        None => Ok(Test::Unknown),
+    }
+}
+
+/// The test that a lessOrEqual item makes of the attributes of the type.
+pub fn at_most_test(
+    alloc: Global,
+    schema: &Schema,
+    type_id: TypeId,
+    assertion: &[u8],
+) -> Result<Test, AllocError>
+    ensures { IfOk result (λ t. t ≡ test_for schema.now (at_most assertion.now) type_id) }
+{
+    let Some(rule) = ordering_rule(schema, type_id) else {
+        return Ok(Test::Unknown);
+    };
+    match key_or_none(alloc, schema, rule, assertion)? {
+        Some(key) => Ok(Test::AtMost(key)),
+        None => Ok(Test::Unknown),
+    }
+}
+
+/// The test that a substrings item makes of the attributes of the type.
+pub fn substrings_test(
+    alloc: Global,
+    schema: &Schema,
+    type_id: TypeId,
+    initial: &Option<Vec<u8>>,
+    any: &[Vec<u8>],
+    last: &Option<Vec<u8>>,
+) -> Result<Test, AllocError>
+    ensures { IfOk result (λ t. t ≡ test_for schema.now (substrings (record {
+      initial = option_map (λ v. v.items) initial.now;
+      any = map (λ v. v.items) any.now;
+      last = option_map (λ v. v.items) last.now;
+    })) type_id) }
+{
+    let Some(rule) = substrings_rule(schema, type_id) else {
+        return Ok(Test::Unknown);
+    };
+    match part_keys(alloc, rule, initial, any, last) {
+        Ok(keys) => Ok(Test::Parts(keys)),
+        Err(ValueError::NotInSyntax) => Ok(Test::Unknown),
+        Err(ValueError::NoMemory) => Err(AllocError),
+    }
+}
+
+/// Whether a substrings item on the type can be answered: the type has a SUBSTR rule, and each part is a part of a value of its
+/// syntax.
+pub fn has_parts_of(
+    alloc: Global,
+    schema: &Schema,
+    type_id: TypeId,
+    initial: &Option<Vec<u8>>,
+    any: &[Vec<u8>],
+    last: &Option<Vec<u8>>,
+) -> Result<bool, AllocError>
+    ensures { IfOk result (λ b. b ≡ is_answerable schema.now (substrings (record {
+      initial = option_map (λ v. v.items) initial.now;
+      any = map (λ v. v.items) any.now;
+      last = option_map (λ v. v.items) last.now;
+    })) type_id) }
+{
+    let Some(rule) = substrings_rule(schema, type_id) else {
+        return Ok(false);
+    };
+    match part_keys(alloc, rule, initial, any, last) {
+        Ok(_) => Ok(true),
+        Err(ValueError::NotInSyntax) => Ok(false),
         Err(ValueError::NoMemory) => Err(AllocError),
     }
 }
@@ -58,16 +169,20 @@ pub fn item_on_attribute(test: &Test, keys: &[Key]) -> Truth
         → AreKeysOf s t values keys.now → result ≡ item.item_on_attribute s asked t values }
 {
     tests_are_items();
+    tested(test, keys)
+}
+
+/// A test on keys.
+fn tested(test: &Test, keys: &[Key]) -> Truth
+    ensures { result ≡ test_value test.now keys.now }
+{
     match test {
         Test::Present => Truth::True,
         Test::Unknown => Truth::Undefined,
-        Test::Equal(key) => {
-            if has_key(keys, key) {
-                Truth::True
-            } else {
-                Truth::False
-            }
-        }
+        Test::Equal(key) => truth(has_key(keys, key)),
+        Test::AtLeast(key) => truth(has_key_at_least(keys, key)),
+        Test::AtMost(key) => truth(has_key_at_most(keys, key)),
+        Test::Parts(parts) => truth(has_key_with(keys, parts)),
     }
 }
 
@@ -77,11 +192,41 @@ pub fn tests_are_items()
         → test_value (test_for s asked t) keys ≡ item.item_on_attribute s asked t values }
 {
     keys_compare();
+    parts_compare();
+}
+
+/// The truth of what is decided.
+fn truth(decided: bool) -> Truth
+    ensures { result ≡ truth_of decided }
+{
+    if decided { Truth::True } else { Truth::False }
 }
 
 /// Whether a key is among the keys.
 fn has_key(keys: &[Key], key: &Key) -> bool
-    ensures { result ≡ list_any (λ x. bytes_eq x key.now) keys.now }
+    ensures { result ≡ list_any (is_same_key key.now) keys.now }
 {
     keys.iter().any(|other| other.is_same(key))
+}
+
+/// Whether one of the keys does not stand before the key.
+fn has_key_at_least(keys: &[Key], key: &Key) -> bool
+    ensures { result ≡ list_any (is_key_at_least key.now) keys.now }
+{
+    keys.iter().any(|other| !other.is_before(key))
+}
+
+/// Whether one of the keys stands before the key or is the key.
+fn has_key_at_most(keys: &[Key], key: &Key) -> bool
+    ensures { result ≡ list_any (is_key_at_most key.now) keys.now }
+{
+    keys.iter()
+        .any(|other| other.is_before(key) || other.is_same(key))
+}
+
+/// Whether one of the keys has the parts.
+fn has_key_with(keys: &[Key], parts: &PartKeys) -> bool
+    ensures { result ≡ list_any (has_parts parts.now) keys.now }
+{
+    keys.iter().any(|other| parts.stand_in(other))
 }

@@ -1,10 +1,10 @@
 -- Names that call a class. Facts on lists flow in and out; no value of the program is here.
-use Rattle.std.proofs.Common.{ℕ, ◌+◌, zero, suc, List, [], ◌∷◌, Bool, true, false, cond, ◌||◌, Option, None, Some, is_some, IsSome, ◌≡◌, refl, ap, sym, ◌∙◌, map}
-use Rattle.std.specs.List.{list_any, position_from, slice_get}
+use Rattle.std.proofs.Common.{ℕ, ◌+◌, zero, suc, List, [], ◌∷◌, Bool, true, false, cond, ◌||◌, Some, is_some, IsSome, ◌≡◌, refl, ap, ◌∙◌, map}
+use Rattle.std.specs.List.{position_from, slice_get}
 use Rattle.std.specs.Char.{to_ascii_lowercase}
 use Rattle.std.specs.Str.{bytes_eq}
 use Rattle.std.proofs.lemmas.Slice.Eq.{bytes_eq-Decides}
-use Rattle.ldap_schema.specs.Schema.{ClassModel, SchemaModel, is_called, is_same_name, first_name_of, class_name_in, class_named, class_name}
+use Rattle.ldap_schema.specs.Schema.{ClassModel, SchemaModel, is_called, first_name_of, class_named}
 
 pub same_octets : (xs : List ℕ) → bytes_eq xs xs ≡ true
 same_octets xs = (bytes_eq-Decides xs xs).1 refl

@@ -1,18 +1,18 @@
 -- The table of superior types against the chain of SUPs. Facts on lists flow in and out; no value of the program is here.
-use Rattle.std.proofs.Common.{IsTrue, ◌↔◌, ℕ, ◌+◌, ◌<◌, ◌≤◌, zero, suc, List, [], ◌∷◌, Bool, true, false, cond, ◌&&◌, ◌||◌, Option, None, Some, ◌≡◌, refl, ap, sym, subst, ◌∙◌, length, nat_eq, arith}
+use Rattle.std.proofs.Common.{IsTrue, ◌↔◌, ℕ, ◌+◌, ◌≤◌, zero, suc, List, [], ◌∷◌, Bool, true, false, ◌&&◌, ◌||◌, Option, None, Some, ◌≡◌, refl, ap, sym, subst, ◌∙◌, length, nat_eq, arith}
 use Rattle.std.specs.List.{list_any, slice_get}
 use Rattle.std.proofs.lemmas.Option.{slice_get_past}
 use Rattle.std.proofs.lemmas.Bool.Decides.{nat_tests}
 use Rattle.ldap_schema.specs.Schema.{TypeModel, SchemaModel, led, if_led, superior_in, superior_of, superiors, superiors_from, all_superiors, found_row, row_at, ends_within, are_loopless, is_under, IsUnder, is_itself, goes_up}
 
-none_past : (ts : List TypeModel) (t : ℕ) → length ts ≤ t → superior_of ts t ≡ None
+pub none_past : (ts : List TypeModel) (t : ℕ) → length ts ≤ t → superior_of ts t ≡ None
 none_past ts t h = ap superior_in (slice_get_past ts t h)
 
-empty_past : (k : ℕ) (ts : List TypeModel) (t : ℕ) → length ts ≤ t → superiors k ts t ≡ []
+pub empty_past : (k : ℕ) (ts : List TypeModel) (t : ℕ) → length ts ≤ t → superiors k ts t ≡ []
 empty_past zero ts t h = refl
 empty_past (suc k) ts t h = ap (λ (o : Option ℕ). led o (λ u. superiors k ts u)) (none_past ts t h)
 
-ended_past : (k : ℕ) (ts : List TypeModel) (t : ℕ) → length ts ≤ t → ends_within k ts t ≡ true
+pub ended_past : (k : ℕ) (ts : List TypeModel) (t : ℕ) → length ts ≤ t → ends_within k ts t ≡ true
 ended_past zero ts t h = ap (λ (o : Option ℕ). if_led o (λ u. false)) (none_past ts t h)
 ended_past (suc k) ts t h = ap (λ (o : Option ℕ). if_led o (λ u. ends_within k ts u)) (none_past ts t h)
 

@@ -1,5 +1,5 @@
 -- Lists of classes filled with superclasses, a step at a time. Facts on lists flow in and out; no value of the program is here.
-use Rattle.std.proofs.Common.{ℕ, ◌+◌, ◌-◌, ◌<◌, ◌≤◌, zero, suc, List, [], ◌∷◌, ◌++◌, Bool, true, false, cond, Option, None, Some, ◌≡◌, refl, ap, sym, ◌∙◌, map, length, drop, add-one, drop-cons, arith}
+use Rattle.std.proofs.Common.{ℕ, ◌+◌, ◌-◌, ◌<◌, zero, suc, List, [], ◌∷◌, ◌++◌, Option, None, Some, ◌≡◌, refl, ap, sym, ◌∙◌, map, length, drop, add-one, arith}
 use Rattle.std.specs.List.{slice_get}
 use Rattle.ldap_schema.specs.Schema.{ClassModel}
 use Rattle.ldap_schema.specs.Superclasses.{gone_on, direct_superclasses, with_missing, filled, filled_from, rows_from, all_superclasses}

@@ -1,8 +1,8 @@
 -- The filled list of a class against the chain of superclasses. Facts on lists flow in and out; no value of the program is here.
 use Rattle.std.proofs.Common.{IsTrue, ◌↔◌, ℕ, ◌+◌, ◌<◌, ◌≤◌, zero, suc, List, [], ◌∷◌, ◌++◌, Bool, true, false, cond, ◌&&◌, ◌||◌, Option, None, Some, ◌≡◌, ◌⊎◌, refl, ap, sym, subst, ◌∙◌, length, take, nat_eq, nat_lt, append_assoc, add-one, inl, inr, arith}
-use Rattle.std.specs.List.{IsDistinct, list_any, list_all, slice_get}
+use Rattle.std.specs.List.{IsDistinct, list_all, slice_get}
 use Rattle.std.specs.Cmp.{nat_eq_equiv}
-use Rattle.std.proofs.lemmas.Option.{slice_get_past, slice_get_cases}
+use Rattle.std.proofs.lemmas.Option.{slice_get_past}
 use Rattle.std.proofs.lemmas.List.{take-append-le}
 use Rattle.std.proofs.lemmas.List.Folds.{list_any-append}
 use Rattle.std.proofs.lemmas.Map.Keys.{IsDistinct-push}

@@ -1,7 +1,7 @@
 -- Loops over tables, a step at a time. Facts on lists flow in and out; no value of the program is here.
-use Rattle.std.proofs.Common.{ℕ, ◌+◌, ◌-◌, ◌<◌, ◌≤◌, zero, suc, List, [], ◌∷◌, ◌++◌, Bool, true, false, cond, ◌||◌, Option, None, Some, ◌≡◌, refl, ap, sym, subst, ◌∙◌, map, length, take, drop, get_or, nat_eq, append_assoc, add-one, drop-cons, arith}
+use Rattle.std.proofs.Common.{ℕ, ◌+◌, ◌-◌, ◌<◌, zero, suc, List, [], ◌∷◌, ◌++◌, Bool, true, false, ◌||◌, None, Some, ◌≡◌, refl, ap, sym, ◌∙◌, map, length, drop, get_or, append_assoc, add-one, drop-cons, arith}
 use Rattle.std.specs.List.{list_any, position_from}
-use Rattle.ldap_schema.specs.Schema.{TypeModel, led, superior_of, superiors, superiors_from, all_superiors}
+use Rattle.ldap_schema.specs.Schema.{TypeModel, superior_of, superiors, superiors_from, all_superiors}
 
 -- the element at a place and what stands behind it
 pub opened : {A : Type 0} (xs : List A) (i : ℕ) (x : A) → i < length xs → x ≡ get_or xs i x → drop i xs ≡ x ∷ drop (i + 1) xs

@@ -3,3 +3,5 @@ pub mod Superclasses
 pub mod ObjectClassType
 pub mod Tables
 pub mod BuiltIn
+pub mod Described
+pub mod Reading

@@ -6,6 +6,10 @@ mod attribute_type;
 mod building;
 mod built_in;
 mod class;
+mod described;
+mod error;
+mod judging;
+mod looping;
 mod naming;
 mod schema;
 mod superclasses;
@@ -13,4 +17,5 @@ mod tables;
 
 pub use attribute_type::{AttributeType, TypeId};
 pub use class::{ClassId, ClassKind, ObjectClass};
+pub use error::SchemaError;
 pub use schema::Schema;

@@ -16,7 +16,7 @@ pub fn is_class_among(classes: &[ClassId], class: ClassId) -> bool
 }
 
 /// The direct superclasses of a class; none, where there is no such class.
-fn superclasses_of(classes: &[ObjectClass], class: ClassId) -> &[ClassId]
+pub fn superclasses_of(classes: &[ObjectClass], class: ClassId) -> &[ClassId]
     ensures { result.now ≡ direct_superclasses classes.now class }
 {
     match classes.get(class.number()) {

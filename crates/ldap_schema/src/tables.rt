@@ -66,7 +66,7 @@ pub fn superiors_of_all(
 }
 
 /// The types that the type's SUP leads to, nearest first, in as many steps as there are types at most.
-fn superiors(
+pub fn superiors(
     alloc: Global,
     types: &[AttributeType],
     type_id: TypeId,

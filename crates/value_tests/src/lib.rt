@@ -3,6 +3,8 @@
 #![tactic(auto)]
 
 #[cfg(test)]
+mod item_tests;
+#[cfg(test)]
 mod part_tests;
 #[cfg(test)]
 mod rule_tests;

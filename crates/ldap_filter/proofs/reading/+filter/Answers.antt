@@ -6,7 +6,7 @@ use Rattle.ldap_filter.specs.Tree.{negation}
 use Rattle.ldap_fields.specs.Fields.{HasField}
 use Rattle.ldap_filter.specs.Limits.{here}
 use Rattle.ldap_filter.specs.declared.tree.Filter.{Not, the_lemmas}
-use Rattle.ldap_filter.proofs.Faults.{row_fault, not_fault, trailing, assertion_fault, presence_fault, not_reads}
+use Rattle.ldap_filter.proofs.Faults.{row_fault, not_fault, trailing, item_fault, item_reads, not_reads}
 use Rattle.ldap_fields.proofs.RowLemmas.{some_left, none_left}
 use Rattle.ldap_filter.proofs.Rows.{goes_on, fails, views_push}
 use Rattle.ldap_filter.proofs.reading.+filter.Goals as goal
@@ -25,16 +25,6 @@ pub filter_of-returns-in_err-inner-in-162-clause-fault : goal.filter_of-returns-
 filter_of-returns-in_err-inner-in-162-clause-fault t c =
     let p = err_from_is_err_and c.from_residual-in_err-inner-in-162.result c.from_residual-in_err-inner-in-162.ensures.1 in
     rw (p.1, p.2) (not_fault _ c.args.depth c.args.items c.args.octets.now c.in_ok-element.element.content.now c.in_ok-element.rest.now (subst (λ (f : ℕ). HasField c.args.octets.now f c.in_ok-element.element.content.now c.in_ok-element.rest.now) c.in-162.is c.in_ok-element.ensures.found) (omega arith) (omega arith) c.in_err-inner-in-162.ensures.fault)
-
-pub filter_of-returns-in_err-description-in-163-clause-fault : goal.filter_of-returns-in_err-description-in-163-clause-fault
-filter_of-returns-in_err-description-in-163-clause-fault t c =
-    let p = err_from_is_err_and c.from_residual-in_err-description-in-163.result c.from_residual-in_err-description-in-163.ensures.1 in
-    rw (p.1, p.2) (assertion_fault _ c.args.depth c.args.items c.args.octets.now c.in_ok-element.element.content.now c.in_ok-element.rest.now (subst (λ (f : ℕ). HasField c.args.octets.now f c.in_ok-element.element.content.now c.in_ok-element.rest.now) c.in-163.is c.in_ok-element.ensures.found) c.in_err-description-in-163.ensures.fault)
-
-pub filter_of-returns-in_err-description-in-135-clause-fault : goal.filter_of-returns-in_err-description-in-135-clause-fault
-filter_of-returns-in_err-description-in-135-clause-fault t c =
-    let p = err_from_is_err_and c.from_residual-in_err-description-in-135.result c.from_residual-in_err-description-in-135.ensures.1 in
-    rw (p.1, p.2) (presence_fault _ c.args.depth c.args.items c.args.octets.now c.in_ok-element.element.content.now c.in_ok-element.rest.now (subst (λ (f : ℕ). HasField c.args.octets.now f c.in_ok-element.element.content.now c.in_ok-element.rest.now) c.in-135.is c.in_ok-element.ensures.found) c.in_err-description-in-135.ensures.fault)
 
 pub filter_of-returns-then-depth-eq0-clause-fault : goal.filter_of-returns-then-depth-eq0-clause-fault
 filter_of-returns-then-depth-eq0-clause-fault t c =
@@ -65,3 +55,9 @@ row_of-loop-rest-preserved t c =
     let pushed : c.push.new.self.items ≡ c.loop-rest.filters.items ++ c.in_ok-filter.filter ∷ [] = c.in_ok-push.ensures.items in
     let seen = ap views pushed ∙ views_push c.loop-rest.filters.items c.in_ok-filter.filter in
     rw seen (goes_on c.args.depth c.args.items c.args.content.now (views c.loop-rest.filters.items) c.loop-rest.left c.loop-rest.rest.now (view c.in_ok-filter.filter) c.in_ok-filter.fewer c.in_ok-filter.after.now c.loop-rest.invariant c.in_ok-filter.ensures.found)
+
+pub filter_of-returns-in_err-item-in_default-clause-fault : goal.filter_of-returns-in_err-item-in_default-clause-fault
+filter_of-returns-in_err-item-in_default-clause-fault t c =
+    let others = c.in_default.in_default-own.rest in
+    let p = err_from_is_err_and c.from_residual-in_err-item-in_default.result c.from_residual-in_err-item-in_default.ensures.1 in
+    rw (p.1, p.2) (item_fault _ c.args.depth c.args.items c.args.octets.now c.in_ok-element.element.content.now c.in_ok-element.rest.now c.in_ok-element.element.first c.in_ok-element.ensures.found others.0.0.1 others.0.1 others.1 c.in_err-item-in_default.ensures.fault)

@@ -1,4 +1,4 @@
-use Rattle.std.proofs.Common.{ℕ, List, [], ◌++◌, Bor, String, Global, ◌≡◌, ap, sym, ◌∙◌, refl, drop, map}
+use Rattle.std.proofs.Common.{ℕ, List, [], ◌++◌, Bor, String, Global, ap, map}
 use Rattle.std.proofs.Math.ListN.{drop_of_length-le}
 use Rattle.std.specs.String.{string_bytes}
 use Rattle.ldap_schema.proofs.Steps.{copied_more, without_rest}

@@ -1,6 +1,5 @@
-use Rattle.std.proofs.Common.{ℕ, List, Vec, Global, ◌∷◌, [], ◌++◌, ◌≡◌, ap, sym, ◌∙◌, refl, drop, map}
-use Rattle.std.proofs.Math.ListN.{drop_of_length-le}
-use Rattle.ldap_schema.specs.Superclasses.{filled, rows_from}
+use Rattle.std.proofs.Common.{ℕ, Vec, Global, ◌∷◌, [], ap, ◌∙◌}
+use Rattle.ldap_schema.specs.Superclasses.{filled}
 use Rattle.ldap_schema.proofs.Filling.{row_more}
 use Rattle.ldap_schema.proofs.superclasses.superclasses_of_all.Goals as goal
 

@@ -1,4 +1,4 @@
-use Rattle.std.proofs.Common.{ℕ, List, ◌+◌, ◌-◌, length, ap, sym, ◌∙◌, ◌≡◌, refl, arith}
+use Rattle.std.proofs.Common.{ℕ, List, ◌+◌, ◌-◌, length, ap, sym, ◌∙◌}
 use Rattle.std.specs.List.{slice_get}
 use Rattle.ldap_schema.proofs.Filling.{fill_ends, fill_step}
 use Rattle.ldap_schema.proofs.superclasses.with_superclasses.Goals as goal

@@ -1,5 +1,5 @@
-use Rattle.std.proofs.Common.{ℕ, List, ◌++◌, ◌-◌, length, Some, ap, sym, ◌∙◌, ◌≡◌, refl, arith}
-use Rattle.ldap_schema.specs.Schema.{superiors, superior_of}
+use Rattle.std.proofs.Common.{ℕ, List, ◌++◌, ◌-◌, length, ap, sym, ◌∙◌, arith}
+use Rattle.ldap_schema.specs.Schema.{superiors}
 use Rattle.ldap_schema.proofs.Steps.{step_up, no_way_up, no_more, without_rest}
 use Rattle.ldap_schema.proofs.tables.superiors.Goals as goal
 

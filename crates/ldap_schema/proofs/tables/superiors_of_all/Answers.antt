@@ -1,4 +1,4 @@
-use Rattle.std.proofs.Common.{ℕ, List, Vec, Global, ◌++◌, ◌≡◌, ap, sym, ◌∙◌, refl, drop, map}
+use Rattle.std.proofs.Common.{ℕ, List, Vec, Global, ◌++◌, ap, ◌∙◌, map}
 use Rattle.std.proofs.Math.ListN.{drop_of_length-le}
 use Rattle.ldap_schema.specs.Schema.{superiors, superiors_from}
 use Rattle.ldap_schema.proofs.Steps.{row_more, without_rest}

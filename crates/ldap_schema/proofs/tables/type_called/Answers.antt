@@ -1,4 +1,4 @@
-use Rattle.std.proofs.Common.{ℕ, List, Bool, true, false, Some, ap, ap₂, sym, ◌∙◌, ◌≡◌, refl, drop}
+use Rattle.std.proofs.Common.{ℕ, List, Bool, true, false, Some, ap, ap₂, sym, ◌∙◌, ◌≡◌, refl}
 use Rattle.std.proofs.Math.ListN.{drop_of_length-le}
 use Rattle.std.specs.List.{position_from}
 use Rattle.ldap_schema.specs.Schema.{is_called, TypeModel}

@@ -1,4 +1,4 @@
-use Rattle.std.proofs.Common.{ap, sym, ◌∙◌, ◌≡◌}
+use Rattle.std.proofs.Common.{ap, sym, ◌∙◌}
 use Rattle.std.specs.Option.{option_copied}
 use Rattle.ldap_schema.proofs.Called.{class_found}
 use Rattle.ldap_schema.proofs.schema.Schema.class_name.Goals as goal

@@ -1,4 +1,4 @@
-use Rattle.std.proofs.Common.{ℕ, List, Vec, Global, Bool, map, ap, sym, ◌∙◌, ◌≡◌, true, subst}
+use Rattle.std.proofs.Common.{ℕ, Vec, Global, map, ap, sym, ◌∙◌, ◌≡◌, subst}
 use Rattle.ldap_schema.specs.Schema.{SchemaModel}
 use Rattle.ldap_schema.specs.Superclasses.{is_subclass, AreSuperclassesKnown}
 use Rattle.ldap_schema.proofs.Lineage.{as_lineage, under_same, under_table}

@@ -1,4 +1,4 @@
-use Rattle.std.proofs.Common.{ℕ, List, Vec, Global, Bool, map, ap, sym, ◌∙◌, ◌≡◌, true, subst}
+use Rattle.std.proofs.Common.{ℕ, Vec, Global, map, ap, sym, ◌∙◌, ◌≡◌, true, subst}
 use Rattle.ldap_schema.specs.Schema.{SchemaModel, is_under, are_loopless}
 use Rattle.ldap_schema.proofs.Chains.{as_chain, under_same, under_table}
 use Rattle.ldap_schema.proofs.schema.Schema.is_under.Goals as goal

@@ -1,0 +1,13 @@
+pub mod KeptLemmas
+pub mod Above
+pub mod Changes
+pub mod ReadPlaces
+pub mod Numbered
+pub mod Leaves
+pub mod Labelling
+pub mod Footing
+pub mod Below
+pub mod TreeChanges
+pub mod Renamed
+pub mod Moves
+pub mod MovedEntries

@@ -1,0 +1,7 @@
+use Rattle.std.proofs.Common.{◌≡◌}
+use Rattle.ldap_dn.specs.Names.{rdns}
+use Rattle.dir_tree.specs.Kept.{front_placed}
+use Rattle.dir_tree.proofs.places.front_at.Given as goal
+
+abbrev pub invariant-loop-i : goal.invariant-loop-i
+invariant-loop-i l = l.found ≡ front_placed l.i (rdns l.name) l.places.entries

@@ -1,0 +1,12 @@
+use Rattle.std.proofs.Common.{ap, ◌∙◌}
+use Rattle.std.specs.Option.{option_map}
+use Rattle.ldap_dn.specs.Names.{rdns}
+use Rattle.dir_tree.specs.Directory.{Entered, TreeModel, find}
+use Rattle.dir_tree.specs.Stored.{directory_of}
+use Rattle.dir_tree.proofs.ReadPlaces.{number_kept}
+use Rattle.dir_tree.proofs.tree.Tree.find.Goals as goal
+
+pub returns : goal.returns
+returns c =
+    c.number_at.ensures ∙ number_kept (rdns c.args.name.now) (directory_of c.self.inside.entries.entries) c.self.inside.places.entries c.self.invariant.kept
+    ∙ ap (λ (t : TreeModel). option_map (λ (e : Entered). e.number) (find (rdns c.args.name.now) t.entries)) c.self.view_is

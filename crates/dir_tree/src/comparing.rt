@@ -1,0 +1,22 @@
+// Names compared. Relative names flow in, a yes or no flows out, and no memory is taken.
+// What must not be here: entries.
+
+ghost use Rattle.std.specs.Prelude.{◌≡◌};
+ghost use Rattle.ldap_dn.specs.Names.{rdns};
+ghost use Rattle.dir_tree.specs.Directory.{above, begins, name_eq};
+
+use ldap_dn::{Rdn, is_front};
+
+/// Whether two names are one, whatever their spellings.
+pub fn are_same(a: &[Rdn], b: &[Rdn]) -> bool
+    ensures { result ≡ name_eq (rdns a.now) (rdns b.now) }
+{
+    a == b
+}
+
+/// Whether the name right above a name is another one or stands below it.
+pub fn is_over_parent(front: &[Rdn], name: &[Rdn]) -> bool
+    ensures { result ≡ begins (rdns front.now) (above (rdns name.now)) }
+{
+    is_front(front, &name[..name.len().saturating_sub(1)])
+}

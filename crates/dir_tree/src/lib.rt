@@ -1,0 +1,15 @@
+//! The directory's tree: entries with their names flow in; they are found again by name and by number, and the numbers of those
+//! right under a name and at or below it flow out. What an update checks, and filters, are not here.
+#![tactic(auto)]
+
+mod comparing;
+mod entries;
+mod named;
+mod place;
+mod places;
+mod renaming;
+mod tree;
+
+pub use comparing::{are_same, is_over_parent};
+pub use named::NamedEntry;
+pub use tree::Tree;

@@ -1,0 +1,238 @@
+// The directory's tree. Names, numbers and attributes flow in; entries, numbers and scopes flow out.
+// What must not be here: which updates are refused, with which code, and what a filter says of an entry.
+
+ghost use Rattle.std.specs.Prelude.{◌≡◌, ◌++◌, ◌∷◌, [], None, Some, true, false, OnOk, OnErr, IsTrue, ◌↔◌, is_some};
+ghost use Rattle.std.specs.Option.{option_map};
+ghost use Rattle.ldap_dn.specs.Names.{rdns};
+ghost use Rattle.dir_tree.specs.Directory.{Entered, AllBelow, IsDirectory, name_eq, begins, above, moved, is_right_under, is_at_or_below, find, entry_at, front, has_below, has_footing, numbers, unnumbered, replaced};
+ghost use Rattle.dir_tree.specs.Stored.{directory_of, entered_of};
+
+use crate::comparing::are_same;
+use crate::entries::{Entries, put_entry, set_entry, set_names, take_entry};
+use crate::named::NamedEntry;
+use crate::place::Place;
+use crate::places::{
+    Places, children_at, enlist_above, front_at, has_parent_at, number_at, put_place, strike_above,
+    within_at,
+};
+use crate::renaming::{names_moved, places_of};
+use dir_entry::Entry;
+use ldap_dn::{Name, Rdn};
+use std::alloc::{AllocError, Global};
+use std::collections::BTreeMap;
+use std::marker::Model;
+
+/// The entries of a directory by number, and what is kept of each name: a look-up by name takes a logarithm of comparisons, and a
+/// scope is a slice that lies ready.
+#[derive(Drop)]
+pub struct Tree {
+    alloc: Global,
+    suffix: Name,
+    entries: Entries,
+    places: Places,
+}
+
+impl Model for Tree {
+    ghost use Rattle.dir_tree.specs.Directory.{TreeModel};
+    ghost use Rattle.dir_tree.specs.Stored.{directory_of};
+    ghost use Rattle.dir_tree.specs.Kept.{IsTree};
+
+    ghost Value = { TreeModel };
+
+    ghost view = { λ t. record { suffix = t.suffix; entries = directory_of t.entries.entries } };
+
+    ghost invariant = { λ t. IsTree t.suffix (directory_of t.entries.entries) t.places.entries };
+}
+
+impl Tree {
+    /// A directory without entries, whose root is to have this name.
+    pub fn new(alloc: Global, suffix: Name) -> Tree
+        ensures { result ≡ record { suffix = suffix; entries = [] } }
+    {
+        Tree {
+            alloc,
+            suffix,
+            entries: BTreeMap::new(alloc),
+            places: BTreeMap::new(alloc),
+        }
+    }
+
+    /// The name of the root.
+    pub fn suffix(&self) -> &Name
+        ensures { result.now ≡ self.now.suffix }
+    {
+        &self.suffix
+    }
+
+    /// The entries by number, in rising order.
+    pub fn entries(&self) -> &BTreeMap<u64, NamedEntry>
+        ensures { directory_of result.now.entries ≡ self.now.entries }
+    {
+        &self.entries
+    }
+
+    /// The number of a name's entry. It takes a logarithm of comparisons, and no memory.
+    pub fn find(&self, name: &[Rdn]) -> Option<u64>
+        ensures { result ≡ option_map (λ e. e.number) (find (rdns name.now) self.now.entries) }
+    {
+        number_at(&self.places, name)
+    }
+
+    /// Whether a name has an entry.
+    pub fn has(&self, name: &[Rdn]) -> bool
+        ensures { result ≡ is_some (find (rdns name.now) self.now.entries) }
+    {
+        self.find(name).is_some()
+    }
+
+    /// Whether the name right above a name has an entry.
+    pub fn has_parent(&self, name: &[Rdn]) -> bool
+        ensures { result ≡ is_some (find (above (rdns name.now)) self.now.entries) }
+    {
+        has_parent_at(&self.places, name)
+    }
+
+    /// Whether a name is the root's.
+    pub fn is_root(&self, name: &[Rdn]) -> bool
+        ensures { result ≡ name_eq (rdns name.now) (rdns self.now.suffix) }
+    {
+        are_same(name, self.suffix.rdns())
+    }
+
+    /// Whether a number is above all.
+    pub fn is_above_all(&self, number: u64) -> bool
+        ensures { IsTrue result ↔ AllBelow number self.now.entries }
+    {
+        match self.entries.last_key_value() {
+            Some((last, _)) => *last < number,
+            None => true,
+        }
+    }
+
+    /// The name and the attributes of a number's entry.
+    pub fn entry(&self, number: u64) -> Option<&NamedEntry>
+        ensures { option_map (λ e. entered_of number e.now) result ≡ entry_at number self.now.entries }
+    {
+        self.entries.get(&number)
+    }
+
+    /// The length of the longest front of a name that is an entry's name; 0, if there is none. It takes a look-up for each
+    /// relative name.
+    pub fn front(&self, name: &[Rdn]) -> usize
+        ensures { result ≡ front (rdns name.now) self.now.entries }
+    {
+        front_at(&self.places, name)
+    }
+
+    /// The numbers of the entries right under a name, in rising order; none, if the name has no entry.
+    pub fn children(&self, name: &[Rdn]) -> Option<&[u64]>
+        ensures { option_map (λ s. s.now) result ≡ option_map (λ e. numbers (is_right_under (rdns name.now)) self.now.entries) (find (rdns name.now) self.now.entries) }
+    {
+        children_at(&self.places, name)
+    }
+
+    /// The numbers of the entries at or below a name, in rising order; none, if the name has no entry.
+    pub fn subtree(&self, name: &[Rdn]) -> Option<&[u64]>
+        ensures { option_map (λ s. s.now) result ≡ option_map (λ e. numbers (is_at_or_below (rdns name.now)) self.now.entries) (find (rdns name.now) self.now.entries) }
+    {
+        within_at(&self.places, name)
+    }
+
+    /// Whether an entry stands strictly below a name that has one.
+    pub fn has_below(&self, name: &[Rdn]) -> bool
+        requires here { is_some (find (rdns name.now) self.now.entries) ≡ true }
+        ensures { result ≡ has_below (rdns name.now) self.now.entries }
+    {
+        match within_at(&self.places, name) {
+            Some(numbers) => 1 < numbers.len(),
+            None => false,
+        }
+    }
+
+    /// Adds an entry whose name is new, under a number above all. An `Err` changes nothing. It takes a look-up for each relative
+    /// name.
+    pub fn add(&mut self, number: u64, name: Name, entry: Entry) -> Result<(), AllocError>
+        requires above { AllBelow number self.old.entries }
+        requires absent { is_some (find (rdns name) self.old.entries) ≡ false }
+        requires footing { has_footing (rdns self.old.suffix) (rdns name) self.old.entries ≡ true }
+        ensures ok { OnOk result (self.new ≡ record { suffix = self.old.suffix; entries = self.old.entries ++ record { number = number; name = name; entry = entry } ∷ [] }) }
+        ensures err { OnErr result (self.new ≡ self.old) }
+    {
+        let mut within = Vec::new(self.alloc);
+        within.push(number)?;
+        let key = name.copy(self.alloc)?.into_rdns();
+        put_entry(&mut self.entries, number, NamedEntry { name, entry })?;
+        match enlist_above(&mut self.places, &key, number) {
+            Ok(()) => {}
+            Err(error) => {
+                take_entry(&mut self.entries, number);
+                return Err(error);
+            }
+        }
+        let place = Place {
+            number,
+            children: Vec::new(self.alloc),
+            within,
+        };
+        match put_place(&mut self.places, key, place) {
+            Ok(()) => Ok(()),
+            Err(key) => {
+                strike_above(&mut self.places, &key, number);
+                take_entry(&mut self.entries, number);
+                Err(AllocError)
+            }
+        }
+    }
+
+    /// Takes out the entry of a name that nothing stands below.
+    pub fn delete(&mut self, name: &[Rdn], number: u64)
+        requires here { option_map (λ e. e.number) (find (rdns name.now) self.old.entries) ≡ Some number }
+        requires leaf { has_below (rdns name.now) self.old.entries ≡ false }
+        ensures { self.new ≡ record { suffix = self.old.suffix; entries = unnumbered number self.old.entries } }
+    {
+        self.places.remove(name);
+        strike_above(&mut self.places, name, number);
+        take_entry(&mut self.entries, number);
+    }
+
+    /// Gives the entry of a number other attributes; its name stays.
+    pub fn replace(&mut self, number: u64, entry: Entry)
+        ensures { self.new ≡ record { suffix = self.old.suffix; entries = replaced number entry self.old.entries } }
+    {
+        set_entry(&mut self.entries, number, entry);
+    }
+
+    /// Gives an entry another name and other attributes: each name that begins with the old one begins with the new one in its
+    /// place. The old name is not the suffix, an entry that does not stand at or below it stands right above the new one, and no
+    /// other entry has the new one. An `Err` changes nothing. It makes the names and the places of the whole directory afresh
+    /// and then takes them over, so it needs no undo, and its cost grows with the directory.
+    pub fn rename(
+        &mut self,
+        name: &[Rdn],
+        number: u64,
+        new_name: Name,
+        new_entry: Entry,
+    ) -> Result<(), AllocError>
+        requires here { option_map (λ e. e.number) (find (rdns name.now) self.old.entries) ≡ Some number }
+        requires root { name_eq (rdns name.now) (rdns self.old.suffix) ≡ false }
+        requires parent { is_some (find (above (rdns new_name)) self.old.entries) ≡ true }
+        requires apart { begins (rdns name.now) (above (rdns new_name)) ≡ false }
+        requires free { is_some (find (rdns new_name) self.old.entries) ≡ true → name_eq (rdns name.now) (rdns new_name) ≡ true }
+        ensures ok { OnOk result (self.new ≡ record { suffix = self.old.suffix; entries = moved (rdns name.now) new_name new_entry self.old.entries }) }
+        ensures err { OnErr result (self.new ≡ self.old) }
+    {
+        let names = names_moved(self.alloc, &self.entries, name, new_name.rdns())?;
+        let places = places_of(self.alloc, names.as_slice())?;
+        set_names(&mut self.entries, names);
+        set_entry(&mut self.entries, number, new_entry);
+        self.places = places;
+        Ok(())
+    }
+
+    /// Numbers rise, names differ, each name begins with the suffix, and each entry but the suffix's has an entry right above it.
+    pub fn is_directory(&self)
+        ensures { IsDirectory (rdns self.now.suffix) self.now.entries }
+    {
+        let _ = &self.alloc;
+    }
+}

@@ -1,0 +1,43 @@
+-- What a modify does: RFC 4511 4.6. A schema, a relative name, changes and an entry flow in; the attributes after them, or the code of the
+-- first check that fails, flow out. Where the entry stands is not here.
+use Rattle.std.specs.Prelude.{ℕ, List, [], ◌∷◌, Bool, true, false, Option, None, Some, Result, Ok, Err}
+use Rattle.ldap_schema.specs.Schema.{SchemaModel, find}
+use Rattle.ldap_dn.specs.Names.{TypeAndValue}
+use Rattle.ldap_updates.specs.Values.{ChangeValue}
+use Rattle.ldap_updates.specs.declared.modify.ModifyOperation.{ModifyOperation}
+use Rattle.ldap_updates.specs.declared.modify.ModifyOperation.TheVariants.{Add, Delete, Replace, Increment}
+use Rattle.dir_entry.specs.Entry.{AttributeModel}
+use Rattle.dir_entry.specs.Adding.{refuse}
+use Rattle.dir_entry.specs.Editing.{with_added, with_deleted, with_replaced}
+use Rattle.dir_entry.specs.Naming.{and_then, kept}
+
+abbrev pub is_increment : ModifyOperation → Bool
+is_increment Add = false
+is_increment Delete = false
+is_increment Replace = false
+is_increment Increment = true
+
+-- a change of a recognised type; protocolError (2) for an increment (RFC 4511 4.6, Appendix A.2)
+abbrev pub with_change : SchemaModel → ModifyOperation → ℕ → List (List ℕ) → List AttributeModel → Result (List AttributeModel) ℕ
+with_change s Add t values e = with_added s t values e
+with_change s Delete t values e = with_deleted s t values e
+with_change s Replace t values e = with_replaced s t values e
+with_change s Increment t values e = Err 2
+
+-- undefinedAttributeType (17) where the description is not recognised
+abbrev pub on_type : SchemaModel → ModifyOperation → Option ℕ → List (List ℕ) → List AttributeModel → Result (List AttributeModel) ℕ
+on_type s operation None values e = Err 17
+on_type s operation (Some t) values e = with_change s operation t values e
+
+-- One change: protocolError (2) for an increment, 17 as above, then what the change itself refuses.
+abbrev pub changed : SchemaModel → ChangeValue → List AttributeModel → Result (List AttributeModel) ℕ
+changed s c e = refuse (is_increment c.operation) 2 (on_type s c.operation (find s c.modification.description) c.modification.values e)
+
+-- Changes in order, each on what the one before left (RFC 4511 4.6).
+abbrev pub all_changed : SchemaModel → List ChangeValue → List AttributeModel → Result (List AttributeModel) ℕ
+all_changed s [] e = Ok e
+all_changed s (c ∷ cs) e = and_then (changed s c e) (all_changed s cs)
+
+-- The attributes after a modify: the changes in order, then what the relative name and the classes demand at the end.
+abbrev pub attributes_changed : SchemaModel → List TypeAndValue → List ChangeValue → List AttributeModel → Result (List AttributeModel) ℕ
+attributes_changed s rdn cs e = and_then (all_changed s cs e) (kept s rdn e)

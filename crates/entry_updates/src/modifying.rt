@@ -1,0 +1,112 @@
+//! What a modify asks for. A schema, a relative name, changes and an entry flow in; the changed entry, or a refusal, flows out. The entry
+//! that is changed stays as it is. The directory is not here.
+ghost use Rattle.std.specs.Prelude.{◌≡◌, Ok, map, IfOk, IfErr};
+ghost use Rattle.dir_entry.specs.Entry.{attributes_of, IsKeyedBy};
+ghost use Rattle.ldap_updates.specs.View.{change_view};
+ghost use Rattle.entry_updates.specs.Modifying.{is_increment as is_increment_of, with_change, changed, all_changed, attributes_changed};
+ghost use Rattle.entry_updates.specs.Refused.{RefusedAs};
+
+use crate::copying::copy_values;
+use crate::fault::UpdateError;
+use dir_entry::Entry;
+use ldap_dn::TypeAndValue;
+use ldap_parts::ResultCode;
+use ldap_schema::{Schema, TypeId};
+use ldap_updates::{Change, ModifyOperation};
+use std::alloc::Global;
+
+/// Whether the change is an increment.
+fn is_increment(operation: ModifyOperation) -> bool
+    ensures { result ≡ is_increment_of operation }
+{
+    match operation {
+        ModifyOperation::Increment => true,
+        ModifyOperation::Add | ModifyOperation::Delete | ModifyOperation::Replace => false,
+    }
+}
+
+/// The entry after a change of a recognised type.
+fn change_type(
+    alloc: Global,
+    schema: &Schema,
+    operation: ModifyOperation,
+    type_id: TypeId,
+    values: Vec<Vec<u8>>,
+    entry: Entry,
+) -> Result<Entry, UpdateError>
+    requires { IsKeyedBy schema.now entry }
+    ensures ok { IfOk result (λ e. with_change schema.now operation type_id (map (λ v. v.items) values.items) (attributes_of entry) ≡ Ok (attributes_of e)) }
+    ensures keyed { IfOk result (λ e. IsKeyedBy schema.now e) }
+    ensures refused { IfErr result (λ e. RefusedAs e (with_change schema.now operation type_id (map (λ v. v.items) values.items) (attributes_of entry))) }
+{
+    let changed = match operation {
+        ModifyOperation::Add => entry.with_added(alloc, schema, type_id, values)?,
+        ModifyOperation::Delete => entry.with_deleted(alloc, schema, type_id, values)?,
+        ModifyOperation::Replace => entry.with_replaced(alloc, schema, type_id, values)?,
+        ModifyOperation::Increment => {
+            return Err(UpdateError::Refused(ResultCode::PROTOCOL_ERROR));
+        }
+    };
+    Ok(changed)
+}
+
+/// The entry after one change.
+fn change(
+    alloc: Global,
+    schema: &Schema,
+    asked: &Change,
+    entry: Entry,
+) -> Result<Entry, UpdateError>
+    requires { IsKeyedBy schema.now entry }
+    ensures ok { IfOk result (λ e. changed schema.now (change_view asked.now) (attributes_of entry) ≡ Ok (attributes_of e)) }
+    ensures keyed { IfOk result (λ e. IsKeyedBy schema.now e) }
+    ensures refused { IfErr result (λ e. RefusedAs e (changed schema.now (change_view asked.now) (attributes_of entry))) }
+{
+    if is_increment(asked.operation) {
+        return Err(UpdateError::Refused(ResultCode::PROTOCOL_ERROR));
+    }
+    let Some(type_id) = schema.find(&asked.modification.description) else {
+        return Err(UpdateError::Refused(ResultCode::UNDEFINED_ATTRIBUTE_TYPE));
+    };
+    let values = copy_values(alloc, &asked.modification.values)?;
+    change_type(alloc, schema, asked.operation, type_id, values, entry)
+}
+
+/// The entry after the changes, each made on the result of the one before.
+fn change_all(
+    alloc: Global,
+    schema: &Schema,
+    changes: &[Change],
+    entry: Entry,
+) -> Result<Entry, UpdateError>
+    requires { IsKeyedBy schema.now entry }
+    ensures ok { IfOk result (λ e. all_changed schema.now (map change_view changes.now) (attributes_of entry) ≡ Ok (attributes_of e)) }
+    ensures keyed { IfOk result (λ e. IsKeyedBy schema.now e) }
+    ensures refused { IfErr result (λ e. RefusedAs e (all_changed schema.now (map change_view changes.now) (attributes_of entry))) }
+{
+    let mut so_far = entry;
+    for asked in changes {
+        so_far = change(alloc, schema, asked, so_far)?;
+    }
+    Ok(so_far)
+}
+
+/// The entry after a modify (RFC 4511 4.6), of which the relative name is given: for each change in order 2, 17, 19, 21 and 20 or 16; at
+/// the end 67, 19, 69 and 65.
+pub fn entry_changed(
+    alloc: Global,
+    schema: &Schema,
+    rdn: &[TypeAndValue],
+    changes: &[Change],
+    entry: &Entry,
+) -> Result<Entry, UpdateError>
+    requires { IsKeyedBy schema.now entry.now }
+    ensures ok { IfOk result (λ e. attributes_changed schema.now rdn.now (map change_view changes.now) (attributes_of entry.now) ≡ Ok (attributes_of e)) }
+    ensures keyed { IfOk result (λ e. IsKeyedBy schema.now e) }
+    ensures refused { IfErr result (λ e. RefusedAs e (attributes_changed schema.now rdn.now (map change_view changes.now) (attributes_of entry.now))) }
+{
+    let copy = entry.copy(alloc)?;
+    let changed = change_all(alloc, schema, changes, copy)?;
+    let kept = changed.kept(alloc, schema, rdn, entry)?;
+    Ok(kept)
+}

@@ -1,0 +1,31 @@
+//! What a modifyDN asks of the entry that is renamed. A schema, both relative names and an entry flow in; the entry under its new relative
+//! name, or a refusal, flows out. The entry that is renamed stays as it is. Whole names are not here.
+ghost use Rattle.std.specs.Prelude.{◌≡◌, Ok, IfOk, IfErr};
+ghost use Rattle.dir_entry.specs.Entry.{attributes_of, IsKeyedBy};
+ghost use Rattle.dir_entry.specs.Naming.{renamed};
+ghost use Rattle.entry_updates.specs.Refused.{RefusedAs};
+
+use crate::fault::UpdateError;
+use dir_entry::Entry;
+use ldap_dn::TypeAndValue;
+use ldap_schema::Schema;
+use std::alloc::Global;
+
+/// The entry under a new relative name (RFC 4511 4.9): its values join; if asked, the old ones leave; then 19 and 65.
+pub fn entry_renamed(
+    alloc: Global,
+    schema: &Schema,
+    old: &[TypeAndValue],
+    new: &[TypeAndValue],
+    delete_old: bool,
+    entry: &Entry,
+) -> Result<Entry, UpdateError>
+    requires { IsKeyedBy schema.now entry.now }
+    ensures ok { IfOk result (λ e. renamed schema.now old.now new.now delete_old (attributes_of entry.now) ≡ Ok (attributes_of e)) }
+    ensures keyed { IfOk result (λ e. IsKeyedBy schema.now e) }
+    ensures refused { IfErr result (λ e. RefusedAs e (renamed schema.now old.now new.now delete_old (attributes_of entry.now))) }
+{
+    let copy = entry.copy(alloc)?;
+    let renamed = copy.renamed(alloc, schema, old, new, delete_old)?;
+    Ok(renamed)
+}

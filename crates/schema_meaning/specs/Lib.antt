@@ -1,0 +1,4 @@
+pub mod Rules
+pub mod Naming
+pub mod Inheriting
+pub mod Faults

@@ -1,0 +1,5 @@
+use Rattle.schema_text.proofs.Described.{descriptions_of_octets}
+use Rattle.schema_text.proofs.grammar.descriptions_are_of_octets.Goals as goal
+
+pub returns : goal.returns
+returns c = descriptions_of_octets

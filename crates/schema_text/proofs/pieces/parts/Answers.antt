@@ -1,0 +1,10 @@
+use Rattle.std.proofs.Common.{rules}
+use Rattle.std.proofs.lemmas.Iterator.Consumers.{map_from_collect}
+use Rattle.std.proofs.lemmas.Iterator.Splits.{YieldsList-from_slice_split}
+use Rattle.schema_text.specs.Tokens.{is_bare}
+use Rattle.schema_text.proofs.pieces.parts.Goals as goal
+
+pub returns : goal.returns
+returns c =
+    map_from_collect c.collect.result c.collect.ensures.ran
+    (YieldsList-from_slice_split _ (is_bare c.args.is_inside c.args.octet) c.args.tokens.now c.split.ensures.rest c.split.ensures.done c.split.ensures.closure (λ x b q k. search rules))

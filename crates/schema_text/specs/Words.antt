@@ -1,0 +1,73 @@
+-- The words of a description: RFC 4512 1.4. Octets flow in, a yes or no flows out; spaces, quotes and fields are not here.
+use Rattle.std.specs.Prelude.{ℕ, ◌+◌, ◌-◌, List, [], ◌∷◌, length, map, take, drop, position, slice_get, Bool, false, not, cond, ◌&&◌, ◌||◌, Option, None, Some, nat_eq, nat_le, nat_lt}
+use Rattle.std.specs.List.{list_all, slice_split}
+use Rattle.std.specs.Char.{to_ascii_lowercase}
+use Rattle.std.specs.Str.{bytes_eq}
+
+-- the same without regard to case (RFC 4512 1.4, descr; RFC 4234 2.3, keywords)
+abbrev pub is_same_word : List ℕ → List ℕ → Bool
+is_same_word a b = bytes_eq (map to_ascii_lowercase a) (map to_ascii_lowercase b)
+
+-- ALPHA
+abbrev pub is_alpha : ℕ → Bool
+is_alpha c = (nat_le 65 c && nat_le c 90) || (nat_le 97 c && nat_le c 122)
+
+-- DIGIT
+abbrev pub is_digit : ℕ → Bool
+is_digit c = nat_le 48 c && nat_le c 57
+
+-- keychar: ALPHA, DIGIT or HYPHEN
+abbrev pub is_key_octet : ℕ → Bool
+is_key_octet c = is_alpha c || is_digit c || nat_eq c 45
+
+-- descr: an ALPHA, then keychars (RFC 4512 1.4)
+abbrev pub is_descr : List ℕ → Bool
+is_descr [] = false
+is_descr (c ∷ cs) = is_alpha c && list_all is_key_octet cs
+
+-- number: digits without a leading zero, or 0 (RFC 4512 1.4)
+abbrev pub is_number : List ℕ → Bool
+is_number [] = false
+is_number (c ∷ cs) = is_digit c && list_all is_digit cs && (nat_eq (length cs) 0 || not (nat_eq c 48))
+
+-- numericoid: numbers with dots between them, two at least (RFC 4512 1.4)
+abbrev pub is_numericoid : List ℕ → Bool
+is_numericoid word =
+    let numbers = slice_split (nat_eq 46) word in
+    nat_lt 1 (length numbers) && list_all is_number numbers
+
+-- oid: a descr or a numericoid (RFC 4512 1.4)
+abbrev pub is_oid : List ℕ → Bool
+is_oid word = is_descr word || is_numericoid word
+
+abbrev pub is_octet : ℕ → Option ℕ → Bool
+is_octet c None = false
+is_octet c (Some x) = nat_eq x c
+
+-- whether the last octet is this one
+abbrev pub ends_with : ℕ → List ℕ → Bool
+ends_with c word = is_octet c (slice_get word (length word - 1))
+
+-- len in its braces, behind the first of them (RFC 4512 1.4, noidlen)
+abbrev pub is_length : List ℕ → Bool
+is_length word = ends_with 125 word && is_number (take (length word - 1) word)
+
+abbrev pub bounded_at : List ℕ → Option ℕ → Option (List ℕ)
+bounded_at word None = cond (is_numericoid word) (Some word) None
+bounded_at word (Some i) = cond (is_numericoid (take i word) && is_length (drop (i + 1) word)) (Some (take i word)) None
+
+-- the numericoid of a noidlen: a numericoid, and a number in braces or nothing (RFC 4512 1.4)
+abbrev pub bounded_oid : List ℕ → Option (List ℕ)
+bounded_oid word = bounded_at word (position (nat_eq 123) word)
+
+abbrev pub is_extension_octet : ℕ → Bool
+is_extension_octet c = is_alpha c || nat_eq c 45 || nat_eq c 95
+
+abbrev pub is_extension_rest : List ℕ → Bool
+is_extension_rest [] = false
+is_extension_rest (c ∷ cs) = nat_eq c 45 && nat_lt 0 (length cs) && list_all is_extension_octet cs
+
+-- xstring: `X-`, then ALPHAs, HYPHENs and underscores, one at least (RFC 4512 4.1)
+abbrev pub is_extension : List ℕ → Bool
+is_extension [] = false
+is_extension (c ∷ cs) = (nat_eq c 88 || nat_eq c 120) && is_extension_rest cs

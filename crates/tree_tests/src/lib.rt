@@ -1,0 +1,8 @@
+//! Tests of the directory's tree: entries that are added, found, moved and taken out, with answers worked out by hand from the
+//! standard's words, not from the program. Proofs, and what clauses say already, are not here.
+#![tactic(auto)]
+
+pub mod asking;
+pub mod sample;
+#[cfg(test)]
+mod tests;
