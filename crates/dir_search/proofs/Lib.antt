@@ -1,2 +1,5 @@
 pub mod Limits
 pub mod Selectors
+pub mod Numbers
+pub mod Scoped
+pub mod Answered

@@ -1,15 +1,16 @@
--- The size limit: where a search stops, and what it has shown by then.
-use Rattle.std.proofs.Common.{◌≡◌, ◌⊎◌, inl, inr, ⊎_elim, ◌<◌, ◌≤◌, ◌+◌, ℕ, zero, suc, Bool, true, false, cond, if◌then◌else◌, ◌&&◌, nat_lt, List, [], ◌∷◌, ◌++◌, length, map, filter, take, drop, refl, sym, ap, ◌∙◌, subst, arith, length-append, slice_index_or, take-append-drop}
+-- The size limit: where a search stops, and what it has shown by then. Entries are tried by their numbers.
+use Rattle.std.proofs.Common.{◌≡◌, ◌<◌, ◌≤◌, ◌+◌, ℕ, zero, suc, Bool, true, false, cond, ◌&&◌, nat_lt, nat_eq, List, [], ◌∷◌, ◌++◌, length, map, filter, take, drop, refl, sym, ap, ◌∙◌, subst, arith, length-append, slice_index_or, take-append-drop, Option, None, Some}
 use Rattle.std.proofs.lemmas.Bool.Decides.{nat_tests}
 use Rattle.std.proofs.lemmas.List.{take_at, take_more, drop_more, map-append, append-nil}
 use Rattle.std.proofs.lemmas.List.Elements.{filter-append}
 use Rattle.ldap_msg.specs.Messages.{SearchResultEntryValue}
-use Rattle.dir_store.specs.Directory.{NamedEntry}
 use Rattle.ldap_schema.specs.Schema.{SchemaModel}
 use Rattle.dir_entry.specs.Entry.{IsKeyedBy}
+use Rattle.dir_tree.specs.Directory.{Entered, entry_at}
+use Rattle.dir_store.specs.Directory.{NamedEntry}
 use Rattle.dir_store.specs.Stored.{named, AreKeyedBy}
-use Rattle.dir_store.specs.declared.stored.StoredEntry.{StoredEntry}
 use Rattle.dir_search.specs.Answer.{Answer, limited}
+use Rattle.dir_search.specs.Numbered.{put_some, entries_of}
 
 -- what is shown of the entries so far, and that it is within the limit
 pub record SoFar (passes : NamedEntry → Bool) (show : NamedEntry → SearchResultEntryValue) (limit : ℕ) (tried : List NamedEntry) (shown : List SearchResultEntryValue) : Type 0 where
@@ -17,43 +18,62 @@ pub record SoFar (passes : NamedEntry → Bool) (show : NamedEntry → SearchRes
   pub within : 0 < limit → length shown ≤ limit
 
 -- more entries than the limit
-pub limited_past : (limit : ℕ) (xs : List SearchResultEntryValue) (x : SearchResultEntryValue) (ys : List SearchResultEntryValue) → 0 < limit → length xs ≡ limit → limited limit (xs ++ x ∷ ys) ≡ record { code = 4; entries = xs }
+pub limited_past : (limit : ℕ) (xs : List SearchResultEntryValue) (x : SearchResultEntryValue) (ys : List SearchResultEntryValue) → 0 < limit → length xs ≡ limit → limited limit (xs ++ x ∷ ys) ≡ record { code = 4; matched = []; entries = xs }
 limited_past limit xs x ys pos size =
     let long : length (xs ++ x ∷ ys) ≡ limit + suc (length ys) = omega (arith, length-append xs (x ∷ ys), size) in
     let a : nat_lt 0 limit ≡ true = grind (arith, nat_tests) in
     let b : nat_lt limit (length (xs ++ x ∷ ys)) ≡ true = grind (arith, nat_tests) in
     let all = xs ++ x ∷ ys in
     let c : (nat_lt 0 limit && nat_lt limit (length all)) ≡ true = ap (λ (v : Bool). v && nat_lt limit (length all)) a ∙ b in
-    let P : Bool → Answer = λ v. if v then record { code = 4; entries = take limit all } else record { code = 0; entries = all } in
+    let P : Bool → Answer = λ v. cond v (record { code = 4; matched = []; entries = take limit all }) (record { code = 0; matched = []; entries = all }) in
     let front : take limit all ≡ xs = take_at xs (x ∷ ys) limit size in
-    ap P c ∙ ap (λ (l : List SearchResultEntryValue). record { code = 4; entries = l }) front
+    ap P c ∙ ap (λ (l : List SearchResultEntryValue). record { code = 4; matched = []; entries = l }) front
 
 -- no more than the limit, or none is set
-pub limited_within : (limit : ℕ) (xs : List SearchResultEntryValue) → (0 < limit → length xs ≤ limit) → limited limit xs ≡ record { code = 0; entries = xs }
+pub limited_within : (limit : ℕ) (xs : List SearchResultEntryValue) → (0 < limit → length xs ≤ limit) → limited limit xs ≡ record { code = 0; matched = []; entries = xs }
 limited_within zero xs within = refl
 limited_within (suc n) xs within =
     let le : length xs ≤ suc n = within (omega arith) in
     let a : nat_lt 0 (suc n) ≡ true = grind (arith, nat_tests) in
     let b : nat_lt (suc n) (length xs) ≡ false = grind (arith, nat_tests) in
     let c : (nat_lt 0 (suc n) && nat_lt (suc n) (length xs)) ≡ false = ap (λ (v : Bool). v && nat_lt (suc n) (length xs)) a ∙ b in
-    let P : Bool → Answer = λ v. if v then record { code = 4; entries = take (suc n) xs } else record { code = 0; entries = xs } in
+    let P : Bool → Answer = λ v. cond v (record { code = 4; matched = []; entries = take (suc n) xs }) (record { code = 0; matched = []; entries = xs }) in
     ap P c
 
--- the entries that were tried, and one more
-pub tried_more : (all : List StoredEntry) (i : ℕ) (x : StoredEntry) → i < length all → x ≡ slice_index_or all i x → map named (take (i + 1) all) ≡ map named (take i all) ++ named x ∷ []
-tried_more all i x lt is =
-    ap (λ (l : List StoredEntry). map named l) (take_more all i x lt ∙ ap (λ (y : StoredEntry). take i all ++ y ∷ []) (sym is))
-    ∙ map-append named (take i all) (x ∷ [])
+joined : (o : Option Entered) (es fs : List Entered) → put_some o es ++ fs ≡ put_some o (es ++ fs)
+joined None es fs = refl
+joined (Some e) es fs = refl
 
--- all entries: those that were tried, this one and the rest
-pub all_are : (all : List StoredEntry) (i : ℕ) (x : StoredEntry) → i < length all → x ≡ slice_index_or all i x → map named all ≡ map named (take i all) ++ named x ∷ map named (drop (i + 1) all)
-all_are all i x lt is =
-    ap (λ (l : List StoredEntry). map named l) (sym (take-append-drop i all) ∙ ap (λ (l : List StoredEntry). take i all ++ l) (drop_more all i x lt ∙ ap (λ (y : StoredEntry). y ∷ drop (i + 1) all) (sym is)))
-    ∙ map-append named (take i all) (x ∷ drop (i + 1) all)
+-- the entries of numbers, and of more behind them
+entries_join : (d : List Entered) (ks ls : List ℕ) → entries_of (ks ++ ls) d ≡ entries_of ks d ++ entries_of ls d
+entries_join d [] ls = refl
+entries_join d (k ∷ ks) ls = ap (put_some (entry_at k d)) (entries_join d ks ls) ∙ sym (joined (entry_at k d) (entries_of ks d) (entries_of ls d))
+
+module _ (d : List Entered) (ks : List ℕ) (i k : ℕ) (lt : i < length ks) (is : k ≡ slice_index_or ks i k) where
+  taken : entries_of (take (i + 1) ks) d ≡ entries_of (take i ks) d ++ put_some (entry_at k d) []
+  taken = ap (λ (l : List ℕ). entries_of l d) (take_more ks i k lt ∙ ap (λ (n : ℕ). take i ks ++ n ∷ []) (sym is)) ∙ entries_join d (take i ks) (k ∷ [])
+
+  -- a number that no entry has
+  pub tried_none : entry_at k d ≡ None → map named (entries_of (take (i + 1) ks) d) ≡ map named (entries_of (take i ks) d)
+  tried_none none =
+      ap (λ (l : List Entered). map named l) (taken ∙ ap (λ (o : Option Entered). entries_of (take i ks) d ++ put_some o []) none ∙ append-nil (entries_of (take i ks) d))
+
+  -- the entries that were tried, and one more
+  pub tried_more : (x : Entered) → entry_at k d ≡ Some x → map named (entries_of (take (i + 1) ks) d) ≡ map named (entries_of (take i ks) d) ++ named x ∷ []
+  tried_more x some =
+      ap (λ (l : List Entered). map named l) (taken ∙ ap (λ (o : Option Entered). entries_of (take i ks) d ++ put_some o []) some)
+      ∙ map-append named (entries_of (take i ks) d) (x ∷ [])
+
+  -- all entries: those that were tried, this one and the rest
+  pub all_are : (x : Entered) → entry_at k d ≡ Some x → map named (entries_of ks d) ≡ map named (entries_of (take i ks) d) ++ named x ∷ map named (entries_of (drop (i + 1) ks) d)
+  all_are x some =
+      ap (λ (l : List ℕ). map named (entries_of l d)) (sym (take-append-drop i ks) ∙ ap (λ (l : List ℕ). take i ks ++ l) (drop_more ks i k lt ∙ ap (λ (n : ℕ). n ∷ drop (i + 1) ks) (sym is)))
+      ∙ ap (λ (l : List Entered). map named l) (entries_join d (take i ks) (k ∷ drop (i + 1) ks) ∙ ap (λ (o : Option Entered). entries_of (take i ks) d ++ put_some o (entries_of (drop (i + 1) ks) d)) some)
+      ∙ map-append named (entries_of (take i ks) d) (x ∷ entries_of (drop (i + 1) ks) d)
 
 module _ (passes : NamedEntry → Bool) (show : NamedEntry → SearchResultEntryValue) (limit : ℕ) (tried : List NamedEntry) (shown : List SearchResultEntryValue) (e : NamedEntry) where
-  one : (b : Bool) → passes e ≡ b → (rest : List NamedEntry) → filter passes (e ∷ rest) ≡ (if b then e ∷ filter passes rest else filter passes rest)
-  one b is rest = ap (λ (v : Bool). if v then e ∷ filter passes rest else filter passes rest) is
+  one : (b : Bool) → passes e ≡ b → (rest : List NamedEntry) → filter passes (e ∷ rest) ≡ cond b (e ∷ filter passes rest) (filter passes rest)
+  one b is rest = ap (λ (v : Bool). cond v (e ∷ filter passes rest) (filter passes rest)) is
 
   -- an entry that doesn't match
   pub skips : SoFar passes show limit tried shown → passes e ≡ false → SoFar passes show limit (tried ++ e ∷ []) shown
@@ -74,7 +94,7 @@ module _ (passes : NamedEntry → Bool) (show : NamedEntry → SearchResultEntry
 
   -- an entry that matches, past the limit
   pub stops : SoFar passes show limit tried shown → passes e ≡ true → 0 < limit → length shown ≡ limit → (all rest : List NamedEntry) → all ≡ tried ++ e ∷ rest
-      → limited limit (map show (filter passes all)) ≡ record { code = 4; entries = shown }
+      → limited limit (map show (filter passes all)) ≡ record { code = 4; matched = []; entries = shown }
   stops so_far matches pos size all rest is =
       let found : map show (filter passes all) ≡ shown ++ show e ∷ map show (filter passes rest) =
       ap (λ (l : List NamedEntry). map show (filter passes l)) is
@@ -83,8 +103,15 @@ module _ (passes : NamedEntry → Bool) (show : NamedEntry → SearchResultEntry
       ∙ ap (λ (l : List SearchResultEntryValue). l ++ show e ∷ map show (filter passes rest)) (sym so_far.is) in
       ap (limited limit) found ∙ limited_past limit shown (show e) (map show (filter passes rest)) pos size
 
--- the keys of an entry at some place are those of the schema
-pub keyed_at : (s : SchemaModel) (es : List StoredEntry) (i : ℕ) (x : StoredEntry) → AreKeyedBy s es → i < length es → x ≡ slice_index_or es i x → IsKeyedBy s x.entry
-keyed_at s [] i x keyed lt is = absurd (omega arith)
-keyed_at s (e ∷ es) zero x keyed lt is = subst (λ (y : StoredEntry). IsKeyedBy s y.entry) (sym is) keyed.0
-keyed_at s (e ∷ es) (suc i) x keyed lt is = keyed_at s es i x keyed.1 (omega (arith, lt)) is
+-- the keys of the entry of a number are those of the schema
+pub keyed_at : (s : SchemaModel) (d : List Entered) (k : ℕ) (x : Entered) → AreKeyedBy s d → entry_at k d ≡ Some x → IsKeyedBy s x.entry
+keyed_at s [] k x keyed h = absurd (cc h)
+keyed_at s (e ∷ es) k x keyed h = by (nat_eq k e.number) (keyed_at s es k x keyed.1) h
+  where
+    by : (b : Bool) → (entry_at k es ≡ Some x → IsKeyedBy s x.entry) → cond b (Some e) (entry_at k es) ≡ Some x → IsKeyedBy s x.entry
+    by true ih h = let same : e ≡ x = cc h in subst (λ (y : Entered). IsKeyedBy s y.entry) same keyed.0
+    by false ih h = ih h
+
+-- an answer without a name
+pub ended : (code : ℕ) (matched : List ℕ) (shown : List SearchResultEntryValue) → matched ≡ [] → ◌≡◌ {A = Answer} (record { code = code; matched = matched; entries = shown }) (record { code = code; matched = []; entries = shown })
+ended code matched shown h = ap (λ (m : List ℕ). let a : Answer = record { code = code; matched = m; entries = shown } in a) h

@@ -1,6 +1,13 @@
 -- Selectors one after another.
 use Rattle.std.proofs.Common.{◌≡◌, ◌<◌, ◌+◌, ◌||◌, ℕ, zero, suc, Bool, true, false, List, [], ◌∷◌, length, map, refl, sym, ap, ◌∙◌, subst, slice_index_or, string_bytes, String, Global, arith}
 use Rattle.std.specs.List.{list_any}
+use Rattle.std.specs.Prelude.{◌↔◌}
+use Rattle.std.specs.Bool.{IsTrue}
+use Rattle.std.specs.Str.{bytes_eq}
+use Rattle.std.proofs.lemmas.Slice.Eq.{bytes_eq-Decides}
+use Rattle.ldap_schema.specs.Schema.{SchemaModel, is_under}
+use Rattle.dir_entry.specs.Entry.{KeyedAttribute, attributes_of}
+use Rattle.dir_search.specs.Compared.{has_under}
 
 or_true : (b : Bool) → b || true ≡ true
 or_true true = refl
@@ -14,3 +21,18 @@ some_at p (y ∷ xs) zero x lt is passes =
     ap (λ (b : Bool). b || list_any p (map string_bytes xs)) here
 some_at p (y ∷ xs) (suc i) x lt is passes =
     ap (λ (b : Bool). p (string_bytes y) || b) (some_at p xs i x (omega (arith, lt)) is passes) ∙ or_true (p (string_bytes y))
+
+-- whether some attribute is under a type is asked of types alone
+pub some_under : (s : SchemaModel) (t : ℕ) (e : List KeyedAttribute) → list_any (λ a. is_under s a.kind t) e ≡ has_under s t (attributes_of e)
+some_under s t [] = refl
+some_under s t (a ∷ e) = ap (λ (b : Bool). is_under s a.kind t || b) (some_under s t e)
+
+-- a test of two lists of octets
+pub same_test : (r : Bool) (a b : List ℕ) → (IsTrue r ↔ (a ≡ b)) → r ≡ bytes_eq a b
+same_test r a b h = by r (bytes_eq a b) refl h
+  where
+    by : (r e : Bool) → bytes_eq a b ≡ e → (IsTrue r ↔ (a ≡ b)) → r ≡ e
+    by true true f h = refl
+    by false false f h = refl
+    by true false f h = let t : bytes_eq a b ≡ true = (bytes_eq-Decides a b).1 (h.0 refl) in absurd (cc (f, t))
+    by false true f h = let t : false ≡ true = h.1 ((bytes_eq-Decides a b).0 f) in absurd (cc t)

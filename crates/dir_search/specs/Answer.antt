@@ -1,8 +1,10 @@
--- The answer of a search: RFC 4511 4.5.1, 4.5.2 and 4.1.9. A directory and a search request flow in; the result code and
--- what is shown of each entry flow out.
-use Rattle.std.specs.Prelude.{ℕ, List, [], ◌∷◌, Bool, true, false, ◌&&◌, if◌then◌else◌, map, filter, take, length, nat_lt}
+-- The answer of a search: RFC 4511 4.5.1, 4.5.2 and 4.1.9. A directory and a search request flow in; the result code, matchedDN and what is
+-- shown of each entry flow out.
+use Rattle.std.specs.Prelude.{ℕ, List, [], ◌∷◌, Bool, true, false, ◌&&◌, ◌||◌, cond, map, filter, take, length, nat_lt, Option, None, Some, is_some}
 use Rattle.ldap_schema.specs.Schema.{SchemaModel}
 use Rattle.ldap_filter.specs.Tree.{Tree}
+use Rattle.ldap_dn.specs.Names.{RdnModel, rdns}
+use Rattle.ldap_dn.specs.Texts.{name_of_text}
 use Rattle.ldap_match.specs.declared.truth.Truth.{Truth}
 use Rattle.ldap_match.specs.declared.truth.Truth.TheVariants.{True, False, Undefined}
 use Rattle.ldap_requests.specs.declared.search.Scope.{Scope}
@@ -10,11 +12,16 @@ use Rattle.ldap_requests.specs.declared.search.Scope.TheVariants.{BaseObject, Si
 use Rattle.ldap_msg.specs.Messages.{SearchRequestValue, SearchResultEntryValue}
 use Rattle.ldap_eval.specs.Value.{filter_value}
 use Rattle.dir_store.specs.Directory.{Directory, NamedEntry}
+use Rattle.dir_store.specs.Places.{entry_named}
+use Rattle.dir_store.specs.Replies.{ReplyModel, only, not_found}
+use Rattle.dir_search.specs.Scopes.{is_in_scope}
 use Rattle.dir_search.specs.Selection.{selected}
+use Rattle.dir_search.specs.RootDse.{dse_attributes, dse_selected}
 
--- a result code, and the entries that are shown
+-- a result code, matchedDN, and the entries that are shown
 pub record Answer : Type 0 where
   pub code : ℕ
+  pub matched : List ℕ
   pub entries : List SearchResultEntryValue
 
 abbrev pub is_true : Truth → Bool
@@ -22,34 +29,65 @@ is_true True = true
 is_true False = false
 is_true Undefined = false
 
-abbrev pub is_subtree : Scope → Bool
-is_subtree WholeSubtree = true
-is_subtree BaseObject = false
-is_subtree SingleLevel = false
-is_subtree SubordinateSubtree = false
-
-abbrev pub is_empty : List ℕ → Bool
-is_empty [] = true
-is_empty (x ∷ xs) = false
-
--- The one base and scope that are served: the empty name and all entries.
-abbrev pub is_served : SearchRequestValue → Bool
-is_served q = is_empty q.base && is_subtree q.scope
-
 -- whether a filter's value on an entry is True (RFC 4511 4.5.1.7)
 abbrev pub is_match : SchemaModel → Tree → NamedEntry → Bool
 is_match s f e = is_true (filter_value s f e.attributes)
 
--- the entries whose filter value is True, in order of number, each once
-abbrev pub matching : Directory → SearchRequestValue → List NamedEntry
-matching d q = filter (is_match d.schema q.filter) d.entries
+-- the entries in scope, in order of number
+abbrev pub in_scope : Directory → Scope → List RdnModel → List NamedEntry
+in_scope d scope base = filter (λ e. is_in_scope (rdns d.suffix) scope (rdns base) (rdns e.name)) d.entries
+
+-- the entries in scope whose filter value is True, in order of number, each once
+abbrev pub matching : Directory → SearchRequestValue → List RdnModel → List NamedEntry
+matching d q base = filter (is_match d.schema q.filter) (in_scope d q.scope base)
 
 -- At most so many entries are shown, if the limit isn't 0; sizeLimitExceeded (4) where there are more, else success (0).
 abbrev pub limited : ℕ → List SearchResultEntryValue → Answer
 limited limit shown =
-    if nat_lt 0 limit && nat_lt limit (length shown) then record { code = 4; entries = take limit shown } else record { code = 0; entries = shown }
+    cond (nat_lt 0 limit && nat_lt limit (length shown)) (record { code = 4; matched = []; entries = take limit shown }) (record { code = 0; matched = []; entries = shown })
 
--- unwillingToPerform (53) for another base or scope
+-- no entries, and a reply
+abbrev pub refused : ReplyModel → Answer
+refused r = record { code = r.code; matched = r.matched; entries = [] }
+
+-- the root DSE, where the filter's value on it is True (RFC 4512 5.1)
+abbrev pub dse_matching : Directory → SearchRequestValue → List SearchResultEntryValue
+dse_matching d q = cond (is_true (filter_value d.schema q.filter (dse_attributes d.schema))) (dse_selected d q.attributes q.types_only ∷ []) []
+
+abbrev pub is_empty : List RdnModel → Bool
+is_empty [] = true
+is_empty (r ∷ rs) = false
+
+abbrev pub is_base : Scope → Bool
+is_base BaseObject = true
+is_base SingleLevel = false
+is_base WholeSubtree = false
+is_base SubordinateSubtree = false
+
+abbrev pub is_subordinate : Scope → Bool
+is_subordinate BaseObject = false
+is_subordinate SingleLevel = false
+is_subordinate WholeSubtree = false
+is_subordinate SubordinateSubtree = true
+
+-- the entries in scope that match, as they are shown, up to the limit
+abbrev pub found_at : Directory → SearchRequestValue → List RdnModel → Answer
+found_at d q base = limited q.size_limit (map (selected d.schema q.attributes q.types_only) (matching d q base))
+
+-- the empty name always stands, beside the names of entries
+abbrev pub stands : Directory → List RdnModel → Bool
+stands d base = is_empty base || is_some (entry_named (rdns base) d.entries)
+
+-- the answer at a base that can be read: the root DSE, the entries, or noSuchObject (32)
+abbrev pub answer_at : Directory → SearchRequestValue → List RdnModel → Answer
+answer_at d q base =
+    cond (is_empty base && is_base q.scope) (record { code = 0; matched = []; entries = dse_matching d q })
+    (cond (stands d base) (found_at d q base) (refused (not_found d base)))
+
+abbrev pub answer_of : Directory → SearchRequestValue → Option (List RdnModel) → Answer
+answer_of d q None = refused (only 34)
+answer_of d q (Some base) = answer_at d q base
+
+-- The answer of a search: protocolError (2) for the scope that is no scope of RFC 4511, invalidDNSyntax (34) for a base that can't be read, then as above.
 abbrev pub answer : Directory → SearchRequestValue → Answer
-answer d q =
-    if is_served q then limited q.size_limit (map (selected d.schema q.attributes q.types_only) (matching d q)) else record { code = 53; entries = [] }
+answer d q = cond (is_subordinate q.scope) (refused (only 2)) (answer_of d q (name_of_text d.schema q.base))

@@ -1,3 +1,7 @@
+pub mod Scopes
 pub mod Selection
+pub mod RootDse
 pub mod Answer
+pub mod Compared
+pub mod Numbered
 pub mod View

@@ -6,6 +6,7 @@ use Rattle.std.specs.Str.{bytes_eq}
 use Rattle.ldap_schema.specs.Schema.{SchemaModel, TypeModel, find, is_under, type_at}
 use Rattle.dir_entry.specs.Entry.{AttributeModel}
 use Rattle.ldap_msg.specs.Messages.{PartialAttributeValue, SearchResultEntryValue}
+use Rattle.ldap_dn.specs.Printed.{printed_name}
 use Rattle.dir_store.specs.Directory.{NamedEntry}
 
 -- a recognised description selects its type and the subtypes (RFC 4512 2.5.1); another one selects nothing
@@ -38,7 +39,11 @@ first_name s t = name_in (type_at s t)
 abbrev pub shown : SchemaModel → Bool → AttributeModel → PartialAttributeValue
 shown s types_only a = record { description = first_name s a.kind; values = if types_only then [] else a.values }
 
--- What is shown of an entry: its name, and the selected attributes in its order.
+-- the selected attributes, in their order
+abbrev pub attributes_selected : SchemaModel → List (List ℕ) → Bool → List AttributeModel → List PartialAttributeValue
+attributes_selected s selectors types_only attributes = map (shown s types_only) (filter (λ a. is_selected s selectors a.kind) attributes)
+
+-- What is shown of an entry: its printed name, and the selected attributes in its order.
 abbrev pub selected : SchemaModel → List (List ℕ) → Bool → NamedEntry → SearchResultEntryValue
 selected s selectors types_only e =
-    record { object_name = e.name; attributes = map (shown s types_only) (filter (λ a. is_selected s selectors a.kind) e.attributes) }
+    record { object_name = printed_name s e.name; attributes = attributes_selected s selectors types_only e.attributes }

@@ -1,10 +1,14 @@
-//! Searches: a directory and a search request flow in, the result code and the entries that are shown flow out. Octets of
+//! Searches and compares: a directory and a request flow in, the result code and the entries that are shown flow out. Octets of
 //! messages, sessions and replication are not here.
 #![tactic(auto)]
 
+mod comparing;
 mod found;
+mod root_dse;
+mod scoping;
 mod searching;
 mod selecting;
 
+pub use comparing::compare;
 pub use found::SearchAnswer;
 pub use searching::search;

@@ -3,12 +3,12 @@
 ghost use Rattle.std.specs.Prelude.{◌≡◌, ◌&&◌, ◌||◌, ℕ, List, [], map, IfOk, codes, string_bytes, filter, if◌then◌else◌};
 ghost use Rattle.std.specs.List.{list_any};
 ghost use Rattle.ldap_msg.specs.View.{attribute_view, entry_view};
-ghost use Rattle.dir_entry.specs.Entry.{shown as without_keys};
-ghost use Rattle.dir_store.specs.Stored.{named};
-ghost use Rattle.dir_search.specs.Selection.{is_selected, is_selected_by, first_name, shown, selected};
+ghost use Rattle.ldap_dn.specs.Printed.{printed_name};
+ghost use Rattle.dir_entry.specs.Entry.{shown as without_keys, attributes_of};
+ghost use Rattle.dir_search.specs.Selection.{is_selected, is_selected_by, first_name, shown, attributes_selected};
 
 use dir_entry::Attribute;
-use dir_store::StoredEntry;
+use dir_tree::NamedEntry;
 use ldap_msg::{PartialAttribute, SearchResultEntry};
 use ldap_schema::{Schema, TypeId};
 use std::alloc::{AllocError, Global};
@@ -93,16 +93,16 @@ fn show(
     })
 }
 
-/// What is shown of an entry's attributes.
-fn show_selected(
+/// What is shown of attributes.
+pub fn show_selected(
     alloc: Global,
     schema: &Schema,
     selectors: &[String],
     types_only: bool,
     attributes: &[Attribute],
 ) -> Result<Vec<PartialAttribute>, AllocError>
-    ensures { IfOk result (λ r. map attribute_view r.items ≡ map (shown schema.now types_only)
-        (filter (λ a. is_selected schema.now (map string_bytes selectors.now) a.kind) (map without_keys attributes.now))) }
+    ensures { IfOk result (λ r. map attribute_view r.items
+        ≡ attributes_selected schema.now (map string_bytes selectors.now) types_only (attributes_of attributes.now)) }
 {
     let mut shown = Vec::new(alloc);
     for attribute in attributes {
@@ -119,18 +119,21 @@ pub fn select(
     schema: &Schema,
     selectors: &[String],
     types_only: bool,
-    stored: &StoredEntry,
+    held: &NamedEntry,
 ) -> Result<SearchResultEntry, AllocError>
-    ensures { IfOk result (λ e. entry_view e ≡ selected schema.now (map string_bytes selectors.now) types_only (named stored.now)) }
+    ensures { IfOk result (λ e. entry_view e ≡ record {
+      object_name = printed_name schema.now held.now.name;
+      attributes = attributes_selected schema.now (map string_bytes selectors.now) types_only (attributes_of held.now.entry);
+    }) }
 {
     let attributes = show_selected(
         alloc,
         schema,
         selectors,
         types_only,
-        stored.entry.attributes(),
+        held.entry.attributes(),
     )?;
-    let object_name = stored.name.clone()?;
+    let object_name = held.name.print(alloc, schema)?;
     Ok(SearchResultEntry {
         object_name,
         attributes,

@@ -1,1 +1,4 @@
-pub mod Kept
+pub mod Found
+pub mod Moves
+pub mod Shown
+pub mod Below

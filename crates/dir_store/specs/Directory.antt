@@ -1,14 +1,18 @@
--- The directory as everything above sees it: its schema, and its entries in order of number, each with the text of its
--- name and its attributes. RFC 4512 2.3.
+-- The directory as everything above sees it: its schema, the name of its root, and its entries in order of number, each with its name and
+-- its attributes. RFC 4512 2. How entries are kept is not here.
 use Rattle.std.specs.Prelude.{ℕ, List}
 use Rattle.ldap_schema.specs.Schema.{SchemaModel}
+use Rattle.ldap_dn.specs.Names.{RdnModel}
 use Rattle.dir_entry.specs.Entry.{AttributeModel}
 
--- an entry with its printed name
+-- an entry: the number of the update that added it, its name as it is spelled, root first, and its attributes
 pub record NamedEntry : Type 0 where
-  pub name : List ℕ
+  pub number : ℕ
+  pub name : List RdnModel
   pub attributes : List AttributeModel
 
+-- the schema, the name of the root, and the entries in rising order of number
 pub record Directory : Type 0 where
   pub schema : SchemaModel
+  pub suffix : List RdnModel
   pub entries : List NamedEntry

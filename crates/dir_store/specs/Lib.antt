@@ -1,4 +1,6 @@
 pub mod Directory
+pub mod Places
+pub mod Replies
+pub mod Updates
 pub mod Stored
-pub mod Adding
-pub mod Refused
+pub mod View

@@ -1,14 +1,24 @@
--- What the kept entries stand for, and that their keys are those of the schema.
-use Rattle.std.specs.Prelude.{ℕ, List, [], ◌∷◌, map, string_bytes}
+-- What is kept stands for: entries with keys, as the tree has them, for entries without. Checks of updates are not here.
+use Rattle.std.specs.Prelude.{◌<◌, ℕ, List, [], ◌∷◌, map}
 use Rattle.ldap_schema.specs.Schema.{SchemaModel}
 use Rattle.dir_entry.specs.Entry.{attributes_of, IsKeyedBy}
-use Rattle.dir_store.specs.Directory.{NamedEntry}
-use Rattle.dir_store.specs.declared.stored.StoredEntry.{StoredEntry}
+use Rattle.dir_tree.specs.Directory.{Entered, TreeModel}
+use Rattle.dir_store.specs.Directory.{Directory, NamedEntry}
 
--- an entry without its keys and where it lies in memory
-abbrev pub named : StoredEntry → NamedEntry
-named e = record { name = string_bytes e.name; attributes = attributes_of e.entry }
+-- an entry without its keys
+abbrev pub named : Entered → NamedEntry
+named e = record { number = e.number; name = e.name; attributes = attributes_of e.entry }
 
-abbrev pub AreKeyedBy : SchemaModel → List StoredEntry → Type 0
+-- the directory of a schema and a tree
+abbrev pub directory : SchemaModel → TreeModel → Directory
+directory s t = record { schema = s; suffix = t.suffix; entries = map named t.entries }
+
+-- The keys of each entry are those of its values under a schema.
+abbrev pub AreKeyedBy : SchemaModel → List Entered → Type 0
 AreKeyedBy s [] = Unit {0}
 AreKeyedBy s (e ∷ es) = IsKeyedBy s e.entry × AreKeyedBy s es
+
+-- each number is below this one
+abbrev pub NumbersBelow : ℕ → List NamedEntry → Type 0
+NumbersBelow k [] = Unit {0}
+NumbersBelow k (e ∷ es) = (e.number < k) × NumbersBelow k es

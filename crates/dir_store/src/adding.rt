@@ -1,70 +1,138 @@
-//! What an add asks for. A schema and the attributes that are given flow in; the new entry, or a refusal, flows out. The
-//! directory is not here.
-ghost use Rattle.std.specs.Prelude.{◌≡◌, [], Ok, map, IfOk, IfErr, OnOk, OnErr};
-ghost use Rattle.dir_entry.specs.Entry.{attributes_of, IsKeyedBy};
-ghost use Rattle.ldap_msg.specs.View.{attribute_view};
-ghost use Rattle.ldap_schema.specs.Schema.{find as type_of};
-ghost use Rattle.dir_store.specs.Adding.{with_given, with_all_given, attributes_asked};
-ghost use Rattle.dir_store.specs.Refused.{RefusedAs};
+//! What an add asks for. A schema, a tree and a request flow in; the new entry with its whole name, or a refusal, flows out. The tree stays
+//! as it is.
+ghost use Rattle.std.specs.Prelude.{◌≡◌, ◌++◌, Ok, true, false, is_some, IfOk, IfErr, OnOk, map};
+ghost use Rattle.ldap_dn.specs.Names.{rdns};
+ghost use Rattle.ldap_parts.specs.View.{attribute_view};
+ghost use Rattle.ldap_updates.specs.View.{add_view};
+ghost use Rattle.dir_entry.specs.Entry.{IsKeyedBy};
+ghost use Rattle.dir_tree.specs.Directory.{find, has_footing};
+ghost use Rattle.dir_store.specs.Places.{last_of};
+ghost use Rattle.dir_store.specs.Stored.{directory, AreKeyedBy};
+ghost use Rattle.dir_store.specs.Updates.{place_under, place_asked, addition_of, addition_at as addition_that_stands, addition as addition_that_is_asked};
+ghost use Rattle.dir_store.specs.View.{placed_view, RefusedWith};
 
-use crate::fault::AddError;
+use crate::fault::{StoreError, refused_attributes};
+use crate::finding::{asked_entry, is_same, is_taken};
+use crate::names::{asked_name, own_rdn, parent_of_name};
+use crate::reply::only;
 use dir_entry::Entry;
-use ldap_msg::{Attribute, ResultCode};
+use dir_tree::Tree;
+use entry_updates::entry_asked;
+use ldap_dn::{Name, Rdn, TypeAndValue};
+use ldap_parts::{PartialAttribute, ResultCode};
 use ldap_schema::Schema;
+use ldap_updates::AddRequest;
 use std::alloc::{AllocError, Global};
 
-/// A copy of a list of values.
-fn copy_values(alloc: Global, values: &[Vec<u8>]) -> Result<Vec<Vec<u8>>, AllocError>
-    ensures { IfOk result (λ r. map (λ v. v.items) r.items ≡ map (λ v. v.items) values.now) }
-{
-    let mut copy = Vec::with_capacity(alloc, values.len())?;
-    for value in values {
-        copy.push(value.to_vec(alloc)?)?;
-    }
-    Ok(copy)
+/// A new entry and its whole name.
+#[derive(Drop)]
+pub struct Placed {
+    pub name: Name,
+    pub entry: Entry,
 }
 
-/// Adds what is given to the entry.
-fn add_given(
+/// A name behind its superior's name as that is spelled.
+fn behind(alloc: Global, above: &Name, name: &[Rdn]) -> Result<Name, AllocError>
+    ensures { IfOk result (λ n. n ≡ above.now ++ last_of name.now) }
+{
+    let mut rdns = above.copy(alloc)?.into_rdns();
+    if let Some(last) = name.last() {
+        rdns.push(last.copy(alloc)?)?;
+    }
+    Ok(Name::from_rdns(rdns))
+}
+
+/// The name of a new entry behind its superior's as that is spelled; 32 where it has no superior.
+#[tactic(auto, using(crate::proofs::Moves::place_whole, crate::proofs::Moves::footing_above))]
+fn place_below(
     alloc: Global,
     schema: &Schema,
-    given: &Attribute,
-    entry: &mut Entry,
-) -> Result<(), AddError>
-    ensures ok { OnOk result (with_given schema.now (type_of schema.now (attribute_view given.now).description) (attribute_view given.now).values (attributes_of entry.old)
-        ≡ Ok (attributes_of entry.new)) }
-    ensures keyed { OnOk result (IsKeyedBy schema.now entry.old → IsKeyedBy schema.now entry.new) }
-    ensures refused { IfErr result (λ e. RefusedAs e (with_given schema.now (type_of schema.now (attribute_view given.now).description) (attribute_view given.now).values
-        (attributes_of entry.old))) }
+    tree: &Tree,
+    name: &[Rdn],
+) -> Result<Name, StoreError>
+    requires keyed { AreKeyedBy schema.now tree.now.entries }
+    ensures ok { IfOk result (λ n. place_under (directory schema.now tree.now) name.now ≡ Ok n) }
+    ensures same { IfOk result (λ n. rdns n ≡ rdns name.now) }
+    ensures footing { OnOk result (has_footing (rdns tree.now.suffix) (rdns name.now) tree.now.entries ≡ true) }
+    ensures refused { IfErr result (λ e. RefusedWith e (place_under (directory schema.now tree.now) name.now)) }
 {
-    let Some(type_id) = schema.find(&given.description) else {
-        return Err(AddError::Refused(ResultCode::UNDEFINED_ATTRIBUTE_TYPE));
-    };
-    let values = copy_values(alloc, &given.values)?;
-    entry.add(alloc, schema, type_id, values)?;
-    Ok(())
+    let (_, held) = asked_entry(alloc, schema, tree, parent_of_name(name))?;
+    let whole = behind(alloc, &held.name, name)?;
+    Ok(whole)
 }
 
-/// The entry of what is given, one attribute after the other.
-fn entry_given(alloc: Global, schema: &Schema, given: &[Attribute]) -> Result<Entry, AddError>
-    ensures ok { IfOk result (λ e. with_all_given schema.now (map attribute_view given.now) [] ≡ Ok (attributes_of e)) }
-    ensures keyed { IfOk result (λ e. IsKeyedBy schema.now e) }
-    ensures refused { IfErr result (λ e. RefusedAs e (with_all_given schema.now (map attribute_view given.now) [])) }
+/// The whole name of a new entry; 32 where it has no superior.
+#[tactic(auto, using(crate::proofs::Moves::footing_root))]
+fn asked_place(alloc: Global, schema: &Schema, tree: &Tree, name: &Name) -> Result<Name, StoreError>
+    requires keyed { AreKeyedBy schema.now tree.now.entries }
+    ensures ok { IfOk result (λ n. place_asked (directory schema.now tree.now) name.now ≡ Ok n) }
+    ensures same { IfOk result (λ n. rdns n ≡ rdns name.now) }
+    ensures footing { OnOk result (has_footing (rdns tree.now.suffix) (rdns name.now) tree.now.entries ≡ true) }
+    ensures refused { IfErr result (λ e. RefusedWith e (place_asked (directory schema.now tree.now) name.now)) }
 {
-    let mut entry = Entry::new(alloc);
-    for attribute in given {
-        add_given(alloc, schema, attribute, &mut entry)?;
+    if is_same(name.rdns(), tree.suffix().rdns()) {
+        let copy = name.copy(alloc)?;
+        return Ok(copy);
     }
-    Ok(entry)
+    place_below(alloc, schema, tree, name.rdns())
 }
 
-/// The new entry of what is given, with its superclasses.
-pub fn entry_asked(alloc: Global, schema: &Schema, given: &[Attribute]) -> Result<Entry, AddError>
-    ensures ok { IfOk result (λ e. attributes_asked schema.now (map attribute_view given.now) ≡ Ok (attributes_of e)) }
-    ensures keyed { IfOk result (λ e. IsKeyedBy schema.now e) }
-    ensures refused { IfErr result (λ e. RefusedAs e (attributes_asked schema.now (map attribute_view given.now))) }
+/// The new entry of a name: what its attributes are refused for.
+fn addition_under(
+    alloc: Global,
+    schema: &Schema,
+    given: &[PartialAttribute],
+    rdn: &[TypeAndValue],
+    whole: Name,
+) -> Result<Placed, StoreError>
+    ensures ok { IfOk result (λ p. addition_of schema.now (map attribute_view given.now) rdn.now whole ≡ Ok (placed_view p)) }
+    ensures name { IfOk result (λ p. p.name ≡ whole) }
+    ensures keyed { IfOk result (λ p. IsKeyedBy schema.now p.entry) }
+    ensures refused { IfErr result (λ e. RefusedWith e (addition_of schema.now (map attribute_view given.now) rdn.now whole)) }
 {
-    let entry = entry_given(alloc, schema, given)?;
-    let entry = entry.settled(alloc, schema)?;
-    Ok(entry)
+    match entry_asked(alloc, schema, rdn, given) {
+        Ok(entry) => Ok(Placed { name: whole, entry }),
+        Err(error) => Err(refused_attributes(alloc, error)),
+    }
+}
+
+/// The new entry of a name that no entry has.
+#[tactic(auto, using(crate::proofs::Shown::is_there_shown))]
+fn addition_at(
+    alloc: Global,
+    schema: &Schema,
+    tree: &Tree,
+    given: &[PartialAttribute],
+    name: &Name,
+) -> Result<Placed, StoreError>
+    requires keyed { AreKeyedBy schema.now tree.now.entries }
+    ensures ok { IfOk result (λ p. addition_that_stands (directory schema.now tree.now) (map attribute_view given.now) name.now ≡ Ok (placed_view p)) }
+    ensures absent { IfOk result (λ p. is_some (find (rdns p.name) tree.now.entries) ≡ false) }
+    ensures footing { IfOk result (λ p. has_footing (rdns tree.now.suffix) (rdns p.name) tree.now.entries ≡ true) }
+    ensures keyed { IfOk result (λ p. IsKeyedBy schema.now p.entry) }
+    ensures refused { IfErr result (λ e. RefusedWith e (addition_that_stands (directory schema.now tree.now) (map attribute_view given.now) name.now)) }
+{
+    if is_taken(tree, name.rdns()) {
+        return Err(StoreError::Refused(only(alloc, ResultCode::ENTRY_ALREADY_EXISTS)));
+    }
+    let whole = asked_place(alloc, schema, tree, name)?;
+    addition_under(alloc, schema, given, own_rdn(name.rdns()), whole)
+}
+
+/// The new entry that an add asks for (RFC 4511 4.7): 34, 68, 32, then what its attributes are refused for.
+pub fn addition(
+    alloc: Global,
+    schema: &Schema,
+    tree: &Tree,
+    request: &AddRequest,
+) -> Result<Placed, StoreError>
+    requires keyed { AreKeyedBy schema.now tree.now.entries }
+    ensures ok { IfOk result (λ p. addition_that_is_asked (directory schema.now tree.now) (add_view request.now) ≡ Ok (placed_view p)) }
+    ensures absent { IfOk result (λ p. is_some (find (rdns p.name) tree.now.entries) ≡ false) }
+    ensures footing { IfOk result (λ p. has_footing (rdns tree.now.suffix) (rdns p.name) tree.now.entries ≡ true) }
+    ensures keyed { IfOk result (λ p. IsKeyedBy schema.now p.entry) }
+    ensures refused { IfErr result (λ e. RefusedWith e (addition_that_is_asked (directory schema.now tree.now) (add_view request.now))) }
+{
+    let name = asked_name(alloc, schema, &request.entry)?;
+    addition_at(alloc, schema, tree, request.attributes.as_slice(), &name)
 }

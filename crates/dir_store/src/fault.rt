@@ -1,68 +1,55 @@
-//! Why an entry is not added: within this crate alone, since what flows out of it is a result code.
-ghost use Rattle.std.specs.Prelude.{◌≡◌, IfOk};
-ghost use Rattle.dir_store.specs.declared.fault.AddError.TheVariants.{NoMemory};
+//! Why an update changes nothing: within this crate alone, since what flows out of it is a reply.
+ghost use Rattle.std.specs.Prelude.{◌≡◌, ℕ, List, Result, IfOk};
+ghost use Rattle.dir_entry.specs.Entry.{AttributeModel};
+ghost use Rattle.entry_updates.specs.Refused.{RefusedAs};
+ghost use Rattle.dir_store.specs.Replies.{with_reply};
+ghost use Rattle.dir_store.specs.View.{RefusedWith};
+ghost use Rattle.dir_store.specs.declared.fault.StoreError.TheVariants.{NoMemory};
 
-use dir_entry::EntryError;
-use ldap_msg::ResultCode;
-use std::alloc::{AllocError, AllocFailed};
+use crate::reply::{Reply, only};
+use entry_updates::UpdateError;
+use std::alloc::{AllocError, AllocFailed, Global};
 
-/// Why an entry is not added.
-#[derive(Clone, Copy, Debug)]
-pub enum AddError {
-    /// A check fails, with this code.
-    Refused(ResultCode),
+/// Why an update changes nothing.
+#[derive(Debug, Drop)]
+pub enum StoreError {
+    /// A check fails, with this reply.
+    Refused(Reply),
     NoMemory,
 }
 
-/// The code that a refusal answers with.
-pub fn code_of_refusal(error: AddError) -> Result<ResultCode, AllocError>
-    ensures { IfOk result (λ code. error ≡ AddError.Refused code) }
+/// The reply that a refusal answers with; want of memory stays an error.
+pub fn reply_of_refusal(error: StoreError) -> Result<Reply, AllocError>
+    ensures { IfOk result (λ reply. error ≡ StoreError.Refused reply) }
 {
     match error {
-        AddError::Refused(code) => Ok(code),
-        AddError::NoMemory => Err(AllocError),
+        StoreError::Refused(reply) => Ok(reply),
+        StoreError::NoMemory => Err(AllocError),
     }
 }
 
-impl From<EntryError> for AddError {
-    ghost use Rattle.dir_store.specs.Refused.{add_error};
-
-    ghost from_gives = { λ e a. a ≡ add_error e };
-
-    fn from(error: EntryError) -> AddError {
-        match error {
-            EntryError::InvalidAttributeSyntax => {
-                AddError::Refused(ResultCode::INVALID_ATTRIBUTE_SYNTAX)
-            }
-            EntryError::NoSuchAttribute => AddError::Refused(ResultCode::NO_SUCH_ATTRIBUTE),
-            EntryError::AttributeOrValueExists => {
-                AddError::Refused(ResultCode::ATTRIBUTE_OR_VALUE_EXISTS)
-            }
-            EntryError::ConstraintViolation => AddError::Refused(ResultCode::CONSTRAINT_VIOLATION),
-            EntryError::ObjectClassViolation => {
-                AddError::Refused(ResultCode::OBJECT_CLASS_VIOLATION)
-            }
-            EntryError::NotAllowedOnRdn => AddError::Refused(ResultCode::NOT_ALLOWED_ON_RDN),
-            EntryError::ObjectClassModsProhibited => {
-                AddError::Refused(ResultCode::OBJECT_CLASS_MODS_PROHIBITED)
-            }
-            EntryError::NoMemory => AddError::NoMemory,
-        }
+/// A refusal of attributes, with its code alone.
+pub fn refused_attributes(alloc: Global, error: UpdateError) -> StoreError
+    ensures { (asked : Result (List AttributeModel) ℕ) → RefusedAs error asked → RefusedWith result (with_reply asked) }
+{
+    match error {
+        UpdateError::Refused(code) => StoreError::Refused(only(alloc, code)),
+        UpdateError::NoMemory => StoreError::NoMemory,
     }
 }
 
-impl From<AllocError> for AddError {
+impl From<AllocError> for StoreError {
     ghost from_gives = { λ _ e. e ≡ NoMemory };
 
-    fn from(_e: AllocError) -> AddError {
-        AddError::NoMemory
+    fn from(_e: AllocError) -> StoreError {
+        StoreError::NoMemory
     }
 }
 
-impl<T: Drop> From<AllocFailed<T>> for AddError {
+impl<T: Drop> From<AllocFailed<T>> for StoreError {
     ghost from_gives = { λ _ e. e ≡ NoMemory };
 
-    fn from(_e: AllocFailed<T>) -> AddError {
-        AddError::NoMemory
+    fn from(_e: AllocFailed<T>) -> StoreError {
+        StoreError::NoMemory
     }
 }

@@ -1,11 +1,16 @@
-//! The directory: entries by number, each with its name. Adds flow in, the list of all flows out. Filters, searches
-//! and the octets of messages are not here.
+//! The directory: updates flow in, and the entries after them, each with its number and name, flow out, with the reply to each update.
+//! What is asked of attributes is below; filters, searches and the octets of messages are not here.
 #![tactic(auto)]
 
 mod adding;
+mod deleting;
 mod fault;
+mod finding;
+mod modifying;
+mod names;
+mod renaming;
+mod reply;
 mod store;
-mod stored;
 
+pub use reply::Reply;
 pub use store::Store;
-pub use stored::StoredEntry;

@@ -1,99 +1,63 @@
-//! The entries in order of number, under one schema. Adds flow in; the list of all entries flows out.
-ghost use Rattle.std.specs.Prelude.{◌≡◌, [], map, Ok, OnErr, IfOk, IfErr};
-ghost use Rattle.std.specs.List.{list_any};
-ghost use Rattle.std.specs.Str.{bytes_eq};
-ghost use Rattle.std.specs.String.{string_bytes};
-ghost use Rattle.ldap_msg.specs.View.{add_view};
+//! The directory: a schema and a tree of entries, whose keys are those of the schema. Updates flow in; replies flow out, and the
+//! directory after them stays. What each update asks for is judged before anything changes.
+ghost use Rattle.std.specs.Prelude.{◌≡◌, ◌+◌, ◌++◌, ◌∷◌, [], map, Ok, IfOk, IfErr, IfSome, OnOk, OnErr, string_bytes};
+ghost use Rattle.std.specs.Option.{option_map};
+ghost use Rattle.ldap_dn.specs.Names.{rdns};
+ghost use Rattle.ldap_dn.specs.Printed.{printed_name};
 ghost use Rattle.dir_entry.specs.Entry.{IsKeyedBy};
-ghost use Rattle.dir_store.specs.Adding.{applied, reply_to, is_held, entry_asked as entry_that_is_asked};
-ghost use Rattle.dir_store.specs.Refused.{RefusedAs};
-ghost use Rattle.dir_store.specs.Stored.{named, AreKeyedBy};
+ghost use Rattle.dir_tree.specs.Stored.{entered_of};
+ghost use Rattle.dir_store.specs.Places.{entry_named};
+ghost use Rattle.dir_store.specs.Replies.{not_found as not_found_reply};
+ghost use Rattle.ldap_updates.specs.View.{add_view, modify_view, modify_dn_view};
+ghost use Rattle.ldap_op.specs.View.{update_view};
+ghost use Rattle.dir_store.specs.Stored.{named, directory, AreKeyedBy, NumbersBelow};
+ghost use Rattle.dir_store.specs.Updates.{added, deleted, modified, renamed_all, updated, applied, reply_to};
+ghost use Rattle.dir_store.specs.View.{reply_view, RefusedWith};
 
-use crate::adding::entry_asked;
-use crate::fault::{AddError, code_of_refusal};
-use crate::stored::StoredEntry;
-use ldap_msg::{AddRequest, ResultCode};
+use crate::adding::{Placed, addition};
+use crate::deleting::asked_leaf;
+use crate::fault::{StoreError, reply_of_refusal};
+use crate::finding::{not_found, standing};
+use crate::modifying::{Kept, asked_change};
+use crate::names::asked_name;
+use crate::renaming::{Moved, asked_move};
+use crate::reply::{Reply, only};
+use dir_tree::{NamedEntry, Tree};
+use ldap_dn::{Name, Rdn};
+use ldap_op::{Op, Update};
+use ldap_parts::ResultCode;
 use ldap_schema::Schema;
+use ldap_updates::{AddRequest, ModifyDnRequest, ModifyRequest};
 use std::alloc::{AllocError, Global};
 use std::marker::Model;
 
-/// The directory: a schema, and the entries in order of number, which are numbered from 1.
+/// The directory under one schema: entries, each with the number of the update that added it, at and below one name.
 #[derive(Drop)]
 pub struct Store {
     schema: Schema,
-    entries: Vec<StoredEntry>,
+    tree: Tree,
 }
 
 impl Model for Store {
-    ghost use Rattle.std.specs.Prelude.{map};
     ghost use Rattle.dir_store.specs.Directory.{Directory};
+    ghost use Rattle.dir_store.specs.Stored.{directory, AreKeyedBy};
 
     ghost Value = { Directory };
 
-    ghost use Rattle.dir_store.specs.Stored.{named, AreKeyedBy};
+    ghost view = { λ s. directory s.schema s.tree };
 
-    ghost view = { λ s. record { schema = s.schema; entries = map named s.entries.items } };
-
-    ghost invariant = { λ s. AreKeyedBy s.schema s.entries.items };
-}
-
-/// Whether one of the entries has the name.
-fn is_name_of(entries: &[StoredEntry], name: &str) -> bool
-    ensures { result ≡ list_any (λ e. bytes_eq (string_bytes e.name) name.now) entries.now }
-{
-    entries
-        .iter()
-        .any(|stored| stored.name.as_bytes() == name.as_bytes())
+    ghost invariant = { λ s. AreKeyedBy s.schema s.tree.entries };
 }
 
 impl Store {
-    /// A directory without entries.
-    pub fn new(alloc: Global, schema: Schema) -> Store
-        ensures schema { result.schema ≡ schema }
-        ensures empty { result.entries ≡ [] }
+    /// A directory without entries, whose root is to have this name.
+    pub fn new(alloc: Global, schema: Schema, suffix: Name) -> Store
+        ensures { result ≡ record { schema = schema; suffix = suffix; entries = [] } }
     {
         Store {
             schema,
-            entries: Vec::new(alloc),
+            tree: Tree::new(alloc, suffix),
         }
-    }
-
-    /// Adds an entry at the end, with the next number, or refuses it with the code of the first check that fails (RFC 4511
-    /// 4.7): 68, then 17, 21 or 20 of each attribute in order, then 19 and 65. A refusal and want of memory, the only error, leave
-    /// the directory as it was.
-    pub fn add(&mut self, alloc: Global, request: &AddRequest) -> Result<ResultCode, AllocError>
-        ensures directory { IfOk result (λ code. self.new ≡ applied self.old (add_view request.now)) }
-        ensures code { IfOk result (λ code. code ≡ reply_to self.old (add_view request.now)) }
-        ensures err { OnErr result (self.new ≡ self.old) }
-    {
-        match self.new_entry(alloc, request) {
-            Ok(stored) => {
-                self.entries.push(stored)?;
-                Ok(ResultCode::SUCCESS)
-            }
-            Err(error) => code_of_refusal(error),
-        }
-    }
-
-    /// Whether an entry has the name.
-    fn holds(&self, name: &str) -> bool
-        ensures { result ≡ is_held name.now self.now.entries }
-    {
-        is_name_of(self.entries.as_slice(), name)
-    }
-
-    /// The entry that an add asks for.
-    fn new_entry(&self, alloc: Global, request: &AddRequest) -> Result<StoredEntry, AddError>
-        ensures ok { IfOk result (λ e. entry_that_is_asked self.now (add_view request.now) ≡ Ok (named e)) }
-        ensures keyed { IfOk result (λ e. IsKeyedBy self.now.schema e.entry) }
-        ensures refused { IfErr result (λ e. RefusedAs e (entry_that_is_asked self.now (add_view request.now))) }
-    {
-        if self.holds(&request.entry) {
-            return Err(AddError::Refused(ResultCode::ENTRY_ALREADY_EXISTS));
-        }
-        let entry = entry_asked(alloc, &self.schema, request.attributes.as_slice())?;
-        let name = String::from_str(alloc, &request.entry)?;
-        Ok(StoredEntry { name, entry })
     }
 
     /// The schema.
@@ -103,11 +67,135 @@ impl Store {
         &self.schema
     }
 
-    /// The entries in order of number. Their keys are those of the schema.
-    pub fn entries(&self) -> &[StoredEntry]
-        ensures entries { map named result.now ≡ self.now.entries }
-        ensures keyed { AreKeyedBy self.now.schema result.now }
+    /// The entries as the tree has them, with their keys, which are those of the schema.
+    pub fn tree(&self) -> &Tree
+        ensures shown { directory self.now.schema result.now ≡ self.now }
+        ensures keyed { AreKeyedBy self.now.schema result.now.entries }
     {
-        &self.entries
+        &self.tree
+    }
+
+    /// The name of the root, as it is printed.
+    pub fn printed_suffix(&self, alloc: Global) -> Result<String, AllocError>
+        ensures { IfOk result (λ t. string_bytes t ≡ printed_name self.now.schema self.now.suffix) }
+    {
+        self.tree.suffix().print(alloc, &self.schema)
+    }
+
+    /// The number of a name's entry, and the entry with its keys; none, where the name has none. It takes a logarithm of comparisons,
+    /// and no memory.
+    #[tactic(auto, using(crate::proofs::Shown::found_shown, crate::proofs::Shown::none_shown, crate::proofs::Found::found_keyed))]
+    pub fn find<'a>(&'a self, name: &[Rdn]) -> Option<(u64, &'a NamedEntry)>
+        ensures found { option_map (λ p. named (entered_of p.0 p.1.now)) result ≡ entry_named (rdns name.now) self.now.entries }
+        ensures keyed { IfSome result (λ p. IsKeyedBy self.now.schema p.1.now.entry) }
+    {
+        match standing(&self.tree, name) {
+            Some((number, held)) => Some((number, held)),
+            None => None,
+        }
+    }
+
+    /// The reply where a name has no entry: noSuchObject (32), with the printed name of the entry of its longest front that has one
+    /// (RFC 4511 4.1.9).
+    pub fn not_found(&self, alloc: Global, name: &[Rdn]) -> Result<Reply, AllocError>
+        ensures { IfOk result (λ r. reply_view r ≡ not_found_reply self.now name.now) }
+    {
+        not_found(alloc, &self.schema, &self.tree, name)
+    }
+
+    /// Makes an update under a number above those of all entries (RFC 4511 4.6 to 4.9), or refuses it with the reply of the first check
+    /// that fails. A refusal and want of memory, the only error, leave the directory as it was.
+    pub fn apply(&mut self, alloc: Global, number: u64, op: &Op) -> Result<Reply, AllocError>
+        requires above { NumbersBelow number self.old.entries }
+        ensures directory { IfOk result (λ reply. self.new ≡ applied self.old number op.now) }
+        ensures reply { IfOk result (λ reply. reply_view reply ≡ reply_to self.old number op.now) }
+        ensures below { IfOk result (λ reply. NumbersBelow (number + 1) self.new.entries) }
+        ensures err { OnErr result (self.new ≡ self.old) }
+    {
+        match self.update(alloc, number, op.update()) {
+            Ok(()) => Ok(only(alloc, ResultCode::SUCCESS)),
+            Err(error) => reply_of_refusal(error),
+        }
+    }
+
+    /// Makes an update, or refuses it and changes nothing.
+    fn update(&mut self, alloc: Global, number: u64, update: &Update) -> Result<(), StoreError>
+        requires above { NumbersBelow number self.old.entries }
+        ensures ok { OnOk result (updated self.old number (update_view update.now) ≡ Ok self.new.entries) }
+        ensures schema { self.new.schema ≡ self.old.schema }
+        ensures suffix { self.new.suffix ≡ self.old.suffix }
+        ensures refused { IfErr result (λ e. RefusedWith e (updated self.old number (update_view update.now))) }
+        ensures err { OnErr result (self.new ≡ self.old) }
+    {
+        match update {
+            Update::Add(request) => self.add(alloc, number, request),
+            Update::Delete(name) => self.delete(alloc, name),
+            Update::Modify(request) => self.modify(alloc, request),
+            Update::ModifyDn(request) => self.rename(alloc, request),
+            Update::Noop => Ok(()),
+        }
+    }
+
+    /// Adds an entry at the end, or refuses it and changes nothing.
+    #[tactic(auto, using(crate::proofs::Shown::numbers_shown, crate::proofs::Shown::pushed_shown, crate::proofs::Shown::keyed_push))]
+    fn add(&mut self, alloc: Global, number: u64, request: &AddRequest) -> Result<(), StoreError>
+        requires above { NumbersBelow number self.old.entries }
+        ensures ok { OnOk result (added self.old number (add_view request.now) ≡ Ok self.new.entries) }
+        ensures schema { self.new.schema ≡ self.old.schema }
+        ensures suffix { self.new.suffix ≡ self.old.suffix }
+        ensures refused { IfErr result (λ e. RefusedWith e (added self.old number (add_view request.now))) }
+        ensures err { OnErr result (self.new ≡ self.old) }
+    {
+        let Placed { name, entry } = addition(alloc, &self.schema, &self.tree, request)?;
+        self.tree.add(number, name, entry)?;
+        Ok(())
+    }
+
+    /// Takes an entry out, or refuses it and changes nothing.
+    #[tactic(auto, using(crate::proofs::Shown::deleted_shown, crate::proofs::Shown::keyed_unnumbered))]
+    fn delete(&mut self, alloc: Global, text: &str) -> Result<(), StoreError>
+        ensures ok { OnOk result (deleted self.old text.now ≡ Ok self.new.entries) }
+        ensures schema { self.new.schema ≡ self.old.schema }
+        ensures suffix { self.new.suffix ≡ self.old.suffix }
+        ensures refused { IfErr result (λ e. RefusedWith e (deleted self.old text.now)) }
+        ensures err { OnErr result (self.new ≡ self.old) }
+    {
+        let name = asked_name(alloc, &self.schema, text)?;
+        let number = asked_leaf(alloc, &self.schema, &self.tree, name.rdns())?;
+        self.tree.delete(name.rdns(), number);
+        Ok(())
+    }
+
+    /// Changes an entry's attributes, or refuses it and changes nothing.
+    #[tactic(auto, using(crate::proofs::Shown::replaced_shown, crate::proofs::Shown::keyed_replaced))]
+    fn modify(&mut self, alloc: Global, request: &ModifyRequest) -> Result<(), StoreError>
+        ensures ok { OnOk result (modified self.old (modify_view request.now) ≡ Ok self.new.entries) }
+        ensures schema { self.new.schema ≡ self.old.schema }
+        ensures suffix { self.new.suffix ≡ self.old.suffix }
+        ensures refused { IfErr result (λ e. RefusedWith e (modified self.old (modify_view request.now))) }
+        ensures err { OnErr result (self.new ≡ self.old) }
+    {
+        let Kept { number, entry } = asked_change(alloc, &self.schema, &self.tree, request)?;
+        self.tree.replace(number, entry);
+        Ok(())
+    }
+
+    /// Gives an entry, and those below it, other names, or refuses it and changes nothing.
+    #[tactic(auto, using(crate::proofs::Shown::moved_shown, crate::proofs::Shown::keyed_moved))]
+    fn rename(&mut self, alloc: Global, request: &ModifyDnRequest) -> Result<(), StoreError>
+        ensures ok { OnOk result (renamed_all self.old (modify_dn_view request.now) ≡ Ok self.new.entries) }
+        ensures schema { self.new.schema ≡ self.old.schema }
+        ensures suffix { self.new.suffix ≡ self.old.suffix }
+        ensures refused { IfErr result (λ e. RefusedWith e (renamed_all self.old (modify_dn_view request.now))) }
+        ensures err { OnErr result (self.new ≡ self.old) }
+    {
+        let Moved {
+            number,
+            before,
+            after,
+            entry,
+        } = asked_move(alloc, &self.schema, &self.tree, request)?;
+        self.tree.rename(before.rdns(), number, after, entry)?;
+        Ok(())
     }
 }

@@ -104,6 +104,15 @@ none-below s d t q w gone n f = by (begins q n) refl
 pub alone : (s : NameKey) (d : Labels) → IsLabelled s d → (q : NameKey) → (name_eq q s || is_some (label_at (above q) d)) ≡ true → label_at q d ≡ None → numbers_in (begins q) d ≡ []
 alone s d t q h gone = numbers-none (begins q) d (none-below s d t q (footing-within s d t q h) gone)
 
+-- where the suffix has no label, there are none
+pub rooted : (s : NameKey) (d : Labels) → IsLabelled s d → label_at s d ≡ None → d ≡ []
+rooted s [] t h = refl
+rooted s (e ∷ d) t h =
+    let own : is_some (label_at e.name (e ∷ d)) ≡ true = ap (λ (b : Bool). is_some (cond b (Some e) (label_at e.name d))) (name_eq-refl e.name) in
+    let here : is_some (label_at s (e ∷ d)) ≡ true = fronts s (e ∷ d) t (length e.name) e.name s (omega arith) (t.within e.name own) (begins-own s) own in
+    let off : is_some (label_at s (e ∷ d)) ≡ false = ap (λ (o : Option Label). is_some o) h in
+    absurd (cc (here, off))
+
 rise-push : (d : Labels) (e : Label) → LabelsRise d → LabelsBelow e.number d → LabelsRise (d ++ e ∷ [])
 rise-push [] e h b = (tt, tt)
 rise-push (x ∷ d) e h b = (more d h.0 b.0, rise-push d e h.1 b.1)

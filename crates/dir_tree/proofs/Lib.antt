@@ -11,3 +11,4 @@ pub mod TreeChanges
 pub mod Renamed
 pub mod Moves
 pub mod MovedEntries
+pub mod Scoped

@@ -62,6 +62,11 @@ abbrev pub numbers : (Entered → Bool) → List Entered → List ℕ
 numbers p [] = []
 numbers p (e ∷ es) = cond (p e) (e.number ∷ numbers p es) (numbers p es)
 
+-- the number of the entry that was found, as a list
+abbrev pub number_found : Option Entered → List ℕ
+number_found None = []
+number_found (Some e) = e.number ∷ []
+
 -- whether an entry stands strictly below a name
 abbrev pub has_below : NameKey → List Entered → Bool
 has_below q d = list_any (is_below q) d

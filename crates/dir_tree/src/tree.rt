@@ -4,7 +4,7 @@
 ghost use Rattle.std.specs.Prelude.{◌≡◌, ◌++◌, ◌∷◌, [], None, Some, true, false, OnOk, OnErr, IsTrue, ◌↔◌, is_some};
 ghost use Rattle.std.specs.Option.{option_map};
 ghost use Rattle.ldap_dn.specs.Names.{rdns};
-ghost use Rattle.dir_tree.specs.Directory.{Entered, AllBelow, IsDirectory, name_eq, begins, above, moved, is_right_under, is_at_or_below, find, entry_at, front, has_below, has_footing, numbers, unnumbered, replaced};
+ghost use Rattle.dir_tree.specs.Directory.{NameKey, Entered, AllBelow, IsDirectory, number_found, name_eq, begins, above, moved, is_right_under, is_at_or_below, find, entry_at, front, has_below, has_footing, numbers, unnumbered, replaced};
 ghost use Rattle.dir_tree.specs.Stored.{directory_of, entered_of};
 
 use crate::comparing::are_same;
@@ -232,6 +232,27 @@ impl Tree {
     /// Numbers rise, names differ, each name begins with the suffix, and each entry but the suffix's has an entry right above it.
     pub fn is_directory(&self)
         ensures { IsDirectory (rdns self.now.suffix) self.now.entries }
+    {
+        let _ = &self.alloc;
+    }
+
+    /// Where the root has no entry, there are none.
+    pub fn is_rooted(&self)
+        ensures { find (rdns self.now.suffix) self.now.entries ≡ None → self.now.entries ≡ [] }
+    {
+        let _ = &self.alloc;
+    }
+
+    /// All entries stand at or below the root.
+    pub fn is_within(&self)
+        ensures { numbers (is_at_or_below (rdns self.now.suffix)) self.now.entries ≡ numbers (λ e. true) self.now.entries }
+    {
+        let _ = &self.alloc;
+    }
+
+    /// A name has one entry, or none.
+    pub fn is_single(&self)
+        ensures { (q : NameKey) → numbers (λ e. name_eq q (rdns e.name)) self.now.entries ≡ number_found (find q self.now.entries) }
     {
         let _ = &self.alloc;
     }

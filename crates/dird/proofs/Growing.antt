@@ -2,7 +2,8 @@
 use Rattle.std.proofs.Common.{◌≡◌, ℕ, ◌+◌, ◌<◌, List, [], ◌∷◌, ◌++◌, Option, None, Some, refl, ap, sym, subst, ◌∙◌, map, length, take, get_or, append_assoc, arith}
 use Rattle.std.proofs.lemmas.List.{take_more}
 use Rattle.std.specs.Io.KnownBytes.{Appends}
-use Rattle.ldap_msg.specs.Messages.{MessageValue, AddRequestValue}
+use Rattle.ldap_msg.specs.Messages.{MessageValue}
+use Rattle.ldap_op.specs.Values.{OpValue}
 use Rattle.ldap_msg.specs.Written.{message_bytes}
 use Rattle.ldap_session.specs.Session.{SessionModel}
 use Rattle.ldap_session.specs.Runs.{Runs, RunsJoin}

@@ -2,7 +2,8 @@
 use Rattle.std.proofs.Common.{◌≡◌, ℕ, List, [], ◌∷◌, ◌++◌, Bool, true, false, not, Option, None, Some, IfSome, Ok, refl, ap, sym, subst, ◌∙◌, append_assoc}
 use Rattle.std.specs.Io.KnownBytes.{Appends}
 use Rattle.hex.specs.Hex.{decode_of}
-use Rattle.ldap_msg.specs.Messages.{MessageValue, AddRequestValue}
+use Rattle.ldap_msg.specs.Messages.{MessageValue}
+use Rattle.ldap_op.specs.Values.{OpValue}
 use Rattle.ldap_session.specs.Session.{SessionModel}
 use Rattle.ldap_session.specs.Runs.{Runs, ends, RunsJoin}
 use Rattle.ldap_session.specs.declared.answered.Next.{Next}
@@ -25,7 +26,7 @@ begun s (Some xs) (Some ys) = record {
   more = [];
   left_is = refl;
   grown_is = ap Some (sym (append-nil ys));
-  answered = record { messages = []; responses = []; adds = []; spell = stops; ran = ends; lines = refl };
+  answered = record { messages = []; responses = []; ops = []; spell = stops; ran = ends; lines = refl };
 }
 
 next_of : (b left : Option (List ℕ)) (rest : List ℕ) (line : Option (List ℕ)) → b ≡ Some rest → IfSome b (λ xs. IsNextLine xs line left) → IsNextLine rest line left
@@ -44,9 +45,9 @@ skipped s t (Some xs) b left (Some ys) w line h n e =
       answered = record {
         messages = h.answered.messages ++ [];
         responses = h.answered.responses;
-        adds = h.answered.adds;
+        ops = h.answered.ops;
         spell = spell_then xs h.rest (after_line h.rest) h.answered.messages [] h.answered.spell (skips k.0 (sym (ap is_empty k.1) ∙ e) stops);
-        ran = subst (λ (ms : List (List ℕ)). Runs s ms t h.answered.responses h.answered.adds GoesOn) (sym (append-nil h.answered.messages)) h.answered.ran;
+        ran = subst (λ (ms : List (List ℕ)). Runs s ms t h.answered.responses h.answered.ops GoesOn) (sym (append-nil h.answered.messages)) h.answered.ran;
         lines = h.answered.lines;
       };
     }
@@ -70,10 +71,10 @@ answered join s t u (Some xs) b left (Some ys) w v line next h n e d =
       answered = record {
         messages = h.answered.messages ++ d.message ∷ [];
         responses = h.answered.responses ++ d.responses;
-        adds = h.answered.adds ++ d.adds;
+        ops = h.answered.ops ++ d.ops;
         spell = spell_then xs h.rest (after_line h.rest) h.answered.messages (d.message ∷ []) h.answered.spell
             (spells d.message (sym (ap is_empty k.1) ∙ e) (sym (ap decode_of k.1) ∙ d.hex) stops);
-        ran = join s t u h.answered.messages (d.message ∷ []) h.answered.responses d.responses h.answered.adds d.adds next h.answered.ran d.ran;
+        ran = join s t u h.answered.messages (d.message ∷ []) h.answered.responses d.responses h.answered.ops d.ops next h.answered.ran d.ran;
         lines = ap (λ (l : List ℕ). l ++ message_lines d.responses) h.answered.lines ∙ sym (messages_append h.answered.responses d.responses);
       };
     }

@@ -2,7 +2,8 @@
 use Rattle.std.specs.Prelude.{◌≡◌, ℕ, List, [], ◌∷◌, ◌++◌, Option, Some, IfSome, Ok}
 use Rattle.std.specs.Io.KnownBytes.{Appends}
 use Rattle.hex.specs.Hex.{decode_of}
-use Rattle.ldap_msg.specs.Messages.{MessageValue, AddRequestValue}
+use Rattle.ldap_msg.specs.Messages.{MessageValue}
+use Rattle.ldap_op.specs.Values.{OpValue}
 use Rattle.ldap_session.specs.Session.{SessionModel}
 use Rattle.ldap_session.specs.Runs.{Runs}
 use Rattle.ldap_session.specs.declared.answered.Next.{Next}
@@ -14,9 +15,9 @@ use Rattle.dird.specs.Lines.{Spell, message_lines}
 pub record HasAnswered (s t : SessionModel) (input rest : List ℕ) (next : Next) (grown : List ℕ) : Type 0 where
   pub messages : List (List ℕ)
   pub responses : List MessageValue
-  pub adds : List AddRequestValue
+  pub ops : List OpValue
   pub spell : Spell input messages rest
-  pub ran : Runs s messages t responses adds next
+  pub ran : Runs s messages t responses ops next
   pub lines : grown ≡ message_lines responses
 
 -- One line is answered: its hex is a message, the session reads it, and the output grows by its responses, each a line.
@@ -24,8 +25,8 @@ pub record HasAnsweredLine (s t : SessionModel) (line : List ℕ) (next : Next) 
   pub message : List ℕ
   pub hex : decode_of line ≡ Ok message
   pub responses : List MessageValue
-  pub adds : List AddRequestValue
-  pub ran : Runs s (message ∷ []) t responses adds next
+  pub ops : List OpValue
+  pub ran : Runs s (message ∷ []) t responses ops next
   pub lines : Appends output grown (message_lines responses)
 
 -- all of an input was read, where its end is what ended the session

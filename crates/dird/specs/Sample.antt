@@ -1,6 +1,7 @@
 -- The built-in sample, as adds in their order. Nothing flows in; the adds flow out. How an add is judged is not here.
 use Rattle.std.specs.Prelude.{ℕ, List, [], ◌∷◌, codes, map}
 use Rattle.ldap_msg.specs.Messages.{PartialAttributeValue, AddRequestValue}
+use Rattle.ldap_op.specs.Values.{OpValue, add}
 
 -- an attribute with one value
 abbrev pub one_value : List ℕ × List ℕ → PartialAttributeValue
@@ -37,5 +38,5 @@ an_na =
     ((codes "objectClass", codes "item") ∷ (codes "cn", codes "An Na") ∷ (codes "rank", codes "1234567890123456789012345678901234567890") ∷ [])
 
 -- The sample: six entries, each by an add.
-unfoldable pub sample : List AddRequestValue
-sample = example ∷ items_unit ∷ ana ∷ anna ∷ anana ∷ an_na ∷ []
+unfoldable pub sample : List OpValue
+sample = add example ∷ add items_unit ∷ add ana ∷ add anna ∷ add anana ∷ add an_na ∷ []

@@ -3,7 +3,8 @@ ghost use Rattle.std.specs.Prelude.{◌≡◌, ◌++◌, ℕ, List, Ok, Some, ma
 ghost use Rattle.std.specs.Io.KnownBytes.{Appends};
 ghost use Rattle.std.specs.Io.BufRead.{strip_last};
 ghost use Rattle.hex.specs.Hex.{decode_of};
-ghost use Rattle.ldap_msg.specs.Messages.{MessageValue, AddRequestValue};
+ghost use Rattle.ldap_msg.specs.Messages.{MessageValue};
+ghost use Rattle.ldap_op.specs.Values.{OpValue};
 ghost use Rattle.ldap_session.specs.Runs.{Runs};
 ghost use Rattle.dird.specs.Lines.{is_empty, hex_line, hex_lines, message_lines, IsNextLine};
 ghost use Rattle.dird.specs.Ended.{HasAnsweredLine, Answers, IsAllRead};

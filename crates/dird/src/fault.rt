@@ -23,6 +23,8 @@ pub enum Fault {
     TooLong,
     #[error("bad sample")]
     BadSample,
+    #[error("E17")]
+    BadName,
     #[error("out of memory")]
     NoMemory,
 }

@@ -1,13 +1,16 @@
 //! One session over a local directory: an input flows in, an output flows out. The words of a command line are not here.
-ghost use Rattle.std.specs.Prelude.{◌≡◌, IfOk};
+ghost use Rattle.std.specs.Prelude.{◌≡◌, ◌+◌, codes, IfOk};
 ghost use Rattle.ldap_session.specs.Session.{SessionModel};
 ghost use Rattle.dird.specs.Ended.{AnswersFrom, IsAllRead};
-ghost use Rattle.dird.specs.Begun.{empty_directory, directory_at_first, session_at_first};
+ghost use Rattle.ldap_schema.specs.BuiltIn.{built_in};
+ghost use Rattle.dir_store.specs.Stored.{NumbersBelow};
+ghost use Rattle.dird.specs.Begun.{name_of, empty_directory, directory_at_first, number_at_first, session_at_first};
 
 use crate::answering::answer_lines;
 use crate::fault::Fault;
 use crate::sample::add_sample;
 use dir_store::Store;
+use ldap_dn::{Name, NameError};
 use ldap_schema::Schema;
 use ldap_session::{Next, Session};
 use std::alloc::Global;
@@ -19,35 +22,70 @@ const MANAGER: &str = "cn=admin,dc=example,dc=com";
 /// The manager's password.
 const PASSWORD: &str = "secret";
 
+/// The name of the directory's root.
+const SUFFIX: &str = "dc=example,dc=com";
+
+/// The name of a text.
+fn name_of_text(alloc: Global, schema: &Schema, text: &str) -> Result<Name, Fault>
+    requires built_in { schema.now ≡ built_in }
+    ensures { IfOk result (λ name. name ≡ name_of text.now) }
+{
+    match Name::read(alloc, schema, text) {
+        Ok(name) => Ok(name),
+        Err(NameError::BadName) => Err(Fault::BadName),
+        Err(NameError::NoMemory) => Err(Fault::NoMemory),
+    }
+}
+
 /// A directory without entries, under the built-in schema.
 fn empty(alloc: Global) -> Result<Store, Fault>
     ensures { IfOk result (λ store. store ≡ empty_directory) }
 {
-    Ok(Store::new(alloc, Schema::built_in(alloc)?))
+    let schema = Schema::built_in(alloc)?;
+    let suffix = name_of_text(alloc, &schema, SUFFIX)?;
+    Ok(Store::new(alloc, schema, suffix))
 }
 
-/// The directory at first: the sample, or one without entries.
-fn opened(alloc: Global, sample: bool) -> Result<Store, Fault>
-    ensures { IfOk result (λ store. store ≡ directory_at_first sample) }
+/// The directory at first: the sample, or one without entries; and the number of its last update.
+fn opened(alloc: Global, sample: bool) -> Result<(Store, u64), Fault>
+    ensures directory { IfOk result (λ p. p.0 ≡ directory_at_first sample) }
+    ensures number { IfOk result (λ p. p.1 ≡ number_at_first sample) }
+    ensures below { IfOk result (λ p. NumbersBelow (p.1 + 1) p.0.entries) }
 {
     let mut store = empty(alloc)?;
     match sample {
         true => {
             add_sample(alloc, &mut store)?;
-            Ok(store)
+            Ok((store, 6))
         }
-        false => Ok(store),
+        false => Ok((store, 0)),
     }
+}
+
+/// The manager's name.
+fn manager_name(alloc: Global) -> Result<Name, Fault>
+    ensures { IfOk result (λ name. name ≡ name_of (codes "cn=admin,dc=example,dc=com")) }
+{
+    let schema = Schema::built_in(alloc)?;
+    name_of_text(alloc, &schema, MANAGER)
+}
+
+/// The manager's password.
+fn password(alloc: Global) -> Result<Vec<u8>, Fault>
+    ensures { IfOk result (λ v. v.items ≡ codes "secret") }
+{
+    let octets = PASSWORD.as_bytes().to_vec(alloc)?;
+    Ok(octets)
 }
 
 /// The session at first.
 fn begun(alloc: Global, sample: bool) -> Result<Session, Fault>
     ensures { IfOk result (λ session. session ≡ session_at_first sample) }
 {
-    let store = opened(alloc, sample)?;
-    let manager = String::from_str(alloc, MANAGER)?;
-    let password = PASSWORD.as_bytes().to_vec(alloc)?;
-    Ok(Session::new(store, manager, password))
+    let (store, number) = opened(alloc, sample)?;
+    let manager = manager_name(alloc)?;
+    let password = password(alloc)?;
+    Ok(Session::new(store, number, manager, password))
 }
 
 /// One session over a directory of its own: each line of the input is one message in hex, each response a line of the output.

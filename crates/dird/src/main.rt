@@ -31,6 +31,6 @@ fn main(rt: HostRuntime) -> io::Result<ExitCode> {
 }
 
 #[cfg(test)]
-mod add_tests;
-#[cfg(test)]
 mod tests;
+#[cfg(test)]
+mod update_tests;

@@ -1,14 +1,17 @@
 //! The built-in sample: six entries, for trying the program out. They flow into a directory as adds. How an add is judged is
 //! not here.
-ghost use Rattle.std.specs.Prelude.{◌≡◌, ℕ, List, map, IfOk, OnOk};
+ghost use Rattle.std.specs.Prelude.{◌≡◌, ◌+◌, map, IfOk, OnOk};
 ghost use Rattle.ldap_msg.specs.View.{add_view, attribute_view};
-ghost use Rattle.dir_store.specs.Adding.{applied, directory_after};
+ghost use Rattle.ldap_op.specs.Values.{add as add_op};
+ghost use Rattle.dir_store.specs.Stored.{NumbersBelow};
+ghost use Rattle.dir_store.specs.Updates.{applied, directory_after};
 ghost use Rattle.dird.specs.Sample as sample;
 ghost use Rattle.dird.specs.Sample.{one_value, add_of};
 
 use crate::fault::Fault;
 use dir_store::Store;
 use ldap_msg::{AddRequest, Attribute, ResultCode};
+use ldap_op::{Op, Update};
 use std::alloc::{AllocError, Global};
 
 /// An attribute with one value.
@@ -119,42 +122,58 @@ fn an_na(alloc: Global) -> Result<AddRequest, AllocError>
     request(alloc, "cn=An Na,ou=Items,dc=example,dc=com", &pairs)
 }
 
-/// The sample's entries, as adds in their order.
-#[tactic(auto, unfolding(crate::specs::Sample::sample))]
-fn requests(alloc: Global) -> Result<[AddRequest; 6], AllocError>
-    ensures { IfOk result (λ rs. map add_view rs ≡ sample.sample) }
+/// Adds an entry under a number above all, which is to be accepted.
+fn add(alloc: Global, store: &mut Store, number: u64, request: AddRequest) -> Result<(), Fault>
+    requires above { NumbersBelow number store.old.entries }
+    ensures applied { OnOk result (store.new ≡ applied store.old number (add_op (add_view request))) }
+    ensures below { OnOk result (NumbersBelow (number + 1) store.new.entries) }
 {
-    let upper = (example(alloc)?, items_unit(alloc)?);
-    let items = (ana(alloc)?, anna(alloc)?, anana(alloc)?, an_na(alloc)?);
-    Ok([upper.0, upper.1, items.0, items.1, items.2, items.3])
-}
-
-/// Adds an entry, which is to be accepted.
-fn add(alloc: Global, store: &mut Store, request: &AddRequest) -> Result<(), Fault>
-    ensures { OnOk result (store.new ≡ applied store.old (add_view request.now)) }
-{
-    let code = store.add(alloc, request)?;
-    if code == ResultCode::SUCCESS {
+    let op = Op::new(Update::Add(request));
+    let reply = store.apply(alloc, number, &op)?;
+    if reply.code == ResultCode::SUCCESS {
         Ok(())
     } else {
         Err(Fault::BadSample)
     }
 }
 
-/// Adds entries, one after the other. One that is refused is a bad sample.
-fn add_all(alloc: Global, store: &mut Store, requests: &[AddRequest]) -> Result<(), Fault>
-    ensures { OnOk result (store.new ≡ directory_after store.old (map add_view requests.now)) }
+/// Adds what stands above the items, as operations 1 and 2.
+fn add_upper(alloc: Global, store: &mut Store) -> Result<(), Fault>
+    requires empty { NumbersBelow 1 store.old.entries }
+    ensures applied { OnOk result (store.new ≡ applied (applied store.old 1 (add_op sample.example)) 2 (add_op sample.items_unit)) }
+    ensures below { OnOk result (NumbersBelow 3 store.new.entries) }
 {
-    for request in requests {
-        add(alloc, store, request)?;
-    }
-    Ok(())
+    add(alloc, store, 1, example(alloc)?)?;
+    add(alloc, store, 2, items_unit(alloc)?)
 }
 
-/// Adds the sample's entries.
-pub fn add_sample(alloc: Global, store: &mut Store) -> Result<(), Fault>
-    ensures { OnOk result (store.new ≡ directory_after store.old sample.sample) }
+/// Adds two items, as operations 3 and 4.
+fn add_first_items(alloc: Global, store: &mut Store) -> Result<(), Fault>
+    requires below { NumbersBelow 3 store.old.entries }
+    ensures applied { OnOk result (store.new ≡ applied (applied store.old 3 (add_op sample.ana)) 4 (add_op sample.anna)) }
+    ensures below { OnOk result (NumbersBelow 5 store.new.entries) }
 {
-    let requests = requests(alloc)?;
-    add_all(alloc, store, &requests)
+    add(alloc, store, 3, ana(alloc)?)?;
+    add(alloc, store, 4, anna(alloc)?)
+}
+
+/// Adds the other two, as operations 5 and 6.
+fn add_last_items(alloc: Global, store: &mut Store) -> Result<(), Fault>
+    requires below { NumbersBelow 5 store.old.entries }
+    ensures applied { OnOk result (store.new ≡ applied (applied store.old 5 (add_op sample.anana)) 6 (add_op sample.an_na)) }
+    ensures below { OnOk result (NumbersBelow 7 store.new.entries) }
+{
+    add(alloc, store, 5, anana(alloc)?)?;
+    add(alloc, store, 6, an_na(alloc)?)
+}
+
+/// Adds the sample's entries to a directory that has none, as operations 1 to 6.
+pub fn add_sample(alloc: Global, store: &mut Store) -> Result<(), Fault>
+    requires empty { NumbersBelow 1 store.old.entries }
+    ensures applied { OnOk result (store.new ≡ directory_after store.old 0 sample.sample) }
+    ensures below { OnOk result (NumbersBelow 7 store.new.entries) }
+{
+    add_upper(alloc, store)?;
+    add_first_items(alloc, store)?;
+    add_last_items(alloc, store)
 }

@@ -8,3 +8,5 @@ pub mod NameTexts
 pub mod Rising
 pub mod Ordered
 pub mod OrderLaws
+pub mod PrintedRead
+pub mod NameKeys

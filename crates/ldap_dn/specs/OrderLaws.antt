@@ -1,9 +1,9 @@
 -- The laws of the order of relative names.
-use Rattle.std.proofs.Common.{ℕ, List, [], ◌∷◌, Bool, true, false, nat_eq, ◌≡◌, refl, sym, ap, ◌∙◌, Ordering}
+use Rattle.std.proofs.Common.{List, [], ◌∷◌, Bool, nat_eq, ◌≡◌, refl, sym, ap, ◌∙◌, Ordering}
 use Rattle.std.specs.Prelude.{◌&&◌}
 use Rattle.std.specs.Str.{bytes_eq}
-use Rattle.std.specs.Ordering.{nat_cmp, is_eq, on, ordering_then, eq_by_cmp}
-use Rattle.std.specs.Cmp.{IsEquivalence, IsTotalOrder, nat_cmp_total, on_total, on_equiv, then_total, eq_by_cmp_equiv, unsigned_ties}
+use Rattle.std.specs.Ordering.{nat_cmp, is_eq, ordering_then, eq_by_cmp}
+use Rattle.std.specs.Cmp.{IsEquivalence, IsTotalOrder, nat_cmp_total, on_total, then_total, eq_by_cmp_equiv, unsigned_ties}
 use Rattle.std.specs.Cmp.Lexicographic.{slice_cmp, nat_list_cmp_total, lists_total, texts_ties}
 use Rattle.ldap_dn.specs.Names.{TypeAndKey, RdnModel, are_same_keys}
 use Rattle.ldap_dn.specs.Ordered.{key_order, rdn_order}

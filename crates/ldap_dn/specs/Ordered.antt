@@ -1,8 +1,7 @@
 -- The order in which names stand in a map: by the types and keys of their relative names, whatever the spelling. RFC 4512
 -- 2.3.2 (names are told apart by these alone). Texts and spellings are not here.
-use Rattle.std.specs.Prelude.{ℕ, List, [], ◌∷◌, Bool, true, false, ◌&&◌, nat_eq, ◌≡◌, refl, cond}
+use Rattle.std.specs.Prelude.{◌≡◌}
 use Rattle.std.specs.declared.cmp.Ordering.{Ordering}
-use Rattle.std.specs.declared.cmp.Ordering.TheVariants.{Less, Equal, Greater}
 use Rattle.std.specs.Ordering.{nat_cmp, is_eq, on, then_cmp}
 use Rattle.std.specs.Cmp.Lexicographic.{slice_cmp}
 use Rattle.ldap_dn.specs.Names.{TypeAndKey, RdnModel, are_same_keys}

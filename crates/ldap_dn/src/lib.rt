@@ -5,6 +5,7 @@
 mod comparing;
 mod cutting;
 mod fault;
+mod keying;
 mod name;
 mod ordering;
 mod printing;
@@ -16,7 +17,8 @@ mod token;
 pub use comparing::is_front;
 pub use cutting::pieces_are_parted;
 pub use fault::NameError;
-pub use name::{Name, names_are_of_texts};
+pub use keying::name_keys_are_of_names;
+pub use name::{Name, names_are_of_texts, printed_is_read, read_names_are_read_again};
 pub use ordering::equal_is_same;
 pub use rdn::{Rdn, TypeAndKey, TypeAndValue, keys_are_rising};
 pub use scanning::tokens_are_spelled;

@@ -3,17 +3,21 @@
 
 ghost use Rattle.std.specs.Prelude.{string_bytes, ◌≡◌, ◌↔◌, ◌-◌, length, take, None, Some, IfOk, IsErrOf, IsTrue, MatchOption, []};
 ghost use Rattle.ldap_dn.specs.NameTexts.{NamesAreOfTexts};
-ghost use Rattle.ldap_dn.specs.Names.{IsSameName, IsBelow};
+ghost use Rattle.ldap_dn.specs.Names.{IsSameName, IsBelow, rdns};
+ghost use Rattle.ldap_dn.specs.NameKeys.{name_key};
 ghost use Rattle.ldap_dn.specs.Printed.{printed_name};
+ghost use Rattle.ldap_dn.specs.PrintedRead.{PrintedIsRead, ReadNamesAreReadAgain};
 ghost use Rattle.ldap_dn.specs.Texts.{name_of_text};
 
 use crate::comparing::is_front;
 use crate::fault::NameError;
+use crate::keying::key_octets;
 use crate::printing::print;
 use crate::rdn::{Rdn, copy_rdns};
-use crate::reading::rdns;
+use crate::reading::rdns as rdns_of_tokens;
 use crate::scanning::tokens;
 use ldap_schema::Schema;
+use ldap_syntax::Key;
 use std::alloc::{AllocError, Global};
 use std::marker::Model;
 
@@ -42,7 +46,7 @@ impl Name {
         ensures refused { IsErrOf result NameError.BadName → name_of_text schema.now text.now ≡ None }
     {
         let tokens = tokens(alloc, text.as_bytes())?;
-        let rdns = rdns(alloc, schema, tokens.as_slice())?;
+        let rdns = rdns_of_tokens(alloc, schema, tokens.as_slice())?;
         Ok(Name { rdns })
     }
 
@@ -75,6 +79,14 @@ impl Name {
         ensures { IfOk result (λ t. string_bytes t ≡ printed_name schema.now self.now) }
     {
         print(alloc, schema, self.rdns())
+    }
+
+    /// The key of the name as a value (RFC 4517 4.2.15): names have one key exactly where they are one name
+    /// (`name_keys_are_of_names`). Its only error is want of memory.
+    pub fn key(&self, alloc: Global) -> Result<Key, AllocError>
+        ensures { IfOk result (λ k. k ≡ name_key (rdns self.now)) }
+    {
+        Ok(Key::new(key_octets(alloc, self.rdns())?))
     }
 
     /// The relative names, the root's first.
@@ -127,4 +139,14 @@ impl Name {
 /// The name that `Name::read` finds is the one whose text it is by the grammar, and where it finds none the text is no name's.
 pub fn names_are_of_texts()
     ensures { NamesAreOfTexts }
+{}
+
+/// What is printed of a name of the schema's types is read as that name, its spelling too.
+pub fn printed_is_read()
+    ensures { PrintedIsRead }
+{}
+
+/// What is printed of a name that was read by a schema that was read is read as that name.
+pub fn read_names_are_read_again()
+    ensures { ReadNamesAreReadAgain }
 {}

@@ -6,3 +6,6 @@ pub mod Lineage
 pub mod AsText
 pub mod Loops
 pub mod Judged
+pub mod Sought
+pub mod Indexed
+pub mod BuiltInText

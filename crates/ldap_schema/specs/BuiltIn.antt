@@ -4,6 +4,7 @@ use Rattle.ldap_syntax.specs.declared.rule.Rule.{Rule}
 use Rattle.ldap_syntax.specs.declared.rule.Family.TheVariants as family
 use Rattle.ldap_syntax.specs.declared.rule.Syntax.TheVariants as syntax
 use Rattle.ldap_schema.specs.Schema.{TypeModel, ClassModel, SchemaModel}
+use Rattle.ldap_schema.specs.declared.built_in.TheConstants.{BUILT_IN}
 use Rattle.ldap_schema.specs.declared.class.ClassKind.TheVariants.{Abstract, Structural}
 
 -- caseIgnoreMatch on Directory String
@@ -95,3 +96,7 @@ built_in_classes =
 
 abbrev pub built_in : SchemaModel
 built_in = record { types = built_in_types; classes = built_in_classes }
+
+-- the text of the built-in schema
+unfoldable pub built_in_text : List ℕ
+built_in_text = BUILT_IN.now

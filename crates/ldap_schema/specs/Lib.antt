@@ -1,5 +1,6 @@
 pub mod Schema
 pub mod Superclasses
+pub mod NameOrder
 pub mod ObjectClassType
 pub mod Tables
 pub mod BuiltIn

@@ -3,13 +3,15 @@
 #![tactic(auto)]
 
 mod attribute_type;
-mod building;
 mod built_in;
 mod class;
+mod comparing;
 mod described;
 mod error;
 mod judging;
 mod looping;
+mod name_index;
+mod name_table;
 mod naming;
 mod schema;
 mod superclasses;
@@ -18,4 +20,4 @@ mod tables;
 pub use attribute_type::{AttributeType, TypeId};
 pub use class::{ClassId, ClassKind, ObjectClass};
 pub use error::SchemaError;
-pub use schema::Schema;
+pub use schema::{Schema, built_in_is_its_text};

@@ -9,18 +9,19 @@ ghost use Rattle.ldap_schema.specs.ObjectClassType.{IsObjectClassType};
 ghost use Rattle.ldap_schema.specs.Schema.{IsLoopless};
 ghost use Rattle.ldap_schema.specs.Superclasses.{AreSuperclassesKnown};
 ghost use Rattle.ldap_schema.specs.Reading.{schema_of_text, schema_of_lines, IsRefusalOf};
-ghost use Rattle.ldap_schema.specs.BuiltIn.{built_in as built_in_schema};
+ghost use Rattle.ldap_schema.specs.BuiltIn.{built_in as built_in_schema, built_in_text};
 
 use crate::attribute_type::{AttributeType, TypeId};
-use crate::built_in::{built_in_classes, built_in_types};
+use crate::built_in::BUILT_IN;
 use crate::class::{ClassId, ObjectClass};
 use crate::described::{classes_of, types_of};
 use crate::error::SchemaError;
 use crate::judging::judged;
+use crate::name_index::NameIndex;
 use crate::superclasses::{
     is_class_among, superclasses_at, superclasses_of_all, with_superclasses,
 };
-use crate::tables::{class_called, is_among, superiors_at, superiors_of_all, type_called};
+use crate::tables::{is_among, superiors_at, superiors_of_all};
 use schema_text::{SchemaText, read_text};
 use std::alloc::{AllocError, Global};
 use std::marker::Model;
@@ -36,6 +37,10 @@ pub struct Schema {
     superclasses: Vec<Vec<ClassId>>,
     /// The type objectClass.
     object_class: TypeId,
+    /// The numbers of the types by what they are called.
+    type_index: NameIndex,
+    /// The numbers of the classes by what they are called.
+    class_index: NameIndex,
 }
 
 impl Model for Schema {
@@ -48,25 +53,18 @@ impl Model for Schema {
     ghost view = { λ s. record { types = s.types.items; classes = s.classes.items } };
 
     ghost invariant = { λ s. AreTablesOf (record { types = s.types.items; classes = s.classes.items })
-        (map (λ v. v.items) s.superiors.items) (map (λ v. v.items) s.superclasses.items) s.object_class };
+        (map (λ v. v.items) s.superiors.items) (map (λ v. v.items) s.superclasses.items) s.object_class s.type_index s.class_index };
 }
 
 impl Schema {
-    /// The built-in schema.
+    /// The built-in schema, read from its text. The text is a schema's, so its only error is want of memory.
     pub fn built_in(alloc: Global) -> Result<Schema, AllocError>
         ensures { IfOk result (λ s. s ≡ built_in_schema) }
     {
-        let types = built_in_types(alloc)?;
-        let superiors = superiors_of_all(alloc, types.as_slice())?;
-        let classes = built_in_classes(alloc)?;
-        let superclasses = superclasses_of_all(alloc, classes.as_slice())?;
-        Ok(Schema {
-            types,
-            classes,
-            superiors,
-            superclasses,
-            object_class: TypeId::new(0),
-        })
+        match Schema::read(alloc, BUILT_IN) {
+            Ok(schema) => Ok(schema),
+            Err(_) => Err(AllocError),
+        }
     }
 
     /// The schema of a text (RFC 4512 4.1): one description a line behind `attributeTypes: ` or `objectClasses: `; empty lines and
@@ -109,12 +107,16 @@ impl Schema {
     {
         let superiors = superiors_of_all(alloc, types.as_slice())?;
         let superclasses = superclasses_of_all(alloc, classes.as_slice())?;
+        let type_index = NameIndex::of_types(alloc, types.as_slice())?;
+        let class_index = NameIndex::of_classes(alloc, classes.as_slice())?;
         Ok(Schema {
             types,
             classes,
             superiors,
             superclasses,
             object_class,
+            type_index,
+            class_index,
         })
     }
 
@@ -161,7 +163,10 @@ impl Schema {
     pub fn find_octets(&self, name: &[u8]) -> Option<TypeId>
         ensures { result ≡ find_type self.now name.now }
     {
-        type_called(self.types.as_slice(), name)
+        match self.type_index.find(name) {
+            Some(number) => Some(TypeId::new(number)),
+            None => None,
+        }
     }
 
     /// The class of a name in any case, or of an object identifier.
@@ -175,7 +180,10 @@ impl Schema {
     pub fn class_octets(&self, name: &[u8]) -> Option<ClassId>
         ensures { result ≡ class_named self.now name.now }
     {
-        class_called(self.classes.as_slice(), name)
+        match self.class_index.find(name) {
+            Some(number) => Some(ClassId::new(number)),
+            None => None,
+        }
     }
 
     /// The type of a number; none, where the number is another schema's.
@@ -217,3 +225,8 @@ impl Schema {
         below == above || is_among(superiors_at(self.superiors.as_slice(), below), above)
     }
 }
+
+/// The text of the built-in schema means its table.
+pub fn built_in_is_its_text()
+    ensures { schema_of_text built_in_text ≡ Ok built_in_schema }
+{}

@@ -1,2 +1,4 @@
-pub mod ReplyLists
-pub mod Folds
+mod ReplyLists
+mod Folds
+pub mod Unchanged
+mod Compares

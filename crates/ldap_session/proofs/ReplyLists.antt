@@ -11,16 +11,16 @@ use Rattle.ldap_msg.specs.Messages.{MessageValue, SearchRequestValue, SearchResu
 use Rattle.ldap_msg.specs.Written.{message_bytes, message_content}
 use Rattle.dir_store.specs.Directory.{Directory}
 use Rattle.dir_search.specs.Answer.{Answer, answer}
-use Rattle.ldap_session.specs.Replies.{reply, outcome, search_replies, IsRequest, HasTooLong}
+use Rattle.ldap_session.specs.Replies.{reply, outcome, ended, search_replies, IsRequest, HasTooLong}
 
 pub replied : (d : Directory) (q : SearchRequestValue) (id : ℕ) (a : Answer) (rs : List (List ℕ)) (last : List ℕ) → a ≡ answer d q
-    → rs ≡ map message_bytes (map (λ (e : SearchResultEntryValue). reply id (search_entry e)) a.entries) → last ≡ message_bytes (reply id (search_done (outcome a.code)))
+    → rs ≡ map message_bytes (map (λ (e : SearchResultEntryValue). reply id (search_entry e)) a.entries) → last ≡ message_bytes (reply id (search_done (outcome (ended a))))
     → rs ++ last ∷ [] ≡ map message_bytes (search_replies d id q)
 replied d q id a rs last is entries done =
     ap (λ (l : List (List ℕ)). l ++ last ∷ []) entries
     ∙ ap (λ (l : List ℕ). map message_bytes (map (λ (e : SearchResultEntryValue). reply id (search_entry e)) a.entries) ++ l ∷ []) done
-    ∙ sym (map-append message_bytes (map (λ (e : SearchResultEntryValue). reply id (search_entry e)) a.entries) (reply id (search_done (outcome a.code)) ∷ []))
-    ∙ ap (λ (b : Answer). map message_bytes (map (λ (e : SearchResultEntryValue). reply id (search_entry e)) b.entries ++ reply id (search_done (outcome b.code)) ∷ [])) is
+    ∙ sym (map-append message_bytes (map (λ (e : SearchResultEntryValue). reply id (search_entry e)) a.entries) (reply id (search_done (outcome (ended a))) ∷ []))
+    ∙ ap (λ (b : Answer). map message_bytes (map (λ (e : SearchResultEntryValue). reply id (search_entry e)) b.entries ++ reply id (search_done (outcome (ended b))) ∷ [])) is
 
 module _ (octets : List ℕ) (message : MessageValue) (only : (m : MessageValue) → IsMessage octets m → IsWithin m.op → length octets ≤ 1048576 → message ≡ m) where
   -- the octets are no other request than the one that was read
@@ -55,14 +55,14 @@ too_long_last (x ∷ ms) m h = inr (too_long_last ms m h)
 -- the response of an entry is too long
 pub entry_too_long : (d : Directory) (q : SearchRequestValue) (id : ℕ) (a : Answer) → a ≡ answer d q → HasTooLong (map (λ (e : SearchResultEntryValue). reply id (search_entry e)) a.entries) → HasTooLong (search_replies d id q)
 entry_too_long d q id a is h =
-    subst (λ (b : Answer). HasTooLong (map (λ (e : SearchResultEntryValue). reply id (search_entry e)) b.entries ++ reply id (search_done (outcome b.code)) ∷ [])) is
-    (too_long_front (map (λ (e : SearchResultEntryValue). reply id (search_entry e)) a.entries) (reply id (search_done (outcome a.code)) ∷ []) h)
+    subst (λ (b : Answer). HasTooLong (map (λ (e : SearchResultEntryValue). reply id (search_entry e)) b.entries ++ reply id (search_done (outcome (ended b))) ∷ [])) is
+    (too_long_front (map (λ (e : SearchResultEntryValue). reply id (search_entry e)) a.entries) (reply id (search_done (outcome (ended a))) ∷ []) h)
 
 -- the last response is too long
-pub done_too_long : (d : Directory) (q : SearchRequestValue) (id : ℕ) (a : Answer) (r : LdapResultValue) → a ≡ answer d q → r ≡ outcome a.code → 2 ^ 32 ≤ length (message_content (reply id (search_done r))) → HasTooLong (search_replies d id q)
+pub done_too_long : (d : Directory) (q : SearchRequestValue) (id : ℕ) (a : Answer) (r : LdapResultValue) → a ≡ answer d q → r ≡ outcome (ended a) → 2 ^ 32 ≤ length (message_content (reply id (search_done r))) → HasTooLong (search_replies d id q)
 done_too_long d q id a r is out h =
-    subst (λ (b : Answer). HasTooLong (map (λ (e : SearchResultEntryValue). reply id (search_entry e)) b.entries ++ reply id (search_done (outcome b.code)) ∷ [])) is
-    (too_long_last (map (λ (e : SearchResultEntryValue). reply id (search_entry e)) a.entries) (reply id (search_done (outcome a.code))) (subst (λ (x : LdapResultValue). 2 ^ 32 ≤ length (message_content (reply id (search_done x)))) out h))
+    subst (λ (b : Answer). HasTooLong (map (λ (e : SearchResultEntryValue). reply id (search_entry e)) b.entries ++ reply id (search_done (outcome (ended b))) ∷ [])) is
+    (too_long_last (map (λ (e : SearchResultEntryValue). reply id (search_entry e)) a.entries) (reply id (search_done (outcome (ended a)))) (subst (λ (x : LdapResultValue). 2 ^ 32 ≤ length (message_content (reply id (search_done x)))) out h))
 
 -- an error is the same in another result
 pub same_error : {S T E : Type 0} (e f : E) → ◌≡◌ {A = Result T E} (Err e) (Err f) → ◌≡◌ {A = Result S E} (Err e) (Err f)

@@ -1,5 +1,5 @@
 //! Sessions: the octets of messages flow in, the octets of their responses flow out, over one directory. What a search finds and
-//! what an add changes is decided below; files, sockets and lines of hex are above.
+//! what an update changes is decided below; files, sockets and lines of hex are above.
 #![tactic(auto)]
 
 mod answered;
@@ -10,7 +10,7 @@ mod identity;
 mod reading;
 mod responses;
 mod session;
-mod unserved;
+mod updating;
 
 pub use answered::{Answered, Next};
 pub use fault::AnswerError;

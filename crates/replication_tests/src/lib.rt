@@ -3,6 +3,14 @@
 #![tactic(auto)]
 
 #[cfg(test)]
-mod changes;
+mod copies;
+#[cfg(test)]
+mod labs;
+#[cfg(test)]
+mod playing;
+#[cfg(test)]
+mod sample;
+#[cfg(test)]
+mod schedules;
 #[cfg(test)]
 mod tests;

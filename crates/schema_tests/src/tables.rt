@@ -64,27 +64,42 @@ fn is_same_class(a: &ObjectClass, b: &ObjectClass) -> bool {
         && a.allowed() == b.allowed()
 }
 
+/// Whether a type of each of these numbers is one in both schemas.
+fn are_same_types(a: &Schema, b: &Schema, count: usize) -> bool {
+    for number in 0..count {
+        let type_id = TypeId::new(number);
+        match (a.attribute_type(type_id), b.attribute_type(type_id)) {
+            (Some(one), Some(other)) if is_same_type(one, other) => {}
+            _ => return false,
+        }
+    }
+    true
+}
+
+/// Whether a class of each of these numbers is one in both schemas.
+fn are_same_classes(a: &Schema, b: &Schema, count: usize) -> bool {
+    for number in 0..count {
+        let class = ClassId::new(number);
+        match (a.object_class(class), b.object_class(class)) {
+            (Some(one), Some(other)) if is_same_class(one, other) => {}
+            _ => return false,
+        }
+    }
+    true
+}
+
+/// Whether a schema has 15 types and 6 classes, and no more.
+fn has_no_more(schema: &Schema) -> bool {
+    schema.count_of_types() == 15
+        && schema.attribute_type(TypeId::new(15)).is_none()
+        && schema.object_class(ClassId::new(6)).is_none()
+}
+
 #[test]
 fn table_and_text(rt: HostRuntime) -> Result<(), SchemaError> {
-    let alloc = rt.alloc();
-    let table = Schema::built_in(alloc)?;
-    let read = Schema::read(alloc, TABLE)?;
-    assert!(rt; read.count_of_types() == 15);
-    for number in 0..16 {
-        let type_id = TypeId::new(number);
-        match (table.attribute_type(type_id), read.attribute_type(type_id)) {
-            (Some(a), Some(b)) => assert!(rt; number < 15 && is_same_type(a, b)),
-            (None, None) => assert!(rt; number == 15),
-            _ => assert!(rt; false),
-        }
-    }
-    for number in 0..7 {
-        let class = ClassId::new(number);
-        match (table.object_class(class), read.object_class(class)) {
-            (Some(a), Some(b)) => assert!(rt; number < 6 && is_same_class(a, b)),
-            (None, None) => assert!(rt; number == 6),
-            _ => assert!(rt; false),
-        }
-    }
+    let table = Schema::built_in(rt.alloc())?;
+    let read = Schema::read(rt.alloc(), TABLE)?;
+    assert!(rt; are_same_types(&table, &read, 15) && are_same_classes(&table, &read, 6));
+    assert!(rt; has_no_more(&table) && has_no_more(&read));
     Ok(())
 }

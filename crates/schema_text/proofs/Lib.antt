@@ -1,3 +1,4 @@
 pub mod Spelled
 pub mod Spaced
 pub mod Described
+pub mod Lined

@@ -4,5 +4,6 @@ pub mod Keywords
 pub mod Arguments
 pub mod Descriptions
 pub mod Texts
+pub mod Lines
 pub mod Spelling
 pub mod Grammar

@@ -14,7 +14,7 @@ mod token;
 mod words;
 
 pub use description::{Description, Field};
-pub use grammar::{descriptions_are_of_octets, tokens_are_spelled};
+pub use grammar::{descriptions_are_of_octets, lines_are_of_text, tokens_are_spelled};
 pub use keyword::{Keyword, Section};
 pub use text::{SchemaText, read_text};
 pub use words::is_same_word;

@@ -2,7 +2,9 @@
 //! standard's words, not from the program. Proofs, and what clauses say already, are not here.
 #![tactic(auto)]
 
-pub mod asking;
-pub mod sample;
+#[cfg(test)]
+mod asking;
+#[cfg(test)]
+mod sample;
 #[cfg(test)]
 mod tests;

@@ -65,7 +65,7 @@ pub fn described(alloc: Global, schema: &Schema, text: &str) -> Result<Entry, Re
 }
 
 /// Adds an entry, if the tree may take it.
-pub fn add(
+fn add(
     alloc: Global,
     schema: &Schema,
     tree: &mut Tree,
@@ -164,20 +164,22 @@ fn shift(
 }
 
 /// A suffix, two units, entries below them and below one of those: numbers 1 to 9, with 5 left out.
+const ENTRIES: &[(u64, &str)] = &[
+    (1, "dc=example,dc=com"),
+    (2, "ou=People,dc=example,dc=com"),
+    (3, "ou=Groups,dc=example,dc=com"),
+    (4, "cn=Ana,ou=People,dc=example,dc=com"),
+    (6, "cn=Bo,ou=People,dc=example,dc=com"),
+    (7, "cn=Key,cn=Ana,ou=People,dc=example,dc=com"),
+    (8, "cn=All,ou=Groups,dc=example,dc=com"),
+    (9, "cn=Deep,cn=Key,cn=Ana,ou=People,dc=example,dc=com"),
+];
+
+/// The tree of those entries.
 pub fn sample(alloc: Global, schema: &Schema) -> Result<Tree, Refusal> {
     let mut tree = Tree::new(alloc, Name::read(alloc, schema, "dc=example,dc=com")?);
-    let entries = [
-        (1, "dc=example,dc=com"),
-        (2, "ou=People,dc=example,dc=com"),
-        (3, "ou=Groups,dc=example,dc=com"),
-        (4, "cn=Ana,ou=People,dc=example,dc=com"),
-        (6, "cn=Bo,ou=People,dc=example,dc=com"),
-        (7, "cn=Key,cn=Ana,ou=People,dc=example,dc=com"),
-        (8, "cn=All,ou=Groups,dc=example,dc=com"),
-        (9, "cn=Deep,cn=Key,cn=Ana,ou=People,dc=example,dc=com"),
-    ];
-    for (number, text) in entries {
-        add(alloc, schema, &mut tree, number, text)?;
+    for (number, text) in ENTRIES {
+        add(alloc, schema, &mut tree, *number, text)?;
     }
     Ok(tree)
 }

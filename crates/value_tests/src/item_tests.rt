@@ -1,42 +1,209 @@
 // Worked rows of ordering, substrings and other items. Filters and the sample flow in; truths that were worked out by hand are
 // compared. What must not be here: expected values that the program made.
 
-use crate::sample::sample;
-use ldap_eval::{bind, value};
+use crate::sample::{F, T, U, has_values};
 use ldap_filter::{Filter, MatchingRuleAssertion, SubstringFilter};
 use ldap_match::Truth;
-use ldap_schema::Schema;
 use std::alloc::{AllocError, Global};
 use std::test::*;
 
-const T: Truth = Truth::True;
-
-const F: Truth = Truth::False;
-
-const U: Truth = Truth::Undefined;
-
 const UNKNOWN: [Truth; 6] = [U, U, U, U, U, U];
 
-fn at_least(alloc: Global, description: &str, assertion: &[u8]) -> Result<Filter, AllocError> {
-    Ok(Filter::AtLeast {
-        description: String::from_str(alloc, description)?,
-        assertion: Vec::from_slice(alloc, assertion)?,
-    })
+/// A description, an assertion, and the values of the item on the six entries.
+type Row = (&'static str, &'static str, [Truth; 6]);
+
+const AT_LEAST: &[Row] = &[
+    ("rank", "10", [F, F, F, T, F, T]),
+    // `ticket` is under `label` and has no ORDERING rule, so the entry that has one is Undefined.
+    ("label", "abc", [F, F, T, T, U, F]),
+    // No ORDERING rule; an assertion outside the syntax; a description that is not recognised.
+    ("cn", "a", UNKNOWN),
+    ("rank", "09", UNKNOWN),
+    ("nosuch", "1", UNKNOWN),
+];
+
+const AT_MOST: &[Row] = &[
+    ("rank", "9", [F, F, T, F, T, F]),
+    // No entry has one, so it is False.
+    ("seen", "20200101000000Z", [F, F, F, F, F, F]),
+    // No ORDERING rule; an assertion outside the syntax; a description that is not recognised.
+    ("dc", "z", UNKNOWN),
+    ("seen", "2020", UNKNOWN),
+    ("rank;x-y", "1", UNKNOWN),
+];
+
+/// Approximately equal is equal.
+const APPROX: &[Row] = &[("name", " ANA", [F, F, T, F, F, F]), ("cn", "", UNKNOWN)];
+
+/// A description and an assertion in memory of their own.
+fn parts_of(alloc: Global, row: &Row) -> Result<(String, Vec<u8>), AllocError> {
+    let (description, assertion, _) = *row;
+    Ok((
+        String::from_str(alloc, description)?,
+        Vec::from_slice(alloc, assertion.as_bytes())?,
+    ))
 }
 
-fn at_most(alloc: Global, description: &str, assertion: &[u8]) -> Result<Filter, AllocError> {
-    Ok(Filter::AtMost {
-        description: String::from_str(alloc, description)?,
-        assertion: Vec::from_slice(alloc, assertion)?,
-    })
+#[test]
+fn at_least_items(rt: HostRuntime) -> Result<(), Fail> {
+    for row in AT_LEAST {
+        let (description, assertion) = parts_of(rt.alloc(), row)?;
+        let filter = Filter::AtLeast {
+            description,
+            assertion,
+        };
+        assert!(rt; has_values(rt.alloc(), filter, row.2.as_slice())?);
+    }
+    Ok(())
 }
 
-fn approx(alloc: Global, description: &str, assertion: &[u8]) -> Result<Filter, AllocError> {
-    Ok(Filter::Approx {
-        description: String::from_str(alloc, description)?,
-        assertion: Vec::from_slice(alloc, assertion)?,
-    })
+#[test]
+fn at_most_items(rt: HostRuntime) -> Result<(), Fail> {
+    for row in AT_MOST {
+        let (description, assertion) = parts_of(rt.alloc(), row)?;
+        let filter = Filter::AtMost {
+            description,
+            assertion,
+        };
+        assert!(rt; has_values(rt.alloc(), filter, row.2.as_slice())?);
+    }
+    Ok(())
 }
+
+#[test]
+fn approximate_items(rt: HostRuntime) -> Result<(), Fail> {
+    for row in APPROX {
+        let (description, assertion) = parts_of(rt.alloc(), row)?;
+        let filter = Filter::Approx {
+            description,
+            assertion,
+        };
+        assert!(rt; has_values(rt.alloc(), filter, row.2.as_slice())?);
+    }
+    Ok(())
+}
+
+/// A description, the parts of an assertion between asterisks, none where one is empty, and the values of the item.
+struct Substrings {
+    description: &'static str,
+    initial: &'static [u8],
+    any: &'static [&'static [u8]],
+    last: &'static [u8],
+    truths: [Truth; 6],
+}
+
+const SUBSTRINGS: &[Substrings] = &[
+    // `(cn=*an*na*)`
+    Substrings {
+        description: "cn",
+        initial: b"",
+        any: &[b"an", b"na"],
+        last: b"",
+        truths: [F, F, F, T, T, T],
+    },
+    // `(cn=an*na)`: the parts of `Ana` would overlap.
+    Substrings {
+        description: "cn",
+        initial: b"an",
+        any: &[],
+        last: b"na",
+        truths: [F, F, F, T, T, T],
+    },
+    // `(cn=A*)`
+    Substrings {
+        description: "cn",
+        initial: b"A",
+        any: &[],
+        last: b"",
+        truths: [F, F, T, T, T, T],
+    },
+    // `(cn=*A)`
+    Substrings {
+        description: "cn",
+        initial: b"",
+        any: &[],
+        last: b"A",
+        truths: [F, F, T, T, T, T],
+    },
+    // `(cn=n*)`
+    Substrings {
+        description: "cn",
+        initial: b"n",
+        any: &[],
+        last: b"",
+        truths: [F, F, F, F, F, F],
+    },
+    // `(cn=a*b*c)`
+    Substrings {
+        description: "cn",
+        initial: b"a",
+        any: &[b"b"],
+        last: b"c",
+        truths: [F, F, F, F, F, F],
+    },
+    // `(name=*nan*)`
+    Substrings {
+        description: "name",
+        initial: b"",
+        any: &[b"nan"],
+        last: b"",
+        truths: [F, F, F, F, T, F],
+    },
+    // `(dc=EX*ple)`
+    Substrings {
+        description: "dc",
+        initial: b"EX",
+        any: &[],
+        last: b"ple",
+        truths: [T, F, F, F, F, F],
+    },
+    // `(label=*b*)`; `ticket` is under `label` and has no SUBSTR rule.
+    Substrings {
+        description: "label",
+        initial: b"",
+        any: &[b"b"],
+        last: b"",
+        truths: [F, F, T, F, U, F],
+    },
+    // No SUBSTR rule, twice.
+    Substrings {
+        description: "rank",
+        initial: b"1",
+        any: &[],
+        last: b"",
+        truths: UNKNOWN,
+    },
+    Substrings {
+        description: "objectClass",
+        initial: b"",
+        any: &[b"te"],
+        last: b"",
+        truths: UNKNOWN,
+    },
+    // Octets that are no UTF-8.
+    Substrings {
+        description: "cn",
+        initial: b"",
+        any: &[b"a", b"\xff"],
+        last: b"",
+        truths: UNKNOWN,
+    },
+    // A description with an option, and one that is not recognised.
+    Substrings {
+        description: "cn;lang-en",
+        initial: b"a",
+        any: &[],
+        last: b"",
+        truths: UNKNOWN,
+    },
+    Substrings {
+        description: "nosuch",
+        initial: b"a",
+        any: &[],
+        last: b"",
+        truths: UNKNOWN,
+    },
+];
 
 /// A part; none, where it is empty.
 fn part(alloc: Global, octets: &[u8]) -> Result<Option<Vec<u8>>, AllocError> {
@@ -47,177 +214,42 @@ fn part(alloc: Global, octets: &[u8]) -> Result<Option<Vec<u8>>, AllocError> {
     }
 }
 
-/// The parts of a text between asterisks.
-fn substrings(
-    alloc: Global,
-    description: &str,
-    initial: &[u8],
-    any: &[&[u8]],
-    last: &[u8],
-) -> Result<Filter, Fail> {
+/// The parts in the middle.
+fn middle(alloc: Global, any: &[&[u8]]) -> Result<Vec<Vec<u8>>, AllocError> {
     let mut parts = Vec::new(alloc);
     for octets in any {
         parts.push(Vec::from_slice(alloc, octets)?)?;
     }
+    Ok(parts)
+}
+
+/// The item of a row.
+fn made_of(alloc: Global, row: &Substrings) -> Result<Filter, AllocError> {
     Ok(Filter::Substrings(SubstringFilter {
-        description: String::from_str(alloc, description)?,
-        initial: part(alloc, initial)?,
-        any: parts,
-        last: part(alloc, last)?,
+        description: String::from_str(alloc, row.description)?,
+        initial: part(alloc, row.initial)?,
+        any: middle(alloc, row.any)?,
+        last: part(alloc, row.last)?,
     }))
-}
-
-/// The values of a filter on the six entries.
-fn values(alloc: Global, filter: &Filter) -> Result<Vec<Truth>, Fail> {
-    let schema = Schema::built_in(alloc)?;
-    let bound = bind(alloc, &schema, filter)?;
-    let mut truths = Vec::new(alloc);
-    for entry in sample(alloc, &schema)?.as_slice() {
-        truths.push(value(&bound, entry))?;
-    }
-    Ok(truths)
-}
-
-#[test]
-fn ordering_items(rt: HostRuntime) -> Result<(), Fail> {
-    let alloc = rt.alloc();
-    assert_eq!(rt;
-        values(alloc, &at_least(alloc, "rank", b"10")?)?.as_slice(),
-        [F, F, F, T, F, T].as_slice()
-    );
-    assert_eq!(rt;
-        values(alloc, &at_most(alloc, "rank", b"9")?)?.as_slice(),
-        [F, F, T, F, T, F].as_slice()
-    );
-    // `ticket` is under `label` and has no ORDERING rule, so the entry that has one is Undefined.
-    assert_eq!(rt;
-        values(alloc, &at_least(alloc, "label", b"abc")?)?.as_slice(),
-        [F, F, T, T, U, F].as_slice()
-    );
-    // No entry has one, so it is False.
-    assert_eq!(rt;
-        values(alloc, &at_most(alloc, "seen", b"20200101000000Z")?)?.as_slice(),
-        [F, F, F, F, F, F].as_slice()
-    );
-    Ok(())
-}
-
-#[test]
-fn ordering_items_that_nobody_can_tell(rt: HostRuntime) -> Result<(), Fail> {
-    let alloc = rt.alloc();
-    // No ORDERING rule; an assertion outside the syntax; descriptions that are not recognised.
-    for filter in [
-        at_least(alloc, "cn", b"a")?,
-        at_most(alloc, "dc", b"z")?,
-        at_least(alloc, "rank", b"09")?,
-        at_most(alloc, "seen", b"2020")?,
-        at_least(alloc, "nosuch", b"1")?,
-        at_most(alloc, "rank;x-y", b"1")?,
-    ]
-    .as_slice()
-    {
-        assert_eq!(rt; values(alloc, filter)?.as_slice(), UNKNOWN.as_slice());
-    }
-    Ok(())
-}
-
-#[test]
-fn approximately_equal_is_equal(rt: HostRuntime) -> Result<(), Fail> {
-    let alloc = rt.alloc();
-    assert_eq!(rt;
-        values(alloc, &approx(alloc, "name", b" ANA")?)?.as_slice(),
-        [F, F, T, F, F, F].as_slice()
-    );
-    assert_eq!(rt;
-        values(alloc, &approx(alloc, "cn", b"")?)?.as_slice(),
-        UNKNOWN.as_slice()
-    );
-    Ok(())
 }
 
 #[test]
 fn substrings_items(rt: HostRuntime) -> Result<(), Fail> {
-    let alloc = rt.alloc();
-    // `(cn=*an*na*)`
-    let filter = substrings(alloc, "cn", b"", &[b"an", b"na"], b"")?;
-    assert_eq!(rt;
-        values(alloc, &filter)?.as_slice(),
-        [F, F, F, T, T, T].as_slice()
-    );
-    // `(cn=an*na)`: the parts of `Ana` would overlap.
-    let filter = substrings(alloc, "cn", b"an", &[], b"na")?;
-    assert_eq!(rt;
-        values(alloc, &filter)?.as_slice(),
-        [F, F, F, T, T, T].as_slice()
-    );
-    // `(cn=A*)`, `(cn=*A)`, `(cn=n*)`, `(cn=a*b*c)`, `(cn=an *)`
-    let filter = substrings(alloc, "cn", b"A", &[], b"")?;
-    assert_eq!(rt;
-        values(alloc, &filter)?.as_slice(),
-        [F, F, T, T, T, T].as_slice()
-    );
-    let filter = substrings(alloc, "cn", b"", &[], b"A")?;
-    assert_eq!(rt;
-        values(alloc, &filter)?.as_slice(),
-        [F, F, T, T, T, T].as_slice()
-    );
-    let filter = substrings(alloc, "cn", b"n", &[], b"")?;
-    assert_eq!(rt;
-        values(alloc, &filter)?.as_slice(),
-        [F, F, F, F, F, F].as_slice()
-    );
-    let filter = substrings(alloc, "cn", b"a", &[b"b"], b"c")?;
-    assert_eq!(rt;
-        values(alloc, &filter)?.as_slice(),
-        [F, F, F, F, F, F].as_slice()
-    );
-    // `(name=*nan*)`, `(dc=EX*ple)`
-    let filter = substrings(alloc, "name", b"", &[b"nan"], b"")?;
-    assert_eq!(rt;
-        values(alloc, &filter)?.as_slice(),
-        [F, F, F, F, T, F].as_slice()
-    );
-    let filter = substrings(alloc, "dc", b"EX", &[], b"ple")?;
-    assert_eq!(rt;
-        values(alloc, &filter)?.as_slice(),
-        [T, F, F, F, F, F].as_slice()
-    );
-    Ok(())
-}
-
-#[test]
-fn substrings_items_that_nobody_can_tell(rt: HostRuntime) -> Result<(), Fail> {
-    let alloc = rt.alloc();
-    // No SUBSTR rule, twice; octets that are no UTF-8; a description with an option; one that is not recognised.
-    for filter in [
-        substrings(alloc, "rank", b"1", &[], b"")?,
-        substrings(alloc, "objectClass", b"", &[b"te"], b"")?,
-        substrings(alloc, "cn", b"", &[b"a", b"\xff"], b"")?,
-        substrings(alloc, "cn;lang-en", b"a", &[], b"")?,
-        substrings(alloc, "nosuch", b"a", &[], b"")?,
-    ]
-    .as_slice()
-    {
-        assert_eq!(rt; values(alloc, filter)?.as_slice(), UNKNOWN.as_slice());
+    for row in SUBSTRINGS {
+        let filter = made_of(rt.alloc(), row)?;
+        assert!(rt; has_values(rt.alloc(), filter, row.truths.as_slice())?);
     }
-    // `ticket` is under `label` and has no SUBSTR rule; `(label=*b*)`.
-    let filter = substrings(alloc, "label", b"", &[b"b"], b"")?;
-    assert_eq!(rt;
-        values(alloc, &filter)?.as_slice(),
-        [F, F, T, F, U, F].as_slice()
-    );
     Ok(())
 }
 
 #[test]
 fn extensible_items_are_undefined(rt: HostRuntime) -> Result<(), Fail> {
-    let alloc = rt.alloc();
     let filter = Filter::Extensible(MatchingRuleAssertion {
         matching_rule: None,
-        description: Some(String::from_str(alloc, "cn")?),
-        match_value: Vec::from_slice(alloc, b"Ana")?,
+        description: Some(String::from_str(rt.alloc(), "cn")?),
+        match_value: Vec::from_slice(rt.alloc(), b"Ana")?,
         dn_attributes: false,
     });
-    assert_eq!(rt; values(alloc, &filter)?.as_slice(), UNKNOWN.as_slice());
+    assert!(rt; has_values(rt.alloc(), filter, UNKNOWN.as_slice())?);
     Ok(())
 }

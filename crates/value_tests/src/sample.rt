@@ -1,9 +1,35 @@
-// The sample's six entries, each with `objectClass: top` last. A schema flows in, entries flow out.
-// What must not be here: filters.
+// The sample's six entries, each with `objectClass: top` last, and what filters are worth on them. A schema and filters flow in,
+// entries and truths flow out. What must not be here: expected values.
 
 use dir_entry::{Entry, EntryError};
+use ldap_eval::{bind, value};
+use ldap_filter::Filter;
+use ldap_match::Truth;
 use ldap_schema::Schema;
-use std::alloc::Global;
+use std::alloc::{AllocError, Global};
+use std::test::*;
+
+pub const T: Truth = Truth::True;
+
+pub const F: Truth = Truth::False;
+
+pub const U: Truth = Truth::Undefined;
+
+/// The values of a filter on the six entries.
+fn values(alloc: Global, filter: &Filter) -> Result<Vec<Truth>, Fail> {
+    let schema = Schema::built_in(alloc)?;
+    let bound = bind(alloc, &schema, filter)?;
+    let mut truths = Vec::new(alloc);
+    for entry in &sample(alloc, &schema)? {
+        truths.push(value(&bound, entry))?;
+    }
+    Ok(truths)
+}
+
+/// Whether a filter has these values on the six entries.
+pub fn has_values(alloc: Global, filter: Filter, truths: &[Truth]) -> Result<bool, Fail> {
+    Ok(values(alloc, &filter)?.as_slice() == truths)
+}
 
 /// Adds one attribute by its name.
 pub fn add(
@@ -13,70 +39,68 @@ pub fn add(
     name: &str,
     values: &[&[u8]],
 ) -> Result<(), EntryError> {
-    let Some(type_id) = schema.find(name) else {
-        return Err(EntryError::InvalidAttributeSyntax);
-    };
+    match schema.find(name) {
+        Some(type_id) => entry.add(alloc, schema, type_id, owned(alloc, values)?),
+        None => Err(EntryError::InvalidAttributeSyntax),
+    }
+}
+
+/// The values in memory of their own.
+fn owned(alloc: Global, values: &[&[u8]]) -> Result<Vec<Vec<u8>>, AllocError> {
     let mut owned = Vec::new(alloc);
     for value in values {
         owned.push(Vec::from_slice(alloc, value)?)?;
     }
-    entry.add(alloc, schema, type_id, owned)
+    Ok(owned)
 }
 
-fn domain(alloc: Global, schema: &Schema) -> Result<Entry, EntryError> {
-    let mut entry = Entry::new(alloc);
-    add(
-        alloc,
-        schema,
-        &mut entry,
-        "objectClass",
-        &[b"domain", b"top"],
-    )?;
-    add(alloc, schema, &mut entry, "dc", &[b"example"])?;
-    Ok(entry)
-}
+/// What the six entries have, in the order of their numbers: names, and the values of each.
+const ENTRIES: &[&[(&str, &[&[u8]])]] = &[
+    &[("objectClass", &[b"domain", b"top"]), ("dc", &[b"example"])],
+    &[
+        ("objectClass", &[b"organizationalUnit", b"top"]),
+        ("ou", &[b"Items"]),
+    ],
+    &[
+        ("objectClass", &[b"item", b"top"]),
+        ("cn", &[b"Ana"]),
+        ("rank", &[b"9"]),
+        ("description", &[b"first"]),
+        ("label", &[b"abc"]),
+    ],
+    &[
+        ("objectClass", &[b"item", b"top"]),
+        ("cn", &[b"Anna"]),
+        ("rank", &[b"10"]),
+        ("label", &[b"xyz"]),
+    ],
+    &[
+        ("objectClass", &[b"item", b"top"]),
+        ("cn", &[b"Anana"]),
+        ("rank", &[b"-3"]),
+        ("ticket", &[b"7"]),
+    ],
+    &[
+        ("objectClass", &[b"item", b"top"]),
+        ("cn", &[b"An Na"]),
+        ("rank", &[b"1234567890123456789012345678901234567890"]),
+    ],
+];
 
-fn unit(alloc: Global, schema: &Schema) -> Result<Entry, EntryError> {
+/// An entry with these attributes.
+fn entry(alloc: Global, schema: &Schema, rows: &[(&str, &[&[u8]])]) -> Result<Entry, EntryError> {
     let mut entry = Entry::new(alloc);
-    add(
-        alloc,
-        schema,
-        &mut entry,
-        "objectClass",
-        &[b"organizationalUnit", b"top"],
-    )?;
-    add(alloc, schema, &mut entry, "ou", &[b"Items"])?;
-    Ok(entry)
-}
-
-fn item(alloc: Global, schema: &Schema, name: &[u8], rank: &[u8]) -> Result<Entry, EntryError> {
-    let mut entry = Entry::new(alloc);
-    add(alloc, schema, &mut entry, "objectClass", &[b"item", b"top"])?;
-    add(alloc, schema, &mut entry, "cn", &[name])?;
-    add(alloc, schema, &mut entry, "rank", &[rank])?;
+    for (name, values) in rows {
+        add(alloc, schema, &mut entry, name, values)?;
+    }
     Ok(entry)
 }
 
 /// The entries in the order of their numbers.
-pub fn sample(alloc: Global, schema: &Schema) -> Result<Vec<Entry>, EntryError> {
+fn sample(alloc: Global, schema: &Schema) -> Result<Vec<Entry>, EntryError> {
     let mut entries = Vec::new(alloc);
-    entries.push(domain(alloc, schema)?)?;
-    entries.push(unit(alloc, schema)?)?;
-    let mut ana = item(alloc, schema, b"Ana", b"9")?;
-    add(alloc, schema, &mut ana, "description", &[b"first"])?;
-    add(alloc, schema, &mut ana, "label", &[b"abc"])?;
-    entries.push(ana)?;
-    let mut anna = item(alloc, schema, b"Anna", b"10")?;
-    add(alloc, schema, &mut anna, "label", &[b"xyz"])?;
-    entries.push(anna)?;
-    let mut anana = item(alloc, schema, b"Anana", b"-3")?;
-    add(alloc, schema, &mut anana, "ticket", &[b"7"])?;
-    entries.push(anana)?;
-    entries.push(item(
-        alloc,
-        schema,
-        b"An Na",
-        b"1234567890123456789012345678901234567890",
-    )?)?;
+    for rows in ENTRIES {
+        entries.push(entry(alloc, schema, rows)?)?;
+    }
     Ok(entries)
 }

@@ -3,7 +3,7 @@
 
 use caseless::default_case_fold_str;
 use ldap_syntax::{Family, Part, prepare};
-use std::alloc::Global;
+use std::alloc::{AllocError, Global};
 use std::test::*;
 use unicode_normalization::to_nfkc;
 
@@ -13,7 +13,7 @@ use unicode_normalization::to_nfkc;
 /// compared with them too, so on these texts both agree.
 type Row = [&'static str; 5];
 
-const ROWS: [Row; 53] = [
+const ROWS: &[Row] = &[
     // latin small letter sharp s
     ["Straße", "Straße", "strasse", " Straße ", " strasse "],
     // the other spelling of the first
@@ -230,80 +230,95 @@ const ROWS: [Row; 53] = [
     ["An\t  Na", "An\t  Na", "an\t  na", " An  Na ", " an  na "],
 ];
 
+/// Whether a text has this form with case folded.
+fn is_folded(alloc: Global, normal: &str, folded: &str) -> Result<bool, AllocError> {
+    let lower = default_case_fold_str(alloc, normal)?;
+    Ok(to_nfkc(alloc, lower.as_str())?.as_str() == folded)
+}
+
+/// Whether the text of a row has its NFKC, and that with case folded.
+fn has_forms(alloc: Global, row: &Row) -> Result<bool, AllocError> {
+    let normal = to_nfkc(alloc, row[0])?;
+    Ok(normal.as_str() == row[1] && is_folded(alloc, normal.as_str(), row[2])?)
+}
+
 #[test]
-fn texts_have_the_forms_of_another_program(rt: HostRuntime) -> Result<(), Fail> {
-    let alloc = rt.alloc();
-    for row in ROWS.as_slice() {
-        let [text, nfkc, folded, _, _] = *row;
-        let normal = to_nfkc(alloc, text)?;
-        assert_eq!(rt; normal.as_str(), nfkc);
-        let lower = default_case_fold_str(alloc, normal.as_str())?;
-        assert_eq!(rt; to_nfkc(alloc, lower.as_str())?.as_str(), folded);
+fn texts_have_the_forms_of_another_program(rt: HostRuntime) -> Result<(), AllocError> {
+    for row in ROWS {
+        assert!(rt; has_forms(rt.alloc(), row)?);
     }
     Ok(())
 }
 
+/// Whether a family makes this of a text.
+fn makes(
+    alloc: Global,
+    family: Family,
+    part: Part,
+    text: &str,
+    prepared: &str,
+) -> Result<bool, AllocError> {
+    Ok(prepare(alloc, text, family, part)?.as_str() == prepared)
+}
+
 #[test]
-fn texts_are_prepared_as_by_another_program(rt: HostRuntime) -> Result<(), Fail> {
-    let alloc = rt.alloc();
-    for row in ROWS.as_slice() {
-        let [text, _, _, exact, ignore] = *row;
-        let whole = prepare(alloc, text, Family::Exact, Part::Whole)?;
-        assert_eq!(rt; whole.as_str(), exact);
-        let whole = prepare(alloc, text, Family::Ignore, Part::Whole)?;
-        assert_eq!(rt; whole.as_str(), ignore);
+fn texts_are_prepared_as_by_another_program(rt: HostRuntime) -> Result<(), AllocError> {
+    for row in ROWS {
+        assert!(rt; makes(rt.alloc(), Family::Exact, Part::Whole, row[0], row[3])?);
+        assert!(rt; makes(rt.alloc(), Family::Ignore, Part::Whole, row[0], row[4])?);
     }
     Ok(())
 }
 
-/// What the ignore family makes of a text.
-fn ignored(alloc: Global, text: &str, part: Part) -> Result<String, Fail> {
-    Ok(prepare(alloc, text, Family::Ignore, part)?)
-}
+/// A part, a text, and what the ignore family makes of it there.
+const SPACES: &[(Part, &str, &str)] = &[
+    (Part::Whole, "An Na", " an  na "),
+    (Part::Whole, "Straße", " strasse "),
+    (Part::Initial, "Ab", " ab"),
+    (Part::Any, " Ab ", " ab "),
+    (Part::Final, "Ab", "ab "),
+    (Part::Whole, " ", "  "),
+    // At open edges.
+    (Part::Initial, "  Ab  c  ", " ab  c "),
+    (Part::Any, "   Ab", " ab"),
+    (Part::Any, "Ab\t\t", "ab "),
+    (Part::Final, "  Ab", " ab "),
+    (Part::Initial, "   ", " "),
+    (Part::Any, "\u{3000}", " "),
+    (Part::Final, "\u{7f}", " "),
+];
 
 #[test]
-fn spaces_of_each_part(rt: HostRuntime) -> Result<(), Fail> {
-    let alloc = rt.alloc();
-    assert_eq!(rt; ignored(alloc, "An Na", Part::Whole)?.as_str(), " an  na ");
-    assert_eq!(rt;
-        ignored(alloc, "Straße", Part::Whole)?.as_str(),
-        " strasse "
-    );
-    assert_eq!(rt; ignored(alloc, "Ab", Part::Initial)?.as_str(), " ab");
-    assert_eq!(rt; ignored(alloc, " Ab ", Part::Any)?.as_str(), " ab ");
-    assert_eq!(rt; ignored(alloc, "Ab", Part::Final)?.as_str(), "ab ");
-    assert_eq!(rt; ignored(alloc, " ", Part::Whole)?.as_str(), "  ");
+fn spaces_of_each_part(rt: HostRuntime) -> Result<(), AllocError> {
+    for (part, text, prepared) in SPACES {
+        assert!(rt; makes(rt.alloc(), Family::Ignore, *part, text, prepared)?);
+    }
     Ok(())
 }
 
-#[test]
-fn spaces_at_open_edges(rt: HostRuntime) -> Result<(), Fail> {
-    let alloc = rt.alloc();
-    assert_eq!(rt;
-        ignored(alloc, "  Ab  c  ", Part::Initial)?.as_str(),
-        " ab  c "
-    );
-    assert_eq!(rt; ignored(alloc, "   Ab", Part::Any)?.as_str(), " ab");
-    assert_eq!(rt; ignored(alloc, "Ab\t\t", Part::Any)?.as_str(), "ab ");
-    assert_eq!(rt; ignored(alloc, "  Ab", Part::Final)?.as_str(), " ab ");
-    assert_eq!(rt; ignored(alloc, "   ", Part::Initial)?.as_str(), " ");
-    assert_eq!(rt; ignored(alloc, "\u{3000}", Part::Any)?.as_str(), " ");
-    assert_eq!(rt; ignored(alloc, "\u{7f}", Part::Final)?.as_str(), " ");
-    Ok(())
-}
+/// A family, a part, a text, and what the family makes of it there.
+const FAMILIES: &[(Family, Part, &str, &str)] = &[
+    (Family::Numeric, Part::Whole, " 1 23 ", "123"),
+    (
+        Family::Telephone,
+        Part::Any,
+        "+1 512-315 EXT 7",
+        "+1512315ext7",
+    ),
+    (Family::Ia5, Part::Whole, " An  NA", " an  na "),
+    (Family::Ia5Exact, Part::Whole, " An  NA", " An  NA "),
+    (
+        Family::Time,
+        Part::Whole,
+        "20000101000000Z",
+        "20000101000000Z",
+    ),
+];
 
 #[test]
-fn other_families(rt: HostRuntime) -> Result<(), Fail> {
-    let alloc = rt.alloc();
-    let digits = prepare(alloc, " 1 23 ", Family::Numeric, Part::Whole)?;
-    assert_eq!(rt; digits.as_str(), "123");
-    let number = prepare(alloc, "+1 512-315 EXT 7", Family::Telephone, Part::Any)?;
-    assert_eq!(rt; number.as_str(), "+1512315ext7");
-    let lower = prepare(alloc, " An  NA", Family::Ia5, Part::Whole)?;
-    assert_eq!(rt; lower.as_str(), " an  na ");
-    let kept = prepare(alloc, " An  NA", Family::Ia5Exact, Part::Whole)?;
-    assert_eq!(rt; kept.as_str(), " An  NA ");
-    let time = prepare(alloc, "20000101000000Z", Family::Time, Part::Whole)?;
-    assert_eq!(rt; time.as_str(), "20000101000000Z");
+fn other_families(rt: HostRuntime) -> Result<(), AllocError> {
+    for (family, part, text, prepared) in FAMILIES {
+        assert!(rt; makes(rt.alloc(), *family, *part, text, prepared)?);
+    }
     Ok(())
 }

@@ -13,6 +13,10 @@ mod messages;
 #[cfg(test)]
 mod operations;
 #[cfg(test)]
+mod parts;
+#[cfg(test)]
+mod sharing;
+#[cfg(test)]
 mod streams;
 #[cfg(test)]
 mod updates;

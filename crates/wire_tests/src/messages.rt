@@ -1,8 +1,10 @@
 //! Whole messages: worked rows, messages of real clients, every other spelling, faults.
 
-use ldap_msg::{
-    Filter, Message, MsgFault, ProtocolOp, Request, Response, Scope, SearchRequest, decode, encode,
+use crate::parts::{Part, has_part};
+use crate::sharing::{
+    element, is_refused, is_written, number_and_controls, with_filter, with_text,
 };
+use ldap_msg::{MsgFault, decode};
 use std::alloc::Global;
 use std::test::*;
 
@@ -48,182 +50,126 @@ const EMPTY_LISTS: &str = "301002010165090a010004000400a300a000";
 
 const DONE: &str = "300c02010165070a010004000400";
 
-fn read(alloc: Global, text: &str) -> Result<Message, Fail> {
-    let octets = hex::decode(alloc, text)?;
-    Ok(decode(alloc, &octets)?)
-}
-
-/// What is written for the message that is read.
-fn written(alloc: Global, text: &str) -> Result<String, Fail> {
-    let message = read(alloc, text)?;
-    let octets = encode(alloc, &message)?;
-    Ok(hex::encode(alloc, octets.as_slice())?)
-}
-
-/// The fault of octets that are no message within the limits.
-fn fault(alloc: Global, text: &str) -> Result<Option<MsgFault>, Fail> {
-    let octets = hex::decode(alloc, text)?;
-    Ok(decode(alloc, &octets).err())
-}
-
-/// A search with this filter, which is spelled already.
-fn with_filter(alloc: Global, filter: &[u8]) -> Result<Vec<u8>, Fail> {
-    let mut content = hex::decode(alloc, "04000a01020a0100020100020100010100")?;
-    content.extend_from_slice(filter)?;
-    ldap_ber::write(0x30, &[], &mut content)?;
-    let mut message = hex::decode(alloc, "020101")?;
-    ldap_ber::write(0x63, &content, &mut message)?;
-    let mut octets = Vec::new(alloc);
-    ldap_ber::write(0x30, &message, &mut octets)?;
-    Ok(octets)
-}
-
-/// Whether the parts of the search are read.
-fn is_the_search(search: &SearchRequest) -> bool {
-    let filter = match &search.filter {
-        Filter::Equal {
-            description,
-            assertion,
-        } => description.as_str() == "label" && assertion.as_slice() == b"abc".as_slice(),
-        _ => false,
-    };
-    filter
-        && search.base.as_str() == ""
-        && search.scope == Scope::WholeSubtree
-        && search.attributes.len() == 1
-}
+/// Spellings of a message, and what is written for it.
+const SPELLINGS: &[(&str, &str)] = &[
+    (SEARCH, SEARCH),
+    (ONE_OCTET_LENGTHS, SEARCH),
+    (FOUR_OCTET_LENGTHS, SEARCH),
+    (TRAILING_ELEMENTS, SEARCH),
+    (EMPTY_LISTS, DONE),
+    (JNDI_OTHERWISE, JNDI),
+    // Messages of clients.
+    (LDAPSEARCH, LDAPSEARCH),
+    (PAGED, PAGED),
+    (JNDI, JNDI),
+    // Responses.
+    (ENTRY, ENTRY),
+    (REFERRED, REFERRED),
+    (NOTICE, NOTICE),
+];
 
 #[test]
 fn one_value_of_every_spelling(rt: HostRuntime) -> Result<(), Fail> {
-    let alloc = rt.alloc();
-    assert_eq!(rt; written(alloc, SEARCH)?.as_str(), SEARCH);
-    assert_eq!(rt; written(alloc, ONE_OCTET_LENGTHS)?.as_str(), SEARCH);
-    assert_eq!(rt; written(alloc, FOUR_OCTET_LENGTHS)?.as_str(), SEARCH);
-    assert_eq!(rt; written(alloc, TRAILING_ELEMENTS)?.as_str(), SEARCH);
-    assert_eq!(rt; written(alloc, EMPTY_LISTS)?.as_str(), DONE);
-    assert_eq!(rt; written(alloc, JNDI_OTHERWISE)?.as_str(), JNDI);
+    for (text, wanted) in SPELLINGS {
+        assert!(rt; is_written(rt.alloc(), text, wanted)?);
+    }
+    Ok(())
+}
+
+/// Messages, and what their parts are.
+const PARTS: &[(&str, Part)] = &[(SEARCH, Part::Search), (NOTICE, Part::Notice)];
+
+#[test]
+fn parts(rt: HostRuntime) -> Result<(), Fail> {
+    for (text, part) in PARTS {
+        assert!(rt; has_part(rt.alloc(), text, *part)?);
+    }
     Ok(())
 }
 
 #[test]
-fn messages_of_clients(rt: HostRuntime) -> Result<(), Fail> {
-    let alloc = rt.alloc();
-    assert_eq!(rt; written(alloc, LDAPSEARCH)?.as_str(), LDAPSEARCH);
-    assert_eq!(rt; written(alloc, PAGED)?.as_str(), PAGED);
-    assert_eq!(rt; written(alloc, JNDI)?.as_str(), JNDI);
+fn numbers_of_messages(rt: HostRuntime) -> Result<(), Fail> {
+    assert!(rt; number_and_controls(rt.alloc(), NOTICE)? == (0, 0));
+    assert!(rt; number_and_controls(rt.alloc(), SEARCH)? == (1, 0));
     Ok(())
 }
 
-#[test]
-fn responses(rt: HostRuntime) -> Result<(), Fail> {
-    let alloc = rt.alloc();
-    assert_eq!(rt; written(alloc, ENTRY)?.as_str(), ENTRY);
-    assert_eq!(rt; written(alloc, REFERRED)?.as_str(), REFERRED);
-    assert_eq!(rt; written(alloc, NOTICE)?.as_str(), NOTICE);
-    let notice = read(alloc, NOTICE)?;
-    assert_eq!(rt; notice.id, 0);
-    assert!(rt; matches!(notice.op, ProtocolOp::Response(Response::Extended(_))));
-    Ok(())
-}
-
-#[test]
-fn parts_of_a_search(rt: HostRuntime) -> Result<(), Fail> {
-    let message = read(rt.alloc(), SEARCH)?;
-    assert_eq!(rt; message.id, 1);
-    assert_eq!(rt; message.controls.len(), 0);
-    let is_search = match &message.op {
-        ProtocolOp::Request(Request::Search(search)) => is_the_search(search),
-        _ => false,
-    };
-    assert!(rt; is_search);
-    Ok(())
-}
+const FAULTS: &[&str] = &[
+    // An indefinite length.
+    "30800201016007020103040080000000",
+    // No octet, a cut message, an octet too many.
+    "",
+    "300c0201",
+    "300c02010165070a01000400040000",
+    // A request of messageID 0, a scope of 4, an integer with a needless octet, a base that is no text.
+    "3025020100632004000a01000a0100020100020100010100870b6f626a656374436c6173733000",
+    "3025020101632004000a01040a0100020100020100010100870b6f626a656374436c6173733000",
+    "302602020001632004000a01000a0100020100020100010100870b6f626a656374436c6173733000",
+    "302602010163210401ff0a01000a0100020100020100010100870b6f626a656374436c6173733000",
+];
 
 #[test]
 fn faults(rt: HostRuntime) -> Result<(), Fail> {
-    let alloc = rt.alloc();
-    let none = Some(MsgFault::NotAMessage);
-    // An indefinite length.
-    assert_eq!(rt; fault(alloc, "30800201016007020103040080000000")?, none);
-    // No octet, a cut message, an octet too many.
-    assert_eq!(rt; fault(alloc, "")?, none);
-    assert_eq!(rt; fault(alloc, "300c0201")?, none);
-    assert_eq!(rt; fault(alloc, "300c02010165070a01000400040000")?, none);
-    // A request of messageID 0, a scope of 4, an integer with a needless octet, a base that is no text.
-    assert_eq!(rt;
-        fault(
-            alloc,
-            "3025020100632004000a01000a0100020100020100010100870b6f626a656374436c6173733000"
-        )?,
-        none
-    );
-    assert_eq!(rt;
-        fault(
-            alloc,
-            "3025020101632004000a01040a0100020100020100010100870b6f626a656374436c6173733000"
-        )?,
-        none
-    );
-    assert_eq!(rt;
-        fault(
-            alloc,
-            "302602020001632004000a01000a0100020100020100010100870b6f626a656374436c6173733000"
-        )?,
-        none
-    );
-    assert_eq!(rt;
-        fault(
-            alloc,
-            "302602010163210401ff0a01000a0100020100020100010100870b6f626a656374436c6173733000"
-        )?,
-        none
-    );
+    for text in FAULTS {
+        assert!(rt; is_refused(rt.alloc(), text)?);
+    }
     Ok(())
 }
 
-#[test]
-fn limits_of_filters(rt: HostRuntime) -> Result<(), Fail> {
-    let alloc = rt.alloc();
-    let mut deep = hex::decode(alloc, "a30c04056c6162656c0403616263")?;
-    for _ in 0..63 {
-        let mut outer = Vec::new(alloc);
-        ldap_ber::write(0xa2, &deep, &mut outer)?;
-        deep = outer;
-    }
-    assert!(rt; decode(alloc, &with_filter(alloc, &deep)?).is_ok());
-    let mut deeper = Vec::new(alloc);
-    ldap_ber::write(0xa2, &deep, &mut deeper)?;
-    let fault = decode(alloc, &with_filter(alloc, &deeper)?).err();
-    assert_eq!(rt; fault, Some(MsgFault::TooDeep));
+/// The fault of a search with this filter, which is spelled already.
+fn fault_of(alloc: Global, filter: &[u8]) -> Result<Option<MsgFault>, Fail> {
+    let octets = with_filter(alloc, filter)?;
+    Ok(decode(alloc, &octets).err())
+}
 
+/// So many `not` round an item.
+fn nots(alloc: Global, count: usize) -> Result<Vec<u8>, Fail> {
+    let mut deep = hex::decode(alloc, "a30c04056c6162656c0403616263")?;
+    for _ in 0..count {
+        deep = element(alloc, 0xa2, &deep)?;
+    }
+    Ok(deep)
+}
+
+/// The fault of a search with so many `not`.
+fn fault_of_nots(alloc: Global, count: usize) -> Result<Option<MsgFault>, Fail> {
+    fault_of(alloc, &nots(alloc, count)?)
+}
+
+#[test]
+fn limit_of_depth(rt: HostRuntime) -> Result<(), Fail> {
+    assert!(rt; fault_of_nots(rt.alloc(), 63)?.is_none());
+    assert!(rt; fault_of_nots(rt.alloc(), 64)? == Some(MsgFault::TooDeep));
+    Ok(())
+}
+
+/// An `or` of so many `(cn=*)`.
+fn row(alloc: Global, count: usize) -> Result<Vec<u8>, Fail> {
     let mut row = Vec::new(alloc);
-    for _ in 0..511 {
+    for _ in 0..count {
         ldap_ber::write(0x87, b"cn", &mut row)?;
     }
-    let mut all = Vec::new(alloc);
-    ldap_ber::write(0xa1, &row, &mut all)?;
-    assert!(rt; decode(alloc, &with_filter(alloc, &all)?).is_ok());
-    ldap_ber::write(0x87, b"cn", &mut row)?;
-    let mut more = Vec::new(alloc);
-    ldap_ber::write(0xa1, &row, &mut more)?;
-    let fault = decode(alloc, &with_filter(alloc, &more)?).err();
-    assert_eq!(rt; fault, Some(MsgFault::TooManyItems));
+    element(alloc, 0xa1, &row)
+}
+
+/// The fault of a search with a row of so many.
+fn fault_of_row(alloc: Global, count: usize) -> Result<Option<MsgFault>, Fail> {
+    fault_of(alloc, &row(alloc, count)?)
+}
+
+#[test]
+fn limit_of_count(rt: HostRuntime) -> Result<(), Fail> {
+    assert!(rt; fault_of_row(rt.alloc(), 511)?.is_none());
+    assert!(rt; fault_of_row(rt.alloc(), 512)? == Some(MsgFault::TooManyItems));
     Ok(())
 }
 
 #[test]
 fn limit_of_size(rt: HostRuntime) -> Result<(), Fail> {
-    let alloc = rt.alloc();
-    // A done message with a diagnostic message of this many octets, and 23 octets around them.
+    // There are 23 octets round the text.
     for (len, wanted) in [(1_048_553, None), (1_048_554, Some(MsgFault::TooLarge))] {
-        let text = vec![in alloc; b'a'; len]?;
-        let mut content = hex::decode(alloc, "0a01000400")?;
-        ldap_ber::write(0x04, &text, &mut content)?;
-        let mut message = hex::decode(alloc, "020101")?;
-        ldap_ber::write(0x65, &content, &mut message)?;
-        let mut octets = Vec::new(alloc);
-        ldap_ber::write(0x30, &message, &mut octets)?;
-        assert_eq!(rt; decode(alloc, &octets).err(), wanted);
+        let octets = with_text(rt.alloc(), len)?;
+        assert!(rt; decode(rt.alloc(), &octets).err() == wanted);
     }
     Ok(())
 }

@@ -5,11 +5,14 @@ use ldap_op::{Op, Update, read_op, write_op};
 use std::alloc::Global;
 use std::test::*;
 
+/// A delete.
+const DELETE: &str = "4a05636e3d4e6f";
+
 /// An add, a modify, a delete, a modifyDN and a no-op.
-const UPDATES: [&str; 5] = [
+const UPDATES: &[&str] = &[
     "683f041164633d6578616d706c652c64633d636f6d302a3017040b6f626a656374436c61737331080406646f6d61696e300f04026463310904076578616d706c65",
     "66700421636e3d416e612c6f753d4974656d732c64633d6578616d706c652c64633d636f6d304b30140a0101300f040b6465736372697074696f6e310030200a0100301b040b6465736372697074696f6e310c0405666972737404036200ff30110a0102300c040472616e6b310404023130",
-    "4a05636e3d4e6f",
+    DELETE,
     "6c520421636e3d416e612c6f753d4974656d732c64633d6578616d706c652c64633d636f6d0406636e3d416e610101008022636e3d416e6e612c6f753d4974656d732c64633d6578616d706c652c64633d636f6d",
     "",
 ];
@@ -26,53 +29,101 @@ fn read(alloc: Global, text: &str) -> Result<Op, Fail> {
     Ok(read_op(alloc, &octets)?)
 }
 
-fn written(alloc: Global, op: &Op) -> Result<String, Fail> {
+/// Whether this is written for an update.
+fn writes(alloc: Global, op: &Op, want: &str) -> Result<bool, Fail> {
     let octets = write_op(alloc, op)?;
-    Ok(hex::encode(alloc, octets.as_slice())?)
+    Ok(hex::encode(alloc, octets.as_slice())?.as_str() == want)
+}
+
+/// Whether this is written for the update that is read.
+fn is_written(alloc: Global, text: &str, want: &str) -> Result<bool, Fail> {
+    writes(alloc, &read(alloc, text)?, want)
+}
+
+/// A copy of the update that is read.
+fn copied(alloc: Global, text: &str) -> Result<Op, Fail> {
+    let op = read(alloc, text)?;
+    Ok(op.copy(alloc)?)
+}
+
+/// Whether this is written for a copy of the update that is read.
+fn is_copied(alloc: Global, text: &str, want: &str) -> Result<bool, Fail> {
+    let copy = copied(alloc, text)?;
+    writes(alloc, &copy, want)
+}
+
+/// Whether the octets of an update are written for it and for a copy of it.
+fn is_kept(alloc: Global, text: &str) -> Result<bool, Fail> {
+    Ok(is_written(alloc, text, text)? && is_copied(alloc, text, text)?)
 }
 
 #[test]
 fn each_is_written_as_it_was_read(rt: HostRuntime) -> Result<(), Fail> {
-    let alloc = rt.alloc();
     for text in UPDATES {
-        let op = read(alloc, text)?;
-        assert_eq!(rt; written(alloc, &op)?.as_str(), text);
-        let copy = op.copy(alloc)?;
-        assert_eq!(rt; written(alloc, &copy)?.as_str(), text);
+        assert!(rt; is_kept(rt.alloc(), text)?);
     }
-    let op = read(alloc, RENAME_OTHERWISE)?;
-    assert_eq!(rt; written(alloc, &op)?.as_str(), RENAME);
     Ok(())
 }
 
 #[test]
-fn parts(rt: HostRuntime) -> Result<(), Fail> {
-    let alloc = rt.alloc();
-    let op = read(alloc, UPDATES[2])?;
-    let is_delete = match op.update() {
-        Update::Delete(name) => name.as_str() == "cn=No",
-        _ => false,
-    };
-    assert!(rt; is_delete);
-    let again = Op::new(op.into_update());
-    assert_eq!(rt; written(alloc, &again)?.as_str(), UPDATES[2]);
-    assert!(rt; matches!(read(alloc, "")?.update(), Update::Noop));
+fn another_spelling(rt: HostRuntime) -> Result<(), Fail> {
+    assert!(rt; is_written(rt.alloc(), RENAME_OTHERWISE, RENAME)?);
     Ok(())
+}
+
+/// Whether an update deletes this entry.
+fn is_delete(op: &Op, wanted: &str) -> bool {
+    match op.update() {
+        Update::Delete(name) => name.as_str() == wanted,
+        _ => false,
+    }
+}
+
+#[test]
+fn a_delete(rt: HostRuntime) -> Result<(), Fail> {
+    let op = read(rt.alloc(), DELETE)?;
+    assert!(rt; is_delete(&op, "cn=No"));
+    Ok(())
+}
+
+/// Whether this is written for an update that is made again of what it holds.
+fn is_made_again(alloc: Global, text: &str) -> Result<bool, Fail> {
+    let again = Op::new(read(alloc, text)?.into_update());
+    writes(alloc, &again, text)
+}
+
+#[test]
+fn made_again_of_its_update(rt: HostRuntime) -> Result<(), Fail> {
+    assert!(rt; is_made_again(rt.alloc(), DELETE)?);
+    Ok(())
+}
+
+#[test]
+fn no_octets_are_no_change(rt: HostRuntime) -> Result<(), Fail> {
+    let op = read(rt.alloc(), "")?;
+    assert!(rt; matches!(op.update(), Update::Noop));
+    Ok(())
+}
+
+const FAULTS: &[&str] = &[
+    // A search, a name that is no text, an octet too many, a cut element, an add without a value.
+    "632004000a01000a0100020100020100020100010100870b6f626a656374436c6173733000",
+    "4a01ff",
+    "4a05636e3d4e6f00",
+    "4a05636e3d4e",
+    "681d041164633d6578616d706c652c64633d636f6d30083006040264633100",
+];
+
+/// The fault of octets that are no update.
+fn fault_of(alloc: Global, text: &str) -> Result<Option<MsgFault>, Fail> {
+    let octets = hex::decode(alloc, text)?;
+    Ok(read_op(alloc, &octets).err())
 }
 
 #[test]
 fn faults(rt: HostRuntime) -> Result<(), Fail> {
-    let alloc = rt.alloc();
-    for text in [
-        // A search, a name that is no text, an octet too many, a cut element, an add without a value.
-        "632004000a01000a0100020100020100010100870b6f626a656374436c6173733000",
-        "4a01ff",
-        "4a05636e3d4e6f00",
-        "4a05636e3d4e",
-        "681d041164633d6578616d706c652c64633d636f6d30083006040264633100",
-    ] {
-        let octets = hex::decode(alloc, text)?;
-        assert!(rt; matches!(read_op(alloc, &octets).err(), Some(MsgFault::NotAMessage)));
+    for text in FAULTS {
+        assert!(rt; fault_of(rt.alloc(), text)? == Some(MsgFault::NotAMessage));
     }
     Ok(())
 }

@@ -3,12 +3,13 @@ use Rattle.ldap_filter.specs.View.{view as filter_view}
 use Rattle.ldap_msg.specs.View.{entry_view}
 use Rattle.dir_store.specs.Stored.{named}
 use Rattle.dir_search.specs.Answer.{is_match}
+use Rattle.dir_search.specs.Numbered.{entries_of}
 use Rattle.dir_search.specs.Selection.{selected}
 use Rattle.dir_search.proofs.Limits.{SoFar}
 use Rattle.dir_search.proofs.searching.matching_entries.Given as goal
 
 -- what is shown of the entries so far, within the limit
-abbrev pub invariant-loop-stored : goal.invariant-loop-stored
-invariant-loop-stored l =
+abbrev pub invariant-loop-number : goal.invariant-loop-number
+invariant-loop-number l =
     SoFar (is_match l.schema (filter_view l.request.filter)) (selected l.schema (map string_bytes l.request.attributes.items) l.request.types_only)
-    l.limit (map named (take l.stored-index l.all)) (map entry_view l.entries.items)
+    l.limit (map named (entries_of (take l.number-index l.numbers) l.tree.entries)) (map entry_view l.entries.items)

@@ -10,8 +10,8 @@ returns g c = record {
   message = c.in_ok-octets.octets.items;
   hex = c.in_ok-octets.ensures;
   responses = c.in_ok-answered.ensures.read.responses;
-  adds = c.in_ok-answered.ensures.read.adds;
-  ran = subst (λ (m : List ℕ). Runs c.args.session.now (m ∷ []) c.answer.new.self c.in_ok-answered.ensures.read.responses c.in_ok-answered.ensures.read.adds c.in_ok-answered.answered.next) c.deref.ensures.value c.in_ok-answered.ensures.read.ran;
+  ops = c.in_ok-answered.ensures.read.ops;
+  ran = subst (λ (m : List ℕ). Runs c.args.session.now (m ∷ []) c.answer.new.self c.in_ok-answered.ensures.read.responses c.in_ok-answered.ensures.read.ops c.in_ok-answered.answered.next) c.deref.ensures.value c.in_ok-answered.ensures.read.ran;
   lines = subst (Appends (g.W.Write.contents c.args.output.now) (g.W.Write.contents c.write_lines.new.output))
       (ap hex_lines (ap (map (λ (v : Vec ℕ Global). v.items)) c.deref-2.ensures.value ∙ c.in_ok-answered.ensures.read.written_are) ∙ written_lines c.in_ok-answered.ensures.read.responses) c.in_ok-write_lines.ensures;
 }

@@ -1,0 +1,40 @@
+-- The entries of the numbers that the tree keeps. Facts on lists flow in and out; no value of the program is here.
+use Rattle.std.proofs.Common.{◌≡◌, ◌<◌, ℕ, List, [], ◌∷◌, ◌++◌, refl, sym, ap, ◌∙◌, arith, Bool, true, false, cond, filter, Option, None, Some, nat_eq}
+use Rattle.dir_tree.specs.Directory.{Entered, entry_at, numbers, AllAbove, NumbersRise}
+use Rattle.dir_search.specs.Numbered.{put_some, entries_of}
+
+-- each of the numbers is above one
+abbrev Above : ℕ → List ℕ → Type 0
+Above k [] = Unit {0}
+Above k (n ∷ ns) = (k < n) × Above k ns
+
+numbers_above : (k : ℕ) (p : Entered → Bool) (d : List Entered) → AllAbove k d → Above k (numbers p d)
+numbers_above k p [] a = tt
+numbers_above k p (e ∷ es) a = by (p e) (numbers_above k p es a.1)
+  where
+    by : (b : Bool) → Above k (numbers p es) → Above k (cond b (e.number ∷ numbers p es) (numbers p es))
+    by true ih = (a.0, ih)
+    by false ih = ih
+
+-- an entry in front that has none of the numbers
+past : (e : Entered) (es : List Entered) (ns : List ℕ) → Above e.number ns → entries_of ns (e ∷ es) ≡ entries_of ns es
+past e es [] a = refl
+past e es (n ∷ ns) a =
+    let lt : e.number < n = a.0 in
+    let apart : nat_eq n e.number ≡ false = grind (arith, lt) in
+    ap (λ (b : Bool). put_some (cond b (Some e) (entry_at n es)) (entries_of ns (e ∷ es))) apart ∙ ap (put_some (entry_at n es)) (past e es ns a.1)
+
+-- The entries of the numbers of those that pass are those that pass.
+pub numbers_are : (p : Entered → Bool) (d : List Entered) → NumbersRise d → entries_of (numbers p d) d ≡ filter p d
+numbers_are p [] r = refl
+numbers_are p (e ∷ es) r = by (p e) (numbers_are p es r.1)
+  where
+    own : nat_eq e.number e.number ≡ true
+    own = grind arith
+
+    rest : entries_of (numbers p es) (e ∷ es) ≡ entries_of (numbers p es) es
+    rest = past e es (numbers p es) (numbers_above e.number p es r.0)
+
+    by : (b : Bool) → entries_of (numbers p es) es ≡ filter p es → entries_of (cond b (e.number ∷ numbers p es) (numbers p es)) (e ∷ es) ≡ cond b (e ∷ filter p es) (filter p es)
+    by true ih = ap (λ (c : Bool). put_some (cond c (Some e) (entry_at e.number es)) (entries_of (numbers p es) (e ∷ es))) own ∙ ap (λ (l : List Entered). e ∷ l) (rest ∙ ih)
+    by false ih = rest ∙ ih

@@ -1,0 +1,50 @@
+-- The root DSE: RFC 4512 5.1. A directory flows in; what a search of the empty name finds flows out. It is no entry of the directory.
+use Rattle.std.specs.Prelude.{ℕ, List, [], ◌∷◌, ◌++◌, Bool, cond, codes, Result, Ok, Err, Option, Some, None}
+use Rattle.std.specs.List.{list_any}
+use Rattle.std.specs.Str.{str_eq_ignore_ascii_case}
+use Rattle.ldap_schema.specs.Schema.{SchemaModel, find}
+use Rattle.ldap_dn.specs.Printed.{printed_name}
+use Rattle.dir_entry.specs.Entry.{AttributeModel}
+use Rattle.dir_entry.specs.Adding.{with_attribute}
+use Rattle.ldap_parts.specs.Values.{PartialAttributeValue}
+use Rattle.ldap_msg.specs.Messages.{SearchResultEntryValue}
+use Rattle.dir_store.specs.Directory.{Directory}
+use Rattle.dir_search.specs.Selection.{attributes_selected}
+
+abbrev pub or_nothing : Result (List AttributeModel) ℕ → List AttributeModel
+or_nothing (Err code) = []
+or_nothing (Ok e) = e
+
+-- the type objectClass with the value top; nothing, where the schema has not both
+abbrev pub class_top : SchemaModel → Option ℕ → List AttributeModel
+class_top s None = []
+class_top s (Some t) = or_nothing (with_attribute s t (codes "top" ∷ []) [])
+
+-- the user attributes of the root DSE, which are all that a filter sees: objectClass top
+abbrev pub dse_attributes : SchemaModel → List AttributeModel
+dse_attributes s = class_top s (find s (codes "objectClass"))
+
+-- the name of the directory's root, as it is printed (RFC 4512 5.1.2)
+abbrev pub naming_contexts : Directory → PartialAttributeValue
+naming_contexts d = record { description = codes "namingContexts"; values = printed_name d.schema d.suffix ∷ [] }
+
+-- the version of the protocol: 3 (RFC 4512 5.1.6)
+abbrev pub supported_ldap_version : PartialAttributeValue
+supported_ldap_version = record { description = codes "supportedLDAPVersion"; values = codes "3" ∷ [] }
+
+abbrev pub without_values : Bool → PartialAttributeValue → PartialAttributeValue
+without_values types_only a = record { description = a.description; values = cond types_only [] a.values }
+
+-- an operational attribute is shown where a selector is its name, whatever the case (RFC 4511 4.5.1.8)
+abbrev pub where_named : List (List ℕ) → Bool → PartialAttributeValue → List PartialAttributeValue
+where_named selectors types_only a = cond (list_any (str_eq_ignore_ascii_case a.description) selectors) (without_values types_only a ∷ []) []
+
+-- What is shown of the root DSE: no name, the selected user attributes, then the operational ones that are named.
+abbrev pub dse_selected : Directory → List (List ℕ) → Bool → SearchResultEntryValue
+dse_selected d selectors types_only = record {
+  object_name = [];
+  attributes =
+      attributes_selected d.schema selectors types_only (dse_attributes d.schema)
+      ++ where_named selectors types_only (naming_contexts d)
+      ++ where_named selectors types_only supported_ldap_version;
+}

@@ -1,0 +1,158 @@
+//! The root DSE: what a search of the empty name alone finds. A directory and a request flow in; at most one entry that is shown flows out. It is no
+//! entry of the directory.
+ghost use Rattle.std.specs.Prelude.{◌≡◌, ◌++◌, ◌∷◌, [], Some, map, codes, IfOk, OnOk, string_bytes};
+ghost use Rattle.std.specs.List.{list_any};
+ghost use Rattle.std.specs.Str.{str_eq_ignore_ascii_case};
+ghost use Rattle.ldap_msg.specs.View.{attribute_view, entry_view, search_view};
+ghost use Rattle.dir_entry.specs.Entry.{attributes_of, IsKeyedBy};
+ghost use Rattle.dir_search.specs.Answer.{dse_matching};
+ghost use Rattle.dir_search.specs.RootDse.{class_top, dse_attributes, dse_selected, where_named, without_values};
+ghost use Rattle.dir_search.specs.View.{answer_view};
+
+use crate::found::SearchAnswer;
+use crate::searching::matches;
+use crate::selecting::show_selected;
+use dir_entry::{Entry, EntryError};
+use dir_store::Store;
+use ldap_eval::bind;
+use ldap_msg::{PartialAttribute, ResultCode, SearchRequest, SearchResultEntry};
+use ldap_schema::{Schema, TypeId};
+use std::alloc::{AllocError, Global};
+
+/// The values of objectClass.
+fn top(alloc: Global) -> Result<Vec<Vec<u8>>, AllocError>
+    ensures { IfOk result (λ v. map (λ x. x.items) v.items ≡ codes "top" ∷ []) }
+{
+    let mut values = Vec::new(alloc);
+    values.push(Vec::from_slice(alloc, b"top")?)?;
+    Ok(values)
+}
+
+/// An entry whose objectClass is top; one without attributes, where top is no class.
+fn entry_of_top(alloc: Global, schema: &Schema, object_class: TypeId) -> Result<Entry, AllocError>
+    ensures attributes { IfOk result (λ e. attributes_of e ≡ class_top schema.now (Some object_class)) }
+    ensures keyed { IfOk result (λ e. IsKeyedBy schema.now e) }
+{
+    let mut entry = Entry::new(alloc);
+    let values = top(alloc)?;
+    match entry.add(alloc, schema, object_class, values) {
+        Ok(()) => Ok(entry),
+        Err(EntryError::NoMemory) => Err(AllocError),
+        Err(_) => Ok(entry),
+    }
+}
+
+/// What a filter sees of the root DSE, with its keys.
+fn root_entry(alloc: Global, schema: &Schema) -> Result<Entry, AllocError>
+    ensures attributes { IfOk result (λ e. attributes_of e ≡ dse_attributes schema.now) }
+    ensures keyed { IfOk result (λ e. IsKeyedBy schema.now e) }
+{
+    match schema.find("objectClass") {
+        Some(object_class) => entry_of_top(alloc, schema, object_class),
+        None => Ok(Entry::new(alloc)),
+    }
+}
+
+/// Whether two descriptions are one, whatever their case.
+#[tactic(auto, using(crate::proofs::Selectors::same_test))]
+fn is_same_description(a: &str, b: &str) -> bool
+    ensures { result ≡ str_eq_ignore_ascii_case a.now b.now }
+{
+    a.eq_ignore_ascii_case(b)
+}
+
+/// Whether one of the selectors is a name, whatever its case.
+fn is_asked(selectors: &[String], description: &str) -> bool
+    ensures { result ≡ list_any (str_eq_ignore_ascii_case description.now) (map string_bytes selectors.now) }
+{
+    for selector in selectors {
+        if is_same_description(description, selector) {
+            return true;
+        }
+    }
+    false
+}
+
+/// An operational attribute with one value, or without it.
+fn operational(
+    alloc: Global,
+    types_only: bool,
+    description: &str,
+    value: &str,
+) -> Result<PartialAttribute, AllocError>
+    ensures { IfOk result (λ a. attribute_view a ≡ without_values types_only (record { description = description.now; values = value.now ∷ [] })) }
+{
+    let mut values = Vec::new(alloc);
+    if !types_only {
+        values.push(Vec::from_slice(alloc, value.as_bytes())?)?;
+    }
+    let description = String::from_str(alloc, description)?;
+    Ok(PartialAttribute {
+        description,
+        values,
+    })
+}
+
+/// Adds an operational attribute, where a selector is its name.
+fn add_asked(
+    alloc: Global,
+    shown: &mut Vec<PartialAttribute>,
+    request: &SearchRequest,
+    description: &str,
+    value: &str,
+) -> Result<(), AllocError>
+    ensures { OnOk result (map attribute_view shown.new.items ≡ map attribute_view shown.old.items
+        ++ where_named (map string_bytes request.now.attributes.items) request.now.types_only (record { description = description.now; values = value.now ∷ [] })) }
+{
+    if is_asked(&request.attributes, description) {
+        shown.push(operational(alloc, request.types_only, description, value)?)?;
+    }
+    Ok(())
+}
+
+/// What is shown of the root DSE.
+fn shown_root(
+    alloc: Global,
+    store: &Store,
+    entry: &Entry,
+    request: &SearchRequest,
+) -> Result<SearchResultEntry, AllocError>
+    requires attributes { attributes_of entry.now ≡ dse_attributes store.now.schema }
+    ensures { IfOk result (λ e. entry_view e ≡ dse_selected store.now (map string_bytes request.now.attributes.items) request.now.types_only) }
+{
+    let mut attributes = show_selected(
+        alloc,
+        store.schema(),
+        &request.attributes,
+        request.types_only,
+        entry.attributes(),
+    )?;
+    let suffix = store.printed_suffix(alloc)?;
+    add_asked(alloc, &mut attributes, request, "namingContexts", &suffix)?;
+    add_asked(alloc, &mut attributes, request, "supportedLDAPVersion", "3")?;
+    Ok(SearchResultEntry {
+        object_name: String::new(alloc),
+        attributes,
+    })
+}
+
+/// The search of the empty name alone (RFC 4512 5.1).
+pub fn show_root(
+    alloc: Global,
+    store: &Store,
+    request: &SearchRequest,
+) -> Result<SearchAnswer, AllocError>
+    ensures { IfOk result (λ a. answer_view a ≡ record { code = 0; matched = []; entries = dse_matching store.now (search_view request.now) }) }
+{
+    let entry = root_entry(alloc, store.schema())?;
+    let bound = bind(alloc, store.schema(), &request.filter)?;
+    let mut entries = Vec::new(alloc);
+    if matches(&bound, &entry) {
+        entries.push(shown_root(alloc, store, &entry, request)?)?;
+    }
+    Ok(SearchAnswer {
+        code: ResultCode::SUCCESS,
+        matched: String::new(alloc),
+        entries,
+    })
+}

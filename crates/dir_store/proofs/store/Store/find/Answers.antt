@@ -1,0 +1,12 @@
+use Rattle.std.proofs.Common.{sym, ap, ◌∙◌}
+use Rattle.ldap_dn.specs.Names.{rdns}
+use Rattle.dir_tree.specs.Stored.{entered_of}
+use Rattle.dir_store.specs.Directory.{Directory}
+use Rattle.dir_store.specs.Places.{entry_named}
+use Rattle.dir_store.proofs.Shown.{found_shown}
+use Rattle.dir_store.proofs.store.Store.find.Goals as goal
+
+pub returns-in-Some-clause-found : goal.returns-in-Some-clause-found
+returns-in-Some-clause-found c =
+    sym (found_shown (rdns c.args.name.now) c.self.inside.tree.entries (entered_of c.in-Some.number c.in-Some.held.now) (sym c.in-Some.ensures))
+    ∙ ap (λ (d : Directory). entry_named (rdns c.args.name.now) d.entries) c.self.view_is

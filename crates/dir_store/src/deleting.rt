@@ -1,0 +1,39 @@
+//! What a delete asks for. A schema, a tree and a name flow in; the number of the entry that goes, or a refusal, flows out. The tree stays
+//! as it is.
+ghost use Rattle.std.specs.Prelude.{◌≡◌, Ok, Some, false, IfOk, IfErr, OnOk};
+ghost use Rattle.std.specs.Option.{option_map};
+ghost use Rattle.ldap_dn.specs.Names.{rdns};
+ghost use Rattle.dir_tree.specs.Directory.{find, has_below};
+ghost use Rattle.dir_store.specs.Stored.{directory, AreKeyedBy};
+ghost use Rattle.dir_store.specs.Updates.{leaf_asked};
+ghost use Rattle.dir_store.specs.View.{RefusedWith};
+
+use crate::fault::StoreError;
+use crate::finding::asked_entry;
+use crate::reply::only;
+use dir_tree::Tree;
+use ldap_dn::Rdn;
+use ldap_parts::ResultCode;
+use ldap_schema::Schema;
+use std::alloc::Global;
+
+/// The number of the entry that a delete takes out (RFC 4511 4.8): 32 where there is none, 66 where one stands below it.
+#[tactic(auto, using(crate::proofs::Shown::below_shown))]
+pub fn asked_leaf(
+    alloc: Global,
+    schema: &Schema,
+    tree: &Tree,
+    name: &[Rdn],
+) -> Result<u64, StoreError>
+    requires keyed { AreKeyedBy schema.now tree.now.entries }
+    ensures ok { IfOk result (λ k. leaf_asked (directory schema.now tree.now) name.now ≡ Ok k) }
+    ensures here { IfOk result (λ k. option_map (λ e. e.number) (find (rdns name.now) tree.now.entries) ≡ Some k) }
+    ensures leaf { OnOk result (has_below (rdns name.now) tree.now.entries ≡ false) }
+    ensures refused { IfErr result (λ e. RefusedWith e (leaf_asked (directory schema.now tree.now) name.now)) }
+{
+    let (number, _) = asked_entry(alloc, schema, tree, name)?;
+    if tree.has_below(name) {
+        return Err(StoreError::Refused(only(alloc, ResultCode::NOT_ALLOWED_ON_NON_LEAF)));
+    }
+    Ok(number)
+}

@@ -1,0 +1,68 @@
+//! What a modify asks for. A schema, a tree and a request flow in; the changed entry with its number, or a refusal, flows out. The tree
+//! stays as it is.
+ghost use Rattle.std.specs.Prelude.{◌≡◌, Ok, IfOk, IfErr, map};
+ghost use Rattle.ldap_updates.specs.View.{change_view, modify_view};
+ghost use Rattle.dir_entry.specs.Entry.{IsKeyedBy};
+ghost use Rattle.dir_tree.specs.Stored.{entered_of};
+ghost use Rattle.dir_store.specs.Stored.{named, directory, AreKeyedBy};
+ghost use Rattle.dir_store.specs.Updates.{change_of, change_asked};
+ghost use Rattle.dir_store.specs.View.{kept_view, RefusedWith};
+
+use crate::fault::{StoreError, refused_attributes};
+use crate::finding::asked_entry;
+use crate::names::{asked_name, own_rdn};
+use dir_entry::Entry;
+use dir_tree::{NamedEntry, Tree};
+use entry_updates::entry_changed;
+use ldap_schema::Schema;
+use ldap_updates::{Change, ModifyRequest};
+use std::alloc::Global;
+
+/// A number, and what its entry is changed to.
+#[derive(Drop)]
+pub struct Kept {
+    pub number: u64,
+    pub entry: Entry,
+}
+
+/// What changes make of an entry: what they are refused for.
+fn change(
+    alloc: Global,
+    schema: &Schema,
+    changes: &[Change],
+    number: u64,
+    held: &NamedEntry,
+) -> Result<Kept, StoreError>
+    requires keyed { IsKeyedBy schema.now held.now.entry }
+    ensures ok { IfOk result (λ k. change_of schema.now (map change_view changes.now) (named (entered_of number held.now)) ≡ Ok (kept_view k)) }
+    ensures keyed { IfOk result (λ k. IsKeyedBy schema.now k.entry) }
+    ensures refused { IfErr result (λ e. RefusedWith e (change_of schema.now (map change_view changes.now) (named (entered_of number held.now)))) }
+{
+    match entry_changed(
+        alloc,
+        schema,
+        own_rdn(held.name.rdns()),
+        changes,
+        &held.entry,
+    ) {
+        Ok(entry) => Ok(Kept { number, entry }),
+        Err(error) => Err(refused_attributes(alloc, error)),
+    }
+}
+
+/// What a modify asks for (RFC 4511 4.6): 34, 32, then what its changes are refused for.
+pub fn asked_change(
+    alloc: Global,
+    schema: &Schema,
+    tree: &Tree,
+    request: &ModifyRequest,
+) -> Result<Kept, StoreError>
+    requires keyed { AreKeyedBy schema.now tree.now.entries }
+    ensures ok { IfOk result (λ k. change_asked (directory schema.now tree.now) (modify_view request.now) ≡ Ok (kept_view k)) }
+    ensures keyed { IfOk result (λ k. IsKeyedBy schema.now k.entry) }
+    ensures refused { IfErr result (λ e. RefusedWith e (change_asked (directory schema.now tree.now) (modify_view request.now))) }
+{
+    let name = asked_name(alloc, schema, &request.object)?;
+    let (number, held) = asked_entry(alloc, schema, tree, name.rdns())?;
+    change(alloc, schema, request.changes.as_slice(), number, held)
+}

@@ -1,0 +1,26 @@
+//! Replies of updates. Nothing flows in; plain data flows out. Which check gives which reply is not here.
+ghost use Rattle.std.specs.Prelude.{◌≡◌};
+ghost use Rattle.dir_store.specs.Replies.{only as only_code};
+ghost use Rattle.dir_store.specs.View.{reply_view};
+
+use ldap_parts::ResultCode;
+use std::alloc::Global;
+
+/// What an update is answered with (RFC 4511 4.1.9).
+#[derive(Debug, Drop)]
+pub struct Reply {
+    /// resultCode.
+    pub code: ResultCode,
+    /// matchedDN: with noSuchObject (32) the printed name of the nearest entry above, else empty.
+    pub matched: String,
+}
+
+/// A code, and no name.
+pub fn only(alloc: Global, code: ResultCode) -> Reply
+    ensures { reply_view result ≡ only_code code }
+{
+    Reply {
+        code,
+        matched: String::new(alloc),
+    }
+}

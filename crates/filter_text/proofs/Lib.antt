@@ -1,0 +1,4 @@
+pub mod Booleans
+pub mod Values
+pub mod Items
+pub mod Spelled

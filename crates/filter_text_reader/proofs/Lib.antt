@@ -1,0 +1,16 @@
+pub mod Booleans
+pub mod Machines
+pub mod Parts
+pub mod Oids
+pub mod Names
+pub mod ValueRuns
+pub mod Words
+pub mod ItemRuns
+pub mod ItemsSpelled
+pub mod FilterRuns
+pub mod Live
+pub mod Cuts
+pub mod Fronts
+pub mod Rows
+pub mod Texts
+pub mod Unique

@@ -1,0 +1,9 @@
+pub mod Longest
+pub mod Refusals
+pub mod Machine
+pub mod ItemScan
+pub mod FilterScan
+pub mod Scanning
+pub mod Scanned
+pub mod Cuts
+pub mod Reads

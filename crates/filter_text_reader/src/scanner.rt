@@ -1,0 +1,11 @@
+//! Filter texts, scanning: the scanner.
+//! In: nothing. Out: the type. Not here: how a text is scanned.
+
+use crate::place::{Around, Place};
+
+/// Where a scanner of a filter stands, and what is round it, the innermost last.
+#[derive(Drop)]
+pub struct Scanner {
+    pub place: Place,
+    pub around: Vec<Around>,
+}

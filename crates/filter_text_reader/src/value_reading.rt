@@ -1,0 +1,20 @@
+//! Filter texts, reading: where a reader of a value's text stands.
+//! In: nothing. Out: the types. Not here: how a text is read.
+
+/// Where a reader of octets stands.
+#[derive(Clone, Copy)]
+pub enum Reading {
+    Between,
+    /// Behind a backslash.
+    Escape,
+    /// Behind a backslash and this octet, which is to be a hexadecimal digit.
+    Half(u8),
+}
+
+/// What the next octet does to a reader.
+#[derive(Clone, Copy)]
+pub enum Turn {
+    Refuses,
+    Reads(Reading),
+    Gives(u8),
+}
