@@ -244,19 +244,3 @@ fn keys_of_names(rt: HostRuntime) -> Result<(), NameError> {
     assert!(rt; !name.is_same(&one_more));
     Ok(())
 }
-
-#[test]
-fn keys_of_names(rt: HostRuntime) -> Result<(), NameError> {
-    let alloc = rt.alloc();
-    let schema = Schema::built_in(alloc)?;
-    let name = Name::read(alloc, &schema, "cn=Ana+sn=X,dc=example")?.key(alloc)?;
-    let other_spelling = Name::read(alloc, &schema, "SN=x + commonName=ANA , dc=Example")?.key(
-        alloc,
-    )?;
-    let other_types = Name::read(alloc, &schema, "sn=Ana+cn=X,dc=example")?.key(alloc)?;
-    let one_more = Name::read(alloc, &schema, "cn=Ana+sn=X,dc=example,dc=com")?.key(alloc)?;
-    assert!(rt; name.is_same(&other_spelling));
-    assert!(rt; !name.is_same(&other_types));
-    assert!(rt; !name.is_same(&one_more));
-    Ok(())
-}
