@@ -1,13 +1,13 @@
 -- Changes put together from their steps. Facts on lists flow in and out; no value of the program is here.
-use Rattle.std.proofs.Common.{ℕ, ◌+◌, List, [], ◌∷◌, ◌++◌, Bool, true, false, cond, not, ◌||◌, Option, None, Some, is_some, Result, Ok, Err, IfErr, IfOk, OnOk, ◌≡◌, refl, ap, ap₂, sym, subst, ◌∙◌, map, take, drop, length}
+use Rattle.std.proofs.Common.{ℕ, ◌+◌, List, [], ◌∷◌, ◌++◌, Bool, true, false, not, Option, None, Result, Ok, Err, IfErr, IfOk, OnOk, ◌≡◌, refl, ap, ap₂, sym, subst, ◌∙◌, map, take, drop, length}
 use Rattle.std.specs.List.{list_any, list_all}
 use Rattle.std.specs.Bool.{◌==◌}
 use Rattle.ldap_schema.specs.Schema.{SchemaModel}
-use Rattle.dir_entry.specs.Entry.{AttributeModel, KeyedAttribute, shown, attributes_of, are_in_syntax}
+use Rattle.dir_entry.specs.Entry.{AttributeModel, KeyedAttribute, are_in_syntax}
 use Rattle.dir_entry.specs.Values.{has_repeats}
 use Rattle.dir_entry.specs.Adding.{refuse, has_type, Refuses}
 use Rattle.dir_entry.specs.Compared.{values_held, RefusesFor}
-use Rattle.dir_entry.specs.Editing.{place, holds, is_empty, if_distinct, values_of, values_left, attribute_with, with_values_of, with_added, with_replaced, with_deleted, without_attribute, without_values}
+use Rattle.dir_entry.specs.Editing.{place, holds, is_empty, if_distinct, values_of, values_left, attribute_with, with_values_of, with_added, with_replaced, without_attribute, without_values}
 use Rattle.dir_entry.specs.declared.fault.EntryError.{EntryError}
 use Rattle.dir_entry.specs.declared.fault.EntryError.TheVariants.{InvalidAttributeSyntax, NoSuchAttribute, AttributeOrValueExists, ConstraintViolation, ObjectClassViolation, NotAllowedOnRdn, ObjectClassModsProhibited, NoMemory}
 use Rattle.dir_entry.proofs.Placed.{with_values_back}

@@ -7,11 +7,11 @@ use Rattle.ldap_syntax.specs.Meaning.{Meaning}
 use Rattle.ldap_syntax.specs.declared.rule.Rule.{Rule}
 use Rattle.ldap_schema.specs.Schema.{SchemaModel}
 use Rattle.ldap_match.specs.Meaning.{meaning}
-use Rattle.ldap_match.specs.Item.{Item, equal, equality_of, is_meant, satisfied, equality_by, item_on_attribute}
+use Rattle.value_keys.specs.Rules.{equality_of}
+use Rattle.ldap_match.specs.Item.{Item, equal, is_meant, satisfied, equality_by, item_on_attribute}
 use Rattle.ldap_match.specs.Keyed.{key_at, equality_test, test_by, test_for, test_value, AreKeysBy, AreKeysOf}
 use Rattle.ldap_match.specs.Truth.{truth_of}
-use Rattle.ldap_match.specs.declared.truth.Truth.{Truth}
-use Rattle.ldap_match.specs.declared.truth.Truth.TheVariants.{True, False, Undefined}
+use Rattle.ldap_match.specs.declared.truth.Truth.TheVariants.{Undefined}
 use Rattle.dir_entry.specs.Values.{is_same_meaning, is_equivalent_by, is_equivalent, has_twice, has_repeats}
 use Rattle.dir_entry.specs.Entry.{KeyedAttribute}
 use Rattle.dir_entry.specs.Editing.{holds}

@@ -3,7 +3,7 @@ use Rattle.std.proofs.Common.{ℕ, List, [], ◌∷◌, ◌++◌, Bool, ◌&&◌
 use Rattle.std.specs.List.{list_all}
 use Rattle.ldap_syntax.specs.declared.rule.Rule.{Rule}
 use Rattle.ldap_schema.specs.Schema.{SchemaModel}
-use Rattle.ldap_match.specs.Item.{equality_of}
+use Rattle.value_keys.specs.Rules.{equality_of}
 use Rattle.ldap_match.specs.Keyed.{key_at, AreKeysBy, AreKeysOf}
 use Rattle.dir_entry.specs.Entry.{KeyedAttribute, IsKeyedBy}
 use Rattle.dir_entry.specs.Compared.{picked}

@@ -1,5 +1,5 @@
 -- Marked elements. Facts on lists flow in and out; no value of the program is here.
-use Rattle.std.proofs.Common.{ℕ, List, [], ◌∷◌, ◌++◌, Bool, true, false, cond, not, ◌&&◌, ◌||◌, Option, None, Some, ◌≡◌, refl, ap, ap₂, sym, subst, ◌∙◌, map, filter}
+use Rattle.std.proofs.Common.{List, [], ◌∷◌, Bool, true, false, cond, not, ◌&&◌, ◌||◌, ◌≡◌, refl, ap, ◌∙◌, map, filter}
 use Rattle.std.specs.List.{list_any, list_all}
 use Rattle.dir_entry.specs.Compared.{picked}
 

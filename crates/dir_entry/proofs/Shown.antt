@@ -1,5 +1,5 @@
 -- Tests on attributes with their keys, as tests without them. Facts on lists flow in and out; no value of the program is here.
-use Rattle.std.proofs.Common.{ℕ, List, [], ◌∷◌, Bool, true, false, cond, ◌&&◌, ◌||◌, Option, Some, is_some, ◌≡◌, refl, ap, sym, ◌∙◌, map, nat_eq, rules}
+use Rattle.std.proofs.Common.{ℕ, List, [], ◌∷◌, Bool, ◌&&◌, ◌||◌, Option, Some, is_some, ◌≡◌, refl, ap, ◌∙◌, map, nat_eq}
 use Rattle.std.specs.List.{list_all, list_any}
 use Rattle.ldap_schema.specs.Schema.{SchemaModel, class_named}
 use Rattle.ldap_schema.specs.ObjectClassType.{object_class_type}

@@ -1,6 +1,6 @@
 -- What the classes of an entry demand of it: RFC 4512 2.4 and 3.3. A schema and an entry flow in; the entry with its superclasses, or
 -- the code of a refusal, flows out. Names of entries are not here.
-use Rattle.std.specs.Prelude.{ℕ, List, [], ◌∷◌, ◌++◌, Bool, true, false, cond, not, ◌&&◌, ◌||◌, nat_eq, nat_lt, map, filter, length, Option, None, Some, is_some, slice_get, Result, Ok, Err}
+use Rattle.std.specs.Prelude.{ℕ, List, [], ◌∷◌, ◌++◌, Bool, true, false, cond, not, ◌&&◌, ◌||◌, nat_eq, nat_lt, map, filter, length, Option, None, Some, is_some, slice_get, Result, Ok}
 use Rattle.std.specs.List.{list_all, list_any}
 use Rattle.ldap_schema.specs.Schema.{TypeModel, ClassModel, SchemaModel, class_named, class_name, type_at}
 use Rattle.ldap_schema.specs.Superclasses.{is_among, missing_superclasses, is_subclass}

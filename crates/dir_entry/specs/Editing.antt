@@ -1,6 +1,6 @@
 -- Changes of an entry's attributes: RFC 4511 4.6. A schema, a type, values and an entry flow in; the changed entry, or the code of a
 -- refusal, flows out. What its classes and its name demand is not here.
-use Rattle.std.specs.Prelude.{ℕ, ◌+◌, List, [], ◌∷◌, ◌++◌, Bool, true, false, cond, not, ◌||◌, nat_eq, take, drop, filter, Option, None, Some, slice_get, Result, Ok, Err}
+use Rattle.std.specs.Prelude.{ℕ, ◌+◌, List, [], ◌∷◌, ◌++◌, Bool, true, false, not, nat_eq, take, drop, filter, Option, None, Some, slice_get, Result, Ok}
 use Rattle.std.specs.List.{list_all, list_any, prefix_len}
 use Rattle.ldap_schema.specs.Schema.{SchemaModel}
 use Rattle.dir_entry.specs.Entry.{AttributeModel, are_in_syntax}

@@ -5,7 +5,8 @@ use Rattle.std.specs.Str.{bytes_eq}
 use Rattle.ldap_syntax.specs.Meaning.{Meaning}
 use Rattle.ldap_syntax.specs.declared.rule.Rule.{Rule}
 use Rattle.ldap_schema.specs.Schema.{SchemaModel}
-use Rattle.ldap_match.specs.Item.{is_meant, equality_of}
+use Rattle.value_keys.specs.Rules.{equality_of}
+use Rattle.ldap_match.specs.Item.{is_meant}
 use Rattle.ldap_match.specs.Meaning.{meaning}
 
 abbrev pub is_same_meaning : Option Meaning → Option Meaning → Bool

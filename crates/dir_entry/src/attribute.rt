@@ -1,7 +1,7 @@
 // An attribute with its keys. A type and values flow in; they and their keys flow out.
 // What must not be here: other attributes of an entry.
 
-ghost use Rattle.std.specs.Prelude.{◌≡◌, ◌↔◌, ◌++◌, map, false, Some, is_some, IfOk, IsErrOf};
+ghost use Rattle.std.specs.Prelude.{◌≡◌, ◌++◌, map, true, false, Some, is_some, IfOk, OnOk, IsErrOf};
 ghost use Rattle.std.specs.List.{list_all};
 ghost use Rattle.ldap_match.specs.Meaning.{meaning};
 ghost use Rattle.ldap_match.specs.Item.{is_of_syntax as is_of_type_syntax};
@@ -12,11 +12,12 @@ ghost use Rattle.dir_entry.specs.Entry.{are_in_syntax};
 ghost use Rattle.dir_entry.specs.Values.{has_repeats, has_twice as has_some_twice};
 
 use crate::repeats::has_twice;
-use ldap_match::{equality_rule, is_of_syntax, key, tests_are_items};
+use ldap_match::{is_of_syntax, key, tests_are_items};
 use ldap_schema::{Schema, TypeId};
 use ldap_syntax::{Key, Rule, ValueError};
 use std::alloc::{AllocError, Global};
 use std::marker::Model;
+use value_keys::equality_rule;
 
 /// An attribute of an entry: a type and its values (RFC 4512 2.2).
 #[derive(Drop)]
@@ -48,11 +49,12 @@ impl Attribute {
         ensures values { IfOk result (λ a. a.values ≡ map (λ v. v.items) values.items) }
         ensures keyed { IfOk result (λ a. AreKeysOf schema.now a.kind a.values a.keys) }
 
-        // E11 comes exactly where a value is not in the type's syntax.
+        // E11 comes exactly where a value is not in the type's syntax; want of memory may be told instead.
+        ensures in_syntax { OnOk result (are_in_syntax schema.now type_id (map (λ v. v.items) values.items) ≡ true) }
         ensures refused { IsErrOf result ValueError.NotInSyntax
-            ↔ (are_in_syntax schema.now type_id (map (λ v. v.items) values.items) ≡ false) }
+            → are_in_syntax schema.now type_id (map (λ v. v.items) values.items) ≡ false }
     {
-        if !are_of_syntax(schema, type_id, values.as_slice()) {
+        if !are_of_syntax(alloc, schema, type_id, values.as_slice())? {
             return Err(ValueError::NotInSyntax);
         }
         let keys = keys_of(alloc, schema, type_id, values.as_slice())?;
@@ -264,13 +266,21 @@ pub fn octets_of_values(alloc: Global, values: &[Vec<u8>]) -> Result<Vec<&[u8]>,
     Ok(list)
 }
 
-/// Whether each value is in the type's syntax.
-fn are_of_syntax(schema: &Schema, type_id: TypeId, values: &[Vec<u8>]) -> bool
-    ensures { result ≡ list_all (λ v. is_of_type_syntax schema.now type_id v.items) values.now }
+/// Whether each value is in the type's syntax. Its only error is want of memory.
+fn are_of_syntax(
+    alloc: Global,
+    schema: &Schema,
+    type_id: TypeId,
+    values: &[Vec<u8>],
+) -> Result<bool, AllocError>
+    ensures { IfOk result (λ b. b ≡ list_all (λ v. is_of_type_syntax schema.now type_id v.items) values.now) }
 {
-    values
-        .iter()
-        .all(|value| is_of_syntax(schema, type_id, value.as_slice()))
+    for value in values {
+        if !is_of_syntax(alloc, schema, type_id, value.as_slice())? {
+            return Ok(false);
+        }
+    }
+    Ok(true)
 }
 
 /// The keys of values that are in the type's syntax.

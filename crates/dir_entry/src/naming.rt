@@ -5,7 +5,7 @@ ghost use Rattle.std.specs.Prelude.{◌≡◌, ◌∷◌, [], ℕ, List, option_
 ghost use Rattle.std.specs.List.{list_any, list_all};
 ghost use Rattle.std.specs.Str.{bytes_eq};
 ghost use Rattle.ldap_schema.specs.Schema.{SchemaModel};
-ghost use Rattle.ldap_match.specs.Item.{equality_of};
+ghost use Rattle.value_keys.specs.Rules.{equality_of};
 ghost use Rattle.ldap_match.specs.Meaning.{meaning};
 ghost use Rattle.ldap_match.specs.Keyed.{key_at, AreKeysOf};
 ghost use Rattle.dir_entry.specs.Entry.{KeyedAttribute, attributes_of, IsKeyedBy};
@@ -20,10 +20,11 @@ use crate::entry::Entry;
 use crate::fault::EntryError;
 use crate::placing::place;
 use ldap_dn::TypeAndValue;
-use ldap_match::{equality_rule, key, tests_are_items};
+use ldap_match::{key, tests_are_items};
 use ldap_schema::{Schema, TypeId};
 use ldap_syntax::{Key, Rule, ValueError};
 use std::alloc::{AllocError, Global};
+use value_keys::equality_rule;
 
 /// The attribute in a place; none, past the end.
 fn attribute_at(attributes: &[Attribute], place: usize) -> Option<&Attribute>

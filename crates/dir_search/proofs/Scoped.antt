@@ -1,5 +1,5 @@
 -- The numbers that a tree keeps for a scope are those of the entries in it. Facts on lists flow in and out; no value of the program is here.
-use Rattle.std.proofs.Common.{◌≡◌, ℕ, Bool, true, false, cond, ◌||◌, ◌&&◌, List, [], ◌∷◌, Option, Some, None, map, filter, refl, sym, ap, ◌∙◌, subst}
+use Rattle.std.proofs.Common.{◌≡◌, ℕ, suc, length, Bool, true, false, cond, ◌||◌, ◌&&◌, List, [], ◌∷◌, Option, Some, None, map, filter, refl, sym, ap, ◌∙◌, subst}
 use Rattle.std.specs.Prelude.{is_some}
 use Rattle.std.specs.Option.{option_map}
 use Rattle.ldap_schema.specs.Schema.{SchemaModel}
@@ -11,7 +11,7 @@ use Rattle.dir_tree.specs.Directory.{NameKey, Entered, TreeModel, NumbersRise, n
 use Rattle.dir_store.specs.Directory.{NamedEntry}
 use Rattle.dir_store.specs.Places.{entry_named}
 use Rattle.dir_store.specs.Stored.{named, directory}
-use Rattle.dir_search.specs.Answer.{Answer, is_empty, is_match, limited, stands, found_at}
+use Rattle.dir_search.specs.Answer.{Answer, is_empty, is_match, in_scope, limited, stands, found_at}
 use Rattle.dir_search.specs.Numbered.{entries_of, found_of}
 use Rattle.dir_search.specs.Scopes.{is_right_under, is_in_scope}
 use Rattle.dir_search.specs.Selection.{selected}
@@ -98,6 +98,20 @@ found_scope s t q base rise =
     let p : NamedEntry → Bool = λ e. is_in_scope (rdns t.suffix) q.scope (rdns base) (rdns e.name) in
     ap (λ (l : List NamedEntry). limited q.size_limit (map (selected s q.attributes q.types_only) (filter (is_match s q.filter) l)))
     (ap (λ (l : List Entered). map named l) (numbers_are (λ e. p (named e)) t.entries rise) ∙ shown_filter p t.entries)
+
+counted : (p : NamedEntry → Bool) (d : List Entered) → length (numbers (λ e. p (named e)) d) ≡ length (filter p (map named d))
+counted p [] = refl
+counted p (e ∷ es) = by (p (named e)) (counted p es)
+  where
+    by : (b : Bool) → length (numbers (λ e. p (named e)) es) ≡ length (filter p (map named es))
+        → length (cond b (e.number ∷ numbers (λ e. p (named e)) es) (numbers (λ e. p (named e)) es)) ≡ length (cond b (named e ∷ filter p (map named es)) (filter p (map named es)))
+    by true ih = ap (λ (k : ℕ). suc k) ih
+    by false ih = ih
+
+-- there are as many numbers in scope as entries
+pub scope_counted : (s : SchemaModel) (t : TreeModel) (scope : Scope) (base : List RdnModel)
+    → length (numbers (λ e. is_in_scope (rdns t.suffix) scope (rdns base) (rdns e.name)) t.entries) ≡ length (in_scope (directory s t) scope base)
+scope_counted s t scope base = counted (λ e. is_in_scope (rdns t.suffix) scope (rdns base) (rdns e.name)) t.entries
 
 -- no number is in the scope that is none
 pub numbers_nowhere : (d : List Entered) → [] ≡ numbers (λ e. false) d

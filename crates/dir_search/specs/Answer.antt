@@ -91,3 +91,14 @@ answer_of d q (Some base) = answer_at d q base
 -- The answer of a search: protocolError (2) for the scope that is no scope of RFC 4511, invalidDNSyntax (34) for a base that can't be read, then as above.
 abbrev pub answer : Directory → SearchRequestValue → Answer
 answer d q = cond (is_subordinate q.scope) (refused (only 2)) (answer_of d q (name_of_text d.schema q.base))
+
+-- How many entries a search evaluates its filter on: those in scope, and the root DSE alone where that is searched.
+abbrev pub tried_at : Directory → SearchRequestValue → List RdnModel → ℕ
+tried_at d q base = cond (is_empty base && is_base q.scope) 1 (cond (stands d base) (length (in_scope d q.scope base)) 0)
+
+abbrev pub tried_of : Directory → SearchRequestValue → Option (List RdnModel) → ℕ
+tried_of d q None = 0
+tried_of d q (Some base) = tried_at d q base
+
+abbrev pub tried : Directory → SearchRequestValue → ℕ
+tried d q = cond (is_subordinate q.scope) 0 (tried_of d q (name_of_text d.schema q.base))

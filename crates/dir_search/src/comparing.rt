@@ -81,7 +81,7 @@ fn compare_type(
     requires named { find schema.now (string_bytes ava.now.attribute_desc) ≡ Some type_id }
     ensures { IfOk result (λ code. code ≡ code_on_type schema.now ava.now.assertion_value.items (attributes_of entry.now) type_id) }
 {
-    if !is_of_syntax(schema, type_id, &ava.assertion_value) {
+    if !is_of_syntax(alloc, schema, type_id, &ava.assertion_value)? {
         return Ok(ResultCode::INVALID_ATTRIBUTE_SYNTAX);
     }
     if !has_under(schema, entry.attributes(), type_id) {
@@ -120,8 +120,7 @@ fn compare_at(
     match store.find(name) {
         Some((_, held)) => {
             let code = compare_entry(alloc, store.schema(), ava, &held.entry)?;
-            let matched = String::new(alloc);
-            Ok(Reply { code, matched })
+            Ok(Reply::only(alloc, code))
         }
         None => store.not_found(alloc, name),
     }
@@ -135,10 +134,7 @@ pub fn compare(alloc: Global, store: &Store, request: &CompareRequest) -> Result
 {
     match Name::read(alloc, store.schema(), &request.entry) {
         Ok(name) => compare_at(alloc, store, name.rdns(), &request.ava),
-        Err(NameError::BadName) => Ok(Reply {
-            code: ResultCode::INVALID_DN_SYNTAX,
-            matched: String::new(alloc),
-        }),
+        Err(NameError::BadName) => Ok(Reply::only(alloc, ResultCode::INVALID_DN_SYNTAX)),
         Err(NameError::NoMemory) => Err(AllocError),
     }
 }

@@ -1,8 +1,7 @@
 //! What a search finds. A reply flows in where there is nothing to find; plain data flows out.
-ghost use Rattle.std.specs.Prelude.{◌≡◌};
 ghost use Rattle.dir_store.specs.View.{reply_view};
 ghost use Rattle.dir_search.specs.Answer.{refused as refused_answer};
-ghost use Rattle.dir_search.specs.View.{answer_view};
+ghost use Rattle.dir_search.specs.View.{Finds};
 
 use dir_store::Reply;
 use ldap_msg::{ResultCode, SearchResultEntry};
@@ -17,16 +16,19 @@ pub struct SearchAnswer {
     pub matched: String,
     /// In order of number.
     pub entries: Vec<SearchResultEntry>,
+    /// On how many entries the filter was evaluated.
+    pub tests: usize,
 }
 
-/// No entries, and a reply.
+/// No entries, and a reply that is not success.
 pub fn refused(alloc: Global, reply: Reply) -> SearchAnswer
-    ensures { answer_view result ≡ refused_answer (reply_view reply) }
+    ensures { Finds result (refused_answer (reply_view reply)) 0 }
 {
     let Reply { code, matched } = reply;
     SearchAnswer {
         code,
         matched,
         entries: Vec::new(alloc),
+        tests: 0,
     }
 }

@@ -7,7 +7,7 @@ ghost use Rattle.ldap_msg.specs.View.{attribute_view, entry_view, search_view};
 ghost use Rattle.dir_entry.specs.Entry.{attributes_of, IsKeyedBy};
 ghost use Rattle.dir_search.specs.Answer.{dse_matching};
 ghost use Rattle.dir_search.specs.RootDse.{class_top, dse_attributes, dse_selected, where_named, without_values};
-ghost use Rattle.dir_search.specs.View.{answer_view};
+ghost use Rattle.dir_search.specs.View.{Finds};
 
 use crate::found::SearchAnswer;
 use crate::searching::matches;
@@ -142,7 +142,7 @@ pub fn show_root(
     store: &Store,
     request: &SearchRequest,
 ) -> Result<SearchAnswer, AllocError>
-    ensures { IfOk result (λ a. answer_view a ≡ record { code = 0; matched = []; entries = dse_matching store.now (search_view request.now) }) }
+    ensures { IfOk result (λ a. Finds a (record { code = 0; matched = []; entries = dse_matching store.now (search_view request.now) }) 1) }
 {
     let entry = root_entry(alloc, store.schema())?;
     let bound = bind(alloc, store.schema(), &request.filter)?;
@@ -154,5 +154,6 @@ pub fn show_root(
         code: ResultCode::SUCCESS,
         matched: String::new(alloc),
         entries,
+        tests: 1,
     })
 }

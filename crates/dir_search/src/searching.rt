@@ -1,6 +1,6 @@
 //! The search itself: each entry in scope is tried in order of number, up to the size limit. A directory and a request flow in, the
 //! result code and what is shown of the entries flow out.
-ghost use Rattle.std.specs.Prelude.{◌≡◌, ◌<◌, ◌&&◌, ℕ, true, false, IfOk};
+ghost use Rattle.std.specs.Prelude.{◌≡◌, ◌<◌, ◌≤◌, ◌&&◌, ℕ, length, true, false, IfOk};
 ghost use Rattle.std.specs.Bool.{OnTrue, OnFalse};
 ghost use Rattle.ldap_schema.specs.Schema.{SchemaModel};
 ghost use Rattle.ldap_filter.specs.Tree.{Tree as FilterTree};
@@ -14,10 +14,10 @@ ghost use Rattle.dir_entry.specs.Entry.{attributes_of, IsKeyedBy};
 ghost use Rattle.dir_tree.specs.Directory.{name_eq, begins, numbers};
 ghost use Rattle.dir_store.specs.Replies.{only};
 ghost use Rattle.dir_store.specs.Stored.{directory, AreKeyedBy};
-ghost use Rattle.dir_search.specs.Answer.{answer, answer_of, answer_at, found_at, refused as refused_answer, is_true, is_base, stands, is_empty};
+ghost use Rattle.dir_search.specs.Answer.{answer, answer_of, answer_at, found_at, in_scope, tried, tried_of, tried_at, refused as refused_answer, is_true, is_base, stands, is_empty};
 ghost use Rattle.dir_search.specs.Numbered.{found_of};
 ghost use Rattle.dir_search.specs.Scopes.{is_right_under, is_in_scope};
-ghost use Rattle.dir_search.specs.View.{answer_view};
+ghost use Rattle.dir_search.specs.View.{answer_view, Finds};
 
 use crate::found::{SearchAnswer, refused};
 use crate::root_dse::show_root;
@@ -63,11 +63,13 @@ fn matching_entries(
 ) -> Result<SearchAnswer, AllocError>
     requires bound { IsBoundTo schema.now (filter_view request.now.filter) bound.now }
     requires keyed { AreKeyedBy schema.now tree.now.entries }
-    ensures { IfOk result (λ a. answer_view a ≡ found_of schema.now (search_view request.now) numbers.now tree.now.entries) }
+    ensures { IfOk result (λ a. Finds a (found_of schema.now (search_view request.now) numbers.now tree.now.entries) (length numbers.now)) }
 {
     let limit = request.size_limit as usize;
     let mut entries = Vec::new(alloc);
+    let mut tests = 0;
     for number in numbers {
+        tests += 1;
         let Some(held) = tree.entry(*number) else {
             continue;
         };
@@ -79,6 +81,7 @@ fn matching_entries(
                 code: ResultCode::SIZE_LIMIT_EXCEEDED,
                 matched: String::new(alloc),
                 entries,
+                tests,
             });
         }
         let entry = select(alloc, schema, &request.attributes, request.types_only, held)?;
@@ -90,6 +93,7 @@ fn matching_entries(
         code,
         matched,
         entries,
+        tests,
     })
 }
 
@@ -104,8 +108,9 @@ fn search_entry(
 ) -> Result<SearchAnswer, AllocError>
     requires bound { IsBoundTo schema.now (filter_view request.now.filter) bound.now }
     requires keyed { AreKeyedBy schema.now tree.now.entries }
-    ensures { IfOk result (λ a. answer_view a ≡ found_of schema.now (search_view request.now)
-        (numbers (λ e. name_eq (rdns name.now) (rdns e.name)) tree.now.entries) tree.now.entries) }
+    ensures { IfOk result (λ a. Finds a (found_of schema.now (search_view request.now)
+        (numbers (λ e. name_eq (rdns name.now) (rdns e.name)) tree.now.entries) tree.now.entries)
+        (length (numbers (λ e. name_eq (rdns name.now) (rdns e.name)) tree.now.entries))) }
 {
     tree.is_single();
     match tree.find(name) {
@@ -124,8 +129,9 @@ fn search_root(
 ) -> Result<SearchAnswer, AllocError>
     requires bound { IsBoundTo schema.now (filter_view request.now.filter) bound.now }
     requires keyed { AreKeyedBy schema.now tree.now.entries }
-    ensures { IfOk result (λ a. answer_view a ≡ found_of schema.now (search_view request.now)
-        (numbers (λ e. name_eq (rdns tree.now.suffix) (rdns e.name)) tree.now.entries) tree.now.entries) }
+    ensures { IfOk result (λ a. Finds a (found_of schema.now (search_view request.now)
+        (numbers (λ e. name_eq (rdns tree.now.suffix) (rdns e.name)) tree.now.entries) tree.now.entries)
+        (length (numbers (λ e. name_eq (rdns tree.now.suffix) (rdns e.name)) tree.now.entries))) }
 {
     search_entry(alloc, schema, tree, bound, tree.suffix().rdns(), request)
 }
@@ -149,8 +155,9 @@ fn search_level(
     requires bound { IsBoundTo schema.now (filter_view request.now.filter) bound.now }
     requires keyed { AreKeyedBy schema.now tree.now.entries }
     requires stands { stands (directory schema.now tree.now) base.now ≡ true }
-    ensures { IfOk result (λ a. answer_view a ≡ found_of schema.now (search_view request.now)
-        (numbers (λ e. is_right_under (rdns tree.now.suffix) (rdns base.now) (rdns e.name)) tree.now.entries) tree.now.entries) }
+    ensures { IfOk result (λ a. Finds a (found_of schema.now (search_view request.now)
+        (numbers (λ e. is_right_under (rdns tree.now.suffix) (rdns base.now) (rdns e.name)) tree.now.entries) tree.now.entries)
+        (length (numbers (λ e. is_right_under (rdns tree.now.suffix) (rdns base.now) (rdns e.name)) tree.now.entries))) }
 {
     if is_unnamed(base) {
         return search_root(alloc, schema, tree, bound, request);
@@ -171,8 +178,9 @@ fn search_subtree(
     requires bound { IsBoundTo schema.now (filter_view request.now.filter) bound.now }
     requires keyed { AreKeyedBy schema.now tree.now.entries }
     requires stands { stands (directory schema.now tree.now) base.now ≡ true }
-    ensures { IfOk result (λ a. answer_view a ≡ found_of schema.now (search_view request.now)
-        (numbers (λ e. begins (rdns base.now) (rdns e.name)) tree.now.entries) tree.now.entries) }
+    ensures { IfOk result (λ a. Finds a (found_of schema.now (search_view request.now)
+        (numbers (λ e. begins (rdns base.now) (rdns e.name)) tree.now.entries) tree.now.entries)
+        (length (numbers (λ e. begins (rdns base.now) (rdns e.name)) tree.now.entries))) }
 {
     let numbers = numbers_within(tree, base);
     matching_entries(alloc, schema, tree, bound, numbers, request)
@@ -191,8 +199,9 @@ fn search_bound(
     requires bound { IsBoundTo schema.now (filter_view request.now.filter) bound.now }
     requires keyed { AreKeyedBy schema.now tree.now.entries }
     requires stands { stands (directory schema.now tree.now) base.now ≡ true }
-    ensures { IfOk result (λ a. answer_view a ≡ found_of schema.now (search_view request.now)
-        (numbers (λ e. is_in_scope (rdns tree.now.suffix) scope (rdns base.now) (rdns e.name)) tree.now.entries) tree.now.entries) }
+    ensures { IfOk result (λ a. Finds a (found_of schema.now (search_view request.now)
+        (numbers (λ e. is_in_scope (rdns tree.now.suffix) scope (rdns base.now) (rdns e.name)) tree.now.entries) tree.now.entries)
+        (length (numbers (λ e. is_in_scope (rdns tree.now.suffix) scope (rdns base.now) (rdns e.name)) tree.now.entries))) }
 {
     match scope {
         Scope::BaseObject => search_entry(alloc, schema, tree, bound, base, request),
@@ -213,7 +222,9 @@ fn search_nowhere(
 ) -> Result<SearchAnswer, AllocError>
     requires bound { IsBoundTo schema.now (filter_view request.now.filter) bound.now }
     requires keyed { AreKeyedBy schema.now tree.now.entries }
-    ensures { IfOk result (λ a. answer_view a ≡ found_of schema.now (search_view request.now) (numbers (λ e. false) tree.now.entries) tree.now.entries) }
+    ensures { IfOk result (λ a. Finds a (found_of schema.now (search_view request.now)
+        (numbers (λ e. false) tree.now.entries) tree.now.entries)
+        (length (numbers (λ e. false) tree.now.entries))) }
 {
     matching_entries(alloc, schema, tree, bound, &[], request)
 }
@@ -228,7 +239,7 @@ fn search_scope(
 ) -> Result<SearchAnswer, AllocError>
     requires keyed { AreKeyedBy schema.now tree.now.entries }
     requires stands { stands (directory schema.now tree.now) base.now ≡ true }
-    ensures { IfOk result (λ a. answer_view a ≡ found_at (directory schema.now tree.now) (search_view request.now) base.now) }
+    ensures { IfOk result (λ a. Finds a (found_at (directory schema.now tree.now) (search_view request.now) base.now) (length (in_scope (directory schema.now tree.now) request.now.scope base.now))) }
 {
     tree.is_directory();
     let bound = bind(alloc, schema, &request.filter)?;
@@ -259,7 +270,7 @@ fn search_at(
     base: &[Rdn],
     request: &SearchRequest,
 ) -> Result<SearchAnswer, AllocError>
-    ensures { IfOk result (λ a. answer_view a ≡ answer_at store.now (search_view request.now) base.now) }
+    ensures { IfOk result (λ a. Finds a (answer_at store.now (search_view request.now) base.now) (tried_at store.now (search_view request.now) base.now)) }
 {
     if asks_for_root(request.scope, base) {
         return show_root(alloc, store, request);
@@ -273,10 +284,9 @@ fn search_at(
 
 /// A code and nothing else.
 fn refused_with(alloc: Global, code: ResultCode) -> SearchAnswer
-    ensures { answer_view result ≡ refused_answer (only code) }
+    ensures { Finds result (refused_answer (only code)) 0 }
 {
-    let matched = String::new(alloc);
-    refused(alloc, Reply { code, matched })
+    refused(alloc, Reply::only(alloc, code))
 }
 
 /// The search at the base of a text.
@@ -285,7 +295,8 @@ fn search_text(
     store: &Store,
     request: &SearchRequest,
 ) -> Result<SearchAnswer, AllocError>
-    ensures { IfOk result (λ a. answer_view a ≡ answer_of store.now (search_view request.now) (name_of_text store.now.schema (search_view request.now).base)) }
+    ensures { IfOk result (λ a. Finds a (answer_of store.now (search_view request.now) (name_of_text store.now.schema (search_view request.now).base))
+        (tried_of store.now (search_view request.now) (name_of_text store.now.schema (search_view request.now).base))) }
 {
     match Name::read(alloc, store.schema(), &request.base) {
         Ok(base) => search_at(alloc, store, base.rdns(), request),
@@ -302,7 +313,11 @@ pub fn search(
     store: &Store,
     request: &SearchRequest,
 ) -> Result<SearchAnswer, AllocError>
-    ensures { IfOk result (λ a. answer_view a ≡ answer store.now (search_view request.now)) }
+    ensures answer { IfOk result (λ a. answer_view a ≡ answer store.now (search_view request.now)) }
+
+    // No entry is evaluated twice, and none that is not in scope: all of those in scope are, where no size limit cuts the answer short.
+    ensures tests { IfOk result (λ a. a.tests ≤ tried store.now (search_view request.now)) }
+    ensures all { IfOk result (λ a. a.code ≡ 0 → a.tests ≡ tried store.now (search_view request.now)) }
 {
     match request.scope {
         Scope::SubordinateSubtree => Ok(refused_with(alloc, ResultCode::PROTOCOL_ERROR)),

@@ -14,7 +14,7 @@ ghost use Rattle.dir_store.specs.View.{placed_view, RefusedWith};
 use crate::fault::{StoreError, refused_attributes};
 use crate::finding::{asked_entry, is_same, is_taken};
 use crate::names::{asked_name, own_rdn, parent_of_name};
-use crate::reply::only;
+use crate::reply::Reply;
 use dir_entry::Entry;
 use dir_tree::Tree;
 use entry_updates::entry_asked;
@@ -113,7 +113,7 @@ fn addition_at(
     ensures refused { IfErr result (λ e. RefusedWith e (addition_that_stands (directory schema.now tree.now) (map attribute_view given.now) name.now)) }
 {
     if is_taken(tree, name.rdns()) {
-        return Err(StoreError::Refused(only(alloc, ResultCode::ENTRY_ALREADY_EXISTS)));
+        return Err(StoreError::Refused(Reply::only(alloc, ResultCode::ENTRY_ALREADY_EXISTS)));
     }
     let whole = asked_place(alloc, schema, tree, name)?;
     addition_under(alloc, schema, given, own_rdn(name.rdns()), whole)

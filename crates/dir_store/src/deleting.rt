@@ -10,7 +10,7 @@ ghost use Rattle.dir_store.specs.View.{RefusedWith};
 
 use crate::fault::StoreError;
 use crate::finding::asked_entry;
-use crate::reply::only;
+use crate::reply::Reply;
 use dir_tree::Tree;
 use ldap_dn::Rdn;
 use ldap_parts::ResultCode;
@@ -33,7 +33,7 @@ pub fn asked_leaf(
 {
     let (number, _) = asked_entry(alloc, schema, tree, name)?;
     if tree.has_below(name) {
-        return Err(StoreError::Refused(only(alloc, ResultCode::NOT_ALLOWED_ON_NON_LEAF)));
+        return Err(StoreError::Refused(Reply::only(alloc, ResultCode::NOT_ALLOWED_ON_NON_LEAF)));
     }
     Ok(number)
 }

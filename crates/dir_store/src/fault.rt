@@ -6,7 +6,7 @@ ghost use Rattle.dir_store.specs.Replies.{with_reply};
 ghost use Rattle.dir_store.specs.View.{RefusedWith};
 ghost use Rattle.dir_store.specs.declared.fault.StoreError.TheVariants.{NoMemory};
 
-use crate::reply::{Reply, only};
+use crate::reply::Reply;
 use entry_updates::UpdateError;
 use std::alloc::{AllocError, AllocFailed, Global};
 
@@ -33,7 +33,7 @@ pub fn refused_attributes(alloc: Global, error: UpdateError) -> StoreError
     ensures { (asked : Result (List AttributeModel) ℕ) → RefusedAs error asked → RefusedWith result (with_reply asked) }
 {
     match error {
-        UpdateError::Refused(code) => StoreError::Refused(only(alloc, code)),
+        UpdateError::Refused(code) => StoreError::Refused(Reply::only(alloc, code)),
         UpdateError::NoMemory => StoreError::NoMemory,
     }
 }

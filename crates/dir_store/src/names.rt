@@ -7,7 +7,7 @@ ghost use Rattle.dir_store.specs.Updates.{one_rdn as one_rdn_of, name_asked, rdn
 ghost use Rattle.dir_store.specs.View.{RefusedWith};
 
 use crate::fault::StoreError;
-use crate::reply::only;
+use crate::reply::Reply;
 use ldap_dn::{Name, NameError, Rdn, TypeAndValue};
 use ldap_parts::ResultCode;
 use ldap_schema::Schema;
@@ -20,7 +20,7 @@ pub fn asked_name(alloc: Global, schema: &Schema, text: &str) -> Result<Name, St
 {
     match Name::read(alloc, schema, text) {
         Ok(name) => Ok(name),
-        Err(NameError::BadName) => Err(StoreError::Refused(only(
+        Err(NameError::BadName) => Err(StoreError::Refused(Reply::only(
             alloc,
             ResultCode::INVALID_DN_SYNTAX,
         ))),
@@ -49,7 +49,7 @@ pub fn asked_rdn(alloc: Global, schema: &Schema, text: &str) -> Result<Rdn, Stor
     let name = asked_name(alloc, schema, text)?;
     match one_rdn(name.into_rdns()) {
         Some(rdn) => Ok(rdn),
-        None => Err(StoreError::Refused(only(alloc, ResultCode::INVALID_DN_SYNTAX))),
+        None => Err(StoreError::Refused(Reply::only(alloc, ResultCode::INVALID_DN_SYNTAX))),
     }
 }
 

@@ -15,7 +15,7 @@ ghost use Rattle.dir_store.specs.View.{names_view, moved_view, RefusedWith};
 use crate::fault::{StoreError, refused_attributes};
 use crate::finding::{asked_entry, is_front, is_same};
 use crate::names::{asked_name, asked_rdn, asked_superior, own_rdn};
-use crate::reply::only;
+use crate::reply::Reply;
 use dir_entry::Entry;
 use dir_tree::{NamedEntry, Tree};
 use entry_updates::entry_renamed;
@@ -188,7 +188,7 @@ fn move_to_name(
     ensures refused { IfErr result (λ e. RefusedWith e (move_to (directory schema.now tree.now) delete_old (named (entered_of number held.now)) rdn.now after)) }
 {
     if is_taken_by_other(tree, number, after.rdns()) {
-        return Err(StoreError::Refused(only(alloc, ResultCode::ENTRY_ALREADY_EXISTS)));
+        return Err(StoreError::Refused(Reply::only(alloc, ResultCode::ENTRY_ALREADY_EXISTS)));
     }
     moved_under(alloc, schema, delete_old, number, held, rdn, after)
 }
@@ -219,7 +219,7 @@ fn move_entry(
 {
     tree.is_directory();
     if is_misplaced(tree.suffix().rdns(), held.name.rdns(), above) {
-        return Err(StoreError::Refused(only(alloc, ResultCode::UNWILLING_TO_PERFORM)));
+        return Err(StoreError::Refused(Reply::only(alloc, ResultCode::UNWILLING_TO_PERFORM)));
     }
     let superior = superior_name(alloc, schema, tree, &held.name, above)?;
     let after = with_rdn(alloc, superior, rdn)?;

@@ -15,12 +15,14 @@ pub struct Reply {
     pub matched: String,
 }
 
-/// A code, and no name.
-pub fn only(alloc: Global, code: ResultCode) -> Reply
-    ensures { reply_view result ≡ only_code code }
-{
-    Reply {
-        code,
-        matched: String::new(alloc),
+impl Reply {
+    /// A code, and no name. Takes no memory.
+    pub fn only(alloc: Global, code: ResultCode) -> Reply
+        ensures { reply_view result ≡ only_code code }
+    {
+        Reply {
+            code,
+            matched: String::new(alloc),
+        }
     }
 }

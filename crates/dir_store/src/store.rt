@@ -21,7 +21,7 @@ use crate::finding::{not_found, standing};
 use crate::modifying::{Kept, asked_change};
 use crate::names::asked_name;
 use crate::renaming::{Moved, asked_move};
-use crate::reply::{Reply, only};
+use crate::reply::Reply;
 use dir_tree::{NamedEntry, Tree};
 use ldap_dn::{Name, Rdn};
 use ldap_op::{Op, Update};
@@ -113,7 +113,7 @@ impl Store {
         ensures err { OnErr result (self.new ≡ self.old) }
     {
         match self.update(alloc, number, op.update()) {
-            Ok(()) => Ok(only(alloc, ResultCode::SUCCESS)),
+            Ok(()) => Ok(Reply::only(alloc, ResultCode::SUCCESS)),
             Err(error) => reply_of_refusal(error),
         }
     }

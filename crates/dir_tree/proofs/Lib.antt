@@ -12,3 +12,7 @@ pub mod Renamed
 pub mod Moves
 pub mod MovedEntries
 pub mod Scoped
+pub mod RisingLists
+pub mod Relabelled
+pub mod Putting
+pub mod MovedPlaces

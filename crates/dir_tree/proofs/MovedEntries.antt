@@ -1,20 +1,19 @@
 -- The entries of a directory once those at or below a name stand at or below another.
-use Rattle.std.proofs.Common.{◌≡◌, ℕ, ◌<◌, Bool, true, false, cond, List, [], ◌∷◌, ◌++◌, map, length, drop, Option, Some, None, refl, sym, ap, subst, ◌∙◌, arith, nat_eq}
+use Rattle.std.proofs.Common.{◌≡◌, ℕ, ◌<◌, Bool, true, false, cond, List, [], ◌∷◌, ◌++◌, map, filter, length, drop, Option, Some, None, refl, sym, ap, ◌∙◌, arith, nat_eq}
 use Rattle.std.specs.Prelude.{is_some}
 use Rattle.std.specs.Option.{option_map}
 use Rattle.std.proofs.lemmas.List.{map-append, drop-map}
 use Rattle.ldap_dn.specs.Names.{RdnModel, rdns}
 use Rattle.dir_entry.specs.Entry.{KeyedAttribute}
-use Rattle.dir_tree.specs.Directory.{NameKey, Entered, AllAbove, NumbersRise, NamesDiffer, name_eq, begins, above, find, name_after, moved, replaced}
-use Rattle.dir_tree.specs.Labelled.{Label, Labels, LabelsDiffer, IsLabelled, label_of, labels}
-use Rattle.dir_tree.specs.Places.{place_of}
-use Rattle.dir_tree.specs.Kept.{IsTree, PlaceEntries, place_at}
-use Rattle.dir_tree.specs.Renamed.{names_after, labels_of, with_name, with_names, key_after, moved_label, moved_labels}
+use Rattle.dir_tree.specs.Directory.{NameKey, Entered, AllAbove, NumbersRise, NamesDiffer, name_eq, begins, above, is_at_or_below, find, name_after, moved, replaced}
+use Rattle.dir_tree.specs.Labelled.{Label, Labels, IsLabelled, label_of, labels}
+use Rattle.dir_tree.specs.Kept.{IsTree, PlaceEntries}
+use Rattle.dir_tree.specs.Renamed.{names_after, with_name, with_names, key_after, moved_label, moved_labels}
 use Rattle.dir_tree.proofs.KeptLemmas.{name_decides}
 use Rattle.dir_tree.proofs.Labelling.{some_label, rise-labels, differ-labels}
-use Rattle.dir_tree.proofs.Moves.{CanMove, directory-moved, moved-differ}
+use Rattle.dir_tree.proofs.Moves.{CanMove}
 
-key-moved : (old : NameKey) (new name : List RdnModel) → rdns (name_after old new name) ≡ key_after old (rdns new) (rdns name)
+pub key-moved : (old : NameKey) (new name : List RdnModel) → rdns (name_after old new name) ≡ key_after old (rdns new) (rdns name)
 key-moved old new name = by (begins old (rdns name))
   where
     by : (b : Bool) → rdns (cond b (new ++ drop (length old) name) name) ≡ cond b (rdns new ++ drop (length old) (rdns name)) (rdns name)
@@ -26,12 +25,6 @@ labels-moved old new v [] = refl
 labels-moved old new v (e ∷ d) =
     ap (λ (n : NameKey). let l : Label = record { number = e.number; name = n } in l ∷ labels (moved old new v d)) (key-moved old new e.name)
     ∙ ap (λ (l : Labels). moved_label old (rdns new) (label_of e) ∷ l) (labels-moved old new v d)
-
-pub labels-names : (old : NameKey) (new : List RdnModel) (d : List Entered) → labels_of (names_after old new d) ≡ moved_labels old (rdns new) (labels d)
-labels-names old new [] = refl
-labels-names old new (e ∷ d) =
-    ap (λ (n : NameKey). let l : Label = record { number = e.number; name = n } in l ∷ labels_of (names_after old new d)) (key-moved old new e.name)
-    ∙ ap (λ (l : Labels). moved_label old (rdns new) (label_of e) ∷ l) (labels-names old new d)
 
 -- an entry under its new name
 abbrev named_after : NameKey → List RdnModel → Entered → Entered
@@ -46,13 +39,37 @@ skipped old new x (e ∷ es) d h =
     ap (λ (b : Bool). with_names (names_after old new es) (cond b (record { number = x.number; name = name_after old new e.name; entry = x.entry } ∷ d) (x ∷ with_name e.number (name_after old new e.name) d))) off
     ∙ skipped old new x es (with_name e.number (name_after old new e.name) d) h.1
 
-named-all : (old : NameKey) (new : List RdnModel) (d : List Entered) → NumbersRise d → with_names (names_after old new d) d ≡ map (named_after old new) d
+-- the entries at or below a name are above a number that all are above
+filter-above : (p : Entered → Bool) (k : ℕ) (d : List Entered) → AllAbove k d → AllAbove k (filter p d)
+filter-above p k [] h = tt
+filter-above p k (e ∷ d) h = by (p e) (filter-above p k d h.1)
+  where
+    by : (b : Bool) → AllAbove k (filter p d) → AllAbove k (cond b (e ∷ filter p d) (filter p d))
+    by true r = (h.0, r)
+    by false r = r
+
+-- an entry that does not stand at or below the old name keeps its name
+stays : (old : NameKey) (new : List RdnModel) (e : Entered) → begins old (rdns e.name) ≡ false → named_after old new e ≡ e
+stays old new e h = ap (λ (b : Bool). let v : Entered = record { number = e.number; name = cond b (new ++ drop (length old) e.name) e.name; entry = e.entry } in v) h
+
+named-all : (old : NameKey) (new : List RdnModel) (d : List Entered) → NumbersRise d → with_names (names_after old new (filter (is_at_or_below old) d)) d ≡ map (named_after old new) d
 named-all old new [] h = refl
-named-all old new (x ∷ d) h =
-    let own : nat_eq x.number x.number ≡ true = grind arith in
-    ap (λ (b : Bool). with_names (names_after old new d) (cond b (named_after old new x ∷ d) (x ∷ with_name x.number (name_after old new x.name) d))) own
-    ∙ skipped old new (named_after old new x) d d h.0
-    ∙ ap (λ (l : List Entered). named_after old new x ∷ l) (named-all old new d h.1)
+named-all old new (x ∷ d) h = by (named-all old new d h.1) (begins old (rdns x.name)) refl
+  where
+    sub : List Entered
+    sub = filter (is_at_or_below old) d
+
+    over : AllAbove x.number sub
+    over = filter-above (is_at_or_below old) x.number d h.0
+
+    by : with_names (names_after old new (filter (is_at_or_below old) d)) d ≡ map (named_after old new) d → (b : Bool) → begins old (rdns x.name) ≡ b → with_names (names_after old new (cond b (x ∷ filter (is_at_or_below old) d) (filter (is_at_or_below old) d))) (x ∷ d) ≡ map (named_after old new) (x ∷ d)
+    by rest true e =
+        let own : nat_eq x.number x.number ≡ true = grind arith in
+        ap (λ (b : Bool). with_names (names_after old new sub) (cond b (named_after old new x ∷ d) (x ∷ with_name x.number (name_after old new x.name) d))) own
+        ∙ skipped old new (named_after old new x) sub d over
+        ∙ ap (λ (l : List Entered). named_after old new x ∷ l) rest
+    by rest false e =
+        skipped old new x sub d over ∙ ap (λ (l : List Entered). x ∷ l) rest ∙ ap (λ (y : Entered). y ∷ map (named_after old new) d) (sym (stays old new x e))
 
 -- where the old name has no entry, only names change
 moved-none : (old : NameKey) (new : List RdnModel) (v : List KeyedAttribute) (d : List Entered) → find old d ≡ None → moved old new v d ≡ map (named_after old new) d
@@ -101,7 +118,7 @@ pub record MayMove (s old : NameKey) (new : List RdnModel) (k : ℕ) (d : List E
   pub apart : begins old (above (rdns new)) ≡ false
   pub free : is_some (find (rdns new) d) ≡ true → name_eq old (rdns new) ≡ true
 
-can_move : (s old : NameKey) (new : List RdnModel) (k : ℕ) (d : List Entered) → IsLabelled s (labels d) → MayMove s old new k d → CanMove s old (rdns new) (labels d)
+pub can_move : (s old : NameKey) (new : List RdnModel) (k : ℕ) (d : List Entered) → IsLabelled s (labels d) → MayMove s old new k d → CanMove s old (rdns new) (labels d)
 can_move s old new k d t m = record {
   whole = t;
   here = some_label old d ∙ found (find old d) m.here;
@@ -115,20 +132,8 @@ can_move s old new k d t m = record {
     found None h = absurd (cc h)
     found (Some e) h = refl
 
-pub names-differ : (s : List RdnModel) (old : NameKey) (new : List RdnModel) (k : ℕ) (d : List Entered) (es : PlaceEntries) → IsTree s d es → MayMove (rdns s) old new k d → LabelsDiffer (labels_of (names_after old new d))
-names-differ s old new k d es t m = subst LabelsDiffer (sym (labels-names old new d)) (moved-differ (rdns s) old (rdns new) (labels d) (can_move (rdns s) old new k d t.whole m))
-
 pub moved-entries : (s : List RdnModel) (old : NameKey) (new : List RdnModel) (v : List KeyedAttribute) (k : ℕ) (d : List Entered) (es : PlaceEntries) → IsTree s d es → MayMove (rdns s) old new k d
-    → (named e : List Entered) → named ≡ with_names (names_after old new d) d → e ≡ replaced k v named → e ≡ moved old new v d
+    → (named e : List Entered) → named ≡ with_names (names_after old new (filter (is_at_or_below old) d)) d → e ≡ replaced k v named → e ≡ moved old new v d
 moved-entries s old new v k d es t m named e h g =
     let rise : NumbersRise d = rise-labels d t.whole.rise in
     g ∙ ap (λ (l : List Entered). replaced k v l) (h ∙ named-all old new d rise) ∙ moved-in-turn old new v k d rise (differ-labels d t.whole.differ) m.here
-
-pub moved_tree : (s : List RdnModel) (old : NameKey) (new : List RdnModel) (v : List KeyedAttribute) (k : ℕ) (d e : List Entered) (es fs : PlaceEntries) → IsTree s d es → MayMove (rdns s) old new k d
-    → e ≡ moved old new v d → ((q : NameKey) → place_at fs q ≡ place_of q (labels_of (names_after old new d))) → IsTree s e fs
-moved_tree s old new v k d e es fs t m h g =
-    let all : labels e ≡ moved_labels old (rdns new) (labels d) = ap (λ (l : List Entered). labels l) h ∙ labels-moved old new v d in
-    record {
-      kept = λ q. g q ∙ ap (λ (l : Labels). place_of q l) (labels-names old new d ∙ sym all);
-      whole = subst (IsLabelled (rdns s)) (sym all) (directory-moved (rdns s) old (rdns new) (labels d) (can_move (rdns s) old new k d t.whole m));
-    }

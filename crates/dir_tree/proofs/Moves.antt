@@ -11,7 +11,7 @@ use Rattle.dir_tree.proofs.Labelling.{some_none}
 use Rattle.dir_tree.proofs.Footing.{begins-through, begins-long, fronts}
 
 -- what a name begins is the name and what stands behind it
-split : (o q : NameKey) → begins o q ≡ true → q ≡ o ++ drop (length o) q
+pub split : (o q : NameKey) → begins o q ≡ true → q ≡ o ++ drop (length o) q
 split [] q h = refl
 split (x ∷ xs) [] h = absurd (cc h)
 split (x ∷ xs) (y ∷ ys) h =
@@ -21,11 +21,11 @@ split (x ∷ xs) (y ∷ ys) h =
     let tail : (y ∷ ys) ≡ y ∷ (xs ++ drop (length xs) ys) = ap (λ (l : NameKey). y ∷ l) more in
     tail ∙ ap (λ (k : List TypeAndKey). k ∷ (xs ++ drop (length xs) ys)) (sym one)
 
-begins-joined : (n r : NameKey) → begins n (n ++ r) ≡ true
+pub begins-joined : (n r : NameKey) → begins n (n ++ r) ≡ true
 begins-joined [] r = refl
 begins-joined (x ∷ xs) r = and_true (are_same_keys x x) (begins xs (xs ++ r)) ((part_decides x x).1 refl) (begins-joined xs r)
 
-behind-joined : (n r : NameKey) → drop (length n) (n ++ r) ≡ r
+pub behind-joined : (n r : NameKey) → drop (length n) (n ++ r) ≡ r
 behind-joined [] r = refl
 behind-joined (x ∷ xs) r = behind-joined xs r
 
@@ -43,20 +43,20 @@ above-joined [] x r = refl
 above-joined (y ∷ []) x r = above-cons y x r
 above-joined (y ∷ z ∷ ns) x r = above-cons y z (ns ++ x ∷ r) ∙ ap (λ (l : NameKey). y ∷ l) (above-joined (z ∷ ns) x r)
 
-key-on : (o n q : NameKey) → begins o q ≡ true → key_after o n q ≡ n ++ drop (length o) q
+pub key-on : (o n q : NameKey) → begins o q ≡ true → key_after o n q ≡ n ++ drop (length o) q
 key-on o n q h = ap (λ (b : Bool). cond b (n ++ drop (length o) q) q) h
 
-key-off : (o n q : NameKey) → begins o q ≡ false → key_after o n q ≡ q
+pub key-off : (o n q : NameKey) → begins o q ≡ false → key_after o n q ≡ q
 key-off o n q h = ap (λ (b : Bool). cond b (n ++ drop (length o) q) q) h
 
 -- what stands at or below the old name stands at or below the new one
-key-begins : (o n q : NameKey) → begins o q ≡ true → begins n (key_after o n q) ≡ true
+pub key-begins : (o n q : NameKey) → begins o q ≡ true → begins n (key_after o n q) ≡ true
 key-begins o n q h = ap (begins n) (key-on o n q h) ∙ begins-joined n (drop (length o) q)
 
-some-head : (q : NameKey) (x : Label) (d : Labels) → name_eq q x.name ≡ true → is_some (label_at q (x ∷ d)) ≡ true
+pub some-head : (q : NameKey) (x : Label) (d : Labels) → name_eq q x.name ≡ true → is_some (label_at q (x ∷ d)) ≡ true
 some-head q x d h = ap (λ (b : Bool). is_some (cond b (Some x) (label_at q d))) h
 
-some-tail : (q : NameKey) (x : Label) (d : Labels) → is_some (label_at q d) ≡ true → is_some (label_at q (x ∷ d)) ≡ true
+pub some-tail : (q : NameKey) (x : Label) (d : Labels) → is_some (label_at q d) ≡ true → is_some (label_at q (x ∷ d)) ≡ true
 some-tail q x d h = by (name_eq q x.name)
   where
     by : (b : Bool) → is_some (cond b (Some x) (label_at q d)) ≡ true
@@ -119,11 +119,11 @@ pub record CanMove (s o n : NameKey) (d : Labels) : Type 0 where
   pub free : is_some (label_at n d) ≡ true → name_eq o n ≡ true
 
 -- the new name is within the suffix
-new-within : (s o n : NameKey) (d : Labels) → CanMove s o n d → begins s n ≡ true
+pub new-within : (s o n : NameKey) (d : Labels) → CanMove s o n d → begins s n ≡ true
 new-within s o n d t = begins-through s (above n) n (t.whole.within (above n) t.parent) (begins-take n (length n - 1))
 
 -- nothing but what moves stands at or below the new name
-new-empty : (s o n : NameKey) (d : Labels) → CanMove s o n d → (q : NameKey) → is_some (label_at q d) ≡ true → begins o q ≡ false → begins n q ≡ false
+pub new-empty : (s o n : NameKey) (d : Labels) → CanMove s o n d → (q : NameKey) → is_some (label_at q d) ≡ true → begins o q ≡ false → begins n q ≡ false
 new-empty s o n d t q h g = by (begins n q) refl
   where
     by : (b : Bool) → begins n q ≡ b → b ≡ false

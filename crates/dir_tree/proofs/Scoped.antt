@@ -1,8 +1,7 @@
 -- What scopes of a directory have: all stands at or below the root, and a name has one entry or none. Facts on labels flow in and out.
-use Rattle.std.proofs.Common.{◌≡◌, ℕ, Bool, true, false, cond, List, [], ◌∷◌, Option, Some, None, refl, sym, ap, ◌∙◌, subst}
+use Rattle.std.proofs.Common.{◌≡◌, ℕ, Bool, true, false, cond, List, [], ◌∷◌, Option, Some, None, refl, ap, ◌∙◌}
 use Rattle.std.specs.Prelude.{is_some}
-use Rattle.ldap_dn.specs.Names.{rdns}
-use Rattle.dir_tree.specs.Directory.{NameKey, Entered, name_eq, begins, find, numbers, number_found}
+use Rattle.dir_tree.specs.Directory.{NameKey, name_eq, begins}
 use Rattle.dir_tree.specs.Labelled.{Label, Labels, LabelsDiffer, label_at, numbers_in}
 use Rattle.dir_tree.proofs.KeptLemmas.{name_decides, name_eq-refl}
 

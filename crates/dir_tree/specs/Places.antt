@@ -1,5 +1,5 @@
 -- What is kept for each name: its number and its scopes, as the entries have them now.
-use Rattle.std.specs.Prelude.{ℕ, Bool, cond, ◌&&◌, List, [], ◌∷◌, ◌++◌, length, nat_eq, nat_lt, Option, filter, not}
+use Rattle.std.specs.Prelude.{ℕ, Bool, cond, ◌&&◌, List, [], ◌∷◌, ◌++◌, length, nat_eq, nat_lt, Option, Some, None, filter, not}
 use Rattle.std.specs.Option.{option_map}
 use Rattle.dir_tree.specs.Directory.{NameKey, begins, is_child}
 use Rattle.dir_tree.specs.Labelled.{Labels, Label, label_at, numbers_in}
@@ -30,3 +30,8 @@ dropped k xs = filter (λ x. not (nat_eq x k)) xs
 
 abbrev pub struck : ℕ → Shown → Shown
 struck k p = record { number = p.number; children = dropped k p.children; within = dropped k p.within }
+
+-- the numbers at or below a name; none, where it has no place
+abbrev pub within_of : Option Shown → List ℕ
+within_of None = []
+within_of (Some p) = p.within

@@ -1,17 +1,24 @@
 -- The entries once those at or below a name stand at or below another, as they are kept. What a rename means is in `Directory`.
-use Rattle.std.specs.Prelude.{ℕ, cond, List, [], ◌∷◌, ◌++◌, map, length, drop, nat_eq, Option, Some}
+use Rattle.std.specs.Prelude.{ℕ, ◌+◌, Bool, false, cond, not, ◌&&◌, List, [], ◌∷◌, ◌++◌, map, length, drop, nat_eq, nat_lt, Option, Some, None}
 use Rattle.std.specs.Option.{option_map}
+use Rattle.std.specs.List.{list_any}
 use Rattle.ldap_dn.specs.Names.{RdnModel, rdns}
-use Rattle.dir_tree.specs.Directory.{NameKey, Entered, name_eq, begins, name_after}
+use Rattle.dir_tree.specs.Directory.{NameKey, Entered, name_eq, begins, entry_at, name_after}
 use Rattle.dir_tree.specs.Labelled.{Label, Labels}
-use Rattle.dir_tree.specs.Places.{Shown, enlisted}
+use Rattle.dir_tree.specs.Places.{Shown, is_above}
 
--- the numbers of the entries with their new names
+abbrev pub put_some : Option Entered → List Entered → List Entered
+put_some None es = es
+put_some (Some e) es = e ∷ es
+
+-- the entries of these numbers, in their order
+abbrev pub entries_of : List ℕ → List Entered → List Entered
+entries_of [] d = []
+entries_of (k ∷ ks) d = put_some (entry_at k d) (entries_of ks d)
+
+-- the numbers of entries with their new names
 abbrev pub names_after : NameKey → List RdnModel → List Entered → List (ℕ × List RdnModel)
 names_after old new d = map (λ e. (e.number, name_after old new e.name)) d
-
-abbrev pub labels_of : List (ℕ × List RdnModel) → Labels
-labels_of ns = map (λ n. record { number = n.0; name = rdns n.1 }) ns
 
 -- the directory with another name in the entry of a number
 abbrev pub with_name : ℕ → List RdnModel → List Entered → List Entered
@@ -22,20 +29,6 @@ abbrev pub with_names : List (ℕ × List RdnModel) → List Entered → List En
 with_names [] d = d
 with_names (n ∷ ns) d = with_names ns (with_name n.0 n.1 d)
 
--- a place before any entry is in its lists
-abbrev pub bare : ℕ → Shown
-bare k = record { number = k; children = []; within = [] }
-
--- what is kept of a name once each label has a bare place
-abbrev pub placed : Labels → (NameKey → Option Shown) → NameKey → Option Shown
-placed [] f q = f q
-placed (e ∷ es) f q = placed es (λ m. cond (name_eq m e.name) (Some (bare e.number)) (f m)) q
-
--- what is kept of a name once each label is in the lists of the names at or above it
-abbrev pub enlisted_all : Labels → NameKey → Option Shown → Option Shown
-enlisted_all [] q o = o
-enlisted_all (e ∷ es) q o = enlisted_all es q (cond (begins q e.name) (option_map (enlisted e.name q e.number) o) o)
-
 -- a name once those at or below an old one stand at or below a new one
 abbrev pub key_after : NameKey → NameKey → NameKey → NameKey
 key_after old new n = cond (begins old n) (new ++ drop (length old) n) n
@@ -45,3 +38,101 @@ moved_label old new e = record { number = e.number; name = key_after old new e.n
 
 abbrev pub moved_labels : NameKey → NameKey → Labels → Labels
 moved_labels old new d = map (moved_label old new) d
+
+-- ---- rising lists
+
+-- the numbers at the front that are below one
+abbrev pub below : ℕ → List ℕ → List ℕ
+below x [] = []
+below x (y ∷ ys) = cond (nat_lt y x) (y ∷ below x ys) []
+
+-- what is left without them
+abbrev pub beyond : ℕ → List ℕ → List ℕ
+beyond x [] = []
+beyond x (y ∷ ys) = cond (nat_lt y x) (beyond x ys) (y ∷ ys)
+
+abbrev pub starts : ℕ → List ℕ → Bool
+starts x [] = false
+starts x (y ∷ ys) = nat_eq y x
+
+-- a rising list without the numbers of another
+abbrev pub without : List ℕ → List ℕ → List ℕ
+without ys [] = []
+without ys (x ∷ xs) = cond (starts x (beyond x ys)) (without (beyond x ys) xs) (x ∷ without (beyond x ys) xs)
+
+-- two rising lists as one
+abbrev pub merged : List ℕ → List ℕ → List ℕ
+merged [] ys = ys
+merged (x ∷ xs) ys = below x ys ++ x ∷ merged xs (beyond x ys)
+
+-- a rising list without some numbers, or with them in their places
+abbrev pub relisted : Bool → List ℕ → List ℕ → List ℕ
+relisted back ks xs = cond back (merged (without ks xs) ks) (without ks xs)
+
+-- ---- places
+
+-- A place above a name that changes: whether the number is a child again, and the numbers are within again.
+abbrev pub relisted_place : ℕ → List ℕ → Bool → Bool → Shown → Shown
+relisted_place k ks child within p = record { number = p.number; children = relisted child (k ∷ []) p.children; within = relisted within ks p.within }
+
+-- whether the lists of a name above the old name or the new one change
+abbrev pub is_changed : NameKey → NameKey → NameKey → Bool
+is_changed old new q = not (begins q old && begins q new && nat_eq (length old) (length new))
+
+-- whether a name is right above another
+abbrev pub is_over : NameKey → NameKey → Bool
+is_over new q = nat_eq (length new) (length q + 1) && begins q new
+
+-- a place of a name above the old name or the new one, once k and those below it have moved
+abbrev pub place_after : ℕ → List ℕ → NameKey → NameKey → Shown → Shown
+place_after k ks new q p = relisted_place k ks (is_over new q) (begins q new) p
+
+-- what is kept of names once places are put in
+abbrev pub over : List (NameKey × Shown) → (NameKey → Option Shown) → NameKey → Option Shown
+over [] f q = f q
+over (x ∷ xs) f q = over xs (λ m. cond (name_eq m x.0) (Some x.1) (f m)) q
+
+-- what is kept of names once places that are there are other ones
+abbrev pub set_over : List (NameKey × Shown) → (NameKey → Option Shown) → NameKey → Option Shown
+set_over [] f q = f q
+set_over (x ∷ xs) f q = set_over xs (λ m. cond (name_eq m x.0) (option_map (λ s. x.1) (f m)) (f m)) q
+
+abbrev pub put_seen : NameKey → Option Shown → List (NameKey × Shown) → List (NameKey × Shown)
+put_seen n None l = l
+put_seen n (Some s) l = (n, s) ∷ l
+
+-- the places of entries under their new names
+abbrev pub places_after : (NameKey → Option Shown) → NameKey → NameKey → List Entered → List (NameKey × Shown)
+places_after f old new [] = []
+places_after f old new (e ∷ es) = put_seen (key_after old new (rdns e.name)) (f (rdns e.name)) (places_after f old new es)
+
+-- whether a name is one of these
+abbrev pub is_named : NameKey → List (ℕ × List RdnModel) → Bool
+is_named q ns = list_any (λ n. name_eq q (rdns n.1)) ns
+
+-- whether a name is that of one of these entries
+abbrev pub is_name_of : NameKey → List Entered → Bool
+is_name_of q es = list_any (λ e. name_eq q (rdns e.name)) es
+
+-- whether a name has one of these places
+abbrev pub has_place : NameKey → List (NameKey × Shown) → Bool
+has_place q xs = list_any (λ x. name_eq q x.0) xs
+
+-- another place, where there is one
+abbrev pub replaced_by : Option Shown → Option Shown → Option Shown
+replaced_by None o = o
+replaced_by (Some s) o = option_map (λ t. s) o
+
+-- What is kept of each name once k and the entries below it have moved: their places under the new names, none under the old ones, and
+-- other lists in the places of the names above.
+abbrev pub put_first : (NameKey → Option Shown) → NameKey → NameKey → List Entered → NameKey → Option Shown
+put_first f old new es = over (places_after f old new es) f
+
+abbrev pub taken_out : (NameKey → Option Shown) → NameKey → NameKey → List Entered → NameKey → Option Shown
+taken_out f old new es q = cond (is_name_of q es) None (put_first f old new es q)
+
+abbrev pub set_above : ℕ → List ℕ → NameKey → NameKey → NameKey → (NameKey → Option Shown) → NameKey → Option Shown → Option Shown
+set_above k ks old new path f q o = cond (is_above (length path) path q && is_changed old new q) (replaced_by (option_map (place_after k ks new q) (f q)) o) o
+
+abbrev pub places_moved : ℕ → List ℕ → NameKey → NameKey → List Entered → (NameKey → Option Shown) → NameKey → Option Shown
+places_moved k ks old new es f q = set_above k ks old new new f q (set_above k ks old new old f q (taken_out f old new es q))

@@ -2,7 +2,8 @@
 // What must not be here: how they are found by name.
 
 ghost use Rattle.std.specs.Prelude.{◌≡◌, ◌++◌, ◌∷◌, [], OnOk, OnErr};
-ghost use Rattle.dir_tree.specs.Directory.{AllBelow, unnumbered, replaced};
+ghost use Rattle.std.specs.Option.{option_map};
+ghost use Rattle.dir_tree.specs.Directory.{AllBelow, entry_at, unnumbered, replaced};
 ghost use Rattle.dir_tree.specs.Renamed.{with_name, with_names};
 ghost use Rattle.dir_tree.specs.Stored.{directory_of, entered_of};
 
@@ -14,6 +15,13 @@ use std::collections::BTreeMap;
 
 /// The entries by number.
 pub type Entries = BTreeMap<u64, NamedEntry>;
+
+/// The entry of a number.
+pub fn entry_numbered(entries: &Entries, number: u64) -> Option<&NamedEntry>
+    ensures { option_map (λ e. entered_of number e.now) result ≡ entry_at number (directory_of entries.now.entries) }
+{
+    entries.get(&number)
+}
 
 /// Puts an entry under a number above all. An `Err` changes nothing.
 pub fn put_entry(entries: &mut Entries, number: u64, entry: NamedEntry) -> Result<(), AllocError>

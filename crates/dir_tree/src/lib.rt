@@ -4,10 +4,12 @@
 
 mod comparing;
 mod entries;
+mod moving;
 mod named;
 mod place;
 mod places;
 mod renaming;
+mod rising;
 mod tree;
 
 pub use comparing::{are_same, is_over_parent};

@@ -1,16 +1,16 @@
 // The places of names. Names and numbers flow in; what is kept of a name flows out.
 // What must not be here: entries.
 
-ghost use Rattle.std.specs.Prelude.{◌≡◌, ◌++◌, ◌∷◌, [], ℕ, ◌+◌, cond, length, OnOk, OnErr, IfErr, Some, take, is_some};
+ghost use Rattle.std.specs.Prelude.{◌≡◌, ◌++◌, ◌∷◌, [], ℕ, ◌+◌, cond, length, OnOk, OnErr, IfOk, IfErr, Some, take, is_some};
 ghost use Rattle.std.specs.Option.{option_map};
 ghost use Rattle.dir_tree.specs.Directory.{NameKey, above, name_eq};
-ghost use Rattle.dir_tree.specs.Places.{Shown, struck, listed, enlisted, is_above};
+ghost use Rattle.dir_tree.specs.Places.{Shown, struck, listed, enlisted, is_above, within_of};
 ghost use Rattle.dir_tree.specs.Kept.{place_at, front_placed, shown};
 ghost use Rattle.ldap_dn.specs.Names.{rdns};
 
 use crate::place::{Place, strike};
 use ldap_dn::Rdn;
-use std::alloc::{AllocError, AllocFailed};
+use std::alloc::{AllocError, AllocFailed, Global};
 use std::collections::BTreeMap;
 
 /// What is kept of each name that an entry has.
@@ -26,6 +26,15 @@ fn strike_at(places: &mut Places, name: &[Rdn], number: u64)
     }
 }
 
+/// Gives a name that has a place another one.
+pub fn set_place(places: &mut Places, name: &[Rdn], place: Place)
+    ensures { (q : NameKey) → place_at places.new.entries q ≡ cond (name_eq q (rdns name.now)) (option_map (λ s. shown place) (place_at places.old.entries q)) (place_at places.old.entries q) }
+{
+    if let Some(held) = places.get_mut(name) {
+        *held = place;
+    }
+}
+
 /// Takes a number out of the lists of the names above a name.
 pub fn strike_above(places: &mut Places, name: &[Rdn], number: u64)
     ensures { (q : NameKey) → place_at places.new.entries q ≡ cond (is_above (length name.now) (rdns name.now) q) (option_map (struck number) (place_at places.old.entries q)) (place_at places.old.entries q) }
@@ -33,6 +42,13 @@ pub fn strike_above(places: &mut Places, name: &[Rdn], number: u64)
     for i in 0..name.len() {
         strike_at(places, &name[..i], number);
     }
+}
+
+/// What is kept of a name.
+pub fn place_named<'a>(places: &'a Places, name: &[Rdn]) -> Option<&'a Place>
+    ensures { option_map (λ p. shown p.now) result ≡ place_at places.now.entries (rdns name.now) }
+{
+    places.get(name)
 }
 
 /// The number of a name.
@@ -69,6 +85,16 @@ pub fn within_at<'a>(places: &'a Places, name: &[Rdn]) -> Option<&'a [u64]>
     match places.get(name) {
         Some(place) => Some(place.within.as_slice()),
         None => None,
+    }
+}
+
+/// The numbers at or below a name, as a list of one's own; none, where the name has no place.
+pub fn numbers_within(alloc: Global, places: &Places, name: &[Rdn]) -> Result<Vec<u64>, AllocError>
+    ensures { IfOk result (λ v. v.items ≡ within_of (place_at places.now.entries (rdns name.now))) }
+{
+    match within_at(places, name) {
+        Some(numbers) => Ok(Vec::from_slice(alloc, numbers)?),
+        None => Ok(Vec::new(alloc)),
     }
 }
 

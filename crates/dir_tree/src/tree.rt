@@ -8,14 +8,15 @@ ghost use Rattle.dir_tree.specs.Directory.{NameKey, Entered, AllBelow, IsDirecto
 ghost use Rattle.dir_tree.specs.Stored.{directory_of, entered_of};
 
 use crate::comparing::are_same;
-use crate::entries::{Entries, put_entry, set_entry, set_names, take_entry};
+use crate::entries::{Entries, entry_numbered, put_entry, set_entry, set_names, take_entry};
+use crate::moving::rename_places;
 use crate::named::NamedEntry;
 use crate::place::Place;
 use crate::places::{
-    Places, children_at, enlist_above, front_at, has_parent_at, number_at, put_place, strike_above,
-    within_at,
+    Places, children_at, enlist_above, front_at, has_parent_at, number_at, numbers_within,
+    put_place, strike_above, within_at,
 };
-use crate::renaming::{names_moved, places_of};
+use crate::renaming::names_moved;
 use dir_entry::Entry;
 use ldap_dn::{Name, Rdn};
 use std::alloc::{AllocError, Global};
@@ -113,7 +114,7 @@ impl Tree {
     pub fn entry(&self, number: u64) -> Option<&NamedEntry>
         ensures { option_map (λ e. entered_of number e.now) result ≡ entry_at number self.now.entries }
     {
-        self.entries.get(&number)
+        entry_numbered(&self.entries, number)
     }
 
     /// The length of the longest front of a name that is an entry's name; 0, if there is none. It takes a look-up for each
@@ -204,8 +205,9 @@ impl Tree {
 
     /// Gives an entry another name and other attributes: each name that begins with the old one begins with the new one in its
     /// place. The old name is not the suffix, an entry that does not stand at or below it stands right above the new one, and no
-    /// other entry has the new one. An `Err` changes nothing. It makes the names and the places of the whole directory afresh
-    /// and then takes them over, so it needs no undo, and its cost grows with the directory.
+    /// other entry has the new one. An `Err` changes nothing. It costs the names of the entries at and below the name, and a walk over
+    /// the lists of numbers of those names that are above the old one or the new one and not both; a name without a new superior
+    /// walks over no list.
     pub fn rename(
         &mut self,
         name: &[Rdn],
@@ -221,11 +223,23 @@ impl Tree {
         ensures ok { OnOk result (self.new ≡ record { suffix = self.old.suffix; entries = moved (rdns name.now) new_name new_entry self.old.entries }) }
         ensures err { OnErr result (self.new ≡ self.old) }
     {
-        let names = names_moved(self.alloc, &self.entries, name, new_name.rdns())?;
-        let places = places_of(self.alloc, names.as_slice())?;
+        let numbers = numbers_within(self.alloc, &self.places, name)?;
+        let numbers = numbers.as_slice();
+        let new = new_name.rdns();
+        let names = names_moved(self.alloc, &self.entries, numbers, name, new)?;
+        let renamed = names.as_slice();
+        rename_places(
+            self.alloc,
+            &mut self.places,
+            &self.entries,
+            number,
+            numbers,
+            renamed,
+            name,
+            new,
+        )?;
         set_names(&mut self.entries, names);
         set_entry(&mut self.entries, number, new_entry);
-        self.places = places;
         Ok(())
     }
 

@@ -2,7 +2,9 @@
 // What must not be here: expected values that this program made.
 
 use ldap_dn::{Name, NameError};
+use ldap_match::key;
 use ldap_schema::Schema;
+use ldap_syntax::{Family, Key, Rule, Syntax, ValueError};
 use std::alloc::Global;
 use std::test::*;
 
@@ -163,6 +165,9 @@ const BAD: &[&str] = &[
     "c\\6e=a",
     "cn=a\0b",
     "cn=  ",
+    // No relative name is made of names.
+    "member=dc\\=com",
+    "2.5.4.31=",
 ];
 
 #[test]
@@ -242,5 +247,61 @@ fn keys_of_names(rt: HostRuntime) -> Result<(), NameError> {
     assert!(rt; name.is_same(&other_spelling));
     assert!(rt; !name.is_same(&other_types));
     assert!(rt; !name.is_same(&one_more));
+    Ok(())
+}
+
+/// distinguishedNameMatch.
+const NAMES: Rule = Rule {
+    family: Family::Name,
+    syntax: Syntax::DistinguishedName,
+};
+
+/// The key of a value that is a name.
+fn value_key(alloc: Global, schema: &Schema, value: &[u8]) -> Result<Key, ValueError> {
+    key(alloc, schema, NAMES, value)
+}
+
+/// Whether the two values are names, and equal.
+fn are_equal(alloc: Global, schema: &Schema, one: &str, other: &str) -> Result<bool, ValueError> {
+    let first = value_key(alloc, schema, one.as_bytes())?;
+    let second = value_key(alloc, schema, other.as_bytes())?;
+    Ok(first.is_same(&second))
+}
+
+/// Whether the value is refused as E11.
+fn is_outside(alloc: Global, schema: &Schema, value: &[u8]) -> Result<bool, ValueError> {
+    match value_key(alloc, schema, value) {
+        Ok(_) => Ok(false),
+        Err(ValueError::NotInSyntax) => Ok(true),
+        Err(ValueError::NoMemory) => Err(ValueError::NoMemory),
+    }
+}
+
+#[test]
+fn values_that_are_one_name(rt: HostRuntime) -> Result<(), ValueError> {
+    let alloc = rt.alloc();
+    let schema = Schema::built_in(alloc)?;
+    for (one, other) in ONE {
+        assert!(rt; are_equal(alloc, &schema, one, other)?);
+    }
+    for (one, other) in TWO {
+        assert!(rt; !are_equal(alloc, &schema, one, other)?);
+    }
+    Ok(())
+}
+
+/// Octets that are no UTF-8, one of them before an escape that would complete its character.
+const OCTETS: &[&[u8]] = &[b"cn=\xff", b"cn=\xc4\\8D", b"\x80=a"];
+
+#[test]
+fn values_that_are_no_names(rt: HostRuntime) -> Result<(), ValueError> {
+    let alloc = rt.alloc();
+    let schema = Schema::built_in(alloc)?;
+    for text in BAD {
+        assert!(rt; is_outside(alloc, &schema, text.as_bytes())?);
+    }
+    for octets in OCTETS {
+        assert!(rt; is_outside(alloc, &schema, octets)?);
+    }
     Ok(())
 }

@@ -8,9 +8,9 @@ use Rattle.ldap_syntax.specs.declared.rule.Family.{Family}
 use Rattle.ldap_syntax.specs.declared.rule.Family.TheVariants as family
 use Rattle.ldap_syntax.specs.declared.rule.Rule.{Rule}
 use Rattle.ldap_schema.specs.Schema.{SchemaModel, find}
-use Rattle.ldap_match.specs.Meaning.{meaning}
-use Rattle.ldap_match.specs.Keyed.{key_at}
-use Rattle.ldap_match.specs.Item.{equality_of}
+use Rattle.value_keys.specs.Meaning.{meaning}
+use Rattle.value_keys.specs.Keyed.{key_at}
+use Rattle.value_keys.specs.Rules.{equality_of}
 use Rattle.ldap_dn.specs.Names.{TypeAndValue, TypeAndKey, RdnModel}
 use Rattle.ldap_dn.specs.Tokens.{is_escapable, hex_octet, octet_of, is_plain, is_unescaped, is_space, trimmed}
 use Rattle.ldap_dn.specs.declared.token.Token.{Token}

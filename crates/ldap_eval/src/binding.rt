@@ -116,7 +116,7 @@ fn is_answerable(
 {
     match asked {
         Asked::Presence => Ok(true),
-        Asked::Equality(assertion) => Ok(is_comparable(schema, type_id, assertion)),
+        Asked::Equality(assertion) => is_comparable(alloc, schema, type_id, assertion),
         Asked::AtLeast(assertion) | Asked::AtMost(assertion) => {
             Ok(is_ordered(schema, type_id, assertion))
         }

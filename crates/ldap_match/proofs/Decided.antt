@@ -1,13 +1,11 @@
 -- The test for parts against the statement that they stand in order. Facts on lists flow in and out.
-use Rattle.std.proofs.Common.{ℕ, ◌+◌, ◌-◌, ◌≤◌, List, [], ◌∷◌, ◌++◌, Bool, true, false, ◌&&◌, ◌||◌, Option, None, Some, ◌≡◌, ◌↔◌, refl, ap, ap₂, sym, subst, ◌∙◌, length, take, drop, append_assoc, length-append, length-drop, length-take, take-append-drop, arith}
+use Rattle.std.proofs.Common.{ℕ, ◌-◌, List, [], ◌∷◌, ◌++◌, Bool, true, false, ◌&&◌, ◌||◌, Option, ◌≡◌, ◌↔◌, refl, ap, ap₂, sym, ◌∙◌, length, take, drop, append_assoc, length-append, take-append-drop, arith}
 use Rattle.std.proofs.Math.Seq.{drop-append_seam, take-append_seam}
 use Rattle.std.specs.Bool.{Decides}
 use Rattle.std.proofs.lemmas.Bool.Decides.{same_from_decides}
 use Rattle.std.specs.List.{list_any}
-use Rattle.std.specs.Str.{bytes_eq}
-use Rattle.std.proofs.lemmas.List.{append-nil, take_all}
 use Rattle.std.proofs.lemmas.Slice.Eq.{bytes_eq-Decides}
-use Rattle.ldap_syntax.specs.Parts.{Stands, StandInOrder, HasParts, part_or_nothing}
+use Rattle.ldap_syntax.specs.Parts.{StandInOrder, HasParts, part_or_nothing}
 use Rattle.ldap_match.specs.Parts.{PartsModel, is_at_start, is_at_end, tails, are_in_order, has_parts}
 
 start_yes : (p w : List ℕ) → is_at_start p w ≡ true → w ≡ p ++ drop (length p) w

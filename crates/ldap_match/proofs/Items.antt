@@ -9,7 +9,7 @@ use Rattle.std.proofs.lemmas.Bool.Decides.{same_from_decides, Decides-int_eq}
 use Rattle.std.proofs.lemmas.Slice.Eq.{bytes_eq-Decides}
 use Rattle.ldap_syntax.specs.Families.{is_ordering, has_substrings}
 use Rattle.ldap_syntax.specs.Meaning as syntax_meaning
-use Rattle.ldap_syntax.specs.Meaning.{Meaning, number, text, truth, octets, identifier, is_before, part_meaning, IsLessMeaning}
+use Rattle.ldap_syntax.specs.Meaning.{Meaning, number, text, truth, octets, identifier, name, is_before, part_meaning, IsLessMeaning}
 use Rattle.ldap_syntax.specs.Parts.{HasParts, MeaningHasParts}
 use Rattle.ldap_syntax.specs.Keys as syntax_keys
 use Rattle.ldap_syntax.specs.Keys.{text_key, KeysArePresentAsMeanings, KeysAreEqualAsMeanings, KeysAreOrderedAsMeanings, PartsStandAsMeanings}
@@ -18,14 +18,18 @@ use Rattle.ldap_syntax.specs.declared.rule.Family.{Family}
 use Rattle.ldap_syntax.specs.declared.rule.Family.TheVariants as family
 use Rattle.ldap_syntax.specs.declared.rule.Rule.{Rule}
 use Rattle.ldap_schema.specs.Schema.{SchemaModel, TypeModel}
-use Rattle.ldap_match.specs.Meaning.{meaning, meaning_by, dotted, identified}
+use Rattle.value_keys.specs.Meaning.{dotted, identified}
+use Rattle.value_keys.specs.Rules.{equality_in, equality_of}
+use Rattle.ldap_dn.specs.NameKeys.{NameKeysAreOfNames}
+use Rattle.ldap_match.specs.Meaning.{meaning, meaning_by, name_of}
 use Rattle.ldap_match.specs.Parts.{PartsModel, has_parts}
 use Rattle.ldap_match.specs.Truth.{truth_of}
-use Rattle.ldap_match.specs.Item.{Item, present, equal, at_least, at_most, substrings, is_equal_meaning, is_meant, is_less_meaning, is_at_least, is_at_most, has_prepared, of_family, beside, equality_in, equality_of, ordering_in, ordering_of, substrings_in, substrings_of, some_of, end_by, put_before, each_by, three_parts, prepared_parts, answered, by_rule, item_on_attribute, are_valid_by, is_answerable}
+use Rattle.ldap_match.specs.Item.{Item, present, equal, at_least, at_most, substrings, is_equal_meaning, is_meant, is_less_meaning, is_at_least, is_at_most, has_prepared, of_family, beside, ordering_in, ordering_of, substrings_in, substrings_of, some_of, end_by, put_before, each_by, three_parts, prepared_parts, answered, by_rule, item_on_attribute, are_valid_by, is_answerable}
 use Rattle.ldap_match.specs.declared.testing.Test.{Test}
 use Rattle.ldap_match.specs.declared.testing.Test.TheVariants as test
 use Rattle.ldap_match.specs.Keyed.{key_at, key_by, part_keys_at, test_of, test_by_rule, test_for, test_value, is_same_key, is_key_at_least, is_key_at_most, AreKeysBy, AreKeysOf}
 use Rattle.ldap_match.proofs.Decided.{parts_decides}
+use Rattle.ldap_match.proofs.Named.{names_decide, named_some, named_equal}
 
 -- whether meanings are equal, decided
 pub equal_decides : (m n : Meaning) → Decides (is_equal_meaning m n) (m ≡ n)
@@ -57,6 +61,17 @@ equal_decides (identifier a) (number b) = (λ h. cc, λ e. cc)
 equal_decides (identifier a) (text b) = (λ h. cc, λ e. cc)
 equal_decides (identifier a) (truth b) = (λ h. cc, λ e. cc)
 equal_decides (identifier a) (octets b) = (λ h. cc, λ e. cc)
+equal_decides (name a) (name b) = (λ h. ap name ((names_decide a b).0 h), λ e. (names_decide a b).1 (cc))
+equal_decides (name a) (number b) = (λ h. cc, λ e. cc)
+equal_decides (name a) (text b) = (λ h. cc, λ e. cc)
+equal_decides (name a) (truth b) = (λ h. cc, λ e. cc)
+equal_decides (name a) (octets b) = (λ h. cc, λ e. cc)
+equal_decides (name a) (identifier b) = (λ h. cc, λ e. cc)
+equal_decides (number a) (name b) = (λ h. cc, λ e. cc)
+equal_decides (text a) (name b) = (λ h. cc, λ e. cc)
+equal_decides (truth a) (name b) = (λ h. cc, λ e. cc)
+equal_decides (octets a) (name b) = (λ h. cc, λ e. cc)
+equal_decides (identifier a) (name b) = (λ h. cc, λ e. cc)
 
 same_test : (k l : List ℕ) (m n : Meaning) → (l ≡ k) ↔ (n ≡ m) → bytes_eq l k ≡ is_equal_meaning n m
 same_test k l m n h =
@@ -100,6 +115,17 @@ less_decides (identifier a) (number b) = never
 less_decides (identifier a) (text b) = never
 less_decides (identifier a) (truth b) = never
 less_decides (identifier a) (octets b) = never
+less_decides (name a) (name b) = never
+less_decides (name a) (number b) = never
+less_decides (name a) (text b) = never
+less_decides (name a) (truth b) = never
+less_decides (name a) (octets b) = never
+less_decides (name a) (identifier b) = never
+less_decides (number a) (name b) = never
+less_decides (text a) (name b) = never
+less_decides (truth a) (name b) = never
+less_decides (octets a) (name b) = never
+less_decides (identifier a) (name b) = never
 
 -- whether a meaning has parts, decided
 prepared_decides : (p : PartsModel) (m : Meaning) → Decides (has_prepared p (Some m)) (MeaningHasParts p.initial p.any p.last m)
@@ -108,13 +134,15 @@ prepared_decides p (number a) = never
 prepared_decides p (truth a) = never
 prepared_decides p (octets a) = never
 prepared_decides p (identifier a) = never
+prepared_decides p (name a) = never
 
--- the laws of keys, as the crate below gives them
+-- the laws of keys, as the crates below give them
 pub record KeyLaws : Type 0 where
   pub present : KeysArePresentAsMeanings
   pub equal : KeysAreEqualAsMeanings
   pub ordered : KeysAreOrderedAsMeanings
   pub stand : PartsStandAsMeanings
+  pub told : NameKeysAreOfNames
 
 -- the keys of parts that were prepared
 abbrev pub keyed_parts : PartsModel → PartsModel
@@ -141,55 +169,67 @@ identified_equal o p m n k l e f g h =
     let b : identifier l ≡ n = identified_is p n l f h in
     (λ q. sym a ∙ ap identifier q ∙ b, λ q. cc)
 
-by_family : (s : SchemaModel) (r : Rule) (f : Family) → KeysArePresentAsMeanings → KeysAreEqualAsMeanings
-    → ((v : List ℕ) → is_some (key_by s r f v) ≡ is_some (meaning_by s r f v))
-    × ((v w : List ℕ) (m n : Meaning) (k l : List ℕ) → meaning_by s r f v ≡ Some m → meaning_by s r f w ≡ Some n → key_by s r f v ≡ Some k → key_by s r f w ≡ Some l → (k ≡ l) ↔ (m ≡ n))
-by_family s r family.Identifier p q = (λ v. identified_some (dotted s v), λ v w m n k l. identified_equal (dotted s v) (dotted s w) m n k l)
-by_family s r family.Name p q = (λ v. p r v, λ v w m n k l. q r v w m n k l)
-by_family s r family.Ignore p q = (λ v. p r v, λ v w m n k l. q r v w m n k l)
-by_family s r family.Exact p q = (λ v. p r v, λ v w m n k l. q r v w m n k l)
-by_family s r family.Numeric p q = (λ v. p r v, λ v w m n k l. q r v w m n k l)
-by_family s r family.Boolean p q = (λ v. p r v, λ v w m n k l. q r v w m n k l)
-by_family s r family.Integer p q = (λ v. p r v, λ v w m n k l. q r v w m n k l)
-by_family s r family.Octet p q = (λ v. p r v, λ v w m n k l. q r v w m n k l)
-by_family s r family.Telephone p q = (λ v. p r v, λ v w m n k l. q r v w m n k l)
-by_family s r family.Time p q = (λ v. p r v, λ v w m n k l. q r v w m n k l)
-by_family s r family.Ia5 p q = (λ v. p r v, λ v w m n k l. q r v w m n k l)
-by_family s r family.Ia5Exact p q = (λ v. p r v, λ v w m n k l. q r v w m n k l)
+present_by : (s : SchemaModel) (r : Rule) (f : Family) → KeysArePresentAsMeanings → (v : List ℕ) → is_some (key_by s r f v) ≡ is_some (meaning_by s r f v)
+present_by s r family.Identifier p v = identified_some (dotted s v)
+present_by s r family.Name p v = named_some (name_of s v)
+present_by s r family.Ignore p v = p r v
+present_by s r family.Exact p v = p r v
+present_by s r family.Numeric p v = p r v
+present_by s r family.Boolean p v = p r v
+present_by s r family.Integer p v = p r v
+present_by s r family.Octet p v = p r v
+present_by s r family.Telephone p v = p r v
+present_by s r family.Time p v = p r v
+present_by s r family.Ia5 p v = p r v
+present_by s r family.Ia5Exact p v = p r v
+
+equal_by : (s : SchemaModel) (r : Rule) (f : Family) → KeysAreEqualAsMeanings → NameKeysAreOfNames
+    → (v w : List ℕ) (m n : Meaning) (k l : List ℕ) → meaning_by s r f v ≡ Some m → meaning_by s r f w ≡ Some n → key_by s r f v ≡ Some k → key_by s r f w ≡ Some l → (k ≡ l) ↔ (m ≡ n)
+equal_by s r family.Identifier q t v w m n k l = identified_equal (dotted s v) (dotted s w) m n k l
+equal_by s r family.Name q t v w m n k l = named_equal t (name_of s v) (name_of s w) m n k l
+equal_by s r family.Ignore q t v w m n k l = q r v w m n k l
+equal_by s r family.Exact q t v w m n k l = q r v w m n k l
+equal_by s r family.Numeric q t v w m n k l = q r v w m n k l
+equal_by s r family.Boolean q t v w m n k l = q r v w m n k l
+equal_by s r family.Integer q t v w m n k l = q r v w m n k l
+equal_by s r family.Octet q t v w m n k l = q r v w m n k l
+equal_by s r family.Telephone q t v w m n k l = q r v w m n k l
+equal_by s r family.Time q t v w m n k l = q r v w m n k l
+equal_by s r family.Ia5 q t v w m n k l = q r v w m n k l
+equal_by s r family.Ia5Exact q t v w m n k l = q r v w m n k l
 
 -- a family of ordered values or of texts minds no schema
 pub record Plain (s : SchemaModel) (r : Rule) (f : Family) : Type 0 where
   pub key : (v : List ℕ) → key_by s r f v ≡ syntax_keys.key_at r v
   pub means : (v : List ℕ) → meaning_by s r f v ≡ syntax_meaning.meaning r v
 
-plain : (s : SchemaModel) (r : Rule) (f : Family) → (f ≡ family.Identifier → ⊥) → Plain s r f
-plain s r family.Identifier h = absurd (h refl)
-plain s r family.Name h = record { key = λ v. refl; means = λ v. refl }
-plain s r family.Ignore h = record { key = λ v. refl; means = λ v. refl }
-plain s r family.Exact h = record { key = λ v. refl; means = λ v. refl }
-plain s r family.Numeric h = record { key = λ v. refl; means = λ v. refl }
-plain s r family.Boolean h = record { key = λ v. refl; means = λ v. refl }
-plain s r family.Integer h = record { key = λ v. refl; means = λ v. refl }
-plain s r family.Octet h = record { key = λ v. refl; means = λ v. refl }
-plain s r family.Telephone h = record { key = λ v. refl; means = λ v. refl }
-plain s r family.Time h = record { key = λ v. refl; means = λ v. refl }
-plain s r family.Ia5 h = record { key = λ v. refl; means = λ v. refl }
-plain s r family.Ia5Exact h = record { key = λ v. refl; means = λ v. refl }
+plain : (s : SchemaModel) (r : Rule) (f : Family) → (f ≡ family.Identifier → ⊥) → (f ≡ family.Name → ⊥) → Plain s r f
+plain s r family.Identifier h i = absurd (h refl)
+plain s r family.Name h i = absurd (i refl)
+plain s r family.Ignore h i = record { key = λ v. refl; means = λ v. refl }
+plain s r family.Exact h i = record { key = λ v. refl; means = λ v. refl }
+plain s r family.Numeric h i = record { key = λ v. refl; means = λ v. refl }
+plain s r family.Boolean h i = record { key = λ v. refl; means = λ v. refl }
+plain s r family.Integer h i = record { key = λ v. refl; means = λ v. refl }
+plain s r family.Octet h i = record { key = λ v. refl; means = λ v. refl }
+plain s r family.Telephone h i = record { key = λ v. refl; means = λ v. refl }
+plain s r family.Time h i = record { key = λ v. refl; means = λ v. refl }
+plain s r family.Ia5 h i = record { key = λ v. refl; means = λ v. refl }
+plain s r family.Ia5Exact h i = record { key = λ v. refl; means = λ v. refl }
 
-not_identifier : (offers : Family → Bool) (f : Family) → offers family.Identifier ≡ false → offers f ≡ true → f ≡ family.Identifier → ⊥
-not_identifier offers f n h e = let z : false ≡ true = sym n ∙ sym (ap offers e) ∙ h in cc
+pub not_offered : (offers : Family → Bool) (f g : Family) → offers g ≡ false → offers f ≡ true → f ≡ g → ⊥
+not_offered offers f g n h e = let z : false ≡ true = sym n ∙ sym (ap offers e) ∙ h in cc
 
 pub keys_mean : KeyLaws → (s : SchemaModel) (r : Rule) → KeysMean s r
 keys_mean laws s r =
-    let h = by_family s r r.family laws.present laws.equal in
     record {
-      is_present = h.0;
-      is_equal = h.1;
+      is_present = present_by s r r.family laws.present;
+      is_equal = equal_by s r r.family laws.equal laws.told;
       is_ordered = λ o v w m n k l a b d e.
-          let p = plain s r r.family (not_identifier is_ordering r.family refl o) in
+          let p = plain s r r.family (not_offered is_ordering r.family family.Identifier refl o) (not_offered is_ordering r.family family.Name refl o) in
           laws.ordered r v w m n k l o (sym (p.means v) ∙ a) (sym (p.means w) ∙ b) (sym (p.key v) ∙ d) (sym (p.key w) ∙ e);
       has_parts_too = λ o q v m k a d.
-          let p = plain s r r.family (not_identifier has_substrings r.family refl o) in
+          let p = plain s r r.family (not_offered has_substrings r.family family.Identifier refl o) (not_offered has_substrings r.family family.Name refl o) in
           laws.stand r v m k q.initial q.last q.any o (sym (p.means v) ∙ a) (sym (p.key v) ∙ d);
     }
 
@@ -272,7 +312,7 @@ beside_is : (x y : Option Rule) (r : Rule) → beside x y ≡ Some r → y ≡ S
 beside_is None y r e = absurd (cc)
 beside_is (Some o) y r e = e
 
-ordering_is : (o : Option TypeModel) (r : Rule) → ordering_in o ≡ Some r → (equality_in o ≡ Some r) × (is_ordering r.family ≡ true)
+pub ordering_is : (o : Option TypeModel) (r : Rule) → ordering_in o ≡ Some r → (equality_in o ≡ Some r) × (is_ordering r.family ≡ true)
 ordering_is None r e = absurd (cc)
 ordering_is (Some t) r e = of_family_is is_ordering t.equality r (beside_is t.ordering (of_family is_ordering t.equality) r e)
 
@@ -365,8 +405,8 @@ none_is : {A : Type 0} (o : Option A) → is_some o ≡ false → o ≡ None
 none_is None e = refl
 none_is (Some x) e = absurd (cc)
 
-pub no_key : (s : SchemaModel) (r : Rule) (a : List ℕ) → KeysArePresentAsMeanings → KeysAreEqualAsMeanings → meaning s r a ≡ None → None ≡ key_at s r a
-no_key s r a p q e = let h = by_family s r r.family p q in sym (none_is (key_at s r a) (h.0 a ∙ ap is_some e))
+pub no_key : (s : SchemaModel) (r : Rule) (a : List ℕ) → KeysArePresentAsMeanings → meaning s r a ≡ None → None ≡ key_at s r a
+no_key s r a p e = sym (none_is (key_at s r a) (present_by s r r.family p a ∙ ap is_some e))
 
 -- parts have keys exactly where they were prepared
 some_parts : (o : Option PartsModel) (k : PartsModel) → keyed_all o ≡ Some k → is_some o ≡ true

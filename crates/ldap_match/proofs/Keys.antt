@@ -1,5 +1,5 @@
 -- Keys of parts, one by one, as the loop makes them. Facts on lists flow in and out.
-use Rattle.std.proofs.Common.{ℕ, ◌+◌, ◌<◌, zero, suc, add-one, List, [], ◌∷◌, ◌++◌, Option, None, Some, Bool, ◌≡◌, ◌↔◌, refl, ap, ap₂, sym, subst, ◌∙◌, map, length, drop, get_or, append_assoc, arith}
+use Rattle.std.proofs.Common.{ℕ, ◌+◌, ◌<◌, zero, suc, add-one, List, [], ◌∷◌, ◌++◌, Option, None, Some, ◌≡◌, refl, ap, ap₂, sym, ◌∙◌, map, length, drop, get_or, append_assoc, arith}
 use Rattle.std.proofs.lemmas.List.{append-nil}
 use Rattle.ldap_match.specs.Item.{put_before, each_by}
 

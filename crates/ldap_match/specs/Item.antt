@@ -1,27 +1,30 @@
--- An item on one attribute: RFC 4511 4.5.1.7. An item, a type and values flow in, a truth flows out; keys and entries are
--- not here.
-use Rattle.std.specs.Prelude.{ℕ, List, [], ◌∷◌, Bool, true, false, not, cond, ◌||◌, Option, None, Some, is_some, slice_get}
+-- An item on one attribute: RFC 4511 4.5.1.7. An item, a type and values flow in, a truth flows out; keys and entries
+-- are not here.
+use Rattle.std.specs.Prelude.{ℕ, List, [], ◌∷◌, Bool, true, false, not, cond, ◌&&◌, ◌||◌, nat_eq, Option, None, Some, is_some, slice_get}
 use Rattle.std.specs.Int.Signed.{lt_z}
+use Rattle.std.specs.Cmp.Lexicographic.{pointwise}
 use Rattle.std.specs.List.{list_any}
 use Rattle.std.specs.Str.{bytes_eq}
 use Rattle.std.specs.Ordering.{int_eq}
 use Rattle.ldap_syntax.specs.Syntaxes as syntax
 use Rattle.ldap_syntax.specs.Families.{is_ordering, has_substrings}
-use Rattle.ldap_syntax.specs.Meaning.{Meaning, number, text, truth, octets, identifier, is_before, part_meaning}
+use Rattle.ldap_syntax.specs.Meaning.{Meaning, number, text, truth, octets, identifier, name, is_before, part_meaning}
 use Rattle.ldap_syntax.specs.declared.preparing.Part.TheVariants.{Initial, Any, Final}
 use Rattle.ldap_syntax.specs.declared.rule.Family.{Family}
 use Rattle.ldap_syntax.specs.declared.rule.Rule.{Rule}
 use Rattle.ldap_syntax.specs.declared.rule.Syntax.{Syntax}
 use Rattle.ldap_syntax.specs.declared.rule.Syntax.TheVariants as syntax_of
 use Rattle.ldap_schema.specs.Schema.{SchemaModel, TypeModel}
-use Rattle.ldap_match.specs.Meaning.{dotted, meaning}
+use Rattle.value_keys.specs.Meaning.{dotted}
+use Rattle.value_keys.specs.Rules.{equality_of}
+use Rattle.ldap_match.specs.Meaning.{name_of, meaning}
 use Rattle.ldap_match.specs.Parts.{PartsModel, has_parts}
 use Rattle.ldap_match.specs.Truth.{truth_of}
 use Rattle.ldap_match.specs.declared.truth.Truth.{Truth}
 use Rattle.ldap_match.specs.declared.truth.Truth.TheVariants.{True, Undefined}
 
--- What an item asks of an attribute: that it is there, that a value is equal, not less, or less or equal, or that a value has
--- parts (RFC 4511 4.5.1.7.1 to 4.5.1.7.5).
+-- What an item asks of an attribute: that it is there, that a value is equal, not less, or less or equal, or that a
+-- value has parts (RFC 4511 4.5.1.7.1 to 4.5.1.7.5).
 pub data Item : Type 0 where
   present : Item
   equal : List ℕ → Item
@@ -33,13 +36,19 @@ abbrev pub is_same_truth : Bool → Bool → Bool
 is_same_truth true b = b
 is_same_truth false b = not b
 
--- whether two meanings are equal
+-- whether two types with keys are one
+abbrev pub is_same_pair : ℕ × List ℕ → ℕ × List ℕ → Bool
+is_same_pair a b = nat_eq a.0 b.0 && bytes_eq a.1 b.1
+
+-- whether two meanings are equal; names are where they have as many relative names, and the same in turn (RFC 4517
+-- 4.2.15)
 abbrev pub is_equal_meaning : Meaning → Meaning → Bool
 is_equal_meaning (number a) (number b) = int_eq a b
 is_equal_meaning (text a) (text b) = bytes_eq a b
 is_equal_meaning (truth a) (truth b) = is_same_truth a b
 is_equal_meaning (octets a) (octets b) = bytes_eq a b
 is_equal_meaning (identifier a) (identifier b) = bytes_eq a b
+is_equal_meaning (name a) (name b) = pointwise (pointwise is_same_pair) a b
 is_equal_meaning m n = false
 
 -- whether a value means this
@@ -70,14 +79,6 @@ has_prepared p m = false
 
 -- ---- the rules of a type
 
-abbrev pub equality_in : Option TypeModel → Option Rule
-equality_in None = None
-equality_in (Some t) = t.equality
-
--- the EQUALITY rule in effect for a type; none, where the type lacks it
-abbrev pub equality_of : SchemaModel → ℕ → Option Rule
-equality_of s t = equality_in (slice_get s.types t)
-
 -- a rule whose family is so
 abbrev pub of_family : (Family → Bool) → Option Rule → Option Rule
 of_family offers None = None
@@ -91,8 +92,8 @@ abbrev pub ordering_in : Option TypeModel → Option Rule
 ordering_in None = None
 ordering_in (Some t) = beside t.ordering (of_family is_ordering t.equality)
 
--- The ORDERING rule in effect for a type; none, where the type lacks it. The rules of one type are of one family, so values
--- mean under it what they mean under the EQUALITY rule.
+-- The ORDERING rule in effect for a type; none, where the type lacks it. The rules of one type are of one family, so
+-- values mean under it what they mean under the EQUALITY rule.
 abbrev pub ordering_of : SchemaModel → ℕ → Option Rule
 ordering_of s t = ordering_in (slice_get s.types t)
 
@@ -167,8 +168,9 @@ abbrev pub are_valid_by : Option Rule → PartsModel → Bool
 are_valid_by None p = false
 are_valid_by (Some r) p = is_some (prepared_parts r p)
 
--- the values of a syntax, where a name may stand for an object identifier (RFC 4517 3.3.26)
+-- the values of a syntax, names too, and where a name may stand for an object identifier (RFC 4517 3.3.9, 3.3.26)
 abbrev pub is_in_syntax : SchemaModel → Syntax → List ℕ → Bool
+is_in_syntax s syntax_of.DistinguishedName v = is_some (name_of s v)
 is_in_syntax s syntax_of.ObjectIdentifier v = is_some (dotted s v)
 is_in_syntax s x v = syntax.is_in_syntax x v
 

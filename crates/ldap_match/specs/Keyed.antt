@@ -1,5 +1,5 @@
 -- Keys where a schema is known, and a test made of an item. Only the evaluation of filters names them.
-use Rattle.std.specs.Prelude.{ℕ, List, Bool, not, ◌||◌, Option, None, Some, map, ◌≡◌}
+use Rattle.std.specs.Prelude.{ℕ, List, Bool, not, ◌||◌, Option, None, Some, map, option_map, ◌≡◌}
 use Rattle.std.specs.List.{list_any}
 use Rattle.std.specs.Str.{bytes_eq}
 use Rattle.ldap_syntax.specs.Keys as syntax
@@ -9,18 +9,26 @@ use Rattle.ldap_syntax.specs.declared.rule.Family.{Family}
 use Rattle.ldap_syntax.specs.declared.rule.Family.TheVariants as family
 use Rattle.ldap_syntax.specs.declared.rule.Rule.{Rule}
 use Rattle.ldap_schema.specs.Schema.{SchemaModel}
-use Rattle.ldap_match.specs.Meaning.{dotted}
+use Rattle.value_keys.specs.Keyed as plain
+use Rattle.value_keys.specs.Rules.{equality_of}
+use Rattle.ldap_dn.specs.Names.{RdnModel, rdns}
+use Rattle.ldap_dn.specs.NameKeys.{name_key}
+use Rattle.ldap_match.specs.Meaning.{name_of}
 use Rattle.ldap_match.specs.Truth.{truth_of}
 use Rattle.ldap_match.specs.Parts.{PartsModel, has_parts}
-use Rattle.ldap_match.specs.Item.{Item, present, equal, at_least, at_most, substrings, equality_of, ordering_of, substrings_of, end_by, each_by, three_parts}
+use Rattle.ldap_match.specs.Item.{Item, present, equal, at_least, at_most, substrings, ordering_of, substrings_of, end_by, each_by, three_parts}
 use Rattle.ldap_match.specs.declared.truth.Truth.{Truth}
 use Rattle.ldap_match.specs.declared.truth.Truth.TheVariants.{True, Undefined}
 use Rattle.ldap_match.specs.declared.testing.Test.{Test}
 use Rattle.ldap_match.specs.declared.testing.Test.TheVariants as test
 
+-- the key of what a name means
+abbrev pub key_of_name : List RdnModel → List ℕ
+key_of_name n = name_key (rdns n)
+
 abbrev pub key_by : SchemaModel → Rule → Family → List ℕ → Option (List ℕ)
-key_by s r family.Identifier v = dotted s v
-key_by s r f v = syntax.key_at r v
+key_by s r family.Name v = option_map key_of_name (name_of s v)
+key_by s r f v = plain.key_by s r f v
 
 -- a value's key under a rule; none, where the value isn't in the syntax
 abbrev pub key_at : SchemaModel → Rule → List ℕ → Option (List ℕ)

@@ -3,3 +3,4 @@ pub mod Meaning
 pub mod Parts
 pub mod Item
 pub mod Keyed
+pub mod NameValues

@@ -1,6 +1,6 @@
 -- Whether parts stand in a text: RFC 4517 4.2.6 and its kin, as a test. Texts flow in, a yes or no flows out; how parts are
 -- prepared is not here.
-use Rattle.std.specs.Prelude.{ℕ, ◌-◌, List, [], ◌∷◌, Bool, true, false, ◌&&◌, Option, length, take, drop}
+use Rattle.std.specs.Prelude.{ℕ, ◌-◌, List, [], ◌∷◌, Bool, true, ◌&&◌, Option, length, take, drop}
 use Rattle.std.specs.List.{list_any}
 use Rattle.std.specs.Str.{bytes_eq}
 use Rattle.ldap_syntax.specs.Parts.{part_or_nothing}

@@ -3,15 +3,16 @@
 #![tactic(auto)]
 
 mod keying;
+mod naming;
 mod parts;
+mod ruling;
 mod testing;
 mod truth;
 
-pub use keying::{
-    equality_rule, is_comparable, is_of_syntax, is_ordered, key, named_oid, ordering_rule,
-    substrings_rule,
-};
+pub use keying::{is_comparable, is_of_syntax, is_ordered, key};
+pub use naming::equal_values_are_one_name;
 pub use parts::{PartKeys, part_keys};
+pub use ruling::{ordering_rule, substrings_rule};
 pub use testing::{
     Test, at_least_test, at_most_test, equality_test, has_parts_of, item_on_attribute,
     substrings_test, tests_are_items,

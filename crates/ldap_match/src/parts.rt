@@ -2,7 +2,7 @@
 // no flows out. What must not be here: attributes, entries.
 
 ghost use Rattle.std.specs.Prelude.{◌≡◌, ℕ, List, None, Some, IfOk, IsErrOf, map};
-ghost use Rattle.std.specs.Option.{option_map};
+ghost use Rattle.std.specs.Option.{option_copied, option_map};
 ghost use Rattle.ldap_syntax.specs.Keys.{part_key_at};
 ghost use Rattle.ldap_syntax.specs.declared.preparing.Part.TheVariants.{Any};
 ghost use Rattle.ldap_match.specs.Parts.{PartsModel, has_parts};
@@ -36,6 +36,27 @@ impl PartKeys {
         ensures { result ≡ has_parts self.now key.now }
     {
         key.has_parts(self.initial.as_ref(), &self.any, self.last.as_ref())
+    }
+
+    /// The key of the initial part, if there is one.
+    pub fn initial(&self) -> Option<&Key>
+        ensures { option_copied result ≡ self.now.initial }
+    {
+        self.initial.as_ref()
+    }
+
+    /// The keys of the parts between, in order.
+    pub fn any(&self) -> &[Key]
+        ensures { result.now ≡ self.now.any }
+    {
+        self.any.as_slice()
+    }
+
+    /// The key of the final part, if there is one.
+    pub fn last(&self) -> Option<&Key>
+        ensures { option_copied result ≡ self.now.last }
+    {
+        self.last.as_ref()
     }
 }
 

@@ -11,12 +11,15 @@ ghost use Rattle.ldap_match.specs.Parts.{has_parts};
 ghost use Rattle.ldap_match.specs.Truth.{truth_of};
 ghost use Rattle.ldap_match.specs.Keyed.{key_at, test_for, test_value, AreKeysOf, is_same_key, is_key_at_least, is_key_at_most};
 
-use crate::keying::{equality_rule, key, ordering_rule, substrings_rule};
+use crate::keying::key;
 use crate::parts::{PartKeys, part_keys};
+use crate::ruling::{ordering_rule, substrings_rule};
 use crate::truth::Truth;
+use ldap_dn::name_keys_are_of_names;
 use ldap_schema::{Schema, TypeId};
 use ldap_syntax::{Key, Rule, ValueError, keys_compare, parts_compare};
 use std::alloc::{AllocError, Global};
+use value_keys::equality_rule;
 
 /// What an item asks of the attributes of one type, with the assertion's key under the rule of that type.
 #[derive(Drop)]
@@ -193,6 +196,7 @@ pub fn tests_are_items()
 {
     keys_compare();
     parts_compare();
+    name_keys_are_of_names();
 }
 
 /// The truth of what is decided.

@@ -28,6 +28,10 @@ telephone_rule = record { family = family.Telephone; syntax = syntax.TelephoneNu
 abbrev pub telephone_number_type : TypeModel
 telephone_number_type = record { oid = codes "2.5.4.20"; names = codes "telephoneNumber" ∷ []; superior = None; syntax = syntax.TelephoneNumber; equality = Some telephone_rule; ordering = None; substrings = Some telephone_rule; is_single_value = false }
 
+-- distinguishedNameMatch (RFC 4519 2.17)
+abbrev pub member_type : TypeModel
+member_type = record { oid = codes "2.5.4.31"; names = codes "member" ∷ []; superior = None; syntax = syntax.DistinguishedName; equality = Some (record { family = family.Name; syntax = syntax.DistinguishedName }); ordering = None; substrings = None; is_single_value = false }
+
 -- caseIgnoreIA5Match
 abbrev pub ia5_rule : Rule
 ia5_rule = record { family = family.Ia5; syntax = syntax.Ia5String }
@@ -40,7 +44,7 @@ label_type = record { oid = codes "2.25.20120201.1"; names = codes "label" ∷ [
 
 -- numericStringMatch in the place of label's caseIgnoreMatch, so label's ordering and substrings rules aren't inherited
 abbrev pub ticket_type : TypeModel
-ticket_type = record { oid = codes "2.25.20120201.2"; names = codes "ticket" ∷ []; superior = Some 9; syntax = syntax.NumericString; equality = Some (record { family = family.Numeric; syntax = syntax.NumericString }); ordering = None; substrings = None; is_single_value = false }
+ticket_type = record { oid = codes "2.25.20120201.2"; names = codes "ticket" ∷ []; superior = Some 10; syntax = syntax.NumericString; equality = Some (record { family = family.Numeric; syntax = syntax.NumericString }); ordering = None; substrings = None; is_single_value = false }
 
 abbrev pub integer_rule : Rule
 integer_rule = record { family = family.Integer; syntax = syntax.Integer }
@@ -72,10 +76,10 @@ named_types =
     ∷ name_type (codes "2.5.4.11") (codes "ou" ∷ [])
     ∷ []
 
--- numbers 6 to 14
+-- numbers 6 to 15
 abbrev pub own_types : List TypeModel
 own_types =
-    description_type ∷ telephone_number_type ∷ dc_type ∷ label_type ∷ ticket_type ∷ rank_type ∷ seen_type ∷ active_type ∷ blob_type ∷ []
+    description_type ∷ telephone_number_type ∷ member_type ∷ dc_type ∷ label_type ∷ ticket_type ∷ rank_type ∷ seen_type ∷ active_type ∷ blob_type ∷ []
 
 abbrev pub built_in_types : List TypeModel
 built_in_types = named_types ++ own_types
@@ -87,11 +91,11 @@ class_of oid name required allowed = record { oid = oid; names = name ∷ []; su
 abbrev pub built_in_classes : List ClassModel
 built_in_classes =
     record { oid = codes "2.5.6.0"; names = codes "top" ∷ []; superiors = []; kind = Abstract; required = 0 ∷ []; allowed = [] }
-    ∷ class_of (codes "0.9.2342.19200300.100.4.13") (codes "domain") (8 ∷ []) (6 ∷ 4 ∷ [])
+    ∷ class_of (codes "0.9.2342.19200300.100.4.13") (codes "domain") (9 ∷ []) (6 ∷ 4 ∷ [])
     ∷ class_of (codes "2.5.6.5") (codes "organizationalUnit") (5 ∷ []) (6 ∷ 7 ∷ [])
     ∷ class_of (codes "2.5.6.6") (codes "person") (3 ∷ 2 ∷ []) (6 ∷ 7 ∷ [])
-    ∷ class_of (codes "2.5.6.9") (codes "groupOfNames") (2 ∷ []) (6 ∷ [])
-    ∷ class_of (codes "2.25.20120202.1") (codes "item") (2 ∷ []) (9 ∷ 10 ∷ 11 ∷ 6 ∷ 12 ∷ 13 ∷ 14 ∷ [])
+    ∷ class_of (codes "2.5.6.9") (codes "groupOfNames") (8 ∷ 2 ∷ []) (6 ∷ [])
+    ∷ class_of (codes "2.25.20120202.1") (codes "item") (2 ∷ []) (10 ∷ 11 ∷ 12 ∷ 6 ∷ 13 ∷ 14 ∷ 15 ∷ [])
     ∷ []
 
 abbrev pub built_in : SchemaModel

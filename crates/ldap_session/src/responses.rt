@@ -21,16 +21,6 @@ use std::alloc::Global;
 /// responseName of the Notice of Disconnection (RFC 4511 4.4.1).
 const NOTICE_OF_DISCONNECTION: &str = "1.3.6.1.4.1.1466.20036";
 
-/// A code, and no name.
-pub fn only(alloc: Global, code: ResultCode) -> Reply
-    ensures { reply_view result ≡ only_code code }
-{
-    Reply {
-        code,
-        matched: String::new(alloc),
-    }
-}
-
 /// A result with a reply's code and matchedDN, and nothing else.
 pub fn result_of(alloc: Global, given: Reply) -> LdapResult
     ensures { result_view result ≡ outcome (reply_view given) }
@@ -93,6 +83,7 @@ pub fn search_responses(
         code,
         matched,
         entries,
+        ..
     } = answer;
     let done = Response::SearchDone(result_of(alloc, Reply { code, matched }));
     let mut responses = entry_responses(alloc, id, entries)?;
@@ -118,7 +109,7 @@ pub fn bind_response(alloc: Global, id: u32, code: ResultCode) -> Result<Vec<Vec
     one_response(
         alloc,
         id,
-        Response::Bind(result_of(alloc, only(alloc, code))),
+        Response::Bind(result_of(alloc, Reply::only(alloc, code))),
     )
 }
 
@@ -152,7 +143,7 @@ fn nameless(ldap_result: LdapResult) -> Response
 pub fn unrecognised(alloc: Global) -> Response
     ensures { response_view result ≡ without_name (outcome (only_code 2)) }
 {
-    nameless(result_of(alloc, only(alloc, ResultCode::PROTOCOL_ERROR)))
+    nameless(result_of(alloc, Reply::only(alloc, ResultCode::PROTOCOL_ERROR)))
 }
 
 /// The response of an update's own kind.
@@ -188,7 +179,7 @@ pub fn notice_of_disconnection(alloc: Global) -> Result<Vec<Vec<u8>>, AnswerErro
 {
     let response_name = String::from_str(alloc, NOTICE_OF_DISCONNECTION)?;
     let notice = ExtendedResponse {
-        result: result_of(alloc, only(alloc, ResultCode::PROTOCOL_ERROR)),
+        result: result_of(alloc, Reply::only(alloc, ResultCode::PROTOCOL_ERROR)),
         response_name: Some(response_name),
         response_value: None,
     };

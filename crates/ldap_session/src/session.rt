@@ -19,11 +19,11 @@ use crate::fault::AnswerError;
 use crate::identity::Identity;
 use crate::reading::request_of;
 use crate::responses::{
-    bind_response, compare_response, notice_of_disconnection, one_response, only, search_responses,
+    bind_response, compare_response, notice_of_disconnection, one_response, search_responses,
     unrecognised, update_response,
 };
 use crate::updating::make_update;
-use dir_store::Store;
+use dir_store::{Reply, Store};
 use ldap_dn::Name;
 use ldap_msg::{BindRequest, CompareRequest, Request, Response, ResultCode};
 use ldap_op::{Op, Update};
@@ -316,7 +316,7 @@ fn refuse_update(alloc: Global, id: u32, op: &Op, code: ResultCode) -> Result<An
     ensures too_long { IsErrOf result AnswerError.TooLong → HasTooLong (reply id (update_outcome op.now (outcome (only_code code))) ∷ []) }
 {
     Ok(Answered {
-        responses: update_response(alloc, id, op, only(alloc, code))?,
+        responses: update_response(alloc, id, op, Reply::only(alloc, code))?,
         next: Next::GoesOn,
     })
 }

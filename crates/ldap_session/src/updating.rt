@@ -9,7 +9,7 @@ ghost use Rattle.dir_store.specs.View.{reply_view};
 ghost use Rattle.ldap_session.specs.Replies.{reply, outcome, update_response as update_outcome, HasTooLong};
 
 use crate::fault::AnswerError;
-use crate::responses::{only, update_response};
+use crate::responses::update_response;
 use dir_store::{Reply, Store};
 use ldap_msg::ResultCode;
 use ldap_op::Op;
@@ -26,7 +26,7 @@ fn is_success(given: &Reply) -> bool
 fn success_response(alloc: Global, id: u32, op: &Op) -> Result<Vec<Vec<u8>>, AllocError>
     ensures { IfOk result (λ r. map (λ v. v.items) r.items ≡ message_bytes (reply id (update_outcome op.now (outcome (only_code 0)))) ∷ []) }
 {
-    match update_response(alloc, id, op, only(alloc, ResultCode::SUCCESS)) {
+    match update_response(alloc, id, op, Reply::only(alloc, ResultCode::SUCCESS)) {
         Ok(responses) => Ok(responses),
         Err(_) => Err(AllocError),
     }

@@ -14,13 +14,14 @@ use Rattle.ldap_syntax.specs.declared.rule.Family.TheVariants as family
 use Rattle.ldap_syntax.specs.declared.rule.Rule.{Rule}
 
 -- what a value means: a whole number of any size, a prepared text as its characters, a truth value, octets, an object
--- identifier
+-- identifier, or a name: its relative names, root first, each its types in rising order with the keys of their values
 pub data Meaning : Type 0 where
   number : ℤ → Meaning
   text : List ℕ → Meaning
   truth : Bool → Meaning
   octets : List ℕ → Meaning
   identifier : List ℕ → Meaning
+  name : List (List (ℕ × List ℕ)) → Meaning
 
 -- the prepared text that the octets spell; none, where they are no UTF-8
 abbrev pub spelled : Family → Part → List ℕ → Option (List ℕ)

@@ -14,6 +14,7 @@ attributeTypes: ( 2.5.4.10 NAME 'o' SUP name )
 attributeTypes: ( 2.5.4.11 NAME 'ou' SUP name )
 attributeTypes: ( 2.5.4.13 NAME 'description' EQUALITY caseIgnoreMatch SUBSTR caseIgnoreSubstringsMatch SYNTAX 1.3.6.1.4.1.1466.115.121.1.15 )
 attributeTypes: ( 2.5.4.20 NAME 'telephoneNumber' EQUALITY telephoneNumberMatch SUBSTR telephoneNumberSubstringsMatch SYNTAX 1.3.6.1.4.1.1466.115.121.1.50 )
+attributeTypes: ( 2.5.4.31 NAME 'member' EQUALITY distinguishedNameMatch SYNTAX 1.3.6.1.4.1.1466.115.121.1.12 )
 attributeTypes: ( 0.9.2342.19200300.100.1.25 NAME 'dc' EQUALITY caseIgnoreIA5Match SUBSTR caseIgnoreIA5SubstringsMatch SYNTAX 1.3.6.1.4.1.1466.115.121.1.26 SINGLE-VALUE )
 attributeTypes: ( 2.25.20120201.1 NAME 'label' EQUALITY caseIgnoreMatch ORDERING caseIgnoreOrderingMatch SUBSTR caseIgnoreSubstringsMatch SYNTAX 1.3.6.1.4.1.1466.115.121.1.15 )
 attributeTypes: ( 2.25.20120201.2 NAME 'ticket' SUP label EQUALITY numericStringMatch SYNTAX 1.3.6.1.4.1.1466.115.121.1.36 )
@@ -25,7 +26,7 @@ objectClasses: ( 2.5.6.0 NAME 'top' ABSTRACT MUST objectClass )
 objectClasses: ( 0.9.2342.19200300.100.4.13 NAME 'domain' SUP top STRUCTURAL MUST dc MAY ( description $ o ) )
 objectClasses: ( 2.5.6.5 NAME 'organizationalUnit' SUP top STRUCTURAL MUST ou MAY ( description $ telephoneNumber ) )
 objectClasses: ( 2.5.6.6 NAME 'person' SUP top STRUCTURAL MUST ( sn $ cn ) MAY ( description $ telephoneNumber ) )
-objectClasses: ( 2.5.6.9 NAME 'groupOfNames' SUP top STRUCTURAL MUST cn MAY description )
+objectClasses: ( 2.5.6.9 NAME 'groupOfNames' SUP top STRUCTURAL MUST ( member $ cn ) MAY description )
 objectClasses: ( 2.25.20120202.1 NAME 'item' SUP top STRUCTURAL MUST cn MAY ( label $ ticket $ rank $ description $ seen $ active $ blob ) )
 ";
 
@@ -88,10 +89,10 @@ fn are_same_classes(a: &Schema, b: &Schema, count: usize) -> bool {
     true
 }
 
-/// Whether a schema has 15 types and 6 classes, and no more.
+/// Whether a schema has 16 types and 6 classes, and no more.
 fn has_no_more(schema: &Schema) -> bool {
-    schema.count_of_types() == 15
-        && schema.attribute_type(TypeId::new(15)).is_none()
+    schema.count_of_types() == 16
+        && schema.attribute_type(TypeId::new(16)).is_none()
         && schema.object_class(ClassId::new(6)).is_none()
 }
 
@@ -99,7 +100,7 @@ fn has_no_more(schema: &Schema) -> bool {
 fn table_and_text(rt: HostRuntime) -> Result<(), SchemaError> {
     let table = Schema::built_in(rt.alloc())?;
     let read = Schema::read(rt.alloc(), TABLE)?;
-    assert!(rt; are_same_types(&table, &read, 15) && are_same_classes(&table, &read, 6));
+    assert!(rt; are_same_types(&table, &read, 16) && are_same_classes(&table, &read, 6));
     assert!(rt; has_no_more(&table) && has_no_more(&read));
     Ok(())
 }

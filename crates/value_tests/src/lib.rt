@@ -5,6 +5,8 @@
 #[cfg(test)]
 mod item_tests;
 #[cfg(test)]
+mod name_tests;
+#[cfg(test)]
 mod part_tests;
 #[cfg(test)]
 mod rule_tests;

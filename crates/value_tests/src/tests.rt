@@ -4,11 +4,12 @@
 use crate::sample::{F, T, U, add, has_values};
 use dir_entry::{Entry, EntryError};
 use ldap_filter::Filter;
-use ldap_match::{Truth, named_oid};
+use ldap_match::Truth;
 use ldap_schema::Schema;
 use ldap_syntax::ValueError;
 use std::alloc::{AllocError, Global};
 use std::test::*;
+use value_keys::named_oid;
 
 /// A description, an assertion, and the values of the item on the six entries.
 type Row = (&'static str, &'static str, [Truth; 6]);

@@ -1,4 +1,4 @@
-use Rattle.std.proofs.Common.{List, Option, ap, ◌∙◌}
+use Rattle.std.proofs.Common.{Option, ap, ◌∙◌}
 use Rattle.std.specs.List.{list_any}
 use Rattle.dir_entry.specs.Entry.{KeyedAttribute}
 use Rattle.dir_entry.specs.Compared.{values_held}

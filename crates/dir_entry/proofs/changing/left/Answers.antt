@@ -1,4 +1,4 @@
-use Rattle.std.proofs.Common.{List, Bool, ap, map, not, ◌∙◌}
+use Rattle.std.proofs.Common.{◌∙◌}
 use Rattle.dir_entry.specs.Editing.{holds}
 use Rattle.dir_entry.proofs.Picked.{kept_left}
 use Rattle.dir_entry.proofs.Keyed.{keyed_kept}

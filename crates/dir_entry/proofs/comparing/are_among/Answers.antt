@@ -1,4 +1,4 @@
-use Rattle.std.proofs.Common.{ℕ, Bor, List, Bool, map, ap, ap₂, ◌∙◌, ◌≡◌}
+use Rattle.std.proofs.Common.{ℕ, Bor, List, map, ap, ap₂, ◌∙◌}
 use Rattle.std.specs.List.{list_any}
 use Rattle.std.specs.Str.{bytes_eq}
 use Rattle.std.proofs.lemmas.Result.{IfOk-weaker}

@@ -1,4 +1,3 @@
-use Rattle.std.proofs.Common.{◌≡◌}
 use Rattle.dir_entry.proofs.Completed.{completed_more, keyed_more}
 use Rattle.dir_entry.proofs.completing.complete.Goals as goal
 

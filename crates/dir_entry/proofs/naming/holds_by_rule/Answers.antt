@@ -1,4 +1,4 @@
-use Rattle.std.proofs.Common.{List, Ok, ap, sym, ◌∙◌}
+use Rattle.std.proofs.Common.{Ok, ap, sym, ◌∙◌}
 use Rattle.std.specs.List.{list_any}
 use Rattle.std.specs.Str.{bytes_eq}
 use Rattle.dir_entry.proofs.Equivalents.{held_by_key, held_by_none}

@@ -1,4 +1,4 @@
-use Rattle.std.proofs.Common.{◌≡◌, sym, ◌∙◌}
+use Rattle.std.proofs.Common.{sym, ◌∙◌}
 use Rattle.dir_entry.proofs.Shown.{allowed_shown}
 use Rattle.dir_entry.proofs.obeying.are_allowed.Goals as goal
 

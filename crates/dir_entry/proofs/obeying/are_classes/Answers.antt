@@ -1,4 +1,4 @@
-use Rattle.std.proofs.Common.{◌≡◌, ℕ, Vec, Global, sym, ◌∙◌}
+use Rattle.std.proofs.Common.{ℕ, Vec, Global, sym, ◌∙◌}
 use Rattle.dir_entry.proofs.Shown.{classes_shown}
 use Rattle.dir_entry.proofs.obeying.are_classes.Goals as goal
 

@@ -1,4 +1,4 @@
-use Rattle.std.proofs.Common.{◌≡◌, sym, ◌∙◌}
+use Rattle.std.proofs.Common.{sym, ◌∙◌}
 use Rattle.dir_entry.proofs.Shown.{classed_shown}
 use Rattle.dir_entry.proofs.obeying.has_object_class.Goals as goal
 

@@ -1,4 +1,4 @@
-use Rattle.std.proofs.Common.{ℕ, ◌≡◌, ◌+◌, drop, not, nat_eq}
+use Rattle.std.proofs.Common.{◌≡◌, ◌+◌, drop, not, nat_eq}
 use Rattle.std.specs.List.{prefix_len}
 use Rattle.dir_entry.proofs.placing.count_before.Given as goal
 

@@ -1,6 +1,6 @@
-use Rattle.std.proofs.Common.{ℕ, List, Vec, Global, ap, ◌∙◌, subst, sym}
+use Rattle.std.proofs.Common.{ℕ, Vec, Global, ap, ◌∙◌, subst, sym}
 use Rattle.std.proofs.lemmas.Result.{IfOk-weaker}
-use Rattle.dir_entry.specs.Entry.{KeyedAttribute, attributes_of, IsKeyedBy}
+use Rattle.dir_entry.specs.Entry.{attributes_of, IsKeyedBy}
 use Rattle.dir_entry.proofs.Placed.{put_shown, keyed_inserted}
 use Rattle.dir_entry.proofs.placing.put_back.Goals as goal
 

@@ -1,5 +1,5 @@
 -- Each number is tried: its entry is skipped, shown, or one past the limit.
-use Rattle.std.proofs.Common.{◌≡◌, ◌+◌, ◌++◌, ◌∷◌, [], refl, sym, ap, ◌∙◌, subst, List, ℕ, Bool, true, false, map, filter, take, drop, length, string_bytes, String, Global, Some, None, slice_index_or}
+use Rattle.std.proofs.Common.{◌≡◌, ◌<◌, ◌+◌, ◌++◌, ◌∷◌, [], refl, sym, ap, ◌∙◌, subst, List, ℕ, Bool, true, false, map, filter, take, drop, length, string_bytes, String, Global, Some, None, slice_index_or, arith}
 use Rattle.std.proofs.lemmas.List.{map-append, length-map, get_or_default}
 use Rattle.ldap_filter.specs.View.{view as filter_view}
 use Rattle.ldap_msg.specs.Messages.{SearchResultEntryValue}
@@ -28,7 +28,7 @@ loop-number-preserved-in_default c =
     let tried = map named (entries_of (take i ks) d) in
     let shown = map entry_view c.loop-number.entries.items in
     let none : entry_at k d ≡ None = sym c.in_default.ensures in
-    subst (λ (l : List NamedEntry). SoFar (is_match s f) show c.args.request.now.size_limit l shown) (sym (tried_none d ks i k c.loop-number-test.true is none)) c.loop-number.invariant
+    (subst (λ (l : List NamedEntry). SoFar (is_match s f) show c.args.request.now.size_limit l shown) (sym (tried_none d ks i k c.loop-number-test.true is none)) c.loop-number.invariant.0, ap (λ (n : ℕ). n + 1) c.loop-number.invariant.1)
 
 pub loop-number-preserved-then-not-matches : goal.loop-number-preserved-then-not-matches
 loop-number-preserved-then-not-matches c =
@@ -44,9 +44,11 @@ loop-number-preserved-then-not-matches c =
     let shown = map entry_view c.loop-number.entries.items in
     let x = entered_of k c.in-Some.held.now in
     let there : entry_at k d ≡ Some x = sym c.in-Some.ensures in
-    let value = sym (c.matches.ensures s f c.requires.bound (keyed_at s d k x c.requires.keyed there)) in
-    subst (λ (l : List NamedEntry). SoFar (is_match s f) show c.args.request.now.size_limit l shown) (sym (tried_more d ks i k c.loop-number-test.true is x there))
-    (skips (is_match s f) show _ tried shown (named x) c.loop-number.invariant (value ∙ c.if-not-matches.true))
+    let value = sym (c.matches.ensures s f c.requires.bound (keyed_at s d k x c.requires.keyed there)) in (
+      subst (λ (l : List NamedEntry). SoFar (is_match s f) show c.args.request.now.size_limit l shown) (sym (tried_more d ks i k c.loop-number-test.true is x there))
+          (skips (is_match s f) show _ tried shown (named x) c.loop-number.invariant.0 (value ∙ c.if-not-matches.true)),
+      ap (λ (n : ℕ). n + 1) c.loop-number.invariant.1,
+    )
 
 pub returns-then-is_full : goal.returns-then-is_full
 returns-then-is_full c =
@@ -65,8 +67,14 @@ returns-then-is_full c =
     let value = sym (c.matches.ensures s f c.requires.bound (keyed_at s d k x c.requires.keyed there)) in
     let full = c.if-is_full.ensures.full in
     let size = length-map c.loop-number.entries.items entry_view ∙ ap length (sym c.as_slice.ensures.value) ∙ full.1 in
-    ended 4 (string_bytes c.new.result) shown c.new.ensures.bytes
-    ∙ sym (stops (is_match s f) show c.args.request.now.size_limit tried shown (named x) c.loop-number.invariant (value ∙ c.if-not-matches.false) full.0 size (map named (entries_of ks d)) (map named (entries_of (drop (i + 1) ks) d)) (all_are d ks i k c.loop-number-test.true is x there))
+    let counted : c.loop-number.tests ≡ i = c.loop-number.invariant.1 in
+    let lt : i < length ks = c.loop-number-test.true in
+    record {
+      shown = ended 4 (string_bytes c.new.result) shown c.new.ensures.bytes
+          ∙ sym (stops (is_match s f) show c.args.request.now.size_limit tried shown (named x) c.loop-number.invariant.0 (value ∙ c.if-not-matches.false) full.0 size (map named (entries_of ks d)) (map named (entries_of (drop (i + 1) ks) d)) (all_are d ks i k c.loop-number-test.true is x there));
+      tests = omega (arith, counted, lt);
+      all = λ h. absurd (cc h);
+    }
 
 pub loop-number-preserved : goal.loop-number-preserved
 loop-number-preserved c =
@@ -90,6 +98,8 @@ loop-number-preserved c =
     ap (λ (l : List SearchResultEntry). map entry_view l) c.in_ok-push.ensures.items
     ∙ map-append entry_view c.loop-number.entries.items (c.in_ok-entry.entry ∷ [])
     ∙ ap (λ (e : SearchResultEntryValue). shown ++ e ∷ []) entry in
-    let next = shows (is_match s f) show c.args.request.now.size_limit tried shown (named x) c.loop-number.invariant (value ∙ c.if-not-matches.false) (λ pos e. more pos (ap length c.as_slice.ensures.value ∙ sym size ∙ e)) in
-    subst (λ (l : List NamedEntry). SoFar (is_match s f) show c.args.request.now.size_limit l (map entry_view c.push.new.self.items)) (sym (tried_more d ks i k c.loop-number-test.true is x there))
-    (subst (λ (l : List SearchResultEntryValue). SoFar (is_match s f) show c.args.request.now.size_limit (tried ++ named x ∷ []) l) (sym pushed) next)
+    let next = shows (is_match s f) show c.args.request.now.size_limit tried shown (named x) c.loop-number.invariant.0 (value ∙ c.if-not-matches.false) (λ pos e. more pos (ap length c.as_slice.ensures.value ∙ sym size ∙ e)) in (
+      subst (λ (l : List NamedEntry). SoFar (is_match s f) show c.args.request.now.size_limit l (map entry_view c.push.new.self.items)) (sym (tried_more d ks i k c.loop-number-test.true is x there))
+          (subst (λ (l : List SearchResultEntryValue). SoFar (is_match s f) show c.args.request.now.size_limit (tried ++ named x ∷ []) l) (sym pushed) next),
+      ap (λ (n : ℕ). n + 1) c.loop-number.invariant.1,
+    )

@@ -1,4 +1,4 @@
-use Rattle.std.proofs.Common.{ap, sym, ◌∙◌, List, ℕ}
+use Rattle.std.proofs.Common.{ap, sym, ◌∙◌, List, ℕ, length}
 use Rattle.ldap_dn.specs.Names.{rdns}
 use Rattle.ldap_msg.specs.View.{search_view}
 use Rattle.dir_search.specs.Numbered.{found_of}
@@ -10,8 +10,9 @@ use Rattle.dir_search.proofs.searching.search_level.Goals as goal
 pub returns-then-is_unnamed : goal.returns-then-is_unnamed
 returns-then-is_unnamed c =
     let d = c.args.tree.now.entries in
-    answered c.search_root.result _ _
+    answered c.search_root.result _ _ _ _
     (ap (λ (ks : List ℕ). found_of c.args.schema.now (search_view c.args.request.now) ks d) (level_root (rdns c.args.tree.now.suffix) c.args.base.now d (sym c.is_unnamed.ensures ∙ c.if-is_unnamed.true)))
+    (ap (λ (ks : List ℕ). length ks) (level_root (rdns c.args.tree.now.suffix) c.args.base.now d (sym c.is_unnamed.ensures ∙ c.if-is_unnamed.true)))
     c.search_root.ensures
 
 -- another base is an entry's name

@@ -17,5 +17,5 @@ returns-then-is_front c =
 
 pub returns-else-is_front : goal.returns-else-is_front
 returns-else-is_front c =
-    if_ok (λ (n : List RdnModel). n ≡ take 0 c.args.name.now ++ c.args.name.now) (λ (n : List RdnModel). n ≡ name_after (rdns c.args.old.now) c.args.new.now c.args.name.now) c.joined-else-is_front.result
-    (λ n e. moved-off c.args.old.now c.args.new.now c.args.name.now n c.is_front.result c.if-is_front.false c.is_front.ensures e) c.joined-else-is_front.ensures
+    if_ok (λ (n : List RdnModel). n ≡ c.args.name.now) (λ (n : List RdnModel). n ≡ name_after (rdns c.args.old.now) c.args.new.now c.args.name.now) c.copied.result
+    (λ n e. moved-off c.args.old.now c.args.new.now c.args.name.now n c.is_front.result c.if-is_front.false c.is_front.ensures e) c.copied.ensures

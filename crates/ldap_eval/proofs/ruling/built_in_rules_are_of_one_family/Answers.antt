@@ -3,4 +3,4 @@ use Rattle.ldap_eval.proofs.ruling.built_in_rules_are_of_one_family.Goals as goa
 
 pub returns : goal.returns
 returns c =
-    (record { ordering = refl; substrings = refl }, (record { ordering = refl; substrings = refl }, (record { ordering = refl; substrings = refl }, (record { ordering = refl; substrings = refl }, (record { ordering = refl; substrings = refl }, (record { ordering = refl; substrings = refl }, (record { ordering = refl; substrings = refl }, (record { ordering = refl; substrings = refl }, (record { ordering = refl; substrings = refl }, (record { ordering = refl; substrings = refl }, (record { ordering = refl; substrings = refl }, (record { ordering = refl; substrings = refl }, (record { ordering = refl; substrings = refl }, (record { ordering = refl; substrings = refl }, (record { ordering = refl; substrings = refl }, tt)))))))))))))))
+    (record { ordering = refl; substrings = refl }, (record { ordering = refl; substrings = refl }, (record { ordering = refl; substrings = refl }, (record { ordering = refl; substrings = refl }, (record { ordering = refl; substrings = refl }, (record { ordering = refl; substrings = refl }, (record { ordering = refl; substrings = refl }, (record { ordering = refl; substrings = refl }, (record { ordering = refl; substrings = refl }, (record { ordering = refl; substrings = refl }, (record { ordering = refl; substrings = refl }, (record { ordering = refl; substrings = refl }, (record { ordering = refl; substrings = refl }, (record { ordering = refl; substrings = refl }, (record { ordering = refl; substrings = refl }, (record { ordering = refl; substrings = refl }, tt))))))))))))))))

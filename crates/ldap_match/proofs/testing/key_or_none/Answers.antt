@@ -4,5 +4,5 @@ use Rattle.ldap_match.proofs.testing.key_or_none.Goals as goal
 
 pub returns-in-Err-NotInSyntax : goal.returns-in-Err-NotInSyntax
 returns-in-Err-NotInSyntax c =
-    no_key c.args.schema.now c.args.rule c.args.value.now c.keys_compare.ensures.present c.keys_compare.ensures.equal
-    (c.key.ensures.not_in_syntax.0 (c.in-Err-NotInSyntax.is ∙ ap Err c.in-Err-NotInSyntax.field-0-is))
+    no_key c.args.schema.now c.args.rule c.args.value.now c.keys_compare.ensures.present
+    (c.key.ensures.not_in_syntax (c.in-Err-NotInSyntax.is ∙ ap Err c.in-Err-NotInSyntax.field-0-is))

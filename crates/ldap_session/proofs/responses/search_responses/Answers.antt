@@ -19,15 +19,15 @@ returns-clause-ok c =
     ap (λ (l : List (Vec ℕ Global)). map items_of l) c.in_ok-push.ensures.items
     ∙ map-append items_of c.in_ok-responses.responses.items (c.in_ok-write_response.field-0 ∷ [])
     ∙ replied c.args.store.now (search_view c.args.request.now) c.args.id (answer_view c.in_ok-answer.answer) (map items_of c.in_ok-responses.responses.items) c.in_ok-write_response.field-0.items
-    c.in_ok-answer.ensures c.in_ok-responses.ensures.ok
+    c.in_ok-answer.ensures.answer c.in_ok-responses.ensures.ok
     (c.in_ok-write_response.ensures.ok ∙ ap (λ (r : LdapResultValue). message_bytes (reply c.args.id (search_done r))) c.result_of.ensures)
 
 pub returns-in_err-responses-clause-too_long : goal.returns-in_err-responses-clause-too_long
 returns-in_err-responses-clause-too_long c =
     let p = err_from_is_err_and c.from_residual-in_err-responses.result c.from_residual-in_err-responses.ensures.1 in
-    rw (p.1, p.2) (λ h. entry_too_long c.args.store.now (search_view c.args.request.now) c.args.id (answer_view c.in_ok-answer.answer) c.in_ok-answer.ensures (c.in_err-responses.ensures.too_long h))
+    rw (p.1, p.2) (λ h. entry_too_long c.args.store.now (search_view c.args.request.now) c.args.id (answer_view c.in_ok-answer.answer) c.in_ok-answer.ensures.answer (c.in_err-responses.ensures.too_long h))
 
 pub returns-in_err-write_response-clause-too_long : goal.returns-in_err-write_response-clause-too_long
 returns-in_err-write_response-clause-too_long c =
     let p = err_from_is_err_and c.from_residual-in_err-write_response.result c.from_residual-in_err-write_response.ensures.1 in
-    rw (p.1, p.2) (λ h. done_too_long c.args.store.now (search_view c.args.request.now) c.args.id (answer_view c.in_ok-answer.answer) (result_view c.result_of.result) c.in_ok-answer.ensures c.result_of.ensures (c.in_err-write_response.ensures.too_long (same_error c.in_err-write_response.field-0.0 AnswerError.TooLong h)))
+    rw (p.1, p.2) (λ h. done_too_long c.args.store.now (search_view c.args.request.now) c.args.id (answer_view c.in_ok-answer.answer) (result_view c.result_of.result) c.in_ok-answer.ensures.answer c.result_of.ensures (c.in_err-write_response.ensures.too_long (same_error c.in_err-write_response.field-0.0 AnswerError.TooLong h)))

@@ -1,11 +1,11 @@
-use Rattle.std.proofs.Common.{ℕ, List, Option, Vec, Global, map, ◌≡◌, ap, sym, ◌∙◌}
+use Rattle.std.proofs.Common.{ℕ, Option, Vec, Global, map, ◌≡◌, ap, sym, ◌∙◌}
 use Rattle.ldap_syntax.specs.declared.rule.Rule.{Rule}
 use Rattle.ldap_schema.specs.Schema.{SchemaModel}
-use Rattle.ldap_match.specs.Item.{equality_of}
+use Rattle.value_keys.specs.Rules.{equality_of}
 use Rattle.std.proofs.lemmas.Result.{IfOk-weaker}
 use Rattle.std.specs.Str.{bytes_eq}
 use Rattle.dir_entry.specs.Entry.{KeyedAttribute}
-use Rattle.dir_entry.specs.Values.{has_twice, has_repeats}
+use Rattle.dir_entry.specs.Values.{has_twice}
 use Rattle.dir_entry.proofs.Equivalents.{by_keys, by_octets}
 use Rattle.dir_entry.proofs.attribute.Attribute.has_repeats.Goals as goal
 

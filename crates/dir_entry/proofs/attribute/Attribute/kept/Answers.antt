@@ -1,4 +1,4 @@
-use Rattle.std.proofs.Common.{ℕ, Vec, Global, List, map, ap, sym, ◌∙◌, ◌≡◌}
+use Rattle.std.proofs.Common.{ℕ, Vec, Global, map, ap, ◌∙◌}
 use Rattle.dir_entry.specs.Entry.{KeyedAttribute}
 use Rattle.dir_entry.specs.Compared.{picked}
 use Rattle.dir_entry.proofs.Picked.{map_picked}

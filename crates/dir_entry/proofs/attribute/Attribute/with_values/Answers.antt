@@ -1,4 +1,4 @@
-use Rattle.std.proofs.Common.{ℕ, false, Result, Ok, Err, Vec, Global, map, ◌≡◌, refl, ap, sym, ◌∙◌}
+use Rattle.std.proofs.Common.{ℕ, Result, Err, Vec, Global, ◌≡◌, ap, sym, ◌∙◌}
 use Rattle.std.proofs.lemmas.Result.{err_from_is_err_and}
 use Rattle.std.specs.List.{list_all}
 use Rattle.ldap_match.specs.Item.{is_of_syntax}

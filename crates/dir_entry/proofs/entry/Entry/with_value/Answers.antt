@@ -1,6 +1,5 @@
 use Rattle.std.proofs.Common.{ℕ, List, Vec, Global, [], ◌∷◌, map, ap, sym, ◌∙◌}
-use Rattle.dir_entry.specs.Entry.{KeyedAttribute, attributes_of}
-use Rattle.dir_entry.specs.Editing.{with_added}
+use Rattle.dir_entry.specs.Entry.{attributes_of}
 use Rattle.dir_entry.specs.Naming.{with_value}
 use Rattle.dir_entry.proofs.Joined.{joins, ok_by, refused_by}
 use Rattle.dir_entry.proofs.entry.Entry.with_value.Goals as goal

@@ -1,9 +1,8 @@
-use Rattle.std.proofs.Common.{ℕ, List, Vec, Global, Ok, map, true, refl, ap, sym, subst, ◌≡◌, ◌∙◌}
-use Rattle.std.specs.List.{list_all}
+use Rattle.std.proofs.Common.{ℕ, List, Vec, Global, Ok, map, refl, ap, sym, subst, ◌≡◌, ◌∙◌}
 use Rattle.std.proofs.lemmas.Result.{IfOk-weaker}
 use Rattle.dir_entry.specs.Entry.{AttributeModel, KeyedAttribute, attributes_of, IsKeyedBy}
 use Rattle.dir_entry.specs.Compared.{values_held}
-use Rattle.dir_entry.specs.Editing.{holds, without_values}
+use Rattle.dir_entry.specs.Editing.{without_values}
 use Rattle.dir_entry.proofs.Edited.{deleted, both_ok}
 use Rattle.dir_entry.proofs.entry.Entry.without_values.Goals as goal
 

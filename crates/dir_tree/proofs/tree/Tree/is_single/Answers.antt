@@ -1,8 +1,8 @@
-use Rattle.std.proofs.Common.{◌≡◌, subst, sym, refl, ap, ◌∙◌, Option, None, Some, List, ℕ}
+use Rattle.std.proofs.Common.{◌≡◌, subst, sym, refl, ap, ◌∙◌, Option, None, Some}
 use Rattle.std.specs.Option.{option_map}
 use Rattle.ldap_dn.specs.Names.{rdns}
 use Rattle.dir_tree.specs.Directory.{NameKey, Entered, TreeModel, name_eq, find, numbers, number_found}
-use Rattle.dir_tree.specs.Labelled.{Label, labels, label_of, label_at}
+use Rattle.dir_tree.specs.Labelled.{Label, labels, label_of}
 use Rattle.dir_tree.specs.Stored.{directory_of}
 use Rattle.dir_tree.proofs.Labelling.{numbers_found, label_at-find}
 use Rattle.dir_tree.proofs.Scoped.{one_named, number_of}

@@ -1,11 +1,14 @@
-use Rattle.std.proofs.Common.{◌≡◌, ℕ, List, sym, ap, subst, ◌∙◌}
+use Rattle.std.proofs.Common.{◌≡◌, ℕ, List, [], cond, filter, refl, sym, ap, subst, ◌∙◌}
 use Rattle.ldap_dn.specs.Names.{RdnModel, rdns}
-use Rattle.dir_tree.specs.Directory.{NameKey, Entered, TreeModel, moved}
-use Rattle.dir_tree.specs.Labelled.{LabelsDiffer}
-use Rattle.dir_tree.specs.Places.{place_of}
+use Rattle.dir_tree.specs.Directory.{NameKey, Entered, TreeModel, name_eq, begins, is_at_or_below, moved}
+use Rattle.dir_tree.specs.Labelled.{labels, numbers_in}
+use Rattle.dir_tree.specs.Places.{within_of}
 use Rattle.dir_tree.specs.Stored.{directory_of}
-use Rattle.dir_tree.specs.Renamed.{names_after, labels_of, with_names}
-use Rattle.dir_tree.proofs.MovedEntries.{MayMove, names-differ, moved-entries, moved_tree}
+use Rattle.dir_tree.specs.Kept.{IsTree, PlaceEntries, place_at}
+use Rattle.dir_tree.specs.Renamed.{entries_of, names_after, with_names, is_named, places_moved}
+use Rattle.dir_tree.proofs.Labelling.{rise-labels}
+use Rattle.dir_tree.proofs.MovedEntries.{MayMove, moved-entries}
+use Rattle.dir_tree.proofs.MovedPlaces.{number-is, numbers-are, subtree-are, fresh-names, renamed_tree}
 use Rattle.dir_tree.proofs.tree.Tree.rename.Goals as goal
 
 abbrev Names : Type 0
@@ -15,37 +18,59 @@ Names = List (ℕ × List RdnModel)
 granted : (s : List RdnModel) (d : List Entered) (t : TreeModel) (old : NameKey) (new : List RdnModel) (k : ℕ) → record { suffix = s; entries = d } ≡ t → MayMove (rdns t.suffix) old new k t.entries → MayMove (rdns s) old new k d
 granted s d t old new k h m = subst (λ (v : TreeModel). MayMove (rdns v.suffix) old new k v.entries) (sym h) m
 
-pub places_of-requires : goal.places_of-requires
-places_of-requires c =
-    let d : List Entered = directory_of c.self.inside.entries.entries in
-    let old : NameKey = rdns c.args.name.now in
-    let may = granted c.self.inside.suffix d c.args.self.now old c.args.new_name c.args.number c.self.view_is (record { here = c.requires.here; root = c.requires.root; parent = c.requires.parent; apart = c.requires.apart; free = c.requires.free }) in
-    let names : c.as_slice.result.now ≡ names_after old c.args.new_name d = c.as_slice.ensures.value ∙ c.in_ok-names.ensures ∙ ap (λ (n : List RdnModel). names_after old n d) c.rdns.ensures in
-    subst (λ (l : Names). LabelsDiffer (labels_of l)) (sym names) (names-differ c.self.inside.suffix old c.args.new_name c.args.number d c.self.inside.places.entries c.self.invariant may)
+-- the numbers that were copied are those of the subtree, and so are the entries
+the_numbers : (s : List RdnModel) (d : List Entered) (es : PlaceEntries) (old : NameKey) (new : List RdnModel) (k : ℕ) → IsTree s d es → MayMove (rdns s) old new k d → (ks : List ℕ) → ks ≡ within_of (place_at es old)
+    → (ks ≡ numbers_in (begins old) (labels d)) × (entries_of ks d ≡ filter (is_at_or_below old) d)
+the_numbers s d es old new k t m ks h =
+    let e : ks ≡ numbers_in (begins old) (labels d) = h ∙ numbers-are s old d es k t (number-is s old new [] k d (moved old new [] d) es es t m refl) in
+    (e, subtree-are old d ks (rise-labels d t.whole.rise) e)
 
-pub invariant_of-self : goal.invariant_of-self
-invariant_of-self c =
+pub rename_places-requires-clause-fresh : goal.rename_places-requires-clause-fresh
+rename_places-requires-clause-fresh c = λ apart q named.
     let d : List Entered = directory_of c.self.inside.entries.entries in
+    let es : PlaceEntries = c.self.inside.places.entries in
     let s : List RdnModel = c.self.inside.suffix in
     let old : NameKey = rdns c.args.name.now in
     let new : List RdnModel = c.args.new_name in
-    let may = granted s d c.args.self.now old new c.args.number c.self.view_is (record { here = c.requires.here; root = c.requires.root; parent = c.requires.parent; apart = c.requires.apart; free = c.requires.free }) in
-    let given : c.in_ok-names.names.items ≡ names_after old new d = c.in_ok-names.ensures ∙ ap (λ (n : List RdnModel). names_after old n d) c.rdns.ensures in
-    let slice : c.as_slice.result.now ≡ names_after old new d = c.as_slice.ensures.value ∙ given in
-    let entries = moved-entries s old new c.args.new_entry c.args.number d c.self.inside.places.entries c.self.invariant may (directory_of c.set_names.new.entries.entries) (directory_of c.set_entry.new.entries.entries)
+    let k : ℕ = c.args.number in
+    let may = granted s d c.args.self.now old new k c.self.view_is (record { here = c.requires.here; root = c.requires.root; parent = c.requires.parent; apart = c.requires.apart; free = c.requires.free }) in
+    let ks : List ℕ = c.as_slice-numbers.result.now in
+    let two = the_numbers s d es old new k c.self.invariant may ks (c.as_slice-numbers.ensures.value ∙ c.in_ok-numbers.ensures) in
+    let names : c.as_slice-renamed.result.now ≡ names_after old new (entries_of ks d) = c.as_slice-renamed.ensures.value ∙ c.in_ok-names.ensures ∙ ap (λ (n : List RdnModel). names_after old n (entries_of ks d)) c.rdns-new.ensures in
+    fresh-names s old new [] k d (moved old new [] d) es es c.self.invariant may refl
+    (ap (λ (n : List RdnModel). name_eq old (rdns n)) (sym c.rdns-new.ensures) ∙ apart) (entries_of ks d) two.1 q (ap (λ (l : Names). is_named q l) (sym names) ∙ named)
+
+pub invariant_of-self-2 : goal.invariant_of-self-2
+invariant_of-self-2 c =
+    let d : List Entered = directory_of c.self.inside.entries.entries in
+    let es : PlaceEntries = c.self.inside.places.entries in
+    let s : List RdnModel = c.self.inside.suffix in
+    let old : NameKey = rdns c.args.name.now in
+    let new : List RdnModel = c.args.new_name in
+    let k : ℕ = c.args.number in
+    let may = granted s d c.args.self.now old new k c.self.view_is (record { here = c.requires.here; root = c.requires.root; parent = c.requires.parent; apart = c.requires.apart; free = c.requires.free }) in
+    let ks : List ℕ = c.as_slice-numbers.result.now in
+    let two = the_numbers s d es old new k c.self.invariant may ks (c.as_slice-numbers.ensures.value ∙ c.in_ok-numbers.ensures) in
+    let given : c.in_ok-names.names.items ≡ names_after old new (filter (is_at_or_below old) d) = c.in_ok-names.ensures ∙ ap (λ (n : List RdnModel). names_after old n (entries_of ks d)) c.rdns-new.ensures ∙ ap (names_after old new) two.1 in
+    let entries = moved-entries s old new c.args.new_entry k d es c.self.invariant may (directory_of c.set_names.new.entries.entries) (directory_of c.set_entry.new.entries.entries)
     (c.set_names.ensures ∙ ap (λ (l : Names). with_names l d) given) c.set_entry.ensures in
-    moved_tree s old new c.args.new_entry c.args.number d (directory_of c.set_entry.new.entries.entries) c.self.inside.places.entries c.in_ok-places.places.entries c.self.invariant may entries
-    (λ q. c.in_ok-places.ensures q ∙ ap (λ (l : Names). place_of q (labels_of l)) slice)
+    renamed_tree s old new c.args.new_entry k d (directory_of c.set_entry.new.entries.entries) es c.rename_places.new.places.entries c.self.invariant may entries
+    ks two.0 (entries_of ks d) two.1
+    (λ q. c.in_ok-rename_places.ensures.ok q ∙ ap (λ (n : List RdnModel). cond (name_eq old (rdns n)) (place_at es q) (places_moved k ks old (rdns n) (entries_of ks d) (place_at es) q)) c.rdns-new.ensures)
 
 pub returns-clause-ok : goal.returns-clause-ok
 returns-clause-ok c =
     let d : List Entered = directory_of c.self.inside.entries.entries in
+    let es : PlaceEntries = c.self.inside.places.entries in
     let s : List RdnModel = c.self.inside.suffix in
     let old : NameKey = rdns c.args.name.now in
     let new : List RdnModel = c.args.new_name in
-    let may = granted s d c.args.self.now old new c.args.number c.self.view_is (record { here = c.requires.here; root = c.requires.root; parent = c.requires.parent; apart = c.requires.apart; free = c.requires.free }) in
-    let given : c.in_ok-names.names.items ≡ names_after old new d = c.in_ok-names.ensures ∙ ap (λ (n : List RdnModel). names_after old n d) c.rdns.ensures in
-    let entries = moved-entries s old new c.args.new_entry c.args.number d c.self.inside.places.entries c.self.invariant may (directory_of c.set_names.new.entries.entries) (directory_of c.set_entry.new.entries.entries)
+    let k : ℕ = c.args.number in
+    let may = granted s d c.args.self.now old new k c.self.view_is (record { here = c.requires.here; root = c.requires.root; parent = c.requires.parent; apart = c.requires.apart; free = c.requires.free }) in
+    let ks : List ℕ = c.as_slice-numbers.result.now in
+    let two = the_numbers s d es old new k c.self.invariant may ks (c.as_slice-numbers.ensures.value ∙ c.in_ok-numbers.ensures) in
+    let given : c.in_ok-names.names.items ≡ names_after old new (filter (is_at_or_below old) d) = c.in_ok-names.ensures ∙ ap (λ (n : List RdnModel). names_after old n (entries_of ks d)) c.rdns-new.ensures ∙ ap (names_after old new) two.1 in
+    let entries = moved-entries s old new c.args.new_entry k d es c.self.invariant may (directory_of c.set_names.new.entries.entries) (directory_of c.set_entry.new.entries.entries)
     (c.set_names.ensures ∙ ap (λ (l : Names). with_names l d) given) c.set_entry.ensures in
     ap (λ (l : List Entered). let t : TreeModel = record { suffix = s; entries = l } in t) entries
     ∙ ap (λ (t : TreeModel). let v : TreeModel = record { suffix = t.suffix; entries = moved old new c.args.new_entry t.entries } in v) c.self.view_is

@@ -1,0 +1,24 @@
+use Rattle.std.proofs.Common.{ℕ, Bool, Bor, List, take, not, nat_eq, sym, ap, ◌∙◌}
+use Rattle.std.specs.Prelude.{◌&&◌}
+use Rattle.dir_index.specs.declared.posting.Posting.{Posting}
+use Rattle.dir_index.specs.Ordered.{is_same_posting}
+use Rattle.dir_index.specs.Marked.{is_marked}
+use Rattle.dir_index.specs.Stored.{seen, is_in}
+use Rattle.dir_index.proofs.Bulk.{behind, marked_take, turned_out, out_step}
+use Rattle.dir_index.proofs.changing.strike_all.Goals as goal
+
+pub loop-posting-preserved : goal.loop-posting-preserved
+loop-posting-preserved c =
+    let ps : List (Bor Posting) = c.args.postings.now in
+    let i : ℕ = c.loop-posting.posting-index in
+    let k : Posting = c.posting-item.result.now in
+    record {
+      rising = c.strike.ensures.rising;
+      has = λ p n.
+          let e : Bool = nat_eq n c.args.number in
+          let o : Bool = is_in (seen c.args.table.now.entries) p n in
+          c.strike.ensures.has p n ∙ turned_out p k e (is_in (seen c.loop-posting.table.entries) p n)
+          ∙ ap (λ (b : Bool). not (is_same_posting k p && e) && b) (c.loop-posting.invariant.has p n)
+          ∙ out_step (is_same_posting k p) (is_marked (behind (take i ps)) p) e o
+          ∙ ap (λ (b : Bool). not (b && e) && o) (sym (marked_take ps i c.posting-item.result p c.loop-posting-test.true c.posting-item.is));
+    }

@@ -1,0 +1,10 @@
+pub mod Begun
+pub mod Columns
+pub mod Marked
+pub mod Ordered
+pub mod OrderLaws
+pub mod Places
+pub mod Postings
+pub mod Ranges
+pub mod Stored
+pub mod Whole

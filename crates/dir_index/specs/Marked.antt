@@ -1,0 +1,52 @@
+-- The postings that list an entry, as a set. Lists of numbers are not here.
+use Rattle.std.specs.Prelude.{ℕ, List, Bool, false, ◌&&◌, ◌||◌, nat_eq, length}
+use Rattle.std.specs.List.{list_any}
+use Rattle.ldap_match.specs.Keyed.{is_same_key}
+use Rattle.ldap_match.specs.Parts.{is_at_start}
+use Rattle.dir_entry.specs.Entry.{KeyedAttribute}
+use Rattle.index_choice.specs.declared.kinds.Kinds.{Kinds}
+use Rattle.index_choice.specs.Choice.{kinds_of}
+use Rattle.dir_index.specs.declared.posting.Posting.{Posting}
+use Rattle.dir_index.specs.declared.posting.Posting.TheVariants.{Present, Equal, Run}
+use Rattle.dir_index.specs.Postings.{is_kept, is_listed, stands_in}
+use Rattle.dir_index.specs.Ordered.{is_same_posting}
+
+-- whether a posting is among these
+abbrev pub is_marked : List Posting → Posting → Bool
+is_marked ks p = list_any (λ k. is_same_posting k p) ks
+
+-- whether a posting is one that is kept and lists the entry
+abbrev pub lists_entry : List Kinds → List KeyedAttribute → Posting → Bool
+lists_entry ix e p = is_kept ix p && is_listed p e
+
+-- whether a posting is of the first three octets of the key
+abbrev pub is_first_run : ℕ → List ℕ → Posting → Bool
+is_first_run t k (Present u) = false
+is_first_run t k (Equal u l) = false
+is_first_run t k (Run u g) = nat_eq t u && (nat_eq (length g) 3 && is_at_start g k)
+
+-- whether a posting is of a run of three octets of the key
+abbrev pub is_run_of : ℕ → List ℕ → Posting → Bool
+is_run_of t k (Present u) = false
+is_run_of t k (Equal u l) = false
+is_run_of t k (Run u g) = nat_eq t u && (nat_eq (length g) 3 && stands_in g k)
+
+-- whether a posting is of the key itself
+abbrev pub is_of_key : ℕ → List ℕ → Posting → Bool
+is_of_key t k (Present u) = false
+is_of_key t k (Equal u l) = nat_eq t u && is_same_key l k
+is_of_key t k (Run u g) = false
+
+-- whether a posting is one of the key's, under the kinds of its type
+abbrev pub is_from_key : Kinds → ℕ → Posting → List ℕ → Bool
+is_from_key ks t p k = ((ks.equality || ks.ordering) && is_of_key t k p) || (ks.substrings && is_run_of t k p)
+
+-- whether a posting is that of the attribute's presence, under the kinds of its type
+abbrev pub is_from_presence : Kinds → ℕ → Posting → Bool
+is_from_presence ks t (Present u) = ks.presence && nat_eq t u
+is_from_presence ks t (Equal u l) = false
+is_from_presence ks t (Run u g) = false
+
+-- whether a posting is one of the attribute's
+abbrev pub is_from_attribute : List Kinds → KeyedAttribute → Posting → Bool
+is_from_attribute ix a p = is_from_presence (kinds_of ix a.kind) a.kind p || list_any (is_from_key (kinds_of ix a.kind) a.kind p) a.keys

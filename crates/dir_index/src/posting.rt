@@ -1,0 +1,24 @@
+// What posting lists are asked by. Plain data, made by plans.
+// What must not be here: the lists.
+
+use ldap_schema::TypeId;
+use ldap_syntax::Key;
+
+/// A list of numbers that an index keeps.
+#[derive(Drop)]
+pub enum Posting {
+    /// The entries with an attribute of the type.
+    Present(TypeId),
+    /// The entries with a value of the type that has this key.
+    Equal(TypeId, Key),
+    /// The entries with a value of the type whose key has these three octets one after the other.
+    Run(TypeId, [u8; 3]),
+}
+
+/// The keys of a type's values from one to another, both included; none is no bound.
+#[derive(Drop)]
+pub struct Range {
+    pub type_id: TypeId,
+    pub from: Option<Key>,
+    pub upto: Option<Key>,
+}

@@ -1,0 +1,5 @@
+use Rattle.ldap_match.proofs.Named.{equal_values}
+use Rattle.ldap_match.proofs.naming.equal_values_are_one_name.Goals as goal
+
+pub returns : goal.returns
+returns c = equal_values

@@ -1,0 +1,11 @@
+pub mod Descriptions
+pub mod Records
+pub mod Written
+pub mod Lines
+pub mod Folding
+pub mod Says
+pub mod Said
+pub mod Reading
+pub mod Faults
+pub mod Content
+pub mod RoundTrip

@@ -1,0 +1,68 @@
+-- LDIF: records from what the lines of a text say.
+-- In: octets. Out: records, or the number of the first line that is wrong. Not here: how a line is taken apart.
+use Rattle.std.specs.Prelude.{ℕ, List, [], ◌∷◌, ◌++◌, Bool, true, false, cond, ◌&&◌, Option, None, Some, nat_eq, codes}
+use Rattle.std.specs.declared.result.Result.{Result}
+use Rattle.std.specs.declared.result.Result.TheVariants.{Ok, Err}
+use Rattle.ldif.specs.Descriptions.{is_same_word}
+use Rattle.ldif.specs.Records.{ValueModel, RecordModel}
+use Rattle.ldif.specs.Lines.{LineModel, lines_of}
+use Rattle.ldif.specs.Says.{Says, blank, comment, named, valued, wrong, line_says}
+
+-- what was read so far: whole records, the one that stands open, and whether a version or a record has come
+pub record ReadingModel : Type 0 where
+  pub done : List RecordModel
+  pub current : Option RecordModel
+  pub begun : Bool
+
+abbrev pub with_open : List RecordModel → Option RecordModel → List RecordModel
+with_open rs None = rs
+with_open rs (Some r) = rs ++ r ∷ []
+
+-- an empty line ends the open record (RFC 2849, SEP between records)
+abbrev pub after_blank : ReadingModel → ReadingModel
+after_blank s = record { done = with_open s.done s.current; current = None; begun = s.begun }
+
+-- a name begins a record, and stands in no other one (RFC 2849, ldif-attrval-record)
+abbrev pub after_name : ReadingModel → List ℕ → Option RecordModel → Option ReadingModel
+after_name s name None = Some (record { done = s.done; current = Some (record { name = name; values = [] }); begun = true })
+after_name s name (Some r) = None
+
+-- `1`
+abbrev pub is_one : List ℕ → Bool
+is_one [] = false
+is_one (c ∷ []) = nat_eq c 49
+is_one (c ∷ d ∷ ds) = false
+
+-- whether a value is the version 1 (RFC 2849, version-spec)
+abbrev pub is_version : ValueModel → Bool
+is_version v = is_same_word v.description (codes "version") && is_one v.octets
+
+-- a value is its record's; before all else it may be the version
+abbrev pub after_value : ReadingModel → ValueModel → Option RecordModel → Option ReadingModel
+after_value s v None = cond s.begun None (cond (is_version v) (Some (record { done = s.done; current = None; begun = true })) None)
+after_value s v (Some r) = Some (record { done = s.done; current = Some (record { name = r.name; values = r.values ++ v ∷ [] }); begun = s.begun })
+
+-- after one more line
+abbrev pub after_line : ReadingModel → Says → Option ReadingModel
+after_line s blank = Some (after_blank s)
+after_line s comment = Some s
+after_line s (named name) = after_name s name s.current
+after_line s (valued v) = after_value s v s.current
+after_line s wrong = None
+
+-- what follows, or the number of the line that has no meaning there
+abbrev pub or_wrong : Option ReadingModel → ℕ → (ReadingModel → Result (List RecordModel) ℕ) → Result (List RecordModel) ℕ
+or_wrong None n go = Err n
+or_wrong (Some s) n go = go s
+
+-- the records of the lines that follow, after what was read
+abbrev pub read_from : ReadingModel → List LineModel → Result (List RecordModel) ℕ
+read_from s [] = Ok (with_open s.done s.current)
+read_from s (l ∷ ls) = or_wrong (after_line s (line_says l.text)) l.number (λ t. read_from t ls)
+
+abbrev pub nothing_read : ReadingModel
+nothing_read = record { done = []; current = None; begun = false }
+
+-- The records of a text, or the number of its first line that is wrong.
+abbrev pub records_of : List ℕ → Result (List RecordModel) ℕ
+records_of text = read_from nothing_read (lines_of text)

@@ -1,0 +1,132 @@
+//! LDIF: what was read so far.
+//! In: what lines say, one after the other. Out: records. Not here: how a line is taken apart.
+
+ghost use Rattle.std.specs.Prelude.{◌≡◌, Some, IfOk, IfErr, OnOk, string_bytes};
+ghost use Rattle.ldif.specs.Reading as specs;
+ghost use Rattle.ldif.specs.Said.{said_of};
+ghost use Rattle.ldif.specs.Faults.{IsLineFault};
+
+use crate::describing::is_same_word;
+use crate::fault::LdifError;
+use crate::record::{AttributeValue, Record};
+use crate::saying::Said;
+use std::alloc::{AllocError, Global};
+use std::marker::Model;
+
+/// What was read so far: whole records, the one that stands open, and whether a version or a record has come.
+#[derive(Drop)]
+pub struct Reading {
+    done: Vec<Record>,
+    current: Option<Record>,
+    begun: bool,
+}
+
+impl Model for Reading {
+    ghost use Rattle.ldif.specs.Reading.{ReadingModel};
+
+    ghost Value = { ReadingModel };
+
+    ghost view = { λ s. record { done = s.done.items; current = s.current; begun = s.begun } };
+}
+
+/// Whether a value is the version 1.
+fn is_version(value: &AttributeValue) -> bool
+    ensures { result ≡ specs.is_version value.now }
+{
+    is_same_word(value.description().as_bytes(), b"version") && is_one(value.octets())
+}
+
+/// Whether the octets are `1`.
+fn is_one(octets: &[u8]) -> bool
+    ensures { result ≡ specs.is_one octets.now }
+{
+    match octets {
+        [digit] => *digit == b'1',
+        _ => false,
+    }
+}
+
+impl Reading {
+    /// Nothing was read.
+    pub fn new(alloc: Global) -> Reading
+        ensures { result ≡ specs.nothing_read }
+    {
+        Reading {
+            done: Vec::new(alloc),
+            current: None,
+            begun: false,
+        }
+    }
+
+    /// Ends the record that stands open.
+    fn close(&mut self) -> Result<(), AllocError>
+        ensures { OnOk result (self.new ≡ specs.after_blank self.old) }
+    {
+        match self.current.take() {
+            Some(whole) => {
+                self.done.push(whole)?;
+            }
+            None => {}
+        }
+        Ok(())
+    }
+
+    /// Begins a record.
+    fn put_name(&mut self, alloc: Global, name: String, line: usize) -> Result<(), LdifError>
+        ensures taken { OnOk result (specs.after_name self.old (string_bytes name) self.old.current ≡ Some self.new) }
+        ensures refused { IfErr result (λ e. IsLineFault e (specs.after_name self.old (string_bytes name) self.old.current) line) }
+    {
+        match self.current.take() {
+            Some(_) => Err(LdifError::BadLdif { line }),
+            None => {
+                self.current = Some(Record::new(name, Vec::new(alloc)));
+                self.begun = true;
+                Ok(())
+            }
+        }
+    }
+
+    /// Takes a value of the record that stands open, or the version before all else.
+    fn put_value(&mut self, value: AttributeValue, line: usize) -> Result<(), LdifError>
+        ensures taken { OnOk result (specs.after_value self.old value self.old.current ≡ Some self.new) }
+        ensures refused { IfErr result (λ e. IsLineFault e (specs.after_value self.old value self.old.current) line) }
+    {
+        match self.current.take() {
+            Some(mut whole) => {
+                whole.push(value)?;
+                self.current = Some(whole);
+                Ok(())
+            }
+            None => {
+                if self.begun || !is_version(&value) {
+                    return Err(LdifError::BadLdif { line });
+                }
+                self.begun = true;
+                Ok(())
+            }
+        }
+    }
+
+    /// Takes what one more line says.
+    pub fn put(&mut self, alloc: Global, said: Said, line: usize) -> Result<(), LdifError>
+        ensures taken { OnOk result (specs.after_line self.old (said_of said) ≡ Some self.new) }
+        ensures refused { IfErr result (λ e. IsLineFault e (specs.after_line self.old (said_of said)) line) }
+    {
+        match said {
+            Said::Blank => Ok(self.close()?),
+            Said::Comment => Ok(()),
+            Said::Name(name) => self.put_name(alloc, name, line),
+            Said::Value(value) => self.put_value(value, line),
+            Said::Wrong => Err(LdifError::BadLdif { line }),
+        }
+    }
+
+    /// The records that were read.
+    pub fn finish(self) -> Result<Vec<Record>, AllocError>
+        ensures { IfOk result (λ v. v.items ≡ specs.with_open self.done self.current) }
+    {
+        let mut reading = self;
+        reading.close()?;
+        Ok(reading.done)
+    }
+}

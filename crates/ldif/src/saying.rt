@@ -1,0 +1,147 @@
+//! LDIF: what one line says.
+//! In: a line's octets, unfolded. Out: a name, a value, nothing, or that it is wrong. Not here: records.
+
+ghost use Rattle.std.specs.Prelude.{◌≡◌, ◌+◌, option_map, nat_eq, position, false, true, IfOk, MatchOption};
+ghost use Rattle.std.specs.Result.{result_ok};
+ghost use Rattle.std.specs.Str.{is_utf8};
+ghost use Rattle.base64.specs.Engines.{standard};
+ghost use Rattle.base64.specs.GeneralPurpose.{decode_of};
+ghost use Rattle.ldif.specs.Says as says;
+ghost use Rattle.ldif.specs.Said.{said_of};
+
+use crate::describing::{is_dn, is_type};
+use crate::record::AttributeValue;
+use base64::DecodeAllocError;
+use base64::engine::general_purpose::STANDARD;
+use std::alloc::{AllocError, Global};
+
+/// What a line says.
+#[derive(Drop)]
+pub enum Said {
+    /// Nothing; it ends a record.
+    Blank,
+    /// Nothing; it is skipped.
+    Comment,
+    /// A record's name.
+    Name(String),
+    /// A value.
+    Value(AttributeValue),
+    /// Nothing of the profile.
+    Wrong,
+}
+
+/// The octets behind the spaces at the front.
+fn past_spaces(octets: &[u8]) -> &[u8]
+    ensures { result.now ≡ says.past_spaces octets.now }
+{
+    for (at, octet) in octets.iter().enumerate() {
+        if *octet != b' ' {
+            return &octets[at..];
+        }
+    }
+    &[]
+}
+
+/// The octets that base64 stands for, where it is base64.
+fn decoded(alloc: Global, text: &[u8]) -> Result<Option<Vec<u8>>, AllocError>
+    ensures { IfOk result (λ o. option_map (λ v. v.items) o ≡ result_ok (decode_of standard text.now)) }
+{
+    match STANDARD.decode(alloc, text) {
+        Ok(octets) => Ok(Some(octets)),
+        Err(DecodeAllocError::DecodeError(_)) => Ok(None),
+        Err(DecodeAllocError::OutOfMemory) => Err(AllocError),
+    }
+}
+
+/// The octets of what stands behind a type's colon.
+fn octets_of(alloc: Global, part: &[u8]) -> Result<Option<Vec<u8>>, AllocError>
+    ensures { IfOk result (λ o. option_map (λ v. v.items) o ≡ says.octets_of part.now) }
+{
+    match part {
+        [] => Ok(Some(Vec::new(alloc))),
+        [b':', rest @ ..] => decoded(alloc, past_spaces(rest)),
+        [b'<', ..] => Ok(None),
+        _ => Ok(Some(Vec::from_slice(alloc, past_spaces(part))?)),
+    }
+}
+
+/// The octets as text.
+fn text_of(octets: &[u8]) -> Option<&str>
+    ensures { MatchOption result (is_utf8 octets.now ≡ false)
+        (λ t. (is_utf8 octets.now ≡ true) × (t.now ≡ octets.now)) }
+{
+    match std::str::from_utf8(octets) {
+        Ok(text) => Some(text),
+        Err(_) => None,
+    }
+}
+
+/// What a name's line says.
+fn name_said(alloc: Global, octets: &[u8]) -> Result<Said, AllocError>
+    ensures { IfOk result (λ s. said_of s ≡ says.name_says octets.now) }
+{
+    match text_of(octets) {
+        Some(text) => Ok(Said::Name(String::from_str(alloc, text)?)),
+        None => Ok(Said::Wrong),
+    }
+}
+
+/// What a value's line says.
+fn value_said(alloc: Global, word: &[u8], octets: Vec<u8>) -> Result<Said, AllocError>
+    ensures { IfOk result (λ s. said_of s ≡ says.value_says word.now octets.items) }
+{
+    if !is_type(alloc, word)? {
+        return Ok(Said::Wrong);
+    }
+    match text_of(word) {
+        Some(description) => {
+            let description = String::from_str(alloc, description)?;
+            Ok(Said::Value(AttributeValue::new(description, octets)))
+        }
+        None => Ok(Said::Wrong),
+    }
+}
+
+/// What a line of a type and a value says.
+fn pair_said(alloc: Global, word: &[u8], part: &[u8]) -> Result<Said, AllocError>
+    ensures { IfOk result (λ s. said_of s ≡ says.pair_says word.now (says.octets_of part.now)) }
+{
+    match octets_of(alloc, part)? {
+        None => Ok(Said::Wrong),
+        Some(octets) => {
+            if is_dn(word) {
+                name_said(alloc, octets.as_slice())
+            } else {
+                value_said(alloc, word, octets)
+            }
+        }
+    }
+}
+
+/// Where the first colon stands.
+fn colon(octets: &[u8]) -> Option<usize>
+    ensures { result ≡ position (nat_eq 58) octets.now }
+{
+    octets.iter().position(|octet| b':' == *octet)
+}
+
+/// What a line says that is neither empty nor a comment.
+fn colon_said(alloc: Global, line: &[u8]) -> Result<Said, AllocError>
+    ensures { IfOk result (λ s. said_of s ≡ says.colon_says line.now (position (nat_eq 58) line.now)) }
+{
+    match colon(line) {
+        None => Ok(Said::Wrong),
+        Some(at) => pair_said(alloc, &line[..at], &line[at + 1..]),
+    }
+}
+
+/// What a line says.
+pub fn line_said(alloc: Global, line: &[u8]) -> Result<Said, AllocError>
+    ensures { IfOk result (λ s. said_of s ≡ says.line_says line.now) }
+{
+    match line {
+        [] => Ok(Said::Blank),
+        [b'#', ..] => Ok(Said::Comment),
+        _ => colon_said(alloc, line),
+    }
+}

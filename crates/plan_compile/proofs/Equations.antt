@@ -1,0 +1,56 @@
+-- What the folds give at each variant of a filter.
+use Rattle.std.proofs.Common.{◌≡◌, Bool, true, List, map, Vec, Box, Global, sym, ap, ◌∙◌}
+use Rattle.std.specs.List.{list_any, list_all}
+use Rattle.ldap_match.specs.Truth.{truth_not, conjunction, disjunction}
+use Rattle.ldap_match.specs.declared.truth.Truth.{Truth}
+use Rattle.ldap_match.specs.declared.truth.Truth.TheVariants.{Undefined}
+use Rattle.dir_entry.specs.Entry.{KeyedAttribute}
+use Rattle.index_choice.specs.declared.kinds.Kinds.{Kinds}
+use Rattle.ldap_eval.specs.Bound.{bound_value, value_step, leaf_value}
+use Rattle.ldap_eval.specs.declared.bound.Leaf.{Leaf as TheLeaf}
+use Rattle.ldap_eval.specs.declared.bound.BoundFilter.{BoundFilter}
+use Rattle.ldap_eval.specs.declared.bound.BoundFilter.TheVariants as bound
+use Rattle.ldap_eval.specs.declared.bound.BoundFilter.TheVariants.{rolls-And, rolls-Or, rolls-Not, rolls-Undefined, rolls-Leaf}
+use Rattle.ldap_eval.specs.declared.bound.BoundFilter.TheOpen.{BoundFilter-F}
+use Rattle.ldap_eval.specs.declared.bound.BoundFilter.TheFolds.{fold-roll-BoundFilter}
+use Rattle.plan_compile.specs.Bounds.{is_decided, decided_step, is_test_decided}
+use Rattle.plan_compile.specs.Runs.{has_runs_for, runs_step, has_runs_of_test}
+
+pub value-And : (e : List KeyedAttribute) (v : Vec BoundFilter Global) → bound_value e (bound.And v) ≡ conjunction (map (bound_value e) v.items)
+value-And e v = ap (bound_value e) (sym (rolls-And v)) ∙ fold-roll-BoundFilter Truth (value_step e) (BoundFilter-F.And v)
+
+pub value-Or : (e : List KeyedAttribute) (v : Vec BoundFilter Global) → bound_value e (bound.Or v) ≡ disjunction (map (bound_value e) v.items)
+value-Or e v = ap (bound_value e) (sym (rolls-Or v)) ∙ fold-roll-BoundFilter Truth (value_step e) (BoundFilter-F.Or v)
+
+pub value-Not : (e : List KeyedAttribute) (b : Box BoundFilter Global) → bound_value e (bound.Not b) ≡ truth_not (bound_value e b.value)
+value-Not e b = ap (bound_value e) (sym (rolls-Not b)) ∙ fold-roll-BoundFilter Truth (value_step e) (BoundFilter-F.Not b)
+
+pub value-Undefined : (e : List KeyedAttribute) → bound_value e bound.Undefined ≡ Undefined
+value-Undefined e = ap (bound_value e) (sym rolls-Undefined) ∙ fold-roll-BoundFilter Truth (value_step e) BoundFilter-F.Undefined
+
+pub value-Leaf : (e : List KeyedAttribute) (leaf : TheLeaf) → bound_value e (bound.Leaf leaf) ≡ leaf_value e leaf
+value-Leaf e leaf = ap (bound_value e) (sym (rolls-Leaf leaf)) ∙ fold-roll-BoundFilter Truth (value_step e) (BoundFilter-F.Leaf leaf)
+
+pub decided-And : (ix : List Kinds) (v : Vec BoundFilter Global) → is_decided ix (bound.And v) ≡ list_all (λ b. b) (map (is_decided ix) v.items)
+decided-And ix v = ap (is_decided ix) (sym (rolls-And v)) ∙ fold-roll-BoundFilter Bool (decided_step ix) (BoundFilter-F.And v)
+
+pub decided-Or : (ix : List Kinds) (v : Vec BoundFilter Global) → is_decided ix (bound.Or v) ≡ list_all (λ b. b) (map (is_decided ix) v.items)
+decided-Or ix v = ap (is_decided ix) (sym (rolls-Or v)) ∙ fold-roll-BoundFilter Bool (decided_step ix) (BoundFilter-F.Or v)
+
+pub decided-Not : (ix : List Kinds) (b : Box BoundFilter Global) → is_decided ix (bound.Not b) ≡ is_decided ix b.value
+decided-Not ix b = ap (is_decided ix) (sym (rolls-Not b)) ∙ fold-roll-BoundFilter Bool (decided_step ix) (BoundFilter-F.Not b)
+
+pub decided-Leaf : (ix : List Kinds) (leaf : TheLeaf) → is_decided ix (bound.Leaf leaf) ≡ is_test_decided ix leaf.type_id leaf.test
+decided-Leaf ix leaf = ap (is_decided ix) (sym (rolls-Leaf leaf)) ∙ fold-roll-BoundFilter Bool (decided_step ix) (BoundFilter-F.Leaf leaf)
+
+pub runs-And : (ix : List Kinds) (e : List KeyedAttribute) (v : Vec BoundFilter Global) → has_runs_for ix e (bound.And v) ≡ list_all (λ b. b) (map (has_runs_for ix e) v.items)
+runs-And ix e v = ap (has_runs_for ix e) (sym (rolls-And v)) ∙ fold-roll-BoundFilter Bool (runs_step ix e) (BoundFilter-F.And v)
+
+pub runs-Or : (ix : List Kinds) (e : List KeyedAttribute) (v : Vec BoundFilter Global) → has_runs_for ix e (bound.Or v) ≡ list_any (λ b. b) (map (has_runs_for ix e) v.items)
+runs-Or ix e v = ap (has_runs_for ix e) (sym (rolls-Or v)) ∙ fold-roll-BoundFilter Bool (runs_step ix e) (BoundFilter-F.Or v)
+
+pub runs-Not : (ix : List Kinds) (e : List KeyedAttribute) (b : Box BoundFilter Global) → has_runs_for ix e (bound.Not b) ≡ true
+runs-Not ix e b = ap (has_runs_for ix e) (sym (rolls-Not b)) ∙ fold-roll-BoundFilter Bool (runs_step ix e) (BoundFilter-F.Not b)
+
+pub runs-Leaf : (ix : List Kinds) (e : List KeyedAttribute) (leaf : TheLeaf) → has_runs_for ix e (bound.Leaf leaf) ≡ has_runs_of_test ix leaf.type_id leaf.test e
+runs-Leaf ix e leaf = ap (has_runs_for ix e) (sym (rolls-Leaf leaf)) ∙ fold-roll-BoundFilter Bool (runs_step ix e) (BoundFilter-F.Leaf leaf)

@@ -1,0 +1,125 @@
+-- The sides of a filter, by its variant.
+use Rattle.std.proofs.Common.{◌≡◌, Bool, true, false, not, List, Vec, Box, Global, sym, ap, ◌∙◌}
+use Rattle.ldap_match.specs.Truth.{truth_of}
+use Rattle.ldap_match.specs.declared.truth.Truth.{Truth}
+use Rattle.ldap_match.specs.declared.truth.Truth.TheVariants.{True, Undefined}
+use Rattle.dir_entry.specs.Entry.{KeyedAttribute}
+use Rattle.index_choice.specs.declared.kinds.Kinds.{Kinds}
+use Rattle.plan_sets.specs.Sets.{holds, SetsAreOfEntries}
+use Rattle.plan_sets.specs.declared.plan.Plan.{Plan}
+use Rattle.plan_sets.specs.declared.plan.Plan.TheVariants as plan
+use Rattle.plan_sets.proofs.Equations.{in_plan-Inter, in_plan-Union, in_plan-Empty}
+use Rattle.ldap_eval.specs.Bound.{leaf_value}
+use Rattle.ldap_eval.specs.declared.bound.Leaf.{Leaf}
+use Rattle.ldap_eval.specs.declared.bound.BoundFilter.{BoundFilter, out-BoundFilter, out-roll-BoundFilter}
+use Rattle.ldap_eval.specs.declared.bound.BoundFilter.TheVariants.{rolls-And}
+use Rattle.ldap_eval.specs.declared.bound.BoundFilter.TheOpen.{BoundFilter-F}
+use Rattle.ldap_eval.specs.declared.bound.BoundFilter.TheVariants as bound
+use Rattle.plan_compile.specs.Bounds.{is_test_decided, Bounds, BoundsSets, DecidedAreTrue, GuidesRuns}
+use Rattle.plan_compile.specs.Runs.{has_runs_of_test}
+use Rattle.plan_compile.specs.Sides.{IsSide, IsEvery, IsAny, EachSide}
+use Rattle.plan_compile.proofs.Equations.{value-And, value-Or, value-Not, value-Undefined, value-Leaf, decided-And, decided-Or, decided-Not, decided-Leaf, runs-And, runs-Or, runs-Not, runs-Leaf}
+use Rattle.plan_compile.proofs.Rows.{and_of_true, and_of_false, or_of_true, or_of_false, runs_of_every, runs_of_some, negated, decided_parts}
+
+every_true : (ix : List Kinds) (v : Vec BoundFilter Global) (ms ys : Vec Plan Global) → EachSide ix true v.items ms.items ys.items → IsSide ix true (bound.And v) (plan.Inter ms) (plan.Inter ys)
+every_true ix v ms ys each = record {
+  bounds = λ e. simp (value-And, decided-And, in_plan-Inter) (and_of_true each e);
+  runs = λ w e h. runs-And ix e v ∙ runs_of_every each e (sym (in_plan-Inter _ _ _ ys) ∙ h);
+}
+
+some_false : (ix : List Kinds) (v : Vec BoundFilter Global) (ms ys : Vec Plan Global) → EachSide ix false v.items ms.items ys.items → IsSide ix false (bound.And v) (plan.Union ms) (plan.Union ys)
+some_false ix v ms ys each = record {
+  bounds = λ e. simp (value-And, decided-And, in_plan-Union) (and_of_false each e);
+  runs = λ w e h. cc;
+}
+
+some_true : (ix : List Kinds) (v : Vec BoundFilter Global) (ms ys : Vec Plan Global) → EachSide ix true v.items ms.items ys.items → IsSide ix true (bound.Or v) (plan.Union ms) (plan.Union ys)
+some_true ix v ms ys each = record {
+  bounds = λ e. simp (value-Or, decided-Or, in_plan-Union) (or_of_true each e);
+  runs = λ w e h. runs-Or ix e v ∙ runs_of_some each e (sym (in_plan-Union _ _ _ ys) ∙ h);
+}
+
+every_false : (ix : List Kinds) (v : Vec BoundFilter Global) (ms ys : Vec Plan Global) → EachSide ix false v.items ms.items ys.items → IsSide ix false (bound.Or v) (plan.Inter ms) (plan.Inter ys)
+every_false ix v ms ys each = record {
+  bounds = λ e. simp (value-Or, decided-Or, in_plan-Inter) (or_of_false each e);
+  runs = λ w e h. cc;
+}
+
+pub side_of_and_true : (ix : List Kinds) (wanted : Bool) (f : BoundFilter) (v : Vec BoundFilter Global) (m y : Plan) → f ≡ bound.And v → wanted ≡ true → IsEvery ix wanted v.items m y → IsSide ix wanted f m y
+side_of_and_true ix wanted f v m y is w s =
+    let each = rw w at s.each in rw (is, w, s.must_is, s.may_is) (every_true ix v s.musts s.mays each)
+
+pub side_of_and_false : (ix : List Kinds) (wanted : Bool) (f : BoundFilter) (v : Vec BoundFilter Global) (m y : Plan) → f ≡ bound.And v → wanted ≡ false → IsAny ix wanted v.items m y → IsSide ix wanted f m y
+side_of_and_false ix wanted f v m y is w s =
+    let each = rw w at s.each in rw (is, w, s.must_is, s.may_is) (some_false ix v s.musts s.mays each)
+
+pub side_of_or_true : (ix : List Kinds) (wanted : Bool) (f : BoundFilter) (v : Vec BoundFilter Global) (m y : Plan) → f ≡ bound.Or v → wanted ≡ true → IsAny ix wanted v.items m y → IsSide ix wanted f m y
+side_of_or_true ix wanted f v m y is w s =
+    let each = rw w at s.each in rw (is, w, s.must_is, s.may_is) (some_true ix v s.musts s.mays each)
+
+pub side_of_or_false : (ix : List Kinds) (wanted : Bool) (f : BoundFilter) (v : Vec BoundFilter Global) (m y : Plan) → f ≡ bound.Or v → wanted ≡ false → IsEvery ix wanted v.items m y → IsSide ix wanted f m y
+side_of_or_false ix wanted f v m y is w s =
+    let each = rw w at s.each in rw (is, w, s.must_is, s.may_is) (every_false ix v s.musts s.mays each)
+
+pub side_of_not : (ix : List Kinds) (wanted : Bool) (f : BoundFilter) (b : Box BoundFilter Global) (m y : Plan) → f ≡ bound.Not b → IsSide ix (not wanted) b.value m y → IsSide ix wanted f m y
+side_of_not ix wanted f b m y is s =
+    rw is (record {
+      bounds = λ e. simp (value-Not, decided-Not) (negated _ _ _ _ wanted (s.bounds e));
+      runs = λ w e h. runs-Not ix e b;
+    })
+
+undefined_is_not : (wanted : Bool) → Undefined ≡ truth_of wanted → ⊥
+undefined_is_not true h = cc
+undefined_is_not false h = cc
+
+pub side_of_undefined : (ix : List Kinds) (wanted : Bool) (f : BoundFilter) → f ≡ bound.Undefined → IsSide ix wanted f plan.Empty plan.Empty
+side_of_undefined ix wanted f is =
+    rw is (record {
+      bounds = λ e. record {
+        sound = λ h. let k : true ≡ false = sym h ∙ in_plan-Empty _ _ _ in cc;
+        complete = λ h. absurd (undefined_is_not wanted (sym (value-Undefined e) ∙ h));
+        exact = λ d h. h;
+      };
+      runs = λ w e h. let k : true ≡ false = sym h ∙ in_plan-Empty _ _ _ in cc;
+    })
+
+pub side_of_leaf : (ix : List Kinds) (wanted : Bool) (f : BoundFilter) (leaf : Leaf) (m y : Plan) → f ≡ bound.Leaf leaf
+    → Bounds ix (λ e. leaf_value e leaf) (truth_of wanted) (is_test_decided ix leaf.type_id leaf.test) m y
+    → (wanted ≡ true → (e : List KeyedAttribute) → holds ix e y ≡ true → has_runs_of_test ix leaf.type_id leaf.test e ≡ true) → IsSide ix wanted f m y
+side_of_leaf ix wanted f leaf m y is bounds runs =
+    rw is (record {
+      bounds = λ e. simp (value-Leaf, decided-Leaf) (bounds e);
+      runs = λ w e h. runs-Leaf ix e leaf ∙ runs w e h;
+    })
+
+-- what may be true of an `and` is true of each decided part
+pub parts_of_every : (ix : List Kinds) (fs : List BoundFilter) (m y : Plan) → IsEvery ix true fs m y → (e : List KeyedAttribute) → holds ix e y ≡ true → DecidedAreTrue ix e fs
+parts_of_every ix fs m y s e h = decided_parts s.each e (sym (in_plan-Inter _ _ _ s.mays) ∙ sym (ap (holds ix e) s.may_is) ∙ h)
+
+-- bounds of each entry bound the sets
+pub bounds_sets : (ix : List Kinds) (value : List KeyedAttribute → Truth) (wanted : Truth) (decided : Bool) (m y : Plan) → SetsAreOfEntries → Bounds ix value wanted decided m y → BoundsSets ix value wanted decided m y
+bounds_sets ix value wanted decided m y agree bounds es scope n e num has inside =
+    let em = agree ix es scope n e m num has inside in
+    let ey = agree ix es scope n e y num has inside in
+    rw (em, ey) (bounds e)
+
+out_and : (v : Vec BoundFilter Global) → out-BoundFilter (bound.And v) ≡ BoundFilter-F.And v
+out_and v = ap out-BoundFilter (sym (rolls-And v)) ∙ out-roll-BoundFilter (BoundFilter-F.And v)
+
+abbrev row_of : BoundFilter-F BoundFilter → Vec BoundFilter Global → Vec BoundFilter Global
+row_of (BoundFilter-F.And v) d = v
+row_of (BoundFilter-F.Or v) d = d
+row_of (BoundFilter-F.Not b) d = d
+row_of BoundFilter-F.Undefined d = d
+row_of (BoundFilter-F.Leaf leaf) d = d
+
+-- an `and` has one row of parts
+pub and_parts_same : (v w : Vec BoundFilter Global) → bound.And v ≡ bound.And w → v ≡ w
+and_parts_same v w h = ap (λ (f : BoundFilter-F BoundFilter). row_of f v) (sym (out_and v) ∙ ap out-BoundFilter h ∙ out_and w)
+
+-- bounds of each entry guide a run
+pub bounds_guide : (ix : List Kinds) (value : List KeyedAttribute → Truth) (decided : Bool) (m y : Plan) → SetsAreOfEntries → Bounds ix value True decided m y → GuidesRuns ix value m y
+bounds_guide ix value decided m y agree bounds es scope at num valued = record {
+  sound = λ n s h. let v = valued n s in v.1.1 ∙ (bounds_sets ix value True decided m y agree bounds es scope n v.0 num v.1.0 s).sound h;
+  complete = λ n s h. let v = valued n s in (bounds_sets ix value True decided m y agree bounds es scope n v.0 num v.1.0 s).complete (sym v.1.1 ∙ h);
+}

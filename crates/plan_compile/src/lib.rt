@@ -1,0 +1,9 @@
+//! Filters compiled into plans: a bound filter and an index choice flow in, two plans that bound where the filter is
+//! true flow out. Entries, and posting lists, are not here.
+#![tactic(auto)]
+
+mod compiling;
+mod leaves;
+mod runs;
+
+pub use compiling::compile;
