@@ -17,8 +17,8 @@ use index_choice::Indexes;
 use std::alloc::{AllocError, Global};
 use std::marker::Model;
 
-/// Posting lists in which the change of an entry has begun: its number stands in the lists of the entry as it was and of the entry
-/// as it is to be. Settling it or taking it back needs no memory.
+/// Posting lists in which the change of an entry has begun: its number stands in the lists of the entry as it was and of
+/// the entry as it is to be. Settling it or taking it back needs no memory.
 #[derive(Drop)]
 pub struct Begun {
     alloc: Global,

@@ -1,5 +1,5 @@
 -- Numbers once an update is made: all stay below the number after its own. Facts on definitions flow in and out; no value of the program is here.
-use Rattle.std.proofs.Common.{◌≡◌, ◌<◌, ◌+◌, ℕ, List, [], ◌∷◌, ◌++◌, map, Bool, true, false, cond, Result, Ok, Err, nat_eq, arith, refl, sym, ap, subst}
+use Rattle.std.proofs.Common.{◌≡◌, ◌<◌, ◌+◌, ℕ, List, [], ◌∷◌, ◌++◌, Bool, true, false, cond, Result, Ok, Err, nat_eq, arith, sym, ap, subst}
 use Rattle.std.specs.Prelude.{IfOk}
 use Rattle.ldap_dn.specs.Names.{RdnModel, rdns}
 use Rattle.ldap_op.specs.Values.{OpValue, add, delete, modify, modify_dn, noop}

@@ -1,4 +1,5 @@
 pub mod Found
+pub mod Listed
 pub mod Moves
 pub mod Shown
 pub mod Below

@@ -1,4 +1,5 @@
 pub mod Directory
+pub mod Listed
 pub mod Places
 pub mod Replies
 pub mod Updates

@@ -5,7 +5,7 @@ use Rattle.std.specs.List.{list_any}
 use Rattle.ldap_dn.specs.Names.{TypeAndValue, RdnModel, rdns}
 use Rattle.dir_entry.specs.Entry.{AttributeModel}
 use Rattle.dir_tree.specs.Directory.{NameKey, name_eq, begins}
-use Rattle.dir_store.specs.Directory.{Directory, NamedEntry}
+use Rattle.dir_store.specs.Directory.{NamedEntry}
 
 -- the entry of a name
 abbrev pub entry_named : NameKey → List NamedEntry → Option NamedEntry

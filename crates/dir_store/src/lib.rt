@@ -6,11 +6,14 @@ mod adding;
 mod deleting;
 mod fault;
 mod finding;
+mod indexed;
+mod listing;
 mod modifying;
 mod names;
 mod renaming;
 mod reply;
 mod store;
 
+pub use indexed::IndexedTree;
 pub use reply::Reply;
 pub use store::Store;

@@ -18,11 +18,13 @@ use crate::adding::{Placed, addition};
 use crate::deleting::asked_leaf;
 use crate::fault::{StoreError, reply_of_refusal};
 use crate::finding::{not_found, standing};
+use crate::indexed::IndexedTree;
 use crate::modifying::{Kept, asked_change};
 use crate::names::asked_name;
 use crate::renaming::{Moved, asked_move};
 use crate::reply::Reply;
 use dir_tree::{NamedEntry, Tree};
+use index_choice::Indexes;
 use ldap_dn::{Name, Rdn};
 use ldap_op::{Op, Update};
 use ldap_parts::ResultCode;
@@ -35,7 +37,7 @@ use std::marker::Model;
 #[derive(Drop)]
 pub struct Store {
     schema: Schema,
-    tree: Tree,
+    held: IndexedTree,
 }
 
 impl Model for Store {
@@ -44,19 +46,19 @@ impl Model for Store {
 
     ghost Value = { Directory };
 
-    ghost view = { λ s. directory s.schema s.tree };
+    ghost view = { λ s. directory s.schema s.held.tree };
 
-    ghost invariant = { λ s. AreKeyedBy s.schema s.tree.entries };
+    ghost invariant = { λ s. AreKeyedBy s.schema s.held.tree.entries };
 }
 
 impl Store {
     /// A directory without entries, whose root is to have this name.
-    pub fn new(alloc: Global, schema: Schema, suffix: Name) -> Store
+    pub fn new(alloc: Global, schema: Schema, indexes: Indexes, suffix: Name) -> Store
         ensures { result ≡ record { schema = schema; suffix = suffix; entries = [] } }
     {
         Store {
             schema,
-            tree: Tree::new(alloc, suffix),
+            held: IndexedTree::new(alloc, indexes, suffix),
         }
     }
 
@@ -72,14 +74,22 @@ impl Store {
         ensures shown { directory self.now.schema result.now ≡ self.now }
         ensures keyed { AreKeyedBy self.now.schema result.now.entries }
     {
-        &self.tree
+        self.held.tree()
+    }
+
+    /// The entries as the tree has them, and their posting lists under an index choice.
+    pub fn indexed(&self) -> &IndexedTree
+        ensures shown { directory self.now.schema result.now.tree ≡ self.now }
+        ensures keyed { AreKeyedBy self.now.schema result.now.tree.entries }
+    {
+        &self.held
     }
 
     /// The name of the root, as it is printed.
     pub fn printed_suffix(&self, alloc: Global) -> Result<String, AllocError>
         ensures { IfOk result (λ t. string_bytes t ≡ printed_name self.now.schema self.now.suffix) }
     {
-        self.tree.suffix().print(alloc, &self.schema)
+        self.held.tree().suffix().print(alloc, &self.schema)
     }
 
     /// The number of a name's entry, and the entry with its keys; none, where the name has none. It takes a logarithm of comparisons,
@@ -89,7 +99,7 @@ impl Store {
         ensures found { option_map (λ p. named (entered_of p.0 p.1.now)) result ≡ entry_named (rdns name.now) self.now.entries }
         ensures keyed { IfSome result (λ p. IsKeyedBy self.now.schema p.1.now.entry) }
     {
-        match standing(&self.tree, name) {
+        match standing(self.held.tree(), name) {
             Some((number, held)) => Some((number, held)),
             None => None,
         }
@@ -100,7 +110,7 @@ impl Store {
     pub fn not_found(&self, alloc: Global, name: &[Rdn]) -> Result<Reply, AllocError>
         ensures { IfOk result (λ r. reply_view r ≡ not_found_reply self.now name.now) }
     {
-        not_found(alloc, &self.schema, &self.tree, name)
+        not_found(alloc, &self.schema, self.held.tree(), name)
     }
 
     /// Makes an update under a number above those of all entries (RFC 4511 4.6 to 4.9), or refuses it with the reply of the first check
@@ -146,8 +156,8 @@ impl Store {
         ensures refused { IfErr result (λ e. RefusedWith e (added self.old number (add_view request.now))) }
         ensures err { OnErr result (self.new ≡ self.old) }
     {
-        let Placed { name, entry } = addition(alloc, &self.schema, &self.tree, request)?;
-        self.tree.add(number, name, entry)?;
+        let Placed { name, entry } = addition(alloc, &self.schema, self.held.tree(), request)?;
+        self.held.add(alloc, number, name, entry)?;
         Ok(())
     }
 
@@ -161,8 +171,8 @@ impl Store {
         ensures err { OnErr result (self.new ≡ self.old) }
     {
         let name = asked_name(alloc, &self.schema, text)?;
-        let number = asked_leaf(alloc, &self.schema, &self.tree, name.rdns())?;
-        self.tree.delete(name.rdns(), number);
+        let number = asked_leaf(alloc, &self.schema, self.held.tree(), name.rdns())?;
+        self.held.delete(name.rdns(), number)?;
         Ok(())
     }
 
@@ -175,8 +185,8 @@ impl Store {
         ensures refused { IfErr result (λ e. RefusedWith e (modified self.old (modify_view request.now))) }
         ensures err { OnErr result (self.new ≡ self.old) }
     {
-        let Kept { number, entry } = asked_change(alloc, &self.schema, &self.tree, request)?;
-        self.tree.replace(number, entry);
+        let Kept { number, entry } = asked_change(alloc, &self.schema, self.held.tree(), request)?;
+        self.held.replace(number, entry)?;
         Ok(())
     }
 
@@ -194,8 +204,9 @@ impl Store {
             before,
             after,
             entry,
-        } = asked_move(alloc, &self.schema, &self.tree, request)?;
-        self.tree.rename(before.rdns(), number, after, entry)?;
+        } = asked_move(alloc, &self.schema, self.held.tree(), request)?;
+        self.held
+            .rename(alloc, before.rdns(), number, after, entry)?;
         Ok(())
     }
 }

@@ -10,6 +10,7 @@ use crate::answering::answer_lines;
 use crate::fault::Fault;
 use crate::sample::add_sample;
 use dir_store::Store;
+use index_choice::Indexes;
 use ldap_dn::{Name, NameError};
 use ldap_schema::Schema;
 use ldap_session::{Next, Session};
@@ -43,7 +44,7 @@ fn empty(alloc: Global) -> Result<Store, Fault>
 {
     let schema = Schema::built_in(alloc)?;
     let suffix = name_of_text(alloc, &schema, SUFFIX)?;
-    Ok(Store::new(alloc, schema, suffix))
+    Ok(Store::new(alloc, schema, Indexes::none(alloc), suffix))
 }
 
 /// The directory at first: the sample, or one without entries; and the number of its last update.

@@ -1,20 +1,17 @@
 -- LDIF: a line that is written says what it was written of.
-use Rattle.std.proofs.Common.{◌≡◌, ℕ, zero, suc, ◌+◌, ◌-◌, ◌<◌, ◌≤◌, List, [], ◌∷◌, ◌++◌, length, take, drop, position, Bool, true, false, cond, not, ◌&&◌, ◌||◌, Option, None, Some, nat_eq, nat_lt, refl, sym, ap, ◌∙◌, arith, length-append, append_assoc}
+use Rattle.std.proofs.Common.{◌≡◌, ℕ, ◌+◌, ◌<◌, List, [], ◌∷◌, ◌++◌, length, drop, position, Bool, true, false, cond, not, ◌&&◌, ◌||◌, None, Some, nat_eq, nat_lt, refl, sym, ap, ◌∙◌, arith, length-append, append_assoc}
 use Rattle.std.specs.Prelude.{slice_index}
 use Rattle.std.specs.List.{list_all, position_or_len}
 use Rattle.std.specs.Result.{result_ok}
-use Rattle.std.specs.Str.{is_utf8}
 use Rattle.std.proofs.lemmas.Bool.{ltb-true, lt-ltb}
 use Rattle.std.proofs.lemmas.List.{take_at, drop_at}
 use Rattle.base64.specs.Engines.{standard}
 use Rattle.base64.specs.GeneralPurpose.{encode_of, decode_of, IsBytes}
 use Rattle.base64.proofs.EngineFacts.{decode_of-encode_of}
-use Rattle.ldif.specs.Descriptions.{is_dn, is_type}
-use Rattle.ldif.specs.Records.{ValueModel}
 use Rattle.ldif.specs.Written.{is_safe_first, is_safe_octet, is_safe, ends_with_space, value_part, pair_line}
-use Rattle.ldif.specs.Says.{Says, blank, comment, named, valued, wrong, past_spaces, octets_of, name_says, value_says, pair_says, colon_says, line_says}
+use Rattle.ldif.specs.Says.{comment, past_spaces, octets_of, pair_says, colon_says, line_says}
 use Rattle.ldif.specs.RoundTrip.{are_octets}
-use Rattle.ldif.proofs.Booleans.{left, right, both}
+use Rattle.ldif.proofs.Booleans.{left, right}
 use Rattle.ldif.proofs.Plain.{is_plain}
 use Rattle.ldif.proofs.Quiet.{is_symbol, encoded_symbols, passes_at, not_true, unlike, flip}
 
@@ -22,10 +19,6 @@ bytes : (v : List ℕ) → are_octets v ≡ true → IsBytes v
 bytes v h i = ltb-true (slice_index v i) 256 (passes_at (λ c. nat_lt c 256) v i refl h)
 
 -- ---- the octets behind the colon
-
-or_right : (a b : Bool) → (a || b) ≡ false → b ≡ false
-or_right true b h = absurd cc
-or_right false b h = h
 
 or_left : (a b : Bool) → (a || b) ≡ false → a ≡ false
 or_left true b h = absurd cc

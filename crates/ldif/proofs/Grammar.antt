@@ -1,7 +1,6 @@
 -- LDIF: what is read of lines is what their grammar says.
 use Rattle.std.proofs.Common.{◌≡◌, ℕ, List, [], ◌∷◌, ◌++◌, map, Bool, true, false, cond, Option, None, Some, refl, sym, ap, subst, ◌∙◌, append_assoc, append-nil}
-use Rattle.std.specs.declared.result.Result.{Result}
-use Rattle.std.specs.declared.result.Result.TheVariants.{Ok, Err}
+use Rattle.std.specs.declared.result.Result.TheVariants.{Ok}
 use Rattle.ldif.specs.Records.{ValueModel, RecordModel}
 use Rattle.ldif.specs.Lines.{LineModel, lines_of}
 use Rattle.ldif.specs.Says.{Says, blank, comment, named, valued, wrong, line_says}

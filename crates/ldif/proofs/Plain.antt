@@ -1,7 +1,7 @@
 -- LDIF: the octets that a description has.
-use Rattle.std.proofs.Common.{◌≡◌, ℕ, zero, suc, ◌+◌, ◌<◌, ◌≤◌, List, [], ◌∷◌, ◌++◌, length, take, drop, position, get_or, Bool, true, false, cond, not, ◌&&◌, ◌||◌, Option, None, Some, nat_eq, nat_le, nat_lt, refl, sym, ap, subst, ◌∙◌, arith, add-one, drop-cons, take-append-drop}
+use Rattle.std.proofs.Common.{◌≡◌, ℕ, suc, ◌+◌, ◌<◌, List, [], ◌∷◌, length, take, drop, position, get_or, Bool, true, false, cond, not, ◌&&◌, ◌||◌, Option, None, Some, nat_eq, nat_le, nat_lt, refl, sym, ap, ◌∙◌, arith, drop-cons, take-append-drop}
 use Rattle.std.specs.List.{list_all, slice_split, onto_first}
-use Rattle.std.specs.Str.{IsAscii, IsUtf8, is_utf8}
+use Rattle.std.specs.Str.{IsAscii, is_utf8}
 use Rattle.std.proofs.lemmas.Bool.{leb-true, eqb-true}
 use Rattle.std.proofs.lemmas.List.Folds.{list_all-append}
 use Rattle.std.proofs.lemmas.List.Quantifiers.{position-Some}

@@ -1,19 +1,19 @@
 -- LDIF: what is written is read back.
-use Rattle.std.proofs.Common.{◌≡◌, ℕ, zero, suc, ◌+◌, ◌-◌, ◌<◌, List, [], ◌∷◌, ◌++◌, length, take, map, Bool, true, false, cond, not, ◌&&◌, Option, None, Some, nat_eq, codes, refl, sym, ap, ◌∙◌, append_assoc, append-nil}
+use Rattle.std.proofs.Common.{◌≡◌, ℕ, ◌+◌, ◌-◌, List, [], ◌∷◌, ◌++◌, length, take, map, Bool, true, false, cond, not, ◌&&◌, Option, None, Some, nat_eq, codes, refl, sym, ap, ◌∙◌, append_assoc, append-nil}
 use Rattle.std.specs.Prelude.{slice_index, All}
-use Rattle.std.specs.List.{list_all, slice_split}
+use Rattle.std.specs.List.{list_all}
 use Rattle.std.specs.Str.{is_utf8}
 use Rattle.std.specs.declared.result.Result.{Result}
-use Rattle.std.specs.declared.result.Result.TheVariants.{Ok, Err}
+use Rattle.std.specs.declared.result.Result.TheVariants.{Ok}
 use Rattle.std.proofs.lemmas.List.Elements.{All-cons, All-nil}
 use Rattle.std.proofs.lemmas.List.Splits.{slice_split_at}
 use Rattle.std.proofs.lemmas.List.Folds.{list_all-append}
 use Rattle.ldif.specs.Descriptions.{is_dn, is_type, is_description, begins_change}
 use Rattle.ldif.specs.Records.{ValueModel, RecordModel}
-use Rattle.ldif.specs.Written.{pair_line, value_line, record_lines, records_lines, lines_text, ldif_text}
+use Rattle.ldif.specs.Written.{pair_line, value_line, record_lines, records_lines, lines_text}
 use Rattle.ldif.specs.Lines.{LineModel, without_return, parts_of, continues, before, folded, unfolded, lines_of}
-use Rattle.ldif.specs.Says.{Says, blank, comment, named, valued, wrong, line_says, pair_says, name_says, value_says}
-use Rattle.ldif.specs.Reading.{ReadingModel, with_open, after_blank, after_line, or_wrong, read_from, nothing_read, records_of}
+use Rattle.ldif.specs.Says.{named, valued, wrong, line_says, name_says, value_says}
+use Rattle.ldif.specs.Reading.{ReadingModel, with_open, after_line, or_wrong, read_from, nothing_read}
 use Rattle.ldif.specs.RoundTrip.{are_octets, is_typed, is_typed_record, RecordsReturn}
 use Rattle.ldif.proofs.Booleans.{left, right, both}
 use Rattle.ldif.proofs.Plain.{is_plain, type_plain}

@@ -7,25 +7,29 @@ use Rattle.ldif.specs.Lines.{lines_of}
 use Rattle.ldif.specs.Says.{Says, blank, comment, named, valued, line_says}
 use Rattle.ldif.specs.Reading.{is_version, records_of}
 
--- the values of a record, and the lines that follow: it ends by an empty line or where the text ends (RFC 2849, 1*attrval-spec)
+-- the values of a record, and the lines that follow: it ends by an empty line or where the text ends
+-- (RFC 2849, 1*attrval-spec)
 pub data HasValues : List Says → List ValueModel → List Says → Type 0 where
   text_ends : HasValues [] [] []
   record_ends : (rest : List Says) → HasValues (blank ∷ rest) [] rest
-  a_value : {ss rest : List Says} {vs : List ValueModel} (v : ValueModel) → HasValues ss vs rest → HasValues (valued v ∷ ss) (v ∷ vs) rest
-  comment_inside : {ss rest : List Says} {vs : List ValueModel} → HasValues ss vs rest → HasValues (comment ∷ ss) vs rest
+  a_value : {ss rest : List Says} {vs : List ValueModel} (v : ValueModel) → HasValues ss vs rest
+      → HasValues (valued v ∷ ss) (v ∷ vs) rest
+  comment_inside : {ss rest : List Says} {vs : List ValueModel} → HasValues ss vs rest
+      → HasValues (comment ∷ ss) vs rest
 
 -- records, each its name's line and its values, with empty lines between (RFC 2849, ldif-content)
 pub data AreRecords : List Says → List RecordModel → Type 0 where
   no_record : AreRecords [] []
   blank_before : {ss : List Says} {rs : List RecordModel} → AreRecords ss rs → AreRecords (blank ∷ ss) rs
   comment_before : {ss : List Says} {rs : List RecordModel} → AreRecords ss rs → AreRecords (comment ∷ ss) rs
-  a_record : {ss rest : List Says} {rs : List RecordModel} (name : List ℕ) (vs : List ValueModel) → HasValues ss vs rest → AreRecords rest rs
-      → AreRecords (named name ∷ ss) (record { name = name; values = vs } ∷ rs)
+  a_record : {ss rest : List Says} {rs : List RecordModel} (name : List ℕ) (vs : List ValueModel)
+      → HasValues ss vs rest → AreRecords rest rs → AreRecords (named name ∷ ss) (record { name = name; values = vs } ∷ rs)
 
 -- records, before which the version may stand (RFC 2849, ldif-file)
 pub data IsContent : List Says → List RecordModel → Type 0 where
   unversioned : {ss : List Says} {rs : List RecordModel} → AreRecords ss rs → IsContent ss rs
-  versioned : {ss : List Says} {rs : List RecordModel} (v : ValueModel) → is_version v ≡ true → AreRecords ss rs → IsContent (valued v ∷ ss) rs
+  versioned : {ss : List Says} {rs : List RecordModel} (v : ValueModel) → is_version v ≡ true → AreRecords ss rs
+      → IsContent (valued v ∷ ss) rs
   blank_first : {ss : List Says} {rs : List RecordModel} → IsContent ss rs → IsContent (blank ∷ ss) rs
   comment_first : {ss : List Says} {rs : List RecordModel} → IsContent ss rs → IsContent (comment ∷ ss) rs
 

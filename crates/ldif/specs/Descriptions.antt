@@ -33,7 +33,8 @@ is_number (c ∷ cs) = is_digit c && list_all is_digit cs && (nat_eq (length cs)
 
 -- numericoid: numbers with dots between them, two at least (RFC 4512 1.4)
 abbrev pub is_numericoid : List ℕ → Bool
-is_numericoid word = nat_lt 1 (length (slice_split (nat_eq 46) word)) && list_all is_number (slice_split (nat_eq 46) word)
+is_numericoid word =
+    nat_lt 1 (length (slice_split (nat_eq 46) word)) && list_all is_number (slice_split (nat_eq 46) word)
 
 -- oid: a descr or a numericoid (RFC 4512 1.4)
 abbrev pub is_oid : List ℕ → Bool

@@ -16,7 +16,8 @@ without_return l = cond (nat_eq (slice_index l (length l - 1)) 13) (take (length
 abbrev pub parts_of : List ℕ → List (List ℕ)
 parts_of text = map without_return (slice_split (nat_eq 10) text)
 
--- Whether a line continues the one before it: it begins with a space, and the one before it isn't empty (RFC 2849, note 2).
+-- Whether a line continues the one before it: it begins with a space, and the one before it isn't empty (RFC 2849,
+-- note 2).
 abbrev pub continues : List ℕ → List ℕ → Bool
 continues [] part = false
 continues (c ∷ cs) [] = false

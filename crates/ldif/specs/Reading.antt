@@ -24,7 +24,8 @@ after_blank s = record { done = with_open s.done s.current; current = None; begu
 
 -- a name begins a record, and stands in no other one (RFC 2849, ldif-attrval-record)
 abbrev pub after_name : ReadingModel → List ℕ → Option RecordModel → Option ReadingModel
-after_name s name None = Some (record { done = s.done; current = Some (record { name = name; values = [] }); begun = true })
+after_name s name None =
+    Some (record { done = s.done; current = Some (record { name = name; values = [] }); begun = true })
 after_name s name (Some r) = None
 
 -- `1`
@@ -39,8 +40,14 @@ is_version v = is_same_word v.description (codes "version") && is_one v.octets
 
 -- a value is its record's; before all else it may be the version
 abbrev pub after_value : ReadingModel → ValueModel → Option RecordModel → Option ReadingModel
-after_value s v None = cond s.begun None (cond (is_version v) (Some (record { done = s.done; current = None; begun = true })) None)
-after_value s v (Some r) = Some (record { done = s.done; current = Some (record { name = r.name; values = r.values ++ v ∷ [] }); begun = s.begun })
+after_value s v None =
+    cond s.begun None (cond (is_version v) (Some (record { done = s.done; current = None; begun = true })) None)
+after_value s v (Some r) =
+    Some (record {
+      done = s.done;
+      current = Some (record { name = r.name; values = r.values ++ v ∷ [] });
+      begun = s.begun;
+    })
 
 -- after one more line
 abbrev pub after_line : ReadingModel → Says → Option ReadingModel
@@ -51,7 +58,8 @@ after_line s (valued v) = after_value s v s.current
 after_line s wrong = None
 
 -- what follows, or the number of the line that has no meaning there
-abbrev pub or_wrong : Option ReadingModel → ℕ → (ReadingModel → Result (List RecordModel) ℕ) → Result (List RecordModel) ℕ
+abbrev pub or_wrong : Option ReadingModel → ℕ → (ReadingModel → Result (List RecordModel) ℕ)
+    → Result (List RecordModel) ℕ
 or_wrong None n go = Err n
 or_wrong (Some s) n go = go s
 

@@ -1,6 +1,6 @@
 -- LDIF: what one line says.
 -- In: a line's octets, unfolded. Out: a name, a value, nothing, or that it is wrong. Not here: records.
-use Rattle.std.specs.Prelude.{ℕ, ◌+◌, List, [], ◌∷◌, take, drop, position, Bool, cond, Option, None, Some, nat_eq}
+use Rattle.std.specs.Prelude.{ℕ, ◌+◌, List, [], ◌∷◌, take, drop, position, cond, Option, None, Some, nat_eq}
 use Rattle.std.specs.Result.{result_ok}
 use Rattle.std.specs.Str.{is_utf8}
 use Rattle.base64.specs.Engines.{standard}
@@ -26,7 +26,8 @@ abbrev pub past_spaces : List ℕ → List ℕ
 past_spaces [] = []
 past_spaces (c ∷ cs) = cond (nat_eq c 32) (past_spaces cs) (c ∷ cs)
 
--- the octets that stand behind a type's colon: as they are, or as base64 behind a second colon; none by URL (RFC 2849, value-spec)
+-- the octets that stand behind a type's colon: as they are, or as base64 behind a second colon; none by URL (RFC 2849,
+-- value-spec)
 abbrev pub octets_of : List ℕ → Option (List ℕ)
 octets_of [] = Some []
 octets_of (c ∷ cs) =

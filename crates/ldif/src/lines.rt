@@ -82,7 +82,8 @@ fn without_return(part: &[u8]) -> &[u8]
 
 /// What a part adds to a line that it continues: what stands behind its space.
 fn continuation<'a>(line: &[u8], part: &'a [u8]) -> Option<&'a [u8]>
-    ensures { MatchOption result (lines.continues line.now part.now ≡ false) (λ t. (lines.continues line.now part.now ≡ true) × (t.now ≡ drop 1 part.now)) }
+    ensures { MatchOption result (lines.continues line.now part.now ≡ false)
+        (λ t. (lines.continues line.now part.now ≡ true) × (t.now ≡ drop 1 part.now)) }
 {
     match part {
         [b' ', rest @ ..] => { if line.is_empty() { None } else { Some(rest) } }

@@ -18,7 +18,8 @@ use std::alloc::Global;
 /// Takes one more line.
 fn put_line(alloc: Global, reading: &mut Reading, line: &Line) -> Result<(), LdifError>
     ensures taken { OnOk result (specs.after_line reading.old (line_says line.now.text) ≡ Some reading.new) }
-    ensures refused { IfErr result (λ e. IsLineFault e (specs.after_line reading.old (line_says line.now.text)) line.now.number) }
+    ensures refused { IfErr result
+        (λ e. IsLineFault e (specs.after_line reading.old (line_says line.now.text)) line.now.number) }
 {
     let said = line_said(alloc, line.text())?;
     reading.put(alloc, said, line.number())

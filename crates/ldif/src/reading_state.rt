@@ -74,7 +74,8 @@ impl Reading {
     /// Begins a record.
     fn put_name(&mut self, alloc: Global, name: String, line: usize) -> Result<(), LdifError>
         ensures taken { OnOk result (specs.after_name self.old (string_bytes name) self.old.current ≡ Some self.new) }
-        ensures refused { IfErr result (λ e. IsLineFault e (specs.after_name self.old (string_bytes name) self.old.current) line) }
+        ensures refused { IfErr result
+            (λ e. IsLineFault e (specs.after_name self.old (string_bytes name) self.old.current) line) }
     {
         match self.current.take() {
             Some(_) => Err(LdifError::BadLdif { line }),

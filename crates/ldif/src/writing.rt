@@ -38,7 +38,8 @@ fn put_records(alloc: Global, out: &mut Vec<u8>, records: &[Record]) -> Result<(
 }
 
 /// The one text that is written of records (RFC 2849): `version: 1`, then for each record an empty line, its `dn:` line
-/// and its values, each line ended by LF, none folded; base64 where a value is no safe string. Fails only for want of memory.
+/// and its values, each line ended by LF, none folded; base64 where a value is no safe string. Fails only for want of
+/// memory.
 pub fn write(alloc: Global, records: &[Record]) -> Result<Vec<u8>, AllocError>
     ensures { IfOk result (λ v. v.items ≡ written.ldif_text records.now) }
 {

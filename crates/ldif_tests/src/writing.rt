@@ -1,4 +1,5 @@
-//! Records that are written: values that stand as they are and values that don't (RFC 2849, SAFE-STRING; base64 by RFC 4648).
+//! Records that are written: values that stand as they are and values that don't (RFC 2849,
+//! SAFE-STRING; base64 by RFC 4648).
 
 use ldif::{AttributeValue, Record, read, write};
 use std::alloc::{AllocError, Global};

@@ -2,6 +2,7 @@ pub mod Equations
 pub mod LeafPlans
 pub mod LeafValues
 pub mod PartRuns
+pub mod PlanEquations
 pub mod Rows
 pub mod RunLists
 pub mod Standing

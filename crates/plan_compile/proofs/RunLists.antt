@@ -16,7 +16,7 @@ use Rattle.dir_index.specs.declared.posting.Posting.TheVariants as posting
 use Rattle.plan_sets.specs.Sets.{holds}
 use Rattle.plan_sets.specs.declared.plan.Plan.{Plan}
 use Rattle.plan_sets.specs.declared.plan.Plan.TheVariants as plan
-use Rattle.plan_sets.proofs.Equations.{in_plan-Posting, in_plan-Inter, in_plan-Empty}
+use Rattle.plan_compile.proofs.PlanEquations.{in_plan-Posting, in_plan-Inter, in_plan-Empty}
 use Rattle.ldap_eval.specs.Bound.{leaf_value}
 use Rattle.ldap_eval.specs.declared.bound.Leaf.{Leaf}
 use Rattle.plan_compile.specs.Bounds.{Bounds, is_test_decided}

@@ -8,7 +8,7 @@ use Rattle.index_choice.specs.declared.kinds.Kinds.{Kinds}
 use Rattle.plan_sets.specs.Sets.{holds, SetsAreOfEntries}
 use Rattle.plan_sets.specs.declared.plan.Plan.{Plan}
 use Rattle.plan_sets.specs.declared.plan.Plan.TheVariants as plan
-use Rattle.plan_sets.proofs.Equations.{in_plan-Inter, in_plan-Union, in_plan-Empty}
+use Rattle.plan_compile.proofs.PlanEquations.{in_plan-Inter, in_plan-Union, in_plan-Empty}
 use Rattle.ldap_eval.specs.Bound.{leaf_value}
 use Rattle.ldap_eval.specs.declared.bound.Leaf.{Leaf}
 use Rattle.ldap_eval.specs.declared.bound.BoundFilter.{BoundFilter, out-BoundFilter, out-roll-BoundFilter}

@@ -4,8 +4,7 @@ use Rattle.std.specs.Prelude.{filter}
 use Rattle.ldap_match.specs.declared.truth.Truth.{Truth}
 use Rattle.ldap_match.specs.declared.truth.Truth.TheVariants.{True, False, Undefined}
 use Rattle.dir_index.specs.Postings.{IsRising}
-use Rattle.plan_sets.specs.Streams.{Covers}
-use Rattle.plan_sets.proofs.Rising.{filters_agree}
+use Rattle.plan_sets.specs.Streams.{Draws}
 use Rattle.plan_sets.specs.Sets.{Guides}
 use Rattle.plan_run.specs.Runs.{is_true, true_set, is_open, is_wanted, IsUnderWay}
 
@@ -24,19 +23,19 @@ true_of True h = refl
 true_of False h = cc
 true_of Undefined h = cc
 
-pub started_numbers : (must may : ℕ → Bool) (value : ℕ → Truth) (scope candidates : List ℕ) → IsRising scope → IsRising candidates → Covers may scope candidates → Guides must value may scope
+pub started_numbers : (must may : ℕ → Bool) (value : ℕ → Truth) (scope candidates : List ℕ) → Draws may scope candidates → Guides must value may scope
     → filter (is_wanted value scope) candidates ≡ true_set value scope
-started_numbers must may value scope candidates rs rc covers guides =
-    filters_agree (λ n. is_true (value n)) scope candidates rs rc (λ n s h. covers n s (guides.complete n s (true_of _ h)))
+started_numbers must may value scope candidates draws guides =
+    draws (λ n. is_true (value n)) (λ n s h. guides.complete n s (true_of _ h))
 
-pub started : (must may : ℕ → Bool) (value : ℕ → Truth) (scope candidates : List ℕ) (looks : ℕ) → IsRising scope → IsRising candidates → Covers may scope candidates → Guides must value may scope
+pub started : (must may : ℕ → Bool) (value : ℕ → Truth) (scope candidates : List ℕ) (looks : ℕ) → IsRising scope → IsRising candidates → Draws may scope candidates → Guides must value may scope
     → looks + length scope < 2 ^ 64 → IsUnderWay must may value scope candidates 0 looks
-started must may value scope candidates looks rs rc covers guides room =
+started must may value scope candidates looks rs rc draws guides room =
     let short : length (filter (is_open must may) scope) ≤ length scope = filter_short (is_open must may) scope in
     record {
       scope_rises = rs;
       guides = guides;
-      left = sym (filters_agree (is_open must may) scope candidates rs rc (λ n s h. covers n s (and_left _ _ h)));
+      left = sym (draws (is_open must may) (λ n s h. and_left _ _ h));
       rises = rc;
       within = omega arith;
       fits = omega arith;

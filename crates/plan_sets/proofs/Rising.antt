@@ -4,7 +4,7 @@ use Rattle.std.specs.Prelude.{filter, count_by}
 use Rattle.std.specs.List.{list_any, AllByRecursion}
 use Rattle.std.proofs.lemmas.List.Sums.{length-filter}
 use Rattle.dir_index.specs.Postings.{has_number, IsRising}
-use Rattle.plan_sets.specs.Streams.{Covers}
+use Rattle.plan_sets.specs.Streams.{Covers, Draws}
 
 pub any_map : {X Y : Type 0} (p : Y → Bool) (h : X → Y) (xs : List X) → list_any p (map h xs) ≡ list_any (λ x. p (h x)) xs
 any_map p h [] = refl
@@ -130,3 +130,7 @@ pub counts_agree : (p : ℕ → Bool) (scope candidates : List ℕ) → IsRising
     → count_by (λ n. has_number n scope && p n) candidates ≡ count_by p scope
 counts_agree p scope candidates rs rc covers =
     sym (length-filter _ candidates) ∙ ap length (filters_agree p scope candidates rs rc covers) ∙ length-filter p scope
+
+-- rising candidates that have all that may be found draw it from the scope
+pub drawn : (may : ℕ → Bool) (scope candidates : List ℕ) → IsRising scope → IsRising candidates → Covers may scope candidates → Draws may scope candidates
+drawn may scope candidates rs rc covers p only = filters_agree p scope candidates rs rc (λ n s h. covers n s (only n s h))

@@ -1,5 +1,5 @@
 -- Rising lists seen as one. Lists of numbers flow in, one rising list flows out; plans and entries are not here.
-use Rattle.std.specs.Prelude.{◌≡◌, ℕ, ◌≤◌, List, [], ◌∷◌, Bool, true, false, cond, nat_eq, nat_lt, Option, None, Some}
+use Rattle.std.specs.Prelude.{◌≡◌, ℕ, ◌≤◌, List, [], ◌∷◌, Bool, true, false, cond, nat_eq, nat_lt, Option, None, Some, ◌&&◌, filter}
 use Rattle.std.specs.List.{list_any, AllByRecursion}
 use Rattle.dir_index.specs.Postings.{has_number}
 
@@ -47,6 +47,12 @@ lesser (Some n) (x ∷ xs) = cond (nat_lt x n) (Some x) (Some n)
 -- each number of the scope that may be found is among the candidates
 abbrev pub Covers : (ℕ → Bool) → List ℕ → List ℕ → Type 0
 Covers may scope candidates = (n : ℕ) → has_number n scope ≡ true → may n ≡ true → has_number n candidates ≡ true
+
+-- The candidates that are in scope and pass are the numbers of the scope that pass, in order; for each test that only what may be
+-- found passes.
+abbrev pub Draws : (ℕ → Bool) → List ℕ → List ℕ → Type 0
+Draws may scope candidates = (p : ℕ → Bool) → ((n : ℕ) → has_number n scope ≡ true → p n ≡ true → may n ≡ true)
+    → filter (λ n. has_number n scope && p n) candidates ≡ filter p scope
 
 -- Lists that have all that some lists had, and each number of the scope that passes.
 pub record Gathers (passes : ℕ → Bool) (scope : List ℕ) (before after : List (List ℕ)) : Type 0 where

@@ -5,7 +5,7 @@ ghost use Rattle.std.specs.Prelude.{◌≡◌, ◌∷◌, ◌++◌, [], map, IfO
 ghost use Rattle.std.specs.List.{list_any, list_all};
 ghost use Rattle.dir_index.specs.Postings.{IsRising, AreRising};
 ghost use Rattle.plan_sets.specs.Sets.{is_in};
-ghost use Rattle.plan_sets.specs.Streams.{Covers, Gathers};
+ghost use Rattle.plan_sets.specs.Streams.{Covers, Draws, Gathers};
 
 use crate::estimating::{is_cheap, smallest};
 use crate::plan::Plan;
@@ -90,10 +90,8 @@ fn push_one<'a, K: Kept>(
     push_list(scope, into)
 }
 
-/// The candidates of a plan, in rising order: all numbers of the scope that are in its set are among them, and
-/// others may be. What they are drawn from stays borrowed, and the vector of lists is all the memory that is taken,
-/// here and later.
-pub fn candidates<'a, K: Kept>(
+/// The candidates, from the plan's lists where that is cheap, else from the scope.
+fn draw<'a, K: Kept>(
     alloc: Global,
     plan: &Plan,
     kept: &'a K,
@@ -110,6 +108,24 @@ pub fn candidates<'a, K: Kept>(
     } else {
         scope_alone(alloc, scope)
     }
+}
+
+/// The candidates of a plan, in rising order: all numbers of the scope that are in its set are among them, and
+/// others may be. What they are drawn from stays borrowed, and the vector of lists is all the memory that is taken,
+/// here and later.
+pub fn candidates<'a, K: Kept>(
+    alloc: Global,
+    plan: &Plan,
+    kept: &'a K,
+    scope: &'a [u64],
+) -> Result<Stream<'a>, AllocError>
+    requires { IsRising scope.now }
+    ensures covers { IfOk result (λ s. Covers (is_in (K.lists kept.now) scope.now plan.now) scope.now s) }
+    ensures rising { IfOk result (λ s. IsRising s) }
+    ensures draws { IfOk result (λ s. Draws (is_in (K.lists kept.now) scope.now plan.now) scope.now s) }
+{
+    let stream = draw(alloc, plan, kept, scope)?;
+    Ok(stream)
 }
 
 /// The scope as candidates.

@@ -2,6 +2,7 @@
 //! No expectation is here.
 
 use dir_store::Store;
+use index_choice::Indexes;
 use ldap_dn::Name;
 use ldap_schema::Schema;
 use ldap_session::Session;
@@ -32,7 +33,7 @@ fn begun(alloc: Global) -> Result<Session, Fail> {
     let schema = Schema::built_in(alloc)?;
     let suffix = Name::read(alloc, &schema, "dc=example,dc=com")?;
     let manager = Name::read(alloc, &schema, "cn=admin,dc=example,dc=com")?;
-    let store = Store::new(alloc, schema, suffix);
+    let store = Store::new(alloc, schema, Indexes::none(alloc), suffix);
     Ok(Session::new(store, 0, manager, b"secret".as_slice().to_vec(alloc)?))
 }
 

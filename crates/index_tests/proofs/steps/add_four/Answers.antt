@@ -1,9 +1,7 @@
-use Rattle.std.proofs.Common.{◌≡◌, ℕ, List, [], ◌∷◌, ◌++◌, refl, arith, inl, inr}
+use Rattle.std.proofs.Common.{List, [], ◌∷◌, arith}
 use Rattle.std.proofs.lemmas.Result.{on_ok_weaker}
 use Rattle.dir_index.specs.Postings.{Indexed}
-use Rattle.dir_index.specs.Whole.{AreOf, AllBelow, HasEntry, without, with_attributes}
-use Rattle.index_tests.specs.Sample.{four, three}
-use Rattle.dir_index.specs.Whole.{PostingsModel}
+use Rattle.dir_index.specs.Whole.{AreOf}
 use Rattle.index_tests.proofs.steps.add_four.Goals as goal
 
 pub add-requires-2 : goal.add-requires-2

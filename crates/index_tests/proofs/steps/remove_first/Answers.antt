@@ -1,8 +1,5 @@
-use Rattle.std.proofs.Common.{◌≡◌, ℕ, List, [], ◌∷◌, ◌++◌, refl, arith, inl, inr}
 use Rattle.std.proofs.lemmas.Result.{on_ok_weaker}
-use Rattle.dir_index.specs.Postings.{Indexed}
-use Rattle.dir_index.specs.Whole.{AreOf, AllBelow, HasEntry, without, with_attributes}
-use Rattle.index_tests.specs.Sample.{four, three}
+use Rattle.index_tests.specs.Sample.{four}
 use Rattle.index_tests.proofs.steps.remove_first.Goals as goal
 
 pub returns : goal.returns
