@@ -92,7 +92,7 @@ answer_of d q (Some base) = answer_at d q base
 abbrev pub answer : Directory → SearchRequestValue → Answer
 answer d q = cond (is_subordinate q.scope) (refused (only 2)) (answer_of d q (name_of_text d.schema q.base))
 
--- How many entries a search evaluates its filter on: those in scope, and the root DSE alone where that is searched.
+-- How many entries there are to evaluate a search's filter on: those in scope, and the root DSE alone where that is searched.
 abbrev pub tried_at : Directory → SearchRequestValue → List RdnModel → ℕ
 tried_at d q base = cond (is_empty base && is_base q.scope) 1 (cond (stands d base) (length (in_scope d q.scope base)) 0)
 

@@ -7,7 +7,7 @@ use Rattle.dir_search.specs.declared.found.SearchAnswer.{SearchAnswer}
 abbrev pub answer_view : SearchAnswer → Answer
 answer_view a = record { code = a.code; matched = string_bytes a.matched; entries = map entry_view a.entries.items }
 
--- An answer in memory stands for this one, and came of no more evaluations of the filter than so many: of just so many, where no limit
+-- An answer in memory stands for this one, and tells of no more evaluations of the filter than so many: of just so many, where no limit
 -- cut it short.
 pub record Finds (a : SearchAnswer) (x : Answer) (most : ℕ) : Type 0 where
   pub shown : answer_view a ≡ x

@@ -315,7 +315,7 @@ pub fn search(
 ) -> Result<SearchAnswer, AllocError>
     ensures answer { IfOk result (λ a. answer_view a ≡ answer store.now (search_view request.now)) }
 
-    // No entry is evaluated twice, and none that is not in scope: all of those in scope are, where no size limit cuts the answer short.
+    // The count that is told is at most that of the entries in scope, and just that one where no size limit cuts the answer short.
     ensures tests { IfOk result (λ a. a.tests ≤ tried store.now (search_view request.now)) }
     ensures all { IfOk result (λ a. a.code ≡ 0 → a.tests ≡ tried store.now (search_view request.now)) }
 {
