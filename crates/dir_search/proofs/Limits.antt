@@ -1,8 +1,10 @@
--- The size limit: where a search stops, and what it has shown by then. Entries are tried by their numbers.
-use Rattle.std.proofs.Common.{◌≡◌, ◌<◌, ◌≤◌, ◌+◌, ℕ, zero, suc, Bool, true, false, cond, ◌&&◌, nat_lt, nat_eq, List, [], ◌∷◌, ◌++◌, length, map, filter, take, drop, refl, sym, ap, ◌∙◌, subst, arith, length-append, slice_index_or, take-append-drop, Option, None, Some}
+-- The size limit: where a search stops, and what it has shown by then. Entries are found by their numbers.
+use Rattle.std.proofs.Common.{◌≡◌, ◌<◌, ◌≤◌, ◌+◌, ◌-◌, ℕ, zero, suc, Bool, true, false, cond, ◌&&◌, nat_lt, nat_eq, List, [], ◌∷◌, ◌++◌, length, map, take, drop, refl, sym, ap, ◌∙◌, subst, arith, length-append, append_assoc, Option, None, Some}
+use Rattle.std.specs.Prelude.{is_some}
+use Rattle.std.specs.List.{slice_get}
 use Rattle.std.proofs.lemmas.Bool.Decides.{nat_tests}
-use Rattle.std.proofs.lemmas.List.{take_at, take_more, drop_more, map-append, append-nil}
-use Rattle.std.proofs.lemmas.List.Elements.{filter-append}
+use Rattle.std.proofs.lemmas.List.{take_at, append-nil, length-drop}
+use Rattle.std.proofs.lemmas.Option.{slice_get_past}
 use Rattle.ldap_msg.specs.Messages.{SearchResultEntryValue}
 use Rattle.ldap_schema.specs.Schema.{SchemaModel}
 use Rattle.dir_entry.specs.Entry.{IsKeyedBy}
@@ -10,11 +12,18 @@ use Rattle.dir_tree.specs.Directory.{Entered, entry_at}
 use Rattle.dir_store.specs.Directory.{NamedEntry}
 use Rattle.dir_store.specs.Stored.{named, AreKeyedBy}
 use Rattle.dir_search.specs.Answer.{Answer, limited}
+use Rattle.dir_search.specs.Looks.{AreHere}
 use Rattle.dir_search.specs.Numbered.{put_some, entries_of}
 
--- what is shown of the entries so far, and that it is within the limit
-pub record SoFar (passes : NamedEntry → Bool) (show : NamedEntry → SearchResultEntryValue) (limit : ℕ) (tried : List NamedEntry) (shown : List SearchResultEntryValue) : Type 0 where
-  pub is : shown ≡ map show (filter passes tried)
+-- what is shown of the entries of numbers
+abbrev pub shown_of : (NamedEntry → SearchResultEntryValue) → List Entered → List ℕ → List SearchResultEntryValue
+shown_of show d ks = map show (map named (entries_of ks d))
+
+-- what is shown of the entries so far, and that it is within the limit; the numbers that are left
+pub record SoFar (show : NamedEntry → SearchResultEntryValue) (d : List Entered) (limit : ℕ) (all left : List ℕ) (shown : List SearchResultEntryValue) : Type 0 where
+  pub is : shown ++ shown_of show d left ≡ shown_of show d all
+  pub left_is : left ≡ drop (length shown) all
+  pub here : AreHere d left
   pub within : 0 < limit → length shown ≤ limit
 
 -- more entries than the limit
@@ -40,68 +49,82 @@ limited_within (suc n) xs within =
     let P : Bool → Answer = λ v. cond v (record { code = 4; matched = []; entries = take (suc n) xs }) (record { code = 0; matched = []; entries = xs }) in
     ap P c
 
-joined : (o : Option Entered) (es fs : List Entered) → put_some o es ++ fs ≡ put_some o (es ++ fs)
-joined None es fs = refl
-joined (Some e) es fs = refl
+-- a list that goes on with a number, at the place of that number
+record IsNext (all : List ℕ) (k n : ℕ) (left : List ℕ) : Type 0 where
+  rest : left ≡ drop (suc k) all
+  here : slice_get all k ≡ Some n
 
--- the entries of numbers, and of more behind them
-entries_join : (d : List Entered) (ks ls : List ℕ) → entries_of (ks ++ ls) d ≡ entries_of ks d ++ entries_of ls d
-entries_join d [] ls = refl
-entries_join d (k ∷ ks) ls = ap (put_some (entry_at k d)) (entries_join d ks ls) ∙ sym (joined (entry_at k d) (entries_of ks d) (entries_of ls d))
+next_at : (all : List ℕ) (k n : ℕ) (left : List ℕ) → n ∷ left ≡ drop k all → IsNext all k n left
+next_at [] zero n left h = absurd (cc h)
+next_at [] (suc k) n left h = absurd (cc h)
+next_at (x ∷ all) zero n left h = record { rest = cc; here = cc }
+next_at (x ∷ all) (suc k) n left h = let p : IsNext all k n left = next_at all k n left h in record { rest = p.rest; here = p.here }
 
-module _ (d : List Entered) (ks : List ℕ) (i k : ℕ) (lt : i < length ks) (is : k ≡ slice_index_or ks i k) where
-  taken : entries_of (take (i + 1) ks) d ≡ entries_of (take i ks) d ++ put_some (entry_at k d) []
-  taken = ap (λ (l : List ℕ). entries_of l d) (take_more ks i k lt ∙ ap (λ (n : ℕ). take i ks ++ n ∷ []) (sym is)) ∙ entries_join d (take i ks) (k ∷ [])
+-- what is shown of an entry that is there is one, and stands in front of the rest
+one_more : (show : NamedEntry → SearchResultEntryValue) (d : List Entered) (n : ℕ) (left : List ℕ) → shown_of show d (n ∷ left) ≡ shown_of show d (n ∷ []) ++ shown_of show d left
+one_more show d n left = by (entry_at n d)
+  where
+    by : (o : Option Entered) → map show (map named (put_some o (entries_of left d))) ≡ map show (map named (put_some o [])) ++ shown_of show d left
+    by None = refl
+    by (Some e) = refl
 
-  -- a number that no entry has
-  pub tried_none : entry_at k d ≡ None → map named (entries_of (take (i + 1) ks) d) ≡ map named (entries_of (take i ks) d)
-  tried_none none =
-      ap (λ (l : List Entered). map named l) (taken ∙ ap (λ (o : Option Entered). entries_of (take i ks) d ++ put_some o []) none ∙ append-nil (entries_of (take i ks) d))
+just_one : (show : NamedEntry → SearchResultEntryValue) (d : List Entered) (n : ℕ) → is_some (entry_at n d) ≡ true → length (shown_of show d (n ∷ [])) ≡ 1
+just_one show d n here = by (entry_at n d) here
+  where
+    by : (o : Option Entered) → is_some o ≡ true → length (map show (map named (put_some o []))) ≡ 1
+    by None h = absurd (cc h)
+    by (Some e) h = refl
 
-  -- the entries that were tried, and one more
-  pub tried_more : (x : Entered) → entry_at k d ≡ Some x → map named (entries_of (take (i + 1) ks) d) ≡ map named (entries_of (take i ks) d) ++ named x ∷ []
-  tried_more x some =
-      ap (λ (l : List Entered). map named l) (taken ∙ ap (λ (o : Option Entered). entries_of (take i ks) d ++ put_some o []) some)
-      ∙ map-append named (entries_of (take i ks) d) (x ∷ [])
+pub begins : (show : NamedEntry → SearchResultEntryValue) (d : List Entered) (limit : ℕ) (all : List ℕ) → AreHere d all → SoFar show d limit all all []
+begins show d limit all here = record { is = refl; left_is = refl; here = here; within = λ pos. omega arith }
 
-  -- all entries: those that were tried, this one and the rest
-  pub all_are : (x : Entered) → entry_at k d ≡ Some x → map named (entries_of ks d) ≡ map named (entries_of (take i ks) d) ++ named x ∷ map named (entries_of (drop (i + 1) ks) d)
-  all_are x some =
-      ap (λ (l : List ℕ). map named (entries_of l d)) (sym (take-append-drop i ks) ∙ ap (λ (l : List ℕ). take i ks ++ l) (drop_more ks i k lt ∙ ap (λ (n : ℕ). n ∷ drop (i + 1) ks) (sym is)))
-      ∙ ap (λ (l : List Entered). map named l) (entries_join d (take i ks) (k ∷ drop (i + 1) ks) ∙ ap (λ (o : Option Entered). entries_of (take i ks) d ++ put_some o (entries_of (drop (i + 1) ks) d)) some)
-      ∙ map-append named (entries_of (take i ks) d) (x ∷ entries_of (drop (i + 1) ks) d)
+module _ (show : NamedEntry → SearchResultEntryValue) (d : List Entered) (limit : ℕ) (all left : List ℕ) (shown : List SearchResultEntryValue) (n : ℕ) where
+  -- the entry of a number is shown, below the limit
+  pub shows : SoFar show d limit all (n ∷ left) shown → (after : List SearchResultEntryValue) → after ≡ shown ++ shown_of show d (n ∷ []) → (0 < limit → length shown ≡ limit → ⊥) → SoFar show d limit all left after
+  shows so_far after is below =
+      let step : IsNext all (length shown) n left = next_at all (length shown) n left so_far.left_is in
+      let size : length after ≡ suc (length shown) = ap length is ∙ length-append shown (shown_of show d (n ∷ [])) ∙ omega (arith, just_one show d n so_far.here.0) in
+      record {
+        is =
+            ap (λ (l : List SearchResultEntryValue). l ++ shown_of show d left) is
+            ∙ append_assoc shown (shown_of show d (n ∷ [])) (shown_of show d left)
+            ∙ ap (λ (l : List SearchResultEntryValue). shown ++ l) (sym (one_more show d n left))
+            ∙ so_far.is;
+        left_is = step.rest ∙ ap (λ (k : ℕ). drop k all) (sym size);
+        here = so_far.here.1;
+        within = λ pos. let le = so_far.within pos in let ne = below pos in omega (arith, size, le, ne);
+      }
 
-module _ (passes : NamedEntry → Bool) (show : NamedEntry → SearchResultEntryValue) (limit : ℕ) (tried : List NamedEntry) (shown : List SearchResultEntryValue) (e : NamedEntry) where
-  one : (b : Bool) → passes e ≡ b → (rest : List NamedEntry) → filter passes (e ∷ rest) ≡ cond b (e ∷ filter passes rest) (filter passes rest)
-  one b is rest = ap (λ (v : Bool). cond v (e ∷ filter passes rest) (filter passes rest)) is
+  -- an entry past the limit
+  pub stops : SoFar show d limit all (n ∷ left) shown → 0 < limit → length shown ≡ limit → limited limit (shown_of show d all) ≡ record { code = 4; matched = []; entries = shown }
+  stops so_far pos size =
+      past (shown_of show d (n ∷ [])) (just_one show d n so_far.here.0) (ap (λ (l : List SearchResultEntryValue). shown ++ l) (sym (one_more show d n left)) ∙ so_far.is)
+    where
+      past : (ones : List SearchResultEntryValue) → length ones ≡ 1 → shown ++ (ones ++ shown_of show d left) ≡ shown_of show d all → limited limit (shown_of show d all) ≡ record { code = 4; matched = []; entries = shown }
+      past [] one is = absurd (omega (arith, one))
+      past (x ∷ xs) one is = ap (limited limit) (sym is) ∙ limited_past limit shown x (xs ++ shown_of show d left) pos size
 
-  -- an entry that doesn't match
-  pub skips : SoFar passes show limit tried shown → passes e ≡ false → SoFar passes show limit (tried ++ e ∷ []) shown
-  skips so_far fails = record {
-    is = so_far.is ∙ ap (λ (l : List NamedEntry). map show l) (sym (filter-append passes tried (e ∷ []) ∙ ap (λ (l : List NamedEntry). filter passes tried ++ l) (one false fails []) ∙ append-nil (filter passes tried)));
-    within = so_far.within;
-  }
+  -- it stands at the limit's place
+  pub stops_at : SoFar show d limit all (n ∷ left) shown → length shown ≡ limit → slice_get all limit ≡ Some n
+  stops_at so_far size =
+      let step : IsNext all (length shown) n left = next_at all (length shown) n left so_far.left_is in
+      sym (ap (slice_get all) size) ∙ step.here
 
-  -- an entry that matches, below the limit
-  pub shows : SoFar passes show limit tried shown → passes e ≡ true → (0 < limit → length shown ≡ limit → ⊥) → SoFar passes show limit (tried ++ e ∷ []) (shown ++ show e ∷ [])
-  shows so_far matches below = record {
-    is =
-        ap (λ (l : List SearchResultEntryValue). l ++ show e ∷ []) so_far.is
-        ∙ sym (map-append show (filter passes tried) (e ∷ []))
-        ∙ ap (λ (l : List NamedEntry). map show l) (sym (filter-append passes tried (e ∷ []) ∙ ap (λ (l : List NamedEntry). filter passes tried ++ l) (one true matches [])));
-    within = λ pos. let le = so_far.within pos in let ne = below pos in omega (arith, length-append shown (show e ∷ []), le, ne);
-  }
+-- all are shown
+pub ends : (show : NamedEntry → SearchResultEntryValue) (d : List Entered) (limit : ℕ) (all : List ℕ) (shown : List SearchResultEntryValue) → SoFar show d limit all [] shown
+    → limited limit (shown_of show d all) ≡ record { code = 0; matched = []; entries = shown }
+ends show d limit all shown so_far =
+    let same : shown ≡ shown_of show d all = sym (append-nil shown) ∙ so_far.is in
+    ap (limited limit) (sym same) ∙ limited_within limit shown so_far.within
 
-  -- an entry that matches, past the limit
-  pub stops : SoFar passes show limit tried shown → passes e ≡ true → 0 < limit → length shown ≡ limit → (all rest : List NamedEntry) → all ≡ tried ++ e ∷ rest
-      → limited limit (map show (filter passes all)) ≡ record { code = 4; matched = []; entries = shown }
-  stops so_far matches pos size all rest is =
-      let found : map show (filter passes all) ≡ shown ++ show e ∷ map show (filter passes rest) =
-      ap (λ (l : List NamedEntry). map show (filter passes l)) is
-      ∙ ap (λ (l : List NamedEntry). map show l) (filter-append passes tried (e ∷ rest) ∙ ap (λ (l : List NamedEntry). filter passes tried ++ l) (one true matches rest))
-      ∙ map-append show (filter passes tried) (e ∷ filter passes rest)
-      ∙ ap (λ (l : List SearchResultEntryValue). l ++ show e ∷ map show (filter passes rest)) (sym so_far.is) in
-      ap (limited limit) found ∙ limited_past limit shown (show e) (map show (filter passes rest)) pos size
+-- none stands at the limit's place
+pub ends_before : (show : NamedEntry → SearchResultEntryValue) (d : List Entered) (limit : ℕ) (all : List ℕ) (shown : List SearchResultEntryValue) → SoFar show d limit all [] shown
+    → 0 < limit → slice_get all limit ≡ None
+ends_before show d limit all shown so_far pos =
+    let none : length (drop (length shown) all) ≡ 0 = sym (ap length so_far.left_is) in
+    let size : length (drop (length shown) all) ≡ length all - length shown = length-drop (length shown) all in
+    let le : length shown ≤ limit = so_far.within pos in
+    slice_get_past all limit (omega (arith, none, size, le))
 
 -- the keys of the entry of a number are those of the schema
 pub keyed_at : (s : SchemaModel) (d : List Entered) (k : ℕ) (x : Entered) → AreKeyedBy s d → entry_at k d ≡ Some x → IsKeyedBy s x.entry

@@ -4,4 +4,5 @@ pub mod RootDse
 pub mod Answer
 pub mod Compared
 pub mod Numbered
+pub mod Looks
 pub mod View

@@ -1,15 +1,39 @@
--- What an answer in memory stands for.
-use Rattle.std.specs.Prelude.{◌≡◌, ℕ, ◌≤◌, map, string_bytes}
+-- What an answer in memory stands for, and how many entries it tells of.
+use Rattle.std.specs.Prelude.{◌≡◌, ℕ, ◌<◌, ◌≤◌, List, length, map, filter, nat_le, Some, string_bytes}
+use Rattle.std.specs.List.{slice_get}
+use Rattle.ldap_schema.specs.Schema.{SchemaModel}
+use Rattle.ldap_eval.specs.declared.bound.BoundFilter.{BoundFilter}
+use Rattle.ldap_msg.specs.Messages.{SearchRequestValue, SearchResultEntryValue}
 use Rattle.ldap_msg.specs.View.{entry_view}
-use Rattle.dir_search.specs.Answer.{Answer}
+use Rattle.index_choice.specs.declared.kinds.Kinds.{Kinds}
+use Rattle.dir_tree.specs.Directory.{Entered}
+use Rattle.dir_store.specs.Directory.{NamedEntry}
+use Rattle.dir_store.specs.Stored.{named}
+use Rattle.dir_search.specs.Answer.{Answer, limited}
+use Rattle.dir_search.specs.Looks.{true_numbers, IsFew}
+use Rattle.dir_search.specs.Numbered.{entries_of, found_of}
 use Rattle.dir_search.specs.declared.found.SearchAnswer.{SearchAnswer}
 
 abbrev pub answer_view : SearchAnswer → Answer
 answer_view a = record { code = a.code; matched = string_bytes a.matched; entries = map entry_view a.entries.items }
 
--- An answer in memory stands for this one, and tells of no more evaluations of the filter than so many: of just so many, where no limit
--- cut it short.
+-- An answer in memory stands for this one, and tells of no more evaluations of the filter than so many.
 pub record Finds (a : SearchAnswer) (x : Answer) (most : ℕ) : Type 0 where
   pub shown : answer_view a ≡ x
   pub tests : a.tests ≤ most
-  pub all : a.code ≡ 0 → a.tests ≡ most
+
+-- An answer in memory shows the entries of the numbers that were found, up to a limit. It tells of no more evaluations than there were numbers
+-- left open; where there are more entries than the limit, up to the first past it.
+pub record Shows (a : SearchAnswer) (show : NamedEntry → SearchResultEntryValue) (limit : ℕ) (d : List Entered) (found left_open : List ℕ) : Type 0 where
+  pub shown : answer_view a ≡ limited limit (map show (map named (entries_of found d)))
+  pub few : a.tests ≤ length left_open
+  pub few_up_to : (m : ℕ) → 0 < limit → slice_get found limit ≡ Some m → a.tests ≤ length (filter (λ n. nat_le n m) left_open)
+
+-- An answer in memory is what a search finds among the entries of these numbers. It evaluated the filter on few of them; where there are more
+-- entries than the size limit, on few of those up to the first past it.
+pub record FindsAmong (a : SearchAnswer) (s : SchemaModel) (q : SearchRequestValue) (ix : List Kinds) (b : BoundFilter) (d : List Entered) (ks : List ℕ)
+    : Type 0 where
+  pub shown : answer_view a ≡ found_of s q ks d
+  pub few : IsFew ix b d ks a.tests
+  pub few_up_to : (m : ℕ) → 0 < q.size_limit → slice_get (true_numbers b d ks) q.size_limit ≡ Some m
+      → IsFew ix b d (filter (λ n. nat_le n m) ks) a.tests

@@ -8,7 +8,9 @@ mod root_dse;
 mod scoping;
 mod searching;
 mod selecting;
+mod showing;
+mod values;
 
 pub use comparing::compare;
 pub use found::SearchAnswer;
-pub use searching::search;
+pub use searching::{search, search_scope};

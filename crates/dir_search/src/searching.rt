@@ -1,7 +1,6 @@
-//! The search itself: each entry in scope is tried in order of number, up to the size limit. A directory and a request flow in, the
-//! result code and what is shown of the entries flow out.
-ghost use Rattle.std.specs.Prelude.{◌≡◌, ◌<◌, ◌≤◌, ◌&&◌, ℕ, length, true, false, IfOk};
-ghost use Rattle.std.specs.Bool.{OnTrue, OnFalse};
+//! The search itself: the numbers in scope of the entries whose filter value is True are drawn from plans, in order, up to the size
+//! limit. A directory and a request flow in, the result code and what is shown of the entries flow out. How plans are made is not here.
+ghost use Rattle.std.specs.Prelude.{◌≡◌, ◌≤◌, ◌&&◌, ℕ, List, length, true, false, IfOk};
 ghost use Rattle.ldap_schema.specs.Schema.{SchemaModel};
 ghost use Rattle.ldap_filter.specs.Tree.{Tree as FilterTree};
 ghost use Rattle.ldap_filter.specs.View.{view as filter_view};
@@ -11,26 +10,35 @@ ghost use Rattle.ldap_eval.specs.Bound.{IsBoundTo};
 ghost use Rattle.ldap_eval.specs.Value.{filter_value};
 ghost use Rattle.ldap_msg.specs.View.{search_view};
 ghost use Rattle.dir_entry.specs.Entry.{attributes_of, IsKeyedBy};
+ghost use Rattle.dir_index.specs.Whole.{lists_of, ArePostingsOf};
 ghost use Rattle.dir_tree.specs.Directory.{name_eq, begins, numbers};
+ghost use Rattle.dir_store.specs.Listed.{listed_of};
 ghost use Rattle.dir_store.specs.Replies.{only};
 ghost use Rattle.dir_store.specs.Stored.{directory, AreKeyedBy};
+ghost use Rattle.plan_sets.specs.Sets.{is_in};
+ghost use Rattle.plan_run.specs.Runs.{AreGuides, is_open};
 ghost use Rattle.dir_search.specs.Answer.{answer, answer_of, answer_at, found_at, in_scope, tried, tried_of, tried_at, refused as refused_answer, is_true, is_base, stands, is_empty};
-ghost use Rattle.dir_search.specs.Numbered.{found_of};
+ghost use Rattle.dir_search.specs.Looks.{AreNumbersOf, IsFewOf, LeavesFew, value_in};
 ghost use Rattle.dir_search.specs.Scopes.{is_right_under, is_in_scope};
-ghost use Rattle.dir_search.specs.View.{answer_view, Finds};
+ghost use Rattle.dir_search.specs.View.{answer_view, Finds, FindsAmong};
 
 use crate::found::{SearchAnswer, refused};
 use crate::root_dse::show_root;
 use crate::scoping::{numbers_right_under, numbers_within};
-use crate::selecting::select;
+use crate::showing::show_found;
+use crate::values::Evaluated;
 use dir_entry::Entry;
-use dir_store::{Reply, Store};
+use dir_index::Postings;
+use dir_store::{IndexedTree, Reply, Store};
 use dir_tree::Tree;
 use ldap_dn::{Name, NameError, Rdn};
 use ldap_eval::{BoundFilter, bind, value};
 use ldap_match::Truth;
 use ldap_msg::{ResultCode, Scope, SearchRequest};
 use ldap_schema::Schema;
+use plan_compile::compile;
+use plan_run::start;
+use plan_sets::{Sided, sets_are_of_entries};
 use std::alloc::{AllocError, Global};
 
 /// Whether a filter is True on an entry.
@@ -44,78 +52,90 @@ pub fn matches(bound: &BoundFilter, entry: &Entry) -> bool
     }
 }
 
-/// Whether so many entries are all that the limit lets through; 0 is no limit.
-fn is_full(limit: usize, count: usize) -> bool
-    ensures full { OnTrue result ((0 < limit) × (count ≡ limit)) }
-    ensures more { OnFalse result (0 < limit → count ≡ limit → ⊥) }
+/// The plans that bound where a filter is True, over the posting lists of a tree's entries.
+fn guide(
+    alloc: Global,
+    tree: &Tree,
+    postings: &Postings,
+    bound: &BoundFilter,
+) -> Result<Sided, AllocError>
+    requires { ArePostingsOf (lists_of postings.now) postings.now.indexes (listed_of tree.now.entries) }
+    ensures guides { IfOk result (λ s. (ks : List ℕ) → AreNumbersOf ks tree.now.entries
+        → AreGuides (lists_of postings.now) s (value_in bound.now tree.now.entries) ks) }
+    ensures few { IfOk result (λ s. (ks : List ℕ) → AreNumbersOf ks tree.now.entries
+        → LeavesFew (is_open (is_in (lists_of postings.now) ks s.must) (is_in (lists_of postings.now) ks s.may))
+        postings.now.indexes bound.now tree.now.entries ks) }
 {
-    limit > 0 && count == limit
+    sets_are_of_entries();
+    let sided = compile(alloc, bound, postings.indexes())?;
+    Ok(sided)
 }
 
-/// What is shown of the entries of these numbers that match, up to the limit; 0 is no limit. It stops one past it.
-fn matching_entries(
+/// What is shown of the entries of these numbers that match, up to the limit; 0 is no limit. The numbers come from the posting lists; the
+/// filter is evaluated only where its plans leave open whether it is True.
+fn matching_listed(
     alloc: Global,
     schema: &Schema,
     tree: &Tree,
+    postings: &Postings,
+    bound: &BoundFilter,
+    numbers: &[u64],
+    request: &SearchRequest,
+) -> Result<SearchAnswer, AllocError>
+    requires lists { ArePostingsOf (lists_of postings.now) postings.now.indexes (listed_of tree.now.entries) }
+    requires bound { IsBoundTo schema.now (filter_view request.now.filter) bound.now }
+    requires keyed { AreKeyedBy schema.now tree.now.entries }
+    requires scope { AreNumbersOf numbers.now tree.now.entries }
+    ensures { IfOk result (λ a. FindsAmong a schema.now (search_view request.now) postings.now.indexes bound.now tree.now.entries numbers.now) }
+{
+    let sided = guide(alloc, tree, postings, bound)?;
+    let values = Evaluated {
+        tree,
+        bound,
+        looks: 0,
+    };
+    let running = start(alloc, &sided, postings, numbers, values)?;
+    show_found(alloc, schema, tree, request, running)
+}
+
+/// The same over a tree and its posting lists.
+fn matching_entries(
+    alloc: Global,
+    schema: &Schema,
+    indexed: &IndexedTree,
     bound: &BoundFilter,
     numbers: &[u64],
     request: &SearchRequest,
 ) -> Result<SearchAnswer, AllocError>
     requires bound { IsBoundTo schema.now (filter_view request.now.filter) bound.now }
-    requires keyed { AreKeyedBy schema.now tree.now.entries }
-    ensures { IfOk result (λ a. Finds a (found_of schema.now (search_view request.now) numbers.now tree.now.entries) (length numbers.now)) }
+    requires keyed { AreKeyedBy schema.now indexed.now.tree.entries }
+    requires scope { AreNumbersOf numbers.now indexed.now.tree.entries }
+    ensures { IfOk result (λ a. FindsAmong a schema.now (search_view request.now) indexed.now.indexes bound.now indexed.now.tree.entries numbers.now) }
 {
-    let limit = request.size_limit as usize;
-    let mut entries = Vec::new(alloc);
-    let mut tests = 0;
-    for number in numbers {
-        tests += 1;
-        let Some(held) = tree.entry(*number) else {
-            continue;
-        };
-        if !matches(bound, &held.entry) {
-            continue;
-        }
-        if is_full(limit, entries.as_slice().len()) {
-            return Ok(SearchAnswer {
-                code: ResultCode::SIZE_LIMIT_EXCEEDED,
-                matched: String::new(alloc),
-                entries,
-                tests,
-            });
-        }
-        let entry = select(alloc, schema, &request.attributes, request.types_only, held)?;
-        entries.push(entry)?;
-    }
-    let code = ResultCode::SUCCESS;
-    let matched = String::new(alloc);
-    Ok(SearchAnswer {
-        code,
-        matched,
-        entries,
-        tests,
-    })
+    let tree = indexed.tree();
+    let postings = indexed.postings();
+    matching_listed(alloc, schema, tree, postings, bound, numbers, request)
 }
 
 /// The search of one name's entry; of none, where the name has none.
 fn search_entry(
     alloc: Global,
     schema: &Schema,
-    tree: &Tree,
+    indexed: &IndexedTree,
     bound: &BoundFilter,
     name: &[Rdn],
     request: &SearchRequest,
 ) -> Result<SearchAnswer, AllocError>
     requires bound { IsBoundTo schema.now (filter_view request.now.filter) bound.now }
-    requires keyed { AreKeyedBy schema.now tree.now.entries }
-    ensures { IfOk result (λ a. Finds a (found_of schema.now (search_view request.now)
-        (numbers (λ e. name_eq (rdns name.now) (rdns e.name)) tree.now.entries) tree.now.entries)
-        (length (numbers (λ e. name_eq (rdns name.now) (rdns e.name)) tree.now.entries))) }
+    requires keyed { AreKeyedBy schema.now indexed.now.tree.entries }
+    ensures { IfOk result (λ a. FindsAmong a schema.now (search_view request.now) indexed.now.indexes bound.now indexed.now.tree.entries
+        (numbers (λ e. name_eq (rdns name.now) (rdns e.name)) indexed.now.tree.entries)) }
 {
+    let tree = indexed.tree();
     tree.is_single();
     match tree.find(name) {
-        Some(number) => matching_entries(alloc, schema, tree, bound, &[number], request),
-        None => matching_entries(alloc, schema, tree, bound, &[], request),
+        Some(number) => matching_entries(alloc, schema, indexed, bound, &[number], request),
+        None => matching_entries(alloc, schema, indexed, bound, &[], request),
     }
 }
 
@@ -123,17 +143,17 @@ fn search_entry(
 fn search_root(
     alloc: Global,
     schema: &Schema,
-    tree: &Tree,
+    indexed: &IndexedTree,
     bound: &BoundFilter,
     request: &SearchRequest,
 ) -> Result<SearchAnswer, AllocError>
     requires bound { IsBoundTo schema.now (filter_view request.now.filter) bound.now }
-    requires keyed { AreKeyedBy schema.now tree.now.entries }
-    ensures { IfOk result (λ a. Finds a (found_of schema.now (search_view request.now)
-        (numbers (λ e. name_eq (rdns tree.now.suffix) (rdns e.name)) tree.now.entries) tree.now.entries)
-        (length (numbers (λ e. name_eq (rdns tree.now.suffix) (rdns e.name)) tree.now.entries))) }
+    requires keyed { AreKeyedBy schema.now indexed.now.tree.entries }
+    ensures { IfOk result (λ a. FindsAmong a schema.now (search_view request.now) indexed.now.indexes bound.now indexed.now.tree.entries
+        (numbers (λ e. name_eq (rdns indexed.now.tree.suffix) (rdns e.name)) indexed.now.tree.entries)) }
 {
-    search_entry(alloc, schema, tree, bound, tree.suffix().rdns(), request)
+    let root = indexed.tree().suffix();
+    search_entry(alloc, schema, indexed, bound, root.rdns(), request)
 }
 
 /// Whether a name is the empty one.
@@ -147,103 +167,104 @@ fn is_unnamed(base: &[Rdn]) -> bool
 fn search_level(
     alloc: Global,
     schema: &Schema,
-    tree: &Tree,
+    indexed: &IndexedTree,
     bound: &BoundFilter,
     base: &[Rdn],
     request: &SearchRequest,
 ) -> Result<SearchAnswer, AllocError>
     requires bound { IsBoundTo schema.now (filter_view request.now.filter) bound.now }
-    requires keyed { AreKeyedBy schema.now tree.now.entries }
-    requires stands { stands (directory schema.now tree.now) base.now ≡ true }
-    ensures { IfOk result (λ a. Finds a (found_of schema.now (search_view request.now)
-        (numbers (λ e. is_right_under (rdns tree.now.suffix) (rdns base.now) (rdns e.name)) tree.now.entries) tree.now.entries)
-        (length (numbers (λ e. is_right_under (rdns tree.now.suffix) (rdns base.now) (rdns e.name)) tree.now.entries))) }
+    requires keyed { AreKeyedBy schema.now indexed.now.tree.entries }
+    requires stands { stands (directory schema.now indexed.now.tree) base.now ≡ true }
+    ensures { IfOk result (λ a. FindsAmong a schema.now (search_view request.now) indexed.now.indexes bound.now indexed.now.tree.entries
+        (numbers (λ e. is_right_under (rdns indexed.now.tree.suffix) (rdns base.now) (rdns e.name)) indexed.now.tree.entries)) }
 {
     if is_unnamed(base) {
-        return search_root(alloc, schema, tree, bound, request);
+        return search_root(alloc, schema, indexed, bound, request);
     }
-    let numbers = numbers_right_under(tree, base);
-    matching_entries(alloc, schema, tree, bound, numbers, request)
+    let numbers = numbers_right_under(indexed.tree(), base);
+    matching_entries(alloc, schema, indexed, bound, numbers, request)
 }
 
 /// The search of the entries at or below a base; below the empty name stand all.
 fn search_subtree(
     alloc: Global,
     schema: &Schema,
-    tree: &Tree,
+    indexed: &IndexedTree,
     bound: &BoundFilter,
     base: &[Rdn],
     request: &SearchRequest,
 ) -> Result<SearchAnswer, AllocError>
     requires bound { IsBoundTo schema.now (filter_view request.now.filter) bound.now }
-    requires keyed { AreKeyedBy schema.now tree.now.entries }
-    requires stands { stands (directory schema.now tree.now) base.now ≡ true }
-    ensures { IfOk result (λ a. Finds a (found_of schema.now (search_view request.now)
-        (numbers (λ e. begins (rdns base.now) (rdns e.name)) tree.now.entries) tree.now.entries)
-        (length (numbers (λ e. begins (rdns base.now) (rdns e.name)) tree.now.entries))) }
+    requires keyed { AreKeyedBy schema.now indexed.now.tree.entries }
+    requires stands { stands (directory schema.now indexed.now.tree) base.now ≡ true }
+    ensures { IfOk result (λ a. FindsAmong a schema.now (search_view request.now) indexed.now.indexes bound.now indexed.now.tree.entries
+        (numbers (λ e. begins (rdns base.now) (rdns e.name)) indexed.now.tree.entries)) }
 {
-    let numbers = numbers_within(tree, base);
-    matching_entries(alloc, schema, tree, bound, numbers, request)
+    let numbers = numbers_within(indexed.tree(), base);
+    matching_entries(alloc, schema, indexed, bound, numbers, request)
 }
 
 /// The search of the entries in scope, where the filter is bound.
 fn search_bound(
     alloc: Global,
     schema: &Schema,
-    tree: &Tree,
+    indexed: &IndexedTree,
     bound: &BoundFilter,
     scope: Scope,
     base: &[Rdn],
     request: &SearchRequest,
 ) -> Result<SearchAnswer, AllocError>
     requires bound { IsBoundTo schema.now (filter_view request.now.filter) bound.now }
-    requires keyed { AreKeyedBy schema.now tree.now.entries }
-    requires stands { stands (directory schema.now tree.now) base.now ≡ true }
-    ensures { IfOk result (λ a. Finds a (found_of schema.now (search_view request.now)
-        (numbers (λ e. is_in_scope (rdns tree.now.suffix) scope (rdns base.now) (rdns e.name)) tree.now.entries) tree.now.entries)
-        (length (numbers (λ e. is_in_scope (rdns tree.now.suffix) scope (rdns base.now) (rdns e.name)) tree.now.entries))) }
+    requires keyed { AreKeyedBy schema.now indexed.now.tree.entries }
+    requires stands { stands (directory schema.now indexed.now.tree) base.now ≡ true }
+    ensures { IfOk result (λ a. FindsAmong a schema.now (search_view request.now) indexed.now.indexes bound.now indexed.now.tree.entries
+        (numbers (λ e. is_in_scope (rdns indexed.now.tree.suffix) scope (rdns base.now) (rdns e.name)) indexed.now.tree.entries)) }
 {
     match scope {
-        Scope::BaseObject => search_entry(alloc, schema, tree, bound, base, request),
-        Scope::SingleLevel => search_level(alloc, schema, tree, bound, base, request),
-        Scope::WholeSubtree => search_subtree(alloc, schema, tree, bound, base, request),
-        Scope::SubordinateSubtree => search_nowhere(alloc, schema, tree, bound, request),
+        Scope::BaseObject => search_entry(alloc, schema, indexed, bound, base, request),
+        Scope::SingleLevel => search_level(alloc, schema, indexed, bound, base, request),
+        Scope::WholeSubtree => search_subtree(alloc, schema, indexed, bound, base, request),
+        Scope::SubordinateSubtree => search_nowhere(alloc, schema, indexed, bound, request),
     }
 }
 
 /// The search of no entry.
-#[tactic(auto, using(crate::proofs::Scoped::numbers_nowhere))]
 fn search_nowhere(
     alloc: Global,
     schema: &Schema,
-    tree: &Tree,
+    indexed: &IndexedTree,
     bound: &BoundFilter,
     request: &SearchRequest,
 ) -> Result<SearchAnswer, AllocError>
     requires bound { IsBoundTo schema.now (filter_view request.now.filter) bound.now }
-    requires keyed { AreKeyedBy schema.now tree.now.entries }
-    ensures { IfOk result (λ a. Finds a (found_of schema.now (search_view request.now)
-        (numbers (λ e. false) tree.now.entries) tree.now.entries)
-        (length (numbers (λ e. false) tree.now.entries))) }
+    requires keyed { AreKeyedBy schema.now indexed.now.tree.entries }
+    ensures { IfOk result (λ a. FindsAmong a schema.now (search_view request.now) indexed.now.indexes bound.now indexed.now.tree.entries
+        (numbers (λ e. false) indexed.now.tree.entries)) }
 {
-    matching_entries(alloc, schema, tree, bound, &[], request)
+    matching_entries(alloc, schema, indexed, bound, &[], request)
 }
 
-/// The search at a base that stands.
-fn search_scope(
+/// The search of the entries in scope of a base that stands, over a tree and its posting lists: the one that `search` makes, where it is not the
+/// root DSE that is asked for.
+pub fn search_scope(
     alloc: Global,
     schema: &Schema,
-    tree: &Tree,
+    indexed: &IndexedTree,
     base: &[Rdn],
     request: &SearchRequest,
 ) -> Result<SearchAnswer, AllocError>
-    requires keyed { AreKeyedBy schema.now tree.now.entries }
-    requires stands { stands (directory schema.now tree.now) base.now ≡ true }
-    ensures { IfOk result (λ a. Finds a (found_at (directory schema.now tree.now) (search_view request.now) base.now) (length (in_scope (directory schema.now tree.now) request.now.scope base.now))) }
+    requires keyed { AreKeyedBy schema.now indexed.now.tree.entries }
+    requires stands { stands (directory schema.now indexed.now.tree) base.now ≡ true }
+    ensures found { IfOk result (λ a. Finds a (found_at (directory schema.now indexed.now.tree) (search_view request.now) base.now)
+        (length (in_scope (directory schema.now indexed.now.tree) request.now.scope base.now))) }
+
+    // No entry is evaluated, where the indexes decide the filter; of an `and` at most as many as each part is True on that they decide; and with a
+    // size limit none behind the first entry past it.
+    ensures few { IfOk result (λ a. IsFewOf indexed.now.indexes schema.now indexed.now.tree (search_view request.now) base.now a.tests) }
 {
-    tree.is_directory();
+    indexed.tree().is_directory();
     let bound = bind(alloc, schema, &request.filter)?;
-    search_bound(alloc, schema, tree, &bound, request.scope, base, request)
+    search_bound(alloc, schema, indexed, &bound, request.scope, base, request)
 }
 
 /// Whether a search asks for the root DSE: the empty name alone (RFC 4512 5.1).
@@ -276,7 +297,7 @@ fn search_at(
         return show_root(alloc, store, request);
     }
     if is_standing(store, base) {
-        return search_scope(alloc, store.schema(), store.tree(), base, request);
+        return search_scope(alloc, store.schema(), store.indexed(), base, request);
     }
     let reply = store.not_found(alloc, base)?;
     Ok(refused(alloc, reply))
@@ -315,9 +336,8 @@ pub fn search(
 ) -> Result<SearchAnswer, AllocError>
     ensures answer { IfOk result (λ a. answer_view a ≡ answer store.now (search_view request.now)) }
 
-    // The count that is told is at most that of the entries in scope, and just that one where no size limit cuts the answer short.
+    // The count that is told is at most that of the entries in scope.
     ensures tests { IfOk result (λ a. a.tests ≤ tried store.now (search_view request.now)) }
-    ensures all { IfOk result (λ a. a.code ≡ 0 → a.tests ≡ tried store.now (search_view request.now)) }
 {
     match request.scope {
         Scope::SubordinateSubtree => Ok(refused_with(alloc, ResultCode::PROTOCOL_ERROR)),

@@ -1,6 +1,7 @@
 -- How a session begins: the sample's adds, one after the other, and the manager. Facts on definitions flow in and out; no value of the program is here.
 use Rattle.std.proofs.Common.{◌≡◌, ℕ, List, Bool, ap, ◌∙◌}
 use Rattle.std.specs.Prelude.{codes}
+use Rattle.ldap_schema.specs.Schema.{SchemaModel}
 use Rattle.ldap_dn.specs.Names.{RdnModel}
 use Rattle.ldap_op.specs.Values.{add}
 use Rattle.dir_store.specs.Directory.{Directory}
@@ -19,11 +20,11 @@ six_adds d s t u e f g =
 abbrev of_parts : List RdnModel → List ℕ → ℕ → Directory → SessionModel
 of_parts m p n d = record { manager = m; password = p; identity = Anonymous; number = n; directory = d }
 
-pub session_begun : (b : Bool) (s : SessionModel) (m : List RdnModel) (p : List ℕ) (n : ℕ) (d : Directory) → s ≡ of_parts m p n d
-    → m ≡ name_of (codes "cn=admin,dc=example,dc=com") → p ≡ codes "secret" → n ≡ number_at_first b → d ≡ directory_at_first b → s ≡ session_at_first b
-session_begun b s m p n d whole e f g h =
+pub session_begun : (schema : SchemaModel) (b : Bool) (s : SessionModel) (m : List RdnModel) (p : List ℕ) (n : ℕ) (d : Directory) → s ≡ of_parts m p n d
+    → m ≡ name_of schema (codes "cn=admin,dc=example,dc=com") → p ≡ codes "secret" → n ≡ number_at_first b → d ≡ directory_at_first schema b → s ≡ session_at_first schema b
+session_begun schema b s m p n d whole e f g h =
     whole
     ∙ ap (λ (x : List RdnModel). of_parts x p n d) e
-    ∙ ap (λ (x : List ℕ). of_parts (name_of (codes "cn=admin,dc=example,dc=com")) x n d) f
-    ∙ ap (λ (x : ℕ). of_parts (name_of (codes "cn=admin,dc=example,dc=com")) (codes "secret") x d) g
-    ∙ ap (λ (x : Directory). of_parts (name_of (codes "cn=admin,dc=example,dc=com")) (codes "secret") (number_at_first b) x) h
+    ∙ ap (λ (x : List ℕ). of_parts (name_of schema (codes "cn=admin,dc=example,dc=com")) x n d) f
+    ∙ ap (λ (x : ℕ). of_parts (name_of schema (codes "cn=admin,dc=example,dc=com")) (codes "secret") x d) g
+    ∙ ap (λ (x : Directory). of_parts (name_of schema (codes "cn=admin,dc=example,dc=com")) (codes "secret") (number_at_first b) x) h

@@ -3,3 +3,5 @@ pub mod Lines
 pub mod Ended
 pub mod Begun
 pub mod Status
+pub mod Opened
+pub mod Texts

@@ -3,14 +3,37 @@
 ghost use Rattle.std.specs.Prelude.{◌≡◌};
 ghost use Rattle.dird.specs.declared.fault.Fault.TheVariants.{NoMemory};
 
+use filter_text::FilterTextError;
+use index_choice::IndexError;
 use lab_script::ScriptError;
+use ldap_schema::SchemaError;
 use ldap_session::AnswerError;
+use ldif_messages::{ExportError, ImportError};
+use ldif_search::SearchError;
 use std::alloc::{AllocError, AllocFailed};
 use thiserror::Error;
 
-/// Why a job stopped; each ends the run with status 1.
+/// Why a job stopped; each ends the run with status 1. A refusal without a text of its own prints its number, and its line or place.
 #[derive(Clone, Copy, Debug, PartialEq, Eq, Error)]
 pub enum Fault {
+    #[error("E12 {0}")]
+    BadDescription(usize),
+    #[error("E13 {0}")]
+    UnknownName(usize),
+    #[error("E14 {0}")]
+    LoopInSup(usize),
+    #[error("E15 {0}")]
+    NoEquality(usize),
+    #[error("E16 {0}")]
+    IndexWithoutRule(usize),
+    #[error("bad name")]
+    BadName,
+    #[error("E18 {0}")]
+    BadFilterText(usize),
+    #[error("E9")]
+    TooDeep,
+    #[error("E10")]
+    TooManyItems,
     #[error("bad hex line {0}")]
     BadHexLine(u64),
     #[error("bad line {0}")]
@@ -21,10 +44,12 @@ pub enum Fault {
     CannotWrite,
     #[error("E3")]
     TooLong,
-    #[error("bad sample")]
-    BadSample,
-    #[error("E17")]
-    BadName,
+    #[error("{0}")]
+    Import(ImportError),
+    #[error("{0}")]
+    Export(ExportError),
+    #[error("{0}")]
+    Search(SearchError),
     #[error("out of memory")]
     NoMemory,
 }
@@ -44,6 +69,58 @@ impl From<ScriptError> for Fault {
             ScriptError::BadLine { number } => Fault::BadLine(number),
             ScriptError::NoMemory => Fault::NoMemory,
         }
+    }
+}
+
+impl From<SchemaError> for Fault {
+    fn from(error: SchemaError) -> Fault {
+        match error {
+            SchemaError::BadDescription { line } => Fault::BadDescription(line),
+            SchemaError::UnknownName { line } => Fault::UnknownName(line),
+            SchemaError::LoopInSup { line } => Fault::LoopInSup(line),
+            SchemaError::NoEquality { line } => Fault::NoEquality(line),
+            SchemaError::NoMemory => Fault::NoMemory,
+        }
+    }
+}
+
+impl From<IndexError> for Fault {
+    fn from(error: IndexError) -> Fault {
+        match error {
+            IndexError::BadDescription { line } => Fault::BadDescription(line),
+            IndexError::UnknownName { line } => Fault::UnknownName(line),
+            IndexError::IndexWithoutRule { line } => Fault::IndexWithoutRule(line),
+            IndexError::NoMemory => Fault::NoMemory,
+        }
+    }
+}
+
+impl From<FilterTextError> for Fault {
+    fn from(error: FilterTextError) -> Fault {
+        match error {
+            FilterTextError::BadFilterText { at } => Fault::BadFilterText(at),
+            FilterTextError::TooDeep => Fault::TooDeep,
+            FilterTextError::TooManyItems => Fault::TooManyItems,
+            FilterTextError::NoMemory => Fault::NoMemory,
+        }
+    }
+}
+
+impl From<ImportError> for Fault {
+    fn from(error: ImportError) -> Fault {
+        Fault::Import(error)
+    }
+}
+
+impl From<ExportError> for Fault {
+    fn from(error: ExportError) -> Fault {
+        Fault::Export(error)
+    }
+}
+
+impl From<SearchError> for Fault {
+    fn from(error: SearchError) -> Fault {
+        Fault::Search(error)
     }
 }
 

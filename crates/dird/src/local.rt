@@ -2,7 +2,6 @@
 ghost use Rattle.std.specs.Prelude.{◌≡◌, ◌+◌, codes, IfOk};
 ghost use Rattle.ldap_session.specs.Session.{SessionModel};
 ghost use Rattle.dird.specs.Ended.{AnswersFrom, IsAllRead};
-ghost use Rattle.ldap_schema.specs.BuiltIn.{built_in};
 ghost use Rattle.dir_store.specs.Stored.{NumbersBelow};
 ghost use Rattle.dird.specs.Begun.{name_of, empty_directory, directory_at_first, number_at_first, session_at_first};
 
@@ -26,10 +25,19 @@ const PASSWORD: &str = "secret";
 /// The name of the directory's root.
 const SUFFIX: &str = "dc=example,dc=com";
 
+/// What a session's directory begins with.
+#[derive(Drop)]
+pub struct Options {
+    pub schema: Schema,
+    /// The index choice, of the schema.
+    pub indexes: Indexes,
+    /// Whether it holds the built-in sample.
+    pub sample: bool,
+}
+
 /// The name of a text.
 fn name_of_text(alloc: Global, schema: &Schema, text: &str) -> Result<Name, Fault>
-    requires built_in { schema.now ≡ built_in }
-    ensures { IfOk result (λ name. name ≡ name_of text.now) }
+    ensures { IfOk result (λ name. name ≡ name_of schema.now text.now) }
 {
     match Name::read(alloc, schema, text) {
         Ok(name) => Ok(name),
@@ -38,22 +46,26 @@ fn name_of_text(alloc: Global, schema: &Schema, text: &str) -> Result<Name, Faul
     }
 }
 
-/// A directory without entries, under the built-in schema.
-fn empty(alloc: Global) -> Result<Store, Fault>
-    ensures { IfOk result (λ store. store ≡ empty_directory) }
+/// A directory without entries.
+pub fn empty(alloc: Global, schema: Schema, indexes: Indexes) -> Result<Store, Fault>
+    ensures { IfOk result (λ store. store ≡ empty_directory schema) }
 {
-    let schema = Schema::built_in(alloc)?;
     let suffix = name_of_text(alloc, &schema, SUFFIX)?;
-    Ok(Store::new(alloc, schema, Indexes::none(alloc), suffix))
+    Ok(Store::new(alloc, schema, indexes, suffix))
 }
 
 /// The directory at first: the sample, or one without entries; and the number of its last update.
-fn opened(alloc: Global, sample: bool) -> Result<(Store, u64), Fault>
-    ensures directory { IfOk result (λ p. p.0 ≡ directory_at_first sample) }
+fn opened(
+    alloc: Global,
+    schema: Schema,
+    indexes: Indexes,
+    sample: bool,
+) -> Result<(Store, u64), Fault>
+    ensures directory { IfOk result (λ p. p.0 ≡ directory_at_first schema sample) }
     ensures number { IfOk result (λ p. p.1 ≡ number_at_first sample) }
     ensures below { IfOk result (λ p. NumbersBelow (p.1 + 1) p.0.entries) }
 {
-    let mut store = empty(alloc)?;
+    let mut store = empty(alloc, schema, indexes)?;
     match sample {
         true => {
             add_sample(alloc, &mut store)?;
@@ -64,11 +76,10 @@ fn opened(alloc: Global, sample: bool) -> Result<(Store, u64), Fault>
 }
 
 /// The manager's name.
-fn manager_name(alloc: Global) -> Result<Name, Fault>
-    ensures { IfOk result (λ name. name ≡ name_of (codes "cn=admin,dc=example,dc=com")) }
+fn manager_name(alloc: Global, schema: &Schema) -> Result<Name, Fault>
+    ensures { IfOk result (λ name. name ≡ name_of schema.now (codes "cn=admin,dc=example,dc=com")) }
 {
-    let schema = Schema::built_in(alloc)?;
-    name_of_text(alloc, &schema, MANAGER)
+    name_of_text(alloc, schema, MANAGER)
 }
 
 /// The manager's password.
@@ -80,11 +91,16 @@ fn password(alloc: Global) -> Result<Vec<u8>, Fault>
 }
 
 /// The session at first.
-fn begun(alloc: Global, sample: bool) -> Result<Session, Fault>
-    ensures { IfOk result (λ session. session ≡ session_at_first sample) }
+fn begun(alloc: Global, options: Options) -> Result<Session, Fault>
+    ensures { IfOk result (λ session. session ≡ session_at_first options.schema options.sample) }
 {
-    let (store, number) = opened(alloc, sample)?;
-    let manager = manager_name(alloc)?;
+    let Options {
+        schema,
+        indexes,
+        sample,
+    } = options;
+    let manager = manager_name(alloc, &schema)?;
+    let (store, number) = opened(alloc, schema, indexes, sample)?;
     let password = password(alloc)?;
     Ok(Session::new(store, number, manager, password))
 }
@@ -92,16 +108,16 @@ fn begun(alloc: Global, sample: bool) -> Result<Session, Fault>
 /// One session over a directory of its own: each line of the input is one message in hex, each response a line of the output.
 pub fn answer_session<R: BufRead, W: Write>(
     alloc: Global,
-    sample: bool,
+    options: Options,
     input: &mut R,
     output: &mut W,
 ) -> Result<Next, Fault>
     // The output grows by the responses of a session, from its first state on, over the messages that the lines spell.
-    ensures answers { IfOk result (λ next. AnswersFrom (session_at_first sample) (R.remaining input.old) (R.remaining input.new) next (W.contents output.old) (W.contents output.new)) }
+    ensures answers { IfOk result (λ next. AnswersFrom (session_at_first options.schema options.sample) (R.remaining input.old) (R.remaining input.new) next (W.contents output.old) (W.contents output.new)) }
 
     // Where only the end of the input ended it, all of it was read.
     ensures all { IfOk result (λ next. IsAllRead next (R.remaining input.old) (R.remaining input.new)) }
 {
-    let mut session = begun(alloc, sample)?;
+    let mut session = begun(alloc, options)?;
     answer_lines(alloc, &mut session, input, output)
 }

@@ -1,16 +1,20 @@
-//! The program's door: words, input and output come from the system, and the exit status goes back. No rule of the
+//! The program's door: words, files, input and output come from the system, and the exit status goes back. No rule of the
 //! directory is here.
 #![tactic(auto)]
 
 mod answering;
 mod command;
 mod fault;
+mod files;
 mod lab;
 mod local;
+mod opening;
 mod run;
 mod sample;
 mod status;
+mod texts;
 
+use files::SystemFiles;
 use run::run as run_words;
 use std::io::{self, BufReader, BufWriter, Write};
 use std::process::ExitCode;
@@ -21,7 +25,14 @@ fn main(rt: HostRuntime) -> io::Result<ExitCode> {
     let mut input = BufReader::new(alloc, rt.reader())?;
     let mut output = BufWriter::new(alloc, io::writer(&rt))?;
     let mut faults = Vec::new(alloc);
-    let status = run_words(alloc, &words, &mut input, &mut output, &mut faults);
+    let status = run_words(
+        &SystemFiles(&rt),
+        alloc,
+        &words,
+        &mut input,
+        &mut output,
+        &mut faults,
+    );
     let flushed = output.flush();
     if let Ok(text) = str::from_utf8(&faults) {
         rt.eprint(text)?;
@@ -32,5 +43,7 @@ fn main(rt: HostRuntime) -> io::Result<ExitCode> {
 
 #[cfg(test)]
 mod tests;
+#[cfg(test)]
+mod text_tests;
 #[cfg(test)]
 mod update_tests;

@@ -1,15 +1,19 @@
-//! One run: words, an input and two outputs come in, the exit status goes out. Nothing here touches the system.
-use crate::command::{Job, read_words};
+//! One run: words, named files, an input and two outputs come in, the exit status goes out. Nothing here touches the system.
+use crate::command::{Job, Opening, read_words};
 use crate::fault::Fault;
+use crate::files::ReadFiles;
 use crate::lab::play_script;
-use crate::local::answer_session;
+use crate::local::{Options, answer_session};
+use crate::opening::{indexes_of, schema_of};
 use crate::status::Status;
+use crate::texts::{export_input, import_input, search_input};
 use ldap_session::Next;
 use std::alloc::Global;
 use std::io::{BufRead, Write};
 
 /// Runs the job that the words ask for. Responses go to `output`, faults to `faults`.
-pub fn run<R: BufRead, W: Write, F: Write>(
+pub fn run<S: ReadFiles, R: BufRead, W: Write, F: Write>(
+    files: &S,
     alloc: Global,
     words: &[String],
     input: &mut R,
@@ -27,7 +31,7 @@ pub fn run<R: BufRead, W: Write, F: Write>(
             return Status::Done;
         }
     };
-    match perform(alloc, job, input, output) {
+    match perform(files, alloc, job, input, output) {
         Ok(Next::GoesOn | Next::Unbound) => Status::Done,
         Ok(Next::Disconnected) => Status::Refused,
         Err(fault) => {
@@ -38,17 +42,37 @@ pub fn run<R: BufRead, W: Write, F: Write>(
 }
 
 /// Does the job.
-fn perform<R: BufRead, W: Write>(
+fn perform<S: ReadFiles, R: BufRead, W: Write>(
+    files: &S,
     alloc: Global,
-    job: Job,
+    job: Job<'_>,
     input: &mut R,
     output: &mut W,
 ) -> Result<Next, Fault> {
     match job {
-        Job::Answer { sample } => answer_session(alloc, sample, input, output),
-        Job::Lab => {
-            play_script(alloc, input, output)?;
-            Ok(Next::GoesOn)
-        }
+        Job::Answer(opening) => return answer(files, alloc, opening, input, output),
+        Job::Search(question) => search_input(alloc, &question, input, output)?,
+        Job::Import => import_input(alloc, input, output)?,
+        Job::Export => export_input(alloc, input, output)?,
+        Job::Lab => play_script(alloc, input, output)?,
     }
+    Ok(Next::GoesOn)
+}
+
+/// One session, once the schema and the index choice are read.
+fn answer<S: ReadFiles, R: BufRead, W: Write>(
+    files: &S,
+    alloc: Global,
+    opening: Opening<'_>,
+    input: &mut R,
+    output: &mut W,
+) -> Result<Next, Fault> {
+    let schema = schema_of(files, alloc, opening.schema)?;
+    let indexes = indexes_of(files, alloc, &schema, opening.index)?;
+    let options = Options {
+        schema,
+        indexes,
+        sample: opening.sample,
+    };
+    answer_session(alloc, options, input, output)
 }

@@ -1,5 +1,7 @@
 //! Whole runs over texts. The expected octets are those of the worked examples, or come from an independent encoder.
 
+use crate::fault::Fault;
+use crate::files::ReadFiles;
 use crate::run::run;
 use crate::status::Status;
 use std::alloc::Global;
@@ -21,7 +23,17 @@ struct Ran {
     status: Status,
 }
 
-fn owned(alloc: Global, words: &[&str]) -> Result<Vec<String>, Fail> {
+/// No file can be read.
+#[derive(Clone, Copy)]
+struct NoFiles;
+
+impl ReadFiles for NoFiles {
+    fn read_text(&self, _alloc: Global, _path: &str) -> Result<String, Fault> {
+        Err(Fault::CannotRead)
+    }
+}
+
+pub fn owned(alloc: Global, words: &[&str]) -> Result<Vec<String>, Fail> {
     let mut all = Vec::new(alloc);
     for word in words {
         all.push(String::from_str(alloc, word)?)?;
@@ -34,7 +46,14 @@ fn run_text(alloc: Global, words: &[&str], text: &[u8]) -> Result<Ran, Fail> {
     let mut input = text;
     let mut output = Vec::new(alloc);
     let mut faults = Vec::new(alloc);
-    let status = run(alloc, &words, &mut input, &mut output, &mut faults);
+    let status = run(
+        &NoFiles,
+        alloc,
+        &words,
+        &mut input,
+        &mut output,
+        &mut faults,
+    );
     Ok(Ran {
         output,
         faults,
@@ -161,6 +180,10 @@ fn refuses_a_bad_command_line(rt: HostRuntime) -> Result<(), Fail> {
     let refused = [
         ["dird", "answr", "-x"].as_slice(),
         ["dird", "answer", "more"].as_slice(),
+        ["dird", "answer", "--schema"].as_slice(),
+        ["dird", "search", "dc=com", "below", "(cn=a"].as_slice(),
+        ["dird", "search", "dc=com", "one"].as_slice(),
+        ["dird", "import", "more"].as_slice(),
         ["dird"].as_slice(),
     ];
     for words in refused {
@@ -205,7 +228,14 @@ fn tells_a_read_that_fails(rt: HostRuntime) -> Result<(), Fail> {
     let mut input = io::BufReader::new(alloc, Failing)?;
     let mut output = Vec::new(alloc);
     let mut faults = Vec::new(alloc);
-    let status = run(alloc, &words, &mut input, &mut output, &mut faults);
+    let status = run(
+        &NoFiles,
+        alloc,
+        &words,
+        &mut input,
+        &mut output,
+        &mut faults,
+    );
     assert!(rt; output.is_empty());
     assert!(rt; faults.as_slice() == b"cannot read\n".as_slice());
     assert_eq!(rt; status.code(), 1);

@@ -161,7 +161,8 @@ fn begins_change(octets: &[u8]) -> bool
     is_same_word(octets, b"changetype") || is_same_word(octets, b"control")
 }
 
-/// Whether the octets are the type of a value of a record.
+/// Whether the octets are the type of a value of a record (RFC 2849, attrval-spec): an attribute description (RFC 4512 2.5) other than
+/// `dn`, `changetype` and `control`, in any case. Fails only for want of memory.
 pub fn is_type(alloc: Global, octets: &[u8]) -> Result<bool, AllocError>
     ensures { IfOk result (λ b. b ≡ descriptions.is_type octets.now) }
 {

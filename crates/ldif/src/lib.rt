@@ -13,6 +13,7 @@ mod saying;
 mod writing;
 mod written_value;
 
+pub use describing::is_type;
 pub use fault::LdifError;
 pub use reading::{read, records_are_of_text, written_is_read_back};
 pub use record::{AttributeValue, Record};

@@ -1,15 +1,12 @@
-use Rattle.std.proofs.Common.{ap, ◌∙◌, List, length}
+use Rattle.std.proofs.Common.{ap, ◌∙◌, List}
 use Rattle.ldap_dn.specs.Names.{RdnModel, rdns}
-use Rattle.ldap_msg.specs.View.{search_view}
-use Rattle.dir_tree.specs.Directory.{name_eq, numbers}
-use Rattle.dir_search.specs.Numbered.{found_of}
-use Rattle.dir_search.proofs.Answered.{answered}
+use Rattle.dir_tree.specs.Directory.{TreeModel, name_eq, numbers}
+use Rattle.dir_search.proofs.Answered.{among_same}
 use Rattle.dir_search.proofs.searching.search_root.Goals as goal
 
 pub returns : goal.returns
 returns c =
-    let d = c.args.tree.now.entries in
-    answered c.search_entry.result _ _ _ _
-    (ap (λ (n : List RdnModel). found_of c.args.schema.now (search_view c.args.request.now) (numbers (λ e. name_eq (rdns n) (rdns e.name)) d) d) (c.rdns.ensures ∙ c.suffix.ensures))
-    (ap (λ (n : List RdnModel). length (numbers (λ e. name_eq (rdns n) (rdns e.name)) d)) (c.rdns.ensures ∙ c.suffix.ensures))
+    let d = c.args.indexed.now.tree.entries in
+    among_same c.search_entry.result _ _ _ _ d _ _
+    (ap (λ (n : List RdnModel). numbers (λ e. name_eq (rdns n) (rdns e.name)) d) (c.rdns.ensures ∙ c.suffix-root.ensures ∙ ap (λ (t : TreeModel). t.suffix) c.tree.ensures))
     c.search_entry.ensures

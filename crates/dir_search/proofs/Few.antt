@@ -1,0 +1,181 @@
+-- From what plans leave open to how few evaluations there are. Numbers and tests of them flow in and out; no value of the program is here.
+use Rattle.std.proofs.Common.{◌≡◌, ◌<◌, ◌≤◌, ℕ, suc, length, Bool, true, false, cond, ◌||◌, ◌&&◌, List, [], ◌∷◌, Option, Some, None, Vec, Global, map, nat_eq, refl, sym, ap, ◌∙◌, subst, eqb-true, eq-eqb, arith}
+use Rattle.std.specs.Prelude.{is_some, filter, nat_le}
+use Rattle.std.specs.List.{AllByRecursion, slice_get}
+use Rattle.ldap_match.specs.declared.truth.Truth.{Truth}
+use Rattle.ldap_match.specs.declared.truth.Truth.TheVariants.{True, False, Undefined}
+use Rattle.ldap_schema.specs.Schema.{SchemaModel}
+use Rattle.ldap_msg.specs.Messages.{SearchRequestValue}
+use Rattle.ldap_eval.specs.Bound.{bound_value, IsBoundTo}
+use Rattle.ldap_eval.specs.Value.{filter_value}
+use Rattle.ldap_eval.specs.declared.bound.BoundFilter.{BoundFilter}
+use Rattle.ldap_eval.specs.declared.bound.BoundFilter.TheVariants as bound
+use Rattle.index_choice.specs.declared.kinds.Kinds.{Kinds}
+use Rattle.dir_index.specs.Postings.{has_number, IsRising}
+use Rattle.dir_entry.specs.Entry.{attributes_of, IsKeyedBy}
+use Rattle.dir_tree.specs.Directory.{Entered, entry_at, numbers}
+use Rattle.dir_store.specs.Directory.{NamedEntry}
+use Rattle.dir_store.specs.Stored.{named, AreKeyedBy}
+use Rattle.plan_compile.specs.Bounds.{is_decided}
+use Rattle.plan_run.specs.Runs.{is_true as is_true_value}
+use Rattle.dir_store.specs.Listed.{listed_of}
+use Rattle.dir_search.specs.Answer.{is_true, is_match, limited}
+use Rattle.dir_search.specs.Looks.{value_on, value_in, true_numbers, has_runs_on, AreNumbersOf, AreHere, IsFew, LeavesFew}
+use Rattle.dir_search.specs.Numbered.{put_some, entries_of, found_of}
+use Rattle.dir_search.specs.Selection.{selected}
+use Rattle.dir_search.specs.View.{Shows, FindsAmong}
+use Rattle.dir_search.specs.declared.found.SearchAnswer.{SearchAnswer}
+use Rattle.dir_search.proofs.Limits.{keyed_at}
+
+or_right : (a b : Bool) → b ≡ true → (a || b) ≡ true
+or_right true b h = refl
+or_right false b h = h
+
+or_weaker : (a b b' : Bool) → (b ≡ true → b' ≡ true) → (a || b) ≡ true → (a || b') ≡ true
+or_weaker true b b' f h = refl
+or_weaker false b b' f h = f h
+
+filter_short : (p : ℕ → Bool) (ks : List ℕ) → length (filter p ks) ≤ length ks
+filter_short p [] = omega arith
+filter_short p (k ∷ ks) =
+    let less : length (filter p ks) ≤ length ks = filter_short p ks in
+    elim (p k) as (λ v. length (cond v (k ∷ filter p ks) (filter p ks)) ≤ length (k ∷ ks)) [ true ↦ omega arith | false ↦ omega arith ]
+
+-- what passes a stronger test is no more
+fewer : (p q : ℕ → Bool) (ks : List ℕ) → ((n : ℕ) → has_number n ks ≡ true → p n ≡ true → q n ≡ true) → length (filter p ks) ≤ length (filter q ks)
+fewer p q [] h = omega arith
+fewer p q (k ∷ ks) h =
+    by (p k) (q k) (h k (ap (λ (b : Bool). b || has_number k ks) (eq-eqb k k refl))) (fewer p q ks (λ n i. h n (or_right (nat_eq n k) (has_number n ks) i)))
+  where
+    by : (a b : Bool) → (a ≡ true → b ≡ true) → length (filter p ks) ≤ length (filter q ks) → length (cond a (k ∷ filter p ks) (filter p ks)) ≤ length (cond b (k ∷ filter q ks) (filter q ks))
+    by true true f r = omega arith
+    by true false f r = absurd (cc (f refl))
+    by false true f r = omega arith
+    by false false f r = r
+
+-- what nothing passes is empty
+none_pass : (p : ℕ → Bool) (ks : List ℕ) → ((n : ℕ) → has_number n ks ≡ true → p n ≡ false) → length (filter p ks) ≡ 0
+none_pass p [] h = refl
+none_pass p (k ∷ ks) h =
+    ap (λ (b : Bool). length (cond b (k ∷ filter p ks) (filter p ks))) (h k (ap (λ (b : Bool). b || has_number k ks) (eq-eqb k k refl)))
+    ∙ none_pass p ks (λ n i. h n (or_right (nat_eq n k) (has_number n ks) i))
+
+filter_less : (q : ℕ → Bool) (ks : List ℕ) (n : ℕ) → has_number n (filter q ks) ≡ true → has_number n ks ≡ true
+filter_less q [] n h = h
+filter_less q (k ∷ ks) n h = by (q k) (filter_less q ks n) h
+  where
+    by : (b : Bool) → (has_number n (filter q ks) ≡ true → has_number n ks ≡ true) → has_number n (cond b (k ∷ filter q ks) (filter q ks)) ≡ true → (nat_eq n k || has_number n ks) ≡ true
+    by true ih h = or_weaker (nat_eq n k) (has_number n (filter q ks)) (has_number n ks) ih h
+    by false ih h = or_right (nat_eq n k) (has_number n ks) (ih h)
+
+filter_yes : (p : ℕ → Bool) (x : ℕ) (xs : List ℕ) → p x ≡ true → filter p (x ∷ xs) ≡ x ∷ filter p xs
+filter_yes p x xs h = ap (λ (b : Bool). cond b (x ∷ filter p xs) (filter p xs)) h
+
+filter_no : (p : ℕ → Bool) (x : ℕ) (xs : List ℕ) → p x ≡ false → filter p (x ∷ xs) ≡ filter p xs
+filter_no p x xs h = ap (λ (b : Bool). cond b (x ∷ filter p xs) (filter p xs)) h
+
+-- two tests in either order
+either_order : (p q : ℕ → Bool) (ks : List ℕ) → filter q (filter p ks) ≡ filter p (filter q ks)
+either_order p q [] = refl
+either_order p q (k ∷ ks) = by (p k) (q k) refl refl (either_order p q ks)
+  where
+    by : (a b : Bool) → p k ≡ a → q k ≡ b → filter q (filter p ks) ≡ filter p (filter q ks) → filter q (cond a (k ∷ filter p ks) (filter p ks)) ≡ filter p (cond b (k ∷ filter q ks) (filter q ks))
+    by true true pa qb ih = filter_yes q k (filter p ks) qb ∙ ap (λ (l : List ℕ). k ∷ l) ih ∙ sym (filter_yes p k (filter q ks) pa)
+    by true false pa qb ih = filter_no q k (filter p ks) qb ∙ ih
+    by false true pa qb ih = ih ∙ sym (filter_no p k (filter q ks) pa)
+    by false false pa qb ih = ih
+
+module _ (open_at : ℕ → Bool) (ix : List Kinds) (b : BoundFilter) (d : List Entered) (ks : List ℕ) (tests : ℕ) where
+  parts_few : (fs : List BoundFilter) → tests ≤ length (filter open_at ks)
+      → ((n : ℕ) → has_number n ks ≡ true → open_at n ≡ true → AllByRecursion (λ f. is_decided ix f ≡ true → value_in f d n ≡ True) fs)
+      → AllByRecursion (λ f. is_decided ix f ≡ true → tests ≤ length (true_numbers f d ks)) fs
+  parts_few [] few h = tt
+  parts_few (f ∷ fs) few h = (
+    λ decided.
+        let le : length (filter open_at ks) ≤ length (true_numbers f d ks) = fewer open_at (λ n. is_true_value (value_in f d n)) ks (λ n i o. ap is_true_value ((h n i o).0 decided)) in
+        omega arith,
+    parts_few fs few (λ n i o. (h n i o).1),
+  )
+
+  -- no more evaluations than there are numbers left open are few
+  pub is_few : LeavesFew open_at ix b d ks → tests ≤ length (filter open_at ks) → IsFew ix b d ks tests
+  is_few leaves few =
+      let short : length (filter open_at ks) ≤ length ks = filter_short open_at ks in
+      let by_runs : length (filter open_at ks) ≤ length (filter (λ n. has_runs_on ix b (entry_at n d)) ks) = fewer open_at (λ n. has_runs_on ix b (entry_at n d)) ks leaves.runs in
+      record {
+        within = omega arith;
+        decided = λ is.
+            let none : length (filter open_at ks) ≡ 0 = none_pass open_at ks (leaves.decided is) in
+            omega arith;
+        parts = λ v is. parts_few v.items few (leaves.parts v is);
+        runs = omega arith;
+      }
+
+-- the same of those numbers that pass a test
+up_to : (q open_at : ℕ → Bool) (ix : List Kinds) (b : BoundFilter) (d : List Entered) (ks : List ℕ) → LeavesFew open_at ix b d ks → LeavesFew open_at ix b d (filter q ks)
+up_to q open_at ix b d ks leaves = record {
+  decided = λ is n i. leaves.decided is n (filter_less q ks n i);
+  parts = λ v is n i o. leaves.parts v is n (filter_less q ks n i) o;
+  runs = λ n i o. leaves.runs n (filter_less q ks n i) o;
+}
+
+-- each number that is found has an entry
+pub true_here : (b : BoundFilter) (d : List Entered) (ks : List ℕ) → AreHere d (true_numbers b d ks)
+true_here b d [] = tt
+true_here b d (k ∷ ks) = by (entry_at k d) refl (true_here b d ks)
+  where
+    by : (o : Option Entered) → entry_at k d ≡ o → AreHere d (true_numbers b d ks) → AreHere d (cond (is_true_value (value_on b o)) (k ∷ true_numbers b d ks) (true_numbers b d ks))
+    by None e ih = ih
+    by (Some x) e ih = elim (is_true_value (bound_value x.entry b)) as (λ v. AreHere d (cond v (k ∷ true_numbers b d ks) (true_numbers b d ks))) [ true ↦ (ap is_some e, ih) | false ↦ ih ]
+
+-- numbers of some of the entries rise, as those of all do
+all_numbers : (P : ℕ → Type 0) (p : Entered → Bool) (d : List Entered) → AllByRecursion P (map (λ e. e.number) (listed_of d)) → AllByRecursion P (numbers p d)
+all_numbers P p [] h = tt
+all_numbers P p (e ∷ es) h = by (p e) (all_numbers P p es h.1)
+  where
+    by : (b : Bool) → AllByRecursion P (numbers p es) → AllByRecursion P (cond b (e.number ∷ numbers p es) (numbers p es))
+    by true ih = (h.0, ih)
+    by false ih = ih
+
+numbers_rise : (p : Entered → Bool) (d : List Entered) → IsRising (map (λ e. e.number) (listed_of d)) → IsRising (numbers p d)
+numbers_rise p [] h = tt
+numbers_rise p (e ∷ es) h = by (p e) (numbers_rise p es h.1)
+  where
+    by : (b : Bool) → IsRising (numbers p es) → IsRising (cond b (e.number ∷ numbers p es) (numbers p es))
+    by true ih = (all_numbers (λ y. e.number < y) p es h.0, ih)
+    by false ih = ih
+
+pub scope_rises : (ks : List ℕ) (d : List Entered) → AreNumbersOf ks d → IsRising (map (λ e. e.number) (listed_of d)) → IsRising ks
+scope_rises ks d sel h = subst IsRising (sym sel.1) (numbers_rise sel.0 d h)
+
+-- The entries of the numbers that are found are those that match.
+found_true : (s : SchemaModel) (q : SearchRequestValue) (b : BoundFilter) (d : List Entered) → AreKeyedBy s d → IsBoundTo s q.filter b → (ks : List ℕ)
+    → map named (entries_of (true_numbers b d ks) d) ≡ filter (is_match s q.filter) (map named (entries_of ks d))
+found_true s q b d keyed stands [] = refl
+found_true s q b d keyed stands (k ∷ ks) = by (entry_at k d) refl (found_true s q b d keyed stands ks)
+  where
+    told : (x : Entered) → entry_at k d ≡ Some x → map named (entries_of (true_numbers b d ks) d) ≡ filter (is_match s q.filter) (map named (entries_of ks d)) → (t : Truth)
+        → map named (entries_of (cond (is_true_value t) (k ∷ true_numbers b d ks) (true_numbers b d ks)) d)
+        ≡ cond (is_true t) (named x ∷ filter (is_match s q.filter) (map named (entries_of ks d))) (filter (is_match s q.filter) (map named (entries_of ks d)))
+    told x e ih True = ap (λ (o : Option Entered). map named (put_some o (entries_of (true_numbers b d ks) d))) e ∙ ap (λ (l : List NamedEntry). named x ∷ l) ih
+    told x e ih False = ih
+    told x e ih Undefined = ih
+
+    by : (o : Option Entered) → entry_at k d ≡ o → map named (entries_of (true_numbers b d ks) d) ≡ filter (is_match s q.filter) (map named (entries_of ks d))
+        → map named (entries_of (cond (is_true_value (value_on b o)) (k ∷ true_numbers b d ks) (true_numbers b d ks)) d) ≡ filter (is_match s q.filter) (map named (put_some o (entries_of ks d)))
+    by None e ih = ih
+    by (Some x) e ih =
+        told x e ih (bound_value x.entry b)
+        ∙ ap (λ (t : Truth). cond (is_true t) (named x ∷ filter (is_match s q.filter) (map named (entries_of ks d))) (filter (is_match s q.filter) (map named (entries_of ks d))))
+        (stands x.entry (keyed_at s d k x keyed e))
+
+-- What is shown of the numbers that are found is what a search finds among the entries.
+pub among : (a : SearchAnswer) (s : SchemaModel) (q : SearchRequestValue) (ix : List Kinds) (b : BoundFilter) (d : List Entered) (ks : List ℕ) (open_at : ℕ → Bool) → AreKeyedBy s d → IsBoundTo s q.filter b
+    → LeavesFew open_at ix b d ks → Shows a (selected s q.attributes q.types_only) q.size_limit d (true_numbers b d ks) (filter open_at ks) → FindsAmong a s q ix b d ks
+among a s q ix b d ks open_at keyed stands leaves shows = record {
+  shown = shows.shown ∙ ap (λ (l : List NamedEntry). limited q.size_limit (map (selected s q.attributes q.types_only) l)) (found_true s q b d keyed stands ks);
+  few = is_few open_at ix b d ks a.tests leaves shows.few;
+  few_up_to = λ m pos past.
+      is_few open_at ix b d (filter (λ n. nat_le n m) ks) a.tests (up_to (λ n. nat_le n m) open_at ix b d ks leaves)
+      (subst (λ (l : List ℕ). a.tests ≤ length l) (either_order open_at (λ n. nat_le n m) ks) (shows.few_up_to m pos past));
+}

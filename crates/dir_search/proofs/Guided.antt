@@ -1,0 +1,131 @@
+-- Plans over the posting lists of a tree's entries guide a run over the numbers of some of them, and leave few open. Facts on lists and
+-- entries flow in and out; no value of the program is here.
+use Rattle.std.proofs.Common.{◌≡◌, ◌<◌, ◌≤◌, ℕ, suc, length, Bool, true, false, cond, not, ◌||◌, ◌&&◌, List, [], ◌∷◌, Option, Some, None, Vec, Global, map, nat_eq, refl, sym, ap, ap₂, ◌∙◌, subst, inl, inr, eqb-true, arith}
+use mathlib.Core.Path.{fun_ext}
+use Rattle.std.specs.Prelude.{is_some, filter}
+use Rattle.std.specs.List.{AllByRecursion}
+use Rattle.ldap_match.specs.declared.truth.Truth.{Truth}
+use Rattle.ldap_match.specs.declared.truth.Truth.TheVariants.{True}
+use Rattle.dir_entry.specs.Entry.{KeyedAttribute}
+use Rattle.ldap_eval.specs.Bound.{bound_value}
+use Rattle.ldap_eval.specs.declared.bound.BoundFilter.{BoundFilter}
+use Rattle.ldap_eval.specs.declared.bound.BoundFilter.TheVariants as bound
+use Rattle.index_choice.specs.declared.kinds.Kinds.{Kinds}
+use Rattle.dir_index.specs.Postings.{Indexed, Lists, has_number, IsRising, postings_of}
+use Rattle.dir_index.specs.Whole.{ArePostingsOf}
+use Rattle.dir_index.specs.declared.posting.Posting.{Posting}
+use Rattle.dir_index.specs.declared.posting.Range.{Range}
+use Rattle.dir_tree.specs.Directory.{Entered, entry_at, numbers}
+use Rattle.dir_store.specs.Listed.{listed_of}
+use Rattle.plan_sets.specs.Sets.{is_in, holds, AreNumbered, HasEntry, Guides, IsValued, SetsAreOfEntries}
+use Rattle.plan_sets.specs.declared.plan.Plan.{Plan}
+use Rattle.plan_compile.specs.Bounds.{is_decided, BoundsSets, DecidedAreTrue, GuidesRuns}
+use Rattle.plan_compile.specs.Runs.{has_runs_for}
+use Rattle.plan_run.specs.Runs.{is_open}
+use Rattle.dir_search.specs.Looks.{value_on, value_in, has_runs_on, AreNumbersOf, LeavesFew}
+
+-- lists that answer alike are the same
+same_lists : (x : Lists) (ix : List Kinds) (es : List Indexed) → ArePostingsOf x ix es → postings_of ix es ≡ x
+same_lists x ix es are =
+    ap₂ (λ (f : Posting → List ℕ) (g : Range → List ℕ). let l : Lists = record { posting = f; range = g } in l)
+    (fun_ext (λ p. sym (are.postings p))) (fun_ext (λ r. sym (are.ranges r)))
+
+all_above : (k : ℕ) (es : List Indexed) → AllByRecursion (λ y. k < y) (map (λ e. e.number) es) → AllByRecursion (λ e. k < e.number) es
+all_above k [] h = tt
+all_above k (e ∷ es) h = (h.0, all_above k es h.1)
+
+are_numbered : (es : List Indexed) → IsRising (map (λ e. e.number) es) → AreNumbered es
+are_numbered [] h = tt
+are_numbered (e ∷ es) h = (all_above e.number es h.0, are_numbered es h.1)
+
+-- the entry of a number, as the tree and as the indexes see it
+record IsEntryOf (d : List Entered) (n : ℕ) : Type 0 where
+  entry : Entered
+  found : entry_at n d ≡ Some entry
+  listed : HasEntry (listed_of d) n entry.entry
+
+number_rest : (n : ℕ) (p : Entered → Bool) (e : Entered) (es : List Entered) → nat_eq n e.number ≡ false → has_number n (numbers p (e ∷ es)) ≡ true → has_number n (numbers p es) ≡ true
+number_rest n p e es apart h = by (p e) h
+  where
+    by : (b : Bool) → has_number n (cond b (e.number ∷ numbers p es) (numbers p es)) ≡ true → has_number n (numbers p es) ≡ true
+    by true h = sym (ap (λ (b : Bool). b || has_number n (numbers p es)) apart) ∙ h
+    by false h = h
+
+entry_of : (n : ℕ) (p : Entered → Bool) (d : List Entered) → has_number n (numbers p d) ≡ true → IsEntryOf d n
+entry_of n p [] h = absurd (cc h)
+entry_of n p (e ∷ es) h =
+    (elim (nat_eq n e.number) as (λ v. nat_eq n e.number ≡ v → IsEntryOf (e ∷ es) n) [
+      | true ↦ λ is. record {
+        entry = e;
+        found = ap (λ (b : Bool). cond b (Some e) (entry_at n es)) is;
+        listed = inl (sym (eqb-true n e.number is), refl);
+      }
+      | false ↦ λ is.
+          let later : IsEntryOf es n = entry_of n p es (number_rest n p e es is h) in
+          record {
+            entry = later.entry;
+            found = ap (λ (b : Bool). cond b (Some e) (entry_at n es)) is ∙ later.found;
+            listed = inr later.listed;
+          }
+    ]) refl
+
+entry_here : (ks : List ℕ) (d : List Entered) → AreNumbersOf ks d → (n : ℕ) → has_number n ks ≡ true → IsEntryOf d n
+entry_here ks d sel n h = entry_of n sel.0 d (subst (λ (l : List ℕ). has_number n l ≡ true) sel.1 h)
+
+are_valued : (b : BoundFilter) (d : List Entered) (ks : List ℕ) → AreNumbersOf ks d → IsValued (listed_of d) (λ e. bound_value e b) ks (value_in b d)
+are_valued b d ks sel n h =
+    let x : IsEntryOf d n = entry_here ks d sel n h in
+    (x.entry.entry, (x.listed, ap (value_on b) x.found))
+
+-- the plans guide a run
+pub guided : (x : Lists) (ix : List Kinds) (b : BoundFilter) (d : List Entered) (must may : Plan) → ArePostingsOf x ix (listed_of d) → GuidesRuns ix (λ e. bound_value e b) must may
+    → (ks : List ℕ) → AreNumbersOf ks d → Guides (is_in x ks must) (value_in b d) (is_in x ks may) ks
+guided x ix b d must may are guides ks sel =
+    subst (λ (l : Lists). Guides (is_in l ks must) (value_in b d) (is_in l ks may) ks) (same_lists x ix (listed_of d) are)
+    (guides (listed_of d) ks (value_in b d) (are_numbered (listed_of d) are.numbered) (are_valued b d ks sel))
+
+closed : (must may : Bool) → (may ≡ true → must ≡ true) → (may && not must) ≡ false
+closed must false h = refl
+closed must true h = ap not (h refl)
+
+may_of : (must may : Bool) → (may && not must) ≡ true → may ≡ true
+may_of must true h = refl
+may_of must false h = h
+
+parts_at : (ix : List Kinds) (d : List Entered) (n : ℕ) (e : List KeyedAttribute) → ((f : BoundFilter) → value_in f d n ≡ bound_value e f) → (fs : List BoundFilter) → DecidedAreTrue ix e fs
+    → AllByRecursion (λ f. is_decided ix f ≡ true → value_in f d n ≡ True) fs
+parts_at ix d n e same [] h = tt
+parts_at ix d n e same (f ∷ fs) h = (λ decided. same f ∙ h.0 decided, parts_at ix d n e same fs h.1)
+
+-- they leave few open
+leaves : (ix : List Kinds) (b : BoundFilter) (d : List Entered) (must may : Plan) → SetsAreOfEntries → AreNumbered (listed_of d)
+    → BoundsSets ix (λ e. bound_value e b) True (is_decided ix b) must may
+    → ((v : Vec BoundFilter Global) → b ≡ bound.And v → (e : List KeyedAttribute) → holds ix e may ≡ true → DecidedAreTrue ix e v.items)
+    → ((e : List KeyedAttribute) → holds ix e may ≡ true → has_runs_for ix e b ≡ true)
+    → (ks : List ℕ) → AreNumbersOf ks d
+    → LeavesFew (is_open (is_in (postings_of ix (listed_of d)) ks must) (is_in (postings_of ix (listed_of d)) ks may)) ix b d ks
+leaves ix b d must may agree num sets parts runs ks sel =
+    let es = listed_of d in
+    let lists = postings_of ix es in
+    let held : (n : ℕ) (x : IsEntryOf d n) → has_number n ks ≡ true → is_open (is_in lists ks must) (is_in lists ks may) n ≡ true → holds ix x.entry.entry may ≡ true =
+    λ n x h o. sym (agree ix es ks n x.entry.entry may num x.listed h) ∙ may_of (is_in lists ks must n) (is_in lists ks may n) o in
+    record {
+      decided = λ yes_it_is n h.
+          let x : IsEntryOf d n = entry_here ks d sel n h in
+          closed (is_in lists ks must n) (is_in lists ks may n) ((sets es ks n x.entry.entry num x.listed h).exact yes_it_is);
+      parts = λ v is n h o.
+          let x : IsEntryOf d n = entry_here ks d sel n h in
+          parts_at ix d n x.entry.entry (λ f. ap (value_on f) x.found) v.items (parts v is x.entry.entry (held n x h o));
+      runs = λ n h o.
+          let x : IsEntryOf d n = entry_here ks d sel n h in
+          ap (has_runs_on ix b) x.found ∙ runs x.entry.entry (held n x h o);
+    }
+
+pub leaves_few : (x : Lists) (ix : List Kinds) (b : BoundFilter) (d : List Entered) (must may : Plan) → SetsAreOfEntries → ArePostingsOf x ix (listed_of d)
+    → BoundsSets ix (λ e. bound_value e b) True (is_decided ix b) must may
+    → ((v : Vec BoundFilter Global) → b ≡ bound.And v → (e : List KeyedAttribute) → holds ix e may ≡ true → DecidedAreTrue ix e v.items)
+    → ((e : List KeyedAttribute) → holds ix e may ≡ true → has_runs_for ix e b ≡ true)
+    → (ks : List ℕ) → AreNumbersOf ks d → LeavesFew (is_open (is_in x ks must) (is_in x ks may)) ix b d ks
+leaves_few x ix b d must may agree are sets parts runs ks sel =
+    subst (λ (l : Lists). LeavesFew (is_open (is_in l ks must) (is_in l ks may)) ix b d ks) (same_lists x ix (listed_of d) are)
+    (leaves ix b d must may agree (are_numbered (listed_of d) are.numbered) sets parts runs ks sel)

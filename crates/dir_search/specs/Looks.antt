@@ -1,0 +1,75 @@
+-- How many entries a search evaluates its filter on. Numbers, entries, an index choice and a bound filter flow in; bounds on a count flow
+-- out. How plans are made is not here.
+use Rattle.std.specs.Prelude.{◌≡◌, ◌<◌, ◌≤◌, ℕ, Bool, true, false, List, length, filter, nat_le, Option, None, Some, is_some, Vec}
+use Rattle.std.specs.Global.{Global}
+use Rattle.std.specs.List.{AllByRecursion, slice_get}
+use Rattle.ldap_match.specs.declared.truth.Truth.{Truth}
+use Rattle.ldap_match.specs.declared.truth.Truth.TheVariants.{True, Undefined}
+use Rattle.ldap_schema.specs.Schema.{SchemaModel}
+use Rattle.ldap_dn.specs.Names.{RdnModel, rdns}
+use Rattle.ldap_msg.specs.Messages.{SearchRequestValue}
+use Rattle.ldap_eval.specs.Bound.{bound_value, IsBoundTo}
+use Rattle.ldap_eval.specs.declared.bound.BoundFilter.{BoundFilter}
+use Rattle.ldap_eval.specs.declared.bound.BoundFilter.TheVariants as bound
+use Rattle.index_choice.specs.declared.kinds.Kinds.{Kinds}
+use Rattle.dir_index.specs.Postings.{has_number}
+use Rattle.dir_tree.specs.Directory.{Entered, TreeModel, entry_at, numbers}
+use Rattle.plan_compile.specs.Bounds.{is_decided}
+use Rattle.plan_compile.specs.Runs.{has_runs_for}
+use Rattle.plan_run.specs.Runs.{true_set}
+use Rattle.dir_search.specs.Scopes.{is_in_scope}
+
+-- the value of a bound filter on an entry; Undefined, where there is none
+abbrev pub value_on : BoundFilter → Option Entered → Truth
+value_on b None = Undefined
+value_on b (Some e) = bound_value e.entry b
+
+-- the value of a bound filter on the entry of a number
+abbrev pub value_in : BoundFilter → List Entered → ℕ → Truth
+value_in b d n = value_on b (entry_at n d)
+
+-- the numbers of the entries that a bound filter is True on, in their order
+abbrev pub true_numbers : BoundFilter → List Entered → List ℕ → List ℕ
+true_numbers b d ks = true_set (value_in b d) ks
+
+-- whether an entry holds each run of three octets that the substrings items of a bound filter ask for
+abbrev pub has_runs_on : List Kinds → BoundFilter → Option Entered → Bool
+has_runs_on ix b None = false
+has_runs_on ix b (Some e) = has_runs_for ix e.entry b
+
+-- these are the numbers of some of the entries
+abbrev pub AreNumbersOf : List ℕ → List Entered → Type 0
+AreNumbersOf ks d = (p : Entered → Bool) × (ks ≡ numbers p d)
+
+-- each number has an entry
+abbrev pub AreHere : List Entered → List ℕ → Type 0
+AreHere d ks = AllByRecursion (λ n. is_some (entry_at n d) ≡ true) ks
+
+-- The filter was evaluated on few of the entries of these numbers: on none, where the indexes decide it; for an `and`, on at most as many as
+-- each part that they decide is True on; and on at most as many as hold the runs of three octets that it asks for.
+pub record IsFew (ix : List Kinds) (b : BoundFilter) (d : List Entered) (ks : List ℕ) (tests : ℕ) : Type 0 where
+  pub within : tests ≤ length ks
+  pub decided : is_decided ix b ≡ true → tests ≡ 0
+  pub parts : (v : Vec BoundFilter Global) → b ≡ bound.And v → AllByRecursion (λ f. is_decided ix f ≡ true → tests ≤ length (true_numbers f d ks)) v.items
+  pub runs : tests ≤ length (filter (λ n. has_runs_on ix b (entry_at n d)) ks)
+
+-- Which of these numbers are left open: none, where the indexes decide the filter; for an `and`, only those on whose entry each part that they
+-- decide is True; and only those whose entry holds the runs of three octets that the filter asks for.
+pub record LeavesFew (open_at : ℕ → Bool) (ix : List Kinds) (b : BoundFilter) (d : List Entered) (ks : List ℕ) : Type 0 where
+  pub decided : is_decided ix b ≡ true → (n : ℕ) → has_number n ks ≡ true → open_at n ≡ false
+  pub parts : (v : Vec BoundFilter Global) → b ≡ bound.And v → (n : ℕ) → has_number n ks ≡ true → open_at n ≡ true
+      → AllByRecursion (λ f. is_decided ix f ≡ true → value_in f d n ≡ True) v.items
+  pub runs : (n : ℕ) → has_number n ks ≡ true → open_at n ≡ true → has_runs_on ix b (entry_at n d) ≡ true
+
+-- the numbers of the entries in scope
+abbrev pub numbers_in_scope : TreeModel → SearchRequestValue → List RdnModel → List ℕ
+numbers_in_scope t q base = numbers (λ e. is_in_scope (rdns t.suffix) q.scope (rdns base) (rdns e.name)) t.entries
+
+-- A search at a base evaluated its filter, as it is bound under the schema, on few of the entries in scope, under an index choice. Where there
+-- are more entries than the size limit, on few of those up to the first past it.
+pub record IsFewOf (ix : List Kinds) (s : SchemaModel) (t : TreeModel) (q : SearchRequestValue) (base : List RdnModel) (tests : ℕ) : Type 0 where
+  pub bound_filter : BoundFilter
+  pub stands_for : IsBoundTo s q.filter bound_filter
+  pub few : IsFew ix bound_filter t.entries (numbers_in_scope t q base) tests
+  pub few_up_to : (m : ℕ) → 0 < q.size_limit → slice_get (true_numbers bound_filter t.entries (numbers_in_scope t q base)) q.size_limit ≡ Some m
+      → IsFew ix bound_filter t.entries (filter (λ n. nat_le n m) (numbers_in_scope t q base)) tests

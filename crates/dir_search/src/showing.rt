@@ -1,0 +1,95 @@
+//! What is shown of the entries that are found. The numbers that a run gives flow in, one by one; an answer, up to the size limit, flows
+//! out. Which numbers are found is not told here.
+ghost use Rattle.std.specs.Prelude.{◌≡◌, ◌<◌, ◌++◌, ◌∷◌, [], map, IfOk, OnOk, string_bytes};
+ghost use Rattle.std.specs.Bool.{OnTrue, OnFalse};
+ghost use Rattle.ldap_msg.specs.View.{entry_view};
+ghost use Rattle.dir_store.specs.Stored.{named};
+ghost use Rattle.dir_search.specs.Looks.{AreHere};
+ghost use Rattle.dir_search.specs.Numbered.{entries_of};
+ghost use Rattle.dir_search.specs.Selection.{selected};
+ghost use Rattle.dir_search.specs.View.{answer_view, Shows};
+
+use crate::found::SearchAnswer;
+use crate::selecting::select;
+use crate::values::Evaluated;
+use dir_index::Postings;
+use dir_tree::Tree;
+use ldap_msg::{ResultCode, SearchRequest, SearchResultEntry};
+use ldap_schema::Schema;
+use plan_run::Running;
+use std::alloc::{AllocError, Global};
+
+/// Whether so many entries are all that the limit lets through; 0 is no limit.
+fn is_full(limit: usize, count: usize) -> bool
+    ensures full { OnTrue result ((0 < limit) × (count ≡ limit)) }
+    ensures more { OnFalse result (0 < limit → count ≡ limit → ⊥) }
+{
+    limit > 0 && count == limit
+}
+
+/// Adds what is shown of the entry of a number.
+fn show_next(
+    alloc: Global,
+    schema: &Schema,
+    tree: &Tree,
+    request: &SearchRequest,
+    number: u64,
+    entries: &mut Vec<SearchResultEntry>,
+) -> Result<(), AllocError>
+    ensures { OnOk result (map entry_view entries.new.items ≡ map entry_view entries.old.items
+        ++ map (selected schema.now (map string_bytes request.now.attributes.items) request.now.types_only)
+        (map named (entries_of (number ∷ []) tree.now.entries))) }
+{
+    match tree.entry(number) {
+        Some(held) => {
+            let entry = select(alloc, schema, &request.attributes, request.types_only, held)?;
+            entries.push(entry)?;
+            Ok(())
+        }
+        None => Ok(()),
+    }
+}
+
+/// The answer with these entries.
+fn ended(
+    alloc: Global,
+    code: ResultCode,
+    entries: Vec<SearchResultEntry>,
+    tests: u64,
+) -> SearchAnswer
+    ensures shown { answer_view result ≡ record { code = code; matched = []; entries = map entry_view entries.items } }
+    ensures tests { result.tests ≡ tests }
+{
+    SearchAnswer {
+        code,
+        matched: String::new(alloc),
+        entries,
+        tests: tests as usize,
+    }
+}
+
+/// What is shown of the entries that a run gives, up to the limit; 0 is no limit. It stops at the first past it.
+pub fn show_found(
+    alloc: Global,
+    schema: &Schema,
+    tree: &Tree,
+    request: &SearchRequest,
+    mut running: Running<'_, Postings, Evaluated<'_>>,
+) -> Result<SearchAnswer, AllocError>
+    requires { AreHere tree.now.entries running.to_come }
+    ensures { IfOk result (λ a. Shows a
+        (selected schema.now (map string_bytes request.now.attributes.items) request.now.types_only)
+        request.now.size_limit tree.now.entries running.entry.to_come running.entry.open_numbers) }
+{
+    let limit = request.size_limit as usize;
+    let mut entries = Vec::new(alloc);
+    while let Some(number) = running.next() {
+        if is_full(limit, entries.as_slice().len()) {
+            let code = ResultCode::SIZE_LIMIT_EXCEEDED;
+            return Ok(ended(alloc, code, entries, running.tests()));
+        }
+        show_next(alloc, schema, tree, request, number, &mut entries)?;
+    }
+    let code = ResultCode::SUCCESS;
+    Ok(ended(alloc, code, entries, running.tests()))
+}

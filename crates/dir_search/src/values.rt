@@ -1,0 +1,31 @@
+//! The values of a filter on the entries of a tree, each asked for by its number. A tree and a bound filter flow in; values flow
+//! out, and each look is counted. Plans are not here.
+use dir_tree::Tree;
+use ldap_eval::{BoundFilter, value};
+use ldap_match::Truth;
+use plan_run::Values;
+
+/// The values of a bound filter on the entries of a tree.
+#[derive(Drop)]
+pub struct Evaluated<'a> {
+    pub tree: &'a Tree,
+    pub bound: &'a BoundFilter,
+    /// How many values were asked for.
+    pub looks: u64,
+}
+
+impl Values for Evaluated<'_> {
+    ghost use Rattle.dir_search.specs.Looks.{value_in};
+
+    ghost value_at = { λ v n. value_in v.bound.now v.tree.now.entries n };
+
+    ghost looks = { λ v. v.looks };
+
+    fn value(&mut self, number: u64) -> Truth {
+        self.looks += 1;
+        match self.tree.entry(number) {
+            Some(held) => value(self.bound, &held.entry),
+            None => Truth::Undefined,
+        }
+    }
+}

@@ -1,0 +1,35 @@
+//! Named files: a name flows in, the file's text flows out. What a text means is not here.
+
+use crate::fault::Fault;
+use std::alloc::Global;
+use std::fs;
+use std::io::ErrorKind;
+use std::rt::Files;
+
+/// Reads named files whole.
+pub trait ReadFiles {
+    /// The text of a file; `cannot read` where it can't be opened or read, or isn't UTF-8.
+    fn read_text(&self, alloc: Global, path: &str) -> Result<String, Fault>;
+}
+
+/// The system's files.
+#[derive(Drop)]
+pub struct SystemFiles<'a, R>(pub &'a R);
+
+impl<R: Files + AllocGlobal> ReadFiles for SystemFiles<'_, R> {
+    fn read_text(&self, _alloc: Global, path: &str) -> Result<String, Fault> {
+        match fs::read_to_string(self.0, path) {
+            Ok(text) => Ok(text),
+            Err(error) => Err(read_fault(error.kind())),
+        }
+    }
+}
+
+/// The fault of a read that failed.
+pub fn read_fault(kind: ErrorKind) -> Fault {
+    if kind == ErrorKind::OutOfMemory {
+        Fault::NoMemory
+    } else {
+        Fault::CannotRead
+    }
+}

@@ -1,0 +1,3 @@
+pub mod TooLong
+pub mod Meanings
+pub mod Wrongs

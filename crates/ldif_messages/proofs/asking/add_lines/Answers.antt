@@ -1,0 +1,11 @@
+-- LDIF and messages: the goals of `add_lines`.
+use Rattle.std.proofs.lemmas.Result.{err_from_is_err_and}
+use Rattle.ldif_messages.proofs.TooLong.{put_to_ask}
+use Rattle.ldif_messages.proofs.asking.add_lines.Goals as goal
+
+pub returns-in_err-put_add-in-Some-clause-refused : goal.returns-in_err-put_add-in-Some-clause-refused
+returns-in_err-put_add-in-Some-clause-refused c =
+    let p = err_from_is_err_and c.from_residual.result c.from_residual.ensures.1 in
+    rw (p.1, p.2)
+    (put_to_ask c.in_err-put_add-in-Some.field-0.0 c.args.records.now c.loop-index.index c.in-Some.id c.index-records-index.result c.loop-index-test.true
+    c.index-records-index.is c.in-Some.ensures.0 c.loop-index.invariant.1 c.in_err-put_add-in-Some.ensures.refused)

@@ -1,0 +1,67 @@
+//! LDIF and the directory: records are added.
+//! In: a directory and records. Out: the directory with their entries, or the first that is refused. Not here: how an add is judged.
+
+ghost use Rattle.std.specs.Prelude.{◌≡◌, ◌+◌, None, IfOk, IfErr, OnOk};
+ghost use Rattle.ldap_op.specs.Values.{add as add_op};
+ghost use Rattle.dir_store.specs.Stored.{NumbersBelow};
+ghost use Rattle.dir_store.specs.Updates.{applied, reply_to, directory_after};
+ghost use Rattle.ldif_messages.specs.Adds.{add_of as add_value};
+ghost use Rattle.ldif_search.specs.Added.{adds, first_refused, IsPutFault, IsAddFault};
+
+use crate::fault::SearchError;
+use dir_store::Store;
+use ldap_op::{Op, Update};
+use ldif::Record;
+use ldif_messages::add_of;
+use std::alloc::{AllocError, Global};
+
+/// Adds a record under a number above all, and tells the result code.
+fn add_record(
+    alloc: Global,
+    store: &mut Store,
+    number: u64,
+    item: &Record,
+) -> Result<u32, AllocError>
+    requires above { NumbersBelow number store.old.entries }
+    ensures applied { OnOk result (store.new ≡ applied store.old number (add_op (add_value item.now))) }
+    ensures code { IfOk result (λ code. code ≡ (reply_to store.old number (add_op (add_value item.now))).code) }
+    ensures below { OnOk result (NumbersBelow (number + 1) store.new.entries) }
+{
+    let op = Op::new(Update::Add(add_of(alloc, item)?));
+    let reply = store.apply(alloc, number, &op)?;
+    Ok(reply.code.number())
+}
+
+/// Adds a record as above, or tells that it is refused.
+fn put_record(
+    alloc: Global,
+    store: &mut Store,
+    number: u64,
+    item: &Record,
+) -> Result<(), SearchError>
+    requires above { NumbersBelow number store.old.entries }
+    ensures applied { OnOk result (store.new ≡ applied store.old number (add_op (add_value item.now))) }
+    ensures accepted { OnOk result ((reply_to store.old number (add_op (add_value item.now))).code ≡ 0) }
+    ensures below { OnOk result (NumbersBelow (number + 1) store.new.entries) }
+    ensures refused { IfErr result (λ e. IsPutFault e number (reply_to store.old number (add_op (add_value item.now))).code) }
+{
+    let code = add_record(alloc, store, number, item)?;
+    if code == 0 {
+        Ok(())
+    } else {
+        Err(SearchError::Refused { number, code })
+    }
+}
+
+/// Adds records in their order, under the numbers from 1 on, up to the first that is refused.
+pub fn add_records(alloc: Global, store: &mut Store, records: &[Record]) -> Result<(), SearchError>
+    requires empty { NumbersBelow 1 store.old.entries }
+    ensures filled { OnOk result (store.new ≡ directory_after store.old 0 (adds records.now)) }
+    ensures accepted { OnOk result (first_refused store.old 0 (adds records.now) ≡ None) }
+    ensures refused { IfErr result (λ e. IsAddFault e store.old records.now) }
+{
+    for (index, item) in records.iter().enumerate() {
+        put_record(alloc, store, index as u64 + 1, item)?;
+    }
+    Ok(())
+}

@@ -1,0 +1,5 @@
+use Rattle.local_directory.proofs.Folds.{is_fold}
+use Rattle.local_directory.proofs.laws.directory_is_fold.Goals as goal
+
+pub returns : goal.returns
+returns c = is_fold

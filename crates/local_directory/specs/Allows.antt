@@ -1,0 +1,81 @@
+-- What a directory of one server alone answers to each exchange, and what it is after that. A directory and an exchange
+-- flow in; which answers and which directory are allowed flows out. What is asked in an exchange is below, how a
+-- directory is kept is not here.
+use Rattle.std.specs.Prelude.{◌≡◌, ℕ, ◌+◌, ◌<◌, ◌≤◌, cond, nat_lt}
+use Rattle.std.specs.FinMap as map
+use Rattle.ldap_op.specs.Values.{OpValue}
+use Rattle.dir_store.specs.Updates.{applied, reply_to}
+use Rattle.dir_search.specs.Answer.{answer}
+use Rattle.dir_search.specs.Compared.{compared as compared_reply}
+use Rattle.session_talk.specs.declared.client.Client.{Client}
+use Rattle.session_talk.specs.Talk.{Looked, found, not_yet, gone, no_memory, primary}
+use Rattle.session_talk.specs.Talk.{EndedValue, done, stale, lost, refused_memory}
+use Rattle.session_talk.specs.Talk.{Exchange, asked_role, learned, searched, compared, updated}
+use Rattle.local_directory.specs.Latest.{kept_as, Standing, older, repeated, newer, standing}
+use Rattle.local_directory.specs.Local.{LocalValue}
+
+-- A read, of a directory at one number, that names another: where that is no later, this is the answer, and it is of
+-- the directory's own number, or there is no memory for it; else the read is told the directory's number.
+abbrev pub IsReadAt : {A : Type 0} → ℕ → ℕ → A → Looked A → Type 0
+IsReadAt number named answered (found at a) = (named ≤ number) × (at ≡ number) × (a ≡ answered)
+IsReadAt number named answered (not_yet at) = (number < named) × (at ≡ number)
+IsReadAt number named answered gone = ⊥
+IsReadAt number named answered no_memory = named ≤ number
+
+-- the greatest number that an update may have, that of 63 bits
+abbrev pub last_number : ℕ
+last_number = 9223372036854775807
+
+-- how an update ends where there is memory, and the directory after it
+pub record Outcome : Type 0 where
+  pub ended : EndedValue
+  pub after : LocalValue
+
+-- it ends so, and nothing changes
+abbrev pub unchanged : LocalValue → EndedValue → Outcome
+unchanged d ended = record { ended = ended; after = d }
+
+-- An update is made, or refused, as the one of this number. Its reply is kept as that of the client's latest request.
+abbrev pub made_as : LocalValue → ℕ → Client → ℕ → OpValue → Outcome
+made_as d number client request op =
+    record {
+      ended = done number (reply_to d.directory number op);
+      after =
+          record {
+            directory = applied d.directory number op;
+            number = number;
+            latest = map.insert d.latest client (kept_as request number (reply_to d.directory number op));
+          };
+    }
+
+-- an update is made as the next one; it is lost where there is no further number
+abbrev pub made_next : LocalValue → Client → ℕ → OpValue → Outcome
+made_next d client request op =
+    cond (nat_lt d.number last_number) (made_as d (d.number + 1) client request op) (unchanged d lost)
+
+-- a request below its client's latest one is stale; a repeated one is done with what it was answered with; a new one is
+-- made
+abbrev pub outcome_by : Standing → LocalValue → Client → ℕ → OpValue → Outcome
+outcome_by older d client request op = unchanged d stale
+outcome_by (repeated k) d client request op = unchanged d (done k.number k.reply)
+outcome_by newer d client request op = made_next d client request op
+
+-- what a client's request for an update comes to
+abbrev pub outcome : LocalValue → Client → ℕ → OpValue → Outcome
+outcome d client request op = outcome_by (standing (map.get d.latest client) request) d client request op
+
+-- An update ends as its outcome says, or there is no memory for it, and nothing changes.
+abbrev pub Ends : Outcome → LocalValue → EndedValue → LocalValue → Type 0
+Ends o d (done number reply) e = (o.ended ≡ done number reply) × (e ≡ o.after)
+Ends o d stale e = (o.ended ≡ stale) × (e ≡ o.after)
+Ends o d lost e = (o.ended ≡ lost) × (e ≡ o.after)
+Ends o d refused_memory e = e ≡ d
+
+-- The exchanges of a directory of one server alone, and the directory after each: it is always the primary, and only an
+-- update changes it.
+abbrev pub allows : LocalValue → Exchange (Unit {0}) → LocalValue → Type 0
+allows d (asked_role role told) e = (role ≡ primary) × (e ≡ d)
+allows d (learned told) e = e ≡ d
+allows d (searched named q looked) e = IsReadAt d.number named (answer d.directory q) looked × (e ≡ d)
+allows d (compared named q looked) e = IsReadAt d.number named (compared_reply d.directory q) looked × (e ≡ d)
+allows d (updated client request op ended) e = Ends (outcome d client request op) d ended e

@@ -1,0 +1,78 @@
+-- What a talk with a directory of one server alone comes to. Exchanges flow in; the updates that they made flow out,
+-- and the directory after them is the fold of those. How each exchange is answered is below.
+use Rattle.std.specs.Prelude.{◌≡◌, ℕ, ◌+◌, ◌≤◌, List, [], ◌∷◌, ◌++◌, map, length, cond, nat_eq, Some}
+use Rattle.std.specs.FinMap as fin
+use Rattle.ldap_op.specs.Values.{OpValue}
+use Rattle.dir_store.specs.Directory.{Directory}
+use Rattle.dir_store.specs.Replies.{ReplyModel}
+use Rattle.dir_store.specs.Updates.{applied, reply_to, directory_after}
+use Rattle.session_talk.specs.declared.client.Client.{Client}
+use Rattle.session_talk.specs.Talk.{EndedValue, done, stale, lost, refused_memory}
+use Rattle.session_talk.specs.Talk.{Exchange, asked_role, learned, searched, compared, updated, Along}
+use Rattle.local_directory.specs.Latest.{KeptValue}
+use Rattle.local_directory.specs.Local.{LocalValue}
+use Rattle.local_directory.specs.Allows.{allows}
+
+-- an update that took a number, and its reply
+pub record MadeUpdate : Type 0 where
+  pub op : OpValue
+  pub reply : ReplyModel
+
+-- an update that is done under the next number was made then; one that is done under another number was made before
+abbrev pub made_if : ℕ → OpValue → EndedValue → List MadeUpdate
+made_if number op (done n reply) = cond (nat_eq n (number + 1)) (record { op = op; reply = reply } ∷ []) []
+made_if number op stale = []
+made_if number op lost = []
+made_if number op refused_memory = []
+
+-- what an exchange with a directory at this number made
+abbrev pub made_in : ℕ → Exchange (Unit {0}) → List MadeUpdate
+made_in number (asked_role role told) = []
+made_in number (learned told) = []
+made_in number (searched named q looked) = []
+made_in number (compared named q looked) = []
+made_in number (updated client request op ended) = made_if number op ended
+
+-- the updates that a talk with a directory at this number made, one after the other
+abbrev pub made_along : ℕ → List (Exchange (Unit {0})) → List MadeUpdate
+made_along number [] = []
+made_along number (x ∷ xs) = made_in number x ++ made_along (number + length (made_in number x)) xs
+
+-- the replies to updates, one after the other, the first under the number that follows this one
+abbrev pub replies_after : Directory → ℕ → List OpValue → List ReplyModel
+replies_after d number [] = []
+replies_after d number (op ∷ ops) =
+    reply_to d (number + 1) op ∷ replies_after (applied d (number + 1) op) (number + 1) ops
+
+-- the updates alone
+abbrev pub ops_of : List MadeUpdate → List OpValue
+ops_of made = map (λ (m : MadeUpdate). m.op) made
+
+-- Updates lead from one directory to another: that is their fold, each under its own number, and each was replied to as
+-- its definition says.
+pub record IsFold (d : LocalValue) (made : List MadeUpdate) (e : LocalValue) : Type 0 where
+  pub directory : e.directory ≡ directory_after d.directory d.number (ops_of made)
+  pub number : e.number ≡ d.number + length made
+  pub replies : map (λ (m : MadeUpdate). m.reply) made ≡ replies_after d.directory d.number (ops_of made)
+
+-- No kept reply is of an update that is not made yet.
+abbrev pub IsKept : LocalValue → Type 0
+IsKept d = (client : Client) (k : KeptValue) → fin.get d.latest client ≡ Some k → k.number ≤ d.number
+
+-- Along any talk the directory is the fold of the updates that the talk made. What this asks of the directory stays so,
+-- and is so where no client has asked yet.
+abbrev pub DirectoryIsFold : Type 0
+DirectoryIsFold =
+    ((d e : LocalValue) (talk : List (Exchange (Unit {0}))) → IsKept d → Along allows d talk e →
+    IsFold d (made_along d.number talk) e × IsKept e)
+    × ((d : LocalValue) → d.latest ≡ fin.empty → IsKept d)
+
+-- A client's request that was done is done again with the same number and reply alone, and changes nothing, whatever
+-- was asked in between.
+abbrev pub MadeOnce : Type 0
+MadeOnce =
+    (d e f g : LocalValue) (talk : List (Exchange (Unit {0}))) (client : Client) (request n m : ℕ) (op other : OpValue)
+    (reply again : ReplyModel) →
+    allows d (updated client request op (done n reply)) e → Along allows e talk f →
+    allows f (updated client request other (done m again)) g →
+    (m ≡ n) × (again ≡ reply) × (g ≡ f)

@@ -1,0 +1,14 @@
+-- What is kept in memory stands for.
+use Rattle.std.specs.Prelude.{List, map}
+use Rattle.dir_store.specs.View.{reply_view}
+use Rattle.session_talk.specs.declared.client.Client.{Client}
+use Rattle.local_directory.specs.Latest.{KeptValue}
+use Rattle.local_directory.specs.declared.kept.Kept.{Kept}
+
+-- what is kept of one client
+abbrev pub kept_view : Kept → KeptValue
+kept_view k = record { request = k.request; number = k.number; reply = reply_view k.reply }
+
+-- the entries of a table of clients
+abbrev pub entries_view : List (Client × Kept) → List (Client × KeptValue)
+entries_view es = map (λ e. (e.0, kept_view e.1)) es

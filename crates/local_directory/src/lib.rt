@@ -1,0 +1,14 @@
+//! The directory of one server alone: one store in memory that sessions read and update. Requests of sessions flow in;
+//! answers flow out, and the directory after them stays. Messages, sessions and replicas are not here.
+#![tactic(auto)]
+
+mod client_table;
+mod ending;
+mod kept;
+mod laws;
+mod local;
+mod making;
+mod reading;
+
+pub use laws::{directory_is_fold, requests_are_made_once};
+pub use local::LocalDirectory;

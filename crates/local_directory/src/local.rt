@@ -1,0 +1,142 @@
+// One store in memory, with no replicas. What sessions ask flows in; what they are answered flows out, and the
+// directory after each update stays. What must not be here: messages, what a search finds, what an update changes.
+ghost use Rattle.std.specs.Prelude.{◌≡◌, ◌+◌};
+ghost use Rattle.std.specs.FinMap as map;
+ghost use Rattle.dir_store.specs.Stored.{NumbersBelow};
+ghost use Rattle.session_talk.specs.View.{ended_view};
+ghost use Rattle.local_directory.specs.Allows.{Ends, made_next};
+
+use crate::client_table::ClientTable;
+use crate::ending::ended_before;
+use crate::making::make;
+use crate::reading::{compare_at, search_at};
+use dir_search::SearchAnswer;
+use dir_store::{Reply, Store};
+use ldap_msg::{CompareRequest, SearchRequest};
+use ldap_op::Op;
+use session_talk::{Client, Ended, Found, Gate, Look, LookError, Role};
+use std::alloc::Global;
+use std::marker::Model;
+
+/// The greatest number that an update may have.
+const LAST_NUMBER: u64 = 9223372036854775807;
+
+/// One directory in memory that sessions read and update.
+#[derive(Drop)]
+pub struct LocalDirectory {
+    store: Store,
+    /// The number of the last update; no entry has a higher one.
+    number: u64,
+    clients: ClientTable,
+}
+
+impl Model for LocalDirectory {
+    ghost use Rattle.std.specs.Prelude.{◌+◌};
+    ghost use Rattle.dir_store.specs.Stored.{NumbersBelow};
+    ghost use Rattle.std.specs.Coded.{codes};
+    ghost use Rattle.local_directory.specs.ClientOrder.{coded_table};
+    ghost use Rattle.local_directory.specs.Local.{LocalValue};
+
+    ghost Value = { LocalValue };
+
+    ghost coded = { Prim.hlevel (codes, coded_table) };
+
+    ghost view = { λ d. record { directory = d.store; number = d.number; latest = d.clients } };
+
+    ghost invariant = { λ d. NumbersBelow (d.number + 1) d.store.entries };
+}
+
+impl LocalDirectory {
+    /// A directory that nobody has asked for an update yet. The number is that of its last update; no entry has a
+    /// higher one. It takes no memory.
+    pub fn new(alloc: Global, store: Store, number: u64) -> LocalDirectory
+        requires below { NumbersBelow (number + 1) store.entries }
+        ensures { result ≡ record { directory = store; number = number; latest = map.empty } }
+    {
+        LocalDirectory {
+            store,
+            number,
+            clients: ClientTable::new(alloc),
+        }
+    }
+
+    /// The directory after the last update.
+    pub fn store(&self) -> &Store
+        ensures { result.now ≡ self.now.directory }
+    {
+        &self.store
+    }
+
+    /// The number of the last update.
+    pub fn number(&self) -> u64
+        ensures { result ≡ self.now.number }
+    {
+        self.number
+    }
+
+    /// Makes an update as the next one.
+    fn make_next(&mut self, alloc: Global, client: Client, request: u64, op: &Op) -> Ended
+        ensures { Ends (made_next self.old client request op.now) self.old (ended_view result) self.new }
+    {
+        if self.number >= LAST_NUMBER {
+            return Ended::Lost;
+        }
+        let number = self.number + 1;
+        match make(
+            alloc,
+            &mut self.store,
+            &mut self.clients,
+            client,
+            request,
+            number,
+            op,
+        ) {
+            Ok(reply) => {
+                self.number = number;
+                Ended::Done { number, reply }
+            }
+            Err(_) => Ended::NoMemory,
+        }
+    }
+}
+
+impl Look for LocalDirectory {
+    ghost use Rattle.local_directory.specs.Allows.{allows};
+
+    type Told = ();
+
+    ghost allows = { allows };
+
+    fn search(
+        &mut self,
+        alloc: Global,
+        named: u64,
+        request: &SearchRequest,
+    ) -> Result<Found<SearchAnswer>, LookError> {
+        search_at(alloc, &self.store, self.number, named, request)
+    }
+
+    fn compare(
+        &mut self,
+        alloc: Global,
+        named: u64,
+        request: &CompareRequest,
+    ) -> Result<Found<Reply>, LookError> {
+        compare_at(alloc, &self.store, self.number, named, request)
+    }
+
+    fn learn(&mut self, _told: ()) {}
+}
+
+impl Gate for LocalDirectory {
+    fn role(&mut self, _alloc: Global) -> (Role, ()) {
+        (Role::Primary, ())
+    }
+
+    fn update(&mut self, alloc: Global, client: Client, number: u64, op: Op) -> Ended {
+        match ended_before(alloc, &self.clients, client, number) {
+            Some(ended) => ended,
+            None => self.make_next(alloc, client, number, &op),
+        }
+    }
+}

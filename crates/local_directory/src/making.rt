@@ -1,0 +1,109 @@
+// An update that is made next. A directory, a table of clients and an update flow in; the reply flows out, and the
+// directory after the update and the table that keeps the reply stay. What must not be here: which requests are new.
+ghost use Rattle.std.specs.Prelude.{◌≡◌, ◌+◌, Some, IfOk, OnOk, OnErr};
+ghost use Rattle.std.specs.FinMap as map;
+ghost use Rattle.dir_store.specs.Replies.{only as only_code};
+ghost use Rattle.dir_store.specs.Stored.{NumbersBelow};
+ghost use Rattle.dir_store.specs.Updates.{applied, reply_to};
+ghost use Rattle.dir_store.specs.View.{reply_view};
+ghost use Rattle.local_directory.specs.Latest.{kept_as};
+
+use crate::client_table::ClientTable;
+use crate::kept::{Kept, copy_reply, is_success};
+use dir_store::{Reply, Store};
+use ldap_op::Op;
+use ldap_parts::ResultCode;
+use session_talk::Client;
+use std::alloc::{AllocError, Global};
+
+/// Keeps a reply as that of a client's latest request, which the table has as a success, and gives it back. Success
+/// takes no memory.
+fn keep_reply(
+    alloc: Global,
+    clients: &mut ClientTable,
+    client: Client,
+    request: u64,
+    number: u64,
+    reply: Reply,
+) -> Result<Reply, AllocError>
+    requires room { map.get clients.old client ≡ Some (kept_as request number (only_code 0)) }
+    ensures same { IfOk result (λ r. reply_view r ≡ reply_view reply) }
+    ensures kept { OnOk result (clients.new
+        ≡ map.insert clients.old client (kept_as request number (reply_view reply))) }
+    ensures err { OnErr result (clients.new ≡ clients.old) }
+
+    // What was made is kept without memory.
+    ensures refused { OnErr result (reply_view reply ≡ only_code 0 → ⊥) }
+{
+    if is_success(&reply) {
+        return Ok(reply);
+    }
+    let copied = copy_reply(alloc, &reply)?;
+    let kept = Kept {
+        request,
+        number,
+        reply: copied,
+    };
+    clients.replace(client, kept);
+    Ok(reply)
+}
+
+/// Makes an update, where the table has its client's request as a success already. An `Err` leaves all as it was.
+#[tactic(auto, using(crate::proofs::Unchanged::refused_same))]
+fn make_with_room(
+    alloc: Global,
+    store: &mut Store,
+    clients: &mut ClientTable,
+    client: Client,
+    request: u64,
+    number: u64,
+    op: &Op,
+) -> Result<Reply, AllocError>
+    requires above { NumbersBelow number store.old.entries }
+    requires room { map.get clients.old client ≡ Some (kept_as request number (only_code 0)) }
+    ensures reply { IfOk result (λ r. reply_view r ≡ reply_to store.old number op.now) }
+    ensures directory { OnOk result (store.new ≡ applied store.old number op.now) }
+    ensures kept { OnOk result (clients.new
+        ≡ map.insert clients.old client (kept_as request number (reply_to store.old number op.now))) }
+    ensures below { OnOk result (NumbersBelow (number + 1) store.new.entries) }
+    ensures err { OnErr result (store.new ≡ store.old) }
+    ensures err_clients { OnErr result (clients.new ≡ clients.old) }
+{
+    let reply = store.apply(alloc, number, op)?;
+    keep_reply(alloc, clients, client, request, number, reply)
+}
+
+/// Makes an update under a number above those of all entries, and keeps its reply as that of the client's latest
+/// request. An `Err` leaves all as it was: the room in the table is made before the update.
+pub fn make(
+    alloc: Global,
+    store: &mut Store,
+    clients: &mut ClientTable,
+    client: Client,
+    request: u64,
+    number: u64,
+    op: &Op,
+) -> Result<Reply, AllocError>
+    requires above { NumbersBelow number store.old.entries }
+    ensures reply { IfOk result (λ r. reply_view r ≡ reply_to store.old number op.now) }
+    ensures directory { OnOk result (store.new ≡ applied store.old number op.now) }
+    ensures kept { OnOk result (clients.new
+        ≡ map.insert clients.old client (kept_as request number (reply_to store.old number op.now))) }
+    ensures below { OnOk result (NumbersBelow (number + 1) store.new.entries) }
+    ensures err { OnErr result (store.new ≡ store.old) }
+    ensures err_clients { OnErr result (clients.new ≡ clients.old) }
+{
+    let success = Kept {
+        request,
+        number,
+        reply: Reply::only(alloc, ResultCode::SUCCESS),
+    };
+    let before = clients.keep(client, success)?;
+    match make_with_room(alloc, store, clients, client, request, number, op) {
+        Ok(reply) => Ok(reply),
+        Err(error) => {
+            clients.put_back(client, before);
+            Err(error)
+        }
+    }
+}

@@ -1,0 +1,53 @@
+// Reads of the one state there is. A directory, its number and a request flow in; the answer flows out.
+// What must not be here: updates.
+ghost use Rattle.ldap_msg.specs.View.{search_view, compare_view};
+ghost use Rattle.dir_store.specs.View.{reply_view};
+ghost use Rattle.dir_search.specs.Answer.{answer};
+ghost use Rattle.dir_search.specs.Compared.{compared};
+ghost use Rattle.dir_search.specs.View.{answer_view};
+ghost use Rattle.session_talk.specs.Talk.{looked};
+ghost use Rattle.local_directory.specs.Allows.{IsReadAt};
+
+use dir_search::{SearchAnswer, compare, search};
+use dir_store::{Reply, Store};
+use ldap_msg::{CompareRequest, SearchRequest};
+use session_talk::{Found, LookError};
+use std::alloc::Global;
+
+/// A search of a directory that is at this number, no older than one that is named.
+pub fn search_at(
+    alloc: Global,
+    store: &Store,
+    number: u64,
+    named: u64,
+    request: &SearchRequest,
+) -> Result<Found<SearchAnswer>, LookError>
+    ensures { IsReadAt number named (answer store.now (search_view request.now)) (looked answer_view result) }
+{
+    if named > number {
+        return Err(LookError::NotYet { at: number });
+    }
+    match search(alloc, store, request) {
+        Ok(answer) => Ok(Found { at: number, answer }),
+        Err(_) => Err(LookError::NoMemory),
+    }
+}
+
+/// A compare in a directory that is at this number, no older than one that is named.
+pub fn compare_at(
+    alloc: Global,
+    store: &Store,
+    number: u64,
+    named: u64,
+    request: &CompareRequest,
+) -> Result<Found<Reply>, LookError>
+    ensures { IsReadAt number named (compared store.now (compare_view request.now)) (looked reply_view result) }
+{
+    if named > number {
+        return Err(LookError::NotYet { at: number });
+    }
+    match compare(alloc, store, request) {
+        Ok(answer) => Ok(Found { at: number, answer }),
+        Err(_) => Err(LookError::NoMemory),
+    }
+}

@@ -1,0 +1,10 @@
+pub mod Numbers
+pub mod Controls
+pub mod Binding
+pub mod Requests
+pub mod Responses
+pub mod Session
+pub mod Heard
+pub mod Turns
+pub mod Taken
+pub mod View

@@ -1,0 +1,58 @@
+-- Numbers as text: decimal digits without a leading zero. Octets flow in; numbers flow out.
+use Rattle.std.specs.Prelude.{ℕ, ◌+◌, ◌-◌, ◌*◌, List, [], ◌∷◌, Bool, false, ◌&&◌, cond, nat_eq, nat_le, Option, None, Some}
+use Rattle.std.specs.Option.{option_and_then}
+
+-- the greatest number that is named: 2 ^ 63 - 1
+abbrev pub greatest : ℕ
+greatest = 9223372036854775807
+
+abbrev pub is_digit : ℕ → Bool
+is_digit b = nat_le 48 b && nat_le b 57
+
+-- a number with one more digit, if that is one and the number isn't above the greatest
+abbrev pub with_digit : ℕ → ℕ → Option ℕ
+with_digit n b = cond (is_digit b && nat_le (10 * n + (b - 48)) greatest) (Some (10 * n + (b - 48))) None
+
+-- the number that these digits write after those of n, if there is one
+abbrev pub number_after : Option ℕ → List ℕ → Option ℕ
+number_after n [] = n
+number_after n (b ∷ bs) = number_after (option_and_then (λ k. with_digit k b) n) bs
+
+-- a zero that other digits follow
+abbrev pub is_padded : List ℕ → Bool
+is_padded [] = false
+is_padded (b ∷ []) = false
+is_padded (b ∷ c ∷ bs) = nat_eq b 48
+
+abbrev pub number_of_digits : List ℕ → Option ℕ
+number_of_digits [] = None
+number_of_digits (b ∷ bs) = number_after (Some 0) (b ∷ bs)
+
+-- the number of a text: one digit or more, no leading zero, at most the greatest
+abbrev pub number_of : List ℕ → Option ℕ
+number_of text = cond (is_padded text) None (number_of_digits text)
+
+abbrev pub positive : ℕ → Option ℕ
+positive n = cond (nat_eq n 0) None (Some n)
+
+-- the same, from 1
+abbrev pub positive_of : List ℕ → Option ℕ
+positive_of text = option_and_then positive (number_of text)
+
+-- what stands before the first colon and behind it
+abbrev pub before_colon : List ℕ → List ℕ
+before_colon [] = []
+before_colon (b ∷ bs) = cond (nat_eq b 58) [] (b ∷ before_colon bs)
+
+abbrev pub behind_colon : List ℕ → List ℕ
+behind_colon [] = []
+behind_colon (b ∷ bs) = cond (nat_eq b 58) bs (behind_colon bs)
+
+abbrev pub both : Option ℕ → Option ℕ → Option (ℕ × ℕ)
+both None b = None
+both (Some a) None = None
+both (Some a) (Some b) = Some (a, b)
+
+-- two numbers from 1, with a colon between them
+abbrev pub pair_of : List ℕ → Option (ℕ × ℕ)
+pair_of text = both (positive_of (before_colon text)) (positive_of (behind_colon text))

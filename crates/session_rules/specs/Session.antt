@@ -1,0 +1,196 @@
+-- What each request makes of a session, what it asks of the directory, and what answers it: RFC 4511 4.1.1 to 4.12. A session's state, a
+-- message and what the directory answered flow in; the state after it and the responses flow out. Octets are not here.
+use Rattle.std.specs.Prelude.{ℕ, ◌+◌, max, List, [], ◌∷◌, Bool, false, true, cond, nat_lt, Option, None, Some, Result, Ok, Err}
+use Rattle.ldap_schema.specs.Schema.{SchemaModel}
+use Rattle.ldap_dn.specs.Names.{RdnModel}
+use Rattle.ldap_msg.specs.Messages.{SearchRequestValue, CompareRequestValue, LdapResultValue, RequestValue, bind, unbind, search, modify, add, delete, modify_dn, compare, abandon, extended_request, OperationValue, request, response, MessageValue}
+use Rattle.ldap_op.specs.Values.{OpValue}
+use Rattle.dir_store.specs.Replies.{ReplyModel, only}
+use Rattle.dir_search.specs.Answer.{Answer}
+use Rattle.session_talk.specs.Clients.{named_client}
+use Rattle.session_talk.specs.Talk.{Looked, RoleValue, primary, backup, changing, recovering, EndedValue, done, stale, lost, refused_memory}
+use Rattle.session_talk.specs.declared.client.Client.{Client}
+use Rattle.session_rules.specs.Numbers.{greatest}
+use Rattle.session_rules.specs.Controls.{judged}
+use Rattle.session_rules.specs.Binding.{bound}
+use Rattle.session_rules.specs.Requests.{update_of, kind_of, silence_of, answering_of, response_to}
+use Rattle.session_rules.specs.Responses.{message, result_of, referral_to, code_message, done_message, search_messages, compare_messages, notice}
+use Rattle.session_rules.specs.declared.identity.Identity.{Identity}
+use Rattle.session_rules.specs.declared.identity.Identity.TheVariants.{Anonymous, Manager}
+use Rattle.session_rules.specs.declared.bound.Bound.{Bound}
+use Rattle.session_rules.specs.declared.controls.Named.{Named}
+use Rattle.session_rules.specs.declared.requests.Answering.{Answering}
+use Rattle.session_rules.specs.declared.requests.Answering.TheVariants.{Bind, Search, Modify, Add, Delete, ModifyDn, Compare, Extended}
+use Rattle.session_rules.specs.declared.state.State.{State}
+use Rattle.session_rules.specs.declared.answered.Next.{Next}
+use Rattle.session_rules.specs.declared.answered.Next.TheVariants.{GoesOn, Unbound, Disconnected}
+
+-- what all sessions of a server share, and a session's own client
+pub record ConfigValue : Type 0 where
+  pub schema : SchemaModel
+  pub manager : List RdnModel
+  pub password : List ℕ
+  pub client : Client
+
+-- a session's state at its beginning: anonymous (RFC 4513 4)
+abbrev pub at_first : State
+at_first = record { identity = Anonymous; requests = 0; floor = 0 }
+
+-- what a message makes of a session, the responses in order, and whether it goes on
+pub record Reaction : Type 0 where
+  pub state : State
+  pub responses : List MessageValue
+  pub next : Next
+
+-- no response
+abbrev pub silent : State → Next → Reaction
+silent s next = record { state = s; responses = []; next = next }
+
+-- what is no request is answered by the notice, and ends the session (RFC 4511 4.4.1)
+abbrev pub disconnected : State → Reaction
+disconnected s = record { state = s; responses = notice ∷ []; next = Disconnected }
+
+-- one response, after which the session goes on
+abbrev pub says : State → MessageValue → Reaction
+says s m = record { state = s; responses = m ∷ []; next = GoesOn }
+
+-- a refused bind leaves the session anonymous (RFC 4513 4)
+abbrev pub identity_refused : Identity → Answering → Identity
+identity_refused i Bind = Anonymous
+identity_refused i Search = i
+identity_refused i Modify = i
+identity_refused i Add = i
+identity_refused i Delete = i
+identity_refused i ModifyDn = i
+identity_refused i Compare = i
+identity_refused i Extended = i
+
+abbrev pub state_refused : State → Answering → State
+state_refused s answering = record s { identity = identity_refused s.identity answering }
+
+-- a request of this kind is refused with a result
+abbrev pub refused : State → ℕ → Answering → LdapResultValue → Reaction
+refused s id answering result = says (state_refused s answering) (message id (response_to answering result None) [])
+
+-- a code alone refuses it
+abbrev pub refused_with : State → ℕ → Answering → ℕ → Reaction
+refused_with s id answering code = refused s id answering (result_of (only code))
+
+-- what a message is before anything is asked: it has its reaction, or it is a request whose controls name this
+pub data Due : Type 0 where
+  at_once : Reaction → Due
+  after_role : RequestValue → Named → Due
+
+abbrev pub due_by : State → ℕ → RequestValue → Result Named ℕ → Due
+due_by s id r (Err code) = at_once (refused_with s id (answering_of r) code)
+due_by s id r (Ok named) = after_role r named
+
+-- a request with a response is refused for its controls, or goes on to be asked about
+abbrev pub due_unless : State → MessageValue → RequestValue → Option Next → Due
+due_unless s m r (Some next) = at_once (silent s next)
+due_unless s m r None = due_by s m.id r (judged (kind_of r) m.controls)
+
+-- what is no request disconnects
+abbrev pub due_of_op : State → MessageValue → OperationValue → Due
+due_of_op s m (request r) = due_unless s m r (silence_of r)
+due_of_op s m (response r) = at_once (disconnected s)
+
+abbrev pub due : State → MessageValue → Due
+due s m = due_of_op s m m.op
+
+-- what is asked of the directory for a request: nothing, since it has its reaction, or one question
+pub data Asked : Type 0 where
+  nothing : Reaction → Asked
+  a_search : ℕ → SearchRequestValue → Asked
+  a_compare : ℕ → CompareRequestValue → Asked
+  an_update : Client → ℕ → OpValue → Asked
+
+abbrev pub or_zero : Option ℕ → ℕ
+or_zero None = 0
+or_zero (Some n) = n
+
+-- the number that a read names: that of the session's latest update, or a later one that its control names
+abbrev pub named_number : State → Named → ℕ
+named_number s named = max s.floor (or_zero named.number)
+
+-- what a bind makes of a session
+abbrev pub bound_reaction : State → ℕ → Bound → Reaction
+bound_reaction s id b = says (record s { identity = b.identity }) (code_message id Bind b.code)
+
+-- the client and the number of an update: those that its control names, or the session's own client and its next number; other (80), once
+-- those are used up
+abbrev pub update_as : ConfigValue → State → ℕ → Answering → OpValue → Option (ℕ × ℕ) → Asked
+update_as c s id answering u (Some named) = an_update (named_client named.0) named.1 u
+update_as c s id answering u None =
+    cond (nat_lt s.requests greatest) (an_update c.client (s.requests + 1) u) (nothing (refused_with s id answering 80))
+
+-- the manager's update: unavailable (52) while it is being found out where updates are made, referral (10) at a backup
+abbrev pub update_at : ConfigValue → State → ℕ → Answering → Named → OpValue → RoleValue → Asked
+update_at c s id answering named u primary = update_as c s id answering u named.request
+update_at c s id answering named u (backup uri) = nothing (refused s id answering (referral_to uri))
+update_at c s id answering named u changing = nothing (refused_with s id answering 52)
+update_at c s id answering named u recovering = nothing (refused_with s id answering 52)
+
+-- insufficientAccessRights (50) for an update that is not the manager's (RFC 4511 Appendix A.2)
+abbrev pub update_by : Identity → ConfigValue → State → ℕ → Answering → Named → OpValue → RoleValue → Asked
+update_by Anonymous c s id answering named u role = nothing (refused_with s id answering 50)
+update_by Manager c s id answering named u role = update_at c s id answering named u role
+
+-- an extended request that is no update is not recognised: protocolError (2) (RFC 4511 4.12)
+abbrev pub asked_of_update : ConfigValue → State → ℕ → Answering → Named → RoleValue → Option OpValue → Asked
+asked_of_update c s id answering named role None = nothing (refused_with s id answering 2)
+asked_of_update c s id answering named role (Some u) = update_by s.identity c s id answering named u role
+
+-- what is asked at a replica that has a state
+abbrev pub asked_of : ConfigValue → State → ℕ → RequestValue → Named → RoleValue → Asked
+asked_of c s id (bind b) named role = nothing (bound_reaction s id (bound c.schema c.manager c.password b))
+asked_of c s id unbind named role = nothing (silent s Unbound)
+asked_of c s id (search q) named role = a_search (named_number s named) q
+asked_of c s id (modify m) named role = asked_of_update c s id Modify named role (update_of (modify m))
+asked_of c s id (add a) named role = asked_of_update c s id Add named role (update_of (add a))
+asked_of c s id (delete name) named role = asked_of_update c s id Delete named role (update_of (delete name))
+asked_of c s id (modify_dn m) named role = asked_of_update c s id ModifyDn named role (update_of (modify_dn m))
+asked_of c s id (compare q) named role = a_compare (named_number s named) q
+asked_of c s id (abandon k) named role = nothing (silent s GoesOn)
+asked_of c s id (extended_request x) named role = asked_of_update c s id Extended named role (update_of (extended_request x))
+
+-- whether a replica has no state yet
+abbrev pub is_recovering : RoleValue → Bool
+is_recovering primary = false
+is_recovering (backup uri) = false
+is_recovering changing = false
+is_recovering recovering = true
+
+-- What is asked, once the role of the replica is known: nothing at one that is recovering, unavailable (52).
+abbrev pub asked : ConfigValue → State → ℕ → RequestValue → Named → RoleValue → Asked
+asked c s id r named role = cond (is_recovering role) (nothing (refused_with s id (answering_of r) 52)) (asked_of c s id r named role)
+
+-- what a search comes to
+abbrev pub after_search : State → ℕ → Named → Looked Answer → Reaction
+after_search s id named look = record { state = s; responses = search_messages id named.number look; next = GoesOn }
+
+-- what a compare comes to
+abbrev pub after_compare : State → ℕ → Named → Looked ReplyModel → Reaction
+after_compare s id named look = record { state = s; responses = compare_messages id named.number look; next = GoesOn }
+
+-- the number of the last request of the session's own client, where an update was asked: its own, or one that a control names
+abbrev pub requests_after : ℕ → Option (ℕ × ℕ) → ℕ
+requests_after n None = n + 1
+requests_after n (Some named) = n
+
+-- the session once an update was asked: its own client's request is used up, where it was that
+abbrev pub asked_state : State → Named → State
+asked_state s named = record s { requests = requests_after s.requests named.request }
+
+-- the session reads from its update on
+abbrev pub reading_from : State → ℕ → State
+reading_from s number = record s { floor = max s.floor number }
+
+-- What an update comes to: its reply, with its number where the request named one; unwillingToPerform (53) where the client has made a later
+-- request, other (80) where it isn't known what became of it, and without memory.
+abbrev pub after_update : State → ℕ → Answering → Named → EndedValue → Reaction
+after_update s id answering named (done number reply) =
+    says (reading_from s number) (done_message id answering named.number number reply)
+after_update s id answering named stale = refused_with s id answering 53
+after_update s id answering named lost = refused_with s id answering 80
+after_update s id answering named refused_memory = refused_with s id answering 80

@@ -1,0 +1,12 @@
+//! What a bind comes to. Nothing flows in; plain data flows out. How a bind is judged is not here.
+
+use crate::identity::Identity;
+use ldap_msg::ResultCode;
+
+/// What a bind comes to.
+#[derive(Clone, Copy, Debug)]
+pub struct Bound {
+    /// Who the session is bound as from then on.
+    pub identity: Identity,
+    pub code: ResultCode,
+}

@@ -1,0 +1,14 @@
+//! Laws of sessions. Nothing flows in; what holds of all sessions flows out. Code that runs is not here.
+ghost use Rattle.session_rules.specs.Turns.{SessionsJoin, RoleIsFirst};
+
+/// A session over some messages, and on over others, is one over both, whatever is told with roles: a law on the definitions, so its body is
+/// empty.
+pub fn sessions_join<T>()
+    ensures { SessionsJoin T }
+{}
+
+/// Whatever is asked for a message, the role is asked first, and what is told with it is learned next: a law on the definitions, so its body
+/// is empty.
+pub fn role_is_first<T>()
+    ensures { RoleIsFirst T }
+{}

@@ -1,0 +1,13 @@
+//! A request that waits for its answer. Nothing flows in; plain data flows out. What it asks for is not here.
+
+use crate::controls::Named;
+use crate::requests::Answering;
+
+/// A request that waits for its answer: what its response needs.
+#[derive(Clone, Copy, Debug)]
+pub struct Pending {
+    /// messageID.
+    pub id: u32,
+    pub answering: Answering,
+    pub named: Named,
+}

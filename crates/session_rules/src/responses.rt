@@ -1,0 +1,375 @@
+//! Responses, written. What answers a request flows in; octets flow out, one `Vec` a message. What a session does is not here.
+ghost use Rattle.std.specs.Prelude.{◌≡◌, ◌≤◌, ◌^◌, ◌++◌, ◌∷◌, [], map, length, decimal, string_bytes, None, Some, Ok, IfOk, IsErrOf};
+ghost use Rattle.std.specs.Option.{option_map};
+ghost use Rattle.ldap_msg.specs.View.{entry_view, response_view, result_view, control_view};
+ghost use Rattle.ldap_msg.specs.Written.{message_bytes, message_content};
+ghost use Rattle.dir_store.specs.View.{reply_view};
+ghost use Rattle.dir_search.specs.View.{answer_view};
+ghost use Rattle.session_talk.specs.Talk.{looked};
+ghost use Rattle.session_rules.specs.Responses.{message, result_of, referral_to, code_message, number_told, value_for, reply_message, entry_messages, search_messages, compare_messages, notice, HasTooLong};
+ghost use Rattle.session_rules.specs.Requests.{response_to};
+ghost use Rattle.session_rules.specs.Taken.{AreSaid};
+
+use crate::answered::{Answered, Next};
+use crate::controls::NUMBER_CONTROL;
+use crate::fault::AnswerError;
+use crate::requests::Answering;
+use dir_search::SearchAnswer;
+use dir_store::Reply;
+use ldap_msg::{
+    Control, EncodeError, ExtendedResponse, LdapResult, Message, ProtocolOp, Response, ResultCode,
+    SearchResultEntry, encode,
+};
+use session_talk::{Found, LookError};
+use std::alloc::{AllocError, Global};
+
+/// responseName of the Notice of Disconnection (RFC 4511 4.4.1).
+const NOTICE_OF_DISCONNECTION: &str = "1.3.6.1.4.1.1466.20036";
+
+/// A result with a reply's code and matchedDN, and nothing else.
+pub fn result_of(alloc: Global, given: Reply) -> LdapResult
+    ensures { result_view result ≡ result_of (reply_view given) }
+{
+    let Reply { code, matched } = given;
+    LdapResult {
+        code,
+        matched_dn: matched,
+        diagnostic_message: String::new(alloc),
+        referral: Vec::new(alloc),
+    }
+}
+
+/// A referral to one URI.
+pub fn referral_to(alloc: Global, uri: String) -> Result<LdapResult, AllocError>
+    ensures { IfOk result (λ r. result_view r ≡ referral_to (string_bytes uri)) }
+{
+    let mut referral = Vec::new(alloc);
+    referral.push(uri)?;
+    Ok(LdapResult {
+        code: ResultCode::REFERRAL,
+        matched_dn: String::new(alloc),
+        diagnostic_message: String::new(alloc),
+        referral,
+    })
+}
+
+/// A number as text.
+fn decimal_of(alloc: Global, number: u64) -> Result<Vec<u8>, AllocError>
+    ensures { IfOk result (λ v. v.items ≡ decimal number) }
+{
+    let text = format!(in alloc; "{number}")?;
+    Ok(text.into_bytes())
+}
+
+/// The control that tells a number.
+fn number_control(alloc: Global, number: u64) -> Result<Control, AllocError>
+    ensures { IfOk result (λ c. control_view c ∷ [] ≡ number_told (Some 0) number) }
+{
+    let control_type = String::from_str(alloc, NUMBER_CONTROL)?;
+    let value = decimal_of(alloc, number)?;
+    Ok(Control {
+        control_type,
+        criticality: false,
+        value: Some(value),
+    })
+}
+
+/// The control that tells a number, where the request named one.
+fn number_told(alloc: Global, asked: Option<u64>, number: u64) -> Result<Vec<Control>, AllocError>
+    ensures { IfOk result (λ v. map control_view v.items ≡ number_told asked number) }
+{
+    let mut controls = Vec::new(alloc);
+    if asked.is_some() {
+        controls.push(number_control(alloc, number)?)?;
+    }
+    Ok(controls)
+}
+
+/// The value of the response to an update that is an extended request: its number.
+pub fn value_for(
+    alloc: Global,
+    answering: Answering,
+    number: u64,
+) -> Result<Option<Vec<u8>>, AllocError>
+    ensures { IfOk result (λ o. option_map (λ v. v.items) o ≡ value_for answering number) }
+{
+    match answering {
+        Answering::Extended => Ok(Some(decimal_of(alloc, number)?)),
+        Answering::Bind
+        | Answering::Search
+        | Answering::Modify
+        | Answering::Add
+        | Answering::Delete
+        | Answering::ModifyDn
+        | Answering::Compare => Ok(None),
+    }
+}
+
+/// A result in a response of this kind; the value is an extended response's alone.
+pub fn response_to(answering: Answering, outcome: LdapResult, value: Option<Vec<u8>>) -> Response
+    ensures { response_view result ≡ response_to answering (result_view outcome) (option_map (λ v. v.items) value) }
+{
+    match answering {
+        Answering::Bind => Response::Bind(outcome),
+        Answering::Search => Response::SearchDone(outcome),
+        Answering::Modify => Response::Modify(outcome),
+        Answering::Add => Response::Add(outcome),
+        Answering::Delete => Response::Delete(outcome),
+        Answering::ModifyDn => Response::ModifyDn(outcome),
+        Answering::Compare => Response::Compare(outcome),
+        Answering::Extended => Response::Extended(ExtendedResponse {
+            result: outcome,
+            response_name: None,
+            response_value: value,
+        }),
+    }
+}
+
+/// A reply in a response of this kind.
+pub fn reply_to(alloc: Global, answering: Answering, reply: Reply) -> Response
+    ensures { response_view result ≡ response_to answering (result_of (reply_view reply)) None }
+{
+    response_to(answering, result_of(alloc, reply), None)
+}
+
+/// A response, written.
+fn write_message(
+    alloc: Global,
+    id: u32,
+    response: Response,
+    controls: Vec<Control>,
+) -> Result<Vec<u8>, AnswerError>
+    ensures ok { IfOk result (λ octets. octets.items ≡ message_bytes (message id (response_view response) (map control_view controls.items))) }
+    ensures too_long { IsErrOf result AnswerError.TooLong
+        → 2 ^ 32 ≤ length (message_content (message id (response_view response) (map control_view controls.items))) }
+{
+    let message = Message {
+        id,
+        op: ProtocolOp::Response(response),
+        controls,
+    };
+    match encode(alloc, &message) {
+        Ok(octets) => Ok(octets),
+        Err(EncodeError::TooLong) => Err(AnswerError::TooLong),
+        Err(EncodeError::NoMemory) => Err(AnswerError::NoMemory),
+    }
+}
+
+/// A response without controls, written.
+fn write_plain(alloc: Global, id: u32, response: Response) -> Result<Vec<u8>, AnswerError>
+    ensures ok { IfOk result (λ octets. octets.items ≡ message_bytes (message id (response_view response) [])) }
+    ensures too_long { IsErrOf result AnswerError.TooLong → 2 ^ 32 ≤ length (message_content (message id (response_view response) [])) }
+{
+    write_message(alloc, id, response, Vec::new(alloc))
+}
+
+/// A response with a number, where the request named one, written.
+fn write_numbered(
+    alloc: Global,
+    id: u32,
+    response: Response,
+    asked: Option<u64>,
+    number: u64,
+) -> Result<Vec<u8>, AnswerError>
+    ensures ok { IfOk result (λ octets. octets.items ≡ message_bytes (message id (response_view response) (number_told asked number))) }
+    ensures too_long { IsErrOf result AnswerError.TooLong
+        → 2 ^ 32 ≤ length (message_content (message id (response_view response) (number_told asked number))) }
+{
+    let controls = number_told(alloc, asked, number)?;
+    write_message(alloc, id, response, controls)
+}
+
+/// The response of each entry, written, in order.
+fn entry_responses(
+    alloc: Global,
+    id: u32,
+    entries: Vec<SearchResultEntry>,
+) -> Result<Vec<Vec<u8>>, AnswerError>
+    ensures ok { IfOk result (λ r. map (λ v. v.items) r.items ≡ map message_bytes (entry_messages id (map entry_view entries.items))) }
+    ensures too_long { IsErrOf result AnswerError.TooLong → HasTooLong (entry_messages id (map entry_view entries.items)) }
+{
+    let mut responses = Vec::new(alloc);
+    for entry in entries {
+        responses.push(write_plain(alloc, id, Response::SearchEntry(entry))?)?;
+    }
+    Ok(responses)
+}
+
+/// No response.
+pub fn silence(alloc: Global, next: Next) -> Result<Answered, AnswerError>
+    ensures { AreSaid [] next result }
+{
+    Ok(Answered {
+        responses: Vec::new(alloc),
+        next,
+    })
+}
+
+/// One response, after which the session goes on.
+fn one_answer(alloc: Global, octets: Vec<u8>) -> Result<Answered, AllocError>
+    ensures responses { IfOk result (λ a. map (λ v. v.items) a.responses.items ≡ octets.items ∷ []) }
+    ensures next { IfOk result (λ a. a.next ≡ Next.GoesOn) }
+{
+    let mut responses = Vec::new(alloc);
+    responses.push(octets)?;
+    Ok(Answered {
+        responses,
+        next: Next::GoesOn,
+    })
+}
+
+/// One response without controls, after which the session goes on.
+pub fn say(alloc: Global, id: u32, response: Response) -> Result<Answered, AnswerError>
+    ensures { AreSaid (message id (response_view response) [] ∷ []) Next.GoesOn result }
+{
+    let octets = write_plain(alloc, id, response)?;
+    Ok(one_answer(alloc, octets)?)
+}
+
+/// One response with a number, where the request named one, after which the session goes on.
+pub fn say_numbered(
+    alloc: Global,
+    id: u32,
+    response: Response,
+    asked: Option<u64>,
+    number: u64,
+) -> Result<Answered, AnswerError>
+    ensures { AreSaid (message id (response_view response) (number_told asked number) ∷ []) Next.GoesOn result }
+{
+    let octets = write_numbered(alloc, id, response, asked, number)?;
+    Ok(one_answer(alloc, octets)?)
+}
+
+/// A code alone, in a response of this kind.
+pub fn say_code(
+    alloc: Global,
+    id: u32,
+    answering: Answering,
+    code: ResultCode,
+) -> Result<Answered, AnswerError>
+    ensures { AreSaid (code_message id answering code ∷ []) Next.GoesOn result }
+{
+    say(
+        alloc,
+        id,
+        reply_to(alloc, answering, Reply::only(alloc, code)),
+    )
+}
+
+/// A reply in a response of this kind, with a number where the request named one.
+fn say_reply(
+    alloc: Global,
+    id: u32,
+    answering: Answering,
+    asked: Option<u64>,
+    number: u64,
+    reply: Reply,
+) -> Result<Answered, AnswerError>
+    ensures { AreSaid (reply_message id answering asked number (reply_view reply) ∷ []) Next.GoesOn result }
+{
+    say_numbered(alloc, id, reply_to(alloc, answering, reply), asked, number)
+}
+
+/// The Notice of Disconnection, as the last word.
+pub fn disconnect(alloc: Global) -> Result<Answered, AnswerError>
+    ensures { AreSaid (notice ∷ []) Next.Disconnected result }
+{
+    let response_name = String::from_str(alloc, NOTICE_OF_DISCONNECTION)?;
+    let notice = ExtendedResponse {
+        result: result_of(alloc, Reply::only(alloc, ResultCode::PROTOCOL_ERROR)),
+        response_name: Some(response_name),
+        response_value: None,
+    };
+    let mut responses = Vec::new(alloc);
+    responses.push(write_plain(alloc, 0, Response::Extended(notice))?)?;
+    Ok(Answered {
+        responses,
+        next: Next::Disconnected,
+    })
+}
+
+/// Responses, and a last one with a number, where the request named one, after which the session goes on.
+fn with_last(
+    alloc: Global,
+    mut responses: Vec<Vec<u8>>,
+    id: u32,
+    last: Response,
+    asked: Option<u64>,
+    number: u64,
+) -> Result<Answered, AnswerError>
+    ensures written { IfOk result (λ a. map (λ v. v.items) a.responses.items
+        ≡ map (λ v. v.items) responses.items ++ message_bytes (message id (response_view last) (number_told asked number)) ∷ []) }
+    ensures next { IfOk result (λ a. a.next ≡ Next.GoesOn) }
+    ensures too_long { IsErrOf result AnswerError.TooLong
+        → 2 ^ 32 ≤ length (message_content (message id (response_view last) (number_told asked number))) }
+{
+    responses.push(write_numbered(alloc, id, last, asked, number)?)?;
+    Ok(Answered {
+        responses,
+        next: Next::GoesOn,
+    })
+}
+
+/// What a search found: its entries, and then the done message.
+fn say_found(
+    alloc: Global,
+    id: u32,
+    asked: Option<u64>,
+    found: Found<SearchAnswer>,
+) -> Result<Answered, AnswerError>
+    ensures { AreSaid (search_messages id asked (looked answer_view (Ok found))) Next.GoesOn result }
+{
+    let Found { at, answer } = found;
+    let SearchAnswer {
+        code,
+        matched,
+        entries,
+        ..
+    } = answer;
+    let responses = entry_responses(alloc, id, entries)?;
+    let done = reply_to(alloc, Answering::Search, Reply { code, matched });
+    with_last(alloc, responses, id, done, asked, at)
+}
+
+/// What a search came to.
+pub fn say_search(
+    alloc: Global,
+    id: u32,
+    asked: Option<u64>,
+    outcome: Result<Found<SearchAnswer>, LookError>,
+) -> Result<Answered, AnswerError>
+    ensures { AreSaid (search_messages id asked (looked answer_view outcome)) Next.GoesOn result }
+{
+    match outcome {
+        Ok(found) => say_found(alloc, id, asked, found),
+        Err(LookError::NotYet { at }) => {
+            let busy = Reply::only(alloc, ResultCode::BUSY);
+            say_reply(alloc, id, Answering::Search, asked, at, busy)
+        }
+        Err(LookError::Gone) => say_code(alloc, id, Answering::Search, ResultCode::UNAVAILABLE),
+        Err(LookError::NoMemory) => say_code(alloc, id, Answering::Search, ResultCode::OTHER),
+    }
+}
+
+/// What a compare came to.
+pub fn say_compare(
+    alloc: Global,
+    id: u32,
+    asked: Option<u64>,
+    outcome: Result<Found<Reply>, LookError>,
+) -> Result<Answered, AnswerError>
+    ensures { AreSaid (compare_messages id asked (looked reply_view outcome)) Next.GoesOn result }
+{
+    match outcome {
+        Ok(found) => {
+            let Found { at, answer } = found;
+            say_reply(alloc, id, Answering::Compare, asked, at, answer)
+        }
+        Err(LookError::NotYet { at }) => {
+            let busy = Reply::only(alloc, ResultCode::BUSY);
+            say_reply(alloc, id, Answering::Compare, asked, at, busy)
+        }
+        Err(LookError::Gone) => say_code(alloc, id, Answering::Compare, ResultCode::UNAVAILABLE),
+        Err(LookError::NoMemory) => say_code(alloc, id, Answering::Compare, ResultCode::OTHER),
+    }
+}

@@ -1,0 +1,3 @@
+pub mod Clients
+pub mod Talk
+pub mod View

@@ -1,0 +1,13 @@
+//! What a session asks of the directory that it serves, and what it is answered. Reads, updates and the role of a replica are asked here,
+//! one question at a time; messages, octets and how a directory answers are not here.
+#![tactic(auto)]
+
+mod client;
+mod gate;
+mod look;
+mod outcomes;
+
+pub use client::Client;
+pub use gate::{Ended, Gate, Role};
+pub use look::Look;
+pub use outcomes::{Found, LookError};
