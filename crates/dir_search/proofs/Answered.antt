@@ -1,18 +1,24 @@
 -- What is answered once what is found is seen in other words.
-use Rattle.std.proofs.Common.{◌≡◌, ◌∙◌, ◌≤◌, ℕ, List, length, Result, Ok, Err, subst}
+use Rattle.std.proofs.Common.{◌≡◌, ◌∙◌, ◌≤◌, ℕ, List, length, Result, Ok, Err, sym, subst}
 use Rattle.std.specs.Prelude.{IfOk}
+use Rattle.std.proofs.Common.{Bool, true, false, ◌&&◌, not, Option, None, Some, ap}
 use Rattle.ldap_schema.specs.Schema.{SchemaModel}
 use Rattle.ldap_eval.specs.declared.bound.BoundFilter.{BoundFilter}
 use Rattle.ldap_msg.specs.Messages.{SearchRequestValue}
 use Rattle.index_choice.specs.declared.kinds.Kinds.{Kinds}
 use Rattle.ldap_dn.specs.Names.{RdnModel}
 use Rattle.ldap_eval.specs.Bound.{IsBoundTo}
-use Rattle.dir_tree.specs.Directory.{TreeModel, Entered}
-use Rattle.dir_search.specs.Answer.{Answer}
-use Rattle.dir_search.specs.Looks.{IsFewOf, numbers_in_scope}
+use Rattle.ldap_eval.specs.Made.{IsMadeOf}
+use Rattle.dir_tree.specs.Directory.{TreeModel, Entered, NumbersRise}
+use Rattle.dir_store.specs.Stored.{directory, AreKeyedBy}
+use Rattle.dir_store.specs.Listed.{StoreModel}
+use Rattle.dir_search.specs.Answer.{Answer, is_subordinate, is_empty, is_base, stands}
+use Rattle.dir_search.specs.Evaluated.{IsFewAtBase, IsFewAt}
+use Rattle.dir_search.specs.Looks.{numbers_in_scope}
 use Rattle.dir_search.specs.Numbered.{found_of}
 use Rattle.dir_search.specs.View.{Finds, FindsAmong}
 use Rattle.dir_search.specs.declared.found.SearchAnswer.{SearchAnswer}
+use Rattle.dir_search.proofs.Evaluated.{few_at}
 
 -- among the same numbers
 pub among_same : {E : Type 0} (r : Result SearchAnswer E) (s : SchemaModel) (q : SearchRequestValue) (ix : List Kinds) (b : BoundFilter) (d : List Entered) (ks ls : List ℕ) → ks ≡ ls
@@ -27,7 +33,35 @@ found_among (Ok a) s q ix b d ks x n same count h = record { shown = h.shown ∙
 found_among (Err e) s q ix b d ks x n same count h = tt
 
 -- among the numbers in scope few entries were evaluated
-pub few_among : {E : Type 0} (r : Result SearchAnswer E) (s : SchemaModel) (t : TreeModel) (q : SearchRequestValue) (ix : List Kinds) (b : BoundFilter) (base : List RdnModel) → IsBoundTo s q.filter b
-    → IfOk r (λ a. FindsAmong a s q ix b t.entries (numbers_in_scope t q base)) → IfOk r (λ a. IsFewOf ix s t q base a.tests)
-few_among (Ok a) s t q ix b base stands h = record { bound_filter = b; stands_for = stands; few = h.few; few_up_to = h.few_up_to }
-few_among (Err e) s t q ix b base stands h = tt
+pub few_among : {E : Type 0} (r : Result SearchAnswer E) (s : SchemaModel) (t : TreeModel) (q : SearchRequestValue) (ix : List Kinds) (b : BoundFilter) (base : List RdnModel) → NumbersRise t.entries → AreKeyedBy s t.entries → IsBoundTo s q.filter b → IsMadeOf s q.filter b
+    → IfOk r (λ a. FindsAmong a s q ix b t.entries (numbers_in_scope (directory s t) q base t.entries)) → IfOk r (λ a. IsFewAtBase ix (directory s t) q base a.tests)
+few_among (Ok a) s t q ix b base rise keyed stands made h = few_at s t q ix b base a rise keyed stands made h
+few_among (Err e) s t q ix b base rise keyed stands made h = tt
+
+-- what is not gone over
+pub not_root : (sub root stands : Bool) → root ≡ true → (not sub && (not root && stands)) ≡ true → ⊥
+not_root true root stands e h = cc
+not_root false true stands e h = cc
+not_root false false stands e h = cc
+
+pub not_standing : (sub root stands : Bool) → stands ≡ false → (not sub && (not root && stands)) ≡ true → ⊥
+not_standing true root stands e h = cc
+not_standing false true stands e h = cc
+not_standing false false true e h = cc
+not_standing false false false e h = cc
+
+pub never : {E : Type 0} (r : Result SearchAnswer E) (b : Bool) (Q : SearchAnswer → Type 0) → (b ≡ true → ⊥) → IfOk r (λ a. b ≡ true → Q a)
+never (Ok a) b Q f = λ h. absurd (f h)
+never (Err e) b Q f = tt
+
+pub always : {E : Type 0} (r : Result SearchAnswer E) (b : Bool) (Q : SearchAnswer → Type 0) → IfOk r Q → IfOk r (λ a. b ≡ true → Q a)
+always (Ok a) b Q q = λ h. q
+always (Err e) b Q q = tt
+
+-- nothing is subordinate to be gone over
+pub no_scope : (s : StoreModel) (q : SearchRequestValue) (o : Option (List RdnModel)) (tests : ℕ) → is_subordinate q.scope ≡ true → IsFewAt s q o tests
+no_scope s q None tests h = tt
+no_scope s q (Some base) tests h =
+    λ over.
+    let none : false ≡ true = sym (ap (λ (b : Bool). not b && (not (is_empty base && is_base q.scope) && stands s.directory base)) h) ∙ over in
+    absurd (cc none)

@@ -1,18 +1,16 @@
 -- From what plans leave open to how few evaluations there are. Numbers and tests of them flow in and out; no value of the program is here.
-use Rattle.std.proofs.Common.{◌≡◌, ◌<◌, ◌≤◌, ℕ, suc, length, Bool, true, false, cond, ◌||◌, ◌&&◌, List, [], ◌∷◌, Option, Some, None, Vec, Global, map, nat_eq, refl, sym, ap, ◌∙◌, subst, eqb-true, eq-eqb, arith}
+use Rattle.std.proofs.Common.{◌≡◌, ◌<◌, ◌≤◌, ℕ, length, Bool, true, false, cond, ◌||◌, List, [], ◌∷◌, Option, Some, None, map, nat_eq, refl, sym, ap, ◌∙◌, subst, eq-eqb, arith}
 use Rattle.std.specs.Prelude.{is_some, filter, nat_le}
-use Rattle.std.specs.List.{AllByRecursion, slice_get}
+use Rattle.std.specs.List.{AllByRecursion}
 use Rattle.ldap_match.specs.declared.truth.Truth.{Truth}
 use Rattle.ldap_match.specs.declared.truth.Truth.TheVariants.{True, False, Undefined}
 use Rattle.ldap_schema.specs.Schema.{SchemaModel}
+use Rattle.ldap_filter.specs.Tree.{Tree}
 use Rattle.ldap_msg.specs.Messages.{SearchRequestValue}
 use Rattle.ldap_eval.specs.Bound.{bound_value, IsBoundTo}
-use Rattle.ldap_eval.specs.Value.{filter_value}
 use Rattle.ldap_eval.specs.declared.bound.BoundFilter.{BoundFilter}
-use Rattle.ldap_eval.specs.declared.bound.BoundFilter.TheVariants as bound
 use Rattle.index_choice.specs.declared.kinds.Kinds.{Kinds}
 use Rattle.dir_index.specs.Postings.{has_number, IsRising}
-use Rattle.dir_entry.specs.Entry.{attributes_of, IsKeyedBy}
 use Rattle.dir_tree.specs.Directory.{Entered, entry_at, numbers}
 use Rattle.dir_store.specs.Directory.{NamedEntry}
 use Rattle.dir_store.specs.Stored.{named, AreKeyedBy}
@@ -21,7 +19,7 @@ use Rattle.plan_run.specs.Runs.{is_true as is_true_value}
 use Rattle.dir_store.specs.Listed.{listed_of}
 use Rattle.dir_search.specs.Answer.{is_true, is_match, limited}
 use Rattle.dir_search.specs.Looks.{value_on, value_in, true_numbers, has_runs_on, AreNumbersOf, AreHere, IsFew, LeavesFew}
-use Rattle.dir_search.specs.Numbered.{put_some, entries_of, found_of}
+use Rattle.dir_search.specs.Numbered.{put_some, entries_of}
 use Rattle.dir_search.specs.Selection.{selected}
 use Rattle.dir_search.specs.View.{Shows, FindsAmong}
 use Rattle.dir_search.specs.declared.found.SearchAnswer.{SearchAnswer}
@@ -149,31 +147,31 @@ pub scope_rises : (ks : List ℕ) (d : List Entered) → AreNumbersOf ks d → I
 scope_rises ks d sel h = subst IsRising (sym sel.1) (numbers_rise sel.0 d h)
 
 -- The entries of the numbers that are found are those that match.
-found_true : (s : SchemaModel) (q : SearchRequestValue) (b : BoundFilter) (d : List Entered) → AreKeyedBy s d → IsBoundTo s q.filter b → (ks : List ℕ)
-    → map named (entries_of (true_numbers b d ks) d) ≡ filter (is_match s q.filter) (map named (entries_of ks d))
-found_true s q b d keyed stands [] = refl
-found_true s q b d keyed stands (k ∷ ks) = by (entry_at k d) refl (found_true s q b d keyed stands ks)
+pub found_true : (s : SchemaModel) (t : Tree) (b : BoundFilter) (d : List Entered) → AreKeyedBy s d → IsBoundTo s t b → (ks : List ℕ)
+    → map named (entries_of (true_numbers b d ks) d) ≡ filter (is_match s t) (map named (entries_of ks d))
+found_true s t b d keyed stands [] = refl
+found_true s t b d keyed stands (k ∷ ks) = by (entry_at k d) refl (found_true s t b d keyed stands ks)
   where
-    told : (x : Entered) → entry_at k d ≡ Some x → map named (entries_of (true_numbers b d ks) d) ≡ filter (is_match s q.filter) (map named (entries_of ks d)) → (t : Truth)
-        → map named (entries_of (cond (is_true_value t) (k ∷ true_numbers b d ks) (true_numbers b d ks)) d)
-        ≡ cond (is_true t) (named x ∷ filter (is_match s q.filter) (map named (entries_of ks d))) (filter (is_match s q.filter) (map named (entries_of ks d)))
+    told : (x : Entered) → entry_at k d ≡ Some x → map named (entries_of (true_numbers b d ks) d) ≡ filter (is_match s t) (map named (entries_of ks d)) → (v : Truth)
+        → map named (entries_of (cond (is_true_value v) (k ∷ true_numbers b d ks) (true_numbers b d ks)) d)
+        ≡ cond (is_true v) (named x ∷ filter (is_match s t) (map named (entries_of ks d))) (filter (is_match s t) (map named (entries_of ks d)))
     told x e ih True = ap (λ (o : Option Entered). map named (put_some o (entries_of (true_numbers b d ks) d))) e ∙ ap (λ (l : List NamedEntry). named x ∷ l) ih
     told x e ih False = ih
     told x e ih Undefined = ih
 
-    by : (o : Option Entered) → entry_at k d ≡ o → map named (entries_of (true_numbers b d ks) d) ≡ filter (is_match s q.filter) (map named (entries_of ks d))
-        → map named (entries_of (cond (is_true_value (value_on b o)) (k ∷ true_numbers b d ks) (true_numbers b d ks)) d) ≡ filter (is_match s q.filter) (map named (put_some o (entries_of ks d)))
+    by : (o : Option Entered) → entry_at k d ≡ o → map named (entries_of (true_numbers b d ks) d) ≡ filter (is_match s t) (map named (entries_of ks d))
+        → map named (entries_of (cond (is_true_value (value_on b o)) (k ∷ true_numbers b d ks) (true_numbers b d ks)) d) ≡ filter (is_match s t) (map named (put_some o (entries_of ks d)))
     by None e ih = ih
     by (Some x) e ih =
         told x e ih (bound_value x.entry b)
-        ∙ ap (λ (t : Truth). cond (is_true t) (named x ∷ filter (is_match s q.filter) (map named (entries_of ks d))) (filter (is_match s q.filter) (map named (entries_of ks d))))
+        ∙ ap (λ (v : Truth). cond (is_true v) (named x ∷ filter (is_match s t) (map named (entries_of ks d))) (filter (is_match s t) (map named (entries_of ks d))))
         (stands x.entry (keyed_at s d k x keyed e))
 
 -- What is shown of the numbers that are found is what a search finds among the entries.
 pub among : (a : SearchAnswer) (s : SchemaModel) (q : SearchRequestValue) (ix : List Kinds) (b : BoundFilter) (d : List Entered) (ks : List ℕ) (open_at : ℕ → Bool) → AreKeyedBy s d → IsBoundTo s q.filter b
     → LeavesFew open_at ix b d ks → Shows a (selected s q.attributes q.types_only) q.size_limit d (true_numbers b d ks) (filter open_at ks) → FindsAmong a s q ix b d ks
 among a s q ix b d ks open_at keyed stands leaves shows = record {
-  shown = shows.shown ∙ ap (λ (l : List NamedEntry). limited q.size_limit (map (selected s q.attributes q.types_only) l)) (found_true s q b d keyed stands ks);
+  shown = shows.shown ∙ ap (λ (l : List NamedEntry). limited q.size_limit (map (selected s q.attributes q.types_only) l)) (found_true s q.filter b d keyed stands ks);
   few = is_few open_at ix b d ks a.tests leaves shows.few;
   few_up_to = λ m pos past.
       is_few open_at ix b d (filter (λ n. nat_le n m) ks) a.tests (up_to (λ n. nat_le n m) open_at ix b d ks leaves)

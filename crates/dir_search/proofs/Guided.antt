@@ -1,10 +1,8 @@
 -- Plans over the posting lists of a tree's entries guide a run over the numbers of some of them, and leave few open. Facts on lists and
 -- entries flow in and out; no value of the program is here.
-use Rattle.std.proofs.Common.{◌≡◌, ◌<◌, ◌≤◌, ℕ, suc, length, Bool, true, false, cond, not, ◌||◌, ◌&&◌, List, [], ◌∷◌, Option, Some, None, Vec, Global, map, nat_eq, refl, sym, ap, ap₂, ◌∙◌, subst, inl, inr, eqb-true, arith}
+use Rattle.std.proofs.Common.{◌≡◌, ◌<◌, ℕ, Bool, true, false, cond, not, ◌||◌, ◌&&◌, List, [], ◌∷◌, Some, Vec, Global, map, nat_eq, refl, sym, ap, ap₂, ◌∙◌, subst, inl, inr, eqb-true}
 use mathlib.Core.Path.{fun_ext}
-use Rattle.std.specs.Prelude.{is_some, filter}
 use Rattle.std.specs.List.{AllByRecursion}
-use Rattle.ldap_match.specs.declared.truth.Truth.{Truth}
 use Rattle.ldap_match.specs.declared.truth.Truth.TheVariants.{True}
 use Rattle.dir_entry.specs.Entry.{KeyedAttribute}
 use Rattle.ldap_eval.specs.Bound.{bound_value}

@@ -6,3 +6,5 @@ pub mod Guided
 pub mod Few
 pub mod Scoped
 pub mod Answered
+pub mod Decided
+pub mod Evaluated

@@ -1,18 +1,18 @@
 -- The numbers that a tree keeps for a scope are those of the entries in it. Facts on lists flow in and out; no value of the program is here.
-use Rattle.std.proofs.Common.{◌≡◌, ℕ, suc, length, Bool, true, false, cond, ◌||◌, ◌&&◌, List, [], ◌∷◌, Option, Some, None, map, filter, refl, sym, ap, ◌∙◌, subst}
+use Rattle.std.proofs.Common.{◌≡◌, ℕ, suc, length, Bool, true, false, cond, List, [], ◌∷◌, Option, Some, None, map, filter, refl, sym, ap, ◌∙◌}
 use Rattle.std.specs.Prelude.{is_some}
 use Rattle.std.specs.Option.{option_map}
 use Rattle.ldap_schema.specs.Schema.{SchemaModel}
 use Rattle.ldap_dn.specs.Names.{RdnModel, rdns}
 use Rattle.ldap_requests.specs.declared.search.Scope.{Scope}
-use Rattle.ldap_msg.specs.Messages.{SearchRequestValue, SearchResultEntryValue}
+use Rattle.ldap_msg.specs.Messages.{SearchRequestValue}
 use Rattle.dir_tree.specs.Directory as tree
 use Rattle.dir_tree.specs.Directory.{NameKey, Entered, TreeModel, NumbersRise, name_eq, begins, find, numbers, number_found, is_at_or_below}
 use Rattle.dir_store.specs.Directory.{NamedEntry}
 use Rattle.dir_store.specs.Places.{entry_named}
 use Rattle.dir_store.specs.Stored.{named, directory}
-use Rattle.dir_search.specs.Answer.{Answer, is_empty, is_match, in_scope, limited, stands, found_at}
-use Rattle.dir_search.specs.Numbered.{entries_of, found_of}
+use Rattle.dir_search.specs.Answer.{is_empty, is_match, in_scope, limited, stands, found_at}
+use Rattle.dir_search.specs.Numbered.{found_of}
 use Rattle.dir_search.specs.Scopes.{is_right_under, is_in_scope}
 use Rattle.dir_search.specs.Selection.{selected}
 use Rattle.dir_search.proofs.Numbers.{numbers_are}
@@ -83,7 +83,7 @@ stands_found s t [] h e = absurd (cc e)
 stands_found s t (r ∷ rs) h e = sym (there (rdns (r ∷ rs)) t.entries) ∙ h
 
 -- entries that pass, seen without keys
-shown_filter : (p : NamedEntry → Bool) (d : List Entered) → map named (filter (λ e. p (named e)) d) ≡ filter p (map named d)
+pub shown_filter : (p : NamedEntry → Bool) (d : List Entered) → map named (filter (λ e. p (named e)) d) ≡ filter p (map named d)
 shown_filter p [] = refl
 shown_filter p (e ∷ es) = by (p (named e)) (shown_filter p es)
   where

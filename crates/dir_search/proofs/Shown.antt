@@ -1,7 +1,6 @@
 -- What a search shows once it ends: all, or up to the size limit. A run's progress flows in as plain numbers; no value of the program is here.
-use Rattle.std.proofs.Common.{◌≡◌, ◌<◌, ◌≤◌, ℕ, List, [], ◌∷◌, length, map, Option, None, Some, sym, ap, ◌∙◌, subst}
+use Rattle.std.proofs.Common.{◌≡◌, ◌<◌, ◌≤◌, ℕ, List, [], ◌∷◌, length, None, Some, sym, ◌∙◌, subst}
 use Rattle.std.specs.Prelude.{filter, nat_le}
-use Rattle.std.specs.List.{slice_get}
 use Rattle.ldap_msg.specs.Messages.{SearchResultEntryValue}
 use Rattle.dir_tree.specs.Directory.{Entered}
 use Rattle.dir_store.specs.Directory.{NamedEntry}

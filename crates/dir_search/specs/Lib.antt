@@ -5,4 +5,6 @@ pub mod Answer
 pub mod Compared
 pub mod Numbered
 pub mod Looks
+pub mod Decided
+pub mod Evaluated
 pub mod View

@@ -1,19 +1,19 @@
--- How many entries a search evaluates its filter on. Numbers, entries, an index choice and a bound filter flow in; bounds on a count flow
--- out. How plans are made is not here.
-use Rattle.std.specs.Prelude.{◌≡◌, ◌<◌, ◌≤◌, ℕ, Bool, true, false, List, length, filter, nat_le, Option, None, Some, is_some, Vec}
+-- How many entries a search evaluates its bound filter on, by their numbers. Numbers, entries, an index choice and a bound filter flow in; bounds
+-- on a count flow out. Requests, and how plans are made, are not here.
+use Rattle.std.specs.Prelude.{◌≡◌, ◌≤◌, ℕ, Bool, true, false, List, length, filter, Option, None, Some, is_some, Vec}
 use Rattle.std.specs.Global.{Global}
-use Rattle.std.specs.List.{AllByRecursion, slice_get}
+use Rattle.std.specs.List.{AllByRecursion}
 use Rattle.ldap_match.specs.declared.truth.Truth.{Truth}
 use Rattle.ldap_match.specs.declared.truth.Truth.TheVariants.{True, Undefined}
-use Rattle.ldap_schema.specs.Schema.{SchemaModel}
 use Rattle.ldap_dn.specs.Names.{RdnModel, rdns}
 use Rattle.ldap_msg.specs.Messages.{SearchRequestValue}
-use Rattle.ldap_eval.specs.Bound.{bound_value, IsBoundTo}
+use Rattle.ldap_eval.specs.Bound.{bound_value}
 use Rattle.ldap_eval.specs.declared.bound.BoundFilter.{BoundFilter}
 use Rattle.ldap_eval.specs.declared.bound.BoundFilter.TheVariants as bound
 use Rattle.index_choice.specs.declared.kinds.Kinds.{Kinds}
 use Rattle.dir_index.specs.Postings.{has_number}
-use Rattle.dir_tree.specs.Directory.{Entered, TreeModel, entry_at, numbers}
+use Rattle.dir_tree.specs.Directory.{Entered, entry_at, numbers}
+use Rattle.dir_store.specs.Directory.{Directory}
 use Rattle.plan_compile.specs.Bounds.{is_decided}
 use Rattle.plan_compile.specs.Runs.{has_runs_for}
 use Rattle.plan_run.specs.Runs.{true_set}
@@ -45,7 +45,7 @@ AreNumbersOf ks d = (p : Entered → Bool) × (ks ≡ numbers p d)
 abbrev pub AreHere : List Entered → List ℕ → Type 0
 AreHere d ks = AllByRecursion (λ n. is_some (entry_at n d) ≡ true) ks
 
--- The filter was evaluated on few of the entries of these numbers: on none, where the indexes decide it; for an `and`, on at most as many as
+-- A bound filter was evaluated on few of the entries of these numbers: on none, where the indexes decide it; for an `and`, on at most as many as
 -- each part that they decide is True on; and on at most as many as hold the runs of three octets that it asks for.
 pub record IsFew (ix : List Kinds) (b : BoundFilter) (d : List Entered) (ks : List ℕ) (tests : ℕ) : Type 0 where
   pub within : tests ≤ length ks
@@ -62,14 +62,5 @@ pub record LeavesFew (open_at : ℕ → Bool) (ix : List Kinds) (b : BoundFilter
   pub runs : (n : ℕ) → has_number n ks ≡ true → open_at n ≡ true → has_runs_on ix b (entry_at n d) ≡ true
 
 -- the numbers of the entries in scope
-abbrev pub numbers_in_scope : TreeModel → SearchRequestValue → List RdnModel → List ℕ
-numbers_in_scope t q base = numbers (λ e. is_in_scope (rdns t.suffix) q.scope (rdns base) (rdns e.name)) t.entries
-
--- A search at a base evaluated its filter, as it is bound under the schema, on few of the entries in scope, under an index choice. Where there
--- are more entries than the size limit, on few of those up to the first past it.
-pub record IsFewOf (ix : List Kinds) (s : SchemaModel) (t : TreeModel) (q : SearchRequestValue) (base : List RdnModel) (tests : ℕ) : Type 0 where
-  pub bound_filter : BoundFilter
-  pub stands_for : IsBoundTo s q.filter bound_filter
-  pub few : IsFew ix bound_filter t.entries (numbers_in_scope t q base) tests
-  pub few_up_to : (m : ℕ) → 0 < q.size_limit → slice_get (true_numbers bound_filter t.entries (numbers_in_scope t q base)) q.size_limit ≡ Some m
-      → IsFew ix bound_filter t.entries (filter (λ n. nat_le n m) (numbers_in_scope t q base)) tests
+abbrev pub numbers_in_scope : Directory → SearchRequestValue → List RdnModel → List Entered → List ℕ
+numbers_in_scope d q base es = numbers (λ e. is_in_scope (rdns d.suffix) q.scope (rdns base) (rdns e.name)) es

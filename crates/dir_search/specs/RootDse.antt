@@ -28,6 +28,14 @@ dse_attributes s = class_top s (find s (codes "objectClass"))
 abbrev pub naming_contexts : Directory → PartialAttributeValue
 naming_contexts d = record { description = codes "namingContexts"; values = printed_name d.schema d.suffix ∷ [] }
 
+-- the controls that are recognised (RFC 4512 5.1.3)
+abbrev pub supported_control : PartialAttributeValue
+supported_control = record { description = codes "supportedControl"; values = codes "2.25.20120101" ∷ codes "2.25.20120102" ∷ [] }
+
+-- the extended operations that are recognised (RFC 4512 5.1.4)
+abbrev pub supported_extension : PartialAttributeValue
+supported_extension = record { description = codes "supportedExtension"; values = codes "2.25.20120103" ∷ [] }
+
 -- the version of the protocol: 3 (RFC 4512 5.1.6)
 abbrev pub supported_ldap_version : PartialAttributeValue
 supported_ldap_version = record { description = codes "supportedLDAPVersion"; values = codes "3" ∷ [] }
@@ -46,5 +54,7 @@ dse_selected d selectors types_only = record {
   attributes =
       attributes_selected d.schema selectors types_only (dse_attributes d.schema)
       ++ where_named selectors types_only (naming_contexts d)
+      ++ where_named selectors types_only supported_control
+      ++ where_named selectors types_only supported_extension
       ++ where_named selectors types_only supported_ldap_version;
 }

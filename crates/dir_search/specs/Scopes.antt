@@ -1,5 +1,5 @@
 -- Which entries a search looks at: RFC 4511 4.5.1.2. A base, a scope and a name flow in; whether the name is in scope flows out.
-use Rattle.std.specs.Prelude.{Bool, false, List, [], ◌∷◌}
+use Rattle.std.specs.Prelude.{Bool, false, [], ◌∷◌}
 use Rattle.ldap_requests.specs.declared.search.Scope.{Scope}
 use Rattle.ldap_requests.specs.declared.search.Scope.TheVariants.{BaseObject, SingleLevel, WholeSubtree, SubordinateSubtree}
 use Rattle.dir_tree.specs.Directory.{NameKey, name_eq, begins, is_child}

@@ -115,7 +115,7 @@ fn compare_at(
     name: &[Rdn],
     ava: &AttributeValueAssertion,
 ) -> Result<Reply, AllocError>
-    ensures { IfOk result (λ r. reply_view r ≡ reply_on store.now.schema (ava_view ava.now) (entry_asked store.now name.now)) }
+    ensures { IfOk result (λ r. reply_view r ≡ reply_on store.now.directory.schema (ava_view ava.now) (entry_asked store.now.directory name.now)) }
 {
     match store.find(name) {
         Some((_, held)) => {
@@ -130,7 +130,7 @@ fn compare_at(
 /// 21 for an assertion that is not in the type's syntax, 16 where the entry has no such attribute, then 6 or 5; 21 where the type has
 /// no EQUALITY rule. Only want of memory is an error.
 pub fn compare(alloc: Global, store: &Store, request: &CompareRequest) -> Result<Reply, AllocError>
-    ensures { IfOk result (λ r. reply_view r ≡ compared store.now (compare_view request.now)) }
+    ensures { IfOk result (λ r. reply_view r ≡ compared store.now.directory (compare_view request.now)) }
 {
     match Name::read(alloc, store.schema(), &request.entry) {
         Ok(name) => compare_at(alloc, store, name.rdns(), &request.ava),

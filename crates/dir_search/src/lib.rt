@@ -13,4 +13,4 @@ mod values;
 
 pub use comparing::compare;
 pub use found::SearchAnswer;
-pub use searching::{search, search_scope};
+pub use searching::search;

@@ -73,19 +73,31 @@ fn is_asked(selectors: &[String], description: &str) -> bool
     false
 }
 
-/// An operational attribute with one value, or without it.
+/// The octets of texts.
+fn octets_of(alloc: Global, texts: &[&str]) -> Result<Vec<Vec<u8>>, AllocError>
+    ensures { IfOk result (λ v. map (λ x. x.items) v.items ≡ map (λ t. t.now) texts.now) }
+{
+    let mut all = Vec::new(alloc);
+    for text in texts {
+        all.push(Vec::from_slice(alloc, text.as_bytes())?)?;
+    }
+    Ok(all)
+}
+
+/// An operational attribute with these values, or without them.
 fn operational(
     alloc: Global,
     types_only: bool,
     description: &str,
-    value: &str,
+    values: &[&str],
 ) -> Result<PartialAttribute, AllocError>
-    ensures { IfOk result (λ a. attribute_view a ≡ without_values types_only (record { description = description.now; values = value.now ∷ [] })) }
+    ensures { IfOk result (λ a. attribute_view a ≡ without_values types_only (record { description = description.now; values = map (λ t. t.now) values.now })) }
 {
-    let mut values = Vec::new(alloc);
-    if !types_only {
-        values.push(Vec::from_slice(alloc, value.as_bytes())?)?;
-    }
+    let values = if types_only {
+        Vec::new(alloc)
+    } else {
+        octets_of(alloc, values)?
+    };
     let description = String::from_str(alloc, description)?;
     Ok(PartialAttribute {
         description,
@@ -99,13 +111,13 @@ fn add_asked(
     shown: &mut Vec<PartialAttribute>,
     request: &SearchRequest,
     description: &str,
-    value: &str,
+    values: &[&str],
 ) -> Result<(), AllocError>
     ensures { OnOk result (map attribute_view shown.new.items ≡ map attribute_view shown.old.items
-        ++ where_named (map string_bytes request.now.attributes.items) request.now.types_only (record { description = description.now; values = value.now ∷ [] })) }
+        ++ where_named (map string_bytes request.now.attributes.items) request.now.types_only (record { description = description.now; values = map (λ t. t.now) values.now })) }
 {
     if is_asked(&request.attributes, description) {
-        shown.push(operational(alloc, request.types_only, description, value)?)?;
+        shown.push(operational(alloc, request.types_only, description, values)?)?;
     }
     Ok(())
 }
@@ -117,8 +129,8 @@ fn shown_root(
     entry: &Entry,
     request: &SearchRequest,
 ) -> Result<SearchResultEntry, AllocError>
-    requires attributes { attributes_of entry.now ≡ dse_attributes store.now.schema }
-    ensures { IfOk result (λ e. entry_view e ≡ dse_selected store.now (map string_bytes request.now.attributes.items) request.now.types_only) }
+    requires attributes { attributes_of entry.now ≡ dse_attributes store.now.directory.schema }
+    ensures { IfOk result (λ e. entry_view e ≡ dse_selected store.now.directory (map string_bytes request.now.attributes.items) request.now.types_only) }
 {
     let mut attributes = show_selected(
         alloc,
@@ -128,8 +140,34 @@ fn shown_root(
         entry.attributes(),
     )?;
     let suffix = store.printed_suffix(alloc)?;
-    add_asked(alloc, &mut attributes, request, "namingContexts", &suffix)?;
-    add_asked(alloc, &mut attributes, request, "supportedLDAPVersion", "3")?;
+    add_asked(
+        alloc,
+        &mut attributes,
+        request,
+        "namingContexts",
+        &[&suffix],
+    )?;
+    add_asked(
+        alloc,
+        &mut attributes,
+        request,
+        "supportedControl",
+        &["2.25.20120101", "2.25.20120102"],
+    )?;
+    add_asked(
+        alloc,
+        &mut attributes,
+        request,
+        "supportedExtension",
+        &["2.25.20120103"],
+    )?;
+    add_asked(
+        alloc,
+        &mut attributes,
+        request,
+        "supportedLDAPVersion",
+        &["3"],
+    )?;
     Ok(SearchResultEntry {
         object_name: String::new(alloc),
         attributes,
@@ -142,7 +180,7 @@ pub fn show_root(
     store: &Store,
     request: &SearchRequest,
 ) -> Result<SearchAnswer, AllocError>
-    ensures { IfOk result (λ a. Finds a (record { code = 0; matched = []; entries = dse_matching store.now (search_view request.now) }) 1) }
+    ensures { IfOk result (λ a. Finds a (record { code = 0; matched = []; entries = dse_matching store.now.directory (search_view request.now) }) 1) }
 {
     let entry = root_entry(alloc, store.schema())?;
     let bound = bind(alloc, store.schema(), &request.filter)?;

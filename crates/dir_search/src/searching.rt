@@ -1,10 +1,10 @@
 //! The search itself: the numbers in scope of the entries whose filter value is True are drawn from plans, in order, up to the size
 //! limit. A directory and a request flow in, the result code and what is shown of the entries flow out. How plans are made is not here.
-ghost use Rattle.std.specs.Prelude.{◌≡◌, ◌≤◌, ◌&&◌, ℕ, List, length, true, false, IfOk};
+ghost use Rattle.std.specs.Prelude.{◌≡◌, ◌≤◌, ◌&&◌, ℕ, List, length, true, false, Some, IfOk};
 ghost use Rattle.ldap_schema.specs.Schema.{SchemaModel};
 ghost use Rattle.ldap_filter.specs.Tree.{Tree as FilterTree};
 ghost use Rattle.ldap_filter.specs.View.{view as filter_view};
-ghost use Rattle.ldap_dn.specs.Names.{rdns};
+ghost use Rattle.ldap_dn.specs.Names.{RdnModel, rdns};
 ghost use Rattle.ldap_dn.specs.Texts.{name_of_text};
 ghost use Rattle.ldap_eval.specs.Bound.{IsBoundTo};
 ghost use Rattle.ldap_eval.specs.Value.{filter_value};
@@ -18,7 +18,8 @@ ghost use Rattle.dir_store.specs.Stored.{directory, AreKeyedBy};
 ghost use Rattle.plan_sets.specs.Sets.{is_in};
 ghost use Rattle.plan_run.specs.Runs.{AreGuides, is_open};
 ghost use Rattle.dir_search.specs.Answer.{answer, answer_of, answer_at, found_at, in_scope, tried, tried_of, tried_at, refused as refused_answer, is_true, is_base, stands, is_empty};
-ghost use Rattle.dir_search.specs.Looks.{AreNumbersOf, IsFewOf, LeavesFew, value_in};
+ghost use Rattle.dir_search.specs.Evaluated.{IsFewAtBase, LooksAtFew, goes_over};
+ghost use Rattle.dir_search.specs.Looks.{AreNumbersOf, LeavesFew, value_in};
 ghost use Rattle.dir_search.specs.Scopes.{is_right_under, is_in_scope};
 ghost use Rattle.dir_search.specs.View.{answer_view, Finds, FindsAmong};
 
@@ -244,9 +245,8 @@ fn search_nowhere(
     matching_entries(alloc, schema, indexed, bound, &[], request)
 }
 
-/// The search of the entries in scope of a base that stands, over a tree and its posting lists: the one that `search` makes, where it is not the
-/// root DSE that is asked for.
-pub fn search_scope(
+/// The search at a base that stands.
+fn search_scope(
     alloc: Global,
     schema: &Schema,
     indexed: &IndexedTree,
@@ -257,10 +257,7 @@ pub fn search_scope(
     requires stands { stands (directory schema.now indexed.now.tree) base.now ≡ true }
     ensures found { IfOk result (λ a. Finds a (found_at (directory schema.now indexed.now.tree) (search_view request.now) base.now)
         (length (in_scope (directory schema.now indexed.now.tree) request.now.scope base.now))) }
-
-    // No entry is evaluated, where the indexes decide the filter; of an `and` at most as many as each part is True on that they decide; and with a
-    // size limit none behind the first entry past it.
-    ensures few { IfOk result (λ a. IsFewOf indexed.now.indexes schema.now indexed.now.tree (search_view request.now) base.now a.tests) }
+    ensures few { IfOk result (λ a. IsFewAtBase indexed.now.indexes (directory schema.now indexed.now.tree) (search_view request.now) base.now a.tests) }
 {
     indexed.tree().is_directory();
     let bound = bind(alloc, schema, &request.filter)?;
@@ -279,7 +276,7 @@ fn asks_for_root(scope: Scope, base: &[Rdn]) -> bool
 
 /// Whether a base stands: the empty name, or an entry's.
 fn is_standing(store: &Store, base: &[Rdn]) -> bool
-    ensures { result ≡ stands store.now base.now }
+    ensures { result ≡ stands store.now.directory base.now }
 {
     is_unnamed(base) || store.find(base).is_some()
 }
@@ -291,7 +288,9 @@ fn search_at(
     base: &[Rdn],
     request: &SearchRequest,
 ) -> Result<SearchAnswer, AllocError>
-    ensures { IfOk result (λ a. Finds a (answer_at store.now (search_view request.now) base.now) (tried_at store.now (search_view request.now) base.now)) }
+    ensures found { IfOk result (λ a. Finds a (answer_at store.now.directory (search_view request.now) base.now) (tried_at store.now.directory (search_view request.now) base.now)) }
+    ensures few { IfOk result (λ a. goes_over store.now.directory (search_view request.now) base.now ≡ true
+        → IsFewAtBase store.now.indexes store.now.directory (search_view request.now) base.now a.tests) }
 {
     if asks_for_root(request.scope, base) {
         return show_root(alloc, store, request);
@@ -316,8 +315,9 @@ fn search_text(
     store: &Store,
     request: &SearchRequest,
 ) -> Result<SearchAnswer, AllocError>
-    ensures { IfOk result (λ a. Finds a (answer_of store.now (search_view request.now) (name_of_text store.now.schema (search_view request.now).base))
-        (tried_of store.now (search_view request.now) (name_of_text store.now.schema (search_view request.now).base))) }
+    ensures found { IfOk result (λ a. Finds a (answer_of store.now.directory (search_view request.now) (name_of_text store.now.directory.schema (search_view request.now).base))
+        (tried_of store.now.directory (search_view request.now) (name_of_text store.now.directory.schema (search_view request.now).base))) }
+    ensures few { IfOk result (λ a. LooksAtFew store.now (search_view request.now) a.tests) }
 {
     match Name::read(alloc, store.schema(), &request.base) {
         Ok(base) => search_at(alloc, store, base.rdns(), request),
@@ -334,10 +334,14 @@ pub fn search(
     store: &Store,
     request: &SearchRequest,
 ) -> Result<SearchAnswer, AllocError>
-    ensures answer { IfOk result (λ a. answer_view a ≡ answer store.now (search_view request.now)) }
+    ensures answer { IfOk result (λ a. answer_view a ≡ answer store.now.directory (search_view request.now)) }
 
     // The count that is told is at most that of the entries in scope.
-    ensures tests { IfOk result (λ a. a.tests ≤ tried store.now (search_view request.now)) }
+    ensures tests { IfOk result (λ a. a.tests ≤ tried store.now.directory (search_view request.now)) }
+
+    // It is 0, where the indexes decide the filter; of an `and` at most as many as each decided part is True on; and with a size limit no entry
+    // behind the first past it is counted.
+    ensures few { IfOk result (λ a. LooksAtFew store.now (search_view request.now) a.tests) }
 {
     match request.scope {
         Scope::SubordinateSubtree => Ok(refused_with(alloc, ResultCode::PROTOCOL_ERROR)),

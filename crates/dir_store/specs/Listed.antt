@@ -2,6 +2,7 @@
 use Rattle.std.specs.Prelude.{List, map}
 use Rattle.index_choice.specs.declared.kinds.Kinds.{Kinds}
 use Rattle.dir_index.specs.Postings.{Indexed}
+use Rattle.dir_store.specs.Directory.{Directory}
 use Rattle.dir_tree.specs.Directory.{Entered, TreeModel}
 
 -- an entry as indexes see it
@@ -16,3 +17,8 @@ listed_of d = map listed d
 pub record IndexedModel : Type 0 where
   pub indexes : List Kinds
   pub tree : TreeModel
+
+-- what a store has: the directory, and the index choice under which its entries are listed
+pub record StoreModel : Type 0 where
+  pub directory : Directory
+  pub indexes : List Kinds

@@ -33,7 +33,8 @@ use ldap_updates::{AddRequest, ModifyDnRequest, ModifyRequest};
 use std::alloc::{AllocError, Global};
 use std::marker::Model;
 
-/// The directory under one schema: entries, each with the number of the update that added it, at and below one name.
+/// The directory under one schema: entries, each with the number of the update that added it, at and below one name; and the index choice under
+/// which they are listed.
 #[derive(Drop)]
 pub struct Store {
     schema: Schema,
@@ -41,12 +42,12 @@ pub struct Store {
 }
 
 impl Model for Store {
-    ghost use Rattle.dir_store.specs.Directory.{Directory};
+    ghost use Rattle.dir_store.specs.Listed.{StoreModel};
     ghost use Rattle.dir_store.specs.Stored.{directory, AreKeyedBy};
 
-    ghost Value = { Directory };
+    ghost Value = { StoreModel };
 
-    ghost view = { λ s. directory s.schema s.held.tree };
+    ghost view = { λ s. record { directory = directory s.schema s.held.tree; indexes = s.held.indexes } };
 
     ghost invariant = { λ s. AreKeyedBy s.schema s.held.tree.entries };
 }
@@ -54,7 +55,7 @@ impl Model for Store {
 impl Store {
     /// A directory without entries, whose root is to have this name.
     pub fn new(alloc: Global, schema: Schema, indexes: Indexes, suffix: Name) -> Store
-        ensures { result ≡ record { schema = schema; suffix = suffix; entries = [] } }
+        ensures { result ≡ record { directory = record { schema = schema; suffix = suffix; entries = [] }; indexes = indexes } }
     {
         Store {
             schema,
@@ -64,30 +65,31 @@ impl Store {
 
     /// The schema.
     pub fn schema(&self) -> &Schema
-        ensures { result.now ≡ self.now.schema }
+        ensures { result.now ≡ self.now.directory.schema }
     {
         &self.schema
     }
 
     /// The entries as the tree has them, with their keys, which are those of the schema.
     pub fn tree(&self) -> &Tree
-        ensures shown { directory self.now.schema result.now ≡ self.now }
-        ensures keyed { AreKeyedBy self.now.schema result.now.entries }
+        ensures shown { directory self.now.directory.schema result.now ≡ self.now.directory }
+        ensures keyed { AreKeyedBy self.now.directory.schema result.now.entries }
     {
         self.held.tree()
     }
 
     /// The entries as the tree has them, and their posting lists under an index choice.
     pub fn indexed(&self) -> &IndexedTree
-        ensures shown { directory self.now.schema result.now.tree ≡ self.now }
-        ensures keyed { AreKeyedBy self.now.schema result.now.tree.entries }
+        ensures shown { directory self.now.directory.schema result.now.tree ≡ self.now.directory }
+        ensures indexes { result.now.indexes ≡ self.now.indexes }
+        ensures keyed { AreKeyedBy self.now.directory.schema result.now.tree.entries }
     {
         &self.held
     }
 
     /// The name of the root, as it is printed.
     pub fn printed_suffix(&self, alloc: Global) -> Result<String, AllocError>
-        ensures { IfOk result (λ t. string_bytes t ≡ printed_name self.now.schema self.now.suffix) }
+        ensures { IfOk result (λ t. string_bytes t ≡ printed_name self.now.directory.schema self.now.directory.suffix) }
     {
         self.held.tree().suffix().print(alloc, &self.schema)
     }
@@ -96,8 +98,8 @@ impl Store {
     /// and no memory.
     #[tactic(auto, using(crate::proofs::Shown::found_shown, crate::proofs::Shown::none_shown, crate::proofs::Found::found_keyed))]
     pub fn find<'a>(&'a self, name: &[Rdn]) -> Option<(u64, &'a NamedEntry)>
-        ensures found { option_map (λ p. named (entered_of p.0 p.1.now)) result ≡ entry_named (rdns name.now) self.now.entries }
-        ensures keyed { IfSome result (λ p. IsKeyedBy self.now.schema p.1.now.entry) }
+        ensures found { option_map (λ p. named (entered_of p.0 p.1.now)) result ≡ entry_named (rdns name.now) self.now.directory.entries }
+        ensures keyed { IfSome result (λ p. IsKeyedBy self.now.directory.schema p.1.now.entry) }
     {
         match standing(self.held.tree(), name) {
             Some((number, held)) => Some((number, held)),
@@ -108,7 +110,7 @@ impl Store {
     /// The reply where a name has no entry: noSuchObject (32), with the printed name of the entry of its longest front that has one
     /// (RFC 4511 4.1.9).
     pub fn not_found(&self, alloc: Global, name: &[Rdn]) -> Result<Reply, AllocError>
-        ensures { IfOk result (λ r. reply_view r ≡ not_found_reply self.now name.now) }
+        ensures { IfOk result (λ r. reply_view r ≡ not_found_reply self.now.directory name.now) }
     {
         not_found(alloc, &self.schema, self.held.tree(), name)
     }
@@ -116,10 +118,11 @@ impl Store {
     /// Makes an update under a number above those of all entries (RFC 4511 4.6 to 4.9), or refuses it with the reply of the first check
     /// that fails. A refusal and want of memory, the only error, leave the directory as it was.
     pub fn apply(&mut self, alloc: Global, number: u64, op: &Op) -> Result<Reply, AllocError>
-        requires above { NumbersBelow number self.old.entries }
-        ensures directory { IfOk result (λ reply. self.new ≡ applied self.old number op.now) }
-        ensures reply { IfOk result (λ reply. reply_view reply ≡ reply_to self.old number op.now) }
-        ensures below { IfOk result (λ reply. NumbersBelow (number + 1) self.new.entries) }
+        requires above { NumbersBelow number self.old.directory.entries }
+        ensures directory { IfOk result (λ reply. self.new.directory ≡ applied self.old.directory number op.now) }
+        ensures reply { IfOk result (λ reply. reply_view reply ≡ reply_to self.old.directory number op.now) }
+        ensures indexes { self.new.indexes ≡ self.old.indexes }
+        ensures below { IfOk result (λ reply. NumbersBelow (number + 1) self.new.directory.entries) }
         ensures err { OnErr result (self.new ≡ self.old) }
     {
         match self.update(alloc, number, op.update()) {
@@ -130,11 +133,12 @@ impl Store {
 
     /// Makes an update, or refuses it and changes nothing.
     fn update(&mut self, alloc: Global, number: u64, update: &Update) -> Result<(), StoreError>
-        requires above { NumbersBelow number self.old.entries }
-        ensures ok { OnOk result (updated self.old number (update_view update.now) ≡ Ok self.new.entries) }
-        ensures schema { self.new.schema ≡ self.old.schema }
-        ensures suffix { self.new.suffix ≡ self.old.suffix }
-        ensures refused { IfErr result (λ e. RefusedWith e (updated self.old number (update_view update.now))) }
+        requires above { NumbersBelow number self.old.directory.entries }
+        ensures ok { OnOk result (updated self.old.directory number (update_view update.now) ≡ Ok self.new.directory.entries) }
+        ensures schema { self.new.directory.schema ≡ self.old.directory.schema }
+        ensures suffix { self.new.directory.suffix ≡ self.old.directory.suffix }
+        ensures indexes { self.new.indexes ≡ self.old.indexes }
+        ensures refused { IfErr result (λ e. RefusedWith e (updated self.old.directory number (update_view update.now))) }
         ensures err { OnErr result (self.new ≡ self.old) }
     {
         match update {
@@ -149,11 +153,12 @@ impl Store {
     /// Adds an entry at the end, or refuses it and changes nothing.
     #[tactic(auto, using(crate::proofs::Shown::numbers_shown, crate::proofs::Shown::pushed_shown, crate::proofs::Shown::keyed_push))]
     fn add(&mut self, alloc: Global, number: u64, request: &AddRequest) -> Result<(), StoreError>
-        requires above { NumbersBelow number self.old.entries }
-        ensures ok { OnOk result (added self.old number (add_view request.now) ≡ Ok self.new.entries) }
-        ensures schema { self.new.schema ≡ self.old.schema }
-        ensures suffix { self.new.suffix ≡ self.old.suffix }
-        ensures refused { IfErr result (λ e. RefusedWith e (added self.old number (add_view request.now))) }
+        requires above { NumbersBelow number self.old.directory.entries }
+        ensures ok { OnOk result (added self.old.directory number (add_view request.now) ≡ Ok self.new.directory.entries) }
+        ensures schema { self.new.directory.schema ≡ self.old.directory.schema }
+        ensures suffix { self.new.directory.suffix ≡ self.old.directory.suffix }
+        ensures indexes { self.new.indexes ≡ self.old.indexes }
+        ensures refused { IfErr result (λ e. RefusedWith e (added self.old.directory number (add_view request.now))) }
         ensures err { OnErr result (self.new ≡ self.old) }
     {
         let Placed { name, entry } = addition(alloc, &self.schema, self.held.tree(), request)?;
@@ -164,10 +169,11 @@ impl Store {
     /// Takes an entry out, or refuses it and changes nothing.
     #[tactic(auto, using(crate::proofs::Shown::deleted_shown, crate::proofs::Shown::keyed_unnumbered))]
     fn delete(&mut self, alloc: Global, text: &str) -> Result<(), StoreError>
-        ensures ok { OnOk result (deleted self.old text.now ≡ Ok self.new.entries) }
-        ensures schema { self.new.schema ≡ self.old.schema }
-        ensures suffix { self.new.suffix ≡ self.old.suffix }
-        ensures refused { IfErr result (λ e. RefusedWith e (deleted self.old text.now)) }
+        ensures ok { OnOk result (deleted self.old.directory text.now ≡ Ok self.new.directory.entries) }
+        ensures schema { self.new.directory.schema ≡ self.old.directory.schema }
+        ensures suffix { self.new.directory.suffix ≡ self.old.directory.suffix }
+        ensures indexes { self.new.indexes ≡ self.old.indexes }
+        ensures refused { IfErr result (λ e. RefusedWith e (deleted self.old.directory text.now)) }
         ensures err { OnErr result (self.new ≡ self.old) }
     {
         let name = asked_name(alloc, &self.schema, text)?;
@@ -179,10 +185,11 @@ impl Store {
     /// Changes an entry's attributes, or refuses it and changes nothing.
     #[tactic(auto, using(crate::proofs::Shown::replaced_shown, crate::proofs::Shown::keyed_replaced))]
     fn modify(&mut self, alloc: Global, request: &ModifyRequest) -> Result<(), StoreError>
-        ensures ok { OnOk result (modified self.old (modify_view request.now) ≡ Ok self.new.entries) }
-        ensures schema { self.new.schema ≡ self.old.schema }
-        ensures suffix { self.new.suffix ≡ self.old.suffix }
-        ensures refused { IfErr result (λ e. RefusedWith e (modified self.old (modify_view request.now))) }
+        ensures ok { OnOk result (modified self.old.directory (modify_view request.now) ≡ Ok self.new.directory.entries) }
+        ensures schema { self.new.directory.schema ≡ self.old.directory.schema }
+        ensures suffix { self.new.directory.suffix ≡ self.old.directory.suffix }
+        ensures indexes { self.new.indexes ≡ self.old.indexes }
+        ensures refused { IfErr result (λ e. RefusedWith e (modified self.old.directory (modify_view request.now))) }
         ensures err { OnErr result (self.new ≡ self.old) }
     {
         let Kept { number, entry } = asked_change(alloc, &self.schema, self.held.tree(), request)?;
@@ -193,10 +200,11 @@ impl Store {
     /// Gives an entry, and those below it, other names, or refuses it and changes nothing.
     #[tactic(auto, using(crate::proofs::Shown::moved_shown, crate::proofs::Shown::keyed_moved))]
     fn rename(&mut self, alloc: Global, request: &ModifyDnRequest) -> Result<(), StoreError>
-        ensures ok { OnOk result (renamed_all self.old (modify_dn_view request.now) ≡ Ok self.new.entries) }
-        ensures schema { self.new.schema ≡ self.old.schema }
-        ensures suffix { self.new.suffix ≡ self.old.suffix }
-        ensures refused { IfErr result (λ e. RefusedWith e (renamed_all self.old (modify_dn_view request.now))) }
+        ensures ok { OnOk result (renamed_all self.old.directory (modify_dn_view request.now) ≡ Ok self.new.directory.entries) }
+        ensures schema { self.new.directory.schema ≡ self.old.directory.schema }
+        ensures suffix { self.new.directory.suffix ≡ self.old.directory.suffix }
+        ensures indexes { self.new.indexes ≡ self.old.indexes }
+        ensures refused { IfErr result (λ e. RefusedWith e (renamed_all self.old.directory (modify_dn_view request.now))) }
         ensures err { OnErr result (self.new ≡ self.old) }
     {
         let Moved {

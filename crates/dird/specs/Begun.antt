@@ -1,12 +1,17 @@
--- How a session begins: its directory, and who may change it. Nothing flows in; the directory and the session flow out.
+-- How a session begins: its directory, and who may change it. A schema flows in; the directory and what its sessions share flow out.
 use Rattle.std.specs.Prelude.{ℕ, List, [], Bool, true, false, codes, Option, None, Some}
 use Rattle.ldap_schema.specs.Schema.{SchemaModel}
 use Rattle.ldap_dn.specs.Names.{RdnModel}
 use Rattle.ldap_dn.specs.Texts.{name_of_text}
 use Rattle.dir_store.specs.Directory.{Directory}
 use Rattle.dir_store.specs.Updates.{directory_after}
-use Rattle.ldap_session.specs.Session.{SessionModel}
-use Rattle.ldap_session.specs.declared.identity.Identity.TheVariants.{Anonymous}
+use Rattle.std.specs.FinMap as map
+use Rattle.session_talk.specs.Clients.{session_client}
+use Rattle.session_rules.specs.Session.{ConfigValue}
+use Rattle.local_directory.specs.Local.{LocalValue}
+use Rattle.local_directory.specs.Allows.{allows}
+use Rattle.ldap_session.specs.declared.end.SessionEnd.{SessionEnd}
+use Rattle.hex_session.specs.Answered.{Answers}
 use Rattle.dird.specs.Sample.{sample}
 
 abbrev pub or_empty : Option (List RdnModel) → List RdnModel
@@ -31,12 +36,20 @@ abbrev pub number_at_first : Bool → ℕ
 number_at_first false = 0
 number_at_first true = 6
 
--- The session at first: anonymous, and changed only by the manager cn=admin,dc=example,dc=com with the password secret.
-abbrev pub session_at_first : SchemaModel → Bool → SessionModel
-session_at_first s with_sample = record {
+-- What its sessions share: the manager is cn=admin,dc=example,dc=com with the password secret; the session is the first at replica 0.
+abbrev pub config_of : SchemaModel → ConfigValue
+config_of s = record {
+  schema = s;
   manager = name_of s (codes "cn=admin,dc=example,dc=com");
   password = codes "secret";
-  identity = Anonymous;
-  number = number_at_first with_sample;
-  directory = directory_at_first s with_sample;
+  client = session_client 0 0 1;
 }
+
+-- the directory at first, which no client has asked for an update yet
+abbrev pub local_at_first : SchemaModel → Bool → LocalValue
+local_at_first s with_sample = record { directory = directory_at_first s with_sample; number = number_at_first with_sample; latest = map.empty }
+
+-- An input is answered by one session over a local directory, from its beginning on.
+abbrev pub AnswersFrom : SchemaModel → SchemaModel → Bool → Option (List ℕ) → Option (List ℕ) → Option (List ℕ) → Option (List ℕ) → SessionEnd → Type 0
+AnswersFrom names s with_sample input left output grown end =
+    (after : LocalValue) × Answers allows (config_of names) (local_at_first s with_sample) after input left output grown end

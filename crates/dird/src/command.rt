@@ -57,7 +57,9 @@ fn answer_command<'a>(alloc: Global) -> Result<Command<'a>, AllocError> {
         .value_name("FILE")
         .help("Read from this file which indexes each attribute type has, in place of none");
     Command::new(alloc, "answer")
-        .about("Answer LDAP messages: the input is lines of hex, each response is a line")
+        .about(
+            "Answer one client: the input is its stream of LDAP messages, lines of hex cut anywhere; each response is a line of hex",
+        )
         .arg(sample)?
         .arg(schema)?
         .arg(index)

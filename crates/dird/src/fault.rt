@@ -4,10 +4,10 @@ ghost use Rattle.std.specs.Prelude.{◌≡◌};
 ghost use Rattle.dird.specs.declared.fault.Fault.TheVariants.{NoMemory};
 
 use filter_text::FilterTextError;
+use hex_session::LineFault;
 use index_choice::IndexError;
 use lab_script::ScriptError;
 use ldap_schema::SchemaError;
-use ldap_session::AnswerError;
 use ldif_messages::{ExportError, ImportError};
 use ldif_search::SearchError;
 use std::alloc::{AllocError, AllocFailed};
@@ -54,11 +54,14 @@ pub enum Fault {
     NoMemory,
 }
 
-impl From<AnswerError> for Fault {
-    fn from(error: AnswerError) -> Fault {
+impl From<LineFault> for Fault {
+    fn from(error: LineFault) -> Fault {
         match error {
-            AnswerError::TooLong => Fault::TooLong,
-            AnswerError::NoMemory => Fault::NoMemory,
+            LineFault::BadHexLine(number) => Fault::BadHexLine(number),
+            LineFault::CannotRead => Fault::CannotRead,
+            LineFault::CannotWrite => Fault::CannotWrite,
+            LineFault::TooLong => Fault::TooLong,
+            LineFault::NoMemory => Fault::NoMemory,
         }
     }
 }

@@ -1,8 +1,8 @@
 //! The lab: the lines of a script flow in, what real replicas answer flows out. No rule of replication is here, and no line's
 //! meaning: those stand in the crates below.
 
-use crate::answering::next_line;
 use crate::fault::Fault;
+use hex_session::next_line;
 use lab_script::play;
 use std::alloc::Global;
 use std::io::{BufRead, Write};

@@ -1,18 +1,17 @@
 //! One session over a local directory: an input flows in, an output flows out. The words of a command line are not here.
 ghost use Rattle.std.specs.Prelude.{◌≡◌, ◌+◌, codes, IfOk};
-ghost use Rattle.ldap_session.specs.Session.{SessionModel};
-ghost use Rattle.dird.specs.Ended.{AnswersFrom, IsAllRead};
 ghost use Rattle.dir_store.specs.Stored.{NumbersBelow};
-ghost use Rattle.dird.specs.Begun.{name_of, empty_directory, directory_at_first, number_at_first, session_at_first};
+ghost use Rattle.dird.specs.Begun.{name_of, empty_directory, directory_at_first, number_at_first, AnswersFrom};
 
-use crate::answering::answer_lines;
 use crate::fault::Fault;
 use crate::sample::add_sample;
 use dir_store::Store;
+use hex_session::answer_lines;
 use index_choice::Indexes;
 use ldap_dn::{Name, NameError};
 use ldap_schema::Schema;
-use ldap_session::{Next, Session};
+use ldap_session::{Config, SessionEnd};
+use local_directory::LocalDirectory;
 use std::alloc::Global;
 use std::io::{BufRead, Write};
 
@@ -29,6 +28,8 @@ const SUFFIX: &str = "dc=example,dc=com";
 #[derive(Drop)]
 pub struct Options {
     pub schema: Schema,
+    /// The same schema, by which the names of binds are read.
+    pub names: Schema,
     /// The index choice, of the schema.
     pub indexes: Indexes,
     /// Whether it holds the built-in sample.
@@ -48,7 +49,8 @@ fn name_of_text(alloc: Global, schema: &Schema, text: &str) -> Result<Name, Faul
 
 /// A directory without entries.
 pub fn empty(alloc: Global, schema: Schema, indexes: Indexes) -> Result<Store, Fault>
-    ensures { IfOk result (λ store. store ≡ empty_directory schema) }
+    ensures directory { IfOk result (λ store. store.directory ≡ empty_directory schema) }
+    ensures indexes { IfOk result (λ store. store.indexes ≡ indexes) }
 {
     let suffix = name_of_text(alloc, &schema, SUFFIX)?;
     Ok(Store::new(alloc, schema, indexes, suffix))
@@ -61,9 +63,10 @@ fn opened(
     indexes: Indexes,
     sample: bool,
 ) -> Result<(Store, u64), Fault>
-    ensures directory { IfOk result (λ p. p.0 ≡ directory_at_first schema sample) }
+    ensures directory { IfOk result (λ p. p.0.directory ≡ directory_at_first schema sample) }
+    ensures indexes { IfOk result (λ p. p.0.indexes ≡ indexes) }
     ensures number { IfOk result (λ p. p.1 ≡ number_at_first sample) }
-    ensures below { IfOk result (λ p. NumbersBelow (p.1 + 1) p.0.entries) }
+    ensures below { IfOk result (λ p. NumbersBelow (p.1 + 1) p.0.directory.entries) }
 {
     let mut store = empty(alloc, schema, indexes)?;
     match sample {
@@ -82,42 +85,34 @@ fn manager_name(alloc: Global, schema: &Schema) -> Result<Name, Fault>
     name_of_text(alloc, schema, MANAGER)
 }
 
-/// The manager's password.
-fn password(alloc: Global) -> Result<Vec<u8>, Fault>
-    ensures { IfOk result (λ v. v.items ≡ codes "secret") }
-{
-    let octets = PASSWORD.as_bytes().to_vec(alloc)?;
-    Ok(octets)
-}
-
-/// The session at first.
-fn begun(alloc: Global, options: Options) -> Result<Session, Fault>
-    ensures { IfOk result (λ session. session ≡ session_at_first options.schema options.sample) }
-{
-    let Options {
-        schema,
-        indexes,
-        sample,
-    } = options;
-    let manager = manager_name(alloc, &schema)?;
-    let (store, number) = opened(alloc, schema, indexes, sample)?;
-    let password = password(alloc)?;
-    Ok(Session::new(store, number, manager, password))
-}
-
-/// One session over a directory of its own: each line of the input is one message in hex, each response a line of the output.
+/// One session over a directory of its own: each line of the input is a piece of the stream in hex, each response a line of the output.
 pub fn answer_session<R: BufRead, W: Write>(
     alloc: Global,
     options: Options,
     input: &mut R,
     output: &mut W,
-) -> Result<Next, Fault>
-    // The output grows by the responses of a session, from its first state on, over the messages that the lines spell.
-    ensures answers { IfOk result (λ next. AnswersFrom (session_at_first options.schema options.sample) (R.remaining input.old) (R.remaining input.new) next (W.contents output.old) (W.contents output.new)) }
-
-    // Where only the end of the input ended it, all of it was read.
-    ensures all { IfOk result (λ next. IsAllRead next (R.remaining input.old) (R.remaining input.new)) }
+) -> Result<SessionEnd, Fault>
+    // The output grows by the responses of a session over the stream that the lines spell, along a talk with the directory that begins so.
+    ensures { IfOk result (λ end. AnswersFrom options.names options.schema options.sample (R.remaining input.old) (R.remaining input.new)
+        (W.contents output.old) (W.contents output.new) end) }
 {
-    let mut session = begun(alloc, options)?;
-    answer_lines(alloc, &mut session, input, output)
+    let Options {
+        schema,
+        names,
+        indexes,
+        sample,
+    } = options;
+    let manager = manager_name(alloc, &names)?;
+    let (store, number) = opened(alloc, schema, indexes, sample)?;
+    let mut directory = LocalDirectory::new(alloc, store, number);
+    let config = Config {
+        schema: &names,
+        manager: &manager,
+        password: PASSWORD.as_bytes(),
+        replica: 0,
+        restarts: 0,
+        session: 1,
+    };
+    let end = answer_lines(alloc, &config, &mut directory, input, output)?;
+    Ok(end)
 }

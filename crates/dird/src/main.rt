@@ -2,7 +2,6 @@
 //! directory is here.
 #![tactic(auto)]
 
-mod answering;
 mod command;
 mod fault;
 mod files;
@@ -42,8 +41,10 @@ fn main(rt: HostRuntime) -> io::Result<ExitCode> {
 }
 
 #[cfg(test)]
+mod lab_rows;
+#[cfg(test)]
+mod session_rows;
+#[cfg(test)]
 mod tests;
 #[cfg(test)]
 mod text_tests;
-#[cfg(test)]
-mod update_tests;

@@ -1,5 +1,5 @@
 //! What a directory begins with: the names of files flow in, a schema and an index choice flow out. What their texts mean is below.
-ghost use Rattle.std.specs.Prelude.{IfOk, string_bytes};
+ghost use Rattle.std.specs.Prelude.{◌≡◌, IfOk, string_bytes};
 ghost use Rattle.std.specs.Option.{option_map};
 ghost use Rattle.dird.specs.Opened.{IsSchemaOf, IsIndexOf};
 
@@ -22,11 +22,11 @@ fn text_of<S: ReadFiles>(
 }
 
 /// The schema of a text, and the built-in one without a text.
-fn schema_of_text(alloc: Global, text: Option<String>) -> Result<Schema, Fault>
-    ensures { IfOk result (λ s. IsSchemaOf (option_map string_bytes text) s) }
+fn schema_of_text(alloc: Global, text: &Option<String>) -> Result<Schema, Fault>
+    ensures { IfOk result (λ s. IsSchemaOf (option_map string_bytes text.now) s) }
 {
     match text {
-        Some(text) => Ok(Schema::read(alloc, &text)?),
+        Some(text) => Ok(Schema::read(alloc, text)?),
         None => Ok(Schema::built_in(alloc)?),
     }
 }
@@ -41,14 +41,19 @@ fn indexes_of_text(alloc: Global, schema: &Schema, text: Option<String>) -> Resu
     }
 }
 
-/// The schema of a named file, and the built-in one for no name.
-pub fn schema_of<S: ReadFiles>(
+/// The schema of a named file, and the built-in one for no name, twice: once for the directory, and once for what its sessions share.
+#[tactic(auto, using(crate::proofs::Schemas::one_schema))]
+pub fn schemas_of<S: ReadFiles>(
     files: &S,
     alloc: Global,
     path: Option<&str>,
-) -> Result<Schema, Fault> {
+) -> Result<(Schema, Schema), Fault>
+    ensures same { IfOk result (λ p. p.0 ≡ p.1) }
+{
     let text = text_of(files, alloc, path)?;
-    schema_of_text(alloc, text)
+    let schema = schema_of_text(alloc, &text)?;
+    let names = schema_of_text(alloc, &text)?;
+    Ok((schema, names))
 }
 
 /// The index choice of a named file, and no index for no name.

@@ -4,10 +4,10 @@ use crate::fault::Fault;
 use crate::files::ReadFiles;
 use crate::lab::play_script;
 use crate::local::{Options, answer_session};
-use crate::opening::{indexes_of, schema_of};
+use crate::opening::{indexes_of, schemas_of};
 use crate::status::Status;
 use crate::texts::{export_input, import_input, search_input};
-use ldap_session::Next;
+use ldap_session::SessionEnd;
 use std::alloc::Global;
 use std::io::{BufRead, Write};
 
@@ -32,8 +32,14 @@ pub fn run<S: ReadFiles, R: BufRead, W: Write, F: Write>(
         }
     };
     match perform(files, alloc, job, input, output) {
-        Ok(Next::GoesOn | Next::Unbound) => Status::Done,
-        Ok(Next::Disconnected) => Status::Refused,
+        Ok(SessionEnd::EndOfInput | SessionEnd::Unbound) => Status::Done,
+        Ok(
+            SessionEnd::Truncated
+            | SessionEnd::Disconnected
+            | SessionEnd::ReadFailed
+            | SessionEnd::WriteFailed
+            | SessionEnd::NoMemory,
+        ) => Status::Refused,
         Err(fault) => {
             let _ = writeln!(faults, "{fault}");
             Status::Refused
@@ -48,7 +54,7 @@ fn perform<S: ReadFiles, R: BufRead, W: Write>(
     job: Job<'_>,
     input: &mut R,
     output: &mut W,
-) -> Result<Next, Fault> {
+) -> Result<SessionEnd, Fault> {
     match job {
         Job::Answer(opening) => return answer(files, alloc, opening, input, output),
         Job::Search(question) => search_input(alloc, &question, input, output)?,
@@ -56,7 +62,7 @@ fn perform<S: ReadFiles, R: BufRead, W: Write>(
         Job::Export => export_input(alloc, input, output)?,
         Job::Lab => play_script(alloc, input, output)?,
     }
-    Ok(Next::GoesOn)
+    Ok(SessionEnd::EndOfInput)
 }
 
 /// One session, once the schema and the index choice are read.
@@ -66,11 +72,12 @@ fn answer<S: ReadFiles, R: BufRead, W: Write>(
     opening: Opening<'_>,
     input: &mut R,
     output: &mut W,
-) -> Result<Next, Fault> {
-    let schema = schema_of(files, alloc, opening.schema)?;
+) -> Result<SessionEnd, Fault> {
+    let (schema, names) = schemas_of(files, alloc, opening.schema)?;
     let indexes = indexes_of(files, alloc, &schema, opening.index)?;
     let options = Options {
         schema,
+        names,
         indexes,
         sample: opening.sample,
     };

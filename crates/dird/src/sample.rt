@@ -124,9 +124,10 @@ fn an_na(alloc: Global) -> Result<AddRequest, AllocError>
 
 /// Adds an entry under a number above all, as far as the schema lets it.
 fn add(alloc: Global, store: &mut Store, number: u64, request: AddRequest) -> Result<(), Fault>
-    requires above { NumbersBelow number store.old.entries }
-    ensures applied { OnOk result (store.new ≡ applied store.old number (add_op (add_view request))) }
-    ensures below { OnOk result (NumbersBelow (number + 1) store.new.entries) }
+    requires above { NumbersBelow number store.old.directory.entries }
+    ensures applied { OnOk result (store.new.directory ≡ applied store.old.directory number (add_op (add_view request))) }
+    ensures indexes { store.new.indexes ≡ store.old.indexes }
+    ensures below { OnOk result (NumbersBelow (number + 1) store.new.directory.entries) }
 {
     let op = Op::new(Update::Add(request));
     let _reply = store.apply(alloc, number, &op)?;
@@ -135,9 +136,10 @@ fn add(alloc: Global, store: &mut Store, number: u64, request: AddRequest) -> Re
 
 /// Adds what stands above the items, as operations 1 and 2.
 fn add_upper(alloc: Global, store: &mut Store) -> Result<(), Fault>
-    requires empty { NumbersBelow 1 store.old.entries }
-    ensures applied { OnOk result (store.new ≡ applied (applied store.old 1 (add_op sample.example)) 2 (add_op sample.items_unit)) }
-    ensures below { OnOk result (NumbersBelow 3 store.new.entries) }
+    requires empty { NumbersBelow 1 store.old.directory.entries }
+    ensures applied { OnOk result (store.new.directory ≡ applied (applied store.old.directory 1 (add_op sample.example)) 2 (add_op sample.items_unit)) }
+    ensures indexes { store.new.indexes ≡ store.old.indexes }
+    ensures below { OnOk result (NumbersBelow 3 store.new.directory.entries) }
 {
     add(alloc, store, 1, example(alloc)?)?;
     add(alloc, store, 2, items_unit(alloc)?)
@@ -145,9 +147,10 @@ fn add_upper(alloc: Global, store: &mut Store) -> Result<(), Fault>
 
 /// Adds two items, as operations 3 and 4.
 fn add_first_items(alloc: Global, store: &mut Store) -> Result<(), Fault>
-    requires below { NumbersBelow 3 store.old.entries }
-    ensures applied { OnOk result (store.new ≡ applied (applied store.old 3 (add_op sample.ana)) 4 (add_op sample.anna)) }
-    ensures below { OnOk result (NumbersBelow 5 store.new.entries) }
+    requires below { NumbersBelow 3 store.old.directory.entries }
+    ensures applied { OnOk result (store.new.directory ≡ applied (applied store.old.directory 3 (add_op sample.ana)) 4 (add_op sample.anna)) }
+    ensures indexes { store.new.indexes ≡ store.old.indexes }
+    ensures below { OnOk result (NumbersBelow 5 store.new.directory.entries) }
 {
     add(alloc, store, 3, ana(alloc)?)?;
     add(alloc, store, 4, anna(alloc)?)
@@ -155,9 +158,10 @@ fn add_first_items(alloc: Global, store: &mut Store) -> Result<(), Fault>
 
 /// Adds the other two, as operations 5 and 6.
 fn add_last_items(alloc: Global, store: &mut Store) -> Result<(), Fault>
-    requires below { NumbersBelow 5 store.old.entries }
-    ensures applied { OnOk result (store.new ≡ applied (applied store.old 5 (add_op sample.anana)) 6 (add_op sample.an_na)) }
-    ensures below { OnOk result (NumbersBelow 7 store.new.entries) }
+    requires below { NumbersBelow 5 store.old.directory.entries }
+    ensures applied { OnOk result (store.new.directory ≡ applied (applied store.old.directory 5 (add_op sample.anana)) 6 (add_op sample.an_na)) }
+    ensures indexes { store.new.indexes ≡ store.old.indexes }
+    ensures below { OnOk result (NumbersBelow 7 store.new.directory.entries) }
 {
     add(alloc, store, 5, anana(alloc)?)?;
     add(alloc, store, 6, an_na(alloc)?)
@@ -165,9 +169,10 @@ fn add_last_items(alloc: Global, store: &mut Store) -> Result<(), Fault>
 
 /// Adds the sample's entries to a directory that has none, as operations 1 to 6.
 pub fn add_sample(alloc: Global, store: &mut Store) -> Result<(), Fault>
-    requires empty { NumbersBelow 1 store.old.entries }
-    ensures applied { OnOk result (store.new ≡ directory_after store.old 0 sample.sample) }
-    ensures below { OnOk result (NumbersBelow 7 store.new.entries) }
+    requires empty { NumbersBelow 1 store.old.directory.entries }
+    ensures applied { OnOk result (store.new.directory ≡ directory_after store.old.directory 0 sample.sample) }
+    ensures indexes { store.new.indexes ≡ store.old.indexes }
+    ensures below { OnOk result (NumbersBelow 7 store.new.directory.entries) }
 {
     add_upper(alloc, store)?;
     add_first_items(alloc, store)?;

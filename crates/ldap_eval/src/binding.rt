@@ -6,7 +6,9 @@ ghost use Rattle.ldap_filter.specs.View.{view, views};
 ghost use Rattle.ldap_match.specs.Item.{is_answerable as is_answerable_item};
 ghost use Rattle.ldap_match.specs.Keyed.{test_for};
 ghost use Rattle.ldap_eval.specs.Asked.{item_of};
+ghost use Rattle.ldap_schema.specs.Schema.{find};
 ghost use Rattle.ldap_eval.specs.Bound.{IsBoundTo, AreBoundTo, IsBoundItem, leaves_for};
+ghost use Rattle.ldap_eval.specs.Made.{IsMadeOf, AreMadeOf, IsItemFor};
 
 use crate::asking::Asked;
 use crate::bound::{BoundFilter, Leaf};
@@ -21,7 +23,10 @@ use std::alloc::{AllocError, Global};
 /// The filter bound under the schema: `value` of it, on an entry that is keyed by the schema, is the filter's value.
 #[cycle(bind)]
 pub fn bind(alloc: Global, schema: &Schema, filter: &Filter) -> Result<BoundFilter, AllocError>
-    ensures { IfOk result (λ b. IsBoundTo schema.now (view filter.now) b) }
+    ensures value { IfOk result (λ b. IsBoundTo schema.now (view filter.now) b) }
+
+    // It is made of the filter part by part: no part is added, left out or made another.
+    ensures parts { IfOk result (λ b. IsMadeOf schema.now (view filter.now) b) }
 {
     match filter {
         Filter::And(filters) => Ok(BoundFilter::And(bind_all(alloc, schema, filters)?)),
@@ -77,7 +82,8 @@ fn bind_all(
     schema: &Schema,
     filters: &[Filter],
 ) -> Result<Vec<BoundFilter>, AllocError>
-    ensures { IfOk result (λ v. AreBoundTo schema.now (views filters.now) v.items) }
+    ensures value { IfOk result (λ v. AreBoundTo schema.now (views filters.now) v.items) }
+    ensures parts { IfOk result (λ v. AreMadeOf schema.now (views filters.now) v.items) }
 {
     let mut parts = Vec::new(alloc);
     for filter in filters {
@@ -93,7 +99,8 @@ fn bind_item(
     description: &str,
     asked: Asked,
 ) -> Result<BoundFilter, AllocError>
-    ensures { IfOk result (λ b. IsBoundItem schema.now description.now (item_of asked.entry) b) }
+    ensures value { IfOk result (λ b. IsBoundItem schema.now description.now (item_of asked.entry) b) }
+    ensures parts { IfOk result (λ b. IsItemFor schema.now (item_of asked.entry) (find schema.now description.now) b) }
 {
     tests_are_items();
     let Some(type_id) = schema.find(description) else {

@@ -2,7 +2,7 @@
 //! In: pieces of a stream. Out: its messages, one after the other, or the fault where it stops.
 //! Not here: sockets, what a message asks for.
 
-ghost use Rattle.std.specs.Prelude.{◌≡◌, ◌⊎◌, ℕ, List, [], ◌∷◌, ◌++◌, OnOk, IfErr, IfSome, IfNone, None};
+ghost use Rattle.std.specs.Prelude.{◌≡◌, ◌⊎◌, ℕ, List, [], ◌∷◌, ◌++◌, OnOk, IfErr, IfSome, IfNone, None, is_some};
 ghost use Rattle.std.specs.Bool.{OnTrue, OnFalse};
 ghost use Rattle.ldap_msg.specs.Messages.{MessageValue};
 ghost use Rattle.ldap_msg.specs.View.{view};
@@ -108,6 +108,13 @@ impl Framer {
             → IfSome result (λ m. HasSeen (framed self.new) stream (handed ++ view m ∷ [])) }
     {
         self.ready.pop_front()
+    }
+
+    /// Whether a fault has stopped the stream. The messages before it are still handed out.
+    pub fn is_stopped(&self) -> bool
+        ensures { result ≡ is_some (framed self.now).fault }
+    {
+        self.fault.is_some()
     }
 
     /// Whether octets are left that begin a message and are not a whole one.

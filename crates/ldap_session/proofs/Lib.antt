@@ -1,4 +1,5 @@
-mod ReplyLists
-mod Folds
-pub mod Unchanged
-mod Compares
+pub mod Written
+pub mod Progressed
+pub mod Worked
+pub mod Served
+pub mod Fewer

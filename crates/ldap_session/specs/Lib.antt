@@ -1,4 +1,5 @@
-pub mod Replies
-pub mod Session
-pub mod Written
-pub mod Runs
+pub mod Octets
+pub mod Progress
+pub mod Serving
+pub mod Steps
+pub mod View

@@ -1,18 +1,14 @@
-//! Sessions: the octets of messages flow in, the octets of their responses flow out, over one directory. What a search finds and
-//! what an update changes is decided below; files, sockets and lines of hex are above.
+//! Sessions: a stream of octets becomes messages, each is answered by what a directory says, and octets flow back. What a request asks for
+//! is decided below; sockets, lines and files are above.
 #![tactic(auto)]
 
-mod answered;
-mod binding;
-mod bound;
-mod fault;
-mod identity;
-mod reading;
-mod responses;
+mod end;
+mod serving;
 mod session;
-mod updating;
+mod writing;
 
-pub use answered::{Answered, Next};
-pub use fault::AnswerError;
-pub use identity::Identity;
-pub use session::{Session, directory_is_fold, sessions_join};
+pub use end::SessionEnd;
+pub use serving::serve;
+pub use session::Session;
+pub use session_rules::{AnswerError, Answered, Config, Next};
+pub use session_talk::{Client, Ended, Found, Gate, Look, LookError, Role};

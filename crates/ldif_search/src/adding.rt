@@ -22,10 +22,10 @@ fn add_record(
     number: u64,
     item: &Record,
 ) -> Result<u32, AllocError>
-    requires above { NumbersBelow number store.old.entries }
-    ensures applied { OnOk result (store.new ≡ applied store.old number (add_op (add_value item.now))) }
-    ensures code { IfOk result (λ code. code ≡ (reply_to store.old number (add_op (add_value item.now))).code) }
-    ensures below { OnOk result (NumbersBelow (number + 1) store.new.entries) }
+    requires above { NumbersBelow number store.old.directory.entries }
+    ensures applied { OnOk result (store.new.directory ≡ applied store.old.directory number (add_op (add_value item.now))) }
+    ensures code { IfOk result (λ code. code ≡ (reply_to store.old.directory number (add_op (add_value item.now))).code) }
+    ensures below { OnOk result (NumbersBelow (number + 1) store.new.directory.entries) }
 {
     let op = Op::new(Update::Add(add_of(alloc, item)?));
     let reply = store.apply(alloc, number, &op)?;
@@ -39,11 +39,11 @@ fn put_record(
     number: u64,
     item: &Record,
 ) -> Result<(), SearchError>
-    requires above { NumbersBelow number store.old.entries }
-    ensures applied { OnOk result (store.new ≡ applied store.old number (add_op (add_value item.now))) }
-    ensures accepted { OnOk result ((reply_to store.old number (add_op (add_value item.now))).code ≡ 0) }
-    ensures below { OnOk result (NumbersBelow (number + 1) store.new.entries) }
-    ensures refused { IfErr result (λ e. IsPutFault e number (reply_to store.old number (add_op (add_value item.now))).code) }
+    requires above { NumbersBelow number store.old.directory.entries }
+    ensures applied { OnOk result (store.new.directory ≡ applied store.old.directory number (add_op (add_value item.now))) }
+    ensures accepted { OnOk result ((reply_to store.old.directory number (add_op (add_value item.now))).code ≡ 0) }
+    ensures below { OnOk result (NumbersBelow (number + 1) store.new.directory.entries) }
+    ensures refused { IfErr result (λ e. IsPutFault e number (reply_to store.old.directory number (add_op (add_value item.now))).code) }
 {
     let code = add_record(alloc, store, number, item)?;
     if code == 0 {
@@ -55,10 +55,10 @@ fn put_record(
 
 /// Adds records in their order, under the numbers from 1 on, up to the first that is refused.
 pub fn add_records(alloc: Global, store: &mut Store, records: &[Record]) -> Result<(), SearchError>
-    requires empty { NumbersBelow 1 store.old.entries }
-    ensures filled { OnOk result (store.new ≡ directory_after store.old 0 (adds records.now)) }
-    ensures accepted { OnOk result (first_refused store.old 0 (adds records.now) ≡ None) }
-    ensures refused { IfErr result (λ e. IsAddFault e store.old records.now) }
+    requires empty { NumbersBelow 1 store.old.directory.entries }
+    ensures filled { OnOk result (store.new.directory ≡ directory_after store.old.directory 0 (adds records.now)) }
+    ensures accepted { OnOk result (first_refused store.old.directory 0 (adds records.now) ≡ None) }
+    ensures refused { IfErr result (λ e. IsAddFault e store.old.directory records.now) }
 {
     for (index, item) in records.iter().enumerate() {
         put_record(alloc, store, index as u64 + 1, item)?;

@@ -31,8 +31,8 @@ fn read_records(alloc: Global, text: &[u8]) -> Result<Vec<Record>, SearchError>
 
 /// The text of what a search shows.
 fn shown(alloc: Global, store: &Store, request: &SearchRequest) -> Result<Vec<u8>, SearchError>
-    ensures written { IfOk result (λ v. IsShown (answer_of store.now (search_view request.now)) v.items) }
-    ensures refused { IfErr result (λ e. IsShowFault e (answer_of store.now (search_view request.now))) }
+    ensures written { IfOk result (λ v. IsShown (answer_of store.now.directory (search_view request.now)) v.items) }
+    ensures refused { IfErr result (λ e. IsShowFault e (answer_of store.now.directory (search_view request.now))) }
 {
     let answer = search(alloc, store, request)?;
     let number = answer.code.number();
@@ -51,11 +51,11 @@ pub fn search_text(
     text: &[u8],
     request: &SearchRequest,
 ) -> Result<Vec<u8>, SearchError>
-    requires empty { NumbersBelow 1 store.entries }
+    requires empty { NumbersBelow 1 store.directory.entries }
     // What is written is the entries of the answer, over the directory with all records.
-    ensures written { IfOk result (λ v. IsSearched store text.now (search_view request.now) v.items) }
+    ensures written { IfOk result (λ v. IsSearched store.directory text.now (search_view request.now) v.items) }
     // Which refusal it is: of a line, else of the first record that is refused, else of the search.
-    ensures refused { IfErr result (λ e. IsSearchFault e store text.now (search_view request.now)) }
+    ensures refused { IfErr result (λ e. IsSearchFault e store.directory text.now (search_view request.now)) }
 {
     let mut store = store;
     let records = read_records(alloc, text)?;

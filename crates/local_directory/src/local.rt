@@ -41,17 +41,17 @@ impl Model for LocalDirectory {
 
     ghost coded = { Prim.hlevel (codes, coded_table) };
 
-    ghost view = { λ d. record { directory = d.store; number = d.number; latest = d.clients } };
+    ghost view = { λ d. record { directory = d.store.directory; number = d.number; latest = d.clients } };
 
-    ghost invariant = { λ d. NumbersBelow (d.number + 1) d.store.entries };
+    ghost invariant = { λ d. NumbersBelow (d.number + 1) d.store.directory.entries };
 }
 
 impl LocalDirectory {
     /// A directory that nobody has asked for an update yet. The number is that of its last update; no entry has a
     /// higher one. It takes no memory.
     pub fn new(alloc: Global, store: Store, number: u64) -> LocalDirectory
-        requires below { NumbersBelow (number + 1) store.entries }
-        ensures { result ≡ record { directory = store; number = number; latest = map.empty } }
+        requires below { NumbersBelow (number + 1) store.directory.entries }
+        ensures { result ≡ record { directory = store.directory; number = number; latest = map.empty } }
     {
         LocalDirectory {
             store,
@@ -62,7 +62,7 @@ impl LocalDirectory {
 
     /// The directory after the last update.
     pub fn store(&self) -> &Store
-        ensures { result.now ≡ self.now.directory }
+        ensures { result.now.directory ≡ self.now.directory }
     {
         &self.store
     }

@@ -59,13 +59,13 @@ fn make_with_room(
     number: u64,
     op: &Op,
 ) -> Result<Reply, AllocError>
-    requires above { NumbersBelow number store.old.entries }
+    requires above { NumbersBelow number store.old.directory.entries }
     requires room { map.get clients.old client ≡ Some (kept_as request number (only_code 0)) }
-    ensures reply { IfOk result (λ r. reply_view r ≡ reply_to store.old number op.now) }
-    ensures directory { OnOk result (store.new ≡ applied store.old number op.now) }
+    ensures reply { IfOk result (λ r. reply_view r ≡ reply_to store.old.directory number op.now) }
+    ensures directory { OnOk result (store.new.directory ≡ applied store.old.directory number op.now) }
     ensures kept { OnOk result (clients.new
-        ≡ map.insert clients.old client (kept_as request number (reply_to store.old number op.now))) }
-    ensures below { OnOk result (NumbersBelow (number + 1) store.new.entries) }
+        ≡ map.insert clients.old client (kept_as request number (reply_to store.old.directory number op.now))) }
+    ensures below { OnOk result (NumbersBelow (number + 1) store.new.directory.entries) }
     ensures err { OnErr result (store.new ≡ store.old) }
     ensures err_clients { OnErr result (clients.new ≡ clients.old) }
 {
@@ -84,12 +84,12 @@ pub fn make(
     number: u64,
     op: &Op,
 ) -> Result<Reply, AllocError>
-    requires above { NumbersBelow number store.old.entries }
-    ensures reply { IfOk result (λ r. reply_view r ≡ reply_to store.old number op.now) }
-    ensures directory { OnOk result (store.new ≡ applied store.old number op.now) }
+    requires above { NumbersBelow number store.old.directory.entries }
+    ensures reply { IfOk result (λ r. reply_view r ≡ reply_to store.old.directory number op.now) }
+    ensures directory { OnOk result (store.new.directory ≡ applied store.old.directory number op.now) }
     ensures kept { OnOk result (clients.new
-        ≡ map.insert clients.old client (kept_as request number (reply_to store.old number op.now))) }
-    ensures below { OnOk result (NumbersBelow (number + 1) store.new.entries) }
+        ≡ map.insert clients.old client (kept_as request number (reply_to store.old.directory number op.now))) }
+    ensures below { OnOk result (NumbersBelow (number + 1) store.new.directory.entries) }
     ensures err { OnErr result (store.new ≡ store.old) }
     ensures err_clients { OnErr result (clients.new ≡ clients.old) }
 {

@@ -22,7 +22,7 @@ pub fn search_at(
     named: u64,
     request: &SearchRequest,
 ) -> Result<Found<SearchAnswer>, LookError>
-    ensures { IsReadAt number named (answer store.now (search_view request.now)) (looked answer_view result) }
+    ensures { IsReadAt number named (answer store.now.directory (search_view request.now)) (looked answer_view result) }
 {
     if named > number {
         return Err(LookError::NotYet { at: number });
@@ -41,7 +41,7 @@ pub fn compare_at(
     named: u64,
     request: &CompareRequest,
 ) -> Result<Found<Reply>, LookError>
-    ensures { IsReadAt number named (compared store.now (compare_view request.now)) (looked reply_view result) }
+    ensures { IsReadAt number named (compared store.now.directory (compare_view request.now)) (looked reply_view result) }
 {
     if named > number {
         return Err(LookError::NotYet { at: number });

@@ -104,8 +104,8 @@ pub fn add(
     number: u64,
     given: &Given,
 ) -> Result<(), Fail>
-    requires { NumbersBelow number store.old.entries }
-    ensures { OnOk result (NumbersBelow (number + 1) store.new.entries) }
+    requires { NumbersBelow number store.old.directory.entries }
+    ensures { OnOk result (NumbersBelow (number + 1) store.new.directory.entries) }
 {
     let op = Op::new(Update::Add(request(alloc, given)?));
     let reply = store.apply(alloc, number, &op)?;
@@ -115,7 +115,7 @@ pub fn add(
 
 /// A directory of the sample under an index choice.
 pub fn sampled(rt: &impl Abort, alloc: Global, indexes: &str) -> Result<Store, Fail>
-    ensures { IfOk result (λ store. NumbersBelow 7 store.entries) }
+    ensures { IfOk result (λ store. NumbersBelow 7 store.directory.entries) }
 {
     let schema = Schema::built_in(alloc)?;
     let suffix = Name::read(alloc, &schema, "dc=example,dc=com")?;

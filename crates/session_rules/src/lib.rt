@@ -29,5 +29,6 @@ pub use identity::Identity;
 pub use laws::{role_is_first, sessions_join};
 pub use numbers::{number_of, pair_of};
 pub use requests::Answering;
+pub use responses::disconnect;
 pub use state::State;
 pub use taking::take;

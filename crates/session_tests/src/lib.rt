@@ -7,7 +7,13 @@ mod adds;
 #[cfg(test)]
 mod binds;
 #[cfg(test)]
+mod clients;
+#[cfg(test)]
 mod compares;
+#[cfg(test)]
+mod controls;
+#[cfg(test)]
+mod cutting;
 #[cfg(test)]
 mod deletes;
 #[cfg(test)]
@@ -16,6 +22,8 @@ mod filters;
 mod modifies;
 #[cfg(test)]
 mod renames;
+#[cfg(test)]
+mod replicas;
 #[cfg(test)]
 mod sample;
 #[cfg(test)]

@@ -1,21 +1,36 @@
-//! A session of the manager's over the sample's six entries. Lines of hexadecimal flow in; what each request is answered with is compared.
-//! No expectation is here.
+//! Sessions over the sample's six entries, octets to octets: requests and responses flow in, and what is written is compared. No expectation
+//! is here but that of the manager's bind.
 
 use dir_store::Store;
 use index_choice::Indexes;
 use ldap_dn::Name;
 use ldap_schema::Schema;
-use ldap_session::Session;
+use ldap_session::{Config, SessionEnd, serve};
+use local_directory::LocalDirectory;
 use std::alloc::Global;
 use std::process::Abort;
 use std::test::*;
 
-/// Requests of one session, each in hexadecimal, and the responses to them all.
+/// Requests of one session of the manager's, each in hexadecimal, and the responses to them all, up to the end of the input.
 pub struct Row {
     pub name: &'static str,
     pub requests: &'static [&'static str],
     pub responses: &'static [&'static str],
 }
+
+/// The same, up to another end.
+pub struct Last {
+    pub name: &'static str,
+    pub requests: &'static [&'static str],
+    pub responses: &'static [&'static str],
+    pub end: SessionEnd,
+}
+
+/// The manager's bind, and its response.
+pub const BIND: &str =
+    "302c0201016027020103041a636e3d61646d696e2c64633d6578616d706c652c64633d636f6d8006736563726574";
+
+pub const BOUND: &str = "300c02010161070a010004000400";
 
 /// The manager's bind, and the adds of the sample's six entries, operations 1 to 6.
 const BEGINNING: &[&str] = &[
@@ -28,69 +43,145 @@ const BEGINNING: &[&str] = &[
     "3081870201076881810423636e3d416e204e612c6f753d4974656d732c64633d6578616d706c652c64633d636f6d305a3015040b6f626a656374436c617373310604046974656d300d0402636e31070405416e204e613032040472616e6b312a042831323334353637383930313233343536373839303132333435363738393031323334353637383930",
 ];
 
-/// A session over a directory without entries.
-fn begun(alloc: Global) -> Result<Session, Fail> {
+/// A directory, and what its sessions share.
+#[derive(Drop)]
+pub struct Site {
+    pub schema: Schema,
+    pub manager: Name,
+    pub directory: LocalDirectory,
+}
+
+/// What sessions of the manager's are configured by.
+pub fn config<'a>(schema: &'a Schema, manager: &'a Name, session: u64) -> Config<'a> {
+    Config {
+        schema,
+        manager,
+        password: b"secret",
+        replica: 0,
+        restarts: 0,
+        session,
+    }
+}
+
+/// A directory without entries.
+fn empty_site(alloc: Global) -> Result<Site, Fail> {
     let schema = Schema::built_in(alloc)?;
     let suffix = Name::read(alloc, &schema, "dc=example,dc=com")?;
     let manager = Name::read(alloc, &schema, "cn=admin,dc=example,dc=com")?;
-    let store = Store::new(alloc, schema, Indexes::none(alloc), suffix);
-    Ok(Session::new(store, 0, manager, b"secret".as_slice().to_vec(alloc)?))
+    let store = Store::new(
+        alloc,
+        Schema::built_in(alloc)?,
+        Indexes::none(alloc),
+        suffix,
+    );
+    let directory = LocalDirectory::new(alloc, store, 0);
+    Ok(Site {
+        schema,
+        manager,
+        directory,
+    })
 }
 
-/// Answers lines of hexadecimal, each one request, by lines of hexadecimal.
-fn answer(alloc: Global, session: &mut Session, requests: &[&str]) -> Result<String, Fail> {
-    let mut written = String::new(alloc);
-    for request in requests {
-        let octets = hex::decode(alloc, request)?;
-        let answered = session.answer(alloc, &octets)?;
-        for response in &answered.responses {
-            written.push_str(&hex::encode(alloc, response)?)?;
-            written.push('\n')?;
-        }
+/// The octets of lines of hexadecimal.
+pub fn octets(alloc: Global, lines: &[&str]) -> Result<Vec<u8>, Fail> {
+    let mut all = Vec::new(alloc);
+    for line in lines {
+        all.extend_from_slice(&hex::decode(alloc, line)?)?;
     }
-    Ok(written)
-}
-
-/// A line, with its end.
-fn line(alloc: Global, text: &str) -> Result<String, Fail> {
-    let mut all = String::from_str(alloc, text)?;
-    all.push('\n')?;
     Ok(all)
 }
 
-/// Lines, each with its end.
-fn lines(alloc: Global, texts: &[&str]) -> Result<String, Fail> {
-    let mut all = String::new(alloc);
+/// A session over a directory: what is written in hexadecimal, and how it ends.
+pub fn talk(
+    alloc: Global,
+    site: &mut Site,
+    session: u64,
+    input: &[u8],
+) -> Result<(String, SessionEnd), Fail> {
+    let Site {
+        schema,
+        manager,
+        directory,
+    } = site;
+    let config = config(schema, manager, session);
+    let mut reader = input;
+    let mut written = Vec::new(alloc);
+    let end = serve(alloc, &mut reader, &mut written, directory, &config);
+    Ok((hex::encode(alloc, &written)?, end))
+}
+
+/// The directory with the sample's six entries.
+pub fn sample(alloc: Global) -> Result<Site, Fail> {
+    let mut site = empty_site(alloc)?;
+    talk(alloc, &mut site, 1, &octets(alloc, BEGINNING)?)?;
+    Ok(site)
+}
+
+/// Texts behind a text.
+pub fn joined(alloc: Global, first: &str, texts: &[&str]) -> Result<String, Fail> {
+    let mut all = String::from_str(alloc, first)?;
     for text in texts {
         all.push_str(text)?;
-        all.push('\n')?;
     }
     Ok(all)
 }
 
-/// What a row is answered with: its name, and the responses as lines.
-fn answered(alloc: Global, row: &Row) -> Result<String, Fail> {
-    let mut session = begun(alloc)?;
-    answer(alloc, &mut session, BEGINNING)?;
-    let mut written = line(alloc, row.name)?;
-    written.push_str(&answer(alloc, &mut session, row.requests)?)?;
-    Ok(written)
+/// What is written to a manager's session over the sample, and how it ends.
+fn answered(alloc: Global, requests: &[&str]) -> Result<(String, SessionEnd), Fail> {
+    let mut site = sample(alloc)?;
+    let mut input = octets(alloc, &[BIND])?;
+    input.extend_from_slice(&octets(alloc, requests)?)?;
+    talk(alloc, &mut site, 2, &input)
 }
 
-/// What a row is to be answered with: its name, and the responses as lines.
-fn expected(alloc: Global, row: &Row) -> Result<String, Fail> {
-    let mut all = line(alloc, row.name)?;
-    all.push_str(&lines(alloc, row.responses)?)?;
-    Ok(all)
+/// Compares what is written, behind the name of its row.
+pub fn is_written(
+    rt: &impl Abort,
+    alloc: Global,
+    name: &str,
+    written: &str,
+    wanted: &str,
+) -> Result<(), Fail> {
+    let written = joined(alloc, name, &[written])?;
+    let wanted = joined(alloc, name, &[wanted])?;
+    assert_eq!(rt; written.as_str(), wanted.as_str());
+    Ok(())
 }
 
-/// Asks the requests of each row of a manager's session over the sample, and compares the responses.
+/// Asks the requests of a manager's session over the sample, and compares the responses and the end.
+fn check_row(
+    rt: &impl Abort,
+    alloc: Global,
+    name: &str,
+    requests: &[&str],
+    responses: &[&str],
+    last: SessionEnd,
+) -> Result<(), Fail> {
+    let (written, end) = answered(alloc, requests)?;
+    assert_eq!(rt; end, last);
+    let wanted = joined(alloc, BOUND, responses)?;
+    is_written(rt, alloc, name, &written, &wanted)
+}
+
+/// Asks the requests of each row, and compares the responses.
 pub fn check(rt: &impl Abort, alloc: Global, rows: &[Row]) -> Result<(), Fail> {
     for row in rows {
-        assert_eq!(rt;
-            answered(alloc, row)?.as_str(),
-            expected(alloc, row)?.as_str()
-        );
+        check_row(
+            rt,
+            alloc,
+            row.name,
+            row.requests,
+            row.responses,
+            SessionEnd::EndOfInput,
+        )?;
+    }
+    Ok(())
+}
+
+/// The same, with the end of each row.
+pub fn check_ends(rt: &impl Abort, alloc: Global, rows: &[Last]) -> Result<(), Fail> {
+    for row in rows {
+        check_row(rt, alloc, row.name, row.requests, row.responses, row.end)?;
     }
     Ok(())
 }

@@ -1,4 +1,4 @@
-use Rattle.std.proofs.Common.{◌≡◌, sym, ap, ◌∙◌, List, ℕ, true}
+use Rattle.std.proofs.Common.{sym, ap, ◌∙◌, List, ℕ}
 use Rattle.std.specs.Str.{str_eq_ignore_ascii_case}
 use Rattle.dir_search.proofs.Selectors.{some_at}
 use Rattle.dir_search.proofs.root_dse.is_asked.Goals as goal

@@ -1,4 +1,4 @@
-use Rattle.std.proofs.Common.{◌≡◌, List, ℕ, map, take, false, string_bytes}
+use Rattle.std.proofs.Common.{◌≡◌, map, take, false, string_bytes}
 use Rattle.std.specs.List.{list_any}
 use Rattle.std.specs.Str.{str_eq_ignore_ascii_case}
 use Rattle.dir_search.proofs.root_dse.is_asked.Given as goal

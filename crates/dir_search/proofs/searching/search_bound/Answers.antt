@@ -1,5 +1,5 @@
 -- In each scope the numbers are those of the definition.
-use Rattle.std.proofs.Common.{◌≡◌, ap, List}
+use Rattle.std.proofs.Common.{◌≡◌, ap}
 use Rattle.ldap_dn.specs.Names.{rdns}
 use Rattle.ldap_requests.specs.declared.search.Scope.{Scope}
 use Rattle.ldap_requests.specs.declared.search.Scope.TheVariants.{BaseObject, SingleLevel, WholeSubtree, SubordinateSubtree}

@@ -12,4 +12,5 @@ returns-clause-found c =
 
 pub returns-clause-few : goal.returns-clause-few
 returns-clause-few c =
-    few_among c.search_bound.result c.args.schema.now c.args.indexed.now.tree (search_view c.args.request.now) c.args.indexed.now.indexes c.in_ok-bound.bound c.args.base.now c.in_ok-bound.ensures c.search_bound.ensures
+    few_among c.search_bound.result c.args.schema.now c.args.indexed.now.tree (search_view c.args.request.now) c.args.indexed.now.indexes c.in_ok-bound.bound c.args.base.now (rw c.tree.ensures at c.is_directory.ensures.rise) c.requires.keyed
+    c.in_ok-bound.ensures.value c.in_ok-bound.ensures.parts c.search_bound.ensures

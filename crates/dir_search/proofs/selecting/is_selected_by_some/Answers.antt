@@ -1,4 +1,4 @@
-use Rattle.std.proofs.Common.{◌≡◌, sym, ap, ◌∙◌, List, ℕ, true}
+use Rattle.std.proofs.Common.{sym, ap, ◌∙◌, List, ℕ}
 use Rattle.dir_search.specs.Selection.{is_selected_by}
 use Rattle.dir_search.proofs.Selectors.{some_at}
 use Rattle.dir_search.proofs.selecting.is_selected_by_some.Goals as goal

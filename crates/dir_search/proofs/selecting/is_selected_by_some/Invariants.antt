@@ -1,4 +1,4 @@
-use Rattle.std.proofs.Common.{◌≡◌, List, ℕ, map, take, false, string_bytes}
+use Rattle.std.proofs.Common.{◌≡◌, map, take, false, string_bytes}
 use Rattle.std.specs.List.{list_any}
 use Rattle.dir_search.specs.Selection.{is_selected_by}
 use Rattle.dir_search.proofs.selecting.is_selected_by_some.Given as goal

@@ -1,4 +1,4 @@
-use Rattle.std.proofs.Common.{◌≡◌, List, ℕ, map, filter, take, string_bytes}
+use Rattle.std.proofs.Common.{◌≡◌, map, filter, take, string_bytes}
 use Rattle.dir_entry.specs.Entry.{shown as without_keys}
 use Rattle.ldap_msg.specs.View.{attribute_view}
 use Rattle.dir_search.specs.Selection.{is_selected, shown}

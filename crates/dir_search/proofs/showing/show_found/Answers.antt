@@ -1,4 +1,4 @@
-use Rattle.std.proofs.Common.{◌≡◌, ◌∙◌, refl, sym, ap, subst, List, ℕ, length, map, string_bytes}
+use Rattle.std.proofs.Common.{◌∙◌, refl, sym, ap, subst, List, ℕ, length, map, string_bytes}
 use Rattle.std.proofs.lemmas.List.{length-map}
 use Rattle.ldap_msg.specs.Messages.{SearchResultEntryValue}
 use Rattle.ldap_msg.specs.View.{entry_view}

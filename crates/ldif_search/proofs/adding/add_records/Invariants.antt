@@ -7,6 +7,6 @@ use Rattle.ldif_search.proofs.adding.add_records.Given as goal
 
 abbrev pub invariant-loop-index : goal.invariant-loop-index
 invariant-loop-index l =
-    (directory_after l.store l.index (adds (drop l.index l.records)) ≡ directory_after l.fn.store 0 (adds l.records))
-    × (first_refused l.store l.index (adds (drop l.index l.records)) ≡ first_refused l.fn.store 0 (adds l.records))
-    × NumbersBelow (l.index + 1) l.store.entries
+    (directory_after l.store.directory l.index (adds (drop l.index l.records)) ≡ directory_after l.fn.store.directory 0 (adds l.records))
+    × (first_refused l.store.directory l.index (adds (drop l.index l.records)) ≡ first_refused l.fn.store.directory 0 (adds l.records))
+    × NumbersBelow (l.index + 1) l.store.directory.entries

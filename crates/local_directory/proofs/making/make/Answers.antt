@@ -24,7 +24,7 @@ put_back-requires c = record {
 pub returns-in-Ok-clause-kept : goal.returns-in-Ok-clause-kept
 returns-in-Ok-clause-kept c =
     c.in-Ok.ensures.kept
-    ∙ ap (λ (m : map.FinMap client_cmp KeptValue). map.insert m c.args.client (record { request = c.args.request; number = c.args.number; reply = reply_to c.args.store.now c.args.number c.args.op.now })) c.in_ok-before.ensures.ok
+    ∙ ap (λ (m : map.FinMap client_cmp KeptValue). map.insert m c.args.client (record { request = c.args.request; number = c.args.number; reply = reply_to c.args.store.now.directory c.args.number c.args.op.now })) c.in_ok-before.ensures.ok
     ∙ put_twice c.args.clients.now c.args.client _ _
 
 pub returns-in-Err-clause-err_clients : goal.returns-in-Err-clause-err_clients

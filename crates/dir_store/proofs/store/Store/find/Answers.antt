@@ -2,7 +2,7 @@ use Rattle.std.proofs.Common.{sym, ap, ◌∙◌}
 use Rattle.ldap_dn.specs.Names.{rdns}
 use Rattle.dir_tree.specs.Directory.{TreeModel, find}
 use Rattle.dir_tree.specs.Stored.{entered_of}
-use Rattle.dir_store.specs.Directory.{Directory}
+use Rattle.dir_store.specs.Listed.{StoreModel}
 use Rattle.dir_store.specs.Places.{entry_named}
 use Rattle.dir_store.proofs.Shown.{found_shown}
 use Rattle.dir_store.proofs.store.Store.find.Goals as goal
@@ -10,4 +10,4 @@ use Rattle.dir_store.proofs.store.Store.find.Goals as goal
 pub returns-in-Some-clause-found : goal.returns-in-Some-clause-found
 returns-in-Some-clause-found c =
     sym (found_shown (rdns c.args.name.now) c.self.inside.held.tree.entries (entered_of c.in-Some.number c.in-Some.held.now) (ap (λ (t : TreeModel). find (rdns c.args.name.now) t.entries) (sym c.tree.ensures) ∙ sym c.in-Some.ensures))
-    ∙ ap (λ (d : Directory). entry_named (rdns c.args.name.now) d.entries) c.self.view_is
+    ∙ ap (λ (s : StoreModel). entry_named (rdns c.args.name.now) s.directory.entries) c.self.view_is

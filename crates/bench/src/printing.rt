@@ -1,0 +1,37 @@
+//! What is printed: counts as output, and times, which differ from run to run, beside them. How they were measured is not here.
+use crate::fault::Fault;
+use crate::measuring::Measured;
+use std::io::{Eprint, Print};
+
+/// Prints how long adding items took.
+pub fn print_adds(rt: &impl Eprint, count: u32, milliseconds: u128) -> Result<(), Fault> {
+    eprintln!(rt; "{count} items added in {milliseconds} ms")?;
+    Ok(())
+}
+
+/// Prints how many entries a search found and evaluated.
+fn print_counts(
+    rt: &impl Print,
+    filter: &str,
+    found: usize,
+    evaluated: usize,
+) -> Result<(), Fault> {
+    println!(rt; "{filter} found={found} evaluated={evaluated}")?;
+    Ok(())
+}
+
+/// Prints how long a search took.
+fn print_time(rt: &impl Eprint, microseconds: u128) -> Result<(), Fault> {
+    eprintln!(rt; "  in {microseconds} us")?;
+    Ok(())
+}
+
+/// Prints what a search found, evaluated and took.
+pub fn print_search(
+    rt: &(impl Print + Eprint),
+    filter: &str,
+    measured: &Measured,
+) -> Result<(), Fault> {
+    print_counts(rt, filter, measured.found, measured.evaluated)?;
+    print_time(rt, measured.microseconds)
+}

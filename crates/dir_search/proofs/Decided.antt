@@ -1,0 +1,151 @@
+-- What the indexes decide of a bound filter is what they decide of the filter that it is made of, and the same of runs. No value of the program
+-- is here.
+use Rattle.std.proofs.Common.{◌≡◌, ℕ, ◌+◌, Bool, true, false, not, ◌&&◌, ◌||◌, List, [], ◌∷◌, Option, None, Some, Vec, Box, Global, map, refl, sym, ap, ap₂, ◌∙◌}
+use Rattle.std.specs.List.{list_any, list_all}
+use Rattle.ldap_schema.specs.Schema.{SchemaModel, TypeModel, find, is_under}
+use Rattle.ldap_filter.specs.Item as filter_item
+use Rattle.ldap_filter.specs.Tree.{Tree, conj, disj, negation, item, Trees, no_trees, tree}
+use Rattle.ldap_match.specs.Item.{Item, present, substrings, is_answerable}
+use Rattle.ldap_match.specs.Keyed.{test_for}
+use Rattle.dir_entry.specs.Entry.{KeyedAttribute}
+use Rattle.index_choice.specs.declared.kinds.Kinds.{Kinds}
+use Rattle.ldap_eval.specs.Value.{asked_by, parts_of}
+use Rattle.ldap_eval.specs.Bound.{leaf_if, leaves_from}
+use Rattle.ldap_eval.specs.Made.{IsMadeOf, AreMadeOf, IsMadeOfItem, IsItemFor, IsItemOn}
+use Rattle.ldap_eval.specs.declared.bound.Leaf.{Leaf}
+use Rattle.ldap_eval.specs.declared.bound.BoundFilter.{BoundFilter}
+use Rattle.ldap_eval.specs.declared.bound.BoundFilter.TheVariants as bound
+use Rattle.ldap_eval.specs.declared.bound.BoundFilter.TheVariants.{rolls-And, rolls-Or, rolls-Not, rolls-Undefined, rolls-Leaf}
+use Rattle.ldap_eval.specs.declared.bound.BoundFilter.TheOpen.{BoundFilter-F}
+use Rattle.ldap_eval.specs.declared.bound.BoundFilter.TheFolds.{fold-roll-BoundFilter}
+use Rattle.plan_compile.specs.Bounds.{is_decided as is_bound_decided, decided_step, is_test_decided}
+use Rattle.plan_compile.specs.Runs.{has_runs_for, runs_step, has_runs_of_test}
+use Rattle.dir_search.specs.Decided.{put_if, types_from, types_under, is_item_decided, is_wire_item_decided, is_decided, are_decided, has_runs_of_item, has_runs_of_wire_item, has_runs, has_all_runs, has_some_runs}
+
+module _ (ix : List Kinds) where
+  decided-And : (v : Vec BoundFilter Global) → is_bound_decided ix (bound.And v) ≡ list_all (λ b. b) (map (is_bound_decided ix) v.items)
+  decided-And v = ap (is_bound_decided ix) (sym (rolls-And v)) ∙ fold-roll-BoundFilter Bool (decided_step ix) (BoundFilter-F.And v)
+
+  decided-Or : (v : Vec BoundFilter Global) → is_bound_decided ix (bound.Or v) ≡ list_all (λ b. b) (map (is_bound_decided ix) v.items)
+  decided-Or v = ap (is_bound_decided ix) (sym (rolls-Or v)) ∙ fold-roll-BoundFilter Bool (decided_step ix) (BoundFilter-F.Or v)
+
+  decided-Not : (x : Box BoundFilter Global) → is_bound_decided ix (bound.Not x) ≡ is_bound_decided ix x.value
+  decided-Not x = ap (is_bound_decided ix) (sym (rolls-Not x)) ∙ fold-roll-BoundFilter Bool (decided_step ix) (BoundFilter-F.Not x)
+
+  decided-Undefined : is_bound_decided ix bound.Undefined ≡ true
+  decided-Undefined = ap (is_bound_decided ix) (sym rolls-Undefined) ∙ fold-roll-BoundFilter Bool (decided_step ix) BoundFilter-F.Undefined
+
+  decided-Leaf : (leaf : Leaf) → is_bound_decided ix (bound.Leaf leaf) ≡ is_test_decided ix leaf.type_id leaf.test
+  decided-Leaf leaf = ap (is_bound_decided ix) (sym (rolls-Leaf leaf)) ∙ fold-roll-BoundFilter Bool (decided_step ix) (BoundFilter-F.Leaf leaf)
+
+module _ (s : SchemaModel) (ix : List Kinds) where
+  decided_leaves : (asked : Item) (t : ℕ) (xs : List TypeModel) (i : ℕ)
+      → list_all (λ b. b) (map (is_bound_decided ix) (leaves_from s asked t xs i)) ≡ list_all (λ u. is_test_decided ix u (test_for s asked u)) (types_from s t xs i)
+  decided_leaves asked t [] i = refl
+  decided_leaves asked t (x ∷ xs) i = by (is_under s i t) (decided_leaves asked t xs (i + 1))
+    where
+      by : (b : Bool) → list_all (λ b. b) (map (is_bound_decided ix) (leaves_from s asked t xs (i + 1))) ≡ list_all (λ u. is_test_decided ix u (test_for s asked u)) (types_from s t xs (i + 1))
+          → list_all (λ b. b) (map (is_bound_decided ix) (leaf_if b (bound.Leaf (record { type_id = i; test = test_for s asked i })) (leaves_from s asked t xs (i + 1))))
+          ≡ list_all (λ u. is_test_decided ix u (test_for s asked u)) (put_if b i (types_from s t xs (i + 1)))
+      by true ih = ap₂ (λ (a b : Bool). a && b) (decided-Leaf ix (record { type_id = i; test = test_for s asked i })) ih
+      by false ih = ih
+
+  decided_on : (asked : Item) (t : ℕ) (b : BoundFilter) → IsItemOn s asked t b → is_bound_decided ix b ≡ is_item_decided s ix asked (Some t)
+  decided_on asked t b h = by (is_answerable s asked t) refl
+    where
+      by : (can : Bool) → is_answerable s asked t ≡ can → is_bound_decided ix b ≡ (not can || list_all (λ u. is_test_decided ix u (test_for s asked u)) (types_under s t))
+      by true e =
+          let o = h.answered e in
+          ap (is_bound_decided ix) o.is ∙ decided-Or ix o.parts ∙ ap (λ (l : List BoundFilter). list_all (λ b. b) (map (is_bound_decided ix) l)) o.hold ∙ decided_leaves asked t s.types 0
+      by false e = ap (is_bound_decided ix) (h.unanswered e) ∙ decided-Undefined ix
+
+  decided_for : (asked : Item) (o : Option ℕ) (b : BoundFilter) → IsItemFor s asked o b → is_bound_decided ix b ≡ is_item_decided s ix asked o
+  decided_for asked None b h = ap (is_bound_decided ix) h ∙ decided-Undefined ix
+  decided_for asked (Some t) b h = decided_on asked t b h
+
+  decided_item : (i : filter_item.Item) (b : BoundFilter) → IsMadeOfItem s i b → is_bound_decided ix b ≡ is_wire_item_decided s ix i
+  decided_item (filter_item.comparison k d a) b h = decided_for (asked_by k a) (find s d) b h
+  decided_item (filter_item.substrings x) b h = decided_for (substrings (parts_of x)) (find s x.description) b h
+  decided_item (filter_item.presence d) b h = decided_for present (find s d) b h
+  decided_item (filter_item.extensible x) b h = ap (is_bound_decided ix) h ∙ decided-Undefined ix
+
+  mutual
+    -- what the indexes decide of a bound filter
+    pub decided_same : (t : Tree) (b : BoundFilter) → IsMadeOf s t b → is_bound_decided ix b ≡ is_decided s ix t
+    decided_same (conj ts) b h = ap (is_bound_decided ix) h.is ∙ decided-And ix h.parts ∙ decided_rows ts h.parts.items h.hold
+    decided_same (disj ts) b h = ap (is_bound_decided ix) h.is ∙ decided-Or ix h.parts ∙ decided_rows ts h.parts.items h.hold
+    decided_same (negation t) b h = ap (is_bound_decided ix) h.is ∙ decided-Not ix h.part ∙ decided_same t h.part.value h.hold
+    decided_same (item i) b h = decided_item i b h
+
+    decided_rows : (ts : Trees) (bs : List BoundFilter) → AreMadeOf s ts bs → list_all (λ b. b) (map (is_bound_decided ix) bs) ≡ are_decided s ix ts
+    decided_rows no_trees [] h = refl
+    decided_rows no_trees (b ∷ bs) h = absurd h
+    decided_rows (tree t ts) [] h = absurd h
+    decided_rows (tree t ts) (b ∷ bs) h = ap₂ (λ (x y : Bool). x && y) (decided_same t b h.1) (decided_rows ts bs h.2)
+
+module _ (ix : List Kinds) (e : List KeyedAttribute) where
+  runs-And : (v : Vec BoundFilter Global) → has_runs_for ix e (bound.And v) ≡ list_all (λ b. b) (map (has_runs_for ix e) v.items)
+  runs-And v = ap (has_runs_for ix e) (sym (rolls-And v)) ∙ fold-roll-BoundFilter Bool (runs_step ix e) (BoundFilter-F.And v)
+
+  runs-Or : (v : Vec BoundFilter Global) → has_runs_for ix e (bound.Or v) ≡ list_any (λ b. b) (map (has_runs_for ix e) v.items)
+  runs-Or v = ap (has_runs_for ix e) (sym (rolls-Or v)) ∙ fold-roll-BoundFilter Bool (runs_step ix e) (BoundFilter-F.Or v)
+
+  runs-Not : (x : Box BoundFilter Global) → has_runs_for ix e (bound.Not x) ≡ true
+  runs-Not x = ap (has_runs_for ix e) (sym (rolls-Not x)) ∙ fold-roll-BoundFilter Bool (runs_step ix e) (BoundFilter-F.Not x)
+
+  runs-Undefined : has_runs_for ix e bound.Undefined ≡ false
+  runs-Undefined = ap (has_runs_for ix e) (sym rolls-Undefined) ∙ fold-roll-BoundFilter Bool (runs_step ix e) BoundFilter-F.Undefined
+
+  runs-Leaf : (leaf : Leaf) → has_runs_for ix e (bound.Leaf leaf) ≡ has_runs_of_test ix leaf.type_id leaf.test e
+  runs-Leaf leaf = ap (has_runs_for ix e) (sym (rolls-Leaf leaf)) ∙ fold-roll-BoundFilter Bool (runs_step ix e) (BoundFilter-F.Leaf leaf)
+
+module _ (s : SchemaModel) (ix : List Kinds) (e : List KeyedAttribute) where
+  runs_leaves : (asked : Item) (t : ℕ) (xs : List TypeModel) (i : ℕ)
+      → list_any (λ b. b) (map (has_runs_for ix e) (leaves_from s asked t xs i)) ≡ list_any (λ u. has_runs_of_test ix u (test_for s asked u) e) (types_from s t xs i)
+  runs_leaves asked t [] i = refl
+  runs_leaves asked t (x ∷ xs) i = by (is_under s i t) (runs_leaves asked t xs (i + 1))
+    where
+      by : (b : Bool) → list_any (λ b. b) (map (has_runs_for ix e) (leaves_from s asked t xs (i + 1))) ≡ list_any (λ u. has_runs_of_test ix u (test_for s asked u) e) (types_from s t xs (i + 1))
+          → list_any (λ b. b) (map (has_runs_for ix e) (leaf_if b (bound.Leaf (record { type_id = i; test = test_for s asked i })) (leaves_from s asked t xs (i + 1))))
+          ≡ list_any (λ u. has_runs_of_test ix u (test_for s asked u) e) (put_if b i (types_from s t xs (i + 1)))
+      by true ih = ap₂ (λ (a b : Bool). a || b) (runs-Leaf ix e (record { type_id = i; test = test_for s asked i })) ih
+      by false ih = ih
+
+  runs_on : (asked : Item) (t : ℕ) (b : BoundFilter) → IsItemOn s asked t b → has_runs_for ix e b ≡ has_runs_of_item s ix e asked (Some t)
+  runs_on asked t b h = by (is_answerable s asked t) refl
+    where
+      by : (can : Bool) → is_answerable s asked t ≡ can → has_runs_for ix e b ≡ (can && list_any (λ u. has_runs_of_test ix u (test_for s asked u) e) (types_under s t))
+      by true r =
+          let o = h.answered r in
+          ap (has_runs_for ix e) o.is ∙ runs-Or ix e o.parts ∙ ap (λ (l : List BoundFilter). list_any (λ b. b) (map (has_runs_for ix e) l)) o.hold ∙ runs_leaves asked t s.types 0
+      by false r = ap (has_runs_for ix e) (h.unanswered r) ∙ runs-Undefined ix e
+
+  runs_for : (asked : Item) (o : Option ℕ) (b : BoundFilter) → IsItemFor s asked o b → has_runs_for ix e b ≡ has_runs_of_item s ix e asked o
+  runs_for asked None b h = ap (has_runs_for ix e) h ∙ runs-Undefined ix e
+  runs_for asked (Some t) b h = runs_on asked t b h
+
+  runs_item : (i : filter_item.Item) (b : BoundFilter) → IsMadeOfItem s i b → has_runs_for ix e b ≡ has_runs_of_wire_item s ix e i
+  runs_item (filter_item.comparison k d a) b h = runs_for (asked_by k a) (find s d) b h
+  runs_item (filter_item.substrings x) b h = runs_for (substrings (parts_of x)) (find s x.description) b h
+  runs_item (filter_item.presence d) b h = runs_for present (find s d) b h
+  runs_item (filter_item.extensible x) b h = ap (has_runs_for ix e) h ∙ runs-Undefined ix e
+
+  mutual
+    -- whether an entry holds the runs that a bound filter asks for
+    pub runs_same : (t : Tree) (b : BoundFilter) → IsMadeOf s t b → has_runs_for ix e b ≡ has_runs s ix e t
+    runs_same (conj ts) b h = ap (has_runs_for ix e) h.is ∙ runs-And ix e h.parts ∙ runs_every ts h.parts.items h.hold
+    runs_same (disj ts) b h = ap (has_runs_for ix e) h.is ∙ runs-Or ix e h.parts ∙ runs_some ts h.parts.items h.hold
+    runs_same (negation t) b h = ap (has_runs_for ix e) h.is ∙ runs-Not ix e h.part
+    runs_same (item i) b h = runs_item i b h
+
+    runs_every : (ts : Trees) (bs : List BoundFilter) → AreMadeOf s ts bs → list_all (λ b. b) (map (has_runs_for ix e) bs) ≡ has_all_runs s ix e ts
+    runs_every no_trees [] h = refl
+    runs_every no_trees (b ∷ bs) h = absurd h
+    runs_every (tree t ts) [] h = absurd h
+    runs_every (tree t ts) (b ∷ bs) h = ap₂ (λ (x y : Bool). x && y) (runs_same t b h.1) (runs_every ts bs h.2)
+
+    runs_some : (ts : Trees) (bs : List BoundFilter) → AreMadeOf s ts bs → list_any (λ b. b) (map (has_runs_for ix e) bs) ≡ has_some_runs s ix e ts
+    runs_some no_trees [] h = refl
+    runs_some no_trees (b ∷ bs) h = absurd h
+    runs_some (tree t ts) [] h = absurd h
+    runs_some (tree t ts) (b ∷ bs) h = ap₂ (λ (x y : Bool). x || y) (runs_same t b h.1) (runs_some ts bs h.2)

@@ -1,0 +1,11 @@
+use Rattle.std.proofs.Common.{ap}
+use Rattle.ldap_dn.specs.Texts.{name_of_text}
+use Rattle.ldap_msg.specs.View.{search_view}
+use Rattle.dir_search.specs.Answer.{is_subordinate}
+use Rattle.dir_search.proofs.Answered.{no_scope}
+use Rattle.dir_search.proofs.searching.search.Goals as goal
+
+pub returns-in-SubordinateSubtree-clause-few : goal.returns-in-SubordinateSubtree-clause-few
+returns-in-SubordinateSubtree-clause-few c =
+    let q = search_view c.args.request.now in
+    no_scope c.args.store.now q (name_of_text c.args.store.now.directory.schema q.base) c.refused_with.result.tests (ap is_subordinate c.in-SubordinateSubtree.is)

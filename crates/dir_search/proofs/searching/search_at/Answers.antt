@@ -1,0 +1,26 @@
+use Rattle.std.proofs.Common.{◌∙◌, sym, ap, subst}
+use Rattle.std.specs.Prelude.{IfOk}
+use Rattle.ldap_schema.specs.Schema.{SchemaModel}
+use Rattle.ldap_msg.specs.View.{search_view}
+use Rattle.dir_store.specs.Directory.{Directory}
+use Rattle.dir_store.specs.Stored.{directory}
+use Rattle.dir_search.specs.Evaluated.{IsFewAtBase}
+use Rattle.dir_search.proofs.Answered.{always, never, not_root, not_standing}
+use Rattle.dir_search.proofs.searching.search_at.Goals as goal
+
+-- the root DSE is no entry
+pub returns-then-asks_for_root-clause-few : goal.returns-then-asks_for_root-clause-few
+returns-then-asks_for_root-clause-few c =
+    never c.show_root.result _ (λ a. IsFewAtBase c.args.store.now.indexes c.args.store.now.directory (search_view c.args.request.now) c.args.base.now a.tests)
+    (not_root _ _ _ (sym c.asks_for_root.ensures ∙ c.if-asks_for_root.true))
+
+pub returns-then-is_standing-clause-few : goal.returns-then-is_standing-clause-few
+returns-then-is_standing-clause-few c =
+    let same = ap (λ (s : SchemaModel). directory s c.indexed.result.now.tree) c.schema.ensures ∙ c.indexed.ensures.shown in
+    let few = rw c.indexed.ensures.indexes at c.search_scope.ensures.few in
+    always c.search_scope.result _ (λ a. IsFewAtBase c.args.store.now.indexes c.args.store.now.directory (search_view c.args.request.now) c.args.base.now a.tests)
+    (subst (λ (d : Directory). IfOk c.search_scope.result (λ a. IsFewAtBase c.args.store.now.indexes d (search_view c.args.request.now) c.args.base.now a.tests)) same few)
+
+-- a base without an entry
+pub returns-clause-few : goal.returns-clause-few
+returns-clause-few c = λ h. absurd (not_standing _ _ _ (sym c.is_standing.ensures ∙ c.if-is_standing.false) h)

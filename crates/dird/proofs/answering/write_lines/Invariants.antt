@@ -1,7 +1,0 @@
-use Rattle.std.proofs.Common.{take, map}
-use Rattle.std.specs.Io.KnownBytes.{Appends}
-use Rattle.dird.specs.Lines.{hex_lines}
-use Rattle.dird.proofs.answering.write_lines.Given as goal
-
-abbrev pub invariant-loop-response : goal.invariant-loop-response
-invariant-loop-response g l = Appends (g.W.Write.contents l.fn.output) (g.W.Write.contents l.output) (hex_lines (map (λ v. v.items) (take l.response-index l.responses)))

@@ -1,0 +1,128 @@
+//! A session over lines of hex: lines flow in and out, a session answers. No rule of LDAP is here.
+ghost use Rattle.std.specs.Prelude.{◌≡◌, map, IfOk, IfErr};
+ghost use Rattle.std.specs.Io.KnownBytes.{Appends};
+ghost use Rattle.session_rules.specs.View.{config_view};
+ghost use Rattle.ldap_session.specs.View.{session_view};
+ghost use Rattle.hex_session.specs.Lines.{hex_lines};
+ghost use Rattle.hex_session.specs.Faults.{IsWriteFault};
+ghost use Rattle.hex_session.specs.Answered.{HasPut, HasWorked, HasFed, Takes, Answers, Fails};
+
+use crate::fault::LineFault;
+use crate::line::Line;
+use crate::lines::{next_piece, write_lines};
+use ldap_session::{Answered, Config, Gate, Next, Session, SessionEnd};
+use std::alloc::Global;
+use std::io::{BufRead, Write};
+
+/// Whether a session goes on.
+#[derive(Clone, Copy, Debug)]
+pub enum Flow {
+    Goes,
+    Ends(SessionEnd),
+}
+
+/// Writes what a message is answered with.
+fn put_answered<W: Write>(
+    alloc: Global,
+    answered: &Answered,
+    output: &mut W,
+) -> Result<Next, LineFault>
+    ensures ok { IfOk result (λ next. HasPut (W.contents output.old) (W.contents output.new) answered.now next) }
+    ensures err { IfErr result IsWriteFault }
+{
+    write_lines(alloc, &answered.responses, output)?;
+    Ok(answered.next)
+}
+
+/// Answers all whole messages that are there.
+fn answer_ready<W: Write, D: Gate>(
+    alloc: Global,
+    session: &mut Session,
+    config: &Config,
+    directory: &mut D,
+    output: &mut W,
+) -> Result<Next, LineFault>
+    ensures ok { IfOk result (λ next. HasWorked D.allows (config_view config.now) directory.old directory.new (session_view session.old) (session_view session.new)
+        (W.contents output.old) (W.contents output.new) next) }
+    ensures err { IfErr result IsWriteFault }
+{
+    loop {
+        match session.answer(alloc, config, directory)? {
+            None => return Ok(Next::GoesOn),
+            Some(answered) => match put_answered(alloc, &answered, output)? {
+                Next::GoesOn => {}
+                ended => return Ok(ended),
+            },
+        }
+    }
+}
+
+/// Answers the messages that a piece of the stream completes.
+fn answer_piece<W: Write, D: Gate>(
+    alloc: Global,
+    session: &mut Session,
+    piece: &[u8],
+    config: &Config,
+    directory: &mut D,
+    output: &mut W,
+) -> Result<Next, LineFault>
+    ensures ok { IfOk result (λ next. HasFed D.allows (config_view config.now) directory.old directory.new (session_view session.old) (session_view session.new) piece.now
+        (W.contents output.old) (W.contents output.new) next) }
+    ensures err { IfErr result IsWriteFault }
+{
+    session.feed(piece)?;
+    answer_ready(alloc, session, config, directory, output)
+}
+
+/// Answers what the next line is.
+fn answer_line<W: Write, D: Gate>(
+    alloc: Global,
+    session: &mut Session,
+    line: Line,
+    config: &Config,
+    directory: &mut D,
+    output: &mut W,
+) -> Result<Flow, LineFault>
+    ensures ok { IfOk result (λ flow. Takes D.allows (config_view config.now) directory.old directory.new (session_view session.old) (session_view session.new) line
+        (W.contents output.old) (W.contents output.new) flow) }
+    ensures err { IfErr result IsWriteFault }
+{
+    match line {
+        Line::End => Ok(Flow::Ends(session.end_of_input())),
+        Line::Blank => Ok(Flow::Goes),
+        Line::Piece(piece) => {
+            match answer_piece(alloc, session, &piece, config, directory, output)? {
+                Next::GoesOn => Ok(Flow::Goes),
+                Next::Unbound => Ok(Flow::Ends(SessionEnd::Unbound)),
+                Next::Disconnected => Ok(Flow::Ends(SessionEnd::Disconnected)),
+            }
+        }
+    }
+}
+
+/// Answers an input line by line, up to its end or what ends the session: each line is a piece of the stream in hex, each response a line;
+/// empty lines are skipped. The 18446744073709551615th line counts as one that can't be read.
+pub fn answer_lines<R: BufRead, W: Write, D: Gate>(
+    alloc: Global,
+    config: &Config,
+    directory: &mut D,
+    input: &mut R,
+    output: &mut W,
+) -> Result<SessionEnd, LineFault>
+    // The output grows by the responses of a session over the stream that the lines spell.
+    ensures ok { IfOk result (λ end. Answers D.allows (config_view config.now) directory.old directory.new (R.remaining input.old) (R.remaining input.new)
+        (W.contents output.old) (W.contents output.new) end) }
+    // Before a line that can't be read all is answered and written.
+    ensures err { IfErr result (λ fault. Fails D.allows (config_view config.now) directory.old directory.new (R.remaining input.old)
+        (W.contents output.old) (W.contents output.new) fault) }
+{
+    let mut session = Session::new(alloc);
+    for number in 1..u64::MAX {
+        let line = next_piece(alloc, input, number)?;
+        match answer_line(alloc, &mut session, line, config, directory, output)? {
+            Flow::Goes => {}
+            Flow::Ends(end) => return Ok(end),
+        }
+    }
+    Err(LineFault::CannotRead)
+}

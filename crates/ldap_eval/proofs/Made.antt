@@ -1,0 +1,74 @@
+-- What binding makes of a filter, arm by arm. Facts on trees and lists flow in and out; no value of the program is here.
+use Rattle.std.proofs.Common.{ℕ, ◌+◌, ◌<◌, List, [], ◌∷◌, ◌++◌, true, false, Option, Some, None, Vec, Box, Global, String, ◌≡◌, refl, ap, sym, subst, ◌∙◌, map, length, take, get_or, string_bytes}
+use Rattle.std.proofs.lemmas.List.{take_more}
+use Rattle.ldap_filter.specs.Item as filter_item
+use Rattle.ldap_filter.specs.Tree.{Tree, conj, disj, negation, item, Trees, no_trees, tree}
+use Rattle.ldap_filter.specs.View.{view, views, view_step}
+use Rattle.ldap_filter.specs.declared.tree.Filter.{Filter}
+use Rattle.ldap_filter.specs.declared.tree.Filter.TheVariants as filter
+use Rattle.ldap_filter.specs.declared.tree.Filter.TheVariants.{rolls-And, rolls-Or, rolls-Not}
+use Rattle.ldap_filter.specs.declared.tree.Filter.TheOpen.{Filter-F}
+use Rattle.ldap_filter.specs.declared.tree.Filter.TheFolds.{fold-roll-Filter}
+use Rattle.ldap_schema.specs.Schema.{SchemaModel, find}
+use Rattle.ldap_match.specs.Item.{Item, is_answerable}
+use Rattle.ldap_eval.specs.Bound.{leaves_for, IsBoundTo}
+use Rattle.ldap_eval.specs.Made.{IsMadeOf, AreMadeOf, IsItemFor}
+use Rattle.ldap_eval.specs.declared.bound.BoundFilter.{BoundFilter}
+use Rattle.ldap_eval.specs.declared.bound.BoundFilter.TheVariants as bound
+
+view-And : (v : Vec Filter Global) → view (filter.And v) ≡ conj (views v.items)
+view-And v = ap view (sym (rolls-And v)) ∙ fold-roll-Filter Tree view_step (Filter-F.And v)
+
+view-Or : (v : Vec Filter Global) → view (filter.Or v) ≡ disj (views v.items)
+view-Or v = ap view (sym (rolls-Or v)) ∙ fold-roll-Filter Tree view_step (Filter-F.Or v)
+
+view-Not : (x : Box Filter Global) → view (filter.Not x) ≡ negation (view x.value)
+view-Not x = ap view (sym (rolls-Not x)) ∙ fold-roll-Filter Tree view_step (Filter-F.Not x)
+
+pub and_made : (s : SchemaModel) (f : Filter) (fs : Vec Filter Global) (gs : List Filter) (v : Vec BoundFilter Global) → f ≡ filter.And fs → gs ≡ fs.items → AreMadeOf s (views gs) v.items → IsMadeOf s (view f) (bound.And v)
+and_made s f fs gs v is same h =
+    subst (λ (t : Tree). IsMadeOf s t (bound.And v)) (sym (ap view is ∙ view-And fs))
+    (record { parts = v; is = refl; hold = subst (λ (xs : List Filter). AreMadeOf s (views xs) v.items) same h })
+
+pub or_made : (s : SchemaModel) (f : Filter) (fs : Vec Filter Global) (gs : List Filter) (v : Vec BoundFilter Global) → f ≡ filter.Or fs → gs ≡ fs.items → AreMadeOf s (views gs) v.items → IsMadeOf s (view f) (bound.Or v)
+or_made s f fs gs v is same h =
+    subst (λ (t : Tree). IsMadeOf s t (bound.Or v)) (sym (ap view is ∙ view-Or fs))
+    (record { parts = v; is = refl; hold = subst (λ (xs : List Filter). AreMadeOf s (views xs) v.items) same h })
+
+pub not_made : (s : SchemaModel) (f : Filter) (x : Box Filter Global) (g : Filter) (b : BoundFilter) (y : Box BoundFilter Global) → f ≡ filter.Not x → g ≡ x.value → y.value ≡ b → IsMadeOf s (view g) b → IsMadeOf s (view f) (bound.Not y)
+not_made s f x g b y is same boxed h =
+    subst (λ (t : Tree). IsMadeOf s t (bound.Not y)) (sym (ap view is ∙ view-Not x))
+    (record { part = y; is = refl; hold = subst (λ (z : BoundFilter). IsMadeOf s (view x.value) z) (sym boxed) (subst (λ (z : Filter). IsMadeOf s (view z) b) same h) })
+
+-- a filter that is an item
+pub item_made : (s : SchemaModel) (f : Filter) (i : filter_item.Item) (b : BoundFilter) → view f ≡ item i → IsMadeOf s (item i) b → IsMadeOf s (view f) b
+item_made s f i b is h = subst (λ (t : Tree). IsMadeOf s t b) (sym is) h
+
+push_made : (s : SchemaModel) (fs : List Filter) (f : Filter) (bs : List BoundFilter) (b : BoundFilter) → AreMadeOf s (views fs) bs → IsBoundTo s (view f) b → IsMadeOf s (view f) b → AreMadeOf s (views (fs ++ f ∷ [])) (bs ++ b ∷ [])
+push_made s [] f [] b h k m = (k, m, tt)
+push_made s [] f (c1 ∷ bs) b h k m = absurd h
+push_made s (g ∷ fs) f [] b h k m = absurd h
+push_made s (g ∷ fs) f (c1 ∷ bs) b h k m = (h.0, h.1, push_made s fs f bs b h.2 k m)
+
+-- one more of a row
+pub made_more : (s : SchemaModel) (fs : List Filter) (i : ℕ) (f : Filter) (old new : List BoundFilter) (b : BoundFilter) → i < length fs → f ≡ get_or fs i f → new ≡ old ++ b ∷ [] → AreMadeOf s (views (take i fs)) old → IsBoundTo s (view f) b → IsMadeOf s (view f) b
+    → AreMadeOf s (views (take (i + 1) fs)) new
+made_more s fs i f old new b lt is pushed h k m =
+    subst (λ (xs : List Filter). AreMadeOf s (views xs) new) (sym (take_more fs i f lt ∙ ap (λ (x : Filter). take i fs ++ x ∷ []) (sym is)))
+    (subst (λ (bs : List BoundFilter). AreMadeOf s (views (take i fs ++ f ∷ [])) bs) (sym pushed) (push_made s (take i fs) f old b h k m))
+
+-- an item whose description is not recognised
+pub unknown_made : (s : SchemaModel) (d : List ℕ) (asked : Item) → find s d ≡ None → IsItemFor s asked (find s d) bound.Undefined
+unknown_made s d asked none = subst (λ (o : Option ℕ). IsItemFor s asked o bound.Undefined) (sym none) refl
+
+-- one that its type can't answer
+pub unanswered_made : (s : SchemaModel) (d : List ℕ) (asked : Item) (t : ℕ) → find s d ≡ Some t → is_answerable s asked t ≡ false → IsItemFor s asked (find s d) bound.Undefined
+unanswered_made s d asked t some cant =
+    subst (λ (o : Option ℕ). IsItemFor s asked o bound.Undefined) (sym some)
+    (record { answered = λ can. let apart : true ≡ false = sym can ∙ cant in absurd (cc apart); unanswered = λ h. refl })
+
+-- one that it can answer
+pub leaves_made : (s : SchemaModel) (d : List ℕ) (asked : Item) (t : ℕ) (v : Vec BoundFilter Global) → find s d ≡ Some t → is_answerable s asked t ≡ true → v.items ≡ leaves_for s asked t → IsItemFor s asked (find s d) (bound.Or v)
+leaves_made s d asked t v some can is =
+    subst (λ (o : Option ℕ). IsItemFor s asked o (bound.Or v)) (sym some)
+    (record { answered = λ h. record { parts = v; is = refl; hold = is }; unanswered = λ cant. let apart : true ≡ false = sym can ∙ cant in absurd (cc apart) })

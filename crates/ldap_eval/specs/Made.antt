@@ -1,0 +1,62 @@
+-- What a bound filter is made of. A schema and a filter's tree flow in, a statement flows out. Only the plans that are made of bound filters,
+-- and those who count what they leave open, look at it.
+use Rattle.std.specs.Prelude.{◌≡◌, ℕ, List, [], ◌∷◌, true, false, Option, None, Some, Vec, Box}
+use Rattle.std.specs.Global.{Global}
+use Rattle.ldap_schema.specs.Schema.{SchemaModel, find}
+use Rattle.ldap_match.specs.Item.{Item, present, substrings, is_answerable}
+use Rattle.ldap_filter.specs.Item as filter_item
+use Rattle.ldap_filter.specs.Tree.{Tree, conj, disj, negation, item, Trees, no_trees, tree}
+use Rattle.ldap_eval.specs.Value.{asked_by, parts_of}
+use Rattle.ldap_eval.specs.Bound.{leaves_for, IsBoundTo}
+use Rattle.ldap_eval.specs.declared.bound.BoundFilter.{BoundFilter}
+use Rattle.ldap_eval.specs.declared.bound.BoundFilter.TheVariants as bound
+
+-- an `and` of bound filters, of which this holds
+pub record IsAndOf (P : List BoundFilter → Type 0) (b : BoundFilter) : Type 0 where
+  pub parts : Vec BoundFilter Global
+  pub is : b ≡ bound.And parts
+  pub hold : P parts.items
+
+-- an `or` of bound filters, of which this holds
+pub record IsOrOf (P : List BoundFilter → Type 0) (b : BoundFilter) : Type 0 where
+  pub parts : Vec BoundFilter Global
+  pub is : b ≡ bound.Or parts
+  pub hold : P parts.items
+
+-- the negation of a bound filter, of which this holds
+pub record IsNotOf (P : BoundFilter → Type 0) (b : BoundFilter) : Type 0 where
+  pub part : Box BoundFilter Global
+  pub is : b ≡ bound.Not part
+  pub hold : P part.value
+
+-- An item on a type is the `or` of its leaves, one for each type under the type; Undefined, where the type can't answer it.
+pub record IsItemOn (s : SchemaModel) (asked : Item) (t : ℕ) (b : BoundFilter) : Type 0 where
+  pub answered : is_answerable s asked t ≡ true → IsOrOf (λ bs. bs ≡ leaves_for s asked t) b
+  pub unanswered : is_answerable s asked t ≡ false → b ≡ bound.Undefined
+
+-- the same of the type of a description; Undefined, where it is not recognised
+abbrev pub IsItemFor : SchemaModel → Item → Option ℕ → BoundFilter → Type 0
+IsItemFor s asked None b = b ≡ bound.Undefined
+IsItemFor s asked (Some t) b = IsItemOn s asked t b
+
+-- an item of a filter; an extensible one is Undefined
+abbrev pub IsMadeOfItem : SchemaModel → filter_item.Item → BoundFilter → Type 0
+IsMadeOfItem s (filter_item.comparison k d a) b = IsItemFor s (asked_by k a) (find s d) b
+IsMadeOfItem s (filter_item.substrings x) b = IsItemFor s (substrings (parts_of x)) (find s x.description) b
+IsMadeOfItem s (filter_item.presence d) b = IsItemFor s present (find s d) b
+IsMadeOfItem s (filter_item.extensible x) b = b ≡ bound.Undefined
+
+abbrev mutual
+  -- A bound filter is made of a filter, part by part: an `and`, an `or` and a negation of what their parts make, and items.
+  pub IsMadeOf : SchemaModel → Tree → BoundFilter → Type 0
+  IsMadeOf s (conj ts) b = IsAndOf (λ bs. AreMadeOf s ts bs) b
+  IsMadeOf s (disj ts) b = IsOrOf (λ bs. AreMadeOf s ts bs) b
+  IsMadeOf s (negation t) b = IsNotOf (λ x. IsMadeOf s t x) b
+  IsMadeOf s (item i) b = IsMadeOfItem s i b
+
+  -- bound filters are made of filters and stand for them, one by one
+  pub AreMadeOf : SchemaModel → Trees → List BoundFilter → Type 0
+  AreMadeOf s no_trees [] = Unit {0}
+  AreMadeOf s no_trees (b ∷ bs) = ⊥
+  AreMadeOf s (tree t ts) [] = ⊥
+  AreMadeOf s (tree t ts) (b ∷ bs) = IsBoundTo s t b × IsMadeOf s t b × AreMadeOf s ts bs

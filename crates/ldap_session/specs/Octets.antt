@@ -1,0 +1,38 @@
+-- Octets that are written. Lists of octets and a writer's contents flow in; how far they were taken flows out. Messages are here only as
+-- their octets.
+use Rattle.std.specs.Prelude.{◌≡◌, ℕ, List, [], ◌∷◌, ◌++◌, Bool, true, false, Option}
+use Rattle.std.specs.Io.KnownBytes.{Appends}
+use Rattle.ldap_msg.specs.Messages.{MessageValue}
+use Rattle.ldap_msg.specs.Written.{message_bytes}
+
+abbrev pub is_empty : List ℕ → Bool
+is_empty [] = true
+is_empty (o ∷ os) = false
+
+-- octets, one after the other
+abbrev pub joined : List (List ℕ) → List ℕ
+joined [] = []
+joined (o ∷ os) = o ++ joined os
+
+-- messages written, one after the other
+abbrev pub octets_of : List MessageValue → List ℕ
+octets_of [] = []
+octets_of (m ∷ ms) = message_bytes m ++ octets_of ms
+
+-- a list is the front of another
+pub record IsFront (front whole : List ℕ) : Type 0 where
+  pub rest : List ℕ
+  pub is : whole ≡ front ++ rest
+
+-- a front of the octets was taken, and this is left
+pub record WritesSome (before after : Option (List ℕ)) (octets left : List ℕ) : Type 0 where
+  pub taken : List ℕ
+  pub grown : Appends before after taken
+  pub whole : octets ≡ taken ++ left
+
+-- a front of the octets was taken: all of them, where that is said
+pub record HasWritten (before after : Option (List ℕ)) (octets : List ℕ) (all : Bool) : Type 0 where
+  pub taken : List ℕ
+  pub grown : Appends before after taken
+  pub front : IsFront taken octets
+  pub whole : all ≡ true → taken ≡ octets

@@ -1,0 +1,60 @@
+// Octets written. Octets and a writer flow in; whether they were all taken flows out. What must not be here: messages.
+ghost use Rattle.std.specs.Prelude.{◌≡◌, ◌++◌, [], map, List, ℕ, IfSome, IfNone, true, false};
+ghost use Rattle.std.specs.Io.KnownBytes.{Appends};
+ghost use Rattle.ldap_session.specs.Octets.{is_empty, joined, HasWritten, WritesSome};
+
+use std::io::{ErrorKind, Write};
+
+/// Writes once, and gives what is left to be written; nothing, where the writer failed.
+fn write_some<'a, W: Write>(writer: &mut W, octets: &'a [u8]) -> Option<&'a [u8]>
+    ensures some { IfSome result (λ left. WritesSome (W.contents writer.old) (W.contents writer.new) octets.now left.now) }
+    ensures none { IfNone result (Appends (W.contents writer.old) (W.contents writer.new) []) }
+{
+    match writer.write(octets) {
+        Ok(0) => None,
+        Ok(count) => Some(&octets[count..]),
+        Err(error) => {
+            if error.kind() == ErrorKind::Interrupted {
+                Some(octets)
+            } else {
+                None
+            }
+        }
+    }
+}
+
+/// Whether nothing is left.
+fn is_done(octets: &[u8]) -> bool
+    ensures { result ≡ is_empty octets.now }
+{
+    octets.is_empty()
+}
+
+/// Writes octets; whether the writer took them all.
+fn write_octets<W: Write>(writer: &mut W, octets: &[u8]) -> bool
+    ensures { HasWritten (W.contents writer.old) (W.contents writer.new) octets.now result }
+{
+    let mut left = octets;
+    for _ in 0..u64::MAX {
+        if is_done(left) {
+            return true;
+        }
+        match write_some(writer, left) {
+            Some(rest) => left = rest,
+            None => return false,
+        }
+    }
+    false
+}
+
+/// Writes responses, one after the other; whether the writer took them all.
+pub fn write_responses<W: Write>(writer: &mut W, responses: &[Vec<u8>]) -> bool
+    ensures { HasWritten (W.contents writer.old) (W.contents writer.new) (joined (map (λ v. v.items) responses.now)) result }
+{
+    for response in responses {
+        if !write_octets(writer, response) {
+            return false;
+        }
+    }
+    true
+}
