@@ -1,7 +1,6 @@
 //! What ends a measurement early, with the text that goes to standard error.
-use filter_text::FilterTextError;
-use index_choice::IndexError;
-use ldap_dn::NameError;
+use dir_search::{IndexError, NameError};
+use filter_text_reader::FilterTextError;
 use std::alloc::{AllocError, AllocFailed};
 use thiserror::Error;
 

@@ -1,15 +1,10 @@
 //! A directory of items that are made up. Their number flows in, a directory flows out. Searches are not here.
 ghost use Rattle.std.specs.Prelude.{◌+◌, ◌<◌, ◌^◌, IfOk, OnOk};
-ghost use Rattle.dir_store.specs.Stored.{NumbersBelow};
+ghost use Rattle.dir_search.specs.dir_store.Stored.{NumbersBelow};
 
 use crate::fault::Fault;
-use dir_store::Store;
-use index_choice::Indexes;
-use ldap_dn::Name;
-use ldap_op::{Op, Update};
-use ldap_parts::{Attribute, ResultCode};
-use ldap_schema::Schema;
-use ldap_updates::AddRequest;
+use dir_search::{Indexes, Name, Op, Schema, Store, Update};
+use ldap_msg::{AddRequest, Attribute, ResultCode};
 use std::alloc::{AllocError, Global};
 
 /// What is indexed. A label may be a ticket, too.
@@ -93,7 +88,7 @@ fn add(alloc: Global, store: &mut Store, number: u64, request: AddRequest) -> Re
     requires { NumbersBelow number store.old.directory.entries }
     ensures { OnOk result (NumbersBelow (number + 1) store.new.directory.entries) }
 {
-    let op = Op::new(Update::Add(request));
+    let op = Op::new(alloc, Update::Add(request))?;
     let reply = store.apply(alloc, number, &op)?;
     if reply.code != ResultCode::SUCCESS {
         return Err(Fault::AddRefused { number });

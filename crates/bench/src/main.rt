@@ -11,7 +11,7 @@ use crate::fault::Fault;
 use crate::filling::filled;
 use crate::measuring::{FILTERS, measure, narrow, range};
 use crate::printing::{print_adds, print_search};
-use dir_store::Store;
+use dir_search::Store;
 use std::alloc::Global;
 use std::io::{Eprint, Print};
 use std::process::ExitCode;

@@ -1,10 +1,9 @@
 //! One search that is measured. A directory and a filter flow in; how many entries were found, how many were evaluated, and the time flow
 //! out. How entries are made is not here.
 use crate::fault::Fault;
-use dir_search::search;
-use dir_store::Store;
+use dir_search::{Store, search};
 use filter_text_reader::read_text;
-use ldap_requests::{DerefAliases, Scope, SearchRequest};
+use ldap_msg::{DerefAliases, Scope, SearchRequest};
 use std::alloc::{AllocError, Global};
 use std::time::{Clock, Instant};
 

@@ -1,7 +1,7 @@
 -- Attributes completed one after the other. Facts on lists flow in and out; no value of the program is here.
 use Rattle.std.proofs.Common.{ℕ, List, [], ◌∷◌, ◌++◌, Bool, true, false, not, nat_eq, ◌≡◌, refl, ap, sym, subst, ◌∙◌, map, arith}
 use Rattle.std.proofs.lemmas.Bool.Decides.{nat_tests}
-use Rattle.ldap_schema.specs.Schema.{SchemaModel}
+use Rattle.ldap_match.specs.ldap_schema.Schema.{SchemaModel}
 use Rattle.ldap_match.specs.Keyed.{AreKeysOf}
 use Rattle.dir_entry.specs.Entry.{AttributeModel, KeyedAttribute, shown, attributes_of, IsKeyedBy}
 use Rattle.dir_entry.specs.Classes.{completed_attribute, completed}

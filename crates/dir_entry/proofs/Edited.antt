@@ -2,7 +2,7 @@
 use Rattle.std.proofs.Common.{ℕ, ◌+◌, List, [], ◌∷◌, ◌++◌, Bool, true, false, not, Option, None, Result, Ok, Err, IfErr, IfOk, OnOk, ◌≡◌, refl, ap, ap₂, sym, subst, ◌∙◌, map, take, drop, length}
 use Rattle.std.specs.List.{list_any, list_all}
 use Rattle.std.specs.Bool.{◌==◌}
-use Rattle.ldap_schema.specs.Schema.{SchemaModel}
+use Rattle.ldap_match.specs.ldap_schema.Schema.{SchemaModel}
 use Rattle.dir_entry.specs.Entry.{AttributeModel, KeyedAttribute, are_in_syntax}
 use Rattle.dir_entry.specs.Values.{has_repeats}
 use Rattle.dir_entry.specs.Adding.{refuse, has_type, Refuses}

@@ -3,11 +3,11 @@ use Rattle.std.proofs.Common.{ℕ, List, [], ◌∷◌, Bool, true, false, ◌||
 use Rattle.std.specs.List.{list_any}
 use Rattle.std.specs.Str.{bytes_eq}
 use Rattle.std.proofs.lemmas.Slice.Eq.{bytes_eq-Decides}
-use Rattle.ldap_syntax.specs.Meaning.{Meaning}
-use Rattle.ldap_syntax.specs.declared.rule.Rule.{Rule}
-use Rattle.ldap_schema.specs.Schema.{SchemaModel}
+use Rattle.ldap_match.specs.ldap_syntax.Meaning.{Meaning}
+use Rattle.ldap_match.specs.ldap_syntax.declared.rule.Rule.{Rule}
+use Rattle.ldap_match.specs.ldap_schema.Schema.{SchemaModel}
 use Rattle.ldap_match.specs.Meaning.{meaning}
-use Rattle.value_keys.specs.Rules.{equality_of}
+use Rattle.ldap_match.specs.ldap_schema.Rules.{equality_of}
 use Rattle.ldap_match.specs.Item.{Item, equal, is_meant, satisfied, equality_by, item_on_attribute}
 use Rattle.ldap_match.specs.Keyed.{key_at, equality_test, test_by, test_for, test_value, AreKeysBy, AreKeysOf}
 use Rattle.ldap_match.specs.Truth.{truth_of}

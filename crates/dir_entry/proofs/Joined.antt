@@ -1,8 +1,8 @@
 -- Values of relative names, a step at a time. Facts on lists flow in and out; no value of the program is here.
 use Rattle.std.proofs.Common.{ℕ, List, [], ◌∷◌, Bool, true, false, cond, not, ◌||◌, Result, Ok, Err, IfOk, IfErr, ◌≡◌, ap, ap₂, sym, subst, ◌∙◌}
 use Rattle.std.specs.List.{list_any}
-use Rattle.ldap_schema.specs.Schema.{SchemaModel}
-use Rattle.ldap_dn.specs.Names.{TypeAndValue}
+use Rattle.ldap_match.specs.ldap_schema.Schema.{SchemaModel}
+use Rattle.ldap_match.specs.ldap_dn.Names.{TypeAndValue}
 use Rattle.dir_entry.specs.Entry.{AttributeModel}
 use Rattle.dir_entry.specs.Adding.{Refuses}
 use Rattle.dir_entry.specs.Editing.{with_added, with_deleted}

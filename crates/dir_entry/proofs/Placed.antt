@@ -8,7 +8,7 @@ use Rattle.dir_entry.proofs.Shown.{has_type_shown}
 use Rattle.std.proofs.lemmas.Bool.Decides.{nat_tests}
 use Rattle.std.proofs.lemmas.List.{take-append-drop}
 use Rattle.std.specs.Option.{option_map}
-use Rattle.ldap_schema.specs.Schema.{SchemaModel}
+use Rattle.ldap_match.specs.ldap_schema.Schema.{SchemaModel}
 use Rattle.ldap_match.specs.Keyed.{AreKeysOf}
 use Rattle.dir_entry.specs.Entry.{AttributeModel, KeyedAttribute, shown, attributes_of, IsKeyedBy}
 use Rattle.dir_entry.specs.Editing.{place, values_in, values_of, attribute_with, with_values_of}

@@ -1,8 +1,8 @@
 -- Tests on attributes with their keys, as tests without them. Facts on lists flow in and out; no value of the program is here.
 use Rattle.std.proofs.Common.{ℕ, List, [], ◌∷◌, Bool, ◌&&◌, ◌||◌, Option, Some, is_some, ◌≡◌, refl, ap, ◌∙◌, map, nat_eq}
 use Rattle.std.specs.List.{list_all, list_any}
-use Rattle.ldap_schema.specs.Schema.{SchemaModel, class_named}
-use Rattle.ldap_schema.specs.ObjectClassType.{object_class_type}
+use Rattle.ldap_match.specs.ldap_schema.Schema.{SchemaModel, class_named}
+use Rattle.ldap_match.specs.ldap_schema.ObjectClassType.{object_class_type}
 use Rattle.dir_entry.specs.Entry.{AttributeModel, KeyedAttribute, shown, attributes_of}
 use Rattle.dir_entry.specs.Adding.{has_type}
 use Rattle.dir_entry.specs.Classes.{is_type, has_single_value, has_single_values, is_allowed, is_object_class, are_classes}

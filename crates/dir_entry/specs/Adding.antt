@@ -2,7 +2,7 @@
 -- What an entry's classes demand is not here.
 use Rattle.std.specs.Prelude.{◌≡◌, ℕ, List, [], ◌∷◌, ◌++◌, Bool, false, cond, not, ◌||◌, nat_eq, Result, Ok, Err}
 use Rattle.std.specs.List.{list_any}
-use Rattle.ldap_schema.specs.Schema.{SchemaModel}
+use Rattle.ldap_match.specs.ldap_schema.Schema.{SchemaModel}
 use Rattle.dir_entry.specs.Entry.{AttributeModel, are_in_syntax}
 use Rattle.dir_entry.specs.Values.{has_repeats}
 use Rattle.dir_entry.specs.declared.fault.EntryError.{EntryError}

@@ -2,11 +2,11 @@
 -- the code of a refusal, flows out. Names of entries are not here.
 use Rattle.std.specs.Prelude.{ℕ, List, [], ◌∷◌, ◌++◌, Bool, true, false, cond, not, ◌&&◌, ◌||◌, nat_eq, nat_lt, map, filter, length, Option, None, Some, is_some, slice_get, Result, Ok}
 use Rattle.std.specs.List.{list_all, list_any}
-use Rattle.ldap_schema.specs.Schema.{TypeModel, ClassModel, SchemaModel, class_named, class_name, type_at}
-use Rattle.ldap_schema.specs.Superclasses.{is_among, missing_superclasses, is_subclass}
-use Rattle.ldap_schema.specs.ObjectClassType.{object_class_type}
-use Rattle.ldap_schema.specs.declared.class.ClassKind.{ClassKind}
-use Rattle.ldap_schema.specs.declared.class.ClassKind.TheVariants.{Abstract, Structural, Auxiliary}
+use Rattle.ldap_match.specs.ldap_schema.Schema.{TypeModel, ClassModel, SchemaModel, class_named, class_name, type_at}
+use Rattle.ldap_match.specs.ldap_schema.Superclasses.{is_among, missing_superclasses, is_subclass}
+use Rattle.ldap_match.specs.ldap_schema.ObjectClassType.{object_class_type}
+use Rattle.ldap_match.specs.ldap_schema.declared.class.ClassKind.{ClassKind}
+use Rattle.ldap_match.specs.ldap_schema.declared.class.ClassKind.TheVariants.{Abstract, Structural, Auxiliary}
 use Rattle.dir_entry.specs.Entry.{AttributeModel}
 use Rattle.dir_entry.specs.Adding.{refuse, has_type}
 

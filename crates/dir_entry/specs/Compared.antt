@@ -1,8 +1,8 @@
 -- What the values of an attribute are compared by, and what a refusal says of one test. No contract above names it.
 use Rattle.std.specs.Prelude.{ℕ, List, [], ◌∷◌, Bool, true, cond, ◌≡◌, Option, None, Some}
-use Rattle.ldap_syntax.specs.declared.rule.Rule.{Rule}
-use Rattle.ldap_schema.specs.Schema.{SchemaModel}
-use Rattle.value_keys.specs.Rules.{equality_of}
+use Rattle.ldap_match.specs.ldap_syntax.declared.rule.Rule.{Rule}
+use Rattle.ldap_match.specs.ldap_schema.Schema.{SchemaModel}
+use Rattle.ldap_match.specs.ldap_schema.Rules.{equality_of}
 use Rattle.dir_entry.specs.Entry.{KeyedAttribute}
 use Rattle.dir_entry.specs.declared.fault.EntryError.{EntryError}
 use Rattle.dir_entry.specs.declared.fault.EntryError.TheVariants.{InvalidAttributeSyntax, NoSuchAttribute, AttributeOrValueExists, ConstraintViolation, ObjectClassViolation, NotAllowedOnRdn, ObjectClassModsProhibited, NoMemory}

@@ -2,7 +2,7 @@
 -- refusal, flows out. What its classes and its name demand is not here.
 use Rattle.std.specs.Prelude.{ℕ, ◌+◌, List, [], ◌∷◌, ◌++◌, Bool, true, false, not, nat_eq, take, drop, filter, Option, None, Some, slice_get, Result, Ok}
 use Rattle.std.specs.List.{list_all, list_any, prefix_len}
-use Rattle.ldap_schema.specs.Schema.{SchemaModel}
+use Rattle.ldap_match.specs.ldap_schema.Schema.{SchemaModel}
 use Rattle.dir_entry.specs.Entry.{AttributeModel, are_in_syntax}
 use Rattle.dir_entry.specs.Values.{is_equivalent, has_repeats}
 use Rattle.dir_entry.specs.Adding.{refuse, has_type}

@@ -2,7 +2,7 @@
 -- classes are not here.
 use Rattle.std.specs.Prelude.{ℕ, List, [], ◌∷◌, Bool, map}
 use Rattle.std.specs.List.{list_all}
-use Rattle.ldap_schema.specs.Schema.{SchemaModel}
+use Rattle.ldap_match.specs.ldap_schema.Schema.{SchemaModel}
 use Rattle.ldap_match.specs.Item.{is_of_syntax}
 use Rattle.ldap_match.specs.Keyed.{AreKeysOf}
 

@@ -5,3 +5,8 @@ pub mod Editing
 pub mod Classes
 pub mod Naming
 pub mod Compared
+-- what layers above name of the crates below
+pub use Rattle.ldap_match.specs.ldap_syntax as ldap_syntax
+pub use Rattle.ldap_match.specs.ldap_schema as ldap_schema
+pub use Rattle.ldap_match.specs.ldap_dn as ldap_dn
+pub use Rattle.ldap_match.specs as ldap_match

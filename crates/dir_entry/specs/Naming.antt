@@ -2,9 +2,9 @@
 -- and an entry flow in; the changed entry, or the code of a refusal, flows out. Whole names are not here.
 use Rattle.std.specs.Prelude.{ℕ, List, [], ◌∷◌, Bool, true, false, cond, not, ◌&&◌, ◌||◌, nat_eq, Option, None, Some, Result, Ok, Err, filter}
 use Rattle.std.specs.List.{list_all, list_any}
-use Rattle.ldap_schema.specs.Schema.{SchemaModel}
-use Rattle.ldap_schema.specs.Superclasses.{is_subclass}
-use Rattle.ldap_dn.specs.Names.{TypeAndValue}
+use Rattle.ldap_match.specs.ldap_schema.Schema.{SchemaModel}
+use Rattle.ldap_match.specs.ldap_schema.Superclasses.{is_subclass}
+use Rattle.ldap_match.specs.ldap_dn.Names.{TypeAndValue}
 use Rattle.dir_entry.specs.Entry.{AttributeModel}
 use Rattle.dir_entry.specs.Values.{is_equivalent}
 use Rattle.dir_entry.specs.Adding.{refuse}
@@ -55,10 +55,10 @@ abbrev pub dropped : SchemaModel → Bool → List TypeAndValue → List TypeAnd
 dropped s false new old e = Ok e
 dropped s true new old e = without_rdn s new old e
 
--- The attributes under a new relative name: its values join; if asked, the old ones leave; then what the classes demand
+-- The attributes under a new relative name: its values join; if asked, the old ones leave; then the superclasses, and what the classes demand
 -- (RFC 4511 4.9).
 abbrev pub renamed : SchemaModel → List TypeAndValue → List TypeAndValue → Bool → List AttributeModel → Result (List AttributeModel) ℕ
-renamed s old new delete_old e = and_then (and_then (with_rdn s new e) (dropped s delete_old new old)) (checked s)
+renamed s old new delete_old e = and_then (and_then (with_rdn s new e) (dropped s delete_old new old)) (settled s)
 
 abbrev pub first_of : List ℕ → Option ℕ
 first_of [] = None

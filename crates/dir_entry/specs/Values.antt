@@ -2,10 +2,10 @@
 use Rattle.std.specs.Prelude.{ℕ, List, [], ◌∷◌, Bool, false, ◌||◌, Option, None, Some}
 use Rattle.std.specs.List.{list_any}
 use Rattle.std.specs.Str.{bytes_eq}
-use Rattle.ldap_syntax.specs.Meaning.{Meaning}
-use Rattle.ldap_syntax.specs.declared.rule.Rule.{Rule}
-use Rattle.ldap_schema.specs.Schema.{SchemaModel}
-use Rattle.value_keys.specs.Rules.{equality_of}
+use Rattle.ldap_match.specs.ldap_syntax.Meaning.{Meaning}
+use Rattle.ldap_match.specs.ldap_syntax.declared.rule.Rule.{Rule}
+use Rattle.ldap_match.specs.ldap_schema.Schema.{SchemaModel}
+use Rattle.ldap_match.specs.ldap_schema.Rules.{equality_of}
 use Rattle.ldap_match.specs.Item.{is_meant}
 use Rattle.ldap_match.specs.Meaning.{meaning}
 

@@ -12,12 +12,11 @@ ghost use Rattle.dir_entry.specs.Entry.{are_in_syntax};
 ghost use Rattle.dir_entry.specs.Values.{has_repeats, has_twice as has_some_twice};
 
 use crate::repeats::has_twice;
-use ldap_match::{is_of_syntax, key, tests_are_items};
-use ldap_schema::{Schema, TypeId};
-use ldap_syntax::{Key, Rule, ValueError};
+use ldap_match::{
+    Key, Rule, Schema, TypeId, ValueError, equality_rule, is_of_syntax, key, tests_are_items,
+};
 use std::alloc::{AllocError, Global};
 use std::marker::Model;
-use value_keys::equality_rule;
 
 /// An attribute of an entry: a type and its values (RFC 4512 2.2).
 #[derive(Drop)]

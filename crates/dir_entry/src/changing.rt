@@ -12,7 +12,7 @@ ghost use Rattle.dir_entry.specs.Entry.{AttributeModel};
 ghost use Rattle.dir_entry.specs.Values.{has_repeats};
 ghost use Rattle.dir_entry.specs.Compared.{values_held, RefusesFor};
 ghost use Rattle.dir_entry.specs.Editing.{attribute_with, holds, is_empty, if_distinct, values_left, with_added, with_replaced, with_deleted, without_attribute, without_values};
-ghost use Rattle.ldap_schema.specs.Schema.{SchemaModel};
+ghost use Rattle.ldap_match.specs.ldap_schema.Schema.{SchemaModel};
 
 use crate::attribute::Attribute;
 use crate::comparing::are_among;
@@ -20,7 +20,7 @@ use crate::entry::{Entry, valid_attribute};
 use crate::fault::EntryError;
 use crate::obeying::has_type;
 use crate::placing::{Taken, put_back, take_attribute};
-use ldap_schema::{Schema, TypeId};
+use ldap_match::{Schema, TypeId};
 use std::alloc::{AllocError, Global};
 
 /// Whether one of the marks is set.

@@ -3,10 +3,10 @@
 
 ghost use Rattle.std.specs.Prelude.{◌≡◌, IfOk, true, map, is_some};
 ghost use Rattle.std.specs.List.{list_all};
-ghost use Rattle.ldap_schema.specs.Schema.{class_named};
+ghost use Rattle.ldap_match.specs.ldap_schema.Schema.{class_named};
 ghost use Rattle.dir_entry.specs.Classes.{classes_named as classes_that_values_name, names_of as names_of_classes, missing_names as names_that_are_missing};
 
-use ldap_schema::{ClassId, Schema};
+use ldap_match::{ClassId, Schema};
 use std::alloc::{AllocError, Global};
 
 /// The classes that the values name; a value that names none is passed over.

@@ -8,10 +8,8 @@ ghost use Rattle.dir_entry.specs.Editing.{holds};
 
 use crate::attribute::{Attribute, octets_of_keys, octets_of_values};
 use crate::repeats;
-use ldap_match::tests_are_items;
-use ldap_schema::Schema;
+use ldap_match::{Schema, equality_rule, tests_are_items};
 use std::alloc::{AllocError, Global};
-use value_keys::equality_rule;
 
 /// What the values are compared by: their keys, or their octets where the type has no EQUALITY rule.
 fn compared<'a>(

@@ -8,8 +8,7 @@ ghost use Rattle.dir_entry.specs.Classes.{completed, completed_attribute};
 
 use crate::attribute::Attribute;
 use crate::classes::missing_names;
-use ldap_schema::Schema;
-use ldap_syntax::ValueError;
+use ldap_match::{Schema, ValueError};
 use std::alloc::{AllocError, Global};
 
 /// The attribute, with the superclasses that are missing at its end where it is objectClass.

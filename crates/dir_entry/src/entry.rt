@@ -11,8 +11,7 @@ use crate::attribute::Attribute;
 use crate::completing::complete;
 use crate::fault::EntryError;
 use crate::obeying::{has_single_values, has_type, obeys_classes};
-use ldap_schema::{Schema, TypeId};
-use ldap_syntax::ValueError;
+use ldap_match::{Schema, TypeId, ValueError};
 use std::alloc::{AllocError, Global};
 use std::marker::Model;
 

@@ -3,7 +3,7 @@
 
 ghost use Rattle.std.specs.Prelude.{◌≡◌, Ok, IfOk, IfErr, filter, nat_eq, not, Option, None, Some};
 ghost use Rattle.std.specs.List.{list_all};
-ghost use Rattle.ldap_schema.specs.Superclasses.{is_subclass as is_class_under};
+ghost use Rattle.ldap_match.specs.ldap_schema.Superclasses.{is_subclass as is_class_under};
 ghost use Rattle.dir_entry.specs.Entry.{attributes_of, IsKeyedBy};
 ghost use Rattle.dir_entry.specs.Adding.{Refuses};
 ghost use Rattle.dir_entry.specs.Classes.{completed, class_values as values_of_object_class, classes_named as classes_that_values_name};
@@ -15,8 +15,7 @@ use crate::completing::complete;
 use crate::entry::Entry;
 use crate::fault::EntryError;
 use crate::obeying::{class_values, has_single_values, is_one_chain, obeys_classes, structural_of};
-use ldap_dn::TypeAndValue;
-use ldap_schema::{ClassId, Schema};
+use ldap_match::{ClassId, Schema, TypeAndValue};
 use std::alloc::{AllocError, Global};
 
 /// Whether the class is under each of the others, or is it.
@@ -176,7 +175,8 @@ impl Entry {
         }
     }
 
-    /// The entry under a new relative name (RFC 4511 4.9): its values join; if asked, the old ones leave; then 19 and 65.
+    /// The entry under a new relative name (RFC 4511 4.9): its values join; if asked, the old ones leave; then the superclasses; then 19
+    /// and 65.
     pub fn renamed(
         self,
         alloc: Global,
@@ -191,7 +191,7 @@ impl Entry {
         ensures refused { IfErr result (λ e. Refuses e (renamed schema.now old.now new.now delete_old (attributes_of self))) }
     {
         let entry = self.with_rdn(alloc, schema, new)?;
-        let entry = entry.dropped(alloc, schema, delete_old, new, old)?;
-        entry.checked(alloc, schema)
+        let renamed = entry.dropped(alloc, schema, delete_old, new, old)?;
+        renamed.settled(alloc, schema)
     }
 }

@@ -4,8 +4,8 @@
 ghost use Rattle.std.specs.Prelude.{◌≡◌, ◌∷◌, [], ℕ, List, option_map, slice_get, false, map, Some, None, Ok, IfOk, IfErr};
 ghost use Rattle.std.specs.List.{list_any, list_all};
 ghost use Rattle.std.specs.Str.{bytes_eq};
-ghost use Rattle.ldap_schema.specs.Schema.{SchemaModel};
-ghost use Rattle.value_keys.specs.Rules.{equality_of};
+ghost use Rattle.ldap_match.specs.ldap_schema.Schema.{SchemaModel};
+ghost use Rattle.ldap_match.specs.ldap_schema.Rules.{equality_of};
 ghost use Rattle.ldap_match.specs.Meaning.{meaning};
 ghost use Rattle.ldap_match.specs.Keyed.{key_at, AreKeysOf};
 ghost use Rattle.dir_entry.specs.Entry.{KeyedAttribute, attributes_of, IsKeyedBy};
@@ -19,12 +19,10 @@ use crate::attribute::Attribute;
 use crate::entry::Entry;
 use crate::fault::EntryError;
 use crate::placing::place;
-use ldap_dn::TypeAndValue;
-use ldap_match::{key, tests_are_items};
-use ldap_schema::{Schema, TypeId};
-use ldap_syntax::{Key, Rule, ValueError};
+use ldap_match::{
+    Key, Rule, Schema, TypeAndValue, TypeId, ValueError, equality_rule, key, tests_are_items,
+};
 use std::alloc::{AllocError, Global};
-use value_keys::equality_rule;
 
 /// The attribute in a place; none, past the end.
 fn attribute_at(attributes: &[Attribute], place: usize) -> Option<&Attribute>

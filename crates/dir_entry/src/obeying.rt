@@ -5,13 +5,13 @@ ghost use Rattle.std.specs.Prelude.{◌≡◌, IfOk, map, nat_eq, is_some};
 ghost use Rattle.dir_entry.specs.Entry.{attributes_of, shown};
 ghost use Rattle.dir_entry.specs.Adding.{has_type as has_attribute_of_type};
 ghost use Rattle.dir_entry.specs.Classes.{has_single_value as has_a_single_value, has_single_values as has_only_single_values, is_structural as is_structural_class, structural_of as structural_classes, are_in_line as are_classes_in_line, is_one_chain as is_a_chain, has_required as has_all_required, is_allowed_by as is_type_allowed_by, is_allowed as is_type_allowed, are_classes as are_names_of_classes, class_values as values_of_object_class, obeys as obeys_all, obeys_classes as entry_obeys_classes, is_object_class, required as types_required, allowed as types_allowed};
-ghost use Rattle.ldap_schema.specs.Schema.{class_named};
-ghost use Rattle.ldap_schema.specs.Superclasses.{is_among};
+ghost use Rattle.ldap_match.specs.ldap_schema.Schema.{class_named};
+ghost use Rattle.ldap_match.specs.ldap_schema.Superclasses.{is_among};
 ghost use Rattle.std.specs.List.{list_all, list_any};
 
 use crate::attribute::Attribute;
 use crate::classes::classes_named;
-use ldap_schema::{ClassId, ClassKind, Schema, TypeId};
+use ldap_match::{ClassId, ClassKind, Schema, TypeId};
 use std::alloc::{AllocError, Global};
 
 /// Whether there is an attribute of the type.

@@ -4,7 +4,7 @@
 ghost use Rattle.std.specs.Prelude.{◌≡◌, ◌++◌, ◌+◌, ◌∷◌, not, nat_eq, take, drop, slice_get, IfOk, Some, is_some};
 ghost use Rattle.std.specs.List.{prefix_len};
 ghost use Rattle.ldap_match.specs.Keyed.{AreKeysOf};
-ghost use Rattle.ldap_schema.specs.Schema.{SchemaModel};
+ghost use Rattle.ldap_match.specs.ldap_schema.Schema.{SchemaModel};
 ghost use Rattle.dir_entry.specs.Entry.{attributes_of, IsKeyedBy};
 ghost use Rattle.dir_entry.specs.Editing.{attribute_with, values_of, place as place_of};
 ghost use Rattle.dir_entry.specs.Entry.{KeyedAttribute};
@@ -12,7 +12,7 @@ ghost use Rattle.dir_entry.specs.Compared.{values_held};
 ghost use Rattle.dir_entry.specs.Adding.{has_type};
 
 use crate::attribute::Attribute;
-use ldap_schema::TypeId;
+use ldap_match::TypeId;
 use std::alloc::AllocError;
 
 /// An attribute that was taken out of its place among others.

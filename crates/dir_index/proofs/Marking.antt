@@ -7,8 +7,8 @@ use Rattle.std.specs.BTreeMap.{is_at}
 use Rattle.std.specs.Str.{bytes_eq}
 use Rattle.std.proofs.lemmas.Bool.{eqb-true, ne_eqb}
 use Rattle.std.proofs.lemmas.List.Folds.{list_any_more, list_any-append}
-use Rattle.ldap_match.specs.Keyed.{is_same_key}
-use Rattle.ldap_match.specs.Parts.{is_at_start}
+use Rattle.index_choice.specs.ldap_match.Keyed.{is_same_key}
+use Rattle.index_choice.specs.ldap_match.Parts.{is_at_start}
 use Rattle.dir_entry.specs.Entry.{KeyedAttribute}
 use Rattle.index_choice.specs.declared.kinds.Kinds.{Kinds}
 use Rattle.index_choice.specs.Choice.{kinds_of}

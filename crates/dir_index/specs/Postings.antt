@@ -2,8 +2,8 @@
 -- entries. How lists are kept and changed is not here.
 use Rattle.std.specs.Prelude.{◌≡◌, ℕ, ◌<◌, List, [], ◌∷◌, Bool, true, ◌&&◌, ◌||◌, map, filter, length, nat_eq, Option, None, Some}
 use Rattle.std.specs.List.{list_any, AllByRecursion}
-use Rattle.ldap_match.specs.Keyed.{is_same_key, is_key_at_least, is_key_at_most}
-use Rattle.ldap_match.specs.Parts.{is_at_start, tails}
+use Rattle.index_choice.specs.ldap_match.Keyed.{is_same_key, is_key_at_least, is_key_at_most}
+use Rattle.index_choice.specs.ldap_match.Parts.{is_at_start, tails}
 use Rattle.dir_entry.specs.Entry.{KeyedAttribute}
 use Rattle.index_choice.specs.declared.kinds.Kinds.{Kinds}
 use Rattle.index_choice.specs.Choice.{kinds_of}

@@ -11,8 +11,7 @@ ghost use Rattle.dir_index.specs.Columns.{shown, column_at, column_numbers, is_o
 use crate::marks::Marks;
 use crate::posting::{Posting, Range};
 use crate::tables::copy_posting;
-use index_choice::Indexes;
-use ldap_syntax::Key;
+use index_choice::{Indexes, Key};
 use std::alloc::{AllocError, Global};
 use std::collections::BTreeMap;
 

@@ -18,6 +18,7 @@ mod sides;
 mod tables;
 
 pub use begun::Begun;
+pub use index_choice::{IndexError, Indexes, Truth};
 pub use kept::Kept;
 pub use posting::{Posting, Range};
 pub use postings::Postings;

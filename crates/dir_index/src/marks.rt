@@ -9,9 +9,7 @@ ghost use Rattle.dir_index.specs.Marked.{is_marked, lists_entry, is_of_key, is_f
 
 use crate::posting::Posting;
 use dir_entry::Attribute;
-use index_choice::{Indexes, Kinds};
-use ldap_schema::TypeId;
-use ldap_syntax::Key;
+use index_choice::{Indexes, Key, Kinds, TypeId};
 use std::alloc::{AllocError, Global};
 use std::collections::BTreeSet;
 

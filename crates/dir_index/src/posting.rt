@@ -1,8 +1,7 @@
 // What posting lists are asked by. Plain data, made by plans.
 // What must not be here: the lists.
 
-use ldap_schema::TypeId;
-use ldap_syntax::Key;
+use index_choice::{Key, TypeId};
 
 /// A list of numbers that an index keeps.
 #[derive(Drop)]

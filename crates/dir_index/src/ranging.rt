@@ -14,7 +14,7 @@ ghost use Rattle.dir_index.specs.Ranges.{lists_in};
 use crate::columns::is_posting_in;
 use crate::posting::{Posting, Range};
 use crate::tables::Table;
-use ldap_syntax::Key;
+use index_choice::Key;
 use std::alloc::{AllocError, Global};
 use std::ops::Bound;
 

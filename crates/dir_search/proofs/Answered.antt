@@ -2,14 +2,14 @@
 use Rattle.std.proofs.Common.{◌≡◌, ◌∙◌, ◌≤◌, ℕ, List, length, Result, Ok, Err, sym, subst}
 use Rattle.std.specs.Prelude.{IfOk}
 use Rattle.std.proofs.Common.{Bool, true, false, ◌&&◌, not, Option, None, Some, ap}
-use Rattle.ldap_schema.specs.Schema.{SchemaModel}
+use Rattle.dir_store.specs.ldap_schema.Schema.{SchemaModel}
 use Rattle.ldap_eval.specs.declared.bound.BoundFilter.{BoundFilter}
 use Rattle.ldap_msg.specs.Messages.{SearchRequestValue}
-use Rattle.index_choice.specs.declared.kinds.Kinds.{Kinds}
-use Rattle.ldap_dn.specs.Names.{RdnModel}
+use Rattle.dir_store.specs.index_choice.declared.kinds.Kinds.{Kinds}
+use Rattle.dir_store.specs.ldap_dn.Names.{RdnModel}
 use Rattle.ldap_eval.specs.Bound.{IsBoundTo}
 use Rattle.ldap_eval.specs.Made.{IsMadeOf}
-use Rattle.dir_tree.specs.Directory.{TreeModel, Entered, NumbersRise}
+use Rattle.dir_store.specs.dir_tree.Directory.{TreeModel, Entered, NumbersRise}
 use Rattle.dir_store.specs.Stored.{directory, AreKeyedBy}
 use Rattle.dir_store.specs.Listed.{StoreModel}
 use Rattle.dir_search.specs.Answer.{Answer, is_subordinate, is_empty, is_base, stands}

@@ -2,13 +2,13 @@
 -- is here.
 use Rattle.std.proofs.Common.{◌≡◌, ℕ, ◌+◌, Bool, true, false, not, ◌&&◌, ◌||◌, List, [], ◌∷◌, Option, None, Some, Vec, Box, Global, map, refl, sym, ap, ap₂, ◌∙◌}
 use Rattle.std.specs.List.{list_any, list_all}
-use Rattle.ldap_schema.specs.Schema.{SchemaModel, TypeModel, find, is_under}
+use Rattle.dir_store.specs.ldap_schema.Schema.{SchemaModel, TypeModel, find, is_under}
 use Rattle.ldap_filter.specs.Item as filter_item
 use Rattle.ldap_filter.specs.Tree.{Tree, conj, disj, negation, item, Trees, no_trees, tree}
-use Rattle.ldap_match.specs.Item.{Item, present, substrings, is_answerable}
-use Rattle.ldap_match.specs.Keyed.{test_for}
-use Rattle.dir_entry.specs.Entry.{KeyedAttribute}
-use Rattle.index_choice.specs.declared.kinds.Kinds.{Kinds}
+use Rattle.dir_store.specs.ldap_match.Item.{Item, present, substrings, is_answerable}
+use Rattle.dir_store.specs.ldap_match.Keyed.{test_for}
+use Rattle.dir_store.specs.dir_entry.Entry.{KeyedAttribute}
+use Rattle.dir_store.specs.index_choice.declared.kinds.Kinds.{Kinds}
 use Rattle.ldap_eval.specs.Value.{asked_by, parts_of}
 use Rattle.ldap_eval.specs.Bound.{leaf_if, leaves_from}
 use Rattle.ldap_eval.specs.Made.{IsMadeOf, AreMadeOf, IsMadeOfItem, IsItemFor, IsItemOn}

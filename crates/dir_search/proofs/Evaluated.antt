@@ -6,15 +6,15 @@ use Rattle.std.specs.List.{AllByRecursion, slice_get}
 use Rattle.std.proofs.lemmas.List.{length-map}
 use Rattle.std.proofs.lemmas.Option.{slice_get-map}
 use mathlib.Core.Path.{fun_ext}
-use Rattle.ldap_schema.specs.Schema.{SchemaModel}
-use Rattle.ldap_dn.specs.Names.{RdnModel, rdns}
+use Rattle.dir_store.specs.ldap_schema.Schema.{SchemaModel}
+use Rattle.dir_store.specs.ldap_dn.Names.{RdnModel, rdns}
 use Rattle.ldap_filter.specs.Tree.{Tree, Trees, no_trees, tree}
 use Rattle.ldap_msg.specs.Messages.{SearchRequestValue}
 use Rattle.ldap_eval.specs.Bound.{IsBoundTo}
 use Rattle.ldap_eval.specs.Made.{IsMadeOf, AreMadeOf}
 use Rattle.ldap_eval.specs.declared.bound.BoundFilter.{BoundFilter}
-use Rattle.index_choice.specs.declared.kinds.Kinds.{Kinds}
-use Rattle.dir_tree.specs.Directory.{Entered, TreeModel, NumbersRise, entry_at, numbers}
+use Rattle.dir_store.specs.index_choice.declared.kinds.Kinds.{Kinds}
+use Rattle.dir_store.specs.dir_tree.Directory.{Entered, TreeModel, NumbersRise, entry_at, numbers}
 use Rattle.dir_store.specs.Directory.{NamedEntry}
 use Rattle.dir_store.specs.Stored.{named, directory, AreKeyedBy}
 use Rattle.plan_compile.specs.Bounds.{is_decided as is_bound_decided}

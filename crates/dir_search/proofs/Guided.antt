@@ -3,20 +3,20 @@
 use Rattle.std.proofs.Common.{◌≡◌, ◌<◌, ℕ, Bool, true, false, cond, not, ◌||◌, ◌&&◌, List, [], ◌∷◌, Some, Vec, Global, map, nat_eq, refl, sym, ap, ap₂, ◌∙◌, subst, inl, inr, eqb-true}
 use mathlib.Core.Path.{fun_ext}
 use Rattle.std.specs.List.{AllByRecursion}
-use Rattle.ldap_match.specs.declared.truth.Truth.TheVariants.{True}
-use Rattle.dir_entry.specs.Entry.{KeyedAttribute}
+use Rattle.dir_store.specs.ldap_match.declared.truth.Truth.TheVariants.{True}
+use Rattle.dir_store.specs.dir_entry.Entry.{KeyedAttribute}
 use Rattle.ldap_eval.specs.Bound.{bound_value}
 use Rattle.ldap_eval.specs.declared.bound.BoundFilter.{BoundFilter}
 use Rattle.ldap_eval.specs.declared.bound.BoundFilter.TheVariants as bound
-use Rattle.index_choice.specs.declared.kinds.Kinds.{Kinds}
-use Rattle.dir_index.specs.Postings.{Indexed, Lists, has_number, IsRising, postings_of}
-use Rattle.dir_index.specs.Whole.{ArePostingsOf}
-use Rattle.dir_index.specs.declared.posting.Posting.{Posting}
-use Rattle.dir_index.specs.declared.posting.Range.{Range}
-use Rattle.dir_tree.specs.Directory.{Entered, entry_at, numbers}
+use Rattle.dir_store.specs.index_choice.declared.kinds.Kinds.{Kinds}
+use Rattle.dir_store.specs.dir_index.Postings.{Indexed, Lists, has_number, IsRising, postings_of}
+use Rattle.dir_store.specs.dir_index.Whole.{ArePostingsOf}
+use Rattle.dir_store.specs.dir_index.declared.posting.Posting.{Posting}
+use Rattle.dir_store.specs.dir_index.declared.posting.Range.{Range}
+use Rattle.dir_store.specs.dir_tree.Directory.{Entered, entry_at, numbers}
 use Rattle.dir_store.specs.Listed.{listed_of}
-use Rattle.plan_sets.specs.Sets.{is_in, holds, AreNumbered, HasEntry, Guides, IsValued, SetsAreOfEntries}
-use Rattle.plan_sets.specs.declared.plan.Plan.{Plan}
+use Rattle.plan_compile.specs.plan_sets.Sets.{is_in, holds, AreNumbered, HasEntry, Guides, IsValued, SetsAreOfEntries}
+use Rattle.plan_compile.specs.plan_sets.declared.plan.Plan.{Plan}
 use Rattle.plan_compile.specs.Bounds.{is_decided, BoundsSets, DecidedAreTrue, GuidesRuns}
 use Rattle.plan_compile.specs.Runs.{has_runs_for}
 use Rattle.plan_run.specs.Runs.{is_open}

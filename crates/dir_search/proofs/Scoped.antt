@@ -2,12 +2,12 @@
 use Rattle.std.proofs.Common.{◌≡◌, ℕ, suc, length, Bool, true, false, cond, List, [], ◌∷◌, Option, Some, None, map, filter, refl, sym, ap, ◌∙◌}
 use Rattle.std.specs.Prelude.{is_some}
 use Rattle.std.specs.Option.{option_map}
-use Rattle.ldap_schema.specs.Schema.{SchemaModel}
-use Rattle.ldap_dn.specs.Names.{RdnModel, rdns}
-use Rattle.ldap_requests.specs.declared.search.Scope.{Scope}
+use Rattle.dir_store.specs.ldap_schema.Schema.{SchemaModel}
+use Rattle.dir_store.specs.ldap_dn.Names.{RdnModel, rdns}
+use Rattle.ldap_msg.specs.ldap_requests.declared.search.Scope.{Scope}
 use Rattle.ldap_msg.specs.Messages.{SearchRequestValue}
-use Rattle.dir_tree.specs.Directory as tree
-use Rattle.dir_tree.specs.Directory.{NameKey, Entered, TreeModel, NumbersRise, name_eq, begins, find, numbers, number_found, is_at_or_below}
+use Rattle.dir_store.specs.dir_tree.Directory as tree
+use Rattle.dir_store.specs.dir_tree.Directory.{NameKey, Entered, TreeModel, NumbersRise, name_eq, begins, find, numbers, number_found, is_at_or_below}
 use Rattle.dir_store.specs.Directory.{NamedEntry}
 use Rattle.dir_store.specs.Places.{entry_named}
 use Rattle.dir_store.specs.Stored.{named, directory}

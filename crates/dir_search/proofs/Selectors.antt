@@ -5,8 +5,8 @@ use Rattle.std.specs.Prelude.{◌↔◌}
 use Rattle.std.specs.Bool.{IsTrue}
 use Rattle.std.specs.Str.{bytes_eq}
 use Rattle.std.proofs.lemmas.Slice.Eq.{bytes_eq-Decides}
-use Rattle.ldap_schema.specs.Schema.{SchemaModel, is_under}
-use Rattle.dir_entry.specs.Entry.{KeyedAttribute, attributes_of}
+use Rattle.dir_store.specs.ldap_schema.Schema.{SchemaModel, is_under}
+use Rattle.dir_store.specs.dir_entry.Entry.{KeyedAttribute, attributes_of}
 use Rattle.dir_search.specs.Compared.{has_under}
 
 or_true : (b : Bool) → b || true ≡ true

@@ -2,7 +2,7 @@
 use Rattle.std.proofs.Common.{◌≡◌, ◌<◌, ◌≤◌, ℕ, List, [], ◌∷◌, length, None, Some, sym, ◌∙◌, subst}
 use Rattle.std.specs.Prelude.{filter, nat_le}
 use Rattle.ldap_msg.specs.Messages.{SearchResultEntryValue}
-use Rattle.dir_tree.specs.Directory.{Entered}
+use Rattle.dir_store.specs.dir_tree.Directory.{Entered}
 use Rattle.dir_store.specs.Directory.{NamedEntry}
 use Rattle.dir_search.specs.View.{answer_view, Shows}
 use Rattle.dir_search.specs.declared.found.SearchAnswer.{SearchAnswer}

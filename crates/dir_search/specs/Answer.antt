@@ -1,14 +1,14 @@
 -- The answer of a search: RFC 4511 4.5.1, 4.5.2 and 4.1.9. A directory and a search request flow in; the result code, matchedDN and what is
 -- shown of each entry flow out.
 use Rattle.std.specs.Prelude.{ℕ, List, [], ◌∷◌, Bool, true, false, ◌&&◌, ◌||◌, cond, map, filter, take, length, nat_lt, Option, None, Some, is_some}
-use Rattle.ldap_schema.specs.Schema.{SchemaModel}
+use Rattle.dir_store.specs.ldap_schema.Schema.{SchemaModel}
 use Rattle.ldap_filter.specs.Tree.{Tree}
-use Rattle.ldap_dn.specs.Names.{RdnModel, rdns}
-use Rattle.ldap_dn.specs.Texts.{name_of_text}
-use Rattle.ldap_match.specs.declared.truth.Truth.{Truth}
-use Rattle.ldap_match.specs.declared.truth.Truth.TheVariants.{True, False, Undefined}
-use Rattle.ldap_requests.specs.declared.search.Scope.{Scope}
-use Rattle.ldap_requests.specs.declared.search.Scope.TheVariants.{BaseObject, SingleLevel, WholeSubtree, SubordinateSubtree}
+use Rattle.dir_store.specs.ldap_dn.Names.{RdnModel, rdns}
+use Rattle.dir_store.specs.ldap_dn.Texts.{name_of_text}
+use Rattle.dir_store.specs.ldap_match.declared.truth.Truth.{Truth}
+use Rattle.dir_store.specs.ldap_match.declared.truth.Truth.TheVariants.{True, False, Undefined}
+use Rattle.ldap_msg.specs.ldap_requests.declared.search.Scope.{Scope}
+use Rattle.ldap_msg.specs.ldap_requests.declared.search.Scope.TheVariants.{BaseObject, SingleLevel, WholeSubtree, SubordinateSubtree}
 use Rattle.ldap_msg.specs.Messages.{SearchRequestValue, SearchResultEntryValue}
 use Rattle.ldap_eval.specs.Value.{filter_value}
 use Rattle.dir_store.specs.Directory.{Directory, NamedEntry}

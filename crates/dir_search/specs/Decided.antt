@@ -2,14 +2,14 @@
 -- flow in; yes or no flows out. How plans are made, and what bound filters are, is not here.
 use Rattle.std.specs.Prelude.{ℕ, ◌+◌, List, [], ◌∷◌, Bool, true, false, not, ◌&&◌, ◌||◌, Option, None, Some}
 use Rattle.std.specs.List.{list_any, list_all}
-use Rattle.ldap_schema.specs.Schema.{SchemaModel, TypeModel, find, is_under}
+use Rattle.dir_store.specs.ldap_schema.Schema.{SchemaModel, TypeModel, find, is_under}
 use Rattle.ldap_filter.specs.Item as filter_item
 use Rattle.ldap_filter.specs.Tree.{Tree, conj, disj, negation, item, Trees, no_trees, tree}
-use Rattle.ldap_match.specs.Item.{Item, present, substrings, is_answerable}
-use Rattle.ldap_match.specs.Keyed.{test_for}
+use Rattle.dir_store.specs.ldap_match.Item.{Item, present, substrings, is_answerable}
+use Rattle.dir_store.specs.ldap_match.Keyed.{test_for}
 use Rattle.ldap_eval.specs.Value.{asked_by, parts_of}
-use Rattle.dir_entry.specs.Entry.{KeyedAttribute}
-use Rattle.index_choice.specs.declared.kinds.Kinds.{Kinds}
+use Rattle.dir_store.specs.dir_entry.Entry.{KeyedAttribute}
+use Rattle.dir_store.specs.index_choice.declared.kinds.Kinds.{Kinds}
 use Rattle.plan_compile.specs.Bounds.{is_test_decided}
 use Rattle.plan_compile.specs.Runs.{has_runs_of_test}
 

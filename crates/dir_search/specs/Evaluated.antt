@@ -2,13 +2,13 @@
 -- plans and numbers in posting lists are not here.
 use Rattle.std.specs.Prelude.{◌≡◌, ◌<◌, ◌≤◌, ℕ, true, ◌&&◌, not, Bool, List, length, map, filter, nat_le, Option, None, Some}
 use Rattle.std.specs.List.{slice_get}
-use Rattle.ldap_schema.specs.Schema.{SchemaModel}
-use Rattle.ldap_dn.specs.Names.{RdnModel, rdns}
-use Rattle.ldap_dn.specs.Texts.{name_of_text}
+use Rattle.dir_store.specs.ldap_schema.Schema.{SchemaModel}
+use Rattle.dir_store.specs.ldap_dn.Names.{RdnModel, rdns}
+use Rattle.dir_store.specs.ldap_dn.Texts.{name_of_text}
 use Rattle.ldap_filter.specs.Tree.{Tree, conj, Trees, no_trees, tree}
 use Rattle.ldap_msg.specs.Messages.{SearchRequestValue}
-use Rattle.index_choice.specs.declared.kinds.Kinds.{Kinds}
-use Rattle.dir_tree.specs.Directory.{Entered}
+use Rattle.dir_store.specs.index_choice.declared.kinds.Kinds.{Kinds}
+use Rattle.dir_store.specs.dir_tree.Directory.{Entered}
 use Rattle.dir_store.specs.Directory.{Directory, NamedEntry}
 use Rattle.dir_store.specs.Listed.{StoreModel}
 use Rattle.dir_store.specs.Stored.{named, AreKeyedBy}

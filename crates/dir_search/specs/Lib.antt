@@ -8,3 +8,11 @@ pub mod Looks
 pub mod Decided
 pub mod Evaluated
 pub mod View
+-- what layers above name of the crates below
+pub use Rattle.dir_store.specs.ldap_op as ldap_op
+pub use Rattle.ldap_msg.specs as ldap_msg
+pub use Rattle.dir_store.specs.ldap_schema as ldap_schema
+pub use Rattle.dir_store.specs.ldap_dn as ldap_dn
+pub use Rattle.dir_store.specs.index_choice as index_choice
+pub use Rattle.dir_store.specs.dir_tree as dir_tree
+pub use Rattle.dir_store.specs as dir_store

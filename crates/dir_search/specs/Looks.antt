@@ -3,16 +3,16 @@
 use Rattle.std.specs.Prelude.{◌≡◌, ◌≤◌, ℕ, Bool, true, false, List, length, filter, Option, None, Some, is_some, Vec}
 use Rattle.std.specs.Global.{Global}
 use Rattle.std.specs.List.{AllByRecursion}
-use Rattle.ldap_match.specs.declared.truth.Truth.{Truth}
-use Rattle.ldap_match.specs.declared.truth.Truth.TheVariants.{True, Undefined}
-use Rattle.ldap_dn.specs.Names.{RdnModel, rdns}
+use Rattle.dir_store.specs.ldap_match.declared.truth.Truth.{Truth}
+use Rattle.dir_store.specs.ldap_match.declared.truth.Truth.TheVariants.{True, Undefined}
+use Rattle.dir_store.specs.ldap_dn.Names.{RdnModel, rdns}
 use Rattle.ldap_msg.specs.Messages.{SearchRequestValue}
 use Rattle.ldap_eval.specs.Bound.{bound_value}
 use Rattle.ldap_eval.specs.declared.bound.BoundFilter.{BoundFilter}
 use Rattle.ldap_eval.specs.declared.bound.BoundFilter.TheVariants as bound
-use Rattle.index_choice.specs.declared.kinds.Kinds.{Kinds}
-use Rattle.dir_index.specs.Postings.{has_number}
-use Rattle.dir_tree.specs.Directory.{Entered, entry_at, numbers}
+use Rattle.dir_store.specs.index_choice.declared.kinds.Kinds.{Kinds}
+use Rattle.dir_store.specs.dir_index.Postings.{has_number}
+use Rattle.dir_store.specs.dir_tree.Directory.{Entered, entry_at, numbers}
 use Rattle.dir_store.specs.Directory.{Directory}
 use Rattle.plan_compile.specs.Bounds.{is_decided}
 use Rattle.plan_compile.specs.Runs.{has_runs_for}

@@ -1,9 +1,9 @@
 -- Entries by their numbers. Numbers and entries flow in; the entries of the numbers flow out, and what a search shows of them. Scopes are not
 -- here.
 use Rattle.std.specs.Prelude.{ℕ, List, [], ◌∷◌, map, filter, Option, None, Some}
-use Rattle.ldap_schema.specs.Schema.{SchemaModel}
+use Rattle.dir_store.specs.ldap_schema.Schema.{SchemaModel}
 use Rattle.ldap_msg.specs.Messages.{SearchRequestValue}
-use Rattle.dir_tree.specs.Directory.{Entered, entry_at}
+use Rattle.dir_store.specs.dir_tree.Directory.{Entered, entry_at}
 use Rattle.dir_store.specs.Stored.{named}
 use Rattle.dir_search.specs.Answer.{Answer, is_match, limited}
 use Rattle.dir_search.specs.Selection.{selected}

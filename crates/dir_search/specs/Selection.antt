@@ -3,10 +3,10 @@
 use Rattle.std.specs.Prelude.{ℕ, List, [], ◌∷◌, Bool, true, false, ◌||◌, if◌then◌else◌, map, filter, codes, Option, Some, None}
 use Rattle.std.specs.List.{list_any}
 use Rattle.std.specs.Str.{bytes_eq}
-use Rattle.ldap_schema.specs.Schema.{SchemaModel, TypeModel, find, is_under, type_at}
-use Rattle.dir_entry.specs.Entry.{AttributeModel}
+use Rattle.dir_store.specs.ldap_schema.Schema.{SchemaModel, TypeModel, find, is_under, type_at}
+use Rattle.dir_store.specs.dir_entry.Entry.{AttributeModel}
 use Rattle.ldap_msg.specs.Messages.{PartialAttributeValue, SearchResultEntryValue}
-use Rattle.ldap_dn.specs.Printed.{printed_name}
+use Rattle.dir_store.specs.ldap_dn.Printed.{printed_name}
 use Rattle.dir_store.specs.Directory.{NamedEntry}
 
 -- a recognised description selects its type and the subtypes (RFC 4512 2.5.1); another one selects nothing

@@ -4,23 +4,21 @@ ghost use Rattle.ldap_filter.specs.Item.{comparison, equal as equal_to};
 ghost use Rattle.ldap_filter.specs.Tree.{item};
 ghost use Rattle.ldap_filter.specs.View.{view as filter_view};
 ghost use Rattle.ldap_msg.specs.View.{compare_view};
-ghost use Rattle.ldap_requests.specs.View.{ava_view};
-ghost use Rattle.dir_entry.specs.Entry.{attributes_of, IsKeyedBy};
+ghost use Rattle.ldap_msg.specs.ldap_requests.View.{ava_view};
+ghost use Rattle.dir_store.specs.dir_entry.Entry.{attributes_of, IsKeyedBy};
 ghost use Rattle.std.specs.List.{list_any};
-ghost use Rattle.ldap_schema.specs.Schema.{find, is_under};
+ghost use Rattle.dir_store.specs.ldap_schema.Schema.{find, is_under};
 ghost use Rattle.dir_store.specs.View.{reply_view};
 ghost use Rattle.dir_store.specs.Replies.{only};
 ghost use Rattle.dir_store.specs.Updates.{entry_asked};
 ghost use Rattle.dir_search.specs.Compared.{code_of_truth, has_under as has_type_under, code_on_type, code_on, reply_on, compared};
 
-use dir_entry::{Attribute, Entry};
-use dir_store::{Reply, Store};
-use ldap_dn::{Name, NameError, Rdn};
+use dir_store::{
+    Attribute, Entry, Name, NameError, Rdn, Reply, Schema, Store, Truth, TypeId, is_of_syntax,
+};
 use ldap_eval::{bind, value};
 use ldap_filter::Filter;
-use ldap_match::{Truth, is_of_syntax};
 use ldap_msg::{AttributeValueAssertion, CompareRequest, ResultCode};
-use ldap_schema::{Schema, TypeId};
 use std::alloc::{AllocError, Global};
 
 /// The code of a truth.

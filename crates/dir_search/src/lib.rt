@@ -12,5 +12,11 @@ mod showing;
 mod values;
 
 pub use comparing::compare;
+pub use dir_store::{
+    IndexError, Indexes, Name, NameError, Op, Reply, Schema, SchemaError, Store, Update, are_same,
+};
 pub use found::SearchAnswer;
+pub use ldap_msg::{
+    AddRequest, Attribute, CompareRequest, DerefAliases, ResultCode, Scope, SearchRequest,
+};
 pub use searching::search;

@@ -4,7 +4,7 @@ ghost use Rattle.std.specs.Prelude.{◌≡◌, ◌++◌, ◌∷◌, [], Some, ma
 ghost use Rattle.std.specs.List.{list_any};
 ghost use Rattle.std.specs.Str.{str_eq_ignore_ascii_case};
 ghost use Rattle.ldap_msg.specs.View.{attribute_view, entry_view, search_view};
-ghost use Rattle.dir_entry.specs.Entry.{attributes_of, IsKeyedBy};
+ghost use Rattle.dir_store.specs.dir_entry.Entry.{attributes_of, IsKeyedBy};
 ghost use Rattle.dir_search.specs.Answer.{dse_matching};
 ghost use Rattle.dir_search.specs.RootDse.{class_top, dse_attributes, dse_selected, where_named, without_values};
 ghost use Rattle.dir_search.specs.View.{Finds};
@@ -12,11 +12,9 @@ ghost use Rattle.dir_search.specs.View.{Finds};
 use crate::found::SearchAnswer;
 use crate::searching::matches;
 use crate::selecting::show_selected;
-use dir_entry::{Entry, EntryError};
-use dir_store::Store;
+use dir_store::{Entry, EntryError, Schema, Store, TypeId};
 use ldap_eval::bind;
 use ldap_msg::{PartialAttribute, ResultCode, SearchRequest, SearchResultEntry};
-use ldap_schema::{Schema, TypeId};
 use std::alloc::{AllocError, Global};
 
 /// The values of objectClass.

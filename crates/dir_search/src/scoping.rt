@@ -1,13 +1,12 @@
 //! The numbers of the entries that a search looks at: slices that the tree keeps. A tree and a base flow in; numbers in rising order flow
 //! out. Entries and filters are not here.
 ghost use Rattle.std.specs.Prelude.{◌≡◌, true, false, is_some};
-ghost use Rattle.ldap_dn.specs.Names.{rdns};
-ghost use Rattle.dir_tree.specs.Directory.{begins, find, numbers};
+ghost use Rattle.dir_store.specs.ldap_dn.Names.{rdns};
+ghost use Rattle.dir_store.specs.dir_tree.Directory.{begins, find, numbers};
 ghost use Rattle.dir_search.specs.Answer.{is_empty};
 ghost use Rattle.dir_search.specs.Scopes.{is_right_under};
 
-use dir_tree::Tree;
-use ldap_dn::Rdn;
+use dir_store::{Rdn, Tree};
 
 /// The numbers of the entries right under a name that has one.
 #[tactic(auto, using(crate::proofs::Scoped::level_kept, crate::proofs::Scoped::level_none))]

@@ -1,21 +1,21 @@
 //! The search itself: the numbers in scope of the entries whose filter value is True are drawn from plans, in order, up to the size
 //! limit. A directory and a request flow in, the result code and what is shown of the entries flow out. How plans are made is not here.
 ghost use Rattle.std.specs.Prelude.{◌≡◌, ◌≤◌, ◌&&◌, ℕ, List, length, true, false, Some, IfOk};
-ghost use Rattle.ldap_schema.specs.Schema.{SchemaModel};
+ghost use Rattle.dir_store.specs.ldap_schema.Schema.{SchemaModel};
 ghost use Rattle.ldap_filter.specs.Tree.{Tree as FilterTree};
 ghost use Rattle.ldap_filter.specs.View.{view as filter_view};
-ghost use Rattle.ldap_dn.specs.Names.{RdnModel, rdns};
-ghost use Rattle.ldap_dn.specs.Texts.{name_of_text};
+ghost use Rattle.dir_store.specs.ldap_dn.Names.{RdnModel, rdns};
+ghost use Rattle.dir_store.specs.ldap_dn.Texts.{name_of_text};
 ghost use Rattle.ldap_eval.specs.Bound.{IsBoundTo};
 ghost use Rattle.ldap_eval.specs.Value.{filter_value};
 ghost use Rattle.ldap_msg.specs.View.{search_view};
-ghost use Rattle.dir_entry.specs.Entry.{attributes_of, IsKeyedBy};
-ghost use Rattle.dir_index.specs.Whole.{lists_of, ArePostingsOf};
-ghost use Rattle.dir_tree.specs.Directory.{name_eq, begins, numbers};
+ghost use Rattle.dir_store.specs.dir_entry.Entry.{attributes_of, IsKeyedBy};
+ghost use Rattle.dir_store.specs.dir_index.Whole.{lists_of, ArePostingsOf};
+ghost use Rattle.dir_store.specs.dir_tree.Directory.{name_eq, begins, numbers};
 ghost use Rattle.dir_store.specs.Listed.{listed_of};
 ghost use Rattle.dir_store.specs.Replies.{only};
 ghost use Rattle.dir_store.specs.Stored.{directory, AreKeyedBy};
-ghost use Rattle.plan_sets.specs.Sets.{is_in};
+ghost use Rattle.plan_compile.specs.plan_sets.Sets.{is_in};
 ghost use Rattle.plan_run.specs.Runs.{AreGuides, is_open};
 ghost use Rattle.dir_search.specs.Answer.{answer, answer_of, answer_at, found_at, in_scope, tried, tried_of, tried_at, refused as refused_answer, is_true, is_base, stands, is_empty};
 ghost use Rattle.dir_search.specs.Evaluated.{IsFewAtBase, LooksAtFew, goes_over};
@@ -28,18 +28,13 @@ use crate::root_dse::show_root;
 use crate::scoping::{numbers_right_under, numbers_within};
 use crate::showing::show_found;
 use crate::values::Evaluated;
-use dir_entry::Entry;
-use dir_index::Postings;
-use dir_store::{IndexedTree, Reply, Store};
-use dir_tree::Tree;
-use ldap_dn::{Name, NameError, Rdn};
+use dir_store::{
+    Entry, IndexedTree, Name, NameError, Postings, Rdn, Reply, Schema, Store, Tree, Truth,
+};
 use ldap_eval::{BoundFilter, bind, value};
-use ldap_match::Truth;
 use ldap_msg::{ResultCode, Scope, SearchRequest};
-use ldap_schema::Schema;
-use plan_compile::compile;
+use plan_compile::{Sided, compile, sets_are_of_entries};
 use plan_run::start;
-use plan_sets::{Sided, sets_are_of_entries};
 use std::alloc::{AllocError, Global};
 
 /// Whether a filter is True on an entry.

@@ -3,14 +3,12 @@
 ghost use Rattle.std.specs.Prelude.{◌≡◌, ◌&&◌, ◌||◌, ℕ, List, [], map, IfOk, codes, string_bytes, filter, if◌then◌else◌};
 ghost use Rattle.std.specs.List.{list_any};
 ghost use Rattle.ldap_msg.specs.View.{attribute_view, entry_view};
-ghost use Rattle.ldap_dn.specs.Printed.{printed_name};
-ghost use Rattle.dir_entry.specs.Entry.{shown as without_keys, attributes_of};
+ghost use Rattle.dir_store.specs.ldap_dn.Printed.{printed_name};
+ghost use Rattle.dir_store.specs.dir_entry.Entry.{shown as without_keys, attributes_of};
 ghost use Rattle.dir_search.specs.Selection.{is_selected, is_selected_by, first_name, shown, attributes_selected};
 
-use dir_entry::Attribute;
-use dir_tree::NamedEntry;
+use dir_store::{Attribute, NamedEntry, Schema, TypeId};
 use ldap_msg::{PartialAttribute, SearchResultEntry};
-use ldap_schema::{Schema, TypeId};
 use std::alloc::{AllocError, Global};
 
 /// Whether a selector selects a type.

@@ -12,10 +12,8 @@ ghost use Rattle.dir_search.specs.View.{answer_view, Shows};
 use crate::found::SearchAnswer;
 use crate::selecting::select;
 use crate::values::Evaluated;
-use dir_index::Postings;
-use dir_tree::Tree;
+use dir_store::{Postings, Schema, Tree};
 use ldap_msg::{ResultCode, SearchRequest, SearchResultEntry};
-use ldap_schema::Schema;
 use plan_run::Running;
 use std::alloc::{AllocError, Global};
 

@@ -1,8 +1,7 @@
 //! The values of a filter on the entries of a tree, each asked for by its number. A tree and a bound filter flow in; values flow
 //! out, and each look is counted. Plans are not here.
-use dir_tree::Tree;
+use dir_store::{Tree, Truth};
 use ldap_eval::{BoundFilter, value};
-use ldap_match::Truth;
 use plan_run::Values;
 
 /// The values of a bound filter on the entries of a tree.

@@ -1,9 +1,9 @@
 -- Numbers once an update is made: all stay below the number after its own. Facts on definitions flow in and out; no value of the program is here.
 use Rattle.std.proofs.Common.{◌≡◌, ◌<◌, ◌+◌, ℕ, List, [], ◌∷◌, ◌++◌, Bool, true, false, cond, Result, Ok, Err, nat_eq, arith, sym, ap, subst}
 use Rattle.std.specs.Prelude.{IfOk}
-use Rattle.ldap_dn.specs.Names.{RdnModel, rdns}
+use Rattle.dir_tree.specs.ldap_dn.Names.{RdnModel, rdns}
 use Rattle.ldap_op.specs.Values.{OpValue, add, delete, modify, modify_dn, noop}
-use Rattle.dir_entry.specs.Entry.{AttributeModel}
+use Rattle.dir_tree.specs.dir_entry.Entry.{AttributeModel}
 use Rattle.dir_tree.specs.Directory.{NameKey}
 use Rattle.dir_store.specs.Directory.{Directory, NamedEntry}
 use Rattle.dir_store.specs.Places.{without_entry, with_attributes, moved}

@@ -6,9 +6,9 @@ use Rattle.std.specs.Cmp.Lexicographic.{pointwise}
 use Rattle.std.specs.Cmp.Derive.Mapped.{pointwise-map}
 use Rattle.std.proofs.lemmas.Bool.{eqb-true, eq-eqb}
 use Rattle.std.proofs.lemmas.Slice.Eq.{bytes_eq-Decides}
-use Rattle.ldap_schema.specs.Schema.{SchemaModel}
-use Rattle.ldap_dn.specs.Names.{TypeAndKey, RdnModel, rdns, are_same_keys}
-use Rattle.dir_entry.specs.Entry.{IsKeyedBy}
+use Rattle.dir_tree.specs.ldap_schema.Schema.{SchemaModel}
+use Rattle.dir_tree.specs.ldap_dn.Names.{TypeAndKey, RdnModel, rdns, are_same_keys}
+use Rattle.dir_tree.specs.dir_entry.Entry.{IsKeyedBy}
 use Rattle.dir_tree.specs.Directory.{NameKey, Entered, name_eq, begins, find, front, front_from, entry_at, AllAbove, NumbersRise}
 use Rattle.dir_store.specs.Stored.{AreKeyedBy}
 

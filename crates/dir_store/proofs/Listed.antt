@@ -3,9 +3,9 @@
 use Rattle.std.proofs.Common.{◌≡◌, ◌<◌, ℕ, List, [], ◌∷◌, ◌++◌, refl, sym, ap, ◌∙◌, subst, arith, Bool, true, false, cond, not, Option, None, Some, nat_eq, inl, inr, Result, Ok, Err, OnOk, OnErr, IfOk}
 use Rattle.std.specs.Option.{option_map}
 use Rattle.std.proofs.lemmas.Bool.{eqb-true, eq-eqb, ne_eqb}
-use Rattle.ldap_dn.specs.Names.{RdnModel, rdns}
-use Rattle.dir_entry.specs.Entry.{KeyedAttribute}
-use Rattle.index_choice.specs.declared.kinds.Kinds.{Kinds}
+use Rattle.dir_tree.specs.ldap_dn.Names.{RdnModel, rdns}
+use Rattle.dir_tree.specs.dir_entry.Entry.{KeyedAttribute}
+use Rattle.dir_index.specs.index_choice.declared.kinds.Kinds.{Kinds}
 use Rattle.dir_index.specs.Postings.{Indexed, Lists}
 use Rattle.dir_index.specs.Whole as index
 use Rattle.dir_index.specs.Whole.{PostingsModel, ArePostingsOf, AreSameLists, HasEntry, without, with_attributes, lists_of}

@@ -1,7 +1,7 @@
 -- Where an entry may move to. Facts on names and lists flow in and out; no value of the program is here.
 use Rattle.std.proofs.Common.{◌≡◌, ◌-◌, ℕ, suc, List, [], ◌∷◌, ◌++◌, map, length, take, refl, sym, ap, ◌∙◌, subst, arith, Bool, true, false, not, ◌&&◌, ◌||◌, Option, None, Some, nat_eq, is_some}
 use Rattle.std.specs.Option.{option_map}
-use Rattle.ldap_dn.specs.Names.{TypeAndKey, RdnModel, rdns, are_same_keys}
+use Rattle.dir_tree.specs.ldap_dn.Names.{TypeAndKey, RdnModel, rdns, are_same_keys}
 use Rattle.dir_tree.specs.Directory.{NameKey, Entered, name_eq, begins, find, above, has_footing, NumbersRise, IsDirectory}
 use Rattle.dir_store.proofs.Found.{found_at, found_name, names_same, placed_same, rdns_take}
 use Rattle.dir_store.proofs.Shown.{entry_shown}

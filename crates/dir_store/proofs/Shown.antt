@@ -2,9 +2,9 @@
 -- no value of the program is here.
 use Rattle.std.proofs.Common.{◌≡◌, ℕ, zero, suc, List, [], ◌∷◌, ◌++◌, map, length, take, refl, sym, ap, ap₂, ◌∙◌, Bool, true, false, cond, not, ◌||◌, Ok, Err, Option, None, Some, nat_eq, is_some}
 use Rattle.std.specs.Option.{option_map}
-use Rattle.ldap_schema.specs.Schema.{SchemaModel}
-use Rattle.ldap_dn.specs.Names.{RdnModel, rdns}
-use Rattle.dir_entry.specs.Entry.{AttributeModel, KeyedAttribute, attributes_of, IsKeyedBy}
+use Rattle.dir_tree.specs.ldap_schema.Schema.{SchemaModel}
+use Rattle.dir_tree.specs.ldap_dn.Names.{RdnModel, rdns}
+use Rattle.dir_tree.specs.dir_entry.Entry.{AttributeModel, KeyedAttribute, attributes_of, IsKeyedBy}
 use Rattle.dir_tree.specs.Directory as tree
 use Rattle.dir_tree.specs.Directory.{NameKey, Entered, TreeModel, name_eq, find, AllBelow}
 use Rattle.dir_store.proofs.Found.{rdns_take}

@@ -1,6 +1,6 @@
 -- The tree with posting lists: its entries as indexes see them. How lists are kept is below.
 use Rattle.std.specs.Prelude.{List, map}
-use Rattle.index_choice.specs.declared.kinds.Kinds.{Kinds}
+use Rattle.dir_index.specs.index_choice.declared.kinds.Kinds.{Kinds}
 use Rattle.dir_index.specs.Postings.{Indexed}
 use Rattle.dir_store.specs.Directory.{Directory}
 use Rattle.dir_tree.specs.Directory.{Entered, TreeModel}

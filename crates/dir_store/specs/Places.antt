@@ -2,8 +2,8 @@
 -- update checks is not here.
 use Rattle.std.specs.Prelude.{ℕ, zero, suc, ◌-◌, List, [], ◌∷◌, ◌++◌, length, take, drop, map, Bool, cond, ◌&&◌, nat_eq, nat_lt, Option, None, Some, is_some}
 use Rattle.std.specs.List.{list_any}
-use Rattle.ldap_dn.specs.Names.{TypeAndValue, RdnModel, rdns}
-use Rattle.dir_entry.specs.Entry.{AttributeModel}
+use Rattle.dir_tree.specs.ldap_dn.Names.{TypeAndValue, RdnModel, rdns}
+use Rattle.dir_tree.specs.dir_entry.Entry.{AttributeModel}
 use Rattle.dir_tree.specs.Directory.{NameKey, name_eq, begins}
 use Rattle.dir_store.specs.Directory.{NamedEntry}
 

@@ -1,8 +1,8 @@
 -- Replies of updates: RFC 4511 4.1.9. Checks flow in; what passes them, or the reply to the first that fails, flows out.
 use Rattle.std.specs.Prelude.{ℕ, List, [], Bool, cond, Option, None, Some, Result, Ok, Err}
-use Rattle.ldap_dn.specs.Names.{RdnModel, rdns}
-use Rattle.ldap_dn.specs.Printed.{printed_name}
-use Rattle.ldap_schema.specs.Schema.{SchemaModel}
+use Rattle.dir_tree.specs.ldap_dn.Names.{RdnModel, rdns}
+use Rattle.dir_tree.specs.ldap_dn.Printed.{printed_name}
+use Rattle.dir_tree.specs.ldap_schema.Schema.{SchemaModel}
 use Rattle.dir_store.specs.Directory.{Directory, NamedEntry}
 use Rattle.dir_store.specs.Places.{nearest}
 

@@ -1,7 +1,7 @@
 -- What is kept stands for: entries with keys, as the tree has them, for entries without. Checks of updates are not here.
 use Rattle.std.specs.Prelude.{◌<◌, ℕ, List, [], ◌∷◌, map}
-use Rattle.ldap_schema.specs.Schema.{SchemaModel}
-use Rattle.dir_entry.specs.Entry.{attributes_of, IsKeyedBy}
+use Rattle.dir_tree.specs.ldap_schema.Schema.{SchemaModel}
+use Rattle.dir_tree.specs.dir_entry.Entry.{attributes_of, IsKeyedBy}
 use Rattle.dir_tree.specs.Directory.{Entered, TreeModel}
 use Rattle.dir_store.specs.Directory.{Directory, NamedEntry}
 

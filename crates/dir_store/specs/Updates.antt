@@ -1,15 +1,15 @@
 -- Updates of the directory: RFC 4511 4.6 to 4.9. A directory, a number and an update flow in; the directory after it and its reply flow out.
 -- Each is the list of its checks in order. What is asked of attributes is below; messages are above.
 use Rattle.std.specs.Prelude.{ℕ, ◌+◌, List, [], ◌∷◌, ◌++◌, Bool, false, cond, not, ◌||◌, nat_eq, Option, None, Some, is_some, Result, Ok, Err}
-use Rattle.ldap_dn.specs.Names.{TypeAndValue, RdnModel, rdns}
-use Rattle.ldap_dn.specs.Texts.{name_of_text}
-use Rattle.ldap_schema.specs.Schema.{SchemaModel}
-use Rattle.dir_entry.specs.Entry.{AttributeModel}
-use Rattle.dir_entry.specs.Naming.{renamed}
+use Rattle.dir_tree.specs.ldap_dn.Names.{TypeAndValue, RdnModel, rdns}
+use Rattle.dir_tree.specs.ldap_dn.Texts.{name_of_text}
+use Rattle.dir_tree.specs.ldap_schema.Schema.{SchemaModel}
+use Rattle.dir_tree.specs.dir_entry.Entry.{AttributeModel}
+use Rattle.dir_tree.specs.dir_entry.Naming.{renamed}
 use Rattle.entry_updates.specs.Adding.{attributes_asked}
 use Rattle.entry_updates.specs.Modifying.{attributes_changed}
-use Rattle.ldap_parts.specs.Values.{PartialAttributeValue}
-use Rattle.ldap_updates.specs.Values.{AddRequestValue, ChangeValue, ModifyRequestValue, ModifyDnRequestValue}
+use Rattle.ldap_op.specs.ldap_parts.Values.{PartialAttributeValue}
+use Rattle.entry_updates.specs.ldap_updates.Values.{AddRequestValue, ChangeValue, ModifyRequestValue, ModifyDnRequestValue}
 use Rattle.ldap_op.specs.Values.{OpValue, add, delete, modify, modify_dn, noop}
 use Rattle.dir_tree.specs.Directory.{name_eq, begins}
 use Rattle.dir_store.specs.Directory.{Directory, NamedEntry}

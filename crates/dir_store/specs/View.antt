@@ -1,6 +1,6 @@
 -- What replies and refusals in memory stand for.
 use Rattle.std.specs.Prelude.{◌≡◌, Result, Err, string_bytes}
-use Rattle.dir_entry.specs.Entry.{attributes_of}
+use Rattle.dir_tree.specs.dir_entry.Entry.{attributes_of}
 use Rattle.dir_store.specs.Replies.{ReplyModel}
 use Rattle.dir_store.specs.Updates.{PlacedModel, KeptModel, MoveModel, MoveNamesModel}
 use Rattle.dir_store.specs.declared.adding.Placed.{Placed}

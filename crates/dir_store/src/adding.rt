@@ -1,10 +1,10 @@
 //! What an add asks for. A schema, a tree and a request flow in; the new entry with its whole name, or a refusal, flows out. The tree stays
 //! as it is.
 ghost use Rattle.std.specs.Prelude.{◌≡◌, ◌++◌, Ok, true, false, is_some, IfOk, IfErr, OnOk, map};
-ghost use Rattle.ldap_dn.specs.Names.{rdns};
-ghost use Rattle.ldap_parts.specs.View.{attribute_view};
-ghost use Rattle.ldap_updates.specs.View.{add_view};
-ghost use Rattle.dir_entry.specs.Entry.{IsKeyedBy};
+ghost use Rattle.dir_tree.specs.ldap_dn.Names.{rdns};
+ghost use Rattle.ldap_op.specs.ldap_parts.View.{attribute_view};
+ghost use Rattle.entry_updates.specs.ldap_updates.View.{add_view};
+ghost use Rattle.dir_tree.specs.dir_entry.Entry.{IsKeyedBy};
 ghost use Rattle.dir_tree.specs.Directory.{find, has_footing};
 ghost use Rattle.dir_store.specs.Places.{last_of};
 ghost use Rattle.dir_store.specs.Stored.{directory, AreKeyedBy};
@@ -15,13 +15,9 @@ use crate::fault::{StoreError, refused_attributes};
 use crate::finding::{asked_entry, is_same, is_taken};
 use crate::names::{asked_name, own_rdn, parent_of_name};
 use crate::reply::Reply;
-use dir_entry::Entry;
-use dir_tree::Tree;
-use entry_updates::entry_asked;
-use ldap_dn::{Name, Rdn, TypeAndValue};
-use ldap_parts::{PartialAttribute, ResultCode};
-use ldap_schema::Schema;
-use ldap_updates::AddRequest;
+use dir_tree::{Entry, Name, Rdn, Schema, Tree, TypeAndValue};
+use entry_updates::{AddRequest, entry_asked};
+use ldap_op::{PartialAttribute, ResultCode};
 use std::alloc::{AllocError, Global};
 
 /// A new entry and its whole name.

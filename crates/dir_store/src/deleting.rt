@@ -2,7 +2,7 @@
 //! as it is.
 ghost use Rattle.std.specs.Prelude.{◌≡◌, Ok, Some, false, IfOk, IfErr, OnOk};
 ghost use Rattle.std.specs.Option.{option_map};
-ghost use Rattle.ldap_dn.specs.Names.{rdns};
+ghost use Rattle.dir_tree.specs.ldap_dn.Names.{rdns};
 ghost use Rattle.dir_tree.specs.Directory.{find, has_below};
 ghost use Rattle.dir_store.specs.Stored.{directory, AreKeyedBy};
 ghost use Rattle.dir_store.specs.Updates.{leaf_asked};
@@ -11,10 +11,8 @@ ghost use Rattle.dir_store.specs.View.{RefusedWith};
 use crate::fault::StoreError;
 use crate::finding::asked_entry;
 use crate::reply::Reply;
-use dir_tree::Tree;
-use ldap_dn::Rdn;
-use ldap_parts::ResultCode;
-use ldap_schema::Schema;
+use dir_tree::{Rdn, Schema, Tree};
+use ldap_op::ResultCode;
 use std::alloc::Global;
 
 /// The number of the entry that a delete takes out (RFC 4511 4.8): 32 where there is none, 66 where one stands below it.

@@ -1,8 +1,8 @@
 //! Entries by name. A tree and names flow in; entries, or the refusal that there is none, flow out. Texts are not here.
 ghost use Rattle.std.specs.Prelude.{◌≡◌, ◌≤◌, length, Ok, Some, IfOk, IfErr, is_some, take, string_bytes};
 ghost use Rattle.std.specs.Option.{option_map};
-ghost use Rattle.ldap_dn.specs.Names.{rdns};
-ghost use Rattle.dir_entry.specs.Entry.{IsKeyedBy};
+ghost use Rattle.dir_tree.specs.ldap_dn.Names.{rdns};
+ghost use Rattle.dir_tree.specs.dir_entry.Entry.{IsKeyedBy};
 ghost use Rattle.dir_tree.specs.Directory.{name_eq, begins, find, front};
 ghost use Rattle.dir_tree.specs.Stored.{entered_of};
 ghost use Rattle.dir_store.specs.Places.{nearest as nearest_entry};
@@ -13,10 +13,8 @@ ghost use Rattle.dir_store.specs.View.{reply_view, RefusedWith};
 
 use crate::fault::StoreError;
 use crate::reply::Reply;
-use dir_tree::{NamedEntry, Tree};
-use ldap_dn::Rdn;
-use ldap_parts::ResultCode;
-use ldap_schema::Schema;
+use dir_tree::{NamedEntry, Rdn, Schema, Tree};
+use ldap_op::ResultCode;
 use std::alloc::{AllocError, Global};
 
 /// The number of a name's entry, and the entry.

@@ -2,17 +2,14 @@
 //! index lists, flow out. What an update checks is not here.
 ghost use Rattle.std.specs.Prelude.{◌≡◌, ◌++◌, ◌∷◌, [], false, true, Some, OnOk, OnErr, is_some};
 ghost use Rattle.std.specs.Option.{option_map};
-ghost use Rattle.ldap_dn.specs.Names.{rdns};
+ghost use Rattle.dir_tree.specs.ldap_dn.Names.{rdns};
 ghost use Rattle.dir_tree.specs.Directory.{AllBelow, name_eq, begins, find, above, has_below, has_footing, unnumbered, replaced, moved};
 ghost use Rattle.dir_index.specs.Whole.{lists_of, ArePostingsOf};
 ghost use Rattle.dir_store.specs.Listed.{listed_of};
 
 use crate::listing::{add_listed, relist, rename_listed, unlist};
-use dir_entry::Entry;
-use dir_index::Postings;
-use dir_tree::Tree;
-use index_choice::Indexes;
-use ldap_dn::{Name, Rdn};
+use dir_index::{Indexes, Postings};
+use dir_tree::{Entry, Name, Rdn, Tree};
 use std::alloc::{AllocError, Global};
 use std::marker::Model;
 use std::mem::replace;

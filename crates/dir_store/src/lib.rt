@@ -14,6 +14,12 @@ mod renaming;
 mod reply;
 mod store;
 
+pub use dir_index::{IndexError, Indexes, Postings};
+pub use dir_tree::{
+    Attribute, Entry, EntryError, Name, NameError, NamedEntry, Rdn, Schema, SchemaError, Tree,
+    Truth, TypeId, are_same, is_of_syntax,
+};
 pub use indexed::IndexedTree;
+pub use ldap_op::{Op, Update};
 pub use reply::Reply;
 pub use store::Store;

@@ -2,17 +2,15 @@
 //! after an update flow out. What an update checks is not here.
 ghost use Rattle.std.specs.Prelude.{◌≡◌, ◌++◌, ◌∷◌, [], false, true, Some, OnOk, OnErr, IfOk, IfErr, is_some};
 ghost use Rattle.std.specs.Option.{option_map};
-ghost use Rattle.ldap_dn.specs.Names.{rdns};
+ghost use Rattle.dir_tree.specs.ldap_dn.Names.{rdns};
 ghost use Rattle.dir_tree.specs.Directory.{AllBelow, name_eq, begins, find, above, has_footing, unnumbered, replaced, moved};
 ghost use Rattle.dir_index.specs.Whole.{lists_of, ArePostingsOf, with_attributes};
 ghost use Rattle.dir_index.specs.Begun.{lists_before, lists_after};
 ghost use Rattle.dir_store.specs.Listed.{listed_of};
 
 use crate::finding::standing;
-use dir_entry::Entry;
 use dir_index::{Begun, Postings};
-use dir_tree::Tree;
-use ldap_dn::{Name, Rdn};
+use dir_tree::{Entry, Name, Rdn, Tree};
 use std::alloc::AllocError;
 
 /// Takes the entry of a number out of the lists. An `Err` leaves them.

@@ -1,8 +1,8 @@
 //! What a modify asks for. A schema, a tree and a request flow in; the changed entry with its number, or a refusal, flows out. The tree
 //! stays as it is.
 ghost use Rattle.std.specs.Prelude.{◌≡◌, Ok, IfOk, IfErr, map};
-ghost use Rattle.ldap_updates.specs.View.{change_view, modify_view};
-ghost use Rattle.dir_entry.specs.Entry.{IsKeyedBy};
+ghost use Rattle.entry_updates.specs.ldap_updates.View.{change_view, modify_view};
+ghost use Rattle.dir_tree.specs.dir_entry.Entry.{IsKeyedBy};
 ghost use Rattle.dir_tree.specs.Stored.{entered_of};
 ghost use Rattle.dir_store.specs.Stored.{named, directory, AreKeyedBy};
 ghost use Rattle.dir_store.specs.Updates.{change_of, change_asked};
@@ -11,11 +11,8 @@ ghost use Rattle.dir_store.specs.View.{kept_view, RefusedWith};
 use crate::fault::{StoreError, refused_attributes};
 use crate::finding::asked_entry;
 use crate::names::{asked_name, own_rdn};
-use dir_entry::Entry;
-use dir_tree::{NamedEntry, Tree};
-use entry_updates::entry_changed;
-use ldap_schema::Schema;
-use ldap_updates::{Change, ModifyRequest};
+use dir_tree::{Entry, NamedEntry, Schema, Tree};
+use entry_updates::{Change, ModifyRequest, entry_changed};
 use std::alloc::Global;
 
 /// A number, and what its entry is changed to.

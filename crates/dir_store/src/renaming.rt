@@ -1,9 +1,9 @@
 //! What a modifyDN asks for. A schema, a tree and a request flow in; the entry under its new name, or a refusal, flows out. The tree stays
 //! as it is.
 ghost use Rattle.std.specs.Prelude.{◌≡◌, ◌++◌, ◌∷◌, [], true, false, Ok, Some, IfOk, IfErr, OnOk, is_some, map};
-ghost use Rattle.ldap_dn.specs.Names.{rdns};
-ghost use Rattle.ldap_updates.specs.View.{modify_dn_view};
-ghost use Rattle.dir_entry.specs.Entry.{IsKeyedBy};
+ghost use Rattle.dir_tree.specs.ldap_dn.Names.{rdns};
+ghost use Rattle.entry_updates.specs.ldap_updates.View.{modify_dn_view};
+ghost use Rattle.dir_tree.specs.dir_entry.Entry.{IsKeyedBy};
 ghost use Rattle.std.specs.Option.{option_map};
 ghost use Rattle.dir_tree.specs.Directory.{find, name_eq, begins, above as above_name};
 ghost use Rattle.dir_tree.specs.Stored.{entered_of};
@@ -16,13 +16,9 @@ use crate::fault::{StoreError, refused_attributes};
 use crate::finding::{asked_entry, is_front, is_same};
 use crate::names::{asked_name, asked_rdn, asked_superior, own_rdn};
 use crate::reply::Reply;
-use dir_entry::Entry;
-use dir_tree::{NamedEntry, Tree};
-use entry_updates::entry_renamed;
-use ldap_dn::{Name, Rdn};
-use ldap_parts::ResultCode;
-use ldap_schema::Schema;
-use ldap_updates::ModifyDnRequest;
+use dir_tree::{Entry, Name, NamedEntry, Rdn, Schema, Tree};
+use entry_updates::{ModifyDnRequest, entry_renamed};
+use ldap_op::ResultCode;
 use std::alloc::{AllocError, Global};
 
 /// An entry's number, its name before and after, and its attributes after.

@@ -2,13 +2,13 @@
 //! directory after them stays. What each update asks for is judged before anything changes.
 ghost use Rattle.std.specs.Prelude.{◌≡◌, ◌+◌, ◌++◌, ◌∷◌, [], map, Ok, IfOk, IfErr, IfSome, OnOk, OnErr, string_bytes};
 ghost use Rattle.std.specs.Option.{option_map};
-ghost use Rattle.ldap_dn.specs.Names.{rdns};
-ghost use Rattle.ldap_dn.specs.Printed.{printed_name};
-ghost use Rattle.dir_entry.specs.Entry.{IsKeyedBy};
+ghost use Rattle.dir_tree.specs.ldap_dn.Names.{rdns};
+ghost use Rattle.dir_tree.specs.ldap_dn.Printed.{printed_name};
+ghost use Rattle.dir_tree.specs.dir_entry.Entry.{IsKeyedBy};
 ghost use Rattle.dir_tree.specs.Stored.{entered_of};
 ghost use Rattle.dir_store.specs.Places.{entry_named};
 ghost use Rattle.dir_store.specs.Replies.{not_found as not_found_reply};
-ghost use Rattle.ldap_updates.specs.View.{add_view, modify_view, modify_dn_view};
+ghost use Rattle.entry_updates.specs.ldap_updates.View.{add_view, modify_view, modify_dn_view};
 ghost use Rattle.ldap_op.specs.View.{update_view};
 ghost use Rattle.dir_store.specs.Stored.{named, directory, AreKeyedBy, NumbersBelow};
 ghost use Rattle.dir_store.specs.Updates.{added, deleted, modified, renamed_all, updated, applied, reply_to};
@@ -23,13 +23,10 @@ use crate::modifying::{Kept, asked_change};
 use crate::names::asked_name;
 use crate::renaming::{Moved, asked_move};
 use crate::reply::Reply;
-use dir_tree::{NamedEntry, Tree};
-use index_choice::Indexes;
-use ldap_dn::{Name, Rdn};
-use ldap_op::{Op, Update};
-use ldap_parts::ResultCode;
-use ldap_schema::Schema;
-use ldap_updates::{AddRequest, ModifyDnRequest, ModifyRequest};
+use dir_index::Indexes;
+use dir_tree::{Name, NamedEntry, Rdn, Schema, Tree};
+use entry_updates::{AddRequest, ModifyDnRequest, ModifyRequest};
+use ldap_op::{Op, ResultCode, Update};
 use std::alloc::{AllocError, Global};
 use std::marker::Model;
 

@@ -3,7 +3,7 @@ use Rattle.std.proofs.Common.{◌≡◌, ℕ, ◌+◌, ◌≤◌, Bool, true, fa
 use Rattle.std.specs.Prelude.{◌&&◌}
 use Rattle.std.specs.Option.{option_map}
 use Rattle.std.proofs.lemmas.List.{length-take-le}
-use Rattle.ldap_dn.specs.Names.{TypeAndKey, are_same_keys}
+use Rattle.dir_entry.specs.ldap_dn.Names.{TypeAndKey, are_same_keys}
 use Rattle.dir_tree.specs.Directory.{NameKey, name_eq, begins}
 use Rattle.dir_tree.specs.Places.{is_above}
 use Rattle.dir_tree.proofs.KeptLemmas.{name_decides, part_decides}

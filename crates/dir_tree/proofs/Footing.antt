@@ -5,7 +5,7 @@ use Rattle.std.proofs.Math.Seq.{take-length}
 use Rattle.std.proofs.lemmas.List.{length-take-le}
 use Rattle.std.specs.Cmp.Lexicographic.{pointwise}
 use Rattle.std.proofs.lemmas.List.{take-map, length-map}
-use Rattle.ldap_dn.specs.Names.{RdnModel, TypeAndKey, are_same_keys, rdns}
+use Rattle.dir_entry.specs.ldap_dn.Names.{RdnModel, TypeAndKey, are_same_keys, rdns}
 use Rattle.dir_tree.specs.Directory.{NameKey, name_eq, begins, above}
 use Rattle.dir_tree.specs.Labelled.{Label, Labels, LabelsBelow, LabelsAbove, LabelsRise, LabelsDiffer, IsLabelled, label_at, numbers_in}
 use Rattle.dir_tree.proofs.KeptLemmas.{name_decides, part_decides, name_eq-refl, names, both, and_true}

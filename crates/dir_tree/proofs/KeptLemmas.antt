@@ -12,9 +12,9 @@ use Rattle.std.proofs.lemmas.Map.{lookup-set_value}
 use Rattle.std.specs.Str.{bytes_eq}
 use Rattle.std.proofs.lemmas.Bool.{eqb-true, eq-eqb}
 use Rattle.std.proofs.lemmas.Slice.Eq.{bytes_eq-Decides}
-use Rattle.ldap_dn.specs.Names.{TypeAndKey, RdnModel, rdns, are_same_keys}
-use Rattle.ldap_dn.specs.Ordered.{rdn_order}
-use Rattle.ldap_dn.specs.OrderLaws.{rdn_ties, rdn_equiv}
+use Rattle.dir_entry.specs.ldap_dn.Names.{TypeAndKey, RdnModel, rdns, are_same_keys}
+use Rattle.dir_entry.specs.ldap_dn.Ordered.{rdn_order}
+use Rattle.dir_entry.specs.ldap_dn.OrderLaws.{rdn_ties, rdn_equiv}
 use Rattle.dir_tree.specs.Directory.{NameKey, name_eq}
 use Rattle.dir_tree.specs.Places.{Shown}
 use Rattle.dir_tree.specs.Kept.{shown, seen, place_at, PlaceEntries}

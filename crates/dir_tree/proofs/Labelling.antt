@@ -3,7 +3,7 @@ use Rattle.std.proofs.Common.{◌≡◌, ℕ, ◌<◌, Bool, true, false, cond, 
 use Rattle.std.specs.Prelude.{is_some, ◌||◌}
 use Rattle.std.specs.Option.{option_map}
 use Rattle.std.proofs.lemmas.List.{map-append}
-use Rattle.ldap_dn.specs.Names.{rdns}
+use Rattle.dir_entry.specs.ldap_dn.Names.{rdns}
 use Rattle.dir_entry.specs.Entry.{KeyedAttribute}
 use Rattle.dir_tree.specs.Directory.{NameKey, Entered, AllBelow, AllAbove, NumbersRise, NamesDiffer, IsDirectory, name_eq, above, find, numbers, is_below, has_below, unnumbered, replaced}
 use Rattle.dir_tree.specs.Labelled.{Label, Labels, LabelsBelow, LabelsAbove, LabelsRise, LabelsDiffer, IsLabelled, HasNot, AreApart, label_of, labels, label_at, numbers_in, below_in, unlabelled}

@@ -1,7 +1,7 @@
 -- The labels of a directory once those at or below a name stand at or below another.
 use Rattle.std.proofs.Common.{◌≡◌, ℕ, suc, ◌-◌, ◌≤◌, Bool, true, false, cond, List, [], ◌∷◌, ◌++◌, length, take, drop, Option, Some, None, refl, sym, ap, ◌∙◌, arith, append-nil}
 use Rattle.std.specs.Prelude.{is_some}
-use Rattle.ldap_dn.specs.Names.{TypeAndKey, are_same_keys}
+use Rattle.dir_entry.specs.ldap_dn.Names.{TypeAndKey, are_same_keys}
 use Rattle.dir_tree.specs.Directory.{NameKey, name_eq, begins, above}
 use Rattle.dir_tree.specs.Labelled.{Label, Labels, LabelsAbove, LabelsRise, LabelsDiffer, IsLabelled, label_at}
 use Rattle.dir_tree.specs.Renamed.{key_after, moved_label, moved_labels}

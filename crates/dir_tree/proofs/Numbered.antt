@@ -7,7 +7,7 @@ use Rattle.std.specs.Map.{lookup, set_value, remove_entry}
 use Rattle.std.specs.Option.{option_map}
 use Rattle.dir_entry.specs.Entry.{KeyedAttribute}
 use Rattle.dir_tree.specs.Directory.{Entered, AllBelow, entry_at, replaced, unnumbered}
-use Rattle.ldap_dn.specs.Names.{RdnModel}
+use Rattle.dir_entry.specs.ldap_dn.Names.{RdnModel}
 use Rattle.dir_tree.specs.Renamed.{with_name}
 use Rattle.dir_tree.specs.Stored.{directory_of, entered_of}
 use Rattle.dir_tree.specs.declared.named.NamedEntry.{NamedEntry}

@@ -3,7 +3,7 @@ use Rattle.std.proofs.Common.{◌≡◌, ℕ, suc, ◌+◌, ◌-◌, ◌<◌, �
 use Rattle.std.specs.Prelude.{◌&&◌, is_some}
 use Rattle.std.specs.Option.{option_map}
 use Rattle.std.proofs.lemmas.Bool.Decides.{nat_tests}
-use Rattle.ldap_dn.specs.Names.{TypeAndKey, are_same_keys}
+use Rattle.dir_entry.specs.ldap_dn.Names.{TypeAndKey, are_same_keys}
 use Rattle.dir_tree.specs.Directory.{NameKey, name_eq, begins, is_child}
 use Rattle.dir_tree.specs.Labelled.{Label, Labels, label_at, numbers_in}
 use Rattle.dir_tree.specs.Places.{Shown, place_of, is_above}

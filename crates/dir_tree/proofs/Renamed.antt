@@ -2,7 +2,7 @@
 use Rattle.std.proofs.Common.{◌≡◌, ℕ, ◌+◌, ◌-◌, ◌≤◌, Bool, true, false, cond, List, [], ◌∷◌, ◌++◌, length, take, drop, Result, Ok, Err, IfOk, refl, sym, ap, ◌∙◌, arith, nat_eq, not}
 use Rattle.std.specs.Prelude.{◌&&◌}
 use Rattle.std.proofs.lemmas.List.{length-map, take_rest}
-use Rattle.ldap_dn.specs.Names.{RdnModel, rdns, are_same_keys, is_front}
+use Rattle.dir_entry.specs.ldap_dn.Names.{RdnModel, rdns, are_same_keys, is_front}
 use Rattle.dir_tree.specs.Directory.{begins, name_after}
 use Rattle.dir_tree.specs.Renamed.{is_changed, is_over}
 use Rattle.dir_tree.proofs.Footing.{begins-long}

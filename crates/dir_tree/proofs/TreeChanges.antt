@@ -2,7 +2,7 @@
 use Rattle.std.proofs.Common.{◌≡◌, ℕ, Bool, true, false, cond, List, [], ◌∷◌, ◌++◌, length, Option, Some, None, sym, ap, subst, ◌∙◌}
 use Rattle.std.specs.Prelude.{◌||◌, is_some}
 use Rattle.std.specs.Option.{option_map}
-use Rattle.ldap_dn.specs.Names.{RdnModel, rdns}
+use Rattle.dir_entry.specs.ldap_dn.Names.{RdnModel, rdns}
 use Rattle.dir_tree.specs.Directory.{NameKey, Entered, AllBelow, name_eq, above, begins, find, has_below, has_footing, unnumbered}
 use Rattle.dir_tree.specs.Labelled.{Label, Labels, IsLabelled, label_of, labels, label_at, numbers_in, below_in}
 use Rattle.dir_tree.specs.Places.{Shown, place_of, is_above, enlisted, struck}

@@ -3,7 +3,7 @@
 use Rattle.std.specs.Prelude.{◌≡◌, ℕ, zero, suc, ◌+◌, ◌-◌, ◌<◌, Bool, true, false, cond, ◌&&◌, ◌||◌, List, [], ◌∷◌, ◌++◌, length, take, drop, map, nat_eq, nat_lt, Option, None, Some, is_some}
 use Rattle.std.specs.List.{list_any}
 use Rattle.std.specs.Cmp.Lexicographic.{pointwise}
-use Rattle.ldap_dn.specs.Names.{TypeAndKey, RdnModel, rdns, are_same_keys}
+use Rattle.dir_entry.specs.ldap_dn.Names.{TypeAndKey, RdnModel, rdns, are_same_keys}
 use Rattle.dir_entry.specs.Entry.{KeyedAttribute}
 
 -- a name whatever its spelling, root first: what `rdns` gives (RFC 4512 2.3.2)

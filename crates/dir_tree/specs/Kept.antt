@@ -2,7 +2,7 @@
 use Rattle.std.specs.Prelude.{◌≡◌, ℕ, zero, suc, cond, take, List, [], ◌∷◌, Option, is_some, Vec}
 use Rattle.std.specs.declared.alloc.Global.{Global}
 use Rattle.std.specs.Map.{lookup}
-use Rattle.ldap_dn.specs.Names.{RdnModel, rdns}
+use Rattle.dir_entry.specs.ldap_dn.Names.{RdnModel, rdns}
 use Rattle.dir_tree.specs.Directory.{NameKey, Entered, name_eq}
 use Rattle.dir_tree.specs.Labelled.{IsLabelled, labels}
 use Rattle.dir_tree.specs.Places.{Shown, place_of}

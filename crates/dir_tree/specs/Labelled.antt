@@ -1,6 +1,6 @@
 -- What of an entry decides where it stands: its number and its name without the spelling. Attributes are not here.
 use Rattle.std.specs.Prelude.{◌≡◌, ℕ, ◌<◌, Bool, true, false, cond, List, [], ◌∷◌, map, length, nat_eq, nat_lt, ◌&&◌, ◌||◌, Option, None, Some, is_some}
-use Rattle.ldap_dn.specs.Names.{rdns}
+use Rattle.dir_entry.specs.ldap_dn.Names.{rdns}
 use Rattle.dir_tree.specs.Directory.{NameKey, Entered, name_eq, begins, above}
 
 pub record Label : Type 0 where

@@ -2,10 +2,10 @@
 // What must not be here: entries.
 
 ghost use Rattle.std.specs.Prelude.{◌≡◌};
-ghost use Rattle.ldap_dn.specs.Names.{rdns};
+ghost use Rattle.dir_entry.specs.ldap_dn.Names.{rdns};
 ghost use Rattle.dir_tree.specs.Directory.{above, begins, name_eq};
 
-use ldap_dn::{Rdn, is_front};
+use dir_entry::{Rdn, is_front};
 
 /// Whether two names are one, whatever their spellings.
 pub fn are_same(a: &[Rdn], b: &[Rdn]) -> bool

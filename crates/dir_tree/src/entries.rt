@@ -8,8 +8,7 @@ ghost use Rattle.dir_tree.specs.Renamed.{with_name, with_names};
 ghost use Rattle.dir_tree.specs.Stored.{directory_of, entered_of};
 
 use crate::named::NamedEntry;
-use dir_entry::Entry;
-use ldap_dn::Name;
+use dir_entry::{Entry, Name};
 use std::alloc::AllocError;
 use std::collections::BTreeMap;
 

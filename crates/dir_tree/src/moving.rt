@@ -3,7 +3,7 @@
 
 ghost use Rattle.std.specs.Prelude.{◌≡◌, ◌++◌, [], ℕ, Option, Some, None, IfOk, OnOk, OnErr, cond, ◌&&◌, not, true, false, length};
 ghost use Rattle.std.specs.Option.{option_map};
-ghost use Rattle.ldap_dn.specs.Names.{rdns};
+ghost use Rattle.dir_entry.specs.ldap_dn.Names.{rdns};
 ghost use Rattle.dir_tree.specs.Directory.{NameKey, name_eq, entry_at};
 ghost use Rattle.dir_tree.specs.Places.{Shown, is_above};
 ghost use Rattle.dir_tree.specs.Kept.{place_at, seen, shown};
@@ -16,7 +16,7 @@ use crate::place::Place;
 use crate::places::{Places, place_named, put_place, set_place};
 use crate::renaming::{copied, name_moved};
 use crate::rising::relisted;
-use ldap_dn::{Name, Rdn, is_front};
+use dir_entry::{Name, Rdn, is_front};
 use std::alloc::{AllocError, Global};
 
 /// Names, each with what is to be kept of it.

@@ -1,8 +1,7 @@
 // An entry with its name. Both flow in and out.
 // What must not be here: its number, and where it stands.
 
-use dir_entry::Entry;
-use ldap_dn::Name;
+use dir_entry::{Entry, Name};
 
 /// An entry and its name (RFC 4512 2.3.2).
 #[derive(Drop)]

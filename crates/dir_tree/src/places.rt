@@ -6,10 +6,10 @@ ghost use Rattle.std.specs.Option.{option_map};
 ghost use Rattle.dir_tree.specs.Directory.{NameKey, above, name_eq};
 ghost use Rattle.dir_tree.specs.Places.{Shown, struck, listed, enlisted, is_above, within_of};
 ghost use Rattle.dir_tree.specs.Kept.{place_at, front_placed, shown};
-ghost use Rattle.ldap_dn.specs.Names.{rdns};
+ghost use Rattle.dir_entry.specs.ldap_dn.Names.{rdns};
 
 use crate::place::{Place, strike};
-use ldap_dn::Rdn;
+use dir_entry::Rdn;
 use std::alloc::{AllocError, AllocFailed, Global};
 use std::collections::BTreeMap;
 

@@ -2,13 +2,13 @@
 // What must not be here: which renames are refused, places.
 
 ghost use Rattle.std.specs.Prelude.{◌≡◌, ◌++◌, [], IfOk, OnOk};
-ghost use Rattle.ldap_dn.specs.Names.{rdns};
+ghost use Rattle.dir_entry.specs.ldap_dn.Names.{rdns};
 ghost use Rattle.dir_tree.specs.Directory.{name_after, entry_at};
 ghost use Rattle.dir_tree.specs.Stored.{directory_of};
 ghost use Rattle.dir_tree.specs.Renamed.{names_after, entries_of, put_some};
 
 use crate::entries::{Entries, entry_numbered};
-use ldap_dn::{Name, Rdn, is_front};
+use dir_entry::{Name, Rdn, is_front};
 use std::alloc::{AllocError, Global};
 
 /// The name of relative names and of more behind them.

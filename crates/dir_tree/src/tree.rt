@@ -3,7 +3,7 @@
 
 ghost use Rattle.std.specs.Prelude.{◌≡◌, ◌++◌, ◌∷◌, [], None, Some, true, false, OnOk, OnErr, IsTrue, ◌↔◌, is_some};
 ghost use Rattle.std.specs.Option.{option_map};
-ghost use Rattle.ldap_dn.specs.Names.{rdns};
+ghost use Rattle.dir_entry.specs.ldap_dn.Names.{rdns};
 ghost use Rattle.dir_tree.specs.Directory.{NameKey, Entered, AllBelow, IsDirectory, number_found, name_eq, begins, above, moved, is_right_under, is_at_or_below, find, entry_at, front, has_below, has_footing, numbers, unnumbered, replaced};
 ghost use Rattle.dir_tree.specs.Stored.{directory_of, entered_of};
 
@@ -17,8 +17,7 @@ use crate::places::{
     put_place, strike_above, within_at,
 };
 use crate::renaming::names_moved;
-use dir_entry::Entry;
-use ldap_dn::{Name, Rdn};
+use dir_entry::{Entry, Name, Rdn};
 use std::alloc::{AllocError, Global};
 use std::collections::BTreeMap;
 use std::marker::Model;

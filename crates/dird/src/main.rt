@@ -2,19 +2,7 @@
 //! directory is here.
 #![tactic(auto)]
 
-mod command;
-mod fault;
-mod files;
-mod lab;
-mod local;
-mod opening;
-mod run;
-mod sample;
-mod status;
-mod texts;
-
-use files::SystemFiles;
-use run::run as run_words;
+use dird_commands::{SystemFiles, run};
 use std::io::{self, BufReader, BufWriter, Write};
 use std::process::ExitCode;
 
@@ -24,7 +12,7 @@ fn main(rt: HostRuntime) -> io::Result<ExitCode> {
     let mut input = BufReader::new(alloc, rt.reader())?;
     let mut output = BufWriter::new(alloc, io::writer(&rt))?;
     let mut faults = Vec::new(alloc);
-    let status = run_words(
+    let status = run(
         &SystemFiles(&rt),
         alloc,
         &words,
@@ -39,12 +27,3 @@ fn main(rt: HostRuntime) -> io::Result<ExitCode> {
     flushed?;
     Ok(ExitCode::from(status.code()))
 }
-
-#[cfg(test)]
-mod lab_rows;
-#[cfg(test)]
-mod session_rows;
-#[cfg(test)]
-mod tests;
-#[cfg(test)]
-mod text_tests;

@@ -1,9 +1,9 @@
 -- What an add gives: RFC 4511 4.7. A schema, a relative name and attributes flow in; the attributes of the new entry, or the code of a
 -- refusal, flow out. Where the entry is to stand is not here.
 use Rattle.std.specs.Prelude.{ℕ, List, [], ◌∷◌, Option, None, Some, Result, Ok, Err}
-use Rattle.ldap_schema.specs.Schema.{SchemaModel, find}
-use Rattle.ldap_dn.specs.Names.{TypeAndValue}
-use Rattle.ldap_parts.specs.Values.{PartialAttributeValue}
+use Rattle.dir_entry.specs.ldap_schema.Schema.{SchemaModel, find}
+use Rattle.dir_entry.specs.ldap_dn.Names.{TypeAndValue}
+use Rattle.ldap_updates.specs.ldap_parts.Values.{PartialAttributeValue}
 use Rattle.dir_entry.specs.Entry.{AttributeModel}
 use Rattle.dir_entry.specs.Adding.{with_attribute}
 use Rattle.dir_entry.specs.Naming.{and_then, named}

@@ -1,8 +1,8 @@
 -- What a modify does: RFC 4511 4.6. A schema, a relative name, changes and an entry flow in; the attributes after them, or the code of the
 -- first check that fails, flow out. Where the entry stands is not here.
 use Rattle.std.specs.Prelude.{ℕ, List, [], ◌∷◌, Bool, true, false, Option, None, Some, Result, Ok, Err}
-use Rattle.ldap_schema.specs.Schema.{SchemaModel, find}
-use Rattle.ldap_dn.specs.Names.{TypeAndValue}
+use Rattle.dir_entry.specs.ldap_schema.Schema.{SchemaModel, find}
+use Rattle.dir_entry.specs.ldap_dn.Names.{TypeAndValue}
 use Rattle.ldap_updates.specs.Values.{ChangeValue}
 use Rattle.ldap_updates.specs.declared.modify.ModifyOperation.{ModifyOperation}
 use Rattle.ldap_updates.specs.declared.modify.ModifyOperation.TheVariants.{Add, Delete, Replace, Increment}

@@ -2,17 +2,15 @@
 //! The directory is not here.
 ghost use Rattle.std.specs.Prelude.{◌≡◌, [], Ok, map, IfOk, IfErr, OnOk, OnErr};
 ghost use Rattle.dir_entry.specs.Entry.{attributes_of, IsKeyedBy};
-ghost use Rattle.ldap_parts.specs.View.{attribute_view};
-ghost use Rattle.ldap_schema.specs.Schema.{find as type_of};
+ghost use Rattle.ldap_updates.specs.ldap_parts.View.{attribute_view};
+ghost use Rattle.dir_entry.specs.ldap_schema.Schema.{find as type_of};
 ghost use Rattle.entry_updates.specs.Adding.{with_given, with_all_given, attributes_asked};
 ghost use Rattle.entry_updates.specs.Refused.{RefusedAs};
 
 use crate::copying::copy_values;
 use crate::fault::UpdateError;
-use dir_entry::Entry;
-use ldap_dn::TypeAndValue;
-use ldap_parts::{PartialAttribute, ResultCode};
-use ldap_schema::Schema;
+use dir_entry::{Entry, Schema, TypeAndValue};
+use ldap_updates::{PartialAttribute, ResultCode};
 use std::alloc::Global;
 
 /// Adds what is given to the entry.

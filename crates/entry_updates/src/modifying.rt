@@ -8,11 +8,8 @@ ghost use Rattle.entry_updates.specs.Refused.{RefusedAs};
 
 use crate::copying::copy_values;
 use crate::fault::UpdateError;
-use dir_entry::Entry;
-use ldap_dn::TypeAndValue;
-use ldap_parts::ResultCode;
-use ldap_schema::{Schema, TypeId};
-use ldap_updates::{Change, ModifyOperation};
+use dir_entry::{Entry, Schema, TypeAndValue, TypeId};
+use ldap_updates::{Change, ModifyOperation, ResultCode};
 use std::alloc::Global;
 
 /// Whether the change is an increment.

@@ -6,9 +6,7 @@ ghost use Rattle.dir_entry.specs.Naming.{renamed};
 ghost use Rattle.entry_updates.specs.Refused.{RefusedAs};
 
 use crate::fault::UpdateError;
-use dir_entry::Entry;
-use ldap_dn::TypeAndValue;
-use ldap_schema::Schema;
+use dir_entry::{Entry, Schema, TypeAndValue};
 use std::alloc::Global;
 
 /// The entry under a new relative name (RFC 4511 4.9): its values join; if asked, the old ones leave; then 19 and 65.

@@ -11,4 +11,5 @@ mod printing_item;
 mod printing_value;
 
 pub use fault::FilterTextError;
+pub use ldap_filter::{Filter, MAX_DEPTH, MAX_ITEMS, MatchingRuleAssertion, SubstringFilter};
 pub use printing::{print_text, printed_is_a_text};

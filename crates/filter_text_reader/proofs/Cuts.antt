@@ -3,8 +3,8 @@ use Rattle.std.proofs.Common.{◌≡◌, ℕ, ◌+◌, ◌<◌, List, [], ◌∷
 use Rattle.std.specs.List.{list_all, prefix_len, slice_split, onto_first}
 use Rattle.std.specs.Option.{option_map}
 use Rattle.std.proofs.lemmas.Bool.{eqb-true}
-use Rattle.ldap_syntax.specs.Numbers.{is_digit}
-use Rattle.ldap_filter.specs.Item.{Comparison, equal, at_least, at_most, approximate, Item, comparison, substrings, presence, extensible}
+use Rattle.filter_text.specs.ldap_syntax.Numbers.{is_digit}
+use Rattle.filter_text.specs.ldap_filter.Item.{Comparison, equal, at_least, at_most, approximate, Item, comparison, substrings, presence, extensible}
 use Rattle.filter_text.specs.Descriptions.{is_alpha, is_key_octet, is_oid, is_description, is_dn}
 use Rattle.filter_text.specs.Values.{is_normal, hex_digit, with_high, IsValue, nothing, normal, escaped}
 use Rattle.filter_text.specs.Items.{IsPart, IsPartOrNone, AreParts, Starred, has_part, operator, description_text, rule_text, IsFlag, is_applicable, IsItemText}

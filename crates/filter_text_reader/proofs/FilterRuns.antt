@@ -2,7 +2,7 @@
 use Rattle.std.proofs.Common.{◌≡◌, ℕ, List, [], ◌∷◌, ◌++◌, Bool, true, false, cond, ◌||◌, Option, None, Some, nat_eq, refl, sym, ap, subst, ◌∙◌}
 use Rattle.std.specs.Option.{option_map}
 use Rattle.std.proofs.lemmas.Bool.{eqb-true}
-use Rattle.ldap_filter.specs.Tree.{Tree, conj, disj, negation, item, Trees, no_trees, tree}
+use Rattle.filter_text.specs.ldap_filter.Tree.{Tree, conj, disj, negation, item, Trees, no_trees, tree}
 use Rattle.filter_text.specs.Grammar.{HasFilter, HasFilters, IsFilterText}
 use Rattle.filter_text_reader.specs.Machine.{then, holds, run, accepts, within}
 use Rattle.filter_text_reader.specs.ItemScan.{oid_ends, name_ends, name_out, word_step, rule_out, last_out, item_step, item_ends}

@@ -1,6 +1,6 @@
 -- Filter texts, scanning: from each place some text goes on to a filter's, so the scanner stops behind the longest front.
 use Rattle.std.proofs.Common.{◌≡◌, ℕ, ◌+◌, ◌<◌, ◌≤◌, zero, suc, List, [], ◌∷◌, ◌++◌, length, take, Bool, true, false, cond, Option, None, Some, refl, sym, ap, subst, ◌∙◌, arith}
-use Rattle.ldap_filter.specs.Tree.{Tree}
+use Rattle.filter_text.specs.ldap_filter.Tree.{Tree}
 use Rattle.filter_text.specs.Grammar.{IsFilterText}
 use Rattle.filter_text_reader.specs.Machine.{then, holds, run, accepts, goes_on, stops}
 use Rattle.filter_text_reader.specs.Longest.{Begins, IsLongestFront}

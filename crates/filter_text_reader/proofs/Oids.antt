@@ -2,8 +2,8 @@
 use Rattle.std.proofs.Common.{◌≡◌, ℕ, List, [], ◌∷◌, Bool, true, false, cond, ◌&&◌, ◌||◌, Option, None, Some, nat_eq, nat_lt, nat_le, refl, sym, ap, ◌∙◌, arith}
 use Rattle.std.specs.List.{list_all, slice_split, onto_first}
 use Rattle.std.proofs.lemmas.Bool.{eqb-true, eqb-false, lt-ltb, leb-true, le-leb}
-use Rattle.ldap_syntax.specs.Numbers.{is_digit, are_digits, is_number}
-use Rattle.ldap_syntax.specs.Identifiers.{has_dot}
+use Rattle.filter_text.specs.ldap_syntax.Numbers.{is_digit, are_digits, is_number}
+use Rattle.filter_text.specs.ldap_syntax.Identifiers.{has_dot}
 use Rattle.filter_text.specs.Descriptions.{is_alpha, is_key_octet, is_oid}
 use Rattle.filter_text_reader.specs.Machine.{then, holds, run, accepts}
 use Rattle.filter_text_reader.specs.ItemScan.{oid_first, oid_step, oid_ends}

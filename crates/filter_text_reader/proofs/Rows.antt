@@ -4,10 +4,10 @@ use Rattle.std.specs.Option.{option_map}
 use Rattle.std.specs.List.{list_all}
 use Rattle.std.proofs.lemmas.List.{map_push}
 use Rattle.std.proofs.lemmas.Bool.{eqb-true}
-use Rattle.ldap_filter.specs.Item.{Item}
-use Rattle.ldap_filter.specs.Tree.{Tree, conj, disj, negation, item, Trees, no_trees, tree, depth, depths, count, counts}
-use Rattle.ldap_filter.specs.View.{view, views, row}
-use Rattle.ldap_filter.specs.declared.tree.Filter.{Filter}
+use Rattle.filter_text.specs.ldap_filter.Item.{Item}
+use Rattle.filter_text.specs.ldap_filter.Tree.{Tree, conj, disj, negation, item, Trees, no_trees, tree, depth, depths, count, counts}
+use Rattle.filter_text.specs.ldap_filter.View.{view, views, row}
+use Rattle.filter_text.specs.ldap_filter.declared.tree.Filter.{Filter}
 use Rattle.filter_text.specs.Items.{IsItemText}
 use Rattle.filter_text.specs.Grammar.{HasFilter, HasFilters}
 use Rattle.filter_text.specs.declared.fault.FilterTextError.{FilterTextError}

@@ -1,6 +1,6 @@
 -- Filter texts, reading: what is read of a whole text that the scanner passed, and what the refusals say of it.
 use Rattle.std.proofs.Common.{◌≡◌, ℕ, ◌≤◌, List, [], None, refl, sym, ap, subst, arith}
-use Rattle.ldap_filter.specs.Tree.{Tree, depth, count}
+use Rattle.filter_text.specs.ldap_filter.Tree.{Tree, depth, count}
 use Rattle.filter_text.specs.Grammar.{IsFilterText}
 use Rattle.filter_text.specs.declared.fault.FilterTextError.{FilterTextError}
 use Rattle.filter_text.specs.declared.fault.FilterTextError.TheVariants.{BadFilterText, TooDeep, TooManyItems, NoMemory}

@@ -1,7 +1,7 @@
 -- Filter texts, reading: a text is one filter's, and none begins another.
 use Rattle.std.proofs.Common.{◌≡◌, ℕ, List, [], ◌∷◌, ◌++◌, refl, sym, ap, subst, ◌∙◌, arith}
-use Rattle.ldap_filter.specs.Item.{Item}
-use Rattle.ldap_filter.specs.Tree.{Tree, conj, disj, negation, item, Trees, no_trees, tree}
+use Rattle.filter_text.specs.ldap_filter.Item.{Item}
+use Rattle.filter_text.specs.ldap_filter.Tree.{Tree, conj, disj, negation, item, Trees, no_trees, tree}
 use Rattle.filter_text.specs.Items.{IsItemText}
 use Rattle.filter_text.specs.Grammar.{HasFilter, HasFilters, IsFilterText}
 use Rattle.filter_text_reader.specs.Cuts.{is_other, front}

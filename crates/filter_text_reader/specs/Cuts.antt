@@ -4,7 +4,7 @@
 use Rattle.std.specs.Prelude.{ℕ, List, [], ◌∷◌, ◌++◌, take, drop, Bool, true, false, not, cond, ◌&&◌, ◌||◌, Option, None, Some, nat_eq}
 use Rattle.std.specs.List.{prefix_len, slice_split}
 use Rattle.std.specs.Option.{option_map}
-use Rattle.ldap_filter.specs.Item.{Comparison, equal, at_least, at_most, approximate, Item, comparison, substrings, presence, extensible}
+use Rattle.filter_text.specs.ldap_filter.Item.{Comparison, equal, at_least, at_most, approximate, Item, comparison, substrings, presence, extensible}
 use Rattle.filter_text.specs.Descriptions.{is_key_octet, is_dn}
 use Rattle.filter_text_reader.specs.Machine.{then}
 use Rattle.filter_text_reader.specs.Scanned.{value_of}

@@ -2,10 +2,10 @@
 -- In: a text and limits. Out: what is found, and why nothing is. Not here: whole texts.
 use Rattle.std.specs.Prelude.{◌≡◌, ℕ, ◌+◌, ◌≤◌, ◌<◌, List, ◌∷◌, Option, Some}
 use Rattle.std.specs.Option.{option_map}
-use Rattle.ldap_filter.specs.Item.{Item}
-use Rattle.ldap_filter.specs.Tree.{Tree, item, Trees, depth, depths, count, counts}
-use Rattle.ldap_filter.specs.View.{view}
-use Rattle.ldap_filter.specs.declared.tree.Filter.{Filter}
+use Rattle.filter_text.specs.ldap_filter.Item.{Item}
+use Rattle.filter_text.specs.ldap_filter.Tree.{Tree, item, Trees, depth, depths, count, counts}
+use Rattle.filter_text.specs.ldap_filter.View.{view}
+use Rattle.filter_text.specs.ldap_filter.declared.tree.Filter.{Filter}
 use Rattle.filter_text.specs.Grammar.{HasFilter, HasFilters}
 use Rattle.filter_text.specs.declared.fault.FilterTextError.{FilterTextError}
 use Rattle.filter_text.specs.declared.fault.FilterTextError.TheVariants.{BadFilterText, TooDeep, TooManyItems, NoMemory}

@@ -1,7 +1,7 @@
 -- Filter texts, reading: why no filter is read.
 -- In: a refusal and a text. Out: what is so where it comes. Not here: how it is found.
 use Rattle.std.specs.Prelude.{ℕ, List, ◌<◌}
-use Rattle.ldap_filter.specs.Tree.{Tree, depth, count}
+use Rattle.filter_text.specs.ldap_filter.Tree.{Tree, depth, count}
 use Rattle.filter_text.specs.Grammar.{IsFilterText}
 use Rattle.filter_text.specs.declared.fault.FilterTextError.{FilterTextError}
 use Rattle.filter_text.specs.declared.fault.FilterTextError.TheVariants.{BadFilterText, TooDeep, TooManyItems, NoMemory}

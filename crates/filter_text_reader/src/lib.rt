@@ -15,4 +15,5 @@ mod scanning;
 mod scanning_item;
 mod value_reading;
 
+pub use filter_text::FilterTextError;
 pub use reading::{one_filter_text, read_text};

@@ -2,7 +2,7 @@
 //! In: an octet. Out: whether it is of a kind that the grammar names. Not here: texts.
 
 ghost use Rattle.std.specs.Prelude.{◌≡◌};
-ghost use Rattle.ldap_syntax.specs.Numbers.{is_digit as is_digit_of};
+ghost use Rattle.filter_text.specs.ldap_syntax.Numbers.{is_digit as is_digit_of};
 ghost use Rattle.filter_text.specs.Descriptions as descriptions;
 ghost use Rattle.filter_text.specs.Values.{is_normal as is_normal_of};
 

@@ -3,8 +3,8 @@
 //! Not here: how a text is found bad, which the scanner does before.
 
 ghost use Rattle.std.specs.Prelude.{◌≡◌, ◌≤◌, ◌<◌, ◌∷◌, ℕ, suc, List, true, IfOk, IfErr, MatchResult};
-ghost use Rattle.ldap_filter.specs.Tree.{Tree, conj, disj, negation, depth as depth_of, count};
-ghost use Rattle.ldap_filter.specs.View.{view, views};
+ghost use Rattle.filter_text.specs.ldap_filter.Tree.{Tree, conj, disj, negation, depth as depth_of, count};
+ghost use Rattle.filter_text.specs.ldap_filter.View.{view, views};
 ghost use Rattle.filter_text.specs.Grammar.{IsFilterText, filter_text, has_text};
 ghost use Rattle.filter_text_reader.specs.Reads.{IsFrontRead, IsRowRead, IsFrontFault, IsRowFault};
 ghost use Rattle.filter_text_reader.specs.Refusals.{IsReadFault};
@@ -12,8 +12,7 @@ ghost use Rattle.filter_text_reader.specs.Refusals.{IsReadFault};
 use crate::cutting::{before, begins_with, behind, from};
 use crate::reading_item::item;
 use crate::scanning::scan;
-use filter_text::{FilterTextError, printed_is_a_text};
-use ldap_filter::{Filter, MAX_DEPTH, MAX_ITEMS};
+use filter_text::{Filter, FilterTextError, MAX_DEPTH, MAX_ITEMS, printed_is_a_text};
 use std::alloc::Global;
 
 /// An item behind `(`, and its `)`.

@@ -5,7 +5,7 @@
 ghost use Rattle.std.specs.Prelude.{◌≡◌, ◌∷◌, Option, Some, None, true, map, string_bytes, IfOk, IfErr, IfSome};
 ghost use Rattle.std.specs.List.{list_all};
 ghost use Rattle.std.specs.Option.{option_map};
-ghost use Rattle.ldap_filter.specs.View.{view};
+ghost use Rattle.filter_text.specs.ldap_filter.View.{view};
 ghost use Rattle.filter_text_reader.specs.Cuts as cuts;
 ghost use Rattle.filter_text_reader.specs.Reads.{PartFault, IsItemRead};
 ghost use Rattle.filter_text_reader.specs.Scanned.{value_of};
@@ -13,8 +13,7 @@ ghost use Rattle.filter_text.specs.Descriptions.{is_dn as is_dn_text};
 
 use crate::cutting::{before, begins_with, behind_name, from, is_nil, name, tail};
 use crate::reading_value::{text, value};
-use filter_text::FilterTextError;
-use ldap_filter::{Filter, MatchingRuleAssertion, SubstringFilter};
+use filter_text::{Filter, FilterTextError, MatchingRuleAssertion, SubstringFilter};
 use std::alloc::Global;
 
 /// A description and a value.

@@ -2,8 +2,8 @@
 use Rattle.std.proofs.Common.{◌≡◌, ℕ, ◌+◌, ◌<◌, List, [], ◌∷◌, ◌++◌, Option, None, Some, refl, ap, sym, subst, ◌∙◌, map, length, take, get_or, append_assoc}
 use Rattle.std.proofs.lemmas.List.{take_more}
 use Rattle.std.specs.Io.KnownBytes.{Appends}
-use Rattle.ldap_msg.specs.Messages.{MessageValue}
-use Rattle.ldap_msg.specs.Written.{message_bytes}
+use Rattle.ldap_session.specs.ldap_msg.Messages.{MessageValue}
+use Rattle.ldap_session.specs.ldap_msg.Written.{message_bytes}
 use Rattle.hex_session.specs.Lines.{hex_line, hex_lines, message_lines}
 
 pub append-nil : {A : Type 0} (xs : List A) → xs ++ [] ≡ xs

@@ -1,14 +1,14 @@
 -- Sessions over lines, a line at a time. Facts on octets and sessions flow in and out; no value of the program is here.
 use Rattle.std.proofs.Common.{◌≡◌, ◌⊎◌, inl, inr, ℕ, suc, ◌+◌, List, Vec, Global, arith, [], ◌∷◌, ◌++◌, Option, None, Some, IfSome, refl, ap, sym, subst, ◌∙◌, append_assoc, append-nil}
 use Rattle.std.specs.Io.KnownBytes.{Appends}
-use Rattle.ldap_framer.specs.Framed.{HasSeen}
-use Rattle.session_talk.specs.Talk.{Exchange}
-use Rattle.session_talk.specs.Talk as talk
-use Rattle.session_rules.specs.Session.{ConfigValue, at_first}
-use Rattle.session_rules.specs.Turns.{Session, ends}
-use Rattle.session_rules.specs.declared.state.State.{State}
-use Rattle.session_rules.specs.declared.answered.Next.{Next}
-use Rattle.session_rules.specs.declared.answered.Next.TheVariants.{GoesOn}
+use Rattle.ldap_session.specs.ldap_framer.Framed.{HasSeen}
+use Rattle.ldap_session.specs.session_talk.Talk.{Exchange}
+use Rattle.ldap_session.specs.session_talk.Talk as talk
+use Rattle.ldap_session.specs.session_rules.Session.{ConfigValue, at_first}
+use Rattle.ldap_session.specs.session_rules.Turns.{Session, ends}
+use Rattle.ldap_session.specs.session_rules.declared.state.State.{State}
+use Rattle.ldap_session.specs.session_rules.declared.answered.Next.{Next}
+use Rattle.ldap_session.specs.session_rules.declared.answered.Next.TheVariants.{GoesOn}
 use Rattle.ldap_session.specs.Octets.{joined}
 use Rattle.ldap_session.specs.View.{SessionValue}
 use Rattle.ldap_session.specs.Progress.{Reached, IsAtLast}

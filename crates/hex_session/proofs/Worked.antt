@@ -2,13 +2,13 @@
 use Rattle.std.proofs.Common.{◌≡◌, ◌⊎◌, inl, inr, ℕ, List, [], ◌∷◌, ◌++◌, Option, None, Some, Ok, refl, ap, sym, subst, ◌∙◌, map, append_assoc, append-nil}
 use Rattle.std.specs.Io.KnownBytes.{Appends}
 use Rattle.std.proofs.KnownBytes.{Appends-nil, Appends-trans}
-use Rattle.ldap_msg.specs.Messages.{MessageValue}
-use Rattle.session_talk.specs.Talk.{Exchange}
-use Rattle.session_rules.specs.Responses.{notice}
-use Rattle.session_rules.specs.Session.{ConfigValue}
-use Rattle.session_rules.specs.declared.answered.Answered.{Answered}
-use Rattle.session_rules.specs.declared.answered.Next.{Next}
-use Rattle.session_rules.specs.declared.answered.Next.TheVariants.{GoesOn, Unbound as UnboundNext, Disconnected as DisconnectedNext}
+use Rattle.ldap_session.specs.ldap_msg.Messages.{MessageValue}
+use Rattle.ldap_session.specs.session_talk.Talk.{Exchange}
+use Rattle.ldap_session.specs.session_rules.Responses.{notice}
+use Rattle.ldap_session.specs.session_rules.Session.{ConfigValue}
+use Rattle.ldap_session.specs.session_rules.declared.answered.Answered.{Answered}
+use Rattle.ldap_session.specs.session_rules.declared.answered.Next.{Next}
+use Rattle.ldap_session.specs.session_rules.declared.answered.Next.TheVariants.{GoesOn, Unbound as UnboundNext, Disconnected as DisconnectedNext}
 use Rattle.ldap_session.specs.View.{SessionValue}
 use Rattle.ldap_session.specs.Progress.{IsWritten, AnswersNext, IsIdle, Answers, Reached}
 use Rattle.ldap_session.specs.Serving.{IsCaughtUp}

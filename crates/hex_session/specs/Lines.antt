@@ -3,8 +3,8 @@
 use Rattle.std.specs.Prelude.{◌≡◌, ℕ, zero, suc, List, [], ◌∷◌, ◌++◌, Bool, true, false, Ok, Option, None, Some}
 use Rattle.std.specs.Io.BufRead.{take_through, drop_through, strip_last}
 use Rattle.hex.specs.Hex.{decode_of, encode_lower}
-use Rattle.ldap_msg.specs.Messages.{MessageValue}
-use Rattle.ldap_msg.specs.Written.{message_bytes}
+use Rattle.ldap_session.specs.ldap_msg.Messages.{MessageValue}
+use Rattle.ldap_session.specs.ldap_msg.Written.{message_bytes}
 use Rattle.hex_session.specs.declared.line.Line.{Line}
 use Rattle.hex_session.specs.declared.line.Line.TheVariants.{End, Blank, Piece}
 

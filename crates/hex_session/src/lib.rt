@@ -9,4 +9,5 @@ mod lines;
 
 pub use answering::answer_lines;
 pub use fault::LineFault;
+pub use ldap_session::{Config, SessionEnd};
 pub use lines::next_line;

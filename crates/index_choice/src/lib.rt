@@ -14,3 +14,4 @@ mod words;
 pub use choice::Indexes;
 pub use error::IndexError;
 pub use kinds::Kinds;
+pub use ldap_match::{Key, Truth, TypeId};

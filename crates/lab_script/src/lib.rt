@@ -12,3 +12,5 @@ pub use fault::{LineError, ScriptError};
 pub use noop::Noop;
 pub use playing::play;
 pub use script::{read_first, read_line};
+pub use vr_state::words::Status as Status;
+pub use vr_world::events::LabReply as LabReply;

@@ -8,12 +8,12 @@ use Rattle.std.specs.List.{AllByRecursion, list_all, list_any, position_from, sl
 use Rattle.std.specs.Char.{to_ascii_lowercase}
 use Rattle.std.specs.Str.{bytes_eq}
 use lib.Utf8.{low_scalar}
-use Rattle.schema_text.specs.Words.{is_alpha, is_digit, is_key_octet, is_descr, is_number, is_numericoid}
-use Rattle.schema_text.specs.Descriptions.{DescriptionModel}
-use Rattle.schema_text.specs.Texts.{SchemaTextModel, read_text}
-use Rattle.schema_meaning.specs.Naming.{names_of, is_name_among, share_a_name, is_before, is_repeated, has_twice}
-use Rattle.schema_meaning.specs.Inheriting.{effect_of, is_unfit}
-use Rattle.schema_meaning.specs.Faults.{is_bad_type, first_of_types, first_of_all, earlier, bad_line}
+use Rattle.ldap_schema.specs.schema_text.Words.{is_alpha, is_digit, is_key_octet, is_descr, is_number, is_numericoid}
+use Rattle.ldap_schema.specs.schema_text.Descriptions.{DescriptionModel}
+use Rattle.ldap_schema.specs.schema_text.Texts.{SchemaTextModel, read_text}
+use Rattle.ldap_schema.specs.schema_meaning.Naming.{names_of, is_name_among, share_a_name, is_before, is_repeated, has_twice}
+use Rattle.ldap_schema.specs.schema_meaning.Inheriting.{effect_of, is_unfit}
+use Rattle.ldap_schema.specs.schema_meaning.Faults.{is_bad_type, first_of_types, first_of_all, earlier, bad_line}
 use Rattle.ldap_schema.specs.Schema.{SchemaModel, TypeModel, find, is_called, is_same_name, first_name_of}
 use Rattle.ldap_schema.specs.Described.{as_text, type_with, types_from, schema_of}
 use Rattle.ldap_schema.specs.Reading.{refused_at, fault_of, unknown_of, loop_fault, unless_refused, schema_of_text}

@@ -2,17 +2,17 @@
 -- names of entries are not here.
 use Rattle.std.proofs.Common.{ℕ, ◌+◌, ◌<◌, List, [], ◌∷◌, ◌++◌, Bool, true, false, cond, Option, None, Some, nat_eq, ◌≡◌, refl, sym, ap, ◌∙◌, subst, length, drop, arith}
 use Rattle.std.specs.List.{AllByRecursion}
-use Rattle.schema_text.specs.Words.{is_descr, is_numericoid}
-use Rattle.schema_text.specs.Tokens.{tokens_of}
-use Rattle.schema_text.specs.Keywords.{place_of, shape_of}
-use Rattle.schema_text.specs.Arguments.{if_found, one, one_or, listed, pieces, word_of, descr_if, quoted_text, quoted_name, next_text, all_from, argument_of}
-use Rattle.schema_text.specs.Descriptions.{FieldModel, DescriptionModel, texts_at, keyword_at, is_flag, fields_end, begun, completed, with_argument, taken, fields_from, are_in_order, in_order, numericoid_if, numericoid_of, ordered_fields, of_pieces, inside, description_of}
-use Rattle.schema_text.specs.Texts.{SchemaTextModel, heading_of, is_skipped, is_headed, with_bad, with_type, with_class, description_behind, with_line, read_from, nothing, lines_of, read_text}
-use Rattle.schema_text.specs.declared.token.Token.{Token}
-use Rattle.schema_text.specs.declared.keyword.Section.{Section}
-use Rattle.schema_text.specs.declared.keyword.Section.TheVariants.{AttributeTypes, ObjectClasses}
-use Rattle.schema_text.specs.declared.keyword.Keyword.{Keyword}
-use Rattle.schema_text.specs.declared.keyword.Keyword.TheVariants as keyword
+use Rattle.ldap_schema.specs.schema_text.Words.{is_descr, is_numericoid}
+use Rattle.ldap_schema.specs.schema_text.Tokens.{tokens_of}
+use Rattle.ldap_schema.specs.schema_text.Keywords.{place_of, shape_of}
+use Rattle.ldap_schema.specs.schema_text.Arguments.{if_found, one, one_or, listed, pieces, word_of, descr_if, quoted_text, quoted_name, next_text, all_from, argument_of}
+use Rattle.ldap_schema.specs.schema_text.Descriptions.{FieldModel, DescriptionModel, texts_at, keyword_at, is_flag, fields_end, begun, completed, with_argument, taken, fields_from, are_in_order, in_order, numericoid_if, numericoid_of, ordered_fields, of_pieces, inside, description_of}
+use Rattle.ldap_schema.specs.schema_text.Texts.{SchemaTextModel, heading_of, is_skipped, is_headed, with_bad, with_type, with_class, description_behind, with_line, read_from, nothing, lines_of, read_text}
+use Rattle.ldap_schema.specs.schema_text.declared.token.Token.{Token}
+use Rattle.ldap_schema.specs.schema_text.declared.keyword.Section.{Section}
+use Rattle.ldap_schema.specs.schema_text.declared.keyword.Section.TheVariants.{AttributeTypes, ObjectClasses}
+use Rattle.ldap_schema.specs.schema_text.declared.keyword.Keyword.{Keyword}
+use Rattle.ldap_schema.specs.schema_text.declared.keyword.Keyword.TheVariants as keyword
 use Rattle.ldap_dn.proofs.Spelled.{none_some, some_same}
 use Rattle.ldap_dn.proofs.Valued.{all_append}
 

@@ -2,7 +2,7 @@
 use Rattle.std.specs.Prelude.{ℕ, List, [], true, All, Some, Ok, nat_eq, Bool, ◌||◌, ◌≡◌, length, ◌<◌}
 use Rattle.std.specs.List.{list_all}
 use Rattle.std.specs.Str.{is_utf8}
-use Rattle.schema_text.specs.Words.{is_key_octet}
+use Rattle.ldap_schema.specs.schema_text.Words.{is_key_octet}
 use Rattle.ldap_schema.specs.Schema.{SchemaModel, find}
 use Rattle.ldap_schema.specs.Reading.{schema_of_text}
 use Rattle.ldap_dn.specs.Names.{TypeAndValue, RdnModel}

@@ -4,8 +4,7 @@
 ghost use Rattle.std.specs.Prelude.{◌≡◌, IfOk};
 ghost use Rattle.ldap_dn.specs.Rising.{KeysAreRising};
 
-use ldap_schema::TypeId;
-use ldap_syntax::Key;
+use ldap_schema::{Key, TypeId};
 use std::alloc::{AllocError, Global};
 use std::marker::Model;
 

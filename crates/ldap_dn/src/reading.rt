@@ -10,10 +10,8 @@ use crate::cutting::{is_plain, is_space, is_unescaped, octet_of, pieces, trimmed
 use crate::fault::NameError;
 use crate::rdn::{Rdn, TypeAndKey, TypeAndValue};
 use crate::token::Token;
-use ldap_schema::{Schema, TypeId};
-use ldap_syntax::{Family, Key, Rule, ValueError};
+use ldap_schema::{Family, Key, Rule, Schema, TypeId, ValueError, equality_rule, key};
 use std::alloc::{AllocError, Global};
-use value_keys::{equality_rule, key};
 
 /// The octets of the tokens.
 fn octets(alloc: Global, tokens: &[Token]) -> Result<Vec<u8>, AllocError>

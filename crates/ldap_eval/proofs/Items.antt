@@ -1,10 +1,10 @@
 -- Bound items and filters. Facts on trees and lists flow in and out; no value of the program is here.
 use Rattle.std.proofs.Common.{ℕ, ◌+◌, ◌<◌, List, [], ◌∷◌, ◌++◌, Bool, true, false, cond, Option, Some, Vec, Global, ◌≡◌, refl, ap, ap₂, sym, ◌∙◌, map, length, drop, suc, zero, arith, add-one, append_assoc}
-use Rattle.ldap_schema.specs.Schema.{TypeModel, SchemaModel, find, is_under}
-use Rattle.ldap_match.specs.Truth.{disjunction}
-use Rattle.ldap_match.specs.Item.{Item, is_answerable, item_on_attribute}
-use Rattle.ldap_match.specs.Keyed.{test_for, test_value, AreKeysOf}
-use Rattle.ldap_match.specs.declared.truth.Truth.TheVariants.{Undefined}
+use Rattle.dir_entry.specs.ldap_schema.Schema.{TypeModel, SchemaModel, find, is_under}
+use Rattle.dir_entry.specs.ldap_match.Truth.{disjunction}
+use Rattle.dir_entry.specs.ldap_match.Item.{Item, is_answerable, item_on_attribute}
+use Rattle.dir_entry.specs.ldap_match.Keyed.{test_for, test_value, AreKeysOf}
+use Rattle.dir_entry.specs.ldap_match.declared.truth.Truth.TheVariants.{Undefined}
 use Rattle.dir_entry.specs.Entry.{attributes_of}
 use Rattle.ldap_eval.specs.Value.{attributes_under, item_on}
 use Rattle.ldap_eval.specs.Bound.{bound_value, leaves_for, leaves_from, leaf_if, IsBoundItem}

@@ -4,12 +4,12 @@ use Rattle.std.proofs.Common.{ℕ, ◌+◌, ◌<◌, ◌≤◌, zero, suc, List,
 use Rattle.std.specs.List.{list_any, position_from}
 use Rattle.std.proofs.lemmas.Option.{slice_get_past}
 use Rattle.std.proofs.lemmas.Bool.Decides.{nat_tests}
-use Rattle.ldap_schema.specs.Schema.{TypeModel, SchemaModel, find, is_called, is_under, led, superior_in, superiors}
-use Rattle.ldap_match.specs.Truth.{truth_or, disjunction}
-use Rattle.ldap_match.specs.Item.{Item, item_on_attribute}
-use Rattle.ldap_match.specs.Keyed.{test_for, test_value, AreKeysOf}
-use Rattle.ldap_match.specs.declared.truth.Truth.{Truth}
-use Rattle.ldap_match.specs.declared.truth.Truth.TheVariants.{False}
+use Rattle.dir_entry.specs.ldap_schema.Schema.{TypeModel, SchemaModel, find, is_called, is_under, led, superior_in, superiors}
+use Rattle.dir_entry.specs.ldap_match.Truth.{truth_or, disjunction}
+use Rattle.dir_entry.specs.ldap_match.Item.{Item, item_on_attribute}
+use Rattle.dir_entry.specs.ldap_match.Keyed.{test_for, test_value, AreKeysOf}
+use Rattle.dir_entry.specs.ldap_match.declared.truth.Truth.{Truth}
+use Rattle.dir_entry.specs.ldap_match.declared.truth.Truth.TheVariants.{False}
 use Rattle.dir_entry.specs.Entry.{AttributeModel, KeyedAttribute, shown, attributes_of, IsKeyedBy}
 use Rattle.ldap_eval.specs.Value.{attributes_under}
 use Rattle.ldap_eval.specs.Bound.{leaf_on, leaf_value, value_step, bound_value, leaf_if, leaves_from}

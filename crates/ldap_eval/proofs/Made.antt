@@ -9,8 +9,8 @@ use Rattle.ldap_filter.specs.declared.tree.Filter.TheVariants as filter
 use Rattle.ldap_filter.specs.declared.tree.Filter.TheVariants.{rolls-And, rolls-Or, rolls-Not}
 use Rattle.ldap_filter.specs.declared.tree.Filter.TheOpen.{Filter-F}
 use Rattle.ldap_filter.specs.declared.tree.Filter.TheFolds.{fold-roll-Filter}
-use Rattle.ldap_schema.specs.Schema.{SchemaModel, find}
-use Rattle.ldap_match.specs.Item.{Item, is_answerable}
+use Rattle.dir_entry.specs.ldap_schema.Schema.{SchemaModel, find}
+use Rattle.dir_entry.specs.ldap_match.Item.{Item, is_answerable}
 use Rattle.ldap_eval.specs.Bound.{leaves_for, IsBoundTo}
 use Rattle.ldap_eval.specs.Made.{IsMadeOf, AreMadeOf, IsItemFor}
 use Rattle.ldap_eval.specs.declared.bound.BoundFilter.{BoundFilter}

@@ -8,9 +8,9 @@ use Rattle.ldap_filter.specs.declared.tree.Filter.TheVariants as filter
 use Rattle.ldap_filter.specs.declared.tree.Filter.TheVariants.{rolls-And, rolls-Or}
 use Rattle.ldap_filter.specs.declared.tree.Filter.TheOpen.{Filter-F}
 use Rattle.ldap_filter.specs.declared.tree.Filter.TheFolds.{fold-roll-Filter}
-use Rattle.ldap_schema.specs.Schema.{SchemaModel}
-use Rattle.ldap_match.specs.Truth.{disjunction, conjunction, truth_and, truth_or}
-use Rattle.ldap_match.specs.declared.truth.Truth.{Truth}
+use Rattle.dir_entry.specs.ldap_schema.Schema.{SchemaModel}
+use Rattle.dir_entry.specs.ldap_match.Truth.{disjunction, conjunction, truth_and, truth_or}
+use Rattle.dir_entry.specs.ldap_match.declared.truth.Truth.{Truth}
 use Rattle.dir_entry.specs.Entry.{KeyedAttribute, attributes_of, IsKeyedBy}
 use Rattle.ldap_eval.specs.Value.{filter_value, all_value, any_value}
 use Rattle.ldap_eval.specs.Bound.{bound_value, value_step, IsBoundTo, AreBoundTo}

@@ -1,8 +1,8 @@
 -- The algebra of three-valued `or` that the leaves need. Truths flow in and out; entries are not here.
 use Rattle.std.proofs.Common.{◌≡◌, refl, ap, sym, ◌∙◌}
-use Rattle.ldap_match.specs.Truth.{truth_or}
-use Rattle.ldap_match.specs.declared.truth.Truth.{Truth}
-use Rattle.ldap_match.specs.declared.truth.Truth.TheVariants.{True, False, Undefined}
+use Rattle.dir_entry.specs.ldap_match.Truth.{truth_or}
+use Rattle.dir_entry.specs.ldap_match.declared.truth.Truth.{Truth}
+use Rattle.dir_entry.specs.ldap_match.declared.truth.Truth.TheVariants.{True, False, Undefined}
 
 pub or_comm : (a b : Truth) → truth_or a b ≡ truth_or b a
 or_comm True True = refl

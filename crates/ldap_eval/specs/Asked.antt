@@ -1,7 +1,7 @@
 -- The item that the code asks. Plain data flows in, the definition's item flows out.
 use Rattle.ldap_filter.specs.Item.{SubstringsValue}
 use Rattle.ldap_filter.specs.ItemView.{substrings_view}
-use Rattle.ldap_match.specs.Item.{Item, present, equal, at_least, at_most, substrings}
+use Rattle.dir_entry.specs.ldap_match.Item.{Item, present, equal, at_least, at_most, substrings}
 use Rattle.ldap_eval.specs.Value.{parts_of}
 use Rattle.ldap_eval.specs.declared.asking.Asked.{Asked}
 use Rattle.ldap_eval.specs.declared.asking.Asked.TheVariants.{Presence, Equality, AtLeast, AtMost, Substrings}

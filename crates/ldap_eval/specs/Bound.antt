@@ -1,12 +1,12 @@
 -- The value of a bound filter on the keys of an entry, and what it is bound to. Only the evaluation of filters, and the
 -- plans made of bound filters, look at it.
 use Rattle.std.specs.Prelude.{ℕ, ◌+◌, List, [], ◌∷◌, Bool, true, false, cond, map, nat_eq, ◌≡◌}
-use Rattle.ldap_schema.specs.Schema.{SchemaModel, TypeModel, is_under}
-use Rattle.ldap_match.specs.Truth.{truth_not, conjunction, disjunction}
-use Rattle.ldap_match.specs.Item.{Item}
-use Rattle.ldap_match.specs.Keyed.{test_value, test_for}
-use Rattle.ldap_match.specs.declared.truth.Truth.{Truth}
-use Rattle.ldap_match.specs.declared.truth.Truth.TheVariants.{False, Undefined}
+use Rattle.dir_entry.specs.ldap_schema.Schema.{SchemaModel, TypeModel, is_under}
+use Rattle.dir_entry.specs.ldap_match.Truth.{truth_not, conjunction, disjunction}
+use Rattle.dir_entry.specs.ldap_match.Item.{Item}
+use Rattle.dir_entry.specs.ldap_match.Keyed.{test_value, test_for}
+use Rattle.dir_entry.specs.ldap_match.declared.truth.Truth.{Truth}
+use Rattle.dir_entry.specs.ldap_match.declared.truth.Truth.TheVariants.{False, Undefined}
 use Rattle.dir_entry.specs.Entry.{KeyedAttribute, attributes_of, IsKeyedBy}
 use Rattle.ldap_filter.specs.Tree.{Tree, Trees, no_trees, tree}
 use Rattle.ldap_eval.specs.Value.{item_value, filter_value}

@@ -3,3 +3,8 @@ pub mod Asked
 pub mod Bound
 pub mod Ruled
 pub mod Made
+-- what layers above name of the crates below
+pub use Rattle.ldap_filter.specs as ldap_filter
+pub use Rattle.dir_entry.specs.ldap_syntax as ldap_syntax
+pub use Rattle.dir_entry.specs.ldap_match as ldap_match
+pub use Rattle.dir_entry.specs as dir_entry

@@ -2,8 +2,8 @@
 -- and those who count what they leave open, look at it.
 use Rattle.std.specs.Prelude.{◌≡◌, ℕ, List, [], ◌∷◌, true, false, Option, None, Some, Vec, Box}
 use Rattle.std.specs.Global.{Global}
-use Rattle.ldap_schema.specs.Schema.{SchemaModel, find}
-use Rattle.ldap_match.specs.Item.{Item, present, substrings, is_answerable}
+use Rattle.dir_entry.specs.ldap_schema.Schema.{SchemaModel, find}
+use Rattle.dir_entry.specs.ldap_match.Item.{Item, present, substrings, is_answerable}
 use Rattle.ldap_filter.specs.Item as filter_item
 use Rattle.ldap_filter.specs.Tree.{Tree, conj, disj, negation, item, Trees, no_trees, tree}
 use Rattle.ldap_eval.specs.Value.{asked_by, parts_of}

@@ -1,9 +1,9 @@
 -- Types whose rules are of one family: RFC 4512 4.1.2, RFC 4517 4.2. Types flow in, a statement flows out; values are not here.
 use Rattle.std.specs.Prelude.{List, ◌≡◌}
 use Rattle.std.specs.List.{AllByRecursion}
-use Rattle.ldap_syntax.specs.Families.{is_ordering, has_substrings}
-use Rattle.ldap_schema.specs.Schema.{TypeModel}
-use Rattle.ldap_match.specs.Item.{of_family, beside}
+use Rattle.dir_entry.specs.ldap_syntax.Families.{is_ordering, has_substrings}
+use Rattle.dir_entry.specs.ldap_schema.Schema.{TypeModel}
+use Rattle.dir_entry.specs.ldap_match.Item.{of_family, beside}
 
 -- The ORDERING and the SUBSTR rule in effect for a type are those that it has: they are of its EQUALITY rule's family.
 pub record HasRulesOfOneFamily (t : TypeModel) : Type 0 where

@@ -1,12 +1,12 @@
 -- The three-valued value of a filter on an entry: RFC 4511 4.5.1.7. A schema, a filter's tree and an entry's attributes
 -- flow in, a truth flows out; keys, indexes and memory are not here.
 use Rattle.std.specs.Prelude.{ℕ, List, cond, Option, None, Some, filter, map}
-use Rattle.ldap_schema.specs.Schema.{SchemaModel, find, is_under}
-use Rattle.ldap_match.specs.Truth.{truth_and, truth_or, truth_not, disjunction}
-use Rattle.ldap_match.specs.Parts.{PartsModel}
-use Rattle.ldap_match.specs.Item.{Item, present, equal, at_least, at_most, substrings, is_answerable, item_on_attribute}
-use Rattle.ldap_match.specs.declared.truth.Truth.{Truth}
-use Rattle.ldap_match.specs.declared.truth.Truth.TheVariants.{True, False, Undefined}
+use Rattle.dir_entry.specs.ldap_schema.Schema.{SchemaModel, find, is_under}
+use Rattle.dir_entry.specs.ldap_match.Truth.{truth_and, truth_or, truth_not, disjunction}
+use Rattle.dir_entry.specs.ldap_match.Parts.{PartsModel}
+use Rattle.dir_entry.specs.ldap_match.Item.{Item, present, equal, at_least, at_most, substrings, is_answerable, item_on_attribute}
+use Rattle.dir_entry.specs.ldap_match.declared.truth.Truth.{Truth}
+use Rattle.dir_entry.specs.ldap_match.declared.truth.Truth.TheVariants.{True, False, Undefined}
 use Rattle.dir_entry.specs.Entry.{AttributeModel}
 use Rattle.ldap_filter.specs.Item as filter_item
 use Rattle.ldap_filter.specs.Item.{Comparison, SubstringsValue}

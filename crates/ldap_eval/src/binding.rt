@@ -3,21 +3,20 @@
 
 ghost use Rattle.std.specs.Prelude.{◌≡◌, IfOk};
 ghost use Rattle.ldap_filter.specs.View.{view, views};
-ghost use Rattle.ldap_match.specs.Item.{is_answerable as is_answerable_item};
-ghost use Rattle.ldap_match.specs.Keyed.{test_for};
+ghost use Rattle.dir_entry.specs.ldap_match.Item.{is_answerable as is_answerable_item};
+ghost use Rattle.dir_entry.specs.ldap_match.Keyed.{test_for};
 ghost use Rattle.ldap_eval.specs.Asked.{item_of};
-ghost use Rattle.ldap_schema.specs.Schema.{find};
+ghost use Rattle.dir_entry.specs.ldap_schema.Schema.{find};
 ghost use Rattle.ldap_eval.specs.Bound.{IsBoundTo, AreBoundTo, IsBoundItem, leaves_for};
 ghost use Rattle.ldap_eval.specs.Made.{IsMadeOf, AreMadeOf, IsItemFor};
 
 use crate::asking::Asked;
 use crate::bound::{BoundFilter, Leaf};
-use ldap_filter::Filter;
-use ldap_match::{
-    Test, at_least_test, at_most_test, equality_test, has_parts_of, is_comparable, is_ordered,
-    substrings_test, tests_are_items,
+use dir_entry::{
+    Schema, Test, TypeId, at_least_test, at_most_test, equality_test, has_parts_of, is_comparable,
+    is_ordered, substrings_test, tests_are_items,
 };
-use ldap_schema::{Schema, TypeId};
+use ldap_filter::Filter;
 use std::alloc::{AllocError, Global};
 
 /// The filter bound under the schema: `value` of it, on an entry that is keyed by the schema, is the filter's value.

@@ -1,8 +1,7 @@
 // Bound filters. Plain data, for evaluation and for plans.
 // What must not be here: how a filter is bound, and what it says of an entry.
 
-use ldap_match::Test;
-use ldap_schema::TypeId;
+use dir_entry::{Test, TypeId};
 
 /// A test on the attributes of one type, and not of its subtypes.
 #[derive(Drop)]

@@ -2,16 +2,15 @@
 // What must not be here: schemas, descriptions, syntaxes.
 
 ghost use Rattle.std.specs.Prelude.{◌≡◌, map};
-ghost use Rattle.ldap_schema.specs.Schema.{SchemaModel};
-ghost use Rattle.ldap_match.specs.Truth.{conjunction, disjunction};
+ghost use Rattle.dir_entry.specs.ldap_schema.Schema.{SchemaModel};
+ghost use Rattle.dir_entry.specs.ldap_match.Truth.{conjunction, disjunction};
 ghost use Rattle.ldap_filter.specs.Tree.{Tree};
 ghost use Rattle.dir_entry.specs.Entry.{attributes_of, IsKeyedBy};
 ghost use Rattle.ldap_eval.specs.Value.{filter_value};
 ghost use Rattle.ldap_eval.specs.Bound.{bound_value, leaf_value as value_of_leaf, leaf_on as leaf_on_attribute, IsBoundTo};
 
 use crate::bound::{BoundFilter, Leaf};
-use dir_entry::{Attribute, Entry};
-use ldap_match::{Truth, item_on_attribute};
+use dir_entry::{Attribute, Entry, Truth, item_on_attribute};
 
 /// The value of a bound filter on an entry (RFC 4511 4.5.1.7). Takes no memory.
 pub fn value(bound: &BoundFilter, entry: &Entry) -> Truth

@@ -1,7 +1,7 @@
 // A law of the built-in types. Nothing flows in or out.
 // What must not be here: values, filters.
 
-ghost use Rattle.ldap_schema.specs.BuiltIn.{built_in};
+ghost use Rattle.dir_entry.specs.ldap_schema.BuiltIn.{built_in};
 ghost use Rattle.ldap_eval.specs.Ruled.{HaveRulesOfOneFamily};
 
 /// Each built-in type has the ORDERING and the SUBSTR rule that its description gives: the rules of a type are of one family.

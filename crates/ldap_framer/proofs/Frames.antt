@@ -2,14 +2,14 @@
 use Rattle.std.proofs.Common.{◌≡◌, ℕ, ◌+◌, ◌-◌, ◌%◌, ◌<◌, ◌≤◌, List, [], ◌∷◌, ◌++◌, length, take, drop, map, refl, sym, ap, subst, ◌∙◌, inl, inr, append_assoc, arith}
 use Rattle.std.proofs.lemmas.List.{append-nil, drop_at, length-append, length-take-le, map_push, take-append-drop}
 use Rattle.std.proofs.Math.Seq.{take-append-add}
-use Rattle.ldap_ber.specs.Element.{IsElement, IsLength}
+use Rattle.ldap_msg.specs.ldap_ber.Element.{IsElement, IsLength}
 use Rattle.ldap_msg.specs.Messages.{MessageValue}
-use Rattle.ldap_ber.proofs.Elements.{second}
-use Rattle.ldap_ber.specs.Header.{IsHeader, IsHeaderFront}
-use Rattle.ldap_ber.specs.Reading.{IsFault as IsBerFault}
-use Rattle.ldap_ber.specs.declared.fault.BerFault.{BerFault}
-use Rattle.ldap_ber.specs.declared.fault.BerFault.TheVariants.{HighTag, Short, Indefinite, LengthTooLong}
-use Rattle.ldap_fields.specs.declared.fault.MsgFault.{MsgFault}
+use Rattle.ldap_msg.proofs.ldap_ber.Elements.{second}
+use Rattle.ldap_msg.specs.ldap_ber.Header.{IsHeader, IsHeaderFront}
+use Rattle.ldap_msg.specs.ldap_ber.Reading.{IsFault as IsBerFault}
+use Rattle.ldap_msg.specs.ldap_ber.declared.fault.BerFault.{BerFault}
+use Rattle.ldap_msg.specs.ldap_ber.declared.fault.BerFault.TheVariants.{HighTag, Short, Indefinite, LengthTooLong}
+use Rattle.ldap_msg.specs.ldap_fields.declared.fault.MsgFault.{MsgFault}
 use Rattle.ldap_msg.specs.Limits.{IsFault}
 use Rattle.ldap_msg.specs.View.{view}
 use Rattle.ldap_msg.specs.declared.message.Message.{Message}

@@ -2,14 +2,14 @@
 use Rattle.std.proofs.Common.{◌≡◌, ℕ, ◌+◌, ◌-◌, ◌≤◌, List, [], ◌∷◌, ◌++◌, length, Result, Ok, refl, sym, ap, ap₂, subst, ◌∙◌, inl, inr, append_assoc, arith}
 use Rattle.std.specs.Prelude.{replicate}
 use Rattle.std.proofs.lemmas.List.{append-nil, append_cancel_left, append_cancel_right, length-append, length-replicate}
-use Rattle.ldap_ber.specs.Element.{IsElement, IsLength}
-use Rattle.ldap_ber.specs.Header.{IsHeader}
-use Rattle.ldap_ber.specs.Reading.{length_at}
-use Rattle.ldap_ber.specs.declared.fault.BerFault.{BerFault}
-use Rattle.ldap_ber.proofs.Elements.{one}
-use Rattle.ldap_ber.proofs.Lengths.{length_again}
-use Rattle.ldap_fields.specs.declared.fault.MsgFault.{MsgFault}
-use Rattle.ldap_fields.specs.declared.fault.MsgFault.TheVariants.{TooLarge, NotAMessage, TooDeep, TooManyItems, NoMemory}
+use Rattle.ldap_msg.specs.ldap_ber.Element.{IsElement, IsLength}
+use Rattle.ldap_msg.specs.ldap_ber.Header.{IsHeader}
+use Rattle.ldap_msg.specs.ldap_ber.Reading.{length_at}
+use Rattle.ldap_msg.specs.ldap_ber.declared.fault.BerFault.{BerFault}
+use Rattle.ldap_msg.proofs.ldap_ber.Elements.{one}
+use Rattle.ldap_msg.proofs.ldap_ber.Lengths.{length_again}
+use Rattle.ldap_msg.specs.ldap_fields.declared.fault.MsgFault.{MsgFault}
+use Rattle.ldap_msg.specs.ldap_fields.declared.fault.MsgFault.TheVariants.{TooLarge, NotAMessage, TooDeep, TooManyItems, NoMemory}
 use Rattle.ldap_msg.specs.Messages.{MessageValue}
 use Rattle.ldap_msg.specs.Grammar.{IsMessage}
 use Rattle.ldap_msg.specs.Limits.{IsFault}

@@ -1,7 +1,7 @@
 -- Wire, streams: what a framer holds, and what a piece makes of it.
 -- In: a stream that comes in pieces. Out: messages that wait, and what is left. Not here: memory.
 use Rattle.std.specs.Prelude.{◌≡◌, ℕ, List, ◌++◌, Option, Some, None}
-use Rattle.ldap_fields.specs.declared.fault.MsgFault.{MsgFault}
+use Rattle.ldap_msg.specs.ldap_fields.declared.fault.MsgFault.{MsgFault}
 use Rattle.ldap_msg.specs.Messages.{MessageValue}
 use Rattle.ldap_framer.specs.Stream.{Ending, awaits, stops, Reads}
 use Rattle.ldap_framer.specs.declared.fault.FrameFault.{FrameFault}
@@ -33,4 +33,4 @@ pub record Takes (old : Framed) (piece : List ℕ) (new : Framed) : Type 0 where
 abbrev pub IsFeedFault : FrameFault → Framed → List ℕ → Framed → Type 0
 IsFeedFault (Refused fault) old piece new = Takes old piece new × (new.fault ≡ Some fault)
 IsFeedFault Failed old piece new = (old.fault ≡ None → ⊥) × (new ≡ old)
-IsFeedFault NoMemory old piece new = new ≡ old
+IsFeedFault NoMemory old piece new = (old.fault ≡ None) × (new ≡ old)

@@ -1,10 +1,10 @@
 -- Wire, streams: the messages of a stream, and how it ends.
 -- In: the octets of a stream so far. Out: its messages in their order, and what stands behind them. Not here: pieces, memory.
 use Rattle.std.specs.Prelude.{◌≡◌, ◌⊎◌, ℕ, ◌+◌, ◌<◌, ◌≤◌, List, [], ◌∷◌, ◌++◌, length}
-use Rattle.ldap_ber.specs.Element.{IsElement}
-use Rattle.ldap_ber.specs.Header.{IsHeader, IsHeaderFront}
-use Rattle.ldap_fields.specs.declared.fault.MsgFault.{MsgFault}
-use Rattle.ldap_fields.specs.declared.fault.MsgFault.TheVariants.{TooLarge, NotAMessage, TooDeep, TooManyItems, NoMemory}
+use Rattle.ldap_msg.specs.ldap_ber.Element.{IsElement}
+use Rattle.ldap_msg.specs.ldap_ber.Header.{IsHeader, IsHeaderFront}
+use Rattle.ldap_msg.specs.ldap_fields.declared.fault.MsgFault.{MsgFault}
+use Rattle.ldap_msg.specs.ldap_fields.declared.fault.MsgFault.TheVariants.{TooLarge, NotAMessage, TooDeep, TooManyItems, NoMemory}
 use Rattle.ldap_msg.specs.Messages.{MessageValue}
 use Rattle.ldap_msg.specs.Grammar.{IsMessage}
 use Rattle.ldap_msg.specs.Limits.{IsWithin, IsFault}

@@ -9,8 +9,7 @@ ghost use Rattle.ldap_framer.specs.Framed.{ending_of};
 ghost use Rattle.ldap_framer.specs.Fronts.{BeginsFrame, IsTrueOf};
 
 use crate::finding::{Cut, Finding};
-use ldap_ber::{BerFault, header};
-use ldap_msg::{MAX_MESSAGE, MsgFault, decode};
+use ldap_msg::{BerFault, MAX_MESSAGE, MsgFault, decode, header};
 use std::alloc::Global;
 use std::collections::VecDeque;
 

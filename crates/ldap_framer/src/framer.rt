@@ -44,7 +44,7 @@ impl Framer {
     }
 
     /// Takes the next piece of the stream. E7 to E10 where the stream stops, after which each call is
-    /// Failed; the messages before are still handed out. Want of memory changes nothing.
+    /// Failed; the messages before are still handed out. Want of memory comes only before that, and changes nothing.
     pub fn feed(&mut self, piece: &[u8]) -> Result<(), FrameFault>
         // The messages of the piece behind what was left join those that wait.
         ensures ok { OnOk result (Takes (framed self.old) piece.now (framed self.new)) }

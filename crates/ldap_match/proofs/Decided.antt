@@ -5,7 +5,7 @@ use Rattle.std.specs.Bool.{Decides}
 use Rattle.std.proofs.lemmas.Bool.Decides.{same_from_decides}
 use Rattle.std.specs.List.{list_any}
 use Rattle.std.proofs.lemmas.Slice.Eq.{bytes_eq-Decides}
-use Rattle.ldap_syntax.specs.Parts.{StandInOrder, HasParts, part_or_nothing}
+use Rattle.ldap_dn.specs.ldap_syntax.Parts.{StandInOrder, HasParts, part_or_nothing}
 use Rattle.ldap_match.specs.Parts.{PartsModel, is_at_start, is_at_end, tails, are_in_order, has_parts}
 
 start_yes : (p w : List ℕ) → is_at_start p w ≡ true → w ≡ p ++ drop (length p) w

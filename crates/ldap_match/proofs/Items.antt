@@ -7,19 +7,19 @@ use Rattle.std.specs.Str.{bytes_eq}
 use Rattle.std.proofs.lemmas.Int.{ints}
 use Rattle.std.proofs.lemmas.Bool.Decides.{same_from_decides, Decides-int_eq}
 use Rattle.std.proofs.lemmas.Slice.Eq.{bytes_eq-Decides}
-use Rattle.ldap_syntax.specs.Families.{is_ordering, has_substrings}
-use Rattle.ldap_syntax.specs.Meaning as syntax_meaning
-use Rattle.ldap_syntax.specs.Meaning.{Meaning, number, text, truth, octets, identifier, name, is_before, part_meaning, IsLessMeaning}
-use Rattle.ldap_syntax.specs.Parts.{HasParts, MeaningHasParts}
-use Rattle.ldap_syntax.specs.Keys as syntax_keys
-use Rattle.ldap_syntax.specs.Keys.{text_key, KeysArePresentAsMeanings, KeysAreEqualAsMeanings, KeysAreOrderedAsMeanings, PartsStandAsMeanings}
-use Rattle.ldap_syntax.specs.declared.preparing.Part.TheVariants.{Initial, Any, Final}
-use Rattle.ldap_syntax.specs.declared.rule.Family.{Family}
-use Rattle.ldap_syntax.specs.declared.rule.Family.TheVariants as family
-use Rattle.ldap_syntax.specs.declared.rule.Rule.{Rule}
-use Rattle.ldap_schema.specs.Schema.{SchemaModel, TypeModel}
-use Rattle.value_keys.specs.Meaning.{dotted, identified}
-use Rattle.value_keys.specs.Rules.{equality_in, equality_of}
+use Rattle.ldap_dn.specs.ldap_syntax.Families.{is_ordering, has_substrings}
+use Rattle.ldap_dn.specs.ldap_syntax.Meaning as syntax_meaning
+use Rattle.ldap_dn.specs.ldap_syntax.Meaning.{Meaning, number, text, truth, octets, identifier, name, is_before, part_meaning, IsLessMeaning}
+use Rattle.ldap_dn.specs.ldap_syntax.Parts.{HasParts, MeaningHasParts}
+use Rattle.ldap_dn.specs.ldap_syntax.Keys as syntax_keys
+use Rattle.ldap_dn.specs.ldap_syntax.Keys.{text_key, KeysArePresentAsMeanings, KeysAreEqualAsMeanings, KeysAreOrderedAsMeanings, PartsStandAsMeanings}
+use Rattle.ldap_dn.specs.ldap_syntax.declared.preparing.Part.TheVariants.{Initial, Any, Final}
+use Rattle.ldap_dn.specs.ldap_syntax.declared.rule.Family.{Family}
+use Rattle.ldap_dn.specs.ldap_syntax.declared.rule.Family.TheVariants as family
+use Rattle.ldap_dn.specs.ldap_syntax.declared.rule.Rule.{Rule}
+use Rattle.ldap_dn.specs.ldap_schema.Schema.{SchemaModel, TypeModel}
+use Rattle.ldap_dn.specs.ldap_schema.Meaning.{dotted, identified}
+use Rattle.ldap_dn.specs.ldap_schema.Rules.{equality_in, equality_of}
 use Rattle.ldap_dn.specs.NameKeys.{NameKeysAreOfNames}
 use Rattle.ldap_match.specs.Meaning.{meaning, meaning_by, name_of}
 use Rattle.ldap_match.specs.Parts.{PartsModel, has_parts}

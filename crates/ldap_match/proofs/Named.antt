@@ -6,8 +6,8 @@ use Rattle.std.specs.Str.{bytes_eq, is_utf8}
 use Rattle.std.proofs.lemmas.Bool.Decides.{Decides-like, Decides-and, Decides-eqb}
 use Rattle.std.proofs.lemmas.Slice.Eq.{bytes_eq-Decides, slice_eq-Decides}
 use Rattle.std.proofs.lemmas.Str.{is_utf8-from_IsUtf8, IsUtf8-from_is_utf8}
-use Rattle.ldap_syntax.specs.Meaning.{Meaning, name}
-use Rattle.ldap_schema.specs.Schema.{SchemaModel}
+use Rattle.ldap_dn.specs.ldap_syntax.Meaning.{Meaning, name}
+use Rattle.ldap_dn.specs.ldap_schema.Schema.{SchemaModel}
 use Rattle.ldap_dn.specs.Names.{TypeAndKey, RdnModel, rdns}
 use Rattle.ldap_dn.specs.NameKeys.{NameKeysAreOfNames}
 use Rattle.ldap_dn.specs.Texts.{name_of_text}

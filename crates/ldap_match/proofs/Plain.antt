@@ -1,15 +1,15 @@
 -- Rules that are of another family than names. Facts on values flow in and out; names are not here.
 use Rattle.std.proofs.Common.{ℕ, List, true, Option, None, Some, is_some, Result, Ok, Err, OnOk, ◌≡◌, refl, ap, sym, ◌∙◌, slice_get}
-use Rattle.ldap_syntax.specs.Families.{is_ordering}
-use Rattle.ldap_syntax.specs.Meaning.{Meaning}
-use Rattle.ldap_syntax.specs.declared.rule.Family.{Family}
-use Rattle.ldap_syntax.specs.declared.rule.Family.TheVariants as family
-use Rattle.ldap_syntax.specs.declared.rule.Rule.{Rule}
-use Rattle.ldap_syntax.specs.declared.fault.ValueError.{ValueError}
-use Rattle.ldap_syntax.specs.declared.fault.ValueError.TheVariants.{NotInSyntax}
-use Rattle.ldap_schema.specs.Schema.{SchemaModel}
-use Rattle.value_keys.specs.Meaning as plain
-use Rattle.value_keys.specs.Keyed as plain_keys
+use Rattle.ldap_dn.specs.ldap_syntax.Families.{is_ordering}
+use Rattle.ldap_dn.specs.ldap_syntax.Meaning.{Meaning}
+use Rattle.ldap_dn.specs.ldap_syntax.declared.rule.Family.{Family}
+use Rattle.ldap_dn.specs.ldap_syntax.declared.rule.Family.TheVariants as family
+use Rattle.ldap_dn.specs.ldap_syntax.declared.rule.Rule.{Rule}
+use Rattle.ldap_dn.specs.ldap_syntax.declared.fault.ValueError.{ValueError}
+use Rattle.ldap_dn.specs.ldap_syntax.declared.fault.ValueError.TheVariants.{NotInSyntax}
+use Rattle.ldap_dn.specs.ldap_schema.Schema.{SchemaModel}
+use Rattle.ldap_dn.specs.ldap_schema.Meaning as plain
+use Rattle.ldap_dn.specs.ldap_schema.Keyed as plain_keys
 use Rattle.ldap_match.specs.Meaning.{meaning, meaning_by}
 use Rattle.ldap_match.specs.Item.{ordering_of, is_valid_by}
 use Rattle.ldap_match.specs.Keyed.{key_at, key_by}

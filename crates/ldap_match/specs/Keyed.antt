@@ -2,15 +2,15 @@
 use Rattle.std.specs.Prelude.{ℕ, List, Bool, not, ◌||◌, Option, None, Some, map, option_map, ◌≡◌}
 use Rattle.std.specs.List.{list_any}
 use Rattle.std.specs.Str.{bytes_eq}
-use Rattle.ldap_syntax.specs.Keys as syntax
-use Rattle.ldap_syntax.specs.Meaning.{is_before}
-use Rattle.ldap_syntax.specs.declared.preparing.Part.TheVariants.{Initial, Any, Final}
-use Rattle.ldap_syntax.specs.declared.rule.Family.{Family}
-use Rattle.ldap_syntax.specs.declared.rule.Family.TheVariants as family
-use Rattle.ldap_syntax.specs.declared.rule.Rule.{Rule}
-use Rattle.ldap_schema.specs.Schema.{SchemaModel}
-use Rattle.value_keys.specs.Keyed as plain
-use Rattle.value_keys.specs.Rules.{equality_of}
+use Rattle.ldap_dn.specs.ldap_syntax.Keys as syntax
+use Rattle.ldap_dn.specs.ldap_syntax.Meaning.{is_before}
+use Rattle.ldap_dn.specs.ldap_syntax.declared.preparing.Part.TheVariants.{Initial, Any, Final}
+use Rattle.ldap_dn.specs.ldap_syntax.declared.rule.Family.{Family}
+use Rattle.ldap_dn.specs.ldap_syntax.declared.rule.Family.TheVariants as family
+use Rattle.ldap_dn.specs.ldap_syntax.declared.rule.Rule.{Rule}
+use Rattle.ldap_dn.specs.ldap_schema.Schema.{SchemaModel}
+use Rattle.ldap_dn.specs.ldap_schema.Keyed as plain
+use Rattle.ldap_dn.specs.ldap_schema.Rules.{equality_of}
 use Rattle.ldap_dn.specs.Names.{RdnModel, rdns}
 use Rattle.ldap_dn.specs.NameKeys.{name_key}
 use Rattle.ldap_match.specs.Meaning.{name_of}

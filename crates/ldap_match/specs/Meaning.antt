@@ -2,12 +2,12 @@
 -- out; entries and filters are not here.
 use Rattle.std.specs.Prelude.{ℕ, List, map, cond, Option, None, option_map}
 use Rattle.std.specs.Str.{is_utf8}
-use Rattle.ldap_syntax.specs.Meaning.{Meaning, name}
-use Rattle.ldap_syntax.specs.declared.rule.Family.{Family}
-use Rattle.ldap_syntax.specs.declared.rule.Family.TheVariants as family
-use Rattle.ldap_syntax.specs.declared.rule.Rule.{Rule}
-use Rattle.ldap_schema.specs.Schema.{SchemaModel}
-use Rattle.value_keys.specs.Meaning as plain
+use Rattle.ldap_dn.specs.ldap_syntax.Meaning.{Meaning, name}
+use Rattle.ldap_dn.specs.ldap_syntax.declared.rule.Family.{Family}
+use Rattle.ldap_dn.specs.ldap_syntax.declared.rule.Family.TheVariants as family
+use Rattle.ldap_dn.specs.ldap_syntax.declared.rule.Rule.{Rule}
+use Rattle.ldap_dn.specs.ldap_schema.Schema.{SchemaModel}
+use Rattle.ldap_dn.specs.ldap_schema.Meaning as plain
 use Rattle.ldap_dn.specs.Names.{TypeAndKey, RdnModel, rdns}
 use Rattle.ldap_dn.specs.Texts.{name_of_text}
 

@@ -3,7 +3,7 @@
 use Rattle.std.specs.Prelude.{ℕ, ◌-◌, List, [], ◌∷◌, Bool, true, ◌&&◌, Option, length, take, drop}
 use Rattle.std.specs.List.{list_any}
 use Rattle.std.specs.Str.{bytes_eq}
-use Rattle.ldap_syntax.specs.Parts.{part_or_nothing}
+use Rattle.ldap_dn.specs.ldap_syntax.Parts.{part_or_nothing}
 
 -- the parts of a substrings item: octets, prepared texts, or keys
 pub record PartsModel : Type 0 where

@@ -2,19 +2,18 @@
 // that it is not in the syntax, flows out. What must not be here: attributes, entries.
 
 ghost use Rattle.std.specs.Prelude.{◌≡◌, ◌≢◌, true, IfOk, OnOk, IsErrOf, None, Some, is_some};
-ghost use Rattle.ldap_syntax.specs.declared.rule.Family.TheVariants as family_of;
+ghost use Rattle.ldap_dn.specs.ldap_syntax.declared.rule.Family.TheVariants as family_of;
 ghost use Rattle.ldap_match.specs.Meaning.{meaning};
 ghost use Rattle.ldap_match.specs.Item.{equal, at_least, at_most, is_answerable, is_of_syntax as is_of_type_syntax, is_in_syntax as is_in_schema_syntax};
 ghost use Rattle.ldap_match.specs.Keyed.{key_at};
 
 use crate::naming::{is_name, name_key};
 use crate::ruling::ordering_rule;
-use ldap_schema::{Schema, TypeId};
-use ldap_syntax::{Family, Key, Rule, Syntax, ValueError, is_in_syntax};
-use std::alloc::{AllocError, Global};
-use value_keys::{
-    equality_rule, is_identifier, is_meaningful as is_plainly_meaningful, key as plain_key,
+use ldap_dn::{
+    Family, Key, Rule, Schema, Syntax, TypeId, ValueError, equality_rule, is_identifier,
+    is_in_syntax, is_meaningful as is_plainly_meaningful, key as plain_key,
 };
+use std::alloc::{AllocError, Global};
 
 /// The value's key under the rule: of a name that of its relative names as sets (RFC 4517 4.2.15), and a name of a
 /// type or a class stands for its object identifier (RFC 4517 3.3.26). Keys of one rule are equal exactly where the

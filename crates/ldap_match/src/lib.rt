@@ -10,6 +10,10 @@ mod testing;
 mod truth;
 
 pub use keying::{is_comparable, is_of_syntax, is_ordered, key};
+pub use ldap_dn::{
+    ClassId, ClassKind, Key, Name, NameError, Rdn, Rule, Schema, SchemaError, TypeAndValue, TypeId,
+    ValueError, equality_rule, is_front,
+};
 pub use naming::equal_values_are_one_name;
 pub use parts::{PartKeys, part_keys};
 pub use ruling::{ordering_rule, substrings_rule};

@@ -6,9 +6,7 @@ ghost use Rattle.ldap_match.specs.Meaning.{name_of as name_of_value};
 ghost use Rattle.ldap_match.specs.Keyed.{key_of_name};
 ghost use Rattle.ldap_match.specs.NameValues.{EqualValuesAreOneName};
 
-use ldap_dn::{Name, NameError};
-use ldap_schema::Schema;
-use ldap_syntax::{Key, ValueError};
+use ldap_dn::{Key, Name, NameError, Schema, ValueError};
 use std::alloc::{AllocError, Global};
 use std::str;
 

@@ -3,13 +3,13 @@
 
 ghost use Rattle.std.specs.Prelude.{◌≡◌, ℕ, List, None, Some, IfOk, IsErrOf, map};
 ghost use Rattle.std.specs.Option.{option_copied, option_map};
-ghost use Rattle.ldap_syntax.specs.Keys.{part_key_at};
-ghost use Rattle.ldap_syntax.specs.declared.preparing.Part.TheVariants.{Any};
+ghost use Rattle.ldap_dn.specs.ldap_syntax.Keys.{part_key_at};
+ghost use Rattle.ldap_dn.specs.ldap_syntax.declared.preparing.Part.TheVariants.{Any};
 ghost use Rattle.ldap_match.specs.Parts.{PartsModel, has_parts};
 ghost use Rattle.ldap_match.specs.Item.{end_by, each_by};
 ghost use Rattle.ldap_match.specs.Keyed.{part_keys_at};
 
-use ldap_syntax::{Key, Part, Rule, ValueError, part_key_of};
+use ldap_dn::{Key, Part, Rule, ValueError, part_key_of};
 use std::alloc::Global;
 use std::marker::Model;
 

@@ -4,8 +4,7 @@
 ghost use Rattle.std.specs.Prelude.{◌≡◌};
 ghost use Rattle.ldap_match.specs.Item.{ordering_of, substrings_of};
 
-use ldap_schema::{Schema, TypeId};
-use ldap_syntax::{Rule, has_ordering, has_substrings};
+use ldap_dn::{Rule, Schema, TypeId, has_ordering, has_substrings};
 
 /// The ORDERING rule in effect for the type; none, where it lacks one or is another schema's. It keys values as the
 /// EQUALITY rule does.

@@ -4,7 +4,7 @@
 ghost use Rattle.std.specs.Prelude.{◌≡◌, ℕ, List, IfOk, map};
 ghost use Rattle.std.specs.Option.{option_map};
 ghost use Rattle.std.specs.List.{list_any};
-ghost use Rattle.ldap_schema.specs.Schema.{SchemaModel};
+ghost use Rattle.ldap_dn.specs.ldap_schema.Schema.{SchemaModel};
 ghost use Rattle.ldap_match.specs.Item as item;
 ghost use Rattle.ldap_match.specs.Item.{Item, equal, at_least, at_most, substrings, is_answerable};
 ghost use Rattle.ldap_match.specs.Parts.{has_parts};
@@ -15,11 +15,11 @@ use crate::keying::key;
 use crate::parts::{PartKeys, part_keys};
 use crate::ruling::{ordering_rule, substrings_rule};
 use crate::truth::Truth;
-use ldap_dn::name_keys_are_of_names;
-use ldap_schema::{Schema, TypeId};
-use ldap_syntax::{Key, Rule, ValueError, keys_compare, parts_compare};
+use ldap_dn::{
+    Key, Rule, Schema, TypeId, ValueError, equality_rule, keys_compare, name_keys_are_of_names,
+    parts_compare,
+};
 use std::alloc::{AllocError, Global};
-use value_keys::equality_rule;
 
 /// What an item asks of the attributes of one type, with the assertion's key under the rule of that type.
 #[derive(Drop)]

@@ -3,3 +3,5 @@ pub mod Unique
 pub mod Exits
 pub mod Whole
 pub mod Spelled
+-- what layers above name of the crates below
+pub use Rattle.ldap_requests.proofs.ldap_ber as ldap_ber

@@ -5,8 +5,8 @@ use Rattle.ldap_fields.specs.declared.fault.MsgFault.{MsgFault}
 use Rattle.ldap_fields.specs.declared.fault.MsgFault.TheVariants.{TooLarge, NotAMessage, TooDeep, TooManyItems, NoMemory}
 use Rattle.ldap_fields.specs.Fields.{HasField}
 use Rattle.ldap_fields.proofs.Same.{step, same_field, number_unique}
-use Rattle.ldap_filter.specs.Limits.{Opens}
-use Rattle.ldap_filter.proofs.Unique.{opens_within}
+use Rattle.ldap_requests.specs.ldap_filter.Limits.{Opens}
+use Rattle.ldap_requests.proofs.ldap_filter.Unique.{opens_within}
 use Rattle.ldap_requests.specs.Values.{SearchRequestValue}
 use Rattle.ldap_requests.specs.Grammar.{IsSearchRequest}
 use Rattle.ldap_msg.specs.Messages.{search, OperationValue, request, response, MessageValue}

@@ -2,7 +2,7 @@
 -- In: a value and octets. Out: whether the octets spell it. Not here: the parts of each operation, limits, the one spelling that is written.
 use Rattle.std.specs.Prelude.{◌^◌, ◌≤◌, ℕ, List, []}
 use Rattle.ldap_fields.specs.Fields.{Seq, HasNumber, HasPart}
-use Rattle.ldap_parts.specs.Grammar.{IsLdapResult, AreControls}
+use Rattle.ldap_updates.specs.ldap_parts.Grammar.{IsLdapResult, AreControls}
 use Rattle.ldap_requests.specs.Grammar.{IsBindRequest, IsUnbindRequest, IsSearchRequest, IsCompareRequest, IsAbandonRequest, IsExtendedRequest}
 use Rattle.ldap_updates.specs.Grammar.{IsModifyRequest, IsAddRequest, IsDelRequest, IsModifyDnRequest}
 use Rattle.ldap_responses.specs.Grammar.{IsSearchResultEntry, IsExtendedResponse}

@@ -4,8 +4,8 @@ use Rattle.std.specs.Prelude.{◌^◌, ◌<◌, ◌≤◌, ℕ, List, [], length
 use Rattle.ldap_fields.specs.declared.fault.MsgFault.{MsgFault}
 use Rattle.ldap_fields.specs.declared.fault.MsgFault.TheVariants.{TooLarge, NotAMessage, TooDeep, TooManyItems, NoMemory}
 use Rattle.ldap_fields.specs.Fields.{HasField, HasNumber}
-use Rattle.ldap_filter.specs.Tree.{depth, count}
-use Rattle.ldap_filter.specs.Limits.{Opens}
+use Rattle.ldap_requests.specs.ldap_filter.Tree.{depth, count}
+use Rattle.ldap_requests.specs.ldap_filter.Limits.{Opens}
 use Rattle.ldap_msg.specs.Messages.{search, RequestValue, OperationValue, request, response, MessageValue}
 use Rattle.ldap_msg.specs.Grammar.{IsMessage}
 use Rattle.ldap_requests.specs.Limits.{FilterStandsAt}

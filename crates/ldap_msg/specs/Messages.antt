@@ -1,7 +1,7 @@
 -- Wire, messages: a message without where it lies in memory (RFC 4511 4); a text is its octets.
 -- In: nothing. Out: the model of a message. Not here: octets of the wire.
 use Rattle.std.specs.Prelude.{ℕ, ℤ, List}
-pub use Rattle.ldap_parts.specs.Values.{PartialAttributeValue, LdapResultValue, ControlValue}
+pub use Rattle.ldap_updates.specs.ldap_parts.Values.{PartialAttributeValue, LdapResultValue, ControlValue}
 pub use Rattle.ldap_requests.specs.Values.{BindRequestValue, SearchRequestValue, CompareRequestValue, ExtendedRequestValue}
 pub use Rattle.ldap_updates.specs.Values.{ModifyRequestValue, AddRequestValue, ModifyDnRequestValue}
 pub use Rattle.ldap_responses.specs.Values.{SearchResultEntryValue, ExtendedResponseValue}

@@ -3,14 +3,14 @@
 use Rattle.std.specs.Prelude.{◌^◌, ◌<◌, ℕ, List, [], ◌++◌}
 use Rattle.std.specs.Str.{IsUtf8}
 use Rattle.std.specs.List.{AllByRecursion}
-use Rattle.ldap_ber.specs.Element.{element_bytes}
-use Rattle.ldap_ber.specs.Values.{integer_octets, IsLong}
+use Rattle.ldap_requests.specs.ldap_ber.Element.{element_bytes}
+use Rattle.ldap_requests.specs.ldap_ber.Values.{integer_octets, IsLong}
 use Rattle.ldap_fields.specs.Written.{number_bytes, row_or_none_bytes}
-use Rattle.ldap_parts.specs.Written.{result_content, control_bytes}
+use Rattle.ldap_updates.specs.ldap_parts.Written.{result_content, control_bytes}
 use Rattle.ldap_requests.specs.Written.{bind_content, search_content, compare_content, extended_request_content}
 use Rattle.ldap_updates.specs.Written.{modify_content, add_content, modify_dn_content}
 use Rattle.ldap_responses.specs.Written.{entry_content, extended_content}
-use Rattle.ldap_parts.specs.Written.{IsResultInRange}
+use Rattle.ldap_updates.specs.ldap_parts.Written.{IsResultInRange}
 use Rattle.ldap_requests.specs.Written.{IsBindInRange, IsSearchInRange, IsCompareInRange, IsExtendedRequestInRange}
 use Rattle.ldap_updates.specs.Written.{IsModifyInRange, IsAddInRange, IsModifyDnInRange}
 use Rattle.ldap_responses.specs.Written.{IsEntryInRange, IsExtendedInRange}

@@ -13,7 +13,7 @@ use crate::decoding_request::{is_request, request_of};
 use crate::decoding_response::response_of;
 use crate::message::{Message, ProtocolOp};
 use ldap_fields::{MsgFault, element, field, number_field};
-use ldap_parts::controls_of;
+use ldap_updates::controls_of;
 use std::alloc::Global;
 
 /// How many octets a message may have, its header included.

@@ -10,9 +10,9 @@ ghost use Rattle.ldap_msg.specs.Written.{operation_content, operation_bytes, mes
 use crate::encoding_request::{request_content, request_octet};
 use crate::encoding_response::{response_content, response_octet};
 use crate::message::{Message, ProtocolOp};
-use ldap_ber::{WriteError, write};
 use ldap_fields::put_number;
-use ldap_parts::put_controls;
+use ldap_requests::{WriteError, write};
+use ldap_updates::put_controls;
 use std::alloc::Global;
 
 /// The content of an operation's element.

@@ -7,9 +7,9 @@ ghost use Rattle.ldap_msg.specs.Grammar.{response_octet};
 ghost use Rattle.ldap_msg.specs.Written.{response_content};
 
 use crate::message::Response;
-use ldap_ber::WriteError;
-use ldap_parts::result_content;
+use ldap_requests::WriteError;
 use ldap_responses::{entry_content, extended_content};
+use ldap_updates::result_content;
 use std::alloc::Global;
 
 /// The content of a response.

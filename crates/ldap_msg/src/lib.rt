@@ -13,14 +13,15 @@ mod message;
 
 pub use decoding::{MAX_MESSAGE, decode, one_message};
 pub use encoding::{encode, is_message};
-pub use ldap_ber::WriteError as EncodeError;
 pub use ldap_fields::MsgFault;
-pub use ldap_filter::Filter;
-pub use ldap_parts::{Attribute, Control, LdapResult, PartialAttribute, ResultCode};
 pub use ldap_requests::{
-    AttributeValueAssertion, AuthenticationChoice, BindRequest, CompareRequest, DerefAliases,
-    ExtendedRequest, SaslCredentials, Scope, SearchRequest,
+    AttributeValueAssertion, AuthenticationChoice, BerFault, BindRequest, CompareRequest,
+    DerefAliases, ExtendedRequest, Filter, SaslCredentials, Scope, SearchRequest,
+    WriteError as EncodeError, header,
 };
 pub use ldap_responses::{ExtendedResponse, SearchResultEntry};
-pub use ldap_updates::{AddRequest, Change, ModifyDnRequest, ModifyOperation, ModifyRequest};
+pub use ldap_updates::{
+    AddRequest, Attribute, Change, Control, LdapResult, ModifyDnRequest, ModifyOperation,
+    ModifyRequest, PartialAttribute, ResultCode,
+};
 pub use message::{Message, ProtocolOp, Request, Response};

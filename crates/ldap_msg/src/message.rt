@@ -1,10 +1,9 @@
 //! Wire, messages: the envelope and its operations.
 //! In: nothing. Out: the types. Not here: octets, the parts of each operation.
 
-use ldap_parts::{Control, LdapResult};
 use ldap_requests::{BindRequest, CompareRequest, ExtendedRequest, SearchRequest};
 use ldap_responses::{ExtendedResponse, SearchResultEntry};
-use ldap_updates::{AddRequest, ModifyDnRequest, ModifyRequest};
+use ldap_updates::{AddRequest, Control, LdapResult, ModifyDnRequest, ModifyRequest};
 
 /// LDAPMessage (RFC 4511 4.1.1).
 #[derive(Debug, Drop)]

@@ -3,7 +3,6 @@
 //! Not here: messages, who asked, what an update does.
 #![tactic(auto)]
 
-mod copying;
 mod laws;
 mod op;
 mod reading;
@@ -11,9 +10,10 @@ mod update;
 mod writing;
 
 pub use laws::{is_op, one_op};
-pub use ldap_ber::WriteError;
-pub use ldap_fields::MsgFault;
-pub use ldap_updates::{AddRequest, Change, ModifyDnRequest, ModifyOperation, ModifyRequest};
+pub use ldap_updates::{
+    AddRequest, Change, ModifyDnRequest, ModifyOperation, ModifyRequest, MsgFault,
+    PartialAttribute, ResultCode, WriteError,
+};
 pub use op::Op;
 pub use reading::read_op;
 pub use update::Update;

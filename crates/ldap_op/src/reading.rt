@@ -2,15 +2,14 @@
 //! In: the octets of its operation, or none. Out: the update, or a fault. Not here: messages.
 
 ghost use Rattle.std.specs.Prelude.{◌≡◌, IfOk, IfErr, MatchResult};
-ghost use Rattle.ldap_fields.specs.Faults.{IsPlainFault};
+ghost use Rattle.ldap_updates.specs.ldap_fields.Faults.{IsPlainFault};
 ghost use Rattle.ldap_op.specs.Values.{OpValue};
 ghost use Rattle.ldap_op.specs.View.{update_view};
 ghost use Rattle.ldap_op.specs.Grammar.{IsUpdate, IsOp};
 
 use crate::op::Op;
 use crate::update::Update;
-use ldap_fields::{MsgFault, element};
-use ldap_updates::{add_of, delete_of, modify_dn_of, modify_of};
+use ldap_updates::{MsgFault, add_of, delete_of, element, modify_dn_of, modify_of};
 use std::alloc::Global;
 
 /// The update of this first octet whose content this is.
@@ -40,12 +39,14 @@ pub fn read_op(alloc: Global, octets: &[u8]) -> Result<Op, MsgFault>
     ensures fault { IfErr result (λ e. IsPlainFault e ((op : OpValue) × IsOp op octets.now)) }
 {
     if octets.is_empty() {
-        return Ok(Op::new(Update::Noop));
+        let noop = Op::new(alloc, Update::Noop)?;
+        return Ok(noop);
     }
     let (element, rest) = element(octets)?;
     if !rest.is_empty() {
         return Err(MsgFault::NotAMessage);
     }
     let update = update_of(alloc, element.first, element.content)?;
-    Ok(Op::new(update))
+    let op = Op::new(alloc, update)?;
+    Ok(op)
 }

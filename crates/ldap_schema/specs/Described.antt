@@ -1,14 +1,14 @@
 -- The types and classes that descriptions stand for: RFC 4512 4.1. Descriptions flow in, a schema flows out; faults are not here.
 use Rattle.std.specs.Prelude.{ℕ, ◌+◌, List, [], ◌∷◌, map, cond, Option, None, Some}
 use Rattle.std.specs.Str.{is_utf8}
-use Rattle.ldap_syntax.specs.declared.rule.Family.{Family}
-use Rattle.ldap_syntax.specs.declared.rule.Rule.{Rule}
-use Rattle.ldap_syntax.specs.declared.rule.Syntax.{Syntax}
-use Rattle.ldap_syntax.specs.declared.rule.Syntax.TheVariants.{OctetString}
-use Rattle.schema_text.specs.declared.keyword.Keyword.{Keyword}
-use Rattle.schema_text.specs.declared.keyword.Keyword.TheVariants as keyword
-use Rattle.schema_text.specs.Descriptions.{FieldModel, DescriptionModel, texts_at, has_field_at}
-use Rattle.schema_text.specs.Texts.{SchemaTextModel}
+use Rattle.schema_meaning.specs.ldap_syntax.declared.rule.Family.{Family}
+use Rattle.schema_meaning.specs.ldap_syntax.declared.rule.Rule.{Rule}
+use Rattle.schema_meaning.specs.ldap_syntax.declared.rule.Syntax.{Syntax}
+use Rattle.schema_meaning.specs.ldap_syntax.declared.rule.Syntax.TheVariants.{OctetString}
+use Rattle.schema_meaning.specs.schema_text.declared.keyword.Keyword.{Keyword}
+use Rattle.schema_meaning.specs.schema_text.declared.keyword.Keyword.TheVariants as keyword
+use Rattle.schema_meaning.specs.schema_text.Descriptions.{FieldModel, DescriptionModel, texts_at, has_field_at}
+use Rattle.schema_meaning.specs.schema_text.Texts.{SchemaTextModel}
 use Rattle.schema_meaning.specs.Naming.{names_of, superior_texts, superior_of, find}
 use Rattle.schema_meaning.specs.Inheriting.{effect_of}
 use Rattle.schema_meaning.specs.declared.inheriting.Effect.{Effect}

@@ -7,9 +7,10 @@ ghost use Rattle.ldap_schema.specs.Described as described;
 
 use crate::attribute_type::{AttributeType, TypeId};
 use crate::class::{ClassId, ClassKind, ObjectClass};
-use ldap_syntax::{Family, Rule, Syntax};
-use schema_meaning::{Effect, Given, effect_of, find, names, superior_of};
-use schema_text::{Description, Field, Keyword, SchemaText};
+use schema_meaning::{
+    Description, Effect, Family, Field, Given, Keyword, Rule, SchemaText, Syntax, effect_of, find,
+    names, superior_of,
+};
 use std::alloc::{AllocError, Global};
 
 /// The octets as text, if they are text.

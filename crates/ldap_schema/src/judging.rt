@@ -9,8 +9,7 @@ use crate::attribute_type::{AttributeType, TypeId};
 use crate::class::ObjectClass;
 use crate::error::SchemaError;
 use crate::looping::{class_loop, no_equality, required, type_loop};
-use schema_meaning::{bad_line, earlier, unknown_line};
-use schema_text::SchemaText;
+use schema_meaning::{SchemaText, bad_line, earlier, unknown_line};
 use std::alloc::{AllocError, Global};
 
 /// The lower one of two lines.

@@ -9,8 +9,7 @@ use crate::attribute_type::{AttributeType, TypeId};
 use crate::class::{ClassId, ObjectClass};
 use crate::superclasses::{is_class_among, superclasses_of, with_superclasses};
 use crate::tables::{class_called, is_among, superiors, type_called};
-use ldap_syntax::{Family, Rule, Syntax};
-use schema_text::{Description, SchemaText};
+use schema_meaning::{Description, Family, Rule, SchemaText, Syntax};
 use std::alloc::{AllocError, Global};
 
 /// Whether the rule is objectIdentifierMatch on its syntax.

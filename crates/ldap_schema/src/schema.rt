@@ -22,7 +22,7 @@ use crate::superclasses::{
     is_class_among, superclasses_at, superclasses_of_all, with_superclasses,
 };
 use crate::tables::{is_among, superiors_at, superiors_of_all};
-use schema_text::{SchemaText, read_text};
+use schema_meaning::{SchemaText, read_text};
 use std::alloc::{AllocError, Global};
 use std::marker::Model;
 

@@ -1,7 +1,7 @@
 -- Messages that wait become fewer. Facts on definitions flow in and out; no value of the program is here.
 use Rattle.std.proofs.Common.{◌≡◌, inl, inr, ℕ, ◌<◌, List, ◌∷◌, length, Option, Some, Ok, sym, subst, ◌∙◌, arith}
-use Rattle.ldap_msg.specs.Messages.{MessageValue}
-use Rattle.session_talk.specs.Talk.{Exchange}
+use Rattle.session_rules.specs.ldap_msg.Messages.{MessageValue}
+use Rattle.session_rules.specs.session_talk.Talk.{Exchange}
 use Rattle.session_rules.specs.Session.{ConfigValue}
 use Rattle.session_rules.specs.declared.answered.Answered.{Answered}
 use Rattle.ldap_session.specs.View.{SessionValue}

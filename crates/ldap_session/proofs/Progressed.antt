@@ -1,10 +1,10 @@
 -- Sessions that go on message by message. Facts on definitions flow in and out; no value of the program is here.
 use Rattle.std.proofs.Common.{◌≡◌, ℕ, List, [], ◌∷◌, ◌++◌, Option, refl, ap, sym, subst, ◌∙◌, append_assoc, append-nil}
-use Rattle.ldap_msg.specs.Messages.{MessageValue}
+use Rattle.session_rules.specs.ldap_msg.Messages.{MessageValue}
 use Rattle.ldap_framer.specs.Stream.{Reads}
 use Rattle.ldap_framer.specs.Framed.{Framed, ending_of, HasSeen}
-use Rattle.session_talk.specs.Talk.{Exchange, Along}
-use Rattle.session_talk.specs.Talk as talk
+use Rattle.session_rules.specs.session_talk.Talk.{Exchange, Along}
+use Rattle.session_rules.specs.session_talk.Talk as talk
 use Rattle.session_rules.specs.Session.{ConfigValue, Reaction, at_first}
 use Rattle.session_rules.specs.declared.state.State.{State}
 use Rattle.session_rules.specs.Turns.{Turn, Session, ends, goes_on, stops}

@@ -2,10 +2,10 @@
 use Rattle.std.proofs.Common.{◌≡◌, ◌⊎◌, inl, inr, ℕ, List, [], ◌∷◌, ◌++◌, Option, None, Some, refl, ap, sym, subst, ◌∙◌, append-nil}
 use Rattle.std.specs.Io.KnownBytes.{Appends, Consumes, IsAtEnd}
 use Rattle.std.proofs.KnownBytes.{Appends-nil, Appends-trans, Consumes-nil, Consumes-trans}
-use Rattle.ldap_msg.specs.Messages.{MessageValue}
+use Rattle.session_rules.specs.ldap_msg.Messages.{MessageValue}
 use Rattle.ldap_framer.specs.Framed.{ending_of, HasSeen}
-use Rattle.session_talk.specs.Talk.{Exchange}
-use Rattle.session_talk.specs.Talk as talk
+use Rattle.session_rules.specs.session_talk.Talk.{Exchange}
+use Rattle.session_rules.specs.session_talk.Talk as talk
 use Rattle.session_rules.specs.Responses.{notice}
 use Rattle.session_rules.specs.Session.{ConfigValue, at_first}
 use Rattle.session_rules.specs.declared.state.State.{State}

@@ -2,10 +2,10 @@
 use Rattle.std.proofs.Common.{◌≡◌, ◌⊎◌, inl, inr, ℕ, List, [], ◌∷◌, ◌++◌, Option, None, Some, refl, ap, sym, subst, ◌∙◌, map, append_assoc, append-nil}
 use Rattle.std.specs.Io.KnownBytes.{Appends}
 use Rattle.std.proofs.KnownBytes.{Appends-nil, Appends-trans}
-use Rattle.ldap_msg.specs.Messages.{MessageValue}
+use Rattle.session_rules.specs.ldap_msg.Messages.{MessageValue}
 use Rattle.ldap_framer.specs.Stream.{Ending}
 use Rattle.ldap_framer.specs.Framed.{ending_of}
-use Rattle.session_talk.specs.Talk.{Exchange}
+use Rattle.session_rules.specs.session_talk.Talk.{Exchange}
 use Rattle.session_rules.specs.Responses.{notice}
 use Rattle.session_rules.specs.Session.{ConfigValue, Reaction}
 use Rattle.session_rules.specs.declared.answered.Answered.{Answered}

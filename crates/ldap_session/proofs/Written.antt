@@ -3,8 +3,8 @@ use Rattle.std.proofs.Common.{◌≡◌, ℕ, ◌+◌, ◌<◌, List, [], ◌∷
 use Rattle.std.proofs.lemmas.List.{take_more}
 use Rattle.std.proofs.KnownBytes.{Appends-nil, Appends-trans, Appends-kept}
 use Rattle.std.specs.Io.KnownBytes.{Appends, Keeps}
-use Rattle.ldap_msg.specs.Messages.{MessageValue}
-use Rattle.ldap_msg.specs.Written.{message_bytes}
+use Rattle.session_rules.specs.ldap_msg.Messages.{MessageValue}
+use Rattle.session_rules.specs.ldap_msg.Written.{message_bytes}
 use Rattle.ldap_session.specs.Octets.{is_empty, joined, octets_of, WritesSome, HasWritten}
 
 -- what a writer took of octets, and what is left of them

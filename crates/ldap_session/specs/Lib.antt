@@ -3,3 +3,8 @@ pub mod Progress
 pub mod Serving
 pub mod Steps
 pub mod View
+-- what layers above name of the crates below
+pub use Rattle.session_rules.specs.ldap_msg as ldap_msg
+pub use Rattle.ldap_framer.specs as ldap_framer
+pub use Rattle.session_rules.specs.session_talk as session_talk
+pub use Rattle.session_rules.specs as session_rules

@@ -2,8 +2,8 @@
 -- their octets.
 use Rattle.std.specs.Prelude.{◌≡◌, ℕ, List, [], ◌∷◌, ◌++◌, Bool, true, false, Option}
 use Rattle.std.specs.Io.KnownBytes.{Appends}
-use Rattle.ldap_msg.specs.Messages.{MessageValue}
-use Rattle.ldap_msg.specs.Written.{message_bytes}
+use Rattle.session_rules.specs.ldap_msg.Messages.{MessageValue}
+use Rattle.session_rules.specs.ldap_msg.Written.{message_bytes}
 
 abbrev pub is_empty : List ℕ → Bool
 is_empty [] = true

@@ -2,9 +2,9 @@
 -- flow in.
 use Rattle.std.specs.Prelude.{◌≡◌, ◌⊎◌, ℕ, List, [], ◌∷◌, ◌++◌, Option, None}
 use Rattle.std.specs.Io.KnownBytes.{Appends, Consumes, IsAtEnd}
-use Rattle.ldap_msg.specs.Messages.{MessageValue}
+use Rattle.session_rules.specs.ldap_msg.Messages.{MessageValue}
 use Rattle.ldap_framer.specs.Stream.{Ending, awaits, stops, Reads}
-use Rattle.session_talk.specs.Talk.{Exchange, Along}
+use Rattle.session_rules.specs.session_talk.Talk.{Exchange, Along}
 use Rattle.session_rules.specs.Responses.{notice}
 use Rattle.session_rules.specs.Session.{ConfigValue, at_first}
 use Rattle.session_rules.specs.declared.state.State.{State}

@@ -10,5 +10,6 @@ mod writing;
 pub use end::SessionEnd;
 pub use serving::serve;
 pub use session::Session;
-pub use session_rules::{AnswerError, Answered, Config, Next};
-pub use session_talk::{Client, Ended, Found, Gate, Look, LookError, Role};
+pub use session_rules::{
+    AnswerError, Answered, Client, Config, Ended, Found, Gate, Look, LookError, Next, Role,
+};

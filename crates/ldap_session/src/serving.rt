@@ -10,8 +10,7 @@ ghost use Rattle.ldap_session.specs.Steps.{HasPut, HasGot, HasWorked, HasFlushed
 use crate::end::SessionEnd;
 use crate::session::Session;
 use crate::writing::write_responses;
-use session_rules::{AnswerError, Answered, Config, Next};
-use session_talk::Gate;
+use session_rules::{AnswerError, Answered, Config, Gate, Next};
 use std::alloc::Global;
 use std::io::{ErrorKind, Read, Write};
 

@@ -1,7 +1,7 @@
 //! A session. Pieces of its stream flow in; the octets of the responses to each message flow out. What a message asks of the directory is
 //! below; readers and writers are above.
 ghost use Rattle.std.specs.Prelude.{◌≡◌, ◌++◌, [], ℕ, List, None, OnOk, OnErr};
-ghost use Rattle.ldap_msg.specs.Messages.{MessageValue};
+ghost use Rattle.session_rules.specs.ldap_msg.Messages.{MessageValue};
 ghost use Rattle.ldap_framer.specs.Framed.{HasSeen};
 ghost use Rattle.session_rules.specs.Session.{at_first};
 ghost use Rattle.session_rules.specs.View.{config_view};
@@ -10,8 +10,7 @@ ghost use Rattle.ldap_session.specs.Progress.{Answers, IsNoMessage, IsAtLast};
 
 use crate::end::SessionEnd;
 use ldap_framer::{FrameFault, Framer};
-use session_rules::{AnswerError, Answered, Config, State, disconnect, take};
-use session_talk::Gate;
+use session_rules::{AnswerError, Answered, Config, Gate, State, disconnect, take};
 use std::alloc::{AllocError, Global};
 
 /// A session: its stream as far as it is not answered, and who it is bound as. At its beginning it is anonymous.

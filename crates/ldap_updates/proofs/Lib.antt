@@ -3,3 +3,6 @@ pub mod Exits
 pub mod Spelled
 pub mod Modifies
 pub mod Names
+-- what layers above name of the crates below
+pub use Rattle.ldap_parts.proofs as ldap_parts
+pub use Rattle.ldap_fields.proofs as ldap_fields

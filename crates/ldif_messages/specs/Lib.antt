@@ -4,3 +4,5 @@ pub mod HexFaults
 pub mod Imports
 pub mod Entries
 pub mod Exports
+-- what layers above name of the crates below
+pub use Rattle.ldif.specs as ldif

@@ -1,11 +1,11 @@
 -- LDIF and the directory: records added to a directory.
 -- In: a directory and records. Out: their adds, and the first that is refused. Not here: how an add is judged, texts.
 use Rattle.std.specs.Prelude.{◌≡◌, ℕ, ◌+◌, List, [], ◌∷◌, Bool, false, cond, nat_eq, Option, None, Some}
-use Rattle.ldif.specs.Records.{RecordModel}
+use Rattle.ldif_messages.specs.ldif.Records.{RecordModel}
 use Rattle.ldif_messages.specs.Adds.{add_of}
-use Rattle.ldap_op.specs.Values.{OpValue, add}
-use Rattle.dir_store.specs.Directory.{Directory}
-use Rattle.dir_store.specs.Updates.{applied, reply_to}
+use Rattle.dir_search.specs.ldap_op.Values.{OpValue, add}
+use Rattle.dir_search.specs.dir_store.Directory.{Directory}
+use Rattle.dir_search.specs.dir_store.Updates.{applied, reply_to}
 use Rattle.ldif_search.specs.declared.fault.SearchError.{SearchError}
 use Rattle.ldif_search.specs.declared.fault.SearchError.TheVariants.{BadLdif, Refused, Code, NoMemory}
 

@@ -1,13 +1,13 @@
 -- LDIF and the directory: searches of what a text adds.
 -- In: a directory, a text, a search. Out: what is written, or why nothing is. Not here: what a search finds, how LDIF is spelled.
 use Rattle.std.specs.Prelude.{◌≡◌, ◌≢◌, ℕ, List, map, None, Some, Ok, Err}
-use Rattle.ldif.specs.Records.{RecordModel}
-use Rattle.ldif.specs.Reading.{records_of}
-use Rattle.ldif.specs.Written.{ldif_text}
+use Rattle.ldif_messages.specs.ldif.Records.{RecordModel}
+use Rattle.ldif_messages.specs.ldif.Reading.{records_of}
+use Rattle.ldif_messages.specs.ldif.Written.{ldif_text}
 use Rattle.ldif_messages.specs.Entries.{record_of}
-use Rattle.ldap_msg.specs.Messages.{SearchRequestValue}
-use Rattle.dir_store.specs.Directory.{Directory}
-use Rattle.dir_store.specs.Updates.{directory_after}
+use Rattle.dir_search.specs.ldap_msg.Messages.{SearchRequestValue}
+use Rattle.dir_search.specs.dir_store.Directory.{Directory}
+use Rattle.dir_search.specs.dir_store.Updates.{directory_after}
 use Rattle.dir_search.specs.Answer.{Answer, answer}
 use Rattle.ldif_search.specs.Added.{adds, first_refused}
 use Rattle.ldif_search.specs.declared.fault.SearchError.{SearchError}

@@ -2,17 +2,15 @@
 //! In: a directory and records. Out: the directory with their entries, or the first that is refused. Not here: how an add is judged.
 
 ghost use Rattle.std.specs.Prelude.{◌≡◌, ◌+◌, None, IfOk, IfErr, OnOk};
-ghost use Rattle.ldap_op.specs.Values.{add as add_op};
-ghost use Rattle.dir_store.specs.Stored.{NumbersBelow};
-ghost use Rattle.dir_store.specs.Updates.{applied, reply_to, directory_after};
+ghost use Rattle.dir_search.specs.ldap_op.Values.{add as add_op};
+ghost use Rattle.dir_search.specs.dir_store.Stored.{NumbersBelow};
+ghost use Rattle.dir_search.specs.dir_store.Updates.{applied, reply_to, directory_after};
 ghost use Rattle.ldif_messages.specs.Adds.{add_of as add_value};
 ghost use Rattle.ldif_search.specs.Added.{adds, first_refused, IsPutFault, IsAddFault};
 
 use crate::fault::SearchError;
-use dir_store::Store;
-use ldap_op::{Op, Update};
-use ldif::Record;
-use ldif_messages::add_of;
+use dir_search::{Op, Store, Update};
+use ldif_messages::{Record, add_of};
 use std::alloc::{AllocError, Global};
 
 /// Adds a record under a number above all, and tells the result code.
@@ -27,7 +25,8 @@ fn add_record(
     ensures code { IfOk result (λ code. code ≡ (reply_to store.old.directory number (add_op (add_value item.now))).code) }
     ensures below { OnOk result (NumbersBelow (number + 1) store.new.directory.entries) }
 {
-    let op = Op::new(Update::Add(add_of(alloc, item)?));
+    let add = add_of(alloc, item)?;
+    let op = Op::new(alloc, Update::Add(add))?;
     let reply = store.apply(alloc, number, &op)?;
     Ok(reply.code.number())
 }

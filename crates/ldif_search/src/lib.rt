@@ -8,4 +8,5 @@ mod fault;
 mod searching;
 
 pub use fault::SearchError;
+pub use ldif_messages::{ExportError, ImportError, export_text, import_text};
 pub use searching::search_text;

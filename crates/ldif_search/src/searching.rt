@@ -2,19 +2,16 @@
 //! In: a directory, a text of LDIF, a search request. Out: a text of LDIF, or why there is none. Not here: where the text comes from.
 
 ghost use Rattle.std.specs.Prelude.{◌≡◌, Ok, IfOk, IfErr};
-ghost use Rattle.ldif.specs.Reading.{records_of as records_of_text};
-ghost use Rattle.ldap_msg.specs.View.{search_view};
-ghost use Rattle.dir_store.specs.Stored.{NumbersBelow};
+ghost use Rattle.ldif_messages.specs.ldif.Reading.{records_of as records_of_text};
+ghost use Rattle.dir_search.specs.ldap_msg.View.{search_view};
+ghost use Rattle.dir_search.specs.dir_store.Stored.{NumbersBelow};
 ghost use Rattle.dir_search.specs.Answer.{answer as answer_of};
 ghost use Rattle.ldif_search.specs.Searched.{IsShown, IsShowFault, IsReadFault, IsSearched, IsSearchFault};
 
 use crate::adding::add_records;
 use crate::fault::SearchError;
-use dir_search::search;
-use dir_store::Store;
-use ldap_msg::SearchRequest;
-use ldif::{LdifError, Record, read, write};
-use ldif_messages::records_of;
+use dir_search::{SearchRequest, Store, search};
+use ldif_messages::{LdifError, Record, read, records_of, write};
 use std::alloc::Global;
 
 /// The records of a text.

@@ -4,10 +4,10 @@ use Rattle.std.specs.FinMap as fin
 use Rattle.std.specs.Ordering.{eq_by_cmp}
 use Rattle.std.proofs.lemmas.List.{map-append}
 use Rattle.std.proofs.lemmas.Bool.Decides.{nat_tests}
-use Rattle.ldap_op.specs.Values.{OpValue}
-use Rattle.dir_store.specs.Directory.{Directory}
-use Rattle.dir_store.specs.Replies.{ReplyModel}
-use Rattle.dir_store.specs.Updates.{applied, reply_to, directory_after}
+use Rattle.session_talk.specs.ldap_op.Values.{OpValue}
+use Rattle.session_talk.specs.dir_store.Directory.{Directory}
+use Rattle.session_talk.specs.dir_store.Replies.{ReplyModel}
+use Rattle.session_talk.specs.dir_store.Updates.{applied, reply_to, directory_after}
 use Rattle.session_talk.specs.declared.client.Client.{Client}
 use Rattle.session_talk.specs.Talk.{EndedValue, done, stale, lost, refused_memory, Exchange, asked_role, learned, searched, compared, updated, Along, ends, goes}
 use Rattle.local_directory.specs.ClientOrder.{client_cmp}

@@ -3,10 +3,10 @@
 -- directory is kept is not here.
 use Rattle.std.specs.Prelude.{◌≡◌, ℕ, ◌+◌, ◌<◌, ◌≤◌, cond, nat_lt}
 use Rattle.std.specs.FinMap as map
-use Rattle.ldap_op.specs.Values.{OpValue}
-use Rattle.dir_store.specs.Updates.{applied, reply_to}
-use Rattle.dir_search.specs.Answer.{answer}
-use Rattle.dir_search.specs.Compared.{compared as compared_reply}
+use Rattle.session_talk.specs.ldap_op.Values.{OpValue}
+use Rattle.session_talk.specs.dir_store.Updates.{applied, reply_to}
+use Rattle.session_talk.specs.dir_search.Answer.{answer}
+use Rattle.session_talk.specs.dir_search.Compared.{compared as compared_reply}
 use Rattle.session_talk.specs.declared.client.Client.{Client}
 use Rattle.session_talk.specs.Talk.{Looked, found, not_yet, gone, no_memory, primary}
 use Rattle.session_talk.specs.Talk.{EndedValue, done, stale, lost, refused_memory}

@@ -5,3 +5,12 @@ pub mod View
 pub mod Local
 pub mod Allows
 pub mod Made
+-- what layers above name of the crates below
+pub use Rattle.session_talk.specs.ldap_requests as ldap_requests
+pub use Rattle.session_talk.specs.ldap_op as ldap_op
+pub use Rattle.session_talk.specs.ldap_msg as ldap_msg
+pub use Rattle.session_talk.specs.ldap_schema as ldap_schema
+pub use Rattle.session_talk.specs.ldap_dn as ldap_dn
+pub use Rattle.session_talk.specs.index_choice as index_choice
+pub use Rattle.session_talk.specs.dir_store as dir_store
+pub use Rattle.session_talk.specs as session_talk

@@ -2,10 +2,10 @@
 -- and the directory after them is the fold of those. How each exchange is answered is below.
 use Rattle.std.specs.Prelude.{◌≡◌, ℕ, ◌+◌, ◌≤◌, List, [], ◌∷◌, ◌++◌, map, length, cond, nat_eq, Some}
 use Rattle.std.specs.FinMap as fin
-use Rattle.ldap_op.specs.Values.{OpValue}
-use Rattle.dir_store.specs.Directory.{Directory}
-use Rattle.dir_store.specs.Replies.{ReplyModel}
-use Rattle.dir_store.specs.Updates.{applied, reply_to, directory_after}
+use Rattle.session_talk.specs.ldap_op.Values.{OpValue}
+use Rattle.session_talk.specs.dir_store.Directory.{Directory}
+use Rattle.session_talk.specs.dir_store.Replies.{ReplyModel}
+use Rattle.session_talk.specs.dir_store.Updates.{applied, reply_to, directory_after}
 use Rattle.session_talk.specs.declared.client.Client.{Client}
 use Rattle.session_talk.specs.Talk.{EndedValue, done, stale, lost, refused_memory}
 use Rattle.session_talk.specs.Talk.{Exchange, asked_role, learned, searched, compared, updated, Along}

@@ -2,8 +2,8 @@
 // flows out, or that it is stale. What must not be here: updates that are made.
 ghost use Rattle.std.specs.Prelude.{◌≡◌, IfSome, IfNone};
 ghost use Rattle.std.specs.FinMap as map;
-ghost use Rattle.ldap_op.specs.Values.{OpValue};
-ghost use Rattle.dir_store.specs.View.{reply_view};
+ghost use Rattle.session_talk.specs.ldap_op.Values.{OpValue};
+ghost use Rattle.session_talk.specs.dir_store.View.{reply_view};
 ghost use Rattle.session_talk.specs.Talk.{done};
 ghost use Rattle.session_talk.specs.View.{ended_view};
 ghost use Rattle.local_directory.specs.Allows.{Ends, unchanged, outcome_by};

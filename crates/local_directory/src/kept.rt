@@ -1,11 +1,10 @@
 // What is kept of a client's latest request. Replies flow in and out.
 // What must not be here: which client it is, what makes an update.
 ghost use Rattle.std.specs.Prelude.{◌≡◌, ◌↔◌, IfOk, IsTrue};
-ghost use Rattle.dir_store.specs.Replies.{only as only_code};
-ghost use Rattle.dir_store.specs.View.{reply_view};
+ghost use Rattle.session_talk.specs.dir_store.Replies.{only as only_code};
+ghost use Rattle.session_talk.specs.dir_store.View.{reply_view};
 
-use dir_store::Reply;
-use ldap_parts::ResultCode;
+use session_talk::{Reply, ResultCode};
 use std::alloc::{AllocError, Global};
 
 /// What a client's latest request was answered with.

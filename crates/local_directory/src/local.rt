@@ -2,19 +2,19 @@
 // directory after each update stays. What must not be here: messages, what a search finds, what an update changes.
 ghost use Rattle.std.specs.Prelude.{◌≡◌, ◌+◌};
 ghost use Rattle.std.specs.FinMap as map;
-ghost use Rattle.dir_store.specs.Stored.{NumbersBelow};
+ghost use Rattle.session_talk.specs.dir_store.Stored.{NumbersBelow};
 ghost use Rattle.session_talk.specs.View.{ended_view};
+ghost use Rattle.session_talk.specs.ldap_op.View.{update_view};
 ghost use Rattle.local_directory.specs.Allows.{Ends, made_next};
 
 use crate::client_table::ClientTable;
 use crate::ending::ended_before;
 use crate::making::make;
 use crate::reading::{compare_at, search_at};
-use dir_search::SearchAnswer;
-use dir_store::{Reply, Store};
-use ldap_msg::{CompareRequest, SearchRequest};
-use ldap_op::Op;
-use session_talk::{Client, Ended, Found, Gate, Look, LookError, Role};
+use session_talk::{
+    Client, CompareRequest, Ended, Found, Gate, Look, LookError, Op, Reply, Role, SearchAnswer,
+    SearchRequest, Store, Update,
+};
 use std::alloc::Global;
 use std::marker::Model;
 
@@ -32,7 +32,7 @@ pub struct LocalDirectory {
 
 impl Model for LocalDirectory {
     ghost use Rattle.std.specs.Prelude.{◌+◌};
-    ghost use Rattle.dir_store.specs.Stored.{NumbersBelow};
+    ghost use Rattle.session_talk.specs.dir_store.Stored.{NumbersBelow};
     ghost use Rattle.std.specs.Coded.{codes};
     ghost use Rattle.local_directory.specs.ClientOrder.{coded_table};
     ghost use Rattle.local_directory.specs.Local.{LocalValue};
@@ -98,6 +98,16 @@ impl LocalDirectory {
             Err(_) => Ended::NoMemory,
         }
     }
+
+    /// Makes an update that its client asks for the first time.
+    fn make_new(&mut self, alloc: Global, client: Client, request: u64, update: Update) -> Ended
+        ensures { Ends (made_next self.old client request (update_view update)) self.old (ended_view result) self.new }
+    {
+        match Op::new(alloc, update) {
+            Ok(op) => self.make_next(alloc, client, request, &op),
+            Err(_) => Ended::NoMemory,
+        }
+    }
 }
 
 impl Look for LocalDirectory {
@@ -133,10 +143,10 @@ impl Gate for LocalDirectory {
         (Role::Primary, ())
     }
 
-    fn update(&mut self, alloc: Global, client: Client, number: u64, op: Op) -> Ended {
+    fn update(&mut self, alloc: Global, client: Client, number: u64, update: Update) -> Ended {
         match ended_before(alloc, &self.clients, client, number) {
             Some(ended) => ended,
-            None => self.make_next(alloc, client, number, &op),
+            None => self.make_new(alloc, client, number, update),
         }
     }
 }

@@ -1,17 +1,16 @@
 // Reads of the one state there is. A directory, its number and a request flow in; the answer flows out.
 // What must not be here: updates.
-ghost use Rattle.ldap_msg.specs.View.{search_view, compare_view};
-ghost use Rattle.dir_store.specs.View.{reply_view};
-ghost use Rattle.dir_search.specs.Answer.{answer};
-ghost use Rattle.dir_search.specs.Compared.{compared};
-ghost use Rattle.dir_search.specs.View.{answer_view};
+ghost use Rattle.session_talk.specs.ldap_msg.View.{search_view, compare_view};
+ghost use Rattle.session_talk.specs.dir_store.View.{reply_view};
+ghost use Rattle.session_talk.specs.dir_search.Answer.{answer};
+ghost use Rattle.session_talk.specs.dir_search.Compared.{compared};
+ghost use Rattle.session_talk.specs.dir_search.View.{answer_view};
 ghost use Rattle.session_talk.specs.Talk.{looked};
 ghost use Rattle.local_directory.specs.Allows.{IsReadAt};
 
-use dir_search::{SearchAnswer, compare, search};
-use dir_store::{Reply, Store};
-use ldap_msg::{CompareRequest, SearchRequest};
-use session_talk::{Found, LookError};
+use session_talk::{
+    CompareRequest, Found, LookError, Reply, SearchAnswer, SearchRequest, Store, compare, search,
+};
 use std::alloc::Global;
 
 /// A search of a directory that is at this number, no older than one that is named.

@@ -1,11 +1,11 @@
 -- What the folds give at each variant of a filter.
 use Rattle.std.proofs.Common.{◌≡◌, Bool, true, List, map, Vec, Box, Global, sym, ap, ◌∙◌}
 use Rattle.std.specs.List.{list_any, list_all}
-use Rattle.ldap_match.specs.Truth.{truth_not, conjunction, disjunction}
-use Rattle.ldap_match.specs.declared.truth.Truth.{Truth}
-use Rattle.ldap_match.specs.declared.truth.Truth.TheVariants.{Undefined}
-use Rattle.dir_entry.specs.Entry.{KeyedAttribute}
-use Rattle.index_choice.specs.declared.kinds.Kinds.{Kinds}
+use Rattle.ldap_eval.specs.ldap_match.Truth.{truth_not, conjunction, disjunction}
+use Rattle.ldap_eval.specs.ldap_match.declared.truth.Truth.{Truth}
+use Rattle.ldap_eval.specs.ldap_match.declared.truth.Truth.TheVariants.{Undefined}
+use Rattle.ldap_eval.specs.dir_entry.Entry.{KeyedAttribute}
+use Rattle.plan_sets.specs.index_choice.declared.kinds.Kinds.{Kinds}
 use Rattle.ldap_eval.specs.Bound.{bound_value, value_step, leaf_value}
 use Rattle.ldap_eval.specs.declared.bound.Leaf.{Leaf as TheLeaf}
 use Rattle.ldap_eval.specs.declared.bound.BoundFilter.{BoundFilter}

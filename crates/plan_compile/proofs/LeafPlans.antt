@@ -1,16 +1,16 @@
 -- The plans of one index, beside the leaves that they are for.
 use Rattle.std.proofs.Common.{◌≡◌, ℕ, Bool, true, false, ◌&&◌, ◌||◌, not, List, [], ◌∷◌, Some, None, refl, sym, ap, ap₂, ◌∙◌}
 use Rattle.std.specs.List.{list_any}
-use Rattle.ldap_match.specs.Keyed.{is_same_key, is_key_at_least, is_key_at_most}
-use Rattle.ldap_match.specs.declared.truth.Truth.{Truth}
-use Rattle.ldap_match.specs.declared.truth.Truth.TheVariants.{True, False}
-use Rattle.ldap_match.specs.declared.testing.Test.{Test}
-use Rattle.ldap_match.specs.declared.testing.Test.TheVariants as test
-use Rattle.dir_entry.specs.Entry.{KeyedAttribute}
-use Rattle.index_choice.specs.declared.kinds.Kinds.{Kinds}
-use Rattle.index_choice.specs.Choice.{kinds_of}
-use Rattle.dir_index.specs.Postings.{is_of, has_type, some_key}
-use Rattle.dir_index.specs.declared.posting.Posting.TheVariants as posting
+use Rattle.ldap_eval.specs.ldap_match.Keyed.{is_same_key, is_key_at_least, is_key_at_most}
+use Rattle.ldap_eval.specs.ldap_match.declared.truth.Truth.{Truth}
+use Rattle.ldap_eval.specs.ldap_match.declared.truth.Truth.TheVariants.{True, False}
+use Rattle.ldap_eval.specs.ldap_match.declared.testing.Test.{Test}
+use Rattle.ldap_eval.specs.ldap_match.declared.testing.Test.TheVariants as test
+use Rattle.ldap_eval.specs.dir_entry.Entry.{KeyedAttribute}
+use Rattle.plan_sets.specs.index_choice.declared.kinds.Kinds.{Kinds}
+use Rattle.plan_sets.specs.index_choice.Choice.{kinds_of}
+use Rattle.plan_sets.specs.dir_index.Postings.{is_of, has_type, some_key}
+use Rattle.plan_sets.specs.dir_index.declared.posting.Posting.TheVariants as posting
 use Rattle.plan_sets.specs.Sets.{holds}
 use Rattle.plan_sets.specs.declared.plan.Plan.{Plan}
 use Rattle.plan_sets.specs.declared.plan.Plan.TheVariants as plan

@@ -1,16 +1,16 @@
 -- Leaves: the value on the attributes of one type.
 use Rattle.std.proofs.Common.{◌≡◌, ◌≢◌, ℕ, Bool, true, false, ◌&&◌, ◌||◌, not, List, [], ◌∷◌, map, cond, refl, sym, ap, ◌∙◌}
 use Rattle.std.specs.List.{list_any}
-use Rattle.ldap_match.specs.Truth.{truth_or, truth_of, disjunction}
-use Rattle.ldap_match.specs.Keyed.{test_value, is_same_key, is_key_at_least, is_key_at_most}
-use Rattle.ldap_match.specs.Parts.{has_parts}
-use Rattle.ldap_match.specs.declared.truth.Truth.{Truth}
-use Rattle.ldap_match.specs.declared.truth.Truth.TheVariants.{True, False, Undefined}
-use Rattle.ldap_match.specs.declared.testing.Test.{Test}
-use Rattle.ldap_match.specs.declared.testing.Test.TheVariants as test
-use Rattle.dir_entry.specs.Entry.{KeyedAttribute}
-use Rattle.index_choice.specs.declared.kinds.Kinds.{Kinds}
-use Rattle.dir_index.specs.Postings.{is_of, has_type, some_key}
+use Rattle.ldap_eval.specs.ldap_match.Truth.{truth_or, truth_of, disjunction}
+use Rattle.ldap_eval.specs.ldap_match.Keyed.{test_value, is_same_key, is_key_at_least, is_key_at_most}
+use Rattle.ldap_eval.specs.ldap_match.Parts.{has_parts}
+use Rattle.ldap_eval.specs.ldap_match.declared.truth.Truth.{Truth}
+use Rattle.ldap_eval.specs.ldap_match.declared.truth.Truth.TheVariants.{True, False, Undefined}
+use Rattle.ldap_eval.specs.ldap_match.declared.testing.Test.{Test}
+use Rattle.ldap_eval.specs.ldap_match.declared.testing.Test.TheVariants as test
+use Rattle.ldap_eval.specs.dir_entry.Entry.{KeyedAttribute}
+use Rattle.plan_sets.specs.index_choice.declared.kinds.Kinds.{Kinds}
+use Rattle.plan_sets.specs.dir_index.Postings.{is_of, has_type, some_key}
 use Rattle.plan_sets.specs.Sets.{holds}
 use Rattle.plan_sets.specs.declared.plan.Plan.{Plan}
 use Rattle.ldap_eval.specs.Bound.{leaf_value}

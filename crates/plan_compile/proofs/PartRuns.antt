@@ -2,10 +2,10 @@
 use Rattle.std.proofs.Common.{◌≡◌, ℕ, ◌-◌, Bool, true, false, ◌&&◌, List, [], ◌∷◌, ◌++◌, length, take, drop, refl, sym, ap, ◌∙◌, inl, inr}
 use Rattle.std.proofs.lemmas.List.{take-append-drop, append-nil}
 use Rattle.std.specs.List.{list_any, list_all}
-use Rattle.ldap_syntax.specs.Parts.{part_or_nothing}
-use Rattle.ldap_match.specs.Parts.{PartsModel, is_at_start, is_at_end, tails, are_in_order, has_parts}
-use Rattle.dir_entry.specs.Entry.{KeyedAttribute}
-use Rattle.dir_index.specs.Postings.{is_of, some_key, stands_in}
+use Rattle.ldap_eval.specs.ldap_syntax.Parts.{part_or_nothing}
+use Rattle.ldap_eval.specs.ldap_match.Parts.{PartsModel, is_at_start, is_at_end, tails, are_in_order, has_parts}
+use Rattle.ldap_eval.specs.dir_entry.Entry.{KeyedAttribute}
+use Rattle.plan_sets.specs.dir_index.Postings.{is_of, some_key, stands_in}
 use Rattle.plan_compile.specs.Runs.{runs_of, runs_of_all, parts_of, has_runs}
 use Rattle.plan_compile.proofs.Standing.{and_parts, and_from, or_parts, or_left, or_right, same_bytes, StandsAt, stands_of, stands_at, stands_at_start, stands_trans, stands_behind, stands_in_front}
 

@@ -2,8 +2,8 @@
 use Rattle.std.proofs.Common.{◌≡◌, Bool, false, ◌&&◌, not, map, Vec, Box, Global, sym, ap, ◌∙◌}
 use Rattle.std.specs.List.{list_any, list_all}
 use Rattle.plan_sets.specs.Sets.{in_plan, in_step}
-use Rattle.dir_index.specs.declared.posting.Posting.{Posting as ThePosting}
-use Rattle.dir_index.specs.declared.posting.Range.{Range as TheRange}
+use Rattle.plan_sets.specs.dir_index.declared.posting.Posting.{Posting as ThePosting}
+use Rattle.plan_sets.specs.dir_index.declared.posting.Range.{Range as TheRange}
 use Rattle.plan_sets.specs.declared.plan.Plan.{Plan}
 use Rattle.plan_sets.specs.declared.plan.Plan.TheVariants as plan
 use Rattle.plan_sets.specs.declared.plan.Plan.TheVariants.{rolls-Empty, rolls-Scope, rolls-Posting, rolls-Range, rolls-Union, rolls-Inter, rolls-Minus}

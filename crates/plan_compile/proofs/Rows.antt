@@ -2,11 +2,11 @@
 use Rattle.std.proofs.Common.{◌≡◌, ℕ, ◌+◌, ◌<◌, Bool, true, false, ◌&&◌, ◌||◌, not, List, [], ◌∷◌, ◌++◌, length, take, get_or, map, Result, Ok, Err, IfOk, refl, sym, ap, ap₂, ◌∙◌, ◌⊎◌, inl, inr}
 use Rattle.std.proofs.lemmas.List.{take_more}
 use Rattle.std.specs.List.{list_any, list_all}
-use Rattle.ldap_match.specs.Truth.{truth_and, truth_or, truth_not, truth_of, conjunction, disjunction}
-use Rattle.ldap_match.specs.declared.truth.Truth.{Truth}
-use Rattle.ldap_match.specs.declared.truth.Truth.TheVariants.{True, False, Undefined}
-use Rattle.dir_entry.specs.Entry.{KeyedAttribute}
-use Rattle.index_choice.specs.declared.kinds.Kinds.{Kinds}
+use Rattle.ldap_eval.specs.ldap_match.Truth.{truth_and, truth_or, truth_not, truth_of, conjunction, disjunction}
+use Rattle.ldap_eval.specs.ldap_match.declared.truth.Truth.{Truth}
+use Rattle.ldap_eval.specs.ldap_match.declared.truth.Truth.TheVariants.{True, False, Undefined}
+use Rattle.ldap_eval.specs.dir_entry.Entry.{KeyedAttribute}
+use Rattle.plan_sets.specs.index_choice.declared.kinds.Kinds.{Kinds}
 use Rattle.plan_sets.specs.Sets.{holds}
 use Rattle.plan_sets.specs.declared.plan.Plan.{Plan}
 use Rattle.ldap_eval.specs.Bound.{bound_value}

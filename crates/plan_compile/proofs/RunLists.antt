@@ -2,17 +2,17 @@
 use Rattle.std.proofs.Common.{◌≡◌, ℕ, ◌<◌, Bool, true, false, ◌&&◌, ◌||◌, not, List, [], ◌∷◌, ◌++◌, length, get_or, take, ◌+◌, nat_eq, map, Vec, Global, refl, sym, ap, ap₂, subst, ◌∙◌, append_assoc, arith, Result, Ok, Err, IfOk}
 use Rattle.std.proofs.lemmas.List.{append-nil, take_more}
 use Rattle.std.specs.List.{list_all}
-use Rattle.ldap_syntax.specs.Parts.{part_or_nothing}
-use Rattle.ldap_match.specs.Parts.{PartsModel}
-use Rattle.ldap_match.specs.Truth.{truth_of}
-use Rattle.ldap_match.specs.declared.truth.Truth.TheVariants.{True, False}
-use Rattle.ldap_match.specs.declared.testing.Test.{Test}
-use Rattle.ldap_match.specs.declared.testing.Test.TheVariants as test
-use Rattle.dir_entry.specs.Entry.{KeyedAttribute}
-use Rattle.index_choice.specs.declared.kinds.Kinds.{Kinds}
-use Rattle.index_choice.specs.Choice.{kinds_of}
-use Rattle.dir_index.specs.Postings.{some_key, stands_in}
-use Rattle.dir_index.specs.declared.posting.Posting.TheVariants as posting
+use Rattle.ldap_eval.specs.ldap_syntax.Parts.{part_or_nothing}
+use Rattle.ldap_eval.specs.ldap_match.Parts.{PartsModel}
+use Rattle.ldap_eval.specs.ldap_match.Truth.{truth_of}
+use Rattle.ldap_eval.specs.ldap_match.declared.truth.Truth.TheVariants.{True, False}
+use Rattle.ldap_eval.specs.ldap_match.declared.testing.Test.{Test}
+use Rattle.ldap_eval.specs.ldap_match.declared.testing.Test.TheVariants as test
+use Rattle.ldap_eval.specs.dir_entry.Entry.{KeyedAttribute}
+use Rattle.plan_sets.specs.index_choice.declared.kinds.Kinds.{Kinds}
+use Rattle.plan_sets.specs.index_choice.Choice.{kinds_of}
+use Rattle.plan_sets.specs.dir_index.Postings.{some_key, stands_in}
+use Rattle.plan_sets.specs.dir_index.declared.posting.Posting.TheVariants as posting
 use Rattle.plan_sets.specs.Sets.{holds}
 use Rattle.plan_sets.specs.declared.plan.Plan.{Plan}
 use Rattle.plan_sets.specs.declared.plan.Plan.TheVariants as plan

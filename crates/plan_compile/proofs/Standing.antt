@@ -4,8 +4,8 @@ use Rattle.std.proofs.lemmas.List.{take-append-drop, take_at}
 use Rattle.std.proofs.lemmas.Slice.Eq.{bytes_eq-Decides}
 use Rattle.std.specs.List.{list_any}
 use Rattle.std.specs.Str.{bytes_eq}
-use Rattle.ldap_match.specs.Parts.{is_at_start, tails}
-use Rattle.dir_index.specs.Postings.{stands_in}
+use Rattle.ldap_eval.specs.ldap_match.Parts.{is_at_start, tails}
+use Rattle.plan_sets.specs.dir_index.Postings.{stands_in}
 
 pub and_parts : (a b : Bool) → (a && b) ≡ true → (a ≡ true) × (b ≡ true)
 and_parts true b h = (refl, h)

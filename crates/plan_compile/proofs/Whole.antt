@@ -1,10 +1,10 @@
 -- The sides of a filter, by its variant.
 use Rattle.std.proofs.Common.{◌≡◌, Bool, true, false, not, List, Vec, Box, Global, sym, ap, ◌∙◌}
-use Rattle.ldap_match.specs.Truth.{truth_of}
-use Rattle.ldap_match.specs.declared.truth.Truth.{Truth}
-use Rattle.ldap_match.specs.declared.truth.Truth.TheVariants.{True, Undefined}
-use Rattle.dir_entry.specs.Entry.{KeyedAttribute}
-use Rattle.index_choice.specs.declared.kinds.Kinds.{Kinds}
+use Rattle.ldap_eval.specs.ldap_match.Truth.{truth_of}
+use Rattle.ldap_eval.specs.ldap_match.declared.truth.Truth.{Truth}
+use Rattle.ldap_eval.specs.ldap_match.declared.truth.Truth.TheVariants.{True, Undefined}
+use Rattle.ldap_eval.specs.dir_entry.Entry.{KeyedAttribute}
+use Rattle.plan_sets.specs.index_choice.declared.kinds.Kinds.{Kinds}
 use Rattle.plan_sets.specs.Sets.{holds, SetsAreOfEntries}
 use Rattle.plan_sets.specs.declared.plan.Plan.{Plan}
 use Rattle.plan_sets.specs.declared.plan.Plan.TheVariants as plan

@@ -2,14 +2,14 @@
 -- out. How plans are made is not here.
 use Rattle.std.specs.Prelude.{◌≡◌, ℕ, Bool, true, false, ◌||◌, List}
 use Rattle.std.specs.List.{list_all, AllByRecursion}
-use Rattle.ldap_match.specs.declared.truth.Truth.{Truth}
-use Rattle.ldap_match.specs.declared.truth.Truth.TheVariants.{True}
-use Rattle.ldap_match.specs.declared.testing.Test.{Test}
-use Rattle.ldap_match.specs.declared.testing.Test.TheVariants as test
-use Rattle.dir_entry.specs.Entry.{KeyedAttribute}
-use Rattle.index_choice.specs.declared.kinds.Kinds.{Kinds}
-use Rattle.index_choice.specs.Choice.{kinds_of}
-use Rattle.dir_index.specs.Postings.{Indexed, has_number, postings_of}
+use Rattle.ldap_eval.specs.ldap_match.declared.truth.Truth.{Truth}
+use Rattle.ldap_eval.specs.ldap_match.declared.truth.Truth.TheVariants.{True}
+use Rattle.ldap_eval.specs.ldap_match.declared.testing.Test.{Test}
+use Rattle.ldap_eval.specs.ldap_match.declared.testing.Test.TheVariants as test
+use Rattle.ldap_eval.specs.dir_entry.Entry.{KeyedAttribute}
+use Rattle.plan_sets.specs.index_choice.declared.kinds.Kinds.{Kinds}
+use Rattle.plan_sets.specs.index_choice.Choice.{kinds_of}
+use Rattle.plan_sets.specs.dir_index.Postings.{Indexed, has_number, postings_of}
 use Rattle.plan_sets.specs.Sets.{holds, is_in, AreNumbered, HasEntry, Guides, IsValued}
 use Rattle.plan_sets.specs.declared.plan.Plan.{Plan}
 use Rattle.ldap_eval.specs.Bound.{bound_value}

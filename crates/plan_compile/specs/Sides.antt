@@ -2,9 +2,9 @@
 -- by them.
 use Rattle.std.specs.Prelude.{◌≡◌, Bool, true, List, [], ◌∷◌, Vec}
 use Rattle.std.specs.Global.{Global}
-use Rattle.ldap_match.specs.Truth.{truth_of}
-use Rattle.dir_entry.specs.Entry.{KeyedAttribute}
-use Rattle.index_choice.specs.declared.kinds.Kinds.{Kinds}
+use Rattle.ldap_eval.specs.ldap_match.Truth.{truth_of}
+use Rattle.ldap_eval.specs.dir_entry.Entry.{KeyedAttribute}
+use Rattle.plan_sets.specs.index_choice.declared.kinds.Kinds.{Kinds}
 use Rattle.plan_sets.specs.Sets.{holds}
 use Rattle.plan_sets.specs.declared.plan.Plan.{Plan}
 use Rattle.plan_sets.specs.declared.plan.Plan.TheVariants as plan

@@ -3,8 +3,8 @@
 
 ghost use Rattle.std.specs.Prelude.{◌≡◌, true, List, IfOk, Vec};
 ghost use Rattle.std.specs.Global.{Global};
-ghost use Rattle.ldap_match.specs.declared.truth.Truth.TheVariants.{True};
-ghost use Rattle.dir_entry.specs.Entry.{KeyedAttribute};
+ghost use Rattle.ldap_eval.specs.ldap_match.declared.truth.Truth.TheVariants.{True};
+ghost use Rattle.ldap_eval.specs.dir_entry.Entry.{KeyedAttribute};
 ghost use Rattle.ldap_eval.specs.Bound.{bound_value};
 ghost use Rattle.ldap_eval.specs.declared.bound.BoundFilter.{BoundFilter};
 ghost use Rattle.plan_sets.specs.Sets.{holds};
@@ -13,9 +13,8 @@ ghost use Rattle.plan_compile.specs.Runs.{has_runs_for};
 ghost use Rattle.plan_compile.specs.Sides.{IsSide, IsEvery, IsAny, EachSide};
 
 use crate::leaves::leaf_side;
-use index_choice::Indexes;
 use ldap_eval::BoundFilter;
-use plan_sets::{Plan, Sided, sets_are_of_entries};
+use plan_sets::{Indexes, Plan, Sided, sets_are_of_entries};
 use std::alloc::{AllocError, Global};
 
 /// The plans that bound where the filter has the wanted value: true, or false.

@@ -2,24 +2,19 @@
 // What must not be here: filters with parts.
 
 ghost use Rattle.std.specs.Prelude.{◌≡◌, true, false, not, List, IfOk};
-ghost use Rattle.ldap_match.specs.Truth.{truth_of};
-ghost use Rattle.ldap_match.specs.declared.truth.Truth.TheVariants.{True, False};
-ghost use Rattle.dir_entry.specs.Entry.{KeyedAttribute};
-ghost use Rattle.index_choice.specs.declared.kinds.Kinds.{Kinds};
-ghost use Rattle.index_choice.specs.Choice.{kinds_of};
+ghost use Rattle.ldap_eval.specs.ldap_match.Truth.{truth_of};
+ghost use Rattle.ldap_eval.specs.ldap_match.declared.truth.Truth.TheVariants.{True, False};
+ghost use Rattle.ldap_eval.specs.dir_entry.Entry.{KeyedAttribute};
+ghost use Rattle.plan_sets.specs.index_choice.declared.kinds.Kinds.{Kinds};
+ghost use Rattle.plan_sets.specs.index_choice.Choice.{kinds_of};
 ghost use Rattle.ldap_eval.specs.Bound.{leaf_value};
 ghost use Rattle.plan_sets.specs.Sets.{holds};
 ghost use Rattle.plan_compile.specs.Bounds.{is_test_decided, Bounds};
 ghost use Rattle.plan_compile.specs.Runs.{has_runs, has_runs_of_test};
 
 use crate::runs::run_postings;
-use dir_index::{Posting, Range};
-use index_choice::Indexes;
-use ldap_eval::Leaf;
-use ldap_match::{PartKeys, Test};
-use ldap_schema::TypeId;
-use ldap_syntax::Key;
-use plan_sets::{Plan, Sided};
+use ldap_eval::{Key, Leaf, PartKeys, Test, TypeId};
+use plan_sets::{Indexes, Plan, Posting, Range, Sided};
 use std::alloc::{AllocError, Global};
 
 /// An equal key.

@@ -7,3 +7,5 @@ mod leaves;
 mod runs;
 
 pub use compiling::compile;
+pub use ldap_eval::{BoundFilter, Filter, Key, Leaf, Test, Truth, TypeId, bind, value};
+pub use plan_sets::{Sided, sets_are_of_entries};

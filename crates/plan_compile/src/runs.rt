@@ -3,14 +3,11 @@
 
 ghost use Rattle.std.specs.Prelude.{◌≡◌, ◌++◌, OnOk, IfOk};
 ghost use Rattle.std.specs.Option.{option_copied};
-ghost use Rattle.ldap_syntax.specs.Parts.{part_or_nothing};
+ghost use Rattle.ldap_eval.specs.ldap_syntax.Parts.{part_or_nothing};
 ghost use Rattle.plan_compile.specs.Runs.{parts_of, run_plans, runs_of, runs_of_all};
 
-use dir_index::Posting;
-use ldap_match::PartKeys;
-use ldap_schema::TypeId;
-use ldap_syntax::Key;
-use plan_sets::Plan;
+use ldap_eval::{Key, PartKeys, TypeId};
+use plan_sets::{Plan, Posting};
 use std::alloc::{AllocError, Global};
 
 /// Adds a plan for each run of a part.

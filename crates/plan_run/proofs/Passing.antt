@@ -3,8 +3,8 @@ use Rattle.std.proofs.Common.{◌≡◌, ℕ, zero, suc, ◌+◌, ◌^◌, ◌<�
 use Rattle.std.specs.Prelude.{filter, nat_le}
 use Rattle.std.specs.List.{AllByRecursion}
 use Rattle.std.proofs.lemmas.Bool.{le-leb}
-use Rattle.ldap_match.specs.declared.truth.Truth.{Truth}
-use Rattle.dir_index.specs.Postings.{has_number, IsRising}
+use Rattle.plan_sets.specs.ldap_match.declared.truth.Truth.{Truth}
+use Rattle.plan_sets.specs.dir_index.Postings.{has_number, IsRising}
 use Rattle.plan_sets.specs.Sets.{Guides}
 use Rattle.plan_run.specs.Runs.{is_true, is_open, is_asked, is_wanted, IsUnderWay}
 

@@ -1,9 +1,9 @@
 -- The start of a run: all numbers that may be found are among the candidates.
 use Rattle.std.proofs.Common.{◌≡◌, ℕ, ◌+◌, ◌^◌, ◌<◌, ◌≤◌, Bool, true, false, ◌&&◌, List, [], ◌∷◌, length, cond, refl, sym, arith}
 use Rattle.std.specs.Prelude.{filter}
-use Rattle.ldap_match.specs.declared.truth.Truth.{Truth}
-use Rattle.ldap_match.specs.declared.truth.Truth.TheVariants.{True, False, Undefined}
-use Rattle.dir_index.specs.Postings.{IsRising}
+use Rattle.plan_sets.specs.ldap_match.declared.truth.Truth.{Truth}
+use Rattle.plan_sets.specs.ldap_match.declared.truth.Truth.TheVariants.{True, False, Undefined}
+use Rattle.plan_sets.specs.dir_index.Postings.{IsRising}
 use Rattle.plan_sets.specs.Streams.{Draws}
 use Rattle.plan_sets.specs.Sets.{Guides}
 use Rattle.plan_run.specs.Runs.{is_true, true_set, is_open, is_wanted, IsUnderWay}

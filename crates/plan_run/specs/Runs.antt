@@ -2,9 +2,9 @@
 -- keeps the posting lists is not here.
 use Rattle.std.specs.Prelude.{◌≡◌, ℕ, ◌+◌, ◌^◌, ◌<◌, ◌≤◌, Bool, true, false, ◌&&◌, not, List, ◌++◌, filter, length, take}
 use Rattle.std.specs.Prelude.{drop}
-use Rattle.ldap_match.specs.declared.truth.Truth.{Truth}
-use Rattle.ldap_match.specs.declared.truth.Truth.TheVariants.{True, False, Undefined}
-use Rattle.dir_index.specs.Postings.{Lists, has_number, IsRising}
+use Rattle.plan_sets.specs.ldap_match.declared.truth.Truth.{Truth}
+use Rattle.plan_sets.specs.ldap_match.declared.truth.Truth.TheVariants.{True, False, Undefined}
+use Rattle.plan_sets.specs.dir_index.Postings.{Lists, has_number, IsRising}
 use Rattle.plan_sets.specs.Sets.{is_in, Guides}
 use Rattle.plan_sets.specs.declared.plan.Sided.{Sided}
 

@@ -7,5 +7,6 @@ mod running;
 mod telling;
 mod values;
 
+pub use plan_sets::{Indexes, Kept, Plan, Posting, Range, Sided, contains, has};
 pub use running::{Ran, Running, run, start};
 pub use values::Values;

@@ -2,13 +2,12 @@
 // What must not be here: how one candidate is told.
 
 ghost use Rattle.std.specs.Prelude.{◌≡◌, ◌+◌, ◌^◌, ◌<◌, ◌≤◌, [], ◌∷◌, filter, length, nat_le, IfOk, IfSome, MatchOption};
-ghost use Rattle.dir_index.specs.Postings.{IsRising};
+ghost use Rattle.plan_sets.specs.dir_index.Postings.{IsRising};
 ghost use Rattle.plan_run.specs.Runs.{AreGuides, left_open, true_set};
 
 use crate::telling::is_found;
 use crate::values::Values;
-use dir_index::Kept;
-use plan_sets::{Sided, Stream, candidates};
+use plan_sets::{Kept, Sided, Stream, candidates};
 use std::alloc::{AllocError, Global};
 use std::marker::Model;
 

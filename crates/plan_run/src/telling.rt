@@ -2,13 +2,11 @@
 // What must not be here: where candidates come from.
 
 ghost use Rattle.std.specs.Prelude.{◌≡◌, ℕ, ◌+◌, ◌^◌, ◌<◌, true, cond};
-ghost use Rattle.dir_index.specs.Postings.{IsRising};
+ghost use Rattle.plan_sets.specs.dir_index.Postings.{IsRising};
 ghost use Rattle.plan_run.specs.Runs.{is_left_open, is_wanted, AreGuides};
 
 use crate::values::Values;
-use dir_index::Kept;
-use ldap_match::Truth;
-use plan_sets::{Sided, contains, has};
+use plan_sets::{Kept, Sided, Truth, contains, has};
 
 /// Whether the entry of a candidate is to be given: it is in scope, and its value is True. The value is asked for
 /// only where the plans leave it open.

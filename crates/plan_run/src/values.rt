@@ -2,9 +2,9 @@
 // What must not be here: plans.
 
 ghost use Rattle.std.specs.Prelude.{◌≡◌, ℕ, ◌+◌, ◌^◌, ◌<◌};
-ghost use Rattle.ldap_match.specs.declared.truth.Truth.{Truth};
+ghost use Rattle.plan_sets.specs.ldap_match.declared.truth.Truth.{Truth};
 
-use ldap_match::Truth;
+use plan_sets::Truth;
 
 /// The values of a filter on numbered entries. Each look at an entry is counted.
 pub trait Values {

@@ -3,9 +3,9 @@ use Rattle.std.proofs.Common.{◌≡◌, ℕ, ◌<◌, inl, inr, Bool, true, fal
 use mathlib.Core.Path.{fun_ext}
 use Rattle.std.specs.Prelude.{filter}
 use Rattle.std.specs.List.{AllByRecursion}
-use Rattle.dir_entry.specs.Entry.{KeyedAttribute}
-use Rattle.index_choice.specs.declared.kinds.Kinds.{Kinds}
-use Rattle.index_choice.specs.Choice.{kinds_of}
+use Rattle.dir_index.specs.dir_entry.Entry.{KeyedAttribute}
+use Rattle.dir_index.specs.index_choice.declared.kinds.Kinds.{Kinds}
+use Rattle.dir_index.specs.index_choice.Choice.{kinds_of}
 use Rattle.dir_index.specs.Postings.{Indexed, is_kept, is_listed, has_in_range, has_number, numbers_where, postings_of}
 use Rattle.dir_index.specs.declared.posting.Posting.{Posting}
 use Rattle.dir_index.specs.declared.posting.Range.{Range}

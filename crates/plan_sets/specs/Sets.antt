@@ -2,11 +2,11 @@
 -- no, flows out. Filters are not here.
 use Rattle.std.specs.Prelude.{◌≡◌, ℕ, ◌<◌, ◌⊎◌, Bool, true, false, ◌&&◌, not, List, [], ◌∷◌, filter}
 use Rattle.std.specs.List.{list_any, list_all, AllByRecursion}
-use Rattle.ldap_match.specs.declared.truth.Truth.{Truth}
-use Rattle.ldap_match.specs.declared.truth.Truth.TheVariants.{True}
-use Rattle.dir_entry.specs.Entry.{KeyedAttribute}
-use Rattle.index_choice.specs.declared.kinds.Kinds.{Kinds}
-use Rattle.index_choice.specs.Choice.{kinds_of}
+use Rattle.dir_index.specs.ldap_match.declared.truth.Truth.{Truth}
+use Rattle.dir_index.specs.ldap_match.declared.truth.Truth.TheVariants.{True}
+use Rattle.dir_index.specs.dir_entry.Entry.{KeyedAttribute}
+use Rattle.dir_index.specs.index_choice.declared.kinds.Kinds.{Kinds}
+use Rattle.dir_index.specs.index_choice.Choice.{kinds_of}
 use Rattle.dir_index.specs.Postings.{Indexed, Lists, is_kept, is_listed, has_in_range, has_number, postings_of}
 use Rattle.dir_index.specs.declared.posting.Posting.{Posting}
 use Rattle.dir_index.specs.declared.posting.Range.{Range}

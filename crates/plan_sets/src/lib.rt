@@ -12,6 +12,7 @@ mod stream;
 
 pub use agreeing::sets_are_of_entries;
 pub use containing::contains;
+pub use dir_index::{Indexes, Kept, Posting, Range, Truth};
 pub use gathering::candidates;
 pub use having::has;
 pub use plan::{Plan, Sided};

@@ -1,8 +1,8 @@
 -- Two posting lists that stand for all. A posting flows in, a list flows out.
 use Rattle.std.specs.Prelude.{ℕ, List}
-use Rattle.dir_index.specs.declared.posting.Posting.{Posting}
-use Rattle.dir_index.specs.declared.posting.Posting.TheVariants.{Present, Equal, Run}
-use Rattle.dir_index.specs.Postings.{Lists}
+use Rattle.plan_run.specs.dir_index.declared.posting.Posting.{Posting}
+use Rattle.plan_run.specs.dir_index.declared.posting.Posting.TheVariants.{Present, Equal, Run}
+use Rattle.plan_run.specs.dir_index.Postings.{Lists}
 
 pub record TwoLists : Type 0 where
   pub even : List ℕ

@@ -2,18 +2,11 @@
 // What must not be here: expected values that the program gave.
 
 ghost use Rattle.std.specs.Prelude.{◌≡◌};
-ghost use Rattle.dir_index.specs.Postings.{IsRising};
+ghost use Rattle.plan_run.specs.dir_index.Postings.{IsRising};
 
 use crate::shelf::{Always, Shelf, make_shelf, scope};
-use dir_index::{Posting, Range};
-use index_choice::Indexes;
-use ldap_eval::{BoundFilter, Leaf};
-use ldap_match::{Test, Truth};
-use ldap_schema::TypeId;
-use ldap_syntax::Key;
-use plan_compile::compile;
-use plan_run::{Ran, run, start};
-use plan_sets::{Plan, Sided, contains};
+use plan_compile::{BoundFilter, Key, Leaf, Test, Truth, TypeId, compile};
+use plan_run::{Indexes, Plan, Posting, Ran, Range, Sided, contains, run, start};
 use std::alloc::{AllocError, Global};
 use std::process::Abort;
 use std::test::Fail;

@@ -1,16 +1,10 @@
-//! Tests of replication: with memory enough each public call succeeds, and worked schedules give the messages and replies that
-//! were found by hand. Proofs, and the steps themselves, are not here.
+//! Tests of what no script of the lab reaches of replication: copies of messages and of logs whose records ask for something, and messages that no
+//! other replica sent. Proofs, the steps themselves, and what scripts show are not here.
 #![tactic(auto)]
 
 #[cfg(test)]
 mod copies;
 #[cfg(test)]
-mod labs;
-#[cfg(test)]
-mod playing;
-#[cfg(test)]
 mod sample;
-#[cfg(test)]
-mod schedules;
 #[cfg(test)]
 mod tests;

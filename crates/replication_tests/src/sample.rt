@@ -7,8 +7,7 @@ use std::marker::Model;
 use vr_state::log::Log;
 use vr_state::message::{Outputs, PeerMessage, Send, Snapshot};
 use vr_state::payload::Payload;
-use vr_state::replica::Replica;
-use vr_state::words::{Client, Entry, Reply, Status};
+use vr_state::words::{Client, Entry};
 
 /// What the records of these tests ask for: some octets, in memory of their own.
 #[derive(Drop)]
@@ -64,11 +63,6 @@ pub const RECOVERY: u64 = 109;
 
 pub const RECOVERY_RESPONSE: u64 = 110;
 
-/// PREPARE of client 7's request 1, `a`, at place 1 of view 0, and of its request 2, `b`, at place 2; nothing is committed.
-pub const PREPARE_A: [u64; 9] = [PREPARE, 0, 0, 0, 7, 1, 97, 1, 0];
-
-pub const PREPARE_B: [u64; 9] = [PREPARE, 0, 0, 0, 7, 2, 98, 2, 0];
-
 pub fn record(
     alloc: Global,
     client: Client,
@@ -92,14 +86,6 @@ pub fn held(alloc: Global) -> Result<Snapshot<Text>, AllocError> {
         log,
         commit_number: 1,
     })
-}
-
-pub fn reply(request_number: u64, op_number: u64) -> Reply {
-    Reply {
-        client: SEVEN,
-        request_number,
-        op_number,
-    }
 }
 
 /// A record in numbers: home, life and number of its client, its request number, its octets.
@@ -256,18 +242,4 @@ pub fn sends(
     wanted: &[(u64, &[u64])],
 ) -> Result<bool, AllocError> {
     Ok(out.store.is_none() && out.replies.is_empty() && are_sends(alloc, &out.sends, wanted)?)
-}
-
-/// Whether a replica has this view and status, so many records, and so many of them committed.
-pub fn stands(
-    replica: &Replica<Text>,
-    view_number: u64,
-    status: Status,
-    records: usize,
-    committed: u64,
-) -> bool {
-    replica.view_number == view_number
-        && replica.status == status
-        && replica.log.len() == records
-        && replica.commit_number == committed
 }

@@ -9,4 +9,9 @@ mod rules;
 
 pub use faults::{bad_line, earlier, unknown_line};
 pub use inheriting::{Effect, Given, effect_of};
+pub use ldap_syntax::{
+    Family, Key, Part, Rule, Syntax, ValueError, has_meaning, has_ordering, has_substrings,
+    is_in_syntax, is_numericoid, key_of, keys_compare, part_key_of, parts_compare,
+};
 pub use naming::{find, names, superior_of};
+pub use schema_text::{Description, Field, Keyword, SchemaText, read_text};

@@ -1,11 +1,9 @@
 //! Searches of the items of a directory, row by row. A directory and rows flow in; what is found, and how many entries were evaluated, is
 //! compared. No expectation is here.
 use crate::sample::{TWO, add, sampled};
-use dir_search::{SearchAnswer, search};
-use dir_store::Store;
+use dir_search::{SearchAnswer, Store, search};
 use filter_text_reader::read_text;
-use ldap_parts::ResultCode;
-use ldap_requests::{DerefAliases, Scope, SearchRequest};
+use ldap_msg::{DerefAliases, ResultCode, Scope, SearchRequest};
 use std::alloc::Global;
 use std::process::Abort;
 use std::test::*;

@@ -1,14 +1,9 @@
 //! A directory of the sample's entries under an index choice. The text of a choice flows in, a directory flows out. No expectation is here.
 ghost use Rattle.std.specs.Prelude.{◌+◌, IfOk, OnOk};
-ghost use Rattle.dir_store.specs.Stored.{NumbersBelow};
+ghost use Rattle.dir_search.specs.dir_store.Stored.{NumbersBelow};
 
-use dir_store::Store;
-use index_choice::Indexes;
-use ldap_dn::Name;
-use ldap_op::{Op, Update};
-use ldap_parts::{Attribute, ResultCode};
-use ldap_schema::Schema;
-use ldap_updates::AddRequest;
+use dir_search::{Indexes, Name, Op, Schema, Store, Update};
+use ldap_msg::{AddRequest, Attribute, ResultCode};
 use std::alloc::{AllocError, Global};
 use std::process::Abort;
 use std::test::*;
@@ -107,7 +102,8 @@ pub fn add(
     requires { NumbersBelow number store.old.directory.entries }
     ensures { OnOk result (NumbersBelow (number + 1) store.new.directory.entries) }
 {
-    let op = Op::new(Update::Add(request(alloc, given)?));
+    let add = Update::Add(request(alloc, given)?);
+    let op = Op::new(alloc, add)?;
     let reply = store.apply(alloc, number, &op)?;
     assert_eq!(rt; reply.code, ResultCode::SUCCESS);
     Ok(())

@@ -6,7 +6,7 @@ use Rattle.ldap_msg.specs.Messages.{MessageValue, search_entry}
 use Rattle.ldap_msg.specs.View.{entry_view}
 use Rattle.ldap_msg.specs.Written.{message_bytes, message_content}
 use Rattle.std.proofs.lemmas.List.{map-append}
-use Rattle.ldap_responses.specs.declared.entry.SearchResultEntry.{SearchResultEntry}
+use Rattle.ldap_msg.specs.ldap_responses.declared.entry.SearchResultEntry.{SearchResultEntry}
 use Rattle.session_rules.specs.Responses.{message, entry_messages, HasTooLong}
 use Rattle.session_rules.specs.Taken.{AreSaid}
 use Rattle.session_rules.specs.declared.answered.Answered.{Answered}

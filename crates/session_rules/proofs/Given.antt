@@ -1,9 +1,9 @@
 -- Controls, one after the other. In: the controls that are left. Out: whether one of them has a property. Values are not here.
 use Rattle.std.proofs.Common.{◌≡◌, ℕ, suc, ◌+◌, ◌<◌, List, ◌∷◌, length, map, drop, get_or, Bool, false, sym, ap, ◌∙◌, add-one, drop-cons, ◌||◌}
 use Rattle.std.specs.List.{list_any}
-use Rattle.ldap_parts.specs.Values.{ControlValue}
-use Rattle.ldap_parts.specs.View.{control_view}
-use Rattle.ldap_parts.specs.declared.control.Control.{Control}
+use Rattle.ldap_msg.specs.ldap_parts.Values.{ControlValue}
+use Rattle.ldap_msg.specs.ldap_parts.View.{control_view}
+use Rattle.ldap_msg.specs.ldap_parts.declared.control.Control.{Control}
 
 -- the controls from a place on are the one there and those behind it
 row : (controls : List Control) (i : ℕ) (c : Control) → i < length controls → c ≡ get_or controls i c → map control_view (drop i controls) ≡ control_view c ∷ map control_view (drop (i + 1) controls)

@@ -3,9 +3,9 @@
 use Rattle.std.proofs.Common.{◌≡◌, inl, ℕ, ◌+◌, List, [], ◌∷◌, ◌++◌, Bool, true, false, cond, nat_lt, refl, sym, ap, ◌∙◌, subst, Some, None, Result, Ok, Err}
 use Rattle.std.specs.Prelude.{OnOk, OnErr}
 use Rattle.ldap_msg.specs.Messages.{SearchRequestValue, CompareRequestValue, RequestValue, bind, unbind, search, modify, add, delete, modify_dn, compare, abandon, extended_request, ExtendedRequestValue, MessageValue}
-use Rattle.ldap_op.specs.Values.{OpValue}
-use Rattle.dir_store.specs.Replies.{ReplyModel}
-use Rattle.dir_search.specs.Answer.{Answer}
+use Rattle.session_talk.specs.ldap_op.Values.{OpValue}
+use Rattle.session_talk.specs.dir_store.Replies.{ReplyModel}
+use Rattle.session_talk.specs.dir_search.Answer.{Answer}
 use Rattle.session_talk.specs.Talk.{Looked, RoleValue, EndedValue, Exchange, asked_role, learned, searched, compared, updated, Along, ends, goes}
 use Rattle.session_talk.specs.declared.client.Client.{Client}
 use Rattle.session_rules.specs.Requests.{answering_of, update_of}

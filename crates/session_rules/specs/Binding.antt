@@ -2,12 +2,12 @@
 use Rattle.std.specs.Prelude.{ℕ, pos, List, [], ◌∷◌, Bool, true, false, ◌&&◌, cond, Option, None, Some}
 use Rattle.std.specs.Str.{bytes_eq}
 use Rattle.std.specs.Ordering.{int_eq}
-use Rattle.ldap_requests.specs.Values.{AuthenticationValue, simple, sasl}
-use Rattle.ldap_schema.specs.Schema.{SchemaModel}
-use Rattle.ldap_dn.specs.Names.{RdnModel, rdns}
-use Rattle.ldap_dn.specs.Texts.{name_of_text}
+use Rattle.ldap_msg.specs.ldap_requests.Values.{AuthenticationValue, simple, sasl}
+use Rattle.session_talk.specs.ldap_schema.Schema.{SchemaModel}
+use Rattle.session_talk.specs.ldap_dn.Names.{RdnModel, rdns}
+use Rattle.session_talk.specs.ldap_dn.Texts.{name_of_text}
 use Rattle.ldap_msg.specs.Messages.{BindRequestValue}
-use Rattle.dir_tree.specs.Directory.{name_eq}
+use Rattle.session_talk.specs.dir_tree.Directory.{name_eq}
 use Rattle.session_rules.specs.declared.identity.Identity.TheVariants.{Anonymous, Manager}
 use Rattle.session_rules.specs.declared.bound.Bound.{Bound}
 

@@ -3,7 +3,7 @@
 use Rattle.std.specs.Prelude.{ℕ, List, [], ◌∷◌, Bool, false, ◌&&◌, ◌||◌, not, cond, filter, codes, Option, None, Some, Result, Ok, Err}
 use Rattle.std.specs.List.{list_any}
 use Rattle.std.specs.Str.{bytes_eq}
-use Rattle.ldap_parts.specs.Values.{ControlValue}
+use Rattle.ldap_msg.specs.ldap_parts.Values.{ControlValue}
 use Rattle.session_rules.specs.Numbers.{number_of, pair_of}
 use Rattle.session_rules.specs.declared.controls.Kind.{Kind}
 use Rattle.session_rules.specs.declared.controls.Kind.TheVariants.{Read, Update, Other}

@@ -3,8 +3,8 @@
 use Rattle.std.specs.Prelude.{ℕ, List, Bool, cond, codes, Option, None, Some}
 use Rattle.std.specs.Str.{bytes_eq}
 use Rattle.ldap_msg.specs.Messages.{ExtendedRequestValue, LdapResultValue, RequestValue, bind, unbind, search, modify, add, delete, modify_dn, compare, abandon, extended_request, ResponseValue, bind_response, search_done, modify_response, add_response, delete_response, modify_dn_response, compare_response, extended}
-use Rattle.ldap_op.specs.Values.{OpValue}
-use Rattle.ldap_op.specs.Values as op
+use Rattle.session_talk.specs.ldap_op.Values.{OpValue}
+use Rattle.session_talk.specs.ldap_op.Values as op
 use Rattle.session_rules.specs.declared.answered.Next.{Next}
 use Rattle.session_rules.specs.declared.answered.Next.TheVariants.{GoesOn, Unbound}
 use Rattle.session_rules.specs.declared.controls.Kind.{Kind}

@@ -1,10 +1,10 @@
 -- The messages that answer a request: RFC 4511 4.1.1 and 4.1.9. Results flow in; messages flow out.
 use Rattle.std.specs.Prelude.{◌≤◌, ◌^◌, ◌⊎◌, ℕ, List, [], ◌∷◌, ◌++◌, map, length, codes, decimal, false, Option, None, Some}
-use Rattle.ldap_parts.specs.Values.{ControlValue}
+use Rattle.ldap_msg.specs.ldap_parts.Values.{ControlValue}
 use Rattle.ldap_msg.specs.Messages.{SearchResultEntryValue, LdapResultValue, ResponseValue, search_entry, extended, response, MessageValue}
 use Rattle.ldap_msg.specs.Written.{message_content}
-use Rattle.dir_store.specs.Replies.{ReplyModel, only}
-use Rattle.dir_search.specs.Answer.{Answer}
+use Rattle.session_talk.specs.dir_store.Replies.{ReplyModel, only}
+use Rattle.session_talk.specs.dir_search.Answer.{Answer}
 use Rattle.session_talk.specs.Talk.{Looked, found, not_yet, gone, no_memory}
 use Rattle.session_rules.specs.Controls.{number_control}
 use Rattle.session_rules.specs.Requests.{response_to}

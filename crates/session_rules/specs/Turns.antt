@@ -1,9 +1,9 @@
 -- Sessions along a talk. Messages and the questions with their answers flow in, in turn; the session after them and all responses flow out.
 use Rattle.std.specs.Prelude.{◌≡◌, ◌⊎◌, ℕ, List, [], ◌∷◌, ◌++◌}
 use Rattle.ldap_msg.specs.Messages.{SearchRequestValue, CompareRequestValue, RequestValue, MessageValue}
-use Rattle.ldap_op.specs.Values.{OpValue}
-use Rattle.dir_store.specs.Replies.{ReplyModel}
-use Rattle.dir_search.specs.Answer.{Answer}
+use Rattle.session_talk.specs.ldap_op.Values.{OpValue}
+use Rattle.session_talk.specs.dir_store.Replies.{ReplyModel}
+use Rattle.session_talk.specs.dir_search.Answer.{Answer}
 use Rattle.session_talk.specs.Talk.{Looked, RoleValue, EndedValue, Exchange, asked_role, learned, searched, compared, updated}
 use Rattle.session_talk.specs.declared.client.Client.{Client}
 use Rattle.session_rules.specs.Requests.{answering_of}

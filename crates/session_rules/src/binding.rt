@@ -1,17 +1,15 @@
 //! Binds judged. The manager's name and password and a bind flow in; who is bound and a result code flow out.
 //! Messages are not here.
 ghost use Rattle.std.specs.Prelude.{◌≡◌, IfOk};
-ghost use Rattle.ldap_dn.specs.Texts.{name_of_text};
+ghost use Rattle.session_talk.specs.ldap_dn.Texts.{name_of_text};
 ghost use Rattle.ldap_msg.specs.View.{bind_view};
-ghost use Rattle.ldap_requests.specs.View.{authentication_view};
+ghost use Rattle.ldap_msg.specs.ldap_requests.View.{authentication_view};
 ghost use Rattle.session_rules.specs.Binding.{is_name_of, bound_without_password, bound_with_password, bound_by, bound};
 
 use crate::bound::Bound;
 use crate::identity::Identity;
-use dir_tree::are_same;
-use ldap_dn::{Name, NameError};
 use ldap_msg::{AuthenticationChoice, BindRequest, ResultCode};
-use ldap_schema::Schema;
+use session_talk::{Name, NameError, Schema, are_same};
 use std::alloc::{AllocError, Global};
 
 /// An anonymous session, with this code.

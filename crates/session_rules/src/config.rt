@@ -2,9 +2,7 @@
 ghost use Rattle.std.specs.Prelude.{◌≡◌};
 ghost use Rattle.session_rules.specs.View.{config_view};
 
-use ldap_dn::Name;
-use ldap_schema::Schema;
-use session_talk::Client;
+use session_talk::{Client, Name, Schema};
 
 /// What all sessions of a server share, and which of them a session is.
 #[derive(Clone, Copy)]

@@ -4,7 +4,7 @@ ghost use Rattle.std.specs.Prelude.{◌≡◌, ◌∷◌, [], ◌&&◌, not, fil
 ghost use Rattle.std.specs.Option.{option_map, option_copied, option_to_list};
 ghost use Rattle.session_rules.specs.Numbers.{number_of, pair_of};
 ghost use Rattle.std.specs.Str.{bytes_eq};
-ghost use Rattle.ldap_parts.specs.View.{control_view};
+ghost use Rattle.ldap_msg.specs.ldap_parts.View.{control_view};
 ghost use Rattle.session_rules.specs.Controls.{number_control, request_control, is_of, has_meaning, is_unavailable, value_of, number_named, request_named, named_in, judged, AreRepeated};
 
 use crate::numbers::{number_of, pair_of};

@@ -30,5 +30,6 @@ pub use laws::{role_is_first, sessions_join};
 pub use numbers::{number_of, pair_of};
 pub use requests::Answering;
 pub use responses::disconnect;
+pub use session_talk::{Client, Ended, Found, Gate, Look, LookError, Role};
 pub use state::State;
 pub use taking::take;

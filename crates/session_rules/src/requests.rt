@@ -3,13 +3,13 @@
 ghost use Rattle.std.specs.Prelude.{◌≡◌, IfOk, IfErr};
 ghost use Rattle.ldap_msg.specs.View.{request_view, extended_request_view};
 ghost use Rattle.ldap_msg.specs.Messages.{extended_request};
-ghost use Rattle.ldap_op.specs.View.{update_view};
+ghost use Rattle.session_talk.specs.ldap_op.View.{update_view};
 ghost use Rattle.session_rules.specs.Requests.{is_noop, update_of, kind_of, silence_of, answering_of};
 
 use crate::answered::Next;
 use crate::controls::Kind;
 use ldap_msg::{ExtendedRequest, Request};
-use ldap_op::Update;
+use session_talk::Update;
 
 /// The extended request for an update that changes nothing and takes a number.
 const NOOP_REQUEST: &str = "2.25.20120103";

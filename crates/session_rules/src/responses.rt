@@ -3,8 +3,8 @@ ghost use Rattle.std.specs.Prelude.{◌≡◌, ◌≤◌, ◌^◌, ◌++◌, ◌
 ghost use Rattle.std.specs.Option.{option_map};
 ghost use Rattle.ldap_msg.specs.View.{entry_view, response_view, result_view, control_view};
 ghost use Rattle.ldap_msg.specs.Written.{message_bytes, message_content};
-ghost use Rattle.dir_store.specs.View.{reply_view};
-ghost use Rattle.dir_search.specs.View.{answer_view};
+ghost use Rattle.session_talk.specs.dir_store.View.{reply_view};
+ghost use Rattle.session_talk.specs.dir_search.View.{answer_view};
 ghost use Rattle.session_talk.specs.Talk.{looked};
 ghost use Rattle.session_rules.specs.Responses.{message, result_of, referral_to, code_message, number_told, value_for, reply_message, entry_messages, search_messages, compare_messages, notice, HasTooLong};
 ghost use Rattle.session_rules.specs.Requests.{response_to};
@@ -14,13 +14,11 @@ use crate::answered::{Answered, Next};
 use crate::controls::NUMBER_CONTROL;
 use crate::fault::AnswerError;
 use crate::requests::Answering;
-use dir_search::SearchAnswer;
-use dir_store::Reply;
 use ldap_msg::{
     Control, EncodeError, ExtendedResponse, LdapResult, Message, ProtocolOp, Response, ResultCode,
     SearchResultEntry, encode,
 };
-use session_talk::{Found, LookError};
+use session_talk::{Found, LookError, Reply, SearchAnswer};
 use std::alloc::{AllocError, Global};
 
 /// responseName of the Notice of Disconnection (RFC 4511 4.4.1).

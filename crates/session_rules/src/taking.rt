@@ -23,7 +23,6 @@ use crate::responses::{disconnect, say_code, say_compare, say_search, silence};
 use crate::state::State;
 use crate::updating::{ask_update, refuse};
 use ldap_msg::{BindRequest, CompareRequest, Message, Request, ResultCode, SearchRequest};
-use ldap_op::Op;
 use session_talk::{Gate, Look, Role};
 use std::alloc::Global;
 
@@ -129,10 +128,7 @@ fn take_served<D: Gate>(
         (asked_of (config_view config.now) state.old pending.id (request_view request) pending.named (role_view role))) state.new result }
 {
     match update_in(request) {
-        Ok(update) => {
-            let op = Op::new(update);
-            ask_update(alloc, config, state, directory, pending, role, op)
-        }
+        Ok(update) => ask_update(alloc, config, state, directory, pending, role, update),
         Err(request) => take_other(alloc, config, state, directory, pending, &request),
     }
 }

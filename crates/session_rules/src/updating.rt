@@ -1,7 +1,8 @@
 //! An update, asked for and answered. An update and the role of the replica flow in; the octets of the response flow out, and the session's
 //! state after it stays. Reads are not here.
 ghost use Rattle.std.specs.Prelude.{◌≡◌, ◌+◌, ◌∷◌, [], string_bytes, None};
-ghost use Rattle.dir_store.specs.View.{reply_view};
+ghost use Rattle.session_talk.specs.dir_store.View.{reply_view};
+ghost use Rattle.session_talk.specs.ldap_op.View.{update_view};
 ghost use Rattle.session_talk.specs.View.{role_view, ended_view};
 ghost use Rattle.session_rules.specs.Responses.{referral_to, done_message};
 ghost use Rattle.session_rules.specs.Session.{an_update, refused, refused_with, identity_refused, after_update, requests_after, update_as, update_at, update_by};
@@ -20,10 +21,8 @@ use crate::responses::{
     referral_to, response_to, result_of, say, say_code, say_numbered, value_for,
 };
 use crate::state::State;
-use dir_store::Reply;
 use ldap_msg::ResultCode;
-use ldap_op::Op;
-use session_talk::{Client, Ended, Gate, Role};
+use session_talk::{Client, Ended, Gate, Reply, Role, Update};
 use std::alloc::Global;
 
 /// Who a session is bound as once a request of this kind was refused.
@@ -121,14 +120,14 @@ fn ask_gate<D: Gate>(
     client: Client,
     number: u64,
     requests: u64,
-    op: Op,
+    update: Update,
 ) -> Result<Answered, AnswerError>
     requires requests { requests ≡ requests_after state.old.requests pending.named.request }
     ensures { HasTaken D.allows directory.old directory.new
-        (Outcome state.old pending.id pending.answering pending.named (an_update client number op)) state.new result }
+        (Outcome state.old pending.id pending.answering pending.named (an_update client number (update_view update))) state.new result }
 {
     state.requests = requests;
-    let ended = directory.update(alloc, client, number, op);
+    let ended = directory.update(alloc, client, number, update);
     end_update(alloc, state, pending, ended)
 }
 
@@ -139,11 +138,11 @@ fn ask_as_own<D: Gate>(
     state: &mut State,
     directory: &mut D,
     pending: Pending,
-    op: Op,
+    update: Update,
 ) -> Result<Answered, AnswerError>
     requires own { pending.named.request ≡ None }
     ensures { HasTaken D.allows directory.old directory.new (Outcome state.old pending.id pending.answering pending.named
-        (update_as (config_view config.now) state.old pending.id pending.answering op None)) state.new result }
+        (update_as (config_view config.now) state.old pending.id pending.answering (update_view update) None)) state.new result }
 {
     if state.requests < GREATEST {
         let number = state.requests + 1;
@@ -155,7 +154,7 @@ fn ask_as_own<D: Gate>(
             config.client(),
             number,
             number,
-            op,
+            update,
         )
     } else {
         refuse(
@@ -175,10 +174,10 @@ fn ask_as<D: Gate>(
     state: &mut State,
     directory: &mut D,
     pending: Pending,
-    op: Op,
+    update: Update,
 ) -> Result<Answered, AnswerError>
     ensures { HasTaken D.allows directory.old directory.new (Outcome state.old pending.id pending.answering pending.named
-        (update_as (config_view config.now) state.old pending.id pending.answering op pending.named.request)) state.new result }
+        (update_as (config_view config.now) state.old pending.id pending.answering (update_view update) pending.named.request)) state.new result }
 {
     match pending.named.request {
         Some((client, number)) => {
@@ -191,10 +190,10 @@ fn ask_as<D: Gate>(
                 Client::named(client),
                 number,
                 requests,
-                op,
+                update,
             )
         }
-        None => ask_as_own(alloc, config, state, directory, pending, op),
+        None => ask_as_own(alloc, config, state, directory, pending, update),
     }
 }
 
@@ -206,15 +205,15 @@ fn ask_at<D: Gate>(
     directory: &mut D,
     pending: Pending,
     role: Role,
-    op: Op,
+    update: Update,
 ) -> Result<Answered, AnswerError>
     ensures { HasTaken D.allows directory.old directory.new (Outcome state.old pending.id pending.answering pending.named
-        (update_at (config_view config.now) state.old pending.id pending.answering pending.named op (role_view role)))
+        (update_at (config_view config.now) state.old pending.id pending.answering pending.named (update_view update) (role_view role)))
         state.new result }
 {
     let Pending { id, answering, .. } = pending;
     match role {
-        Role::Primary => ask_as(alloc, config, state, directory, pending, op),
+        Role::Primary => ask_as(alloc, config, state, directory, pending, update),
         Role::Backup { uri } => refer(alloc, state, id, answering, uri),
         Role::Changing => refuse(alloc, state, id, answering, ResultCode::UNAVAILABLE),
         Role::Recovering => refuse(alloc, state, id, answering, ResultCode::UNAVAILABLE),
@@ -229,14 +228,14 @@ pub fn ask_update<D: Gate>(
     directory: &mut D,
     pending: Pending,
     role: Role,
-    op: Op,
+    update: Update,
 ) -> Result<Answered, AnswerError>
     ensures { HasTaken D.allows directory.old directory.new (Outcome state.old pending.id pending.answering pending.named
-        (update_by state.old.identity (config_view config.now) state.old pending.id pending.answering pending.named op
+        (update_by state.old.identity (config_view config.now) state.old pending.id pending.answering pending.named (update_view update)
         (role_view role))) state.new result }
 {
     match state.identity {
-        Identity::Manager => ask_at(alloc, config, state, directory, pending, role, op),
+        Identity::Manager => ask_at(alloc, config, state, directory, pending, role, update),
         Identity::Anonymous => refuse(
             alloc,
             state,

@@ -1,12 +1,12 @@
 // Updates of a directory, as a session asks for them. An update flows in, with who asks for it; how it ended flows out.
 // What must not be here: messages, how replicas agree.
+ghost use Rattle.dir_search.specs.ldap_op.View.{update_view};
 ghost use Rattle.session_talk.specs.Talk.{asked_role, updated};
 ghost use Rattle.session_talk.specs.View.{role_view, ended_view};
 
 use crate::client::Client;
 use crate::look::Look;
-use dir_store::Reply;
-use ldap_op::Op;
+use dir_search::{Reply, Update};
 use std::alloc::Global;
 
 /// What a replica is to an update.
@@ -42,6 +42,6 @@ pub trait Gate: Look {
 
     /// An update (RFC 4511 4.6 to 4.9) as a client's request of this number. A request whose number was answered before is answered the
     /// same again. It may wait.
-    fn update(&mut self, alloc: Global, client: Client, number: u64, op: Op) -> Ended
-        ensures { Self.allows self.old (updated client number op (ended_view result)) self.new };
+    fn update(&mut self, alloc: Global, client: Client, number: u64, update: Update) -> Ended
+        ensures { Self.allows self.old (updated client number (update_view update) (ended_view result)) self.new };
 }

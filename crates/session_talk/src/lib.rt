@@ -8,6 +8,11 @@ mod look;
 mod outcomes;
 
 pub use client::Client;
+pub use dir_search::{
+    AddRequest, Attribute, CompareRequest, DerefAliases, IndexError, Indexes, Name, NameError, Op,
+    Reply, ResultCode, Schema, SchemaError, Scope, SearchAnswer, SearchRequest, Store, Update,
+    are_same, compare, search,
+};
 pub use gate::{Ended, Gate, Role};
 pub use look::Look;
 pub use outcomes::{Found, LookError};

@@ -1,32 +1,11 @@
-//! Tests of sessions over the sample: octets of requests flow in, and the octets of their responses are compared with those worked out by hand from
-//! the standard. Proofs, and what clauses say already, are not here.
+//! Tests of what no command shows of a session: readers that fail or give little, writers that fail or take little, and directories that answer as
+//! replicas may. Octets of requests flow in, and what is written is compared with octets worked out by hand from the standard. What a session answers
+//! to each request is not here: that is shown by tables of rows.
 #![tactic(auto)]
 
 #[cfg(test)]
-mod adds;
-#[cfg(test)]
-mod binds;
-#[cfg(test)]
-mod clients;
-#[cfg(test)]
-mod compares;
-#[cfg(test)]
-mod controls;
-#[cfg(test)]
 mod cutting;
-#[cfg(test)]
-mod deletes;
-#[cfg(test)]
-mod filters;
-#[cfg(test)]
-mod modifies;
-#[cfg(test)]
-mod renames;
 #[cfg(test)]
 mod replicas;
 #[cfg(test)]
 mod sample;
-#[cfg(test)]
-mod searches;
-#[cfg(test)]
-mod shown;

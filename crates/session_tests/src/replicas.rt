@@ -2,13 +2,8 @@
 //! not there yet. Expected octets are those of a worked example or come from an independent encoder. What clauses say already is not here.
 
 use crate::sample::{BIND, BOUND, config, is_written, joined, octets};
-use dir_search::SearchAnswer;
-use dir_store::Reply;
-use ldap_dn::Name;
-use ldap_msg::{CompareRequest, SearchRequest};
-use ldap_op::Op;
-use ldap_schema::Schema;
 use ldap_session::{Client, Config, Ended, Found, Gate, Look, LookError, Role, serve};
+use local_directory::{CompareRequest, Name, Reply, Schema, SearchAnswer, SearchRequest, Update};
 use std::alloc::Global;
 use std::process::Abort;
 use std::test::*;
@@ -104,7 +99,7 @@ impl Gate for Replica {
         (role, 41)
     }
 
-    fn update(&mut self, _alloc: Global, _client: Client, _number: u64, _op: Op) -> Ended {
+    fn update(&mut self, _alloc: Global, _client: Client, _number: u64, _update: Update) -> Ended {
         match self.answering.update {
             Ending::Stale => Ended::Stale,
             Ending::Lost => Ended::Lost,

@@ -1,30 +1,11 @@
 //! Sessions over the sample's six entries, octets to octets: requests and responses flow in, and what is written is compared. No expectation
 //! is here but that of the manager's bind.
 
-use dir_store::Store;
-use index_choice::Indexes;
-use ldap_dn::Name;
-use ldap_schema::Schema;
 use ldap_session::{Config, SessionEnd, serve};
-use local_directory::LocalDirectory;
+use local_directory::{Indexes, LocalDirectory, Name, Schema, Store};
 use std::alloc::Global;
 use std::process::Abort;
 use std::test::*;
-
-/// Requests of one session of the manager's, each in hexadecimal, and the responses to them all, up to the end of the input.
-pub struct Row {
-    pub name: &'static str,
-    pub requests: &'static [&'static str],
-    pub responses: &'static [&'static str],
-}
-
-/// The same, up to another end.
-pub struct Last {
-    pub name: &'static str,
-    pub requests: &'static [&'static str],
-    pub responses: &'static [&'static str],
-    pub end: SessionEnd,
-}
 
 /// The manager's bind, and its response.
 pub const BIND: &str =
@@ -126,14 +107,6 @@ pub fn joined(alloc: Global, first: &str, texts: &[&str]) -> Result<String, Fail
     Ok(all)
 }
 
-/// What is written to a manager's session over the sample, and how it ends.
-fn answered(alloc: Global, requests: &[&str]) -> Result<(String, SessionEnd), Fail> {
-    let mut site = sample(alloc)?;
-    let mut input = octets(alloc, &[BIND])?;
-    input.extend_from_slice(&octets(alloc, requests)?)?;
-    talk(alloc, &mut site, 2, &input)
-}
-
 /// Compares what is written, behind the name of its row.
 pub fn is_written(
     rt: &impl Abort,
@@ -145,43 +118,5 @@ pub fn is_written(
     let written = joined(alloc, name, &[written])?;
     let wanted = joined(alloc, name, &[wanted])?;
     assert_eq!(rt; written.as_str(), wanted.as_str());
-    Ok(())
-}
-
-/// Asks the requests of a manager's session over the sample, and compares the responses and the end.
-fn check_row(
-    rt: &impl Abort,
-    alloc: Global,
-    name: &str,
-    requests: &[&str],
-    responses: &[&str],
-    last: SessionEnd,
-) -> Result<(), Fail> {
-    let (written, end) = answered(alloc, requests)?;
-    assert_eq!(rt; end, last);
-    let wanted = joined(alloc, BOUND, responses)?;
-    is_written(rt, alloc, name, &written, &wanted)
-}
-
-/// Asks the requests of each row, and compares the responses.
-pub fn check(rt: &impl Abort, alloc: Global, rows: &[Row]) -> Result<(), Fail> {
-    for row in rows {
-        check_row(
-            rt,
-            alloc,
-            row.name,
-            row.requests,
-            row.responses,
-            SessionEnd::EndOfInput,
-        )?;
-    }
-    Ok(())
-}
-
-/// The same, with the end of each row.
-pub fn check_ends(rt: &impl Abort, alloc: Global, rows: &[Last]) -> Result<(), Fail> {
-    for row in rows {
-        check_row(rt, alloc, row.name, row.requests, row.responses, row.end)?;
-    }
     Ok(())
 }

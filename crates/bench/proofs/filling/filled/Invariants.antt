@@ -1,5 +1,5 @@
 use Rattle.std.proofs.Common.{◌+◌}
-use Rattle.dir_store.specs.Stored.{NumbersBelow}
+use Rattle.dir_search.specs.dir_store.Stored.{NumbersBelow}
 use Rattle.bench.proofs.filling.filled.Given as goal
 
 -- the numbers of the items so far are below the next one

@@ -1,6 +1,6 @@
 use Rattle.std.proofs.Common.{◌≡◌, ◌++◌, true, is_some, drop, map}
 use Rattle.std.specs.List.{list_all}
-use Rattle.ldap_schema.specs.Schema.{class_named}
+use Rattle.ldap_match.specs.ldap_schema.Schema.{class_named}
 use Rattle.dir_entry.specs.Classes.{names_of}
 use Rattle.dir_entry.proofs.classes.names_of.Given as goal
 

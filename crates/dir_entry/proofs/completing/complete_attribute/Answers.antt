@@ -1,5 +1,5 @@
 use Rattle.std.proofs.Common.{ℕ, true, false, Vec, Global, Err, ap, sym, ◌∙◌, ◌≡◌, subst}
-use Rattle.ldap_schema.specs.ObjectClassType.{IsObjectClassType}
+use Rattle.ldap_match.specs.ldap_schema.ObjectClassType.{IsObjectClassType}
 use Rattle.dir_entry.proofs.Named.{classes_in_syntax}
 use Rattle.dir_entry.proofs.Completed.{same_kind}
 use Rattle.dir_entry.proofs.completing.complete_attribute.Goals as goal

@@ -1,6 +1,6 @@
 use Rattle.std.proofs.Common.{◌≡◌, drop, filter}
 use Rattle.std.specs.List.{list_all}
-use Rattle.ldap_schema.specs.Superclasses.{is_subclass}
+use Rattle.ldap_match.specs.ldap_schema.Superclasses.{is_subclass}
 use Rattle.dir_entry.specs.Naming.{first_of}
 use Rattle.dir_entry.proofs.finishing.lowest_among.Given as goal
 

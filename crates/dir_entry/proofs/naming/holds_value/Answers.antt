@@ -1,5 +1,5 @@
 use Rattle.std.proofs.Common.{ℕ, List, Vec, Global, ap, sym, ◌∙◌}
-use Rattle.value_keys.specs.Rules.{equality_of}
+use Rattle.ldap_match.specs.ldap_schema.Rules.{equality_of}
 use Rattle.dir_entry.specs.Editing.{holds}
 use Rattle.dir_entry.proofs.Equivalents.{held_by_octets}
 use Rattle.dir_entry.proofs.naming.holds_value.Goals as goal

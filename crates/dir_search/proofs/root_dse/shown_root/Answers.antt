@@ -1,8 +1,8 @@
 use Rattle.std.proofs.Common.{◌++◌, ◌∷◌, [], ℕ, List, map, ap, ◌∙◌, string_bytes, codes}
 use Rattle.std.specs.declared.string.String.{String}
-use Rattle.ldap_schema.specs.Schema.{SchemaModel}
-use Rattle.dir_entry.specs.Entry.{KeyedAttribute, attributes_of}
-use Rattle.ldap_parts.specs.Values.{PartialAttributeValue}
+use Rattle.dir_store.specs.ldap_schema.Schema.{SchemaModel}
+use Rattle.dir_store.specs.dir_entry.Entry.{KeyedAttribute, attributes_of}
+use Rattle.dir_store.specs.ldap_parts.Values.{PartialAttributeValue}
 use Rattle.dir_search.specs.Selection.{attributes_selected}
 use Rattle.dir_search.specs.RootDse.{dse_attributes, supported_control, supported_extension, supported_ldap_version, where_named}
 use Rattle.dir_search.proofs.root_dse.shown_root.Goals as goal

@@ -1,4 +1,4 @@
-use Rattle.dir_index.specs.Whole.{lists_of}
+use Rattle.dir_store.specs.dir_index.Whole.{lists_of}
 use Rattle.dir_search.proofs.Guided.{guided, leaves_few}
 use Rattle.dir_search.proofs.searching.guide.Goals as goal
 

@@ -1,8 +1,8 @@
 use Rattle.std.proofs.Common.{subst, sym, List, ℕ}
 use Rattle.std.proofs.lemmas.Result.{IfOk-weaker}
 use Rattle.ldap_msg.specs.View.{search_view}
-use Rattle.dir_index.specs.Whole.{lists_of}
-use Rattle.plan_sets.specs.Sets.{is_in}
+use Rattle.dir_store.specs.dir_index.Whole.{lists_of}
+use Rattle.plan_compile.specs.plan_sets.Sets.{is_in}
 use Rattle.plan_run.specs.Runs.{is_open}
 use Rattle.dir_search.specs.Looks.{AreHere}
 use Rattle.dir_search.proofs.Few.{among, scope_rises, true_here}

@@ -1,5 +1,5 @@
 use Rattle.std.proofs.Common.{ap}
-use Rattle.ldap_dn.specs.Texts.{name_of_text}
+use Rattle.dir_store.specs.ldap_dn.Texts.{name_of_text}
 use Rattle.ldap_msg.specs.View.{search_view}
 use Rattle.dir_search.specs.Answer.{is_subordinate}
 use Rattle.dir_search.proofs.Answered.{no_scope}

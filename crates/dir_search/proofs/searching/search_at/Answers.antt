@@ -1,6 +1,6 @@
 use Rattle.std.proofs.Common.{◌∙◌, sym, ap, subst}
 use Rattle.std.specs.Prelude.{IfOk}
-use Rattle.ldap_schema.specs.Schema.{SchemaModel}
+use Rattle.dir_store.specs.ldap_schema.Schema.{SchemaModel}
 use Rattle.ldap_msg.specs.View.{search_view}
 use Rattle.dir_store.specs.Directory.{Directory}
 use Rattle.dir_store.specs.Stored.{directory}

@@ -1,9 +1,9 @@
 -- In each scope the numbers are those of the definition.
 use Rattle.std.proofs.Common.{◌≡◌, ap}
-use Rattle.ldap_dn.specs.Names.{rdns}
-use Rattle.ldap_requests.specs.declared.search.Scope.{Scope}
-use Rattle.ldap_requests.specs.declared.search.Scope.TheVariants.{BaseObject, SingleLevel, WholeSubtree, SubordinateSubtree}
-use Rattle.dir_tree.specs.Directory.{numbers}
+use Rattle.dir_store.specs.ldap_dn.Names.{rdns}
+use Rattle.ldap_msg.specs.ldap_requests.declared.search.Scope.{Scope}
+use Rattle.ldap_msg.specs.ldap_requests.declared.search.Scope.TheVariants.{BaseObject, SingleLevel, WholeSubtree, SubordinateSubtree}
+use Rattle.dir_store.specs.dir_tree.Directory.{numbers}
 use Rattle.dir_search.specs.Scopes.{is_in_scope}
 use Rattle.dir_search.proofs.Answered.{among_same}
 use Rattle.dir_search.proofs.searching.search_bound.Goals as goal

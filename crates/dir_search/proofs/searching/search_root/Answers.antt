@@ -1,6 +1,6 @@
 use Rattle.std.proofs.Common.{ap, ◌∙◌, List}
-use Rattle.ldap_dn.specs.Names.{RdnModel, rdns}
-use Rattle.dir_tree.specs.Directory.{TreeModel, name_eq, numbers}
+use Rattle.dir_store.specs.ldap_dn.Names.{RdnModel, rdns}
+use Rattle.dir_store.specs.dir_tree.Directory.{TreeModel, name_eq, numbers}
 use Rattle.dir_search.proofs.Answered.{among_same}
 use Rattle.dir_search.proofs.searching.search_root.Goals as goal
 

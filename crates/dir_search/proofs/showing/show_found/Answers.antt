@@ -3,7 +3,7 @@ use Rattle.std.proofs.lemmas.List.{length-map}
 use Rattle.ldap_msg.specs.Messages.{SearchResultEntryValue}
 use Rattle.ldap_msg.specs.View.{entry_view}
 use Rattle.dir_store.specs.Directory.{NamedEntry}
-use Rattle.ldap_responses.specs.declared.entry.SearchResultEntry.{SearchResultEntry}
+use Rattle.ldap_msg.specs.ldap_responses.declared.entry.SearchResultEntry.{SearchResultEntry}
 use Rattle.dir_search.specs.Selection.{selected}
 use Rattle.dir_search.proofs.Limits.{SoFar, begins, shows}
 use Rattle.dir_search.proofs.Shown.{cut_short, all_shown}

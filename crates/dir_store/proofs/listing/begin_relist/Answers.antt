@@ -1,6 +1,6 @@
 use Rattle.std.proofs.Common.{◌≡◌, List, sym}
-use Rattle.ldap_dn.specs.Names.{rdns}
-use Rattle.index_choice.specs.declared.kinds.Kinds.{Kinds}
+use Rattle.dir_tree.specs.ldap_dn.Names.{rdns}
+use Rattle.dir_index.specs.index_choice.declared.kinds.Kinds.{Kinds}
 use Rattle.dir_index.specs.Postings.{Indexed}
 use Rattle.dir_index.specs.Whole.{lists_of, ArePostingsOf, HasEntry, with_attributes}
 use Rattle.dir_index.specs.Begun.{BegunModel, lists_after}

@@ -1,5 +1,5 @@
 use Rattle.std.proofs.Common.{refl, sym, ap, List}
-use Rattle.dir_entry.specs.Entry.{KeyedAttribute}
+use Rattle.dir_tree.specs.dir_entry.Entry.{KeyedAttribute}
 use Rattle.dir_index.specs.Postings.{Indexed}
 use Rattle.dir_index.specs.Whole.{PostingsModel, lists_of, AreSameLists, ArePostingsOf, HasEntry, with_attributes}
 use Rattle.dir_tree.specs.Directory.{Entered, replaced}

@@ -1,5 +1,5 @@
 use Rattle.std.proofs.Common.{List, ap, ◌∙◌}
-use Rattle.ldap_dn.specs.Names.{rdns}
+use Rattle.dir_tree.specs.ldap_dn.Names.{rdns}
 use Rattle.dir_index.specs.Whole.{lists_of, with_attributes}
 use Rattle.dir_index.specs.Begun.{lists_after}
 use Rattle.dir_tree.specs.Directory.{Entered, TreeModel}

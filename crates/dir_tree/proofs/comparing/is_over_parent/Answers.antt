@@ -1,5 +1,5 @@
 use Rattle.std.proofs.Common.{take, ap, ◌∙◌}
-use Rattle.ldap_dn.specs.Names.{rdns}
+use Rattle.dir_entry.specs.ldap_dn.Names.{rdns}
 use Rattle.dir_tree.specs.Directory.{NameKey, begins}
 use Rattle.dir_tree.proofs.Footing.{above-rdns}
 use Rattle.dir_tree.proofs.Renamed.{front-begins}

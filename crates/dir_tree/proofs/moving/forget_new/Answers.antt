@@ -1,5 +1,5 @@
 use Rattle.std.proofs.Common.{◌∙◌, ap, cond, Option, None, List, arith}
-use Rattle.ldap_dn.specs.Names.{RdnModel, rdns}
+use Rattle.dir_entry.specs.ldap_dn.Names.{RdnModel, rdns}
 use Rattle.dir_tree.specs.Directory.{name_eq}
 use Rattle.dir_tree.specs.Places.{Shown}
 use Rattle.dir_tree.specs.Kept.{place_at}

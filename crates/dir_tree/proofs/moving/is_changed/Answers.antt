@@ -1,6 +1,6 @@
 use Rattle.std.proofs.Common.{ap, ◌∙◌, Bool, not, nat_eq, length}
 use Rattle.std.specs.Prelude.{◌&&◌}
-use Rattle.ldap_dn.specs.Names.{is_front}
+use Rattle.dir_entry.specs.ldap_dn.Names.{is_front}
 use Rattle.dir_tree.proofs.Renamed.{changed_is}
 use Rattle.dir_tree.proofs.moving.is_changed.Goals as goal
 

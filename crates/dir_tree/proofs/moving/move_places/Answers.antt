@@ -1,5 +1,5 @@
 use Rattle.std.proofs.Common.{List, Bool, true, false, refl, sym, ap, ◌∙◌, ◌≡◌, ℕ, Option, None, cond}
-use Rattle.ldap_dn.specs.Names.{RdnModel, rdns}
+use Rattle.dir_entry.specs.ldap_dn.Names.{RdnModel, rdns}
 use Rattle.dir_tree.specs.Directory.{NameKey}
 use Rattle.dir_tree.specs.Places.{Shown}
 use Rattle.dir_tree.specs.Kept.{place_at}

@@ -2,7 +2,7 @@ use Rattle.std.proofs.Common.{ℕ, Option, ◌≤◌, ◌∙◌, ap, cond, lengt
 use Rattle.std.specs.Prelude.{◌&&◌}
 use Rattle.std.specs.Option.{option_map}
 use Rattle.std.proofs.lemmas.List.{take-map, length-map}
-use Rattle.ldap_dn.specs.Names.{RdnModel, rdns}
+use Rattle.dir_entry.specs.ldap_dn.Names.{RdnModel, rdns}
 use Rattle.dir_tree.specs.Directory.{NameKey, name_eq}
 use Rattle.dir_tree.specs.Places.{Shown}
 use Rattle.dir_tree.specs.Kept.{place_at, seen}

@@ -1,7 +1,7 @@
 use Rattle.std.proofs.Common.{◌≡◌, Option, cond}
 use Rattle.std.specs.Prelude.{◌&&◌}
 use Rattle.std.specs.Option.{option_map}
-use Rattle.ldap_dn.specs.Names.{rdns}
+use Rattle.dir_entry.specs.ldap_dn.Names.{rdns}
 use Rattle.dir_tree.specs.Directory.{NameKey}
 use Rattle.dir_tree.specs.Places.{Shown, is_above}
 use Rattle.dir_tree.specs.Kept.{place_at, seen}

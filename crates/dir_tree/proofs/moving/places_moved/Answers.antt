@@ -1,6 +1,6 @@
 use Rattle.std.proofs.Common.{slice_index_or}
 use Rattle.std.proofs.lemmas.List.{get_or_default}
-use Rattle.ldap_dn.specs.Names.{rdns}
+use Rattle.dir_entry.specs.ldap_dn.Names.{rdns}
 use Rattle.dir_tree.specs.Kept.{place_at, seen}
 use Rattle.dir_tree.specs.Stored.{directory_of}
 use Rattle.dir_tree.proofs.Putting.{places-step}

@@ -1,5 +1,5 @@
 use Rattle.std.proofs.Common.{◌≡◌, ◌++◌, drop}
-use Rattle.ldap_dn.specs.Names.{rdns}
+use Rattle.dir_entry.specs.ldap_dn.Names.{rdns}
 use Rattle.dir_tree.specs.Stored.{directory_of}
 use Rattle.dir_tree.specs.Kept.{place_at, seen}
 use Rattle.dir_tree.specs.Renamed.{places_after, entries_of}

@@ -1,6 +1,6 @@
 use Rattle.std.proofs.Common.{ap, sym, ◌∙◌, List, Option}
 use Rattle.std.specs.Option.{option_map}
-use Rattle.ldap_dn.specs.Names.{rdns}
+use Rattle.dir_entry.specs.ldap_dn.Names.{rdns}
 use Rattle.dir_tree.specs.Directory.{NameKey}
 use Rattle.dir_tree.specs.Places.{Shown}
 use Rattle.dir_tree.specs.Kept.{place_at, seen}

@@ -1,4 +1,4 @@
-use Rattle.ldap_dn.specs.Names.{rdns}
+use Rattle.dir_entry.specs.ldap_dn.Names.{rdns}
 use Rattle.dir_tree.specs.Directory.{entry_at}
 use Rattle.dir_tree.specs.Kept.{place_at, seen}
 use Rattle.dir_tree.specs.Stored.{directory_of, entered_of}

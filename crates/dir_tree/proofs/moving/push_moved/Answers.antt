@@ -1,5 +1,5 @@
 use Rattle.std.proofs.Common.{ap, ◌∙◌, List}
-use Rattle.ldap_dn.specs.Names.{RdnModel, rdns}
+use Rattle.dir_entry.specs.ldap_dn.Names.{RdnModel, rdns}
 use Rattle.dir_tree.specs.Kept.{place_at, shown}
 use Rattle.dir_tree.specs.Renamed.{key_after}
 use Rattle.dir_tree.proofs.MovedEntries.{key-moved}

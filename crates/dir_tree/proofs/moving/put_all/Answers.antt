@@ -1,6 +1,6 @@
 use Rattle.std.proofs.Common.{subst}
 use Rattle.dir_tree.specs.Kept.{PlaceEntries, place_at, seen, shown}
-use Rattle.ldap_dn.specs.Names.{rdns}
+use Rattle.dir_entry.specs.ldap_dn.Names.{rdns}
 use Rattle.dir_tree.proofs.Putting.{IsPutting, putting-step}
 use Rattle.dir_tree.proofs.moving.put_all.Goals as goal
 

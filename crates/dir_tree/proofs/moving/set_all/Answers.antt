@@ -1,6 +1,6 @@
 use Rattle.std.proofs.Common.{List, Option, ap, sym, ◌∙◌, cond}
 use Rattle.std.specs.Option.{option_map}
-use Rattle.ldap_dn.specs.Names.{RdnModel, rdns}
+use Rattle.dir_entry.specs.ldap_dn.Names.{RdnModel, rdns}
 use Rattle.dir_tree.specs.Directory.{NameKey, name_eq}
 use Rattle.dir_tree.specs.Places.{Shown}
 use Rattle.dir_tree.specs.Kept.{PlaceEntries, place_at, seen, shown}

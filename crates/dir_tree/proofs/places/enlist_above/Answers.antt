@@ -1,4 +1,4 @@
-use Rattle.ldap_dn.specs.Names.{RdnModel, rdns}
+use Rattle.dir_entry.specs.ldap_dn.Names.{RdnModel, rdns}
 use Rattle.std.proofs.Common.{◌≡◌, ◌≤◌, ◌+◌, ℕ, Bool, Option, cond, length, sym, ap, ◌∙◌, arith, nat_eq}
 use Rattle.std.specs.Option.{option_map}
 use Rattle.std.proofs.lemmas.List.{take-map, length-map}

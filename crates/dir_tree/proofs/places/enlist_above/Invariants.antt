@@ -1,4 +1,4 @@
-use Rattle.ldap_dn.specs.Names.{rdns}
+use Rattle.dir_entry.specs.ldap_dn.Names.{rdns}
 use Rattle.std.proofs.Common.{◌≡◌, cond}
 use Rattle.std.specs.Option.{option_map}
 use Rattle.dir_tree.specs.Directory.{NameKey}

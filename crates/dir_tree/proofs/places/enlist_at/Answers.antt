@@ -1,4 +1,4 @@
-use Rattle.ldap_dn.specs.Names.{RdnModel}
+use Rattle.dir_entry.specs.ldap_dn.Names.{RdnModel}
 use Rattle.std.proofs.Common.{◌≡◌, Vec, Global, BTreeMap, Option, MutBor, sym, ap, ◌∙◌}
 use Rattle.std.specs.Option.{option_copied_mut}
 use Rattle.dir_tree.specs.Directory.{NameKey}

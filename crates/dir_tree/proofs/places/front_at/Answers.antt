@@ -1,6 +1,6 @@
 use Rattle.std.proofs.Common.{◌≡◌, ℕ, suc, ◌+◌, ◌≤◌, cond, length, take, is_some, sym, ap, ◌∙◌, arith}
 use Rattle.std.proofs.lemmas.List.{take-map, length-take-le}
-use Rattle.ldap_dn.specs.Names.{RdnModel, rdns}
+use Rattle.dir_entry.specs.ldap_dn.Names.{RdnModel, rdns}
 use Rattle.dir_tree.specs.Directory.{NameKey}
 use Rattle.dir_tree.specs.Kept.{PlaceEntries, place_at, front_placed}
 use Rattle.dir_tree.proofs.places.front_at.Goals as goal

@@ -1,5 +1,5 @@
 use Rattle.std.proofs.Common.{◌≡◌, ◌-◌, List, ◌++◌, take, drop, length}
-use Rattle.ldap_dn.specs.Names.{RdnModel, rdns}
+use Rattle.dir_entry.specs.ldap_dn.Names.{RdnModel, rdns}
 use Rattle.dir_tree.specs.Directory.{name_after}
 use Rattle.dir_tree.proofs.Renamed.{front-long, if_ok, moved-on, moved-off}
 use Rattle.dir_tree.proofs.renaming.name_moved.Goals as goal

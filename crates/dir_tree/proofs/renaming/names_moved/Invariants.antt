@@ -1,5 +1,5 @@
 use Rattle.std.proofs.Common.{◌≡◌, ◌++◌, drop}
-use Rattle.ldap_dn.specs.Names.{rdns}
+use Rattle.dir_entry.specs.ldap_dn.Names.{rdns}
 use Rattle.dir_tree.specs.Stored.{directory_of}
 use Rattle.dir_tree.specs.Renamed.{names_after, entries_of}
 use Rattle.dir_tree.proofs.renaming.names_moved.Given as goal

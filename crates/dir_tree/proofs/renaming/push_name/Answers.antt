@@ -1,9 +1,9 @@
 use Rattle.dir_tree.specs.Directory.{entry_at}
-use Rattle.ldap_dn.specs.Names.{rdns}
+use Rattle.dir_entry.specs.ldap_dn.Names.{rdns}
 use Rattle.dir_tree.specs.Stored.{directory_of, entered_of}
 use Rattle.dir_tree.proofs.Putting.{named-one, named-nothing}
 use Rattle.std.proofs.Common.{ap, ◌∙◌, List}
-use Rattle.ldap_dn.specs.Names.{RdnModel}
+use Rattle.dir_entry.specs.ldap_dn.Names.{RdnModel}
 use Rattle.dir_tree.specs.Directory.{name_after}
 use Rattle.dir_tree.proofs.renaming.push_name.Goals as goal
 

@@ -1,9 +1,9 @@
 -- Filter texts, reading: the goals of `+filter` that no tactic closes, each by one lemma over plain lists.
 use Rattle.std.proofs.Common.{◌≡◌, ◌∷◌, ◌++◌, [], sym, subst, ap, ◌∙◌, arith, rules}
 use Rattle.std.proofs.lemmas.Result.{err_from_is_err_and}
-use Rattle.ldap_filter.specs.Tree.{conj, disj, negation, Trees}
-use Rattle.ldap_filter.specs.View.{view, views}
-use Rattle.ldap_filter.specs.declared.tree.Filter.{And, Or, Not, the_lemmas}
+use Rattle.filter_text.specs.ldap_filter.Tree.{conj, disj, negation, Trees}
+use Rattle.filter_text.specs.ldap_filter.View.{view, views}
+use Rattle.filter_text.specs.ldap_filter.declared.tree.Filter.{And, Or, Not, the_lemmas}
 use Rattle.filter_text_reader.proofs.Rows.{SoFar, views_push, goes_on, ends, never_ends, row_fails, conj_reads, disj_reads, negation_reads, conj_fails, disj_fails, negation_fails, negation_open, not_opened, some_depth, some_count}
 use Rattle.filter_text_reader.proofs.reading.+filter.Goals as goal
 

@@ -1,7 +1,7 @@
 -- Filter texts, reading: the goals of `read_text` that no tactic closes, each by one lemma over plain lists.
 use Rattle.std.proofs.Common.{◌≡◌, List, ℕ, None, subst}
 use Rattle.std.proofs.lemmas.Result.{err_from_is_err_and}
-use Rattle.ldap_filter.specs.View.{view}
+use Rattle.filter_text.specs.ldap_filter.View.{view}
 use Rattle.filter_text_reader.specs.Scanning.{stop, IsScanFault}
 use Rattle.filter_text_reader.specs.Reads.{IsFrontRead, IsFrontFault}
 use Rattle.filter_text_reader.proofs.Texts.{scan_only, scan_refused, filter_refused, filter_found}

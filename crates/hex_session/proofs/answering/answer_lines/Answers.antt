@@ -1,4 +1,4 @@
-use Rattle.session_rules.specs.View.{config_view}
+use Rattle.ldap_session.specs.session_rules.View.{config_view}
 use Rattle.ldap_session.specs.View.{session_view}
 use Rattle.hex_session.proofs.Reading.{begun, line_taken, line_ends}
 use Rattle.hex_session.proofs.answering.answer_lines.Goals as goal

@@ -1,7 +1,7 @@
 use Rattle.std.proofs.Common.{Vec, Global, ◌++◌, ap, ap₂, ◌∙◌, subst, ℕ, ◌+◌, ◌<◌, drop, length}
-use Rattle.ldap_schema.specs.Schema.{is_under}
-use Rattle.ldap_match.specs.Keyed.{test_for}
-use Rattle.ldap_match.specs.declared.testing.Test.{Test}
+use Rattle.dir_entry.specs.ldap_schema.Schema.{is_under}
+use Rattle.dir_entry.specs.ldap_match.Keyed.{test_for}
+use Rattle.dir_entry.specs.ldap_match.declared.testing.Test.{Test}
 use Rattle.ldap_eval.specs.Asked.{item_of}
 use Rattle.ldap_eval.specs.Bound.{leaves_from}
 use Rattle.ldap_eval.specs.declared.bound.BoundFilter.{BoundFilter}

@@ -1,5 +1,5 @@
 use Rattle.std.proofs.Common.{◌≡◌, drop, map}
-use Rattle.ldap_match.specs.Truth.{truth_and, truth_or, conjunction, disjunction}
+use Rattle.dir_entry.specs.ldap_match.Truth.{truth_and, truth_or, conjunction, disjunction}
 use Rattle.ldap_eval.specs.Bound.{bound_value}
 use Rattle.ldap_eval.proofs.evaluating.+value.Given as goal
 

@@ -1,5 +1,5 @@
 use Rattle.std.proofs.Common.{◌≡◌, drop, map}
-use Rattle.ldap_match.specs.Truth.{truth_or, disjunction}
+use Rattle.dir_entry.specs.ldap_match.Truth.{truth_or, disjunction}
 use Rattle.ldap_eval.specs.Bound.{leaf_on}
 use Rattle.ldap_eval.proofs.evaluating.any_of.Given as goal
 

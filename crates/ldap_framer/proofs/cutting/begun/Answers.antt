@@ -1,7 +1,7 @@
 -- Wire, streams: the goals of `begun` that no tactic closes, each by one lemma over plain lists.
 use Rattle.std.proofs.Common.{ℕ, ◌+◌, refl, sym, subst, take, inl, arith}
-use Rattle.ldap_ber.specs.Header.{IsHeaderFault}
-use Rattle.ldap_ber.specs.declared.fault.BerFault.TheVariants.{HighTag, Indefinite, LengthTooLong}
+use Rattle.ldap_msg.specs.ldap_ber.Header.{IsHeaderFault}
+use Rattle.ldap_msg.specs.ldap_ber.declared.fault.BerFault.TheVariants.{HighTag, Indefinite, LengthTooLong}
 use Rattle.ldap_framer.specs.Stream.{IsFrame}
 use Rattle.ldap_framer.proofs.Frames.{framed, awaited_short, no_frame}
 use Rattle.ldap_framer.proofs.cutting.begun.Goals as goal

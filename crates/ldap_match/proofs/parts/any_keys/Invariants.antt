@@ -1,6 +1,6 @@
 use Rattle.std.proofs.Common.{map, drop}
-use Rattle.ldap_syntax.specs.Keys.{part_key_at}
-use Rattle.ldap_syntax.specs.declared.preparing.Part.TheVariants.{Any}
+use Rattle.ldap_dn.specs.ldap_syntax.Keys.{part_key_at}
+use Rattle.ldap_dn.specs.ldap_syntax.declared.preparing.Part.TheVariants.{Any}
 use Rattle.ldap_match.proofs.Keys.{KeysSoFar}
 use Rattle.ldap_match.proofs.parts.any_keys.Given as goal
 

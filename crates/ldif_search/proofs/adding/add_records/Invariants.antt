@@ -1,7 +1,7 @@
 -- LDIF and the directory: what the loop of `add_records` keeps.
 use Rattle.std.proofs.Common.{◌≡◌, ◌+◌, drop}
-use Rattle.dir_store.specs.Stored.{NumbersBelow}
-use Rattle.dir_store.specs.Updates.{directory_after}
+use Rattle.dir_search.specs.dir_store.Stored.{NumbersBelow}
+use Rattle.dir_search.specs.dir_store.Updates.{directory_after}
 use Rattle.ldif_search.specs.Added.{adds, first_refused}
 use Rattle.ldif_search.proofs.adding.add_records.Given as goal
 

@@ -1,5 +1,5 @@
 use Rattle.std.proofs.Common.{◌≡◌, Vec, Global, refl, sym, subst, ◌∙◌}
-use Rattle.ldap_match.specs.declared.truth.Truth.TheVariants.{True}
+use Rattle.ldap_eval.specs.ldap_match.declared.truth.Truth.TheVariants.{True}
 use Rattle.ldap_eval.specs.Bound.{bound_value}
 use Rattle.ldap_eval.specs.declared.bound.BoundFilter.{BoundFilter}
 use Rattle.ldap_eval.specs.declared.bound.BoundFilter.TheVariants as bound

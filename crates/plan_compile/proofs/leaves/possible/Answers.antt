@@ -1,6 +1,6 @@
 use Rattle.std.proofs.Common.{◌≡◌, true, sym, ap, ◌∙◌}
-use Rattle.index_choice.specs.declared.kinds.Kinds.{Kinds}
-use Rattle.index_choice.specs.Choice.{kinds_of}
+use Rattle.plan_sets.specs.index_choice.declared.kinds.Kinds.{Kinds}
+use Rattle.plan_sets.specs.index_choice.Choice.{kinds_of}
 use Rattle.plan_compile.proofs.Rows.{if_ok_weaker}
 use Rattle.plan_compile.proofs.RunLists.{run_bounds, unknown_true}
 use Rattle.plan_compile.proofs.leaves.possible.Goals as goal

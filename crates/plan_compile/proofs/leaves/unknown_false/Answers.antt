@@ -1,5 +1,5 @@
 use Rattle.std.proofs.Common.{sym, ap, ◌∙◌}
-use Rattle.index_choice.specs.declared.kinds.Kinds.{Kinds}
+use Rattle.plan_sets.specs.index_choice.declared.kinds.Kinds.{Kinds}
 use Rattle.plan_compile.proofs.LeafPlans.{unknown_bounds}
 use Rattle.plan_compile.proofs.leaves.unknown_false.Goals as goal
 

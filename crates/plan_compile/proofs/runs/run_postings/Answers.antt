@@ -1,5 +1,5 @@
 use Rattle.std.proofs.Common.{ap}
-use Rattle.ldap_syntax.specs.Parts.{part_or_nothing}
+use Rattle.ldap_eval.specs.ldap_syntax.Parts.{part_or_nothing}
 use Rattle.plan_compile.proofs.RunLists.{runs_whole}
 use Rattle.plan_compile.proofs.runs.run_postings.Goals as goal
 

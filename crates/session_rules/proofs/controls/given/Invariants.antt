@@ -1,6 +1,6 @@
 use Rattle.std.proofs.Common.{◌≡◌, ◌++◌, map, filter, drop}
 use Rattle.std.specs.Option.{option_map, option_copied, option_to_list}
-use Rattle.ldap_parts.specs.View.{control_view}
+use Rattle.ldap_msg.specs.ldap_parts.View.{control_view}
 use Rattle.session_rules.specs.Controls.{is_of}
 use Rattle.session_rules.proofs.controls.given.Given as goal
 

@@ -1,5 +1,5 @@
 use Rattle.std.proofs.Common.{◌≡◌, map, drop}
-use Rattle.ldap_parts.specs.View.{control_view}
+use Rattle.ldap_msg.specs.ldap_parts.View.{control_view}
 use Rattle.session_rules.specs.Controls.{is_unavailable}
 use Rattle.session_rules.proofs.controls.is_unavailable.Given as goal
 

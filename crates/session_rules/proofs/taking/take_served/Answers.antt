@@ -1,4 +1,4 @@
-use Rattle.std.proofs.Common.{ap, sym, ◌∙◌, Some}
+use Rattle.std.proofs.Common.{ap}
 use Rattle.ldap_msg.specs.Messages.{RequestValue}
 use Rattle.ldap_msg.specs.View.{request_view}
 use Rattle.session_talk.specs.View.{role_view}
@@ -10,8 +10,8 @@ use Rattle.session_rules.proofs.taking.take_served.Goals as goal
 pub returns-in-Ok : goal.returns-in-Ok
 returns-in-Ok g c =
     same_question _ _ _ _ _ _ _ _ _ _ _
-    (update_asks_as (config_view c.args.config.now) c.args.state.now c.args.pending.id c.args.pending.answering (request_view c.args.request) c.args.pending.named (role_view c.args.role) c.new-op.result
-    c.requires.kind (c.in-Ok.ensures.update ∙ ap Some (sym c.new-op.ensures)))
+    (update_asks_as (config_view c.args.config.now) c.args.state.now c.args.pending.id c.args.pending.answering (request_view c.args.request) c.args.pending.named (role_view c.args.role) _
+    c.requires.kind c.in-Ok.ensures.update)
     c.ask_update.ensures
 
 pub returns-in-Err : goal.returns-in-Err

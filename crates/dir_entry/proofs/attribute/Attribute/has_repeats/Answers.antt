@@ -1,7 +1,7 @@
 use Rattle.std.proofs.Common.{ℕ, Option, Vec, Global, map, ◌≡◌, ap, sym, ◌∙◌}
-use Rattle.ldap_syntax.specs.declared.rule.Rule.{Rule}
-use Rattle.ldap_schema.specs.Schema.{SchemaModel}
-use Rattle.value_keys.specs.Rules.{equality_of}
+use Rattle.ldap_match.specs.ldap_syntax.declared.rule.Rule.{Rule}
+use Rattle.ldap_match.specs.ldap_schema.Schema.{SchemaModel}
+use Rattle.ldap_match.specs.ldap_schema.Rules.{equality_of}
 use Rattle.std.proofs.lemmas.Result.{IfOk-weaker}
 use Rattle.std.specs.Str.{bytes_eq}
 use Rattle.dir_entry.specs.Entry.{KeyedAttribute}

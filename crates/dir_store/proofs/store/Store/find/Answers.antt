@@ -1,5 +1,5 @@
 use Rattle.std.proofs.Common.{sym, ap, ◌∙◌}
-use Rattle.ldap_dn.specs.Names.{rdns}
+use Rattle.dir_tree.specs.ldap_dn.Names.{rdns}
 use Rattle.dir_tree.specs.Directory.{TreeModel, find}
 use Rattle.dir_tree.specs.Stored.{entered_of}
 use Rattle.dir_store.specs.Listed.{StoreModel}

@@ -1,6 +1,6 @@
 use Rattle.std.proofs.Common.{ℕ, Option, ap, ◌∙◌}
 use Rattle.std.specs.Prelude.{is_some}
-use Rattle.ldap_dn.specs.Names.{rdns}
+use Rattle.dir_entry.specs.ldap_dn.Names.{rdns}
 use Rattle.dir_tree.specs.Directory.{Entered, find}
 use Rattle.dir_tree.proofs.ReadPlaces.{some_mapped}
 use Rattle.dir_tree.proofs.tree.Tree.has.Goals as goal

@@ -1,6 +1,6 @@
 use Rattle.std.proofs.Common.{◌≡◌, true, List, ap, ◌∙◌}
 use Rattle.std.specs.Prelude.{is_some}
-use Rattle.ldap_dn.specs.Names.{rdns}
+use Rattle.dir_entry.specs.ldap_dn.Names.{rdns}
 use Rattle.dir_tree.specs.Directory.{Entered, TreeModel, find, has_below}
 use Rattle.dir_tree.specs.Stored.{directory_of}
 use Rattle.dir_tree.proofs.ReadPlaces.{below_kept, none_within}

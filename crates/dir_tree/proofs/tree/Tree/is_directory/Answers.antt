@@ -1,5 +1,5 @@
 use Rattle.std.proofs.Common.{subst}
-use Rattle.ldap_dn.specs.Names.{rdns}
+use Rattle.dir_entry.specs.ldap_dn.Names.{rdns}
 use Rattle.dir_tree.specs.Directory.{TreeModel, IsDirectory}
 use Rattle.dir_tree.specs.Stored.{directory_of}
 use Rattle.dir_tree.proofs.Labelling.{is_directory}

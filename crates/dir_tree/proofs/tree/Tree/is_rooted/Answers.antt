@@ -1,5 +1,5 @@
 use Rattle.std.proofs.Common.{◌≡◌, subst, List, [], ◌∷◌, None, refl}
-use Rattle.ldap_dn.specs.Names.{rdns}
+use Rattle.dir_entry.specs.ldap_dn.Names.{rdns}
 use Rattle.dir_tree.specs.Directory.{Entered, TreeModel, find}
 use Rattle.dir_tree.specs.Labelled.{labels}
 use Rattle.dir_tree.specs.Stored.{directory_of}

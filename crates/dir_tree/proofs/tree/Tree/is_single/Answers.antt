@@ -1,6 +1,6 @@
 use Rattle.std.proofs.Common.{◌≡◌, subst, sym, refl, ap, ◌∙◌, Option, None, Some}
 use Rattle.std.specs.Option.{option_map}
-use Rattle.ldap_dn.specs.Names.{rdns}
+use Rattle.dir_entry.specs.ldap_dn.Names.{rdns}
 use Rattle.dir_tree.specs.Directory.{NameKey, Entered, TreeModel, name_eq, find, numbers, number_found}
 use Rattle.dir_tree.specs.Labelled.{Label, labels, label_of}
 use Rattle.dir_tree.specs.Stored.{directory_of}

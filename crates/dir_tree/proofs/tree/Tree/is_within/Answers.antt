@@ -1,5 +1,5 @@
 use Rattle.std.proofs.Common.{◌≡◌, subst, sym, ◌∙◌, true}
-use Rattle.ldap_dn.specs.Names.{rdns}
+use Rattle.dir_entry.specs.ldap_dn.Names.{rdns}
 use Rattle.dir_tree.specs.Directory.{TreeModel, is_at_or_below, begins, numbers}
 use Rattle.dir_tree.specs.Labelled.{labels}
 use Rattle.dir_tree.specs.Stored.{directory_of}

@@ -1,5 +1,5 @@
 use Rattle.std.proofs.Common.{◌≡◌, ℕ, List, [], cond, filter, refl, sym, ap, subst, ◌∙◌}
-use Rattle.ldap_dn.specs.Names.{RdnModel, rdns}
+use Rattle.dir_entry.specs.ldap_dn.Names.{RdnModel, rdns}
 use Rattle.dir_tree.specs.Directory.{NameKey, Entered, TreeModel, name_eq, begins, is_at_or_below, moved}
 use Rattle.dir_tree.specs.Labelled.{labels, numbers_in}
 use Rattle.dir_tree.specs.Places.{within_of}

@@ -1,5 +1,5 @@
 use Rattle.std.proofs.Common.{◌≡◌, List, sym, ap, subst, ◌∙◌}
-use Rattle.ldap_dn.specs.Names.{rdns}
+use Rattle.dir_entry.specs.ldap_dn.Names.{rdns}
 use Rattle.dir_tree.specs.Directory.{Entered}
 use Rattle.dir_tree.specs.Labelled.{Labels, IsLabelled, labels}
 use Rattle.dir_tree.specs.Places.{place_of}

@@ -1,5 +1,5 @@
 use Rattle.std.proofs.Common.{List, ap, sym, ◌∙◌}
-use Rattle.schema_text.specs.Descriptions.{DescriptionModel}
+use Rattle.schema_meaning.specs.schema_text.Descriptions.{DescriptionModel}
 use Rattle.ldap_schema.specs.Described.{types_from}
 use Rattle.ldap_schema.specs.Reading.{fault_of, required_in}
 use Rattle.ldap_schema.proofs.Judged.{loopless_of, known_of, object_class_of, model, same_model}

@@ -1,5 +1,5 @@
 use Rattle.std.proofs.Common.{IfErr, ap, subst, ◌∙◌}
-use Rattle.schema_text.specs.Texts.{SchemaTextModel, read_text}
+use Rattle.schema_meaning.specs.schema_text.Texts.{SchemaTextModel, read_text}
 use Rattle.ldap_schema.specs.Reading.{schema_of_lines, IsRefusalOf}
 use Rattle.ldap_schema.proofs.schema.Schema.read.Goals as goal
 

@@ -1,0 +1,15 @@
+-- A session that begins as it is to begin. Facts on definitions flow in and out; no value of the program is here.
+use Rattle.std.proofs.Common.{◌≡◌, ℕ, List, Bool, Option, subst}
+use Rattle.local_directory.specs.ldap_schema.Schema.{SchemaModel}
+use Rattle.hex_session.specs.session_rules.Session.{ConfigValue}
+use Rattle.local_directory.specs.Local.{LocalValue}
+use Rattle.local_directory.specs.Allows.{allows}
+use Rattle.hex_session.specs.ldap_session.declared.end.SessionEnd.{SessionEnd}
+use Rattle.hex_session.specs.Answered.{Answers}
+use Rattle.dird_commands.specs.Begun.{config_of, local_at_first, AnswersFrom}
+
+-- a session that begins with this configuration and this directory
+pub answers_from : (names s : SchemaModel) (with_sample : Bool) (c : ConfigValue) (d e : LocalValue) (input left output grown : Option (List ℕ)) (end : SessionEnd) →
+    c ≡ config_of names → d ≡ local_at_first s with_sample → Answers allows c d e input left output grown end → AnswersFrom names s with_sample input left output grown end
+answers_from names s with_sample c d e input left output grown end p q h =
+    (e, subst (λ (x : LocalValue). Answers allows (config_of names) x e input left output grown end) q (subst (λ (x : ConfigValue). Answers allows x d e input left output grown end) p h))

@@ -1,0 +1,55 @@
+-- How a session begins: its directory, and who may change it. A schema flows in; the directory and what its sessions share flow out.
+use Rattle.std.specs.Prelude.{ℕ, List, [], Bool, true, false, codes, Option, None, Some}
+use Rattle.local_directory.specs.ldap_schema.Schema.{SchemaModel}
+use Rattle.local_directory.specs.ldap_dn.Names.{RdnModel}
+use Rattle.local_directory.specs.ldap_dn.Texts.{name_of_text}
+use Rattle.local_directory.specs.dir_store.Directory.{Directory}
+use Rattle.local_directory.specs.dir_store.Updates.{directory_after}
+use Rattle.std.specs.FinMap as map
+use Rattle.local_directory.specs.session_talk.Clients.{session_client}
+use Rattle.hex_session.specs.session_rules.Session.{ConfigValue}
+use Rattle.local_directory.specs.Local.{LocalValue}
+use Rattle.local_directory.specs.Allows.{allows}
+use Rattle.hex_session.specs.ldap_session.declared.end.SessionEnd.{SessionEnd}
+use Rattle.hex_session.specs.Answered.{Answers}
+use Rattle.dird_commands.specs.Sample.{sample}
+
+abbrev pub or_empty : Option (List RdnModel) → List RdnModel
+or_empty None = []
+or_empty (Some name) = name
+
+-- the name of a text under a schema
+abbrev pub name_of : SchemaModel → List ℕ → List RdnModel
+name_of s text = or_empty (name_of_text s text)
+
+-- the directory without entries, under a schema, whose root is dc=example,dc=com
+abbrev pub empty_directory : SchemaModel → Directory
+empty_directory s = record { schema = s; suffix = name_of s (codes "dc=example,dc=com"); entries = [] }
+
+-- the directory at first: without entries, or after the sample's adds, the operations 1 to 6
+abbrev pub directory_at_first : SchemaModel → Bool → Directory
+directory_at_first s false = empty_directory s
+directory_at_first s true = directory_after (empty_directory s) 0 sample
+
+-- the number of the last update at first
+abbrev pub number_at_first : Bool → ℕ
+number_at_first false = 0
+number_at_first true = 6
+
+-- What its sessions share: the manager is cn=admin,dc=example,dc=com with the password secret; the session is the first at replica 0.
+abbrev pub config_of : SchemaModel → ConfigValue
+config_of s = record {
+  schema = s;
+  manager = name_of s (codes "cn=admin,dc=example,dc=com");
+  password = codes "secret";
+  client = session_client 0 0 1;
+}
+
+-- the directory at first, which no client has asked for an update yet
+abbrev pub local_at_first : SchemaModel → Bool → LocalValue
+local_at_first s with_sample = record { directory = directory_at_first s with_sample; number = number_at_first with_sample; latest = map.empty }
+
+-- An input is answered by one session over a local directory, from its beginning on.
+abbrev pub AnswersFrom : SchemaModel → SchemaModel → Bool → Option (List ℕ) → Option (List ℕ) → Option (List ℕ) → Option (List ℕ) → SessionEnd → Type 0
+AnswersFrom names s with_sample input left output grown end =
+    (after : LocalValue) × Answers allows (config_of names) (local_at_first s with_sample) after input left output grown end

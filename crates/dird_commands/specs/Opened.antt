@@ -1,0 +1,17 @@
+-- What a directory begins with: texts flow in, whether a schema or an index choice is theirs flows out. What their lines mean is not here.
+use Rattle.std.specs.Prelude.{◌≡◌, ℕ, List, [], Option, None, Some, Ok}
+use Rattle.local_directory.specs.ldap_schema.Schema.{SchemaModel}
+use Rattle.local_directory.specs.ldap_schema.BuiltIn.{built_in}
+use Rattle.local_directory.specs.ldap_schema.Reading.{schema_of_text}
+use Rattle.local_directory.specs.index_choice.declared.kinds.Kinds.{Kinds}
+use Rattle.local_directory.specs.index_choice.Texts.{IsChoiceOf}
+
+-- the schema of a text (RFC 4512 4.1), and the built-in one without a text
+abbrev pub IsSchemaOf : Option (List ℕ) → SchemaModel → Type 0
+IsSchemaOf None s = s ≡ built_in
+IsSchemaOf (Some text) s = schema_of_text text ≡ Ok s
+
+-- the index choice of a text, and none without a text
+abbrev pub IsIndexOf : SchemaModel → Option (List ℕ) → List Kinds → Type 0
+IsIndexOf s None i = i ≡ []
+IsIndexOf s (Some text) i = IsChoiceOf s text i

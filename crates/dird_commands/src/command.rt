@@ -1,0 +1,157 @@
+//! The command line: words become a job, or a text for the user. What a job does is not here.
+
+use clap::{Arg, ArgAction, ArgMatches, Command, Error};
+use local_directory::Scope;
+use std::alloc::{AllocError, Global};
+
+/// What the words ask for.
+#[derive(Debug, Drop)]
+pub enum Job<'a> {
+    /// One session over one local directory.
+    Answer(Opening<'a>),
+    /// One search of the directory of an LDIF text.
+    Search(Question<'a>),
+    /// An LDIF text becomes lines of adds.
+    Import,
+    /// Lines of a search's responses become an LDIF text.
+    Export,
+    /// A lab script over replicas in memory.
+    Lab,
+}
+
+/// What a session's directory begins with.
+#[derive(Clone, Copy, Debug, PartialEq, Eq)]
+pub struct Opening<'a> {
+    /// Whether it holds the built-in sample.
+    pub sample: bool,
+    /// The name of the schema's file; none for the built-in schema.
+    pub schema: Option<&'a str>,
+    /// The name of the index choice's file; none for no index.
+    pub index: Option<&'a str>,
+}
+
+/// A search, as it is asked for.
+#[derive(Debug, Drop)]
+pub struct Question<'a> {
+    pub base: &'a str,
+    pub scope: Scope,
+    pub filter: &'a str,
+    pub attributes: Vec<&'a str>,
+}
+
+/// The words for scopes.
+const SCOPES: &[&str] = &["base", "one", "sub"];
+
+/// The words of `answer`.
+fn answer_command<'a>(alloc: Global) -> Result<Command<'a>, AllocError> {
+    let sample = Arg::new(alloc, "sample")
+        .long("sample")
+        .action(ArgAction::SetTrue)
+        .help("Answer over the built-in sample of six entries");
+    let schema = Arg::new(alloc, "schema")
+        .long("schema")
+        .value_name("FILE")
+        .help("Read the schema from this file, in place of the built-in one");
+    let index = Arg::new(alloc, "index")
+        .long("index")
+        .value_name("FILE")
+        .help("Read from this file which indexes each attribute type has, in place of none");
+    Command::new(alloc, "answer")
+        .about(
+            "Answer one client: the input is its stream of LDAP messages, lines of hex cut anywhere; each response is a line of hex",
+        )
+        .arg(sample)?
+        .arg(schema)?
+        .arg(index)
+}
+
+/// The words of `search`.
+fn search_command<'a>(alloc: Global) -> Result<Command<'a>, AllocError> {
+    let base = Arg::new(alloc, "BASE")
+        .required(true)
+        .help("The name of the entry where the search begins");
+    let scope = Arg::new(alloc, "SCOPE")
+        .required(true)
+        .value_parser(SCOPES)
+        .help("The base alone, the entries right under it, or all at or below it");
+    let filter = Arg::new(alloc, "FILTER")
+        .required(true)
+        .help("Which entries are shown, as in (cn=Ana)");
+    let attributes = Arg::new(alloc, "ATTR").num_args(0..).help(
+        "Which attributes are shown: all for none or *, no attribute for 1.1 alone",
+    );
+    Command::new(alloc, "search")
+        .about("Search the entries of an LDIF text: the input is LDIF, the answer is LDIF")
+        .arg(base)?
+        .arg(scope)?
+        .arg(filter)?
+        .arg(attributes)
+}
+
+/// All words.
+fn command<'a>(alloc: Global) -> Result<Command<'a>, AllocError> {
+    let import = Command::new(alloc, "import").about(
+        "Turn LDIF into messages: each record becomes an AddRequest, a line of hex, with ids from 1",
+    );
+    let export = Command::new(alloc, "export").about(
+        "Turn the responses to a search, lines of hex, into LDIF of the entries",
+    );
+    let lab = Command::new(alloc, "lab").about(
+        "Play a script of requests, deliveries, view changes, crashes and recoveries with real replicas",
+    );
+    Command::new(alloc, "dird")
+        .version("0.1.0")
+        .about("An LDAPv3 directory server whose answers are proved")
+        .subcommand_required(true)
+        .arg_required_else_help(true)
+        .subcommand(answer_command(alloc)?)?
+        .subcommand(search_command(alloc)?)?
+        .subcommand(import)?
+        .subcommand(export)?
+        .subcommand(lab)
+}
+
+/// What `answer` is told.
+fn opening_in<'a>(matches: &ArgMatches<'a>) -> Opening<'a> {
+    Opening {
+        sample: matches.get_flag("sample"),
+        schema: matches.get_str("schema"),
+        index: matches.get_str("index"),
+    }
+}
+
+/// The scope of a word, which is one of the three.
+fn scope_of(word: &str) -> Scope {
+    match word {
+        "base" => Scope::BaseObject,
+        "one" => Scope::SingleLevel,
+        _ => Scope::WholeSubtree,
+    }
+}
+
+/// What `search` is told.
+fn question_in<'a>(alloc: Global, matches: &ArgMatches<'a>) -> Result<Question<'a>, AllocError> {
+    let attributes = match matches.get_strs("ATTR") {
+        Some(words) => words.to_vec(alloc)?,
+        None => Vec::new(alloc),
+    };
+    Ok(Question {
+        base: matches.get_str("BASE").unwrap_or(""),
+        scope: scope_of(matches.get_str("SCOPE").unwrap_or("")),
+        filter: matches.get_str("FILTER").unwrap_or(""),
+        attributes,
+    })
+}
+
+/// Reads the words of the command line, the program's name first.
+pub fn read_words<'a>(alloc: Global, words: &'a [String]) -> Result<Job<'a>, Error> {
+    let matches = command(alloc)?.try_get_matches_from(words)?;
+    match matches.subcommand() {
+        Some(("search", inner)) => Ok(Job::Search(question_in(alloc, inner)?)),
+        Some(("import", _)) => Ok(Job::Import),
+        Some(("export", _)) => Ok(Job::Export),
+        Some(("lab", _)) => Ok(Job::Lab),
+        Some((_, inner)) => Ok(Job::Answer(opening_in(inner))),
+        None => Ok(Job::Answer(opening_in(&matches))),
+    }
+}

@@ -1,0 +1,142 @@
+//! What ends a run early, with the text that goes to standard error.
+
+ghost use Rattle.std.specs.Prelude.{◌≡◌};
+ghost use Rattle.dird_commands.specs.declared.fault.Fault.TheVariants.{NoMemory};
+
+use filter_text_reader::FilterTextError;
+use hex_session::LineFault;
+use lab_script::ScriptError;
+use ldif_search::{ExportError, ImportError, SearchError};
+use local_directory::{IndexError, SchemaError};
+use std::alloc::{AllocError, AllocFailed};
+use thiserror::Error;
+
+/// Why a job stopped; each ends the run with status 1. A refusal without a text of its own prints its number, and its line or place.
+#[derive(Clone, Copy, Debug, PartialEq, Eq, Error)]
+pub enum Fault {
+    #[error("E12 {0}")]
+    BadDescription(usize),
+    #[error("E13 {0}")]
+    UnknownName(usize),
+    #[error("E14 {0}")]
+    LoopInSup(usize),
+    #[error("E15 {0}")]
+    NoEquality(usize),
+    #[error("E16 {0}")]
+    IndexWithoutRule(usize),
+    #[error("bad name")]
+    BadName,
+    #[error("E18 {0}")]
+    BadFilterText(usize),
+    #[error("E9")]
+    TooDeep,
+    #[error("E10")]
+    TooManyItems,
+    #[error("bad hex line {0}")]
+    BadHexLine(u64),
+    #[error("bad line {0}")]
+    BadLine(u64),
+    #[error("cannot read")]
+    CannotRead,
+    #[error("cannot write")]
+    CannotWrite,
+    #[error("E3")]
+    TooLong,
+    #[error("{0}")]
+    Import(ImportError),
+    #[error("{0}")]
+    Export(ExportError),
+    #[error("{0}")]
+    Search(SearchError),
+    #[error("out of memory")]
+    NoMemory,
+}
+
+impl From<LineFault> for Fault {
+    fn from(error: LineFault) -> Fault {
+        match error {
+            LineFault::BadHexLine(number) => Fault::BadHexLine(number),
+            LineFault::CannotRead => Fault::CannotRead,
+            LineFault::CannotWrite => Fault::CannotWrite,
+            LineFault::TooLong => Fault::TooLong,
+            LineFault::NoMemory => Fault::NoMemory,
+        }
+    }
+}
+
+impl From<ScriptError> for Fault {
+    fn from(error: ScriptError) -> Fault {
+        match error {
+            ScriptError::BadLine { number } => Fault::BadLine(number),
+            ScriptError::NoMemory => Fault::NoMemory,
+        }
+    }
+}
+
+impl From<SchemaError> for Fault {
+    fn from(error: SchemaError) -> Fault {
+        match error {
+            SchemaError::BadDescription { line } => Fault::BadDescription(line),
+            SchemaError::UnknownName { line } => Fault::UnknownName(line),
+            SchemaError::LoopInSup { line } => Fault::LoopInSup(line),
+            SchemaError::NoEquality { line } => Fault::NoEquality(line),
+            SchemaError::NoMemory => Fault::NoMemory,
+        }
+    }
+}
+
+impl From<IndexError> for Fault {
+    fn from(error: IndexError) -> Fault {
+        match error {
+            IndexError::BadDescription { line } => Fault::BadDescription(line),
+            IndexError::UnknownName { line } => Fault::UnknownName(line),
+            IndexError::IndexWithoutRule { line } => Fault::IndexWithoutRule(line),
+            IndexError::NoMemory => Fault::NoMemory,
+        }
+    }
+}
+
+impl From<FilterTextError> for Fault {
+    fn from(error: FilterTextError) -> Fault {
+        match error {
+            FilterTextError::BadFilterText { at } => Fault::BadFilterText(at),
+            FilterTextError::TooDeep => Fault::TooDeep,
+            FilterTextError::TooManyItems => Fault::TooManyItems,
+            FilterTextError::NoMemory => Fault::NoMemory,
+        }
+    }
+}
+
+impl From<ImportError> for Fault {
+    fn from(error: ImportError) -> Fault {
+        Fault::Import(error)
+    }
+}
+
+impl From<ExportError> for Fault {
+    fn from(error: ExportError) -> Fault {
+        Fault::Export(error)
+    }
+}
+
+impl From<SearchError> for Fault {
+    fn from(error: SearchError) -> Fault {
+        Fault::Search(error)
+    }
+}
+
+impl From<AllocError> for Fault {
+    ghost from_gives = { λ _ e. e ≡ NoMemory };
+
+    fn from(_e: AllocError) -> Fault {
+        Fault::NoMemory
+    }
+}
+
+impl<T: Drop> From<AllocFailed<T>> for Fault {
+    ghost from_gives = { λ _ e. e ≡ NoMemory };
+
+    fn from(_e: AllocFailed<T>) -> Fault {
+        Fault::NoMemory
+    }
+}

@@ -1,0 +1,113 @@
+//! One session over a local directory: an input flows in, an output flows out. The words of a command line are not here.
+ghost use Rattle.std.specs.Prelude.{◌≡◌, ◌+◌, codes, IfOk};
+ghost use Rattle.local_directory.specs.dir_store.Stored.{NumbersBelow};
+ghost use Rattle.dird_commands.specs.Begun.{name_of, empty_directory, directory_at_first, number_at_first, AnswersFrom};
+
+use crate::fault::Fault;
+use crate::sample::add_sample;
+use hex_session::{Config, SessionEnd, answer_lines};
+use local_directory::{Indexes, LocalDirectory, Name, NameError, Schema, Store};
+use std::alloc::Global;
+use std::io::{BufRead, Write};
+
+/// The manager's name.
+const MANAGER: &str = "cn=admin,dc=example,dc=com";
+
+/// The manager's password.
+const PASSWORD: &str = "secret";
+
+/// The name of the directory's root.
+const SUFFIX: &str = "dc=example,dc=com";
+
+/// What a session's directory begins with.
+#[derive(Drop)]
+pub struct Options {
+    pub schema: Schema,
+    /// The same schema, by which the names of binds are read.
+    pub names: Schema,
+    /// The index choice, of the schema.
+    pub indexes: Indexes,
+    /// Whether it holds the built-in sample.
+    pub sample: bool,
+}
+
+/// The name of a text.
+fn name_of_text(alloc: Global, schema: &Schema, text: &str) -> Result<Name, Fault>
+    ensures { IfOk result (λ name. name ≡ name_of schema.now text.now) }
+{
+    match Name::read(alloc, schema, text) {
+        Ok(name) => Ok(name),
+        Err(NameError::BadName) => Err(Fault::BadName),
+        Err(NameError::NoMemory) => Err(Fault::NoMemory),
+    }
+}
+
+/// A directory without entries.
+pub fn empty(alloc: Global, schema: Schema, indexes: Indexes) -> Result<Store, Fault>
+    ensures directory { IfOk result (λ store. store.directory ≡ empty_directory schema) }
+    ensures indexes { IfOk result (λ store. store.indexes ≡ indexes) }
+{
+    let suffix = name_of_text(alloc, &schema, SUFFIX)?;
+    Ok(Store::new(alloc, schema, indexes, suffix))
+}
+
+/// The directory at first: the sample, or one without entries; and the number of its last update.
+fn opened(
+    alloc: Global,
+    schema: Schema,
+    indexes: Indexes,
+    sample: bool,
+) -> Result<(Store, u64), Fault>
+    ensures directory { IfOk result (λ p. p.0.directory ≡ directory_at_first schema sample) }
+    ensures indexes { IfOk result (λ p. p.0.indexes ≡ indexes) }
+    ensures number { IfOk result (λ p. p.1 ≡ number_at_first sample) }
+    ensures below { IfOk result (λ p. NumbersBelow (p.1 + 1) p.0.directory.entries) }
+{
+    let mut store = empty(alloc, schema, indexes)?;
+    match sample {
+        true => {
+            add_sample(alloc, &mut store)?;
+            Ok((store, 6))
+        }
+        false => Ok((store, 0)),
+    }
+}
+
+/// The manager's name.
+fn manager_name(alloc: Global, schema: &Schema) -> Result<Name, Fault>
+    ensures { IfOk result (λ name. name ≡ name_of schema.now (codes "cn=admin,dc=example,dc=com")) }
+{
+    name_of_text(alloc, schema, MANAGER)
+}
+
+/// One session over a directory of its own: each line of the input is a piece of the stream in hex, each response a line of the output.
+pub fn answer_session<R: BufRead, W: Write>(
+    alloc: Global,
+    options: Options,
+    input: &mut R,
+    output: &mut W,
+) -> Result<SessionEnd, Fault>
+    // The output grows by the responses of a session over the stream that the lines spell, along a talk with the directory that begins so.
+    ensures { IfOk result (λ end. AnswersFrom options.names options.schema options.sample (R.remaining input.old) (R.remaining input.new)
+        (W.contents output.old) (W.contents output.new) end) }
+{
+    let Options {
+        schema,
+        names,
+        indexes,
+        sample,
+    } = options;
+    let manager = manager_name(alloc, &names)?;
+    let (store, number) = opened(alloc, schema, indexes, sample)?;
+    let mut directory = LocalDirectory::new(alloc, store, number);
+    let config = Config {
+        schema: &names,
+        manager: &manager,
+        password: PASSWORD.as_bytes(),
+        replica: 0,
+        restarts: 0,
+        session: 1,
+    };
+    let end = answer_lines(alloc, &config, &mut directory, input, output)?;
+    Ok(end)
+}

@@ -1,0 +1,25 @@
+//! How a run ends. Nothing flows in; the exit status flows out. What a run does is not here.
+ghost use Rattle.std.specs.Prelude.{◌≡◌};
+
+/// How a run ended.
+#[derive(Clone, Copy, Debug, PartialEq, Eq)]
+pub enum Status {
+    Done,
+    Refused,
+    BadCommandLine,
+}
+
+impl Status {
+    ghost use Rattle.dird_commands.specs.Status.{exit_code};
+
+    /// The exit status.
+    pub fn code(self) -> u8
+        ensures { result ≡ exit_code self }
+    {
+        match self {
+            Status::Done => 0,
+            Status::Refused => 1,
+            Status::BadCommandLine => 2,
+        }
+    }
+}
