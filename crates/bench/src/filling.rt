@@ -3,9 +3,10 @@ ghost use Rattle.std.specs.Prelude.{◌+◌, ◌<◌, ◌^◌, IfOk, OnOk};
 ghost use Rattle.dir_search.specs.dir_store.Stored.{NumbersBelow};
 
 use crate::fault::Fault;
-use dir_search::{Indexes, Name, Op, Schema, Store, Update};
-use ldap_msg::{AddRequest, Attribute, ResultCode};
+use dir_search::{AddRequest, Attribute, Indexes, Name, Op, ResultCode, Schema, Store, Update};
+use schema_reader::built_in_schema;
 use std::alloc::{AllocError, Global};
+use std::sync::Arc;
 
 /// What is indexed. A label may be a ticket, too.
 const INDEXES: &str = "label: pres eq\nticket: pres eq\nrank: eq ord\n";
@@ -112,9 +113,10 @@ fn indexes(alloc: Global, schema: &Schema) -> Result<Indexes, Fault> {
 fn empty(alloc: Global) -> Result<Store, Fault>
     ensures { IfOk result (λ store. NumbersBelow 1 store.directory.entries) }
 {
-    let schema = Schema::built_in(alloc)?;
+    let schema = built_in_schema(alloc)?;
     let suffix = suffix(alloc, &schema)?;
     let indexes = indexes(alloc, &schema)?;
+    let schema = Arc::new(alloc, schema)?;
     Ok(Store::new(alloc, schema, indexes, suffix))
 }
 

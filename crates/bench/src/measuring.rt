@@ -1,9 +1,8 @@
 //! One search that is measured. A directory and a filter flow in; how many entries were found, how many were evaluated, and the time flow
 //! out. How entries are made is not here.
 use crate::fault::Fault;
-use dir_search::{Store, search};
+use dir_search::{DerefAliases, Scope, SearchRequest, Store, search};
 use filter_text_reader::read_text;
-use ldap_msg::{DerefAliases, Scope, SearchRequest};
 use std::alloc::{AllocError, Global};
 use std::time::{Clock, Instant};
 

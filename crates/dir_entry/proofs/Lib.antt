@@ -1,10 +1,5 @@
 pub mod Keyed
 pub mod Shown
-pub mod Named
-pub mod Completed
 pub mod Twice
 pub mod Equivalents
 pub mod Picked
-pub mod Placed
-pub mod Edited
-pub mod Joined

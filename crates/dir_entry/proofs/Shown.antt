@@ -1,34 +1,12 @@
 -- Tests on attributes with their keys, as tests without them. Facts on lists flow in and out; no value of the program is here.
-use Rattle.std.proofs.Common.{ℕ, List, [], ◌∷◌, Bool, ◌&&◌, ◌||◌, Option, Some, is_some, ◌≡◌, refl, ap, ◌∙◌, map, nat_eq}
-use Rattle.std.specs.List.{list_all, list_any}
-use Rattle.ldap_match.specs.ldap_schema.Schema.{SchemaModel, class_named}
-use Rattle.ldap_match.specs.ldap_schema.ObjectClassType.{object_class_type}
+use Rattle.std.proofs.Common.{ℕ, List, [], ◌∷◌, Bool, ◌||◌, ◌≡◌, refl, ap, map, nat_eq}
+use Rattle.std.specs.List.{list_any}
 use Rattle.dir_entry.specs.Entry.{AttributeModel, KeyedAttribute, shown, attributes_of}
 use Rattle.dir_entry.specs.Adding.{has_type}
-use Rattle.dir_entry.specs.Classes.{is_type, has_single_value, has_single_values, is_allowed, is_object_class, are_classes}
 
 pub any_of_map : {A B : Type 0} (p : B → Bool) (f : A → B) (xs : List A) → list_any p (map f xs) ≡ list_any (λ x. p (f x)) xs
 any_of_map p f [] = refl
 any_of_map p f (x ∷ xs) = ap (λ (b : Bool). p (f x) || b) (any_of_map p f xs)
 
-pub all_of_map : {A B : Type 0} (p : B → Bool) (f : A → B) (xs : List A) → list_all p (map f xs) ≡ list_all (λ x. p (f x)) xs
-all_of_map p f [] = refl
-all_of_map p f (x ∷ xs) = ap (λ (b : Bool). p (f x) && b) (all_of_map p f xs)
-
 pub has_type_shown : (t : ℕ) (e : List KeyedAttribute) → has_type t (attributes_of e) ≡ list_any (λ a. nat_eq a.kind t) e
 has_type_shown t e = any_of_map (λ (a : AttributeModel). nat_eq a.kind t) shown e
-
-pub single_shown : (s : SchemaModel) (e : List KeyedAttribute) → has_single_values s (attributes_of e) ≡ list_all (λ a. has_single_value s (shown a)) e
-single_shown s e = all_of_map (has_single_value s) shown e
-
-pub allowed_shown : (s : SchemaModel) (cs : List ℕ) (e : List KeyedAttribute) → list_all (λ a. is_allowed s cs a.kind) (attributes_of e) ≡ list_all (λ a. is_allowed s cs a.kind) e
-allowed_shown s cs e = all_of_map (λ (a : AttributeModel). is_allowed s cs a.kind) shown e
-
-pub classed_by : (s : SchemaModel) (o : Option ℕ) (t : ℕ) (e : List KeyedAttribute) → o ≡ Some t → list_any (λ a. is_type o a.kind) (attributes_of e) ≡ list_any (λ a. nat_eq a.kind t) e
-classed_by s o t e h = any_of_map (λ (a : AttributeModel). is_type o a.kind) shown e ∙ ap (λ (x : Option ℕ). list_any (λ (a : KeyedAttribute). is_type x a.kind) e) h
-
-pub classed_shown : (s : SchemaModel) (t : ℕ) (e : List KeyedAttribute) → object_class_type s ≡ Some t → list_any (λ a. is_object_class s a.kind) (attributes_of e) ≡ list_any (λ a. nat_eq a.kind t) e
-classed_shown s t e h = classed_by s (object_class_type s) t e h
-
-pub classes_shown : {A : Type 0} (s : SchemaModel) (items : A → List ℕ) (vs : List A) → are_classes s (map items vs) ≡ list_all (λ v. is_some (class_named s (items v))) vs
-classes_shown s items vs = all_of_map (λ (v : List ℕ). is_some (class_named s v)) items vs

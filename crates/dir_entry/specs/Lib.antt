@@ -1,10 +1,7 @@
 pub mod Entry
 pub mod Values
 pub mod Adding
-pub mod Editing
-pub mod Classes
-pub mod Naming
-pub mod Compared
+pub mod Picked
 -- what layers above name of the crates below
 pub use Rattle.ldap_match.specs.ldap_syntax as ldap_syntax
 pub use Rattle.ldap_match.specs.ldap_schema as ldap_schema

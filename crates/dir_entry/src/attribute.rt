@@ -7,7 +7,7 @@ ghost use Rattle.ldap_match.specs.Meaning.{meaning};
 ghost use Rattle.ldap_match.specs.Item.{is_of_syntax as is_of_type_syntax};
 ghost use Rattle.ldap_match.specs.Keyed.{key_at, AreKeysOf};
 ghost use Rattle.std.specs.Str.{bytes_eq};
-ghost use Rattle.dir_entry.specs.Compared.{picked};
+ghost use Rattle.dir_entry.specs.Picked.{picked};
 ghost use Rattle.dir_entry.specs.Entry.{are_in_syntax};
 ghost use Rattle.dir_entry.specs.Values.{has_repeats, has_twice as has_some_twice};
 

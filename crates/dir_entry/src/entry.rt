@@ -1,16 +1,14 @@
 // An entry: a list of attributes. Attributes flow in and out.
 // What must not be here: the entry's name and number.
 
-ghost use Rattle.std.specs.Prelude.{◌≡◌, ◌++◌, ◌∷◌, [], map, true, Ok, IfOk, IfErr, OnOk, OnErr};
+ghost use Rattle.std.specs.Prelude.{◌≡◌, ◌++◌, ◌∷◌, [], map, nat_eq, true, Ok, IfOk, IfErr, OnOk, OnErr};
+ghost use Rattle.std.specs.List.{list_any};
 ghost use Rattle.ldap_match.specs.Keyed.{AreKeysOf};
 ghost use Rattle.dir_entry.specs.Entry.{attributes_of, shown, IsKeyedBy, are_in_syntax};
-ghost use Rattle.dir_entry.specs.Adding.{with_attribute, IsInvalid, Refuses};
-ghost use Rattle.dir_entry.specs.Classes.{checked, settled};
+ghost use Rattle.dir_entry.specs.Adding.{has_type as has_attribute_of_type, with_attribute, IsInvalid, Refuses};
 
 use crate::attribute::Attribute;
-use crate::completing::complete;
 use crate::fault::EntryError;
-use crate::obeying::{has_single_values, has_type, obeys_classes};
 use ldap_match::{Schema, TypeId, ValueError};
 use std::alloc::{AllocError, Global};
 use std::marker::Model;
@@ -19,7 +17,7 @@ use std::marker::Model;
 /// memory.
 #[derive(Drop)]
 pub struct Entry {
-    pub(crate) attributes: Vec<Attribute>,
+    attributes: Vec<Attribute>,
 }
 
 impl Model for Entry {
@@ -29,6 +27,23 @@ impl Model for Entry {
     ghost Value = { List KeyedAttribute };
 
     ghost view = { λ e. e.attributes.items };
+}
+
+/// Whether there is an attribute of the type.
+#[tactic(auto, using(crate::proofs::Shown::has_type_shown))]
+pub fn has_type(attributes: &[Attribute], type_id: TypeId) -> bool
+    ensures { result ≡ has_attribute_of_type type_id (attributes_of attributes.now) }
+{
+    is_of_type(attributes, type_id)
+}
+
+/// Whether one of the attributes is of the type.
+fn is_of_type(attributes: &[Attribute], type_id: TypeId) -> bool
+    ensures { result ≡ list_any (λ a. nat_eq a.kind type_id) attributes.now }
+{
+    attributes
+        .iter()
+        .any(|attribute| attribute.type_id() == type_id)
 }
 
 /// An attribute of these values, if they are in its type's syntax.
@@ -94,6 +109,13 @@ impl Entry {
         }
     }
 
+    /// An entry of these attributes, in their order.
+    pub fn from_attributes(attributes: Vec<Attribute>) -> Entry
+        ensures { result ≡ attributes.items }
+    {
+        Entry { attributes }
+    }
+
     /// Adds an attribute at the end, if its values are in the type's syntax, no two are equivalent, and the type isn't there
     /// yet. An `Err` leaves the entry as it was.
     pub fn add(
@@ -115,36 +137,6 @@ impl Entry {
         Ok(())
     }
 
-    /// The entry with its superclasses, if each SINGLE-VALUE type has one value and it obeys its classes.
-    pub fn settled(self, alloc: Global, schema: &Schema) -> Result<Entry, EntryError>
-        ensures ok { IfOk result (λ e. settled schema.now (attributes_of self) ≡ Ok (attributes_of e)) }
-        ensures keyed { IfOk result (λ e. IsKeyedBy schema.now self → IsKeyedBy schema.now e) }
-
-        // Each refusal is that of the first check that fails.
-        ensures refused { IfErr result (λ e. Refuses e (settled schema.now (attributes_of self))) }
-    {
-        let attributes = complete(alloc, schema, self.attributes)?;
-        let entry = Entry { attributes };
-        entry.checked(alloc, schema)
-    }
-
-    /// The entry as it stands, if each SINGLE-VALUE type has one value and it obeys its classes.
-    pub fn checked(self, alloc: Global, schema: &Schema) -> Result<Entry, EntryError>
-        ensures ok { IfOk result (λ e. checked schema.now (attributes_of self) ≡ Ok (attributes_of e)) }
-        ensures same { IfOk result (λ e. e ≡ self) }
-
-        // Each refusal is that of the first check that fails.
-        ensures refused { IfErr result (λ e. Refuses e (checked schema.now (attributes_of self))) }
-    {
-        if !has_single_values(schema, self.attributes.as_slice()) {
-            return Err(EntryError::ConstraintViolation);
-        }
-        if !obeys_classes(alloc, schema, self.attributes.as_slice())? {
-            return Err(EntryError::ObjectClassViolation);
-        }
-        Ok(self)
-    }
-
     /// A copy.
     pub fn copy(&self, alloc: Global) -> Result<Entry, AllocError>
         ensures { IfOk result (λ e. e ≡ self.now) }
@@ -159,5 +151,12 @@ impl Entry {
         ensures { result.now ≡ self.now }
     {
         self.attributes.as_slice()
+    }
+
+    /// The attributes in order, out of the entry.
+    pub fn into_attributes(self) -> Vec<Attribute>
+        ensures { result.items ≡ self }
+    {
+        self.attributes
     }
 }

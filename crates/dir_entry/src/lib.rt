@@ -1,24 +1,18 @@
-//! Entries: types and values flow in, attributes with their keys flow out. Names and filters are not here.
+//! Entries: types and values flow in, attributes with their keys flow out. What changes make of an entry, what its classes demand, names
+//! and filters are not here.
 #![tactic(auto)]
 
 mod attribute;
-mod changing;
-mod classes;
-mod comparing;
-mod completing;
 mod entry;
 mod fault;
-mod finishing;
-mod naming;
-mod obeying;
-mod placing;
 mod repeats;
 
-pub use attribute::Attribute;
-pub use entry::Entry;
+pub use attribute::{Attribute, octets_of_keys, octets_of_values};
+pub use entry::{Entry, has_type, valid_attribute};
 pub use fault::EntryError;
 pub use ldap_match::{
-    Key, Name, NameError, PartKeys, Rdn, Schema, SchemaError, Test, Truth, TypeAndValue, TypeId,
-    at_least_test, at_most_test, equality_test, has_parts_of, is_comparable, is_front,
-    is_of_syntax, is_ordered, item_on_attribute, substrings_test, tests_are_items,
+    ClassId, ClassKind, Key, Name, NameError, PartKeys, Rdn, Rule, Schema, Test, Truth,
+    TypeAndValue, TypeId, ValueError, at_least_test, at_most_test, equality_rule, equality_test,
+    has_parts_of, is_comparable, is_front, is_of_syntax, is_ordered, item_on_attribute, key,
+    substrings_test, tests_are_items,
 };

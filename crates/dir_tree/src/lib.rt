@@ -14,8 +14,8 @@ mod tree;
 
 pub use comparing::{are_same, is_over_parent};
 pub use dir_entry::{
-    Attribute, Entry, EntryError, Name, NameError, Rdn, Schema, SchemaError, Truth, TypeAndValue,
-    TypeId, is_of_syntax,
+    Attribute, Entry, EntryError, Name, NameError, Rdn, Schema, Truth, TypeAndValue, TypeId,
+    is_of_syntax,
 };
 pub use named::NamedEntry;
 pub use tree::Tree;

@@ -1,9 +1,9 @@
 -- Attributes that are given, and changes that are made, one after the other. Facts on lists flow in and out; no value of the program is
 -- here.
 use Rattle.std.proofs.Common.{◌≡◌, ◌<◌, ◌+◌, ℕ, suc, List, length, map, refl, sym, ap, ◌∙◌, Result, Ok, Err, get_or, take, drop, add-one, drop-cons}
-use Rattle.dir_entry.specs.ldap_schema.Schema.{SchemaModel, find}
-use Rattle.dir_entry.specs.Entry.{AttributeModel}
-use Rattle.dir_entry.specs.Naming.{and_then}
+use Rattle.entry_changes.specs.ldap_schema.Schema.{SchemaModel, find}
+use Rattle.entry_changes.specs.dir_entry.Entry.{AttributeModel}
+use Rattle.entry_changes.specs.Naming.{and_then}
 use Rattle.ldap_updates.specs.ldap_parts.Values.{PartialAttributeValue}
 use Rattle.ldap_updates.specs.Values.{ChangeValue}
 use Rattle.entry_updates.specs.Adding.{with_given, with_all_given}

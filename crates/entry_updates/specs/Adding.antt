@@ -1,12 +1,13 @@
 -- What an add gives: RFC 4511 4.7. A schema, a relative name and attributes flow in; the attributes of the new entry, or the code of a
 -- refusal, flow out. Where the entry is to stand is not here.
 use Rattle.std.specs.Prelude.{ℕ, List, [], ◌∷◌, Option, None, Some, Result, Ok, Err}
-use Rattle.dir_entry.specs.ldap_schema.Schema.{SchemaModel, find}
-use Rattle.dir_entry.specs.ldap_dn.Names.{TypeAndValue}
+use Rattle.entry_changes.specs.ldap_schema.Schema.{SchemaModel, find}
+use Rattle.entry_changes.specs.ldap_dn.Names.{TypeAndValue}
 use Rattle.ldap_updates.specs.ldap_parts.Values.{PartialAttributeValue}
-use Rattle.dir_entry.specs.Entry.{AttributeModel}
-use Rattle.dir_entry.specs.Adding.{with_attribute}
-use Rattle.dir_entry.specs.Naming.{and_then, named}
+use Rattle.entry_changes.specs.dir_entry.Entry.{AttributeModel}
+use Rattle.entry_changes.specs.dir_entry.Adding.{with_attribute}
+use Rattle.entry_changes.specs.Naming.{and_then}
+use Rattle.entry_updates.specs.Finishing.{named}
 
 -- undefinedAttributeType (17) where the description is not recognised (RFC 4511 Appendix A.2)
 abbrev pub with_given : SchemaModel → Option ℕ → List (List ℕ) → List AttributeModel → Result (List AttributeModel) ℕ

@@ -1,4 +1,5 @@
 pub mod Adding
+pub mod Finishing
 pub mod Modifying
 pub mod Refused
 -- what layers above name of the crates below

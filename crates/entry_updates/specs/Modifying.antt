@@ -1,15 +1,16 @@
 -- What a modify does: RFC 4511 4.6. A schema, a relative name, changes and an entry flow in; the attributes after them, or the code of the
 -- first check that fails, flow out. Where the entry stands is not here.
 use Rattle.std.specs.Prelude.{ℕ, List, [], ◌∷◌, Bool, true, false, Option, None, Some, Result, Ok, Err}
-use Rattle.dir_entry.specs.ldap_schema.Schema.{SchemaModel, find}
-use Rattle.dir_entry.specs.ldap_dn.Names.{TypeAndValue}
+use Rattle.entry_changes.specs.ldap_schema.Schema.{SchemaModel, find}
+use Rattle.entry_changes.specs.ldap_dn.Names.{TypeAndValue}
 use Rattle.ldap_updates.specs.Values.{ChangeValue}
 use Rattle.ldap_updates.specs.declared.modify.ModifyOperation.{ModifyOperation}
 use Rattle.ldap_updates.specs.declared.modify.ModifyOperation.TheVariants.{Add, Delete, Replace, Increment}
-use Rattle.dir_entry.specs.Entry.{AttributeModel}
-use Rattle.dir_entry.specs.Adding.{refuse}
-use Rattle.dir_entry.specs.Editing.{with_added, with_deleted, with_replaced}
-use Rattle.dir_entry.specs.Naming.{and_then, kept}
+use Rattle.entry_changes.specs.dir_entry.Entry.{AttributeModel}
+use Rattle.entry_changes.specs.dir_entry.Adding.{refuse}
+use Rattle.entry_changes.specs.Editing.{with_added, with_deleted, with_replaced}
+use Rattle.entry_changes.specs.Naming.{and_then}
+use Rattle.entry_updates.specs.Finishing.{kept}
 
 abbrev pub is_increment : ModifyOperation → Bool
 is_increment Add = false

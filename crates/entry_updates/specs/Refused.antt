@@ -1,7 +1,7 @@
 -- What a refusal says of what is asked for. No contract of another layer names how it comes about.
 use Rattle.std.specs.Prelude.{◌≡◌, ℕ, Result, Err}
-use Rattle.dir_entry.specs.declared.fault.EntryError.{EntryError}
-use Rattle.dir_entry.specs.declared.fault.EntryError.TheVariants as entry
+use Rattle.entry_changes.specs.dir_entry.declared.fault.EntryError.{EntryError}
+use Rattle.entry_changes.specs.dir_entry.declared.fault.EntryError.TheVariants as entry
 use Rattle.entry_updates.specs.declared.fault.UpdateError.{UpdateError}
 use Rattle.entry_updates.specs.declared.fault.UpdateError.TheVariants.{Refused, NoMemory}
 

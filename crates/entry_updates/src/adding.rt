@@ -1,15 +1,16 @@
 //! What an add asks for. A schema, a relative name and the attributes that are given flow in; the new entry, or a refusal, flows out.
 //! The directory is not here.
 ghost use Rattle.std.specs.Prelude.{◌≡◌, [], Ok, map, IfOk, IfErr, OnOk, OnErr};
-ghost use Rattle.dir_entry.specs.Entry.{attributes_of, IsKeyedBy};
+ghost use Rattle.entry_changes.specs.dir_entry.Entry.{attributes_of, IsKeyedBy};
 ghost use Rattle.ldap_updates.specs.ldap_parts.View.{attribute_view};
-ghost use Rattle.dir_entry.specs.ldap_schema.Schema.{find as type_of};
+ghost use Rattle.entry_changes.specs.ldap_schema.Schema.{find as type_of};
 ghost use Rattle.entry_updates.specs.Adding.{with_given, with_all_given, attributes_asked};
 ghost use Rattle.entry_updates.specs.Refused.{RefusedAs};
 
 use crate::copying::copy_values;
 use crate::fault::UpdateError;
-use dir_entry::{Entry, Schema, TypeAndValue};
+use crate::finishing::name;
+use entry_changes::{Entry, Schema, TypeAndValue};
 use ldap_updates::{PartialAttribute, ResultCode};
 use std::alloc::Global;
 
@@ -64,6 +65,6 @@ pub fn entry_asked(
     ensures refused { IfErr result (λ e. RefusedAs e (attributes_asked schema.now rdn.now (map attribute_view given.now))) }
 {
     let entry = entry_given(alloc, schema, given)?;
-    let entry = entry.named(alloc, schema, rdn)?;
+    let entry = name(alloc, schema, entry, rdn)?;
     Ok(entry)
 }

@@ -3,7 +3,7 @@
 ghost use Rattle.std.specs.Prelude.{◌≡◌, IfOk};
 ghost use Rattle.entry_updates.specs.declared.fault.UpdateError.TheVariants.{NoMemory};
 
-use dir_entry::EntryError;
+use entry_changes::EntryError;
 use ldap_updates::ResultCode;
 use std::alloc::{AllocError, AllocFailed};
 

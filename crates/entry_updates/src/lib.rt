@@ -5,6 +5,7 @@
 mod adding;
 mod copying;
 mod fault;
+mod finishing;
 mod modifying;
 mod renaming;
 

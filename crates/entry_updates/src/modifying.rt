@@ -1,14 +1,17 @@
 //! What a modify asks for. A schema, a relative name, changes and an entry flow in; the changed entry, or a refusal, flows out. The entry
 //! that is changed stays as it is. The directory is not here.
 ghost use Rattle.std.specs.Prelude.{◌≡◌, Ok, map, IfOk, IfErr};
-ghost use Rattle.dir_entry.specs.Entry.{attributes_of, IsKeyedBy};
+ghost use Rattle.entry_changes.specs.dir_entry.Entry.{attributes_of, IsKeyedBy};
 ghost use Rattle.ldap_updates.specs.View.{change_view};
 ghost use Rattle.entry_updates.specs.Modifying.{is_increment as is_increment_of, with_change, changed, all_changed, attributes_changed};
 ghost use Rattle.entry_updates.specs.Refused.{RefusedAs};
 
 use crate::copying::copy_values;
 use crate::fault::UpdateError;
-use dir_entry::{Entry, Schema, TypeAndValue, TypeId};
+use crate::finishing::finish;
+use entry_changes::{
+    Entry, Schema, TypeAndValue, TypeId, add_values, delete_values, replace_values,
+};
 use ldap_updates::{Change, ModifyOperation, ResultCode};
 use std::alloc::Global;
 
@@ -37,9 +40,9 @@ fn change_type(
     ensures refused { IfErr result (λ e. RefusedAs e (with_change schema.now operation type_id (map (λ v. v.items) values.items) (attributes_of entry))) }
 {
     let changed = match operation {
-        ModifyOperation::Add => entry.with_added(alloc, schema, type_id, values)?,
-        ModifyOperation::Delete => entry.with_deleted(alloc, schema, type_id, values)?,
-        ModifyOperation::Replace => entry.with_replaced(alloc, schema, type_id, values)?,
+        ModifyOperation::Add => add_values(alloc, schema, entry, type_id, values)?,
+        ModifyOperation::Delete => delete_values(alloc, schema, entry, type_id, values)?,
+        ModifyOperation::Replace => replace_values(alloc, schema, entry, type_id, values)?,
         ModifyOperation::Increment => {
             return Err(UpdateError::Refused(ResultCode::PROTOCOL_ERROR));
         }
@@ -104,6 +107,6 @@ pub fn entry_changed(
 {
     let copy = entry.copy(alloc)?;
     let changed = change_all(alloc, schema, changes, copy)?;
-    let kept = changed.kept(alloc, schema, rdn, entry)?;
+    let kept = finish(alloc, schema, changed, rdn, entry)?;
     Ok(kept)
 }

@@ -1,12 +1,13 @@
 //! What a modifyDN asks of the entry that is renamed. A schema, both relative names and an entry flow in; the entry under its new relative
 //! name, or a refusal, flows out. The entry that is renamed stays as it is. Whole names are not here.
 ghost use Rattle.std.specs.Prelude.{◌≡◌, Ok, IfOk, IfErr};
-ghost use Rattle.dir_entry.specs.Entry.{attributes_of, IsKeyedBy};
-ghost use Rattle.dir_entry.specs.Naming.{renamed};
+ghost use Rattle.entry_changes.specs.dir_entry.Entry.{attributes_of, IsKeyedBy};
+ghost use Rattle.entry_updates.specs.Finishing.{renamed};
 ghost use Rattle.entry_updates.specs.Refused.{RefusedAs};
 
 use crate::fault::UpdateError;
-use dir_entry::{Entry, Schema, TypeAndValue};
+use crate::finishing::rename;
+use entry_changes::{Entry, Schema, TypeAndValue};
 use std::alloc::Global;
 
 /// The entry under a new relative name (RFC 4511 4.9): its values join; if asked, the old ones leave; then 19 and 65.
@@ -24,6 +25,6 @@ pub fn entry_renamed(
     ensures refused { IfErr result (λ e. RefusedAs e (renamed schema.now old.now new.now delete_old (attributes_of entry.now))) }
 {
     let copy = entry.copy(alloc)?;
-    let renamed = copy.renamed(alloc, schema, old, new, delete_old)?;
+    let renamed = rename(alloc, schema, copy, old, new, delete_old)?;
     Ok(renamed)
 }

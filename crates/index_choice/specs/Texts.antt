@@ -4,8 +4,8 @@ use Rattle.std.specs.Prelude.{ℕ, ◌+◌, ◌-◌, List, [], ◌∷◌, ◌++�
 use Rattle.std.specs.List.{list_any, list_all, slice_split, find as find_first}
 use Rattle.std.specs.Option.{option_map}
 use Rattle.std.specs.Str.{bytes_eq}
-use Rattle.ldap_match.specs.schema_text.Words.{is_oid, ends_with}
-use Rattle.ldap_match.specs.schema_text.Texts.{lines_of, is_skipped}
+use Rattle.schema_text.specs.Words.{is_oid, ends_with}
+use Rattle.schema_text.specs.Texts.{lines_of, is_skipped}
 use Rattle.ldap_match.specs.ldap_schema.Schema.{SchemaModel, find}
 use Rattle.ldap_match.specs.ldap_schema.Rules.{equality_of}
 use Rattle.ldap_match.specs.Item.{ordering_of, substrings_of}

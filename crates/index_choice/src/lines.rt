@@ -2,7 +2,7 @@
 // What must not be here: what lines say.
 
 ghost use Rattle.std.specs.Prelude.{◌≡◌, map, IfOk};
-ghost use Rattle.ldap_match.specs.schema_text.Texts as texts;
+ghost use Rattle.schema_text.specs.Texts as texts;
 
 use crate::words::{ends_with, parts};
 use std::alloc::{AllocError, Global};

@@ -3,7 +3,7 @@
 
 ghost use Rattle.std.specs.Prelude.{◌≡◌, map, nat_eq, IfOk};
 ghost use Rattle.std.specs.List.{list_all, slice_split};
-ghost use Rattle.ldap_match.specs.schema_text.Words as words;
+ghost use Rattle.schema_text.specs.Words as words;
 ghost use Rattle.index_choice.specs.Texts.{is_kind as is_kind_word, has_word as has_some_word, kinds_named, are_kinds as are_kind_words, is_head as is_line_head, without_colon as less_colon};
 
 use crate::kinds::Kinds;

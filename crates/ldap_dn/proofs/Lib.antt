@@ -4,12 +4,4 @@ pub mod Spelled
 pub mod Parted
 pub mod NameTexts
 pub mod Rising
-pub mod Lettered
-pub mod Valued
-pub mod Joined
-pub mod PrintedAgain
-pub mod TypeNames
-pub mod SoundTexts
-pub mod FirstFound
-pub mod ReadNames
 pub mod KeysTold

@@ -8,9 +8,7 @@ pub mod NameTexts
 pub mod Rising
 pub mod Ordered
 pub mod OrderLaws
-pub mod PrintedRead
 pub mod NameKeys
 -- what layers above name of the crates below
 pub use Rattle.ldap_schema.specs.ldap_syntax as ldap_syntax
-pub use Rattle.ldap_schema.specs.schema_text as schema_text
 pub use Rattle.ldap_schema.specs as ldap_schema

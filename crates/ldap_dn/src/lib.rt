@@ -19,11 +19,11 @@ pub use cutting::pieces_are_parted;
 pub use fault::NameError;
 pub use keying::name_keys_are_of_names;
 pub use ldap_schema::{
-    ClassId, ClassKind, Family, Key, Part, Rule, Schema, SchemaError, Syntax, TypeId, ValueError,
-    equality_rule, has_ordering, has_substrings, is_identifier, is_in_syntax, is_meaningful, key,
-    keys_compare, part_key_of, parts_compare,
+    ClassId, ClassKind, Family, Key, Part, Rule, Schema, Syntax, TypeId, ValueError, equality_rule,
+    has_ordering, has_substrings, is_identifier, is_in_syntax, is_meaningful, key, keys_compare,
+    part_key_of, parts_compare,
 };
-pub use name::{Name, names_are_of_texts, printed_is_read, read_names_are_read_again};
+pub use name::{Name, names_are_of_texts};
 pub use ordering::equal_is_same;
 pub use rdn::{Rdn, TypeAndKey, TypeAndValue, keys_are_rising};
 pub use scanning::tokens_are_spelled;

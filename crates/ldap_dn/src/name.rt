@@ -6,7 +6,6 @@ ghost use Rattle.ldap_dn.specs.NameTexts.{NamesAreOfTexts};
 ghost use Rattle.ldap_dn.specs.Names.{IsSameName, IsBelow, rdns};
 ghost use Rattle.ldap_dn.specs.NameKeys.{name_key};
 ghost use Rattle.ldap_dn.specs.Printed.{printed_name};
-ghost use Rattle.ldap_dn.specs.PrintedRead.{PrintedIsRead, ReadNamesAreReadAgain};
 ghost use Rattle.ldap_dn.specs.Texts.{name_of_text};
 
 use crate::comparing::is_front;
@@ -138,14 +137,4 @@ impl Name {
 /// The name that `Name::read` finds is the one whose text it is by the grammar, and where it finds none the text is no name's.
 pub fn names_are_of_texts()
     ensures { NamesAreOfTexts }
-{}
-
-/// What is printed of a name of the schema's types is read as that name, its spelling too.
-pub fn printed_is_read()
-    ensures { PrintedIsRead }
-{}
-
-/// What is printed of a name that was read by a schema that was read is read as that name.
-pub fn read_names_are_read_again()
-    ensures { ReadNamesAreReadAgain }
 {}

@@ -1,7 +1,6 @@
 pub mod Value
 pub mod Asked
 pub mod Bound
-pub mod Ruled
 pub mod Made
 -- what layers above name of the crates below
 pub use Rattle.ldap_filter.specs as ldap_filter

@@ -6,11 +6,9 @@ mod asking;
 mod binding;
 mod bound;
 mod evaluating;
-mod ruling;
 
 pub use binding::bind;
 pub use bound::{BoundFilter, Leaf};
 pub use dir_entry::{Key, PartKeys, Test, Truth, TypeId};
 pub use evaluating::value;
 pub use ldap_filter::Filter;
-pub use ruling::built_in_rules_are_of_one_family;

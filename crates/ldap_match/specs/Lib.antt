@@ -6,6 +6,5 @@ pub mod Keyed
 pub mod NameValues
 -- what layers above name of the crates below
 pub use Rattle.ldap_dn.specs.ldap_syntax as ldap_syntax
-pub use Rattle.ldap_dn.specs.schema_text as schema_text
 pub use Rattle.ldap_dn.specs.ldap_schema as ldap_schema
 pub use Rattle.ldap_dn.specs as ldap_dn

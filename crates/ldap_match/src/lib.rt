@@ -11,8 +11,8 @@ mod truth;
 
 pub use keying::{is_comparable, is_of_syntax, is_ordered, key};
 pub use ldap_dn::{
-    ClassId, ClassKind, Key, Name, NameError, Rdn, Rule, Schema, SchemaError, TypeAndValue, TypeId,
-    ValueError, equality_rule, is_front,
+    ClassId, ClassKind, Key, Name, NameError, Rdn, Rule, Schema, TypeAndValue, TypeId, ValueError,
+    equality_rule, is_front,
 };
 pub use naming::equal_values_are_one_name;
 pub use parts::{PartKeys, part_keys};

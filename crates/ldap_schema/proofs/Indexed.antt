@@ -4,9 +4,8 @@ use Rattle.std.specs.List.{list_any, position_from}
 use Rattle.std.specs.Char.{to_ascii_lowercase}
 use Rattle.std.specs.Str.{bytes_eq}
 use Rattle.std.proofs.lemmas.Bool.Decides.{nat_tests}
-use Rattle.schema_meaning.specs.Faults.{earlier}
 use Rattle.ldap_schema.specs.Schema.{is_called, is_same_name}
-use Rattle.ldap_schema.specs.NameOrder.{number_at, kept_or, has_name, IndexModel, find_in}
+use Rattle.ldap_schema.specs.NameOrder.{number_at, kept_or, has_name, lower, IndexModel, find_in}
 use Rattle.ldap_schema.proofs.Steps.{opened}
 
 -- a number that is there stays, and else the first one of the rest comes
@@ -71,7 +70,7 @@ not_lower k m le = grind (arith, nat_tests)
 is_lower : (k m : ℕ) → k < m → cond (nat_lt k m) k m ≡ k
 is_lower k m lt = grind (arith, nat_tests)
 
-either_by : (k : ℕ) (a b : Bool) (ps qs rs : Option ℕ) → rs ≡ earlier ps qs → ((n : ℕ) → ps ≡ Some n → k + 1 ≤ n) → ((n : ℕ) → qs ≡ Some n → k + 1 ≤ n) → cond (b || a) (Some k) rs ≡ earlier (cond a (Some k) ps) (cond b (Some k) qs)
+either_by : (k : ℕ) (a b : Bool) (ps qs rs : Option ℕ) → rs ≡ lower ps qs → ((n : ℕ) → ps ≡ Some n → k + 1 ≤ n) → ((n : ℕ) → qs ≡ Some n → k + 1 ≤ n) → cond (b || a) (Some k) rs ≡ lower (cond a (Some k) ps) (cond b (Some k) qs)
 either_by k true true ps qs rs e f g = ap Some (sym (not_lower k k (omega arith)))
 either_by k true false ps None rs e f g = refl
 either_by k true false ps (Some m) rs e f g = let le : k + 1 ≤ m = g m refl in ap Some (sym (not_lower k m (omega arith)))
@@ -79,7 +78,7 @@ either_by k false true None qs rs e f g = refl
 either_by k false true (Some m) qs rs e f g = let le : k + 1 ≤ m = f m refl in ap Some (sym (is_lower k m (omega arith)))
 either_by k false false ps qs rs e f g = e
 
-first_of_either : {A : Type 0} (p q : A → Bool) (k : ℕ) (xs : List A) → position_from (λ x. q x || p x) k xs ≡ earlier (position_from p k xs) (position_from q k xs)
+first_of_either : {A : Type 0} (p q : A → Bool) (k : ℕ) (xs : List A) → position_from (λ x. q x || p x) k xs ≡ lower (position_from p k xs) (position_from q k xs)
 first_of_either p q k [] = refl
 first_of_either p q k (x ∷ xs) = either_by k (p x) (q x) _ _ _ (first_of_either p q (k + 1) xs) (λ n e. later p (k + 1) xs n e) (λ n e. later q (k + 1) xs n e)
 
@@ -88,6 +87,6 @@ pub found_either : {A : Type 0} (oid : A → List ℕ) (names : A → List (List
     → ((q : List ℕ) → number_at m.oids q ≡ position_from (λ x. bytes_eq q (oid x)) 0 xs)
     → (d : List ℕ) → find_in m d ≡ position_from (λ x. is_called d (oid x) (names x)) 0 xs
 found_either oid names xs m by_name by_oid d =
-    ap (λ z. earlier z (number_at m.oids d)) (by_name (map to_ascii_lowercase d))
-    ∙ ap (earlier _) (by_oid d)
+    ap (λ z. lower z (number_at m.oids d)) (by_name (map to_ascii_lowercase d))
+    ∙ ap (lower _) (by_oid d)
     ∙ sym (first_of_either (λ x. list_any (is_same_name d) (names x)) (λ x. bytes_eq d (oid x)) 0 xs)

@@ -3,9 +3,5 @@ pub mod Filling
 pub mod Called
 pub mod Chains
 pub mod Lineage
-pub mod AsText
-pub mod Loops
-pub mod Judged
 pub mod Sought
 pub mod Indexed
-pub mod BuiltInText

@@ -1,9 +1,9 @@
 -- Keys where a schema is known, but for names. Values flow in, keys flow out; items and entries are not here.
 use Rattle.std.specs.Prelude.{ℕ, List, Option}
-use Rattle.schema_meaning.specs.ldap_syntax.Keys as syntax
-use Rattle.schema_meaning.specs.ldap_syntax.declared.rule.Family.{Family}
-use Rattle.schema_meaning.specs.ldap_syntax.declared.rule.Family.TheVariants as family
-use Rattle.schema_meaning.specs.ldap_syntax.declared.rule.Rule.{Rule}
+use Rattle.ldap_syntax.specs.Keys as syntax
+use Rattle.ldap_syntax.specs.declared.rule.Family.{Family}
+use Rattle.ldap_syntax.specs.declared.rule.Family.TheVariants as family
+use Rattle.ldap_syntax.specs.declared.rule.Rule.{Rule}
 use Rattle.ldap_schema.specs.Schema.{SchemaModel}
 use Rattle.ldap_schema.specs.Meaning.{dotted}
 

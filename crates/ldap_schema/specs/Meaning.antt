@@ -2,12 +2,12 @@
 -- class. RFC 4517 3.3.26 and 4.2.26. Values flow in, meanings flow out; names (RFC 4514), entries and filters are not
 -- here.
 use Rattle.std.specs.Prelude.{ℕ, List, cond, Option, None, Some, slice_get}
-use Rattle.schema_meaning.specs.ldap_syntax.Identifiers.{is_numericoid}
-use Rattle.schema_meaning.specs.ldap_syntax.Meaning as syntax
-use Rattle.schema_meaning.specs.ldap_syntax.Meaning.{Meaning, identifier}
-use Rattle.schema_meaning.specs.ldap_syntax.declared.rule.Family.{Family}
-use Rattle.schema_meaning.specs.ldap_syntax.declared.rule.Family.TheVariants as family
-use Rattle.schema_meaning.specs.ldap_syntax.declared.rule.Rule.{Rule}
+use Rattle.ldap_syntax.specs.Identifiers.{is_numericoid}
+use Rattle.ldap_syntax.specs.Meaning as syntax
+use Rattle.ldap_syntax.specs.Meaning.{Meaning, identifier}
+use Rattle.ldap_syntax.specs.declared.rule.Family.{Family}
+use Rattle.ldap_syntax.specs.declared.rule.Family.TheVariants as family
+use Rattle.ldap_syntax.specs.declared.rule.Rule.{Rule}
 use Rattle.ldap_schema.specs.Schema.{SchemaModel, TypeModel, ClassModel, find, class_named}
 
 abbrev pub oid_of_type : Option TypeModel → Option (List ℕ)

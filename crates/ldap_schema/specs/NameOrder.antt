@@ -1,5 +1,5 @@
 -- Names in order, with the numbers that they stand for. Names flow in, numbers flow out; types and classes are not here.
-use Rattle.std.specs.Prelude.{ℕ, List, [], ◌∷◌, ◌≡◌, Option, None, Some, Bool, cond, map}
+use Rattle.std.specs.Prelude.{ℕ, List, [], ◌∷◌, ◌≡◌, Option, None, Some, Bool, cond, nat_lt, map}
 use Rattle.std.specs.Ordering.{nat_cmp}
 use Rattle.std.specs.declared.cmp.Ordering.{Ordering}
 use Rattle.std.specs.declared.cmp.Ordering.TheVariants.{Less}
@@ -8,7 +8,6 @@ use Rattle.std.specs.Map.{lookup}
 use Rattle.std.specs.Str.{bytes_eq}
 use Rattle.std.specs.List.{AllByRecursion, list_any}
 use Rattle.std.specs.Char.{to_ascii_lowercase}
-use Rattle.schema_meaning.specs.Faults.{earlier}
 
 -- octet by octet, and a name before what it begins
 abbrev pub order : List ℕ → List ℕ → Ordering
@@ -37,9 +36,18 @@ pub record IndexModel : Type 0 where
   pub names : List (List ℕ × ℕ)
   pub oids : List (List ℕ × ℕ)
 
+abbrev pub lower_than : ℕ → Option ℕ → Option ℕ
+lower_than n None = Some n
+lower_than n (Some m) = Some (cond (nat_lt m n) m n)
+
+-- the lower one of the numbers that are there
+abbrev pub lower : Option ℕ → Option ℕ → Option ℕ
+lower None m = m
+lower (Some n) m = lower_than n m
+
 -- the lower one of the numbers that a description has as a name and as an object identifier (RFC 4512 1.4)
 abbrev pub find_in : IndexModel → List ℕ → Option ℕ
-find_in m d = earlier (number_at m.names (map to_ascii_lowercase d)) (number_at m.oids d)
+find_in m d = lower (number_at m.names (map to_ascii_lowercase d)) (number_at m.oids d)
 
 -- one of the names is this one in lower case
 abbrev pub has_name : List ℕ → List (List ℕ) → Bool

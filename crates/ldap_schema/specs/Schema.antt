@@ -4,8 +4,8 @@ use Rattle.std.specs.Prelude.{ℕ, zero, suc, ◌+◌, List, [], ◌∷◌, Bool
 use Rattle.std.specs.List.{list_any, position_from}
 use Rattle.std.specs.Char.{to_ascii_lowercase}
 use Rattle.std.specs.Str.{bytes_eq}
-use Rattle.schema_meaning.specs.ldap_syntax.declared.rule.Rule.{Rule}
-use Rattle.schema_meaning.specs.ldap_syntax.declared.rule.Syntax.{Syntax}
+use Rattle.ldap_syntax.specs.declared.rule.Rule.{Rule}
+use Rattle.ldap_syntax.specs.declared.rule.Syntax.{Syntax}
 use Rattle.ldap_schema.specs.declared.class.ClassKind.{ClassKind}
 
 -- An attribute type: its names with the first one first, the number of its superior type, and what is in effect for it,

@@ -4,7 +4,7 @@
 ghost use Rattle.std.specs.Prelude.{◌≡◌, map, ℕ};
 ghost use Rattle.std.specs.String.{string_bytes};
 
-use schema_meaning::{Rule, Syntax};
+use ldap_syntax::{Rule, Syntax};
 use std::marker::Model;
 
 /// A type by its number in one schema.
@@ -42,14 +42,22 @@ impl TypeId {
 /// An attribute type (RFC 4512 4.1.2), with what it inherits from its superior type already in place.
 #[derive(Drop)]
 pub struct AttributeType {
-    pub(crate) oid: String,
-    pub(crate) names: Vec<String>,
-    pub(crate) superior: Option<TypeId>,
-    pub(crate) syntax: Syntax,
-    pub(crate) equality: Option<Rule>,
-    pub(crate) ordering: Option<Rule>,
-    pub(crate) substrings: Option<Rule>,
-    pub(crate) is_single_value: bool,
+    /// The object identifier in dotted form.
+    pub oid: String,
+    /// The names, the first one first.
+    pub names: Vec<String>,
+    /// The type that it is a direct subtype of.
+    pub superior: Option<TypeId>,
+    /// The syntax of its values.
+    pub syntax: Syntax,
+    /// The EQUALITY rule in effect.
+    pub equality: Option<Rule>,
+    /// The ORDERING rule in effect.
+    pub ordering: Option<Rule>,
+    /// The SUBSTR rule in effect.
+    pub substrings: Option<Rule>,
+    /// Whether an entry has at most one value of it.
+    pub is_single_value: bool,
 }
 
 impl Model for AttributeType {

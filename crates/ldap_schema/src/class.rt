@@ -51,12 +51,18 @@ impl ClassId {
 /// An object class (RFC 4512 4.1.1).
 #[derive(Drop)]
 pub struct ObjectClass {
-    pub(crate) oid: String,
-    pub(crate) names: Vec<String>,
-    pub(crate) superiors: Vec<ClassId>,
-    pub(crate) kind: ClassKind,
-    pub(crate) required: Vec<TypeId>,
-    pub(crate) allowed: Vec<TypeId>,
+    /// The object identifier in dotted form.
+    pub oid: String,
+    /// The names, the first one first.
+    pub names: Vec<String>,
+    /// The classes that it is a direct subclass of, in the order written.
+    pub superiors: Vec<ClassId>,
+    /// Abstract, structural or auxiliary.
+    pub kind: ClassKind,
+    /// The types that its entries must have.
+    pub required: Vec<TypeId>,
+    /// The types that its entries may have.
+    pub allowed: Vec<TypeId>,
 }
 
 impl Model for ObjectClass {

@@ -8,7 +8,7 @@ ghost use Rattle.ldap_schema.specs.Rules.{equality_of};
 
 use crate::attribute_type::TypeId;
 use crate::schema::Schema;
-use schema_meaning::{Family, Key, Rule, ValueError, has_meaning, is_numericoid, key_of};
+use ldap_syntax::{Family, Key, Rule, ValueError, has_meaning, is_numericoid, key_of};
 use std::alloc::Global;
 
 /// The object identifier that the name of a type, or else of a class, stands for.

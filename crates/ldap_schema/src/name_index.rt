@@ -7,13 +7,12 @@ ghost use Rattle.std.specs.Char.{to_ascii_lowercase};
 ghost use Rattle.std.specs.List.{list_any, position_from};
 ghost use Rattle.std.specs.Str.{bytes_eq};
 ghost use Rattle.std.specs.String.{string_bytes};
-ghost use Rattle.ldap_schema.specs.NameOrder.{number_at, kept_or, find_in, has_name};
+ghost use Rattle.ldap_schema.specs.NameOrder.{number_at, kept_or, find_in, has_name, lower as lower_one};
 ghost use Rattle.ldap_schema.specs.Schema.{is_called};
 
 use crate::attribute_type::AttributeType;
 use crate::class::ObjectClass;
 use crate::name_table::NameTable;
-use schema_meaning::earlier;
 use std::alloc::{AllocError, Global};
 use std::marker::Model;
 
@@ -69,6 +68,19 @@ fn add_names(
     Ok(())
 }
 
+/// The lower one of the numbers that are there.
+fn lower(first: Option<usize>, second: Option<usize>) -> Option<usize>
+    ensures { result ≡ lower_one first second }
+{
+    match first {
+        None => second,
+        Some(number) => match second {
+            None => Some(number),
+            Some(other) => Some(if other < number { other } else { number }),
+        },
+    }
+}
+
 impl NameIndex {
     /// An index of nothing.
     fn new(alloc: Global) -> NameIndex
@@ -122,6 +134,6 @@ impl NameIndex {
     pub fn find(&self, name: &[u8]) -> Option<usize>
         ensures { result ≡ find_in self.now name.now }
     {
-        earlier(self.names.find_folded(name), self.oids.find(name))
+        lower(self.names.find_folded(name), self.oids.find(name))
     }
 }

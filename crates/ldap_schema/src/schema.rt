@@ -1,28 +1,21 @@
 // The schema: a table of types and one of classes, and which type and class is under which, computed once. Names and numbers flow
 // in; types, classes and numbers flow out. What must not be here: reading a schema from text, values.
 
-ghost use Rattle.std.specs.Prelude.{◌≡◌, Ok, IfOk, IfErr, IfSome, IsSome, option_map, slice_get, length, ◌↔◌, IsTrue};
+ghost use Rattle.std.specs.Prelude.{◌≡◌, IfOk, IfSome, IsSome, option_map, slice_get, length, ◌↔◌, IsTrue};
 ghost use Rattle.std.specs.Option.{option_copied};
 ghost use Rattle.ldap_schema.specs.Schema.{find as find_type, class_named, class_name, is_under as is_under_type, IsUnder};
 ghost use Rattle.ldap_schema.specs.Superclasses.{missing_superclasses as superclasses_missing, is_subclass as is_class_under, IsSubclass};
 ghost use Rattle.ldap_schema.specs.ObjectClassType.{IsObjectClassType};
 ghost use Rattle.ldap_schema.specs.Schema.{IsLoopless};
 ghost use Rattle.ldap_schema.specs.Superclasses.{AreSuperclassesKnown};
-ghost use Rattle.ldap_schema.specs.Reading.{schema_of_text, schema_of_lines, IsRefusalOf};
-ghost use Rattle.ldap_schema.specs.BuiltIn.{built_in as built_in_schema, built_in_text};
 
 use crate::attribute_type::{AttributeType, TypeId};
-use crate::built_in::BUILT_IN;
 use crate::class::{ClassId, ObjectClass};
-use crate::described::{classes_of, types_of};
-use crate::error::SchemaError;
-use crate::judging::judged;
 use crate::name_index::NameIndex;
 use crate::superclasses::{
     is_class_among, superclasses_at, superclasses_of_all, with_superclasses,
 };
-use crate::tables::{is_among, superiors_at, superiors_of_all};
-use schema_meaning::{SchemaText, read_text};
+use crate::tables::{is_type_among, superiors_at, superiors_of_all};
 use std::alloc::{AllocError, Global};
 use std::marker::Model;
 
@@ -57,44 +50,9 @@ impl Model for Schema {
 }
 
 impl Schema {
-    /// The built-in schema, read from its text. The text is a schema's, so its only error is want of memory.
-    pub fn built_in(alloc: Global) -> Result<Schema, AllocError>
-        ensures { IfOk result (λ s. s ≡ built_in_schema) }
-    {
-        match Schema::read(alloc, BUILT_IN) {
-            Ok(schema) => Ok(schema),
-            Err(_) => Err(AllocError),
-        }
-    }
-
-    /// The schema of a text (RFC 4512 4.1): one description a line behind `attributeTypes: ` or `objectClasses: `; empty lines and
-    /// lines that begin with `#` are skipped. The first thing that is wrong is named with its line: the first line that is no
-    /// description (E12), else the first that names what is not known (E13), else the first of a loop of SUPs (E14), else the first
-    /// type without an EQUALITY rule (E15).
-    pub fn read(alloc: Global, text: &str) -> Result<Schema, SchemaError>
-        ensures found { IfOk result (λ s. schema_of_text text.now ≡ Ok s) }
-
-        // A refusal is the definition's, its line too; want of memory is none.
-        ensures refused { IfErr result (λ e. IsRefusalOf (schema_of_text text.now) e) }
-    {
-        let text = read_text(alloc, text.as_bytes())?;
-        Schema::of_text(alloc, &text)
-    }
-
-    /// The schema of descriptions.
-    fn of_text(alloc: Global, text: &SchemaText) -> Result<Schema, SchemaError>
-        ensures found { IfOk result (λ s. schema_of_lines text.now ≡ Ok s) }
-        ensures refused { IfErr result (λ e. IsRefusalOf (schema_of_lines text.now) e) }
-    {
-        let types = types_of(alloc, text.types())?;
-        let classes = classes_of(alloc, text)?;
-        let object_class = judged(alloc, text, types.as_slice(), classes.as_slice())?;
-        let schema = Schema::of_parts(alloc, types, classes, object_class)?;
-        Ok(schema)
-    }
-
-    /// The schema of these types and classes.
-    fn of_parts(
+    /// The schema of these types and classes, numbered as they stand: no SUP of a type leads back to it, the superclasses are classes
+    /// of the list, and one of the types is objectClass (RFC 4512 3.3, 4.1). Its only error is want of memory.
+    pub fn of_parts(
         alloc: Global,
         types: Vec<AttributeType>,
         classes: Vec<ObjectClass>,
@@ -222,11 +180,6 @@ impl Schema {
         // It is the chain of SUPs.
         ensures chain { IsTrue result ↔ IsUnder self.now below above }
     {
-        below == above || is_among(superiors_at(self.superiors.as_slice(), below), above)
+        below == above || is_type_among(superiors_at(self.superiors.as_slice(), below), above)
     }
 }
-
-/// The text of the built-in schema means its table.
-pub fn built_in_is_its_text()
-    ensures { schema_of_text built_in_text ≡ Ok built_in_schema }
-{}

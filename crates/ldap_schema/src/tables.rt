@@ -35,7 +35,7 @@ pub fn class_called(classes: &[ObjectClass], name: &[u8]) -> Option<ClassId>
 }
 
 /// Whether the type is in the list.
-pub fn is_among(types: &[TypeId], type_id: TypeId) -> bool
+pub fn is_type_among(types: &[TypeId], type_id: TypeId) -> bool
     ensures { result ≡ list_any (λ t. nat_eq t type_id) types.now }
 {
     types.iter().any(|other| *other == type_id)

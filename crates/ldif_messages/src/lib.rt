@@ -18,5 +18,5 @@ pub use adding::add_of;
 pub use exporting::export_text;
 pub use fault::{ExportError, ImportError};
 pub use importing::import_text;
-pub use ldif::{LdifError, Record, read, write};
+pub use ldif::{AttributeValue, LdifError, Record, read, write};
 pub use showing::{record_of, records_of};

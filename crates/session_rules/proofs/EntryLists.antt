@@ -2,22 +2,15 @@
 -- are not read here.
 use Rattle.std.proofs.Common.{◌≡◌, ◌≤◌, ◌^◌, inl, inr, ℕ, List, [], ◌∷◌, ◌++◌, map, length, sym, ap, ◌∙◌, subst, Result, Ok, Err}
 use Rattle.std.specs.Prelude.{IfOk, IsErrOf}
-use Rattle.ldap_msg.specs.Messages.{MessageValue, search_entry}
-use Rattle.ldap_msg.specs.View.{entry_view}
-use Rattle.ldap_msg.specs.Written.{message_bytes, message_content}
+use Rattle.message_rules.specs.ldap_msg.Messages.{MessageValue}
+use Rattle.message_rules.specs.ldap_msg.Written.{message_bytes, message_content}
 use Rattle.std.proofs.lemmas.List.{map-append}
-use Rattle.ldap_msg.specs.ldap_responses.declared.entry.SearchResultEntry.{SearchResultEntry}
-use Rattle.session_rules.specs.Responses.{message, entry_messages, HasTooLong}
+use Rattle.message_rules.specs.Messages.{HasTooLong}
 use Rattle.session_rules.specs.Taken.{AreSaid}
 use Rattle.session_rules.specs.declared.answered.Answered.{Answered}
 use Rattle.session_rules.specs.declared.answered.Next.{Next}
-use Rattle.session_rules.specs.declared.fault.AnswerError.{AnswerError}
-use Rattle.session_rules.specs.declared.fault.AnswerError.TheVariants.{TooLong}
-
--- the response of the first entry is too long
-pub first_too_long : (id : ℕ) (entries : List SearchResultEntry) (e : SearchResultEntry) (rest : List SearchResultEntry) → entries ≡ e ∷ rest → 2 ^ 32 ≤ length (message_content (message id (search_entry (entry_view e)) []))
-    → HasTooLong (entry_messages id (map entry_view entries))
-first_too_long id entries e rest is long = subst (λ (l : List SearchResultEntry). HasTooLong (entry_messages id (map entry_view l))) (sym is) (inl long)
+use Rattle.message_rules.specs.declared.fault.AnswerError.{AnswerError}
+use Rattle.message_rules.specs.declared.fault.AnswerError.TheVariants.{TooLong}
 
 pub too_long_front : (ms ns : List MessageValue) → HasTooLong ms → HasTooLong (ms ++ ns)
 too_long_front [] ns h = absurd h
@@ -27,10 +20,6 @@ too_long_front (m ∷ ms) ns (inr h) = inr (too_long_front ms ns h)
 too_long_last : (ms : List MessageValue) (m : MessageValue) → 2 ^ 32 ≤ length (message_content m) → HasTooLong (ms ++ m ∷ [])
 too_long_last [] m h = inl h
 too_long_last (x ∷ ms) m h = inr (too_long_last ms m h)
-
--- an error is the same in another result
-pub same_error : {S T E : Type 0} (e f : E) → ◌≡◌ {A = Result T E} (Err e) (Err f) → ◌≡◌ {A = Result S E} (Err e) (Err f)
-same_error e f h = let is : e ≡ f = cc in ap Err is
 
 -- an error is said
 pub said_error : (ms : List MessageValue) (next : Next) (e : AnswerError) → (e ≡ TooLong → HasTooLong ms) → AreSaid ms next (Err e)

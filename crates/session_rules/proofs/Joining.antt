@@ -1,12 +1,12 @@
 -- Sessions that go on, and what is asked first. Facts on definitions flow in and out; no value of the program is here.
 use Rattle.std.proofs.Common.{◌≡◌, inl, inr, ℕ, List, ◌∷◌, ◌++◌, refl, sym, subst, append_assoc}
-use Rattle.ldap_msg.specs.Messages.{RequestValue, MessageValue}
+use Rattle.message_rules.specs.ldap_msg.Messages.{RequestValue, MessageValue}
 use Rattle.session_talk.specs.Talk.{Exchange}
 use Rattle.session_rules.specs.Session.{ConfigValue, Reaction}
 use Rattle.session_rules.specs.Turns.{Inquiry, asks, answers, inquires, BeginsWithRole, RoleIsFirst, Session, ends, goes_on, stops, SessionsJoin}
 use Rattle.session_rules.specs.declared.answered.Next.{Next}
 use Rattle.session_rules.specs.declared.answered.Next.TheVariants.{GoesOn}
-use Rattle.session_rules.specs.declared.controls.Named.{Named}
+use Rattle.message_rules.specs.declared.controls.Named.{Named}
 use Rattle.session_rules.specs.declared.state.State.{State}
 
 module _ {T : Type 0} (c : ConfigValue) (u : State) (ns : List MessageValue) (ys : List (Exchange T)) (qs : List MessageValue) (next : Next) where

@@ -2,24 +2,24 @@
 -- here.
 use Rattle.std.proofs.Common.{◌≡◌, inl, ℕ, ◌+◌, List, [], ◌∷◌, ◌++◌, Bool, true, false, cond, nat_lt, refl, sym, ap, ◌∙◌, subst, Some, None, Result, Ok, Err}
 use Rattle.std.specs.Prelude.{OnOk, OnErr}
-use Rattle.ldap_msg.specs.Messages.{SearchRequestValue, CompareRequestValue, RequestValue, bind, unbind, search, modify, add, delete, modify_dn, compare, abandon, extended_request, ExtendedRequestValue, MessageValue}
+use Rattle.message_rules.specs.ldap_msg.Messages.{SearchRequestValue, CompareRequestValue, RequestValue, bind, unbind, search, modify, add, delete, modify_dn, compare, abandon, extended_request, ExtendedRequestValue, MessageValue}
 use Rattle.session_talk.specs.ldap_op.Values.{OpValue}
 use Rattle.session_talk.specs.dir_store.Replies.{ReplyModel}
 use Rattle.session_talk.specs.dir_search.Answer.{Answer}
 use Rattle.session_talk.specs.Talk.{Looked, RoleValue, EndedValue, Exchange, asked_role, learned, searched, compared, updated, Along, ends, goes}
 use Rattle.session_talk.specs.declared.client.Client.{Client}
-use Rattle.session_rules.specs.Requests.{answering_of, update_of}
-use Rattle.session_rules.specs.Numbers.{greatest}
+use Rattle.message_rules.specs.Requests.{answering_of, update_of}
+use Rattle.message_rules.specs.Numbers.{greatest}
 use Rattle.session_rules.specs.Session.{ConfigValue, Reaction, at_once, due, Asked, asked_of, asked_of_update, update_as, update_by, refused_with, is_recovering, nothing, a_search, a_compare, an_update, asked, after_search, after_compare, after_update, asked_state}
 use Rattle.session_rules.specs.Heard.{IsPending}
 use Rattle.session_rules.specs.Taken.{AreSaid, IsDone, HasTaken}
 use Rattle.session_rules.specs.Turns.{Outcome, reacts, searches, compares, updates, Inquiry, asks, Turn, answers, inquires}
 use Rattle.session_rules.specs.declared.answered.Answered.{Answered}
-use Rattle.session_rules.specs.declared.controls.Named.{Named}
-use Rattle.session_rules.specs.declared.fault.AnswerError.{AnswerError}
+use Rattle.message_rules.specs.declared.controls.Named.{Named}
+use Rattle.message_rules.specs.declared.fault.AnswerError.{AnswerError}
 use Rattle.session_rules.specs.declared.pending.Pending.{Pending}
-use Rattle.session_rules.specs.declared.requests.Answering.{Answering}
-use Rattle.session_rules.specs.declared.requests.Answering.TheVariants.{Modify, Add, Delete, ModifyDn, Extended}
+use Rattle.message_rules.specs.declared.requests.Answering.{Answering}
+use Rattle.message_rules.specs.declared.requests.Answering.TheVariants.{Modify, Add, Delete, ModifyDn, Extended}
 use Rattle.session_rules.specs.declared.state.State.{State}
 
 on_ok : {T E P : Type 0} (r : Result T E) → P → OnOk r P

@@ -1,8 +1,8 @@
 -- What a message was heard as. What the code made of a message flows in; which part of a session's rules that is flows out.
 use Rattle.std.specs.Prelude.{◌≡◌}
-use Rattle.ldap_msg.specs.Messages.{RequestValue, MessageValue}
-use Rattle.ldap_msg.specs.View.{request_view}
-use Rattle.session_rules.specs.Requests.{answering_of}
+use Rattle.message_rules.specs.ldap_msg.Messages.{RequestValue, MessageValue}
+use Rattle.message_rules.specs.ldap_msg.View.{request_view}
+use Rattle.message_rules.specs.Requests.{answering_of}
 use Rattle.session_rules.specs.Session.{at_once, after_role, due, silent, disconnected, refused_with}
 use Rattle.session_rules.specs.declared.state.State.{State}
 use Rattle.session_rules.specs.declared.pending.Pending.{Pending}

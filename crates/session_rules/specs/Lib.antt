@@ -1,7 +1,3 @@
-pub mod Numbers
-pub mod Controls
-pub mod Binding
-pub mod Requests
 pub mod Responses
 pub mod Session
 pub mod Heard
@@ -9,6 +5,7 @@ pub mod Turns
 pub mod Taken
 pub mod View
 -- what layers above name of the crates below
-pub use Rattle.ldap_msg.specs.ldap_fields as ldap_fields
-pub use Rattle.ldap_msg.specs as ldap_msg
+pub use Rattle.message_rules.specs.ldap_fields as ldap_fields
+pub use Rattle.message_rules.specs.ldap_msg as ldap_msg
+pub use Rattle.message_rules.specs as message_rules
 pub use Rattle.session_talk.specs as session_talk

@@ -1,59 +1,29 @@
 -- The messages that answer a request: RFC 4511 4.1.1 and 4.1.9. Results flow in; messages flow out.
-use Rattle.std.specs.Prelude.{◌≤◌, ◌^◌, ◌⊎◌, ℕ, List, [], ◌∷◌, ◌++◌, map, length, codes, decimal, false, Option, None, Some}
-use Rattle.ldap_msg.specs.ldap_parts.Values.{ControlValue}
-use Rattle.ldap_msg.specs.Messages.{SearchResultEntryValue, LdapResultValue, ResponseValue, search_entry, extended, response, MessageValue}
-use Rattle.ldap_msg.specs.Written.{message_content}
+use Rattle.std.specs.Prelude.{ℕ, List, [], ◌∷◌, ◌++◌, codes, Option, None, Some}
+use Rattle.message_rules.specs.ldap_msg.Messages.{LdapResultValue, extended, MessageValue}
 use Rattle.session_talk.specs.dir_store.Replies.{ReplyModel, only}
 use Rattle.session_talk.specs.dir_search.Answer.{Answer}
 use Rattle.session_talk.specs.Talk.{Looked, found, not_yet, gone, no_memory}
-use Rattle.session_rules.specs.Controls.{number_control}
-use Rattle.session_rules.specs.Requests.{response_to}
-use Rattle.session_rules.specs.declared.requests.Answering.{Answering}
-use Rattle.session_rules.specs.declared.requests.Answering.TheVariants.{Bind, Search, Modify, Add, Delete, ModifyDn, Compare, Extended}
-
--- a response with the messageID of its request, and controls
-abbrev pub message : ℕ → ResponseValue → List ControlValue → MessageValue
-message id r controls = record { id = id; op = response r; controls = controls }
+use Rattle.message_rules.specs.Messages.{message, number_told, value_for, entry_messages}
+use Rattle.message_rules.specs.Requests.{response_to}
+use Rattle.message_rules.specs.declared.requests.Answering.{Answering}
+use Rattle.message_rules.specs.declared.requests.Answering.TheVariants.{Search, Compare}
 
 -- a result that has a code and a matchedDN, and nothing else (RFC 4511 4.1.9)
 abbrev pub result_of : ReplyModel → LdapResultValue
 result_of r = record { code = r.code; matched_dn = r.matched; diagnostic_message = []; referral = [] }
 
--- referral (10) to one URI (RFC 4511 4.1.10)
-abbrev pub referral_to : List ℕ → LdapResultValue
-referral_to uri = record { code = 10; matched_dn = []; diagnostic_message = []; referral = uri ∷ [] }
-
 -- a code alone, in a response of this kind
 abbrev pub code_message : ℕ → Answering → ℕ → MessageValue
 code_message id answering code = message id (response_to answering (result_of (only code)) None) []
-
--- the control that tells a number, where the request named one
-abbrev pub number_told : Option ℕ → ℕ → List ControlValue
-number_told None number = []
-number_told (Some asked) number = record { control_type = number_control; criticality = false; value = Some (decimal number) } ∷ []
 
 -- a reply in a response of this kind, with a number where the request named one
 abbrev pub reply_message : ℕ → Answering → Option ℕ → ℕ → ReplyModel → MessageValue
 reply_message id answering asked number reply = message id (response_to answering (result_of reply) None) (number_told asked number)
 
--- the value of the response to the one update that is an extended request: its number
-abbrev pub value_for : Answering → ℕ → Option (List ℕ)
-value_for Bind number = None
-value_for Search number = None
-value_for Modify number = None
-value_for Add number = None
-value_for Delete number = None
-value_for ModifyDn number = None
-value_for Compare number = None
-value_for Extended number = Some (decimal number)
-
 -- the reply to an update that was made or refused under its number, with the number where the request named one
 abbrev pub done_message : ℕ → Answering → Option ℕ → ℕ → ReplyModel → MessageValue
 done_message id answering asked number reply = message id (response_to answering (result_of reply) (value_for answering number)) (number_told asked number)
-
--- the entries of an answer, each a message, in order (RFC 4511 4.5.2)
-abbrev pub entry_messages : ℕ → List SearchResultEntryValue → List MessageValue
-entry_messages id entries = map (λ (e : SearchResultEntryValue). message id (search_entry e) []) entries
 
 -- what a search ends with
 abbrev pub ended_by : Answer → ReplyModel
@@ -78,8 +48,3 @@ compare_messages id asked no_memory = code_message id Compare 80 ∷ []
 abbrev pub notice : MessageValue
 notice =
     message 0 (extended (record { result = result_of (only 2); response_name = Some (codes "1.3.6.1.4.1.1466.20036"); response_value = None })) []
-
--- some message has a content that no length of at most four octets can say
-abbrev pub HasTooLong : List MessageValue → Type 0
-HasTooLong [] = ⊥
-HasTooLong (m ∷ ms) = (2 ^ 32 ≤ length (message_content m)) ⊎ HasTooLong ms

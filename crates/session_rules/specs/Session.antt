@@ -3,24 +3,25 @@
 use Rattle.std.specs.Prelude.{ℕ, ◌+◌, max, List, [], ◌∷◌, Bool, false, true, cond, nat_lt, Option, None, Some, Result, Ok, Err}
 use Rattle.session_talk.specs.ldap_schema.Schema.{SchemaModel}
 use Rattle.session_talk.specs.ldap_dn.Names.{RdnModel}
-use Rattle.ldap_msg.specs.Messages.{SearchRequestValue, CompareRequestValue, LdapResultValue, RequestValue, bind, unbind, search, modify, add, delete, modify_dn, compare, abandon, extended_request, OperationValue, request, response, MessageValue}
+use Rattle.message_rules.specs.ldap_msg.Messages.{SearchRequestValue, CompareRequestValue, LdapResultValue, RequestValue, bind, unbind, search, modify, add, delete, modify_dn, compare, abandon, extended_request, OperationValue, request, response, MessageValue}
 use Rattle.session_talk.specs.ldap_op.Values.{OpValue}
 use Rattle.session_talk.specs.dir_store.Replies.{ReplyModel, only}
 use Rattle.session_talk.specs.dir_search.Answer.{Answer}
 use Rattle.session_talk.specs.Clients.{named_client}
 use Rattle.session_talk.specs.Talk.{Looked, RoleValue, primary, backup, changing, recovering, EndedValue, done, stale, lost, refused_memory}
 use Rattle.session_talk.specs.declared.client.Client.{Client}
-use Rattle.session_rules.specs.Numbers.{greatest}
-use Rattle.session_rules.specs.Controls.{judged}
-use Rattle.session_rules.specs.Binding.{bound}
-use Rattle.session_rules.specs.Requests.{update_of, kind_of, silence_of, answering_of, response_to}
-use Rattle.session_rules.specs.Responses.{message, result_of, referral_to, code_message, done_message, search_messages, compare_messages, notice}
-use Rattle.session_rules.specs.declared.identity.Identity.{Identity}
-use Rattle.session_rules.specs.declared.identity.Identity.TheVariants.{Anonymous, Manager}
-use Rattle.session_rules.specs.declared.bound.Bound.{Bound}
-use Rattle.session_rules.specs.declared.controls.Named.{Named}
-use Rattle.session_rules.specs.declared.requests.Answering.{Answering}
-use Rattle.session_rules.specs.declared.requests.Answering.TheVariants.{Bind, Search, Modify, Add, Delete, ModifyDn, Compare, Extended}
+use Rattle.message_rules.specs.Numbers.{greatest}
+use Rattle.message_rules.specs.Controls.{judged}
+use Rattle.message_rules.specs.Binding.{bound}
+use Rattle.message_rules.specs.Requests.{update_of, kind_of, answering_of, response_to}
+use Rattle.message_rules.specs.Messages.{message, referral_to}
+use Rattle.session_rules.specs.Responses.{result_of, code_message, done_message, search_messages, compare_messages, notice}
+use Rattle.message_rules.specs.declared.identity.Identity.{Identity}
+use Rattle.message_rules.specs.declared.identity.Identity.TheVariants.{Anonymous, Manager}
+use Rattle.message_rules.specs.declared.bound.Bound.{Bound}
+use Rattle.message_rules.specs.declared.controls.Named.{Named}
+use Rattle.message_rules.specs.declared.requests.Answering.{Answering}
+use Rattle.message_rules.specs.declared.requests.Answering.TheVariants.{Bind, Search, Modify, Add, Delete, ModifyDn, Compare, Extended}
 use Rattle.session_rules.specs.declared.state.State.{State}
 use Rattle.session_rules.specs.declared.answered.Next.{Next}
 use Rattle.session_rules.specs.declared.answered.Next.TheVariants.{GoesOn, Unbound, Disconnected}
@@ -41,6 +42,19 @@ pub record Reaction : Type 0 where
   pub state : State
   pub responses : List MessageValue
   pub next : Next
+
+-- What has no response: an unbind, which ends the session, and an abandon, which does nothing (RFC 4511 4.3, 4.11).
+abbrev pub silence_of : RequestValue → Option Next
+silence_of (bind b) = None
+silence_of unbind = Some Unbound
+silence_of (search q) = None
+silence_of (modify m) = None
+silence_of (add a) = None
+silence_of (delete name) = None
+silence_of (modify_dn m) = None
+silence_of (compare c) = None
+silence_of (abandon id) = Some GoesOn
+silence_of (extended_request x) = None
 
 -- no response
 abbrev pub silent : State → Next → Reaction

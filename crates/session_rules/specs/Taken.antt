@@ -1,17 +1,17 @@
 -- What a message was taken for. What the code answered, and the state and the directory after it, flow in; which turn of a session that was
 -- flows out.
 use Rattle.std.specs.Prelude.{◌≡◌, ◌⊎◌, List, map, Result, IfOk, OnOk, OnErr, IsErrOf}
-use Rattle.ldap_msg.specs.Messages.{MessageValue}
-use Rattle.ldap_msg.specs.Written.{message_bytes}
+use Rattle.message_rules.specs.ldap_msg.Messages.{MessageValue}
+use Rattle.message_rules.specs.ldap_msg.Written.{message_bytes}
 use Rattle.session_talk.specs.Talk.{Exchange, Along}
-use Rattle.session_rules.specs.Responses.{HasTooLong}
+use Rattle.message_rules.specs.Messages.{HasTooLong}
 use Rattle.session_rules.specs.Session.{Reaction}
-use Rattle.session_rules.specs.declared.identity.Identity.TheVariants.{Anonymous}
+use Rattle.message_rules.specs.declared.identity.Identity.TheVariants.{Anonymous}
 use Rattle.session_rules.specs.declared.state.State.{State}
 use Rattle.session_rules.specs.declared.answered.Answered.{Answered}
 use Rattle.session_rules.specs.declared.answered.Next.{Next}
-use Rattle.session_rules.specs.declared.fault.AnswerError.{AnswerError}
-use Rattle.session_rules.specs.declared.fault.AnswerError.TheVariants.{TooLong}
+use Rattle.message_rules.specs.declared.fault.AnswerError.{AnswerError}
+use Rattle.message_rules.specs.declared.fault.AnswerError.TheVariants.{TooLong}
 
 -- These responses are answered, each in its one written form, and the session goes on or ends as said. TooLong only where one of them is too
 -- long; want of memory is the only other error.

@@ -1,17 +1,17 @@
 -- Sessions along a talk. Messages and the questions with their answers flow in, in turn; the session after them and all responses flow out.
 use Rattle.std.specs.Prelude.{◌≡◌, ◌⊎◌, ℕ, List, [], ◌∷◌, ◌++◌}
-use Rattle.ldap_msg.specs.Messages.{SearchRequestValue, CompareRequestValue, RequestValue, MessageValue}
+use Rattle.message_rules.specs.ldap_msg.Messages.{SearchRequestValue, CompareRequestValue, RequestValue, MessageValue}
 use Rattle.session_talk.specs.ldap_op.Values.{OpValue}
 use Rattle.session_talk.specs.dir_store.Replies.{ReplyModel}
 use Rattle.session_talk.specs.dir_search.Answer.{Answer}
 use Rattle.session_talk.specs.Talk.{Looked, RoleValue, EndedValue, Exchange, asked_role, learned, searched, compared, updated}
 use Rattle.session_talk.specs.declared.client.Client.{Client}
-use Rattle.session_rules.specs.Requests.{answering_of}
+use Rattle.message_rules.specs.Requests.{answering_of}
 use Rattle.session_rules.specs.Session.{ConfigValue, Reaction, at_once, after_role, due, Asked, nothing, a_search, a_compare, an_update, asked, after_search, after_compare, after_update, asked_state}
 use Rattle.session_rules.specs.declared.answered.Next.{Next}
 use Rattle.session_rules.specs.declared.answered.Next.TheVariants.{GoesOn}
-use Rattle.session_rules.specs.declared.controls.Named.{Named}
-use Rattle.session_rules.specs.declared.requests.Answering.{Answering}
+use Rattle.message_rules.specs.declared.controls.Named.{Named}
+use Rattle.message_rules.specs.declared.requests.Answering.{Answering}
 use Rattle.session_rules.specs.declared.state.State.{State}
 
 -- What a request of this kind comes to, along what is asked for it: nothing, since it has its reaction, or one question, whose answer gives

@@ -1,16 +1,16 @@
 //! What a message is before anything is asked. A message flows in; a reaction that needs no question, or a request that has passed its
 //! controls, flows out. Questions are not here.
 ghost use Rattle.std.specs.Prelude.{◌≡◌, None, map};
-ghost use Rattle.ldap_msg.specs.Messages.{request as request_operation};
-ghost use Rattle.ldap_msg.specs.View.{view, request_view, control_view};
+ghost use Rattle.message_rules.specs.ldap_msg.Messages.{request as request_operation};
+ghost use Rattle.message_rules.specs.ldap_msg.View.{view, request_view, control_view};
 ghost use Rattle.session_rules.specs.Heard.{IsHeard};
-ghost use Rattle.session_rules.specs.Requests.{silence_of};
+ghost use Rattle.session_rules.specs.Session.{silence_of};
 
 use crate::answered::Next;
-use crate::controls::judge;
 use crate::pending::Pending;
-use crate::requests::{Answering, answering_of, kind_of, silence_of};
-use ldap_msg::{Control, Message, ProtocolOp, Request, ResultCode};
+use message_rules::{
+    Answering, Control, Message, ProtocolOp, Request, ResultCode, answering_of, judge, kind_of,
+};
 
 /// What a message is before anything is asked.
 #[derive(Debug, Drop)]
@@ -32,6 +32,24 @@ pub enum Heard {
         pending: Pending,
         request: Request,
     },
+}
+
+/// What becomes of the session at a request that has no response; none, where it has one.
+fn silence_of(request: &Request) -> Option<Next>
+    ensures { result ≡ silence_of (request_view request.now) }
+{
+    match request {
+        Request::Unbind => Some(Next::Unbound),
+        Request::Abandon(_) => Some(Next::GoesOn),
+        Request::Bind(_)
+        | Request::Search(_)
+        | Request::Modify(_)
+        | Request::Add(_)
+        | Request::Delete(_)
+        | Request::ModifyDn(_)
+        | Request::Compare(_)
+        | Request::Extended(_) => None,
+    }
 }
 
 /// A request with a response, by its controls.

@@ -1,7 +1,6 @@
 //! A request that waits for its answer. Nothing flows in; plain data flows out. What it asks for is not here.
 
-use crate::controls::Named;
-use crate::requests::Answering;
+use message_rules::{Answering, Named};
 
 /// A request that waits for its answer: what its response needs.
 #[derive(Clone, Copy, Debug)]

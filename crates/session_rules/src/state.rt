@@ -2,8 +2,7 @@
 ghost use Rattle.std.specs.Prelude.{◌≡◌};
 ghost use Rattle.session_rules.specs.Session.{at_first, named_number};
 
-use crate::controls::Named;
-use crate::identity::Identity;
+use message_rules::{Identity, Named};
 
 /// A session's state.
 #[derive(Clone, Copy, Debug, PartialEq, Eq)]

@@ -1,28 +1,27 @@
 //! A message taken: what a session makes of it. A message and a directory flow in; the octets of the responses flow out, and the session's
 //! state and the directory after it stay. Streams of octets are not here.
 ghost use Rattle.std.specs.Prelude.{◌≡◌, ◌∷◌, [], true, None};
-ghost use Rattle.ldap_msg.specs.View.{view, request_view, bind_view, search_view, compare_view};
+ghost use Rattle.message_rules.specs.ldap_msg.View.{view, request_view, bind_view, search_view, compare_view};
 ghost use Rattle.session_talk.specs.Talk.{RoleValue, Along, asked_role, learned, recovering};
 ghost use Rattle.session_talk.specs.View.{role_view};
-ghost use Rattle.session_rules.specs.Binding.{bound};
-ghost use Rattle.session_rules.specs.Requests.{update_of, answering_of};
+ghost use Rattle.message_rules.specs.Binding.{bound};
+ghost use Rattle.message_rules.specs.Requests.{update_of, answering_of};
 ghost use Rattle.session_rules.specs.Session.{a_search, a_compare, asked, asked_of, bound_reaction, named_number, is_recovering};
 ghost use Rattle.session_rules.specs.Taken.{IsDone, HasTaken};
 ghost use Rattle.session_rules.specs.Turns.{Outcome, Inquiry, Turn};
 ghost use Rattle.session_rules.specs.View.{config_view};
 
 use crate::answered::{Answered, Next};
-use crate::binding::bind;
 use crate::config::Config;
-use crate::fault::AnswerError;
 use crate::hearing::{Heard, hear};
-use crate::identity::Identity;
 use crate::pending::Pending;
-use crate::requests::{Answering, update_in};
 use crate::responses::{disconnect, say_code, say_compare, say_search, silence};
 use crate::state::State;
 use crate::updating::{ask_update, refuse};
-use ldap_msg::{BindRequest, CompareRequest, Message, Request, ResultCode, SearchRequest};
+use message_rules::{
+    AnswerError, Answering, BindRequest, CompareRequest, Identity, Message, Request, ResultCode,
+    SearchRequest, bind, update_in,
+};
 use session_talk::{Gate, Look, Role};
 use std::alloc::Global;
 

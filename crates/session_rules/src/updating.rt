@@ -4,7 +4,8 @@ ghost use Rattle.std.specs.Prelude.{◌≡◌, ◌+◌, ◌∷◌, [], string_by
 ghost use Rattle.session_talk.specs.dir_store.View.{reply_view};
 ghost use Rattle.session_talk.specs.ldap_op.View.{update_view};
 ghost use Rattle.session_talk.specs.View.{role_view, ended_view};
-ghost use Rattle.session_rules.specs.Responses.{referral_to, done_message};
+ghost use Rattle.message_rules.specs.Messages.{referral_to};
+ghost use Rattle.session_rules.specs.Responses.{done_message};
 ghost use Rattle.session_rules.specs.Session.{an_update, refused, refused_with, identity_refused, after_update, requests_after, update_as, update_at, update_by};
 ghost use Rattle.session_rules.specs.Taken.{AreSaid, IsDone, HasTaken};
 ghost use Rattle.session_rules.specs.Turns.{Outcome};
@@ -12,16 +13,12 @@ ghost use Rattle.session_rules.specs.View.{config_view};
 
 use crate::answered::{Answered, Next};
 use crate::config::Config;
-use crate::fault::AnswerError;
-use crate::identity::Identity;
-use crate::numbers::GREATEST;
 use crate::pending::Pending;
-use crate::requests::Answering;
-use crate::responses::{
-    referral_to, response_to, result_of, say, say_code, say_numbered, value_for,
-};
+use crate::responses::{result_of, say, say_code, say_numbered};
 use crate::state::State;
-use ldap_msg::ResultCode;
+use message_rules::{
+    AnswerError, Answering, GREATEST, Identity, ResultCode, referral_to, response_to, value_for,
+};
 use session_talk::{Client, Ended, Gate, Reply, Role, Update};
 use std::alloc::Global;
 

@@ -1,5 +1,5 @@
 use Rattle.std.proofs.Common.{◌≡◌, ◌++◌}
-use Rattle.dir_entry.specs.Compared.{picked}
+use Rattle.dir_entry.specs.Picked.{picked}
 use Rattle.dir_entry.proofs.attribute.pick.Given as goal
 
 abbrev pub invariant-loop-item : goal.invariant-loop-item

@@ -1,6 +1,6 @@
 use Rattle.std.proofs.Common.{◌≡◌, [], drop, map}
 use Rattle.ldap_updates.specs.ldap_parts.View.{attribute_view}
-use Rattle.dir_entry.specs.Entry.{attributes_of, IsKeyedBy}
+use Rattle.entry_changes.specs.dir_entry.Entry.{attributes_of, IsKeyedBy}
 use Rattle.entry_updates.specs.Adding.{with_all_given}
 use Rattle.entry_updates.proofs.adding.entry_given.Given as goal
 

@@ -1,6 +1,6 @@
 use Rattle.std.proofs.Common.{◌≡◌, drop, map}
 use Rattle.ldap_updates.specs.View.{change_view}
-use Rattle.dir_entry.specs.Entry.{attributes_of, IsKeyedBy}
+use Rattle.entry_changes.specs.dir_entry.Entry.{attributes_of, IsKeyedBy}
 use Rattle.entry_updates.specs.Modifying.{all_changed}
 use Rattle.entry_updates.proofs.modifying.change_all.Given as goal
 

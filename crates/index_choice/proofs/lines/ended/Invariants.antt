@@ -1,5 +1,5 @@
 use Rattle.std.proofs.Common.{◌≡◌, ◌++◌, map, drop}
-use Rattle.ldap_match.specs.schema_text.Texts.{without_return}
+use Rattle.schema_text.specs.Texts.{without_return}
 use Rattle.index_choice.proofs.lines.ended.Given as goal
 
 abbrev pub invariant-loop-part : goal.invariant-loop-part

@@ -1,6 +1,6 @@
 use Rattle.std.proofs.Common.{◌≡◌, map, drop}
 use Rattle.std.specs.List.{list_all}
-use Rattle.ldap_match.specs.schema_text.Words.{is_number}
+use Rattle.schema_text.specs.Words.{is_number}
 use Rattle.index_choice.proofs.words.are_numbers.Given as goal
 
 abbrev pub invariant-loop-part : goal.invariant-loop-part

@@ -1,8 +1,8 @@
 use Rattle.std.proofs.Common.{ap, map, Err, Vec, Global, ℕ, List}
 use Rattle.std.proofs.lemmas.Result.{err_from_is_err_and}
-use Rattle.ldap_msg.specs.Messages.{ResponseValue}
-use Rattle.ldap_msg.specs.View.{entry_view, response_view}
-use Rattle.session_rules.specs.Responses.{message, number_told, entry_messages}
+use Rattle.message_rules.specs.ldap_msg.Messages.{ResponseValue}
+use Rattle.message_rules.specs.ldap_msg.View.{entry_view, response_view}
+use Rattle.message_rules.specs.Messages.{message, number_told, entry_messages}
 use Rattle.session_rules.specs.declared.answered.Next.TheVariants.{GoesOn}
 use Rattle.session_rules.proofs.EntryLists.{said_error, too_long_front, said_last}
 use Rattle.session_rules.proofs.responses.say_found.Goals as goal

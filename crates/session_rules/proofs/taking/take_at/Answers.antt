@@ -1,5 +1,5 @@
 use Rattle.std.proofs.Common.{sym}
-use Rattle.ldap_msg.specs.View.{request_view}
+use Rattle.message_rules.specs.ldap_msg.View.{request_view}
 use Rattle.session_talk.specs.View.{role_view}
 use Rattle.session_rules.specs.View.{config_view}
 use Rattle.session_rules.proofs.Turning.{nothing_asked, recovering_asks}

@@ -1,5 +1,5 @@
 use Rattle.std.proofs.Common.{ℕ, refl, ap}
-use Rattle.ldap_msg.specs.View.{compare_view}
+use Rattle.message_rules.specs.ldap_msg.View.{compare_view}
 use Rattle.session_rules.specs.Session.{a_compare}
 use Rattle.session_rules.proofs.Turning.{said_is_done, one_compare, same_question}
 use Rattle.session_rules.proofs.taking.take_compare.Goals as goal

@@ -1,6 +1,6 @@
 use Rattle.std.proofs.Common.{refl, ap}
-use Rattle.ldap_msg.specs.View.{request_view, extended_request_view}
-use Rattle.ldap_msg.specs.declared.message.Request.{Request}
+use Rattle.message_rules.specs.ldap_msg.View.{request_view, extended_request_view}
+use Rattle.message_rules.specs.ldap_msg.declared.message.Request.{Request}
 use Rattle.session_rules.specs.Session.{asked_of}
 use Rattle.session_rules.specs.View.{config_view}
 use Rattle.session_rules.proofs.Turning.{said_is_done, nothing_asked, other_asks}

@@ -1,5 +1,5 @@
 use Rattle.std.proofs.Common.{ℕ, refl, ap}
-use Rattle.ldap_msg.specs.View.{search_view}
+use Rattle.message_rules.specs.ldap_msg.View.{search_view}
 use Rattle.session_rules.specs.Session.{a_search}
 use Rattle.session_rules.proofs.Turning.{said_is_done, one_search, same_question}
 use Rattle.session_rules.proofs.taking.take_search.Goals as goal

@@ -1,6 +1,6 @@
 use Rattle.std.proofs.Common.{ap}
-use Rattle.ldap_msg.specs.Messages.{RequestValue}
-use Rattle.ldap_msg.specs.View.{request_view}
+use Rattle.message_rules.specs.ldap_msg.Messages.{RequestValue}
+use Rattle.message_rules.specs.ldap_msg.View.{request_view}
 use Rattle.session_talk.specs.View.{role_view}
 use Rattle.session_rules.specs.Session.{asked_of}
 use Rattle.session_rules.specs.View.{config_view}

@@ -1,7 +1,7 @@
 use Rattle.std.proofs.Common.{◌≡◌, false, nat_lt, arith}
 use Rattle.std.proofs.lemmas.Bool.Decides.{nat_tests}
 use Rattle.session_talk.specs.ldap_op.View.{update_view}
-use Rattle.session_rules.specs.Numbers.{greatest}
+use Rattle.message_rules.specs.Numbers.{greatest}
 use Rattle.session_rules.specs.View.{config_view}
 use Rattle.session_rules.proofs.Turning.{nothing_asked, own_used}
 use Rattle.session_rules.proofs.updating.ask_as_own.Goals as goal

@@ -3,7 +3,7 @@ use Rattle.session_talk.specs.ldap_op.View.{update_view}
 use Rattle.session_talk.specs.View.{role_view}
 use Rattle.session_rules.specs.Session.{update_by}
 use Rattle.session_rules.specs.View.{config_view}
-use Rattle.session_rules.specs.declared.identity.Identity.{Identity}
+use Rattle.message_rules.specs.declared.identity.Identity.{Identity}
 use Rattle.session_rules.proofs.Turning.{nothing_asked}
 use Rattle.session_rules.proofs.updating.ask_update.Goals as goal
 

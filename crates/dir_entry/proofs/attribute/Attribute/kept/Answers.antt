@@ -1,6 +1,6 @@
 use Rattle.std.proofs.Common.{ℕ, Vec, Global, map, ap, ◌∙◌}
 use Rattle.dir_entry.specs.Entry.{KeyedAttribute}
-use Rattle.dir_entry.specs.Compared.{picked}
+use Rattle.dir_entry.specs.Picked.{picked}
 use Rattle.dir_entry.proofs.Picked.{map_picked}
 use Rattle.dir_entry.proofs.attribute.Attribute.kept.Goals as goal
 

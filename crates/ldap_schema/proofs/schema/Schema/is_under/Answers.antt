@@ -13,13 +13,13 @@ returns-then-eq-clause-chain c =
 
 pub returns-else-eq-clause-table : goal.returns-else-eq-clause-table
 returns-else-eq-clause-table c =
-    under_table c.self.inside.types.items (map (λ (v : Vec ℕ Global). v.items) c.as_slice.result.now) c.args.below c.args.above c.is_among.result c.superiors_at.result.now
-    c.if-eq.ensures c.is_among.ensures c.superiors_at.ensures (ap (map (λ (v : Vec ℕ Global). v.items)) c.as_slice.ensures.value ∙ c.self.invariant.superiors_are)
+    under_table c.self.inside.types.items (map (λ (v : Vec ℕ Global). v.items) c.as_slice.result.now) c.args.below c.args.above c.is_type_among.result c.superiors_at.result.now
+    c.if-eq.ensures c.is_type_among.ensures c.superiors_at.ensures (ap (map (λ (v : Vec ℕ Global). v.items)) c.as_slice.ensures.value ∙ c.self.invariant.superiors_are)
     ∙ ap (λ (s : SchemaModel). is_under s c.args.below c.args.above) c.self.view_is
 
 pub returns-else-eq-clause-chain : goal.returns-else-eq-clause-chain
 returns-else-eq-clause-chain c =
-    as_chain c.args.self.now c.args.below c.args.above c.is_among.result (loopless _ _ c.self.view_is c.self.invariant.loopless)
-    (under_table c.self.inside.types.items (map (λ (v : Vec ℕ Global). v.items) c.as_slice.result.now) c.args.below c.args.above c.is_among.result c.superiors_at.result.now
-    c.if-eq.ensures c.is_among.ensures c.superiors_at.ensures (ap (map (λ (v : Vec ℕ Global). v.items)) c.as_slice.ensures.value ∙ c.self.invariant.superiors_are)
+    as_chain c.args.self.now c.args.below c.args.above c.is_type_among.result (loopless _ _ c.self.view_is c.self.invariant.loopless)
+    (under_table c.self.inside.types.items (map (λ (v : Vec ℕ Global). v.items) c.as_slice.result.now) c.args.below c.args.above c.is_type_among.result c.superiors_at.result.now
+    c.if-eq.ensures c.is_type_among.ensures c.superiors_at.ensures (ap (map (λ (v : Vec ℕ Global). v.items)) c.as_slice.ensures.value ∙ c.self.invariant.superiors_are)
     ∙ ap (λ (s : SchemaModel). is_under s c.args.below c.args.above) c.self.view_is)

@@ -1,6 +1,0 @@
-use Rattle.std.proofs.Common.{◌∙◌}
-use Rattle.dir_entry.proofs.Placed.{place_shown}
-use Rattle.dir_entry.proofs.placing.place.Goals as goal
-
-pub returns : goal.returns
-returns c = c.count_before.ensures ∙ place_shown c.args.type_id c.args.attributes.now

@@ -1,0 +1,5 @@
+pub mod Marked
+pub mod Held
+pub mod Placed
+pub mod Edited
+pub mod Joined

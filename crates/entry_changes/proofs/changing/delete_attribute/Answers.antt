@@ -1,0 +1,8 @@
+use Rattle.std.proofs.Common.{List, sym, subst}
+use Rattle.dir_entry.specs.Entry.{KeyedAttribute, IsKeyedBy}
+use Rattle.entry_changes.proofs.changing.delete_attribute.Goals as goal
+
+pub returns-clause-keyed : goal.returns-clause-keyed
+returns-clause-keyed c = λ s h.
+    subst (λ (e : List KeyedAttribute). IsKeyedBy s e) (sym c.from_attributes.ensures)
+    (c.take_attribute-others.ensures.keyed s (subst (λ (e : List KeyedAttribute). IsKeyedBy s e) (sym c.into_attributes.ensures) h))

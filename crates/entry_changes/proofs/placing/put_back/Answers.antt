@@ -1,0 +1,13 @@
+use Rattle.std.proofs.Common.{ℕ, Vec, Global, ap, ◌∙◌, subst, sym}
+use Rattle.std.proofs.lemmas.Result.{IfOk-weaker}
+use Rattle.dir_entry.specs.Entry.{attributes_of, IsKeyedBy}
+use Rattle.entry_changes.proofs.Placed.{put_shown, keyed_inserted}
+use Rattle.entry_changes.proofs.placing.put_back.Goals as goal
+
+pub returns-clause-shown : goal.returns-clause-shown
+returns-clause-shown c = IfOk-weaker c.insert_attribute.result _ _
+    (λ v e. ap attributes_of e ∙ put_shown (λ (w : Vec ℕ Global). w.items) c.args.place c.args.attributes.items c.args.attribute c.values.result.now c.values.ensures c.if-is_empty.ensures) c.insert_attribute.ensures
+
+pub returns-clause-keyed : goal.returns-clause-keyed
+returns-clause-keyed c = λ s. IfOk-weaker c.insert_attribute.result _ _
+    (λ v e k h. subst (IsKeyedBy s) (sym e) (keyed_inserted s c.args.place c.args.attributes.items c.args.attribute h k)) c.insert_attribute.ensures

@@ -1,0 +1,87 @@
+// The structural object class (RFC 4512 2.4.2). A schema, classes and entries flow in; the lowest class of the one chain, or whether it is
+// another one than before, flows out. What must not be here: what classes demand.
+
+ghost use Rattle.std.specs.Prelude.{◌≡◌, IfOk, filter};
+ghost use Rattle.std.specs.List.{list_all};
+ghost use Rattle.dir_entry.specs.ldap_schema.Superclasses.{is_subclass as is_class_under};
+ghost use Rattle.dir_entry.specs.Entry.{attributes_of};
+ghost use Rattle.entry_classes.specs.Classes.{class_values as values_of_object_class, classes_named as classes_that_values_name};
+ghost use Rattle.entry_classes.specs.Structural.{first_of, structural_class as structural_class_of, is_other_than, changes_class};
+
+use crate::classes::classes_named;
+use crate::obeying::{class_values, is_one_chain, structural_of};
+use dir_entry::{Attribute, ClassId, Entry, Schema};
+use std::alloc::{AllocError, Global};
+
+/// Whether the class is under each of the others, or is it.
+fn is_under_all(schema: &Schema, class: ClassId, others: &[ClassId]) -> bool
+    ensures { result ≡ list_all (is_class_under schema.now class) others.now }
+{
+    others.iter().all(|other| schema.is_subclass(class, *other))
+}
+
+/// The first of the classes that is under each of the others.
+fn lowest_among(schema: &Schema, classes: &[ClassId], others: &[ClassId]) -> Option<ClassId>
+    ensures { result ≡ first_of (filter (λ c. list_all (is_class_under schema.now c) others.now) classes.now) }
+{
+    for class in classes {
+        if is_under_all(schema, *class, others) {
+            return Some(*class);
+        }
+    }
+    None
+}
+
+/// The structural object class: the lowest class of the one chain; none, where there is no one chain.
+fn structural_class(
+    alloc: Global,
+    schema: &Schema,
+    classes: &[ClassId],
+) -> Result<Option<ClassId>, AllocError>
+    ensures { IfOk result (λ c. c ≡ structural_class_of schema.now classes.now) }
+{
+    if !is_one_chain(alloc, schema, classes)? {
+        return Ok(None);
+    }
+    let structural = structural_of(alloc, schema, classes)?;
+    Ok(lowest_among(schema, structural.as_slice(), structural.as_slice()))
+}
+
+/// The structural object class of attributes.
+fn structural_class_among(
+    alloc: Global,
+    schema: &Schema,
+    attributes: &[Attribute],
+) -> Result<Option<ClassId>, AllocError>
+    ensures { IfOk result (λ c. c ≡ structural_class_of schema.now (classes_that_values_name schema.now (values_of_object_class schema.now (attributes_of attributes.now)))) }
+{
+    let classes = classes_named(alloc, schema, class_values(schema, attributes))?;
+    structural_class(alloc, schema, classes.as_slice())
+}
+
+/// Whether a class is there, and it is another than the one before.
+fn is_other(class: Option<ClassId>, before: Option<ClassId>) -> bool
+    ensures { result ≡ is_other_than class before }
+{
+    match class {
+        None => false,
+        Some(class) => match before {
+            None => true,
+            Some(before) => class != before,
+        },
+    }
+}
+
+/// Whether the entry's structural object class is another one than before.
+pub fn is_of_another_class(
+    alloc: Global,
+    schema: &Schema,
+    entry: &Entry,
+    before: &Entry,
+) -> Result<bool, AllocError>
+    ensures { IfOk result (λ b. b ≡ changes_class schema.now (attributes_of before.now) (attributes_of entry.now)) }
+{
+    let class = structural_class_among(alloc, schema, entry.attributes())?;
+    let class_before = structural_class_among(alloc, schema, before.attributes())?;
+    Ok(is_other(class, class_before))
+}

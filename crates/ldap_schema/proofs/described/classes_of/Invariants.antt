@@ -1,6 +1,0 @@
-use Rattle.std.proofs.Common.{◌≡◌, ◌++◌, map, drop}
-use Rattle.ldap_schema.specs.Described.{class_of}
-use Rattle.ldap_schema.proofs.described.classes_of.Given as goal
-
-abbrev pub invariant-loop-description : goal.invariant-loop-description
-invariant-loop-description l = l.found.items ++ map (class_of l.text) (drop l.description-index l.classes) ≡ map (class_of l.text) l.classes

@@ -1,6 +1,0 @@
-use Rattle.std.proofs.Common.{◌≡◌, ◌++◌, drop}
-use Rattle.ldap_schema.specs.Described.{types_from}
-use Rattle.ldap_schema.proofs.described.types_of.Given as goal
-
-abbrev pub invariant-loop-number : goal.invariant-loop-number
-invariant-loop-number l = l.found.items ++ types_from l.types l.number (drop l.number l.types) ≡ types_from l.types 0 l.types

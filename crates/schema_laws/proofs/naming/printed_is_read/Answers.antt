@@ -1,0 +1,5 @@
+use Rattle.schema_laws.proofs.PrintedAgain.{printed_read}
+use Rattle.schema_laws.proofs.naming.printed_is_read.Goals as goal
+
+pub returns : goal.returns
+returns c = printed_read

@@ -1,0 +1,5 @@
+use Rattle.schema_laws.proofs.ReadNames.{read_again}
+use Rattle.schema_laws.proofs.naming.read_names_are_read_again.Goals as goal
+
+pub returns : goal.returns
+returns c = read_again

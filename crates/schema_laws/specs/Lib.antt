@@ -1,0 +1,2 @@
+pub mod PrintedRead
+pub mod Ruled

@@ -1,0 +1,10 @@
+// A law of the built-in types. Nothing flows in or out.
+// What must not be here: values, filters.
+
+ghost use Rattle.schema_reader.specs.BuiltIn.{built_in};
+ghost use Rattle.schema_laws.specs.Ruled.{HaveRulesOfOneFamily};
+
+/// Each built-in type has the ORDERING and the SUBSTR rule that its description gives: the rules of a type are of one family.
+pub fn built_in_rules_are_of_one_family()
+    ensures { HaveRulesOfOneFamily built_in.types }
+{}

@@ -1,0 +1,4 @@
+pub mod AsText
+pub mod Loops
+pub mod Judged
+pub mod BuiltInText

@@ -1,0 +1,5 @@
+use Rattle.schema_reader.proofs.BuiltInText.{text_is_table}
+use Rattle.schema_reader.proofs.reading.built_in_is_its_text.Goals as goal
+
+pub returns : goal.returns
+returns c = text_is_table

@@ -1,0 +1,144 @@
+// What is wrong with the types and classes of a text. Types, classes and descriptions flow in, numbers of lines flow out.
+// What must not be here: the reading of descriptions.
+
+ghost use Rattle.std.specs.Prelude.{◌≡◌, IfOk, slice_get};
+ghost use Rattle.schema_meaning.specs.Faults.{first_of_types};
+ghost use Rattle.schema_reader.specs.Reading as reading;
+
+use ldap_schema::{
+    AttributeType, ClassId, ObjectClass, TypeId, class_called, is_class_among, is_type_among,
+    superclasses_of, superiors, type_called, with_superclasses,
+};
+use schema_meaning::{Description, Family, Rule, SchemaText, Syntax};
+use std::alloc::{AllocError, Global};
+
+/// Whether the rule is objectIdentifierMatch on its syntax.
+fn is_identifier_rule(rule: Option<Rule>) -> bool
+    ensures { result ≡ reading.is_identifier_rule rule }
+{
+    match rule {
+        None => false,
+        Some(rule) => match rule.syntax {
+            Syntax::ObjectIdentifier => rule.family == Family::Identifier,
+            Syntax::Boolean
+            | Syntax::DistinguishedName
+            | Syntax::DirectoryString
+            | Syntax::GeneralizedTime
+            | Syntax::Ia5String
+            | Syntax::Integer
+            | Syntax::NumericString
+            | Syntax::OctetString
+            | Syntax::TelephoneNumber => false,
+        },
+    }
+}
+
+/// Whether the type of a number has objectIdentifierMatch.
+fn has_identifier_rule(types: &[AttributeType], type_id: TypeId) -> bool
+    ensures { result ≡ reading.has_identifier_rule (slice_get types.now type_id) }
+{
+    match types.get(type_id.number()) {
+        None => false,
+        Some(found) => is_identifier_rule(found.equality()),
+    }
+}
+
+/// The type objectClass, if it is there with objectIdentifierMatch.
+pub fn object_class_type(types: &[AttributeType]) -> Option<TypeId>
+    ensures { result ≡ reading.object_class_in types.now }
+{
+    let type_id = type_called(types, b"objectClass")?;
+    if has_identifier_rule(types, type_id) {
+        Some(type_id)
+    } else {
+        None
+    }
+}
+
+/// Whether the SUP of a type leads back to it.
+fn is_type_looping(
+    alloc: Global,
+    types: &[AttributeType],
+    type_id: TypeId,
+) -> Result<bool, AllocError>
+    ensures { IfOk result (λ b. b ≡ reading.is_type_looping types.now type_id) }
+{
+    let above = superiors(alloc, types, type_id)?;
+    Ok(is_type_among(above.as_slice(), type_id))
+}
+
+/// Whether the superclasses of a class lead back to it.
+fn is_class_looping(
+    alloc: Global,
+    classes: &[ObjectClass],
+    class: ClassId,
+) -> Result<bool, AllocError>
+    ensures { IfOk result (λ b. b ≡ reading.is_class_looping classes.now class) }
+{
+    let above = with_superclasses(alloc, classes, superclasses_of(classes, class))?;
+    Ok(is_class_among(above.as_slice(), class))
+}
+
+/// The line of the first type whose SUP leads back to it.
+pub fn type_loop(
+    alloc: Global,
+    types: &[AttributeType],
+    descriptions: &[Description],
+) -> Result<Option<usize>, AllocError>
+    ensures { IfOk result (λ o. o ≡ first_of_types (λ t d. reading.is_type_looping types.now t) 0 descriptions.now) }
+{
+    for (number, description) in descriptions.iter().enumerate() {
+        if is_type_looping(alloc, types, TypeId::new(number))? {
+            return Ok(Some(description.line()));
+        }
+    }
+    Ok(None)
+}
+
+/// The line of the first class whose superclasses lead back to it.
+pub fn class_loop(
+    alloc: Global,
+    classes: &[ObjectClass],
+    descriptions: &[Description],
+) -> Result<Option<usize>, AllocError>
+    ensures { IfOk result (λ o. o ≡ first_of_types (λ c d. reading.is_class_looping classes.now c) 0 descriptions.now) }
+{
+    for (number, description) in descriptions.iter().enumerate() {
+        if is_class_looping(alloc, classes, ClassId::new(number))? {
+            return Ok(Some(description.line()));
+        }
+    }
+    Ok(None)
+}
+
+/// Whether the type of a number has no EQUALITY rule.
+fn has_no_equality(types: &[AttributeType], number: usize) -> bool
+    ensures { result ≡ reading.has_no_equality (slice_get types.now number) }
+{
+    match types.get(number) {
+        None => false,
+        Some(found) => found.equality().is_none(),
+    }
+}
+
+/// The line of the first type without an EQUALITY rule.
+pub fn no_equality(types: &[AttributeType], descriptions: &[Description]) -> Option<usize>
+    ensures { result ≡ first_of_types (λ t d. reading.has_no_equality (slice_get types.now t)) 0 descriptions.now }
+{
+    for (number, description) in descriptions.iter().enumerate() {
+        if has_no_equality(types, number) {
+            return Some(description.line());
+        }
+    }
+    None
+}
+
+/// The type objectClass, if it is there with objectIdentifierMatch and the class top is there.
+pub fn required(types: &[AttributeType], classes: &[ObjectClass]) -> Option<TypeId>
+    ensures { result ≡ reading.required_in (record { types = types.now; classes = classes.now }) }
+{
+    match class_called(classes, b"top") {
+        Some(_) => object_class_type(types),
+        None => None,
+    }
+}
