@@ -2,6 +2,7 @@ pub mod Scopes
 pub mod Selection
 pub mod RootDse
 pub mod Answer
+pub mod Exact
 pub mod Compared
 pub mod Numbered
 pub mod Looks

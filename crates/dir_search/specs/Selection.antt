@@ -1,6 +1,6 @@
 -- Which attributes of an entry are shown: RFC 4511 4.5.1.8. A schema, selectors and an entry flow in; what is shown of the
 -- entry flows out.
-use Rattle.std.specs.Prelude.{ℕ, List, [], ◌∷◌, Bool, true, false, ◌||◌, if◌then◌else◌, map, filter, codes, Option, Some, None}
+use Rattle.std.specs.Prelude.{ℕ, List, [], ◌∷◌, Bool, true, false, not, ◌&&◌, ◌||◌, if◌then◌else◌, map, filter, codes, Option, Some, None}
 use Rattle.std.specs.List.{list_any}
 use Rattle.std.specs.Str.{bytes_eq}
 use Rattle.dir_store.specs.ldap_schema.Schema.{SchemaModel, TypeModel, find, is_under, type_at}
@@ -14,9 +14,9 @@ abbrev pub is_named_by : SchemaModel → ℕ → Option ℕ → Bool
 is_named_by s t None = false
 is_named_by s t (Some u) = is_under s t u
 
--- `*` selects every user attribute; `1.1` is no description, so that alone it selects none
+-- `*` selects every user attribute; `1.1` selects none, whatever the schema has under that identifier (RFC 4511 4.5.1.8)
 abbrev pub is_selected_by : SchemaModel → ℕ → List ℕ → Bool
-is_selected_by s t selector = bytes_eq selector (codes "*") || is_named_by s t (find s selector)
+is_selected_by s t selector = bytes_eq selector (codes "*") || (not (bytes_eq selector (codes "1.1")) && is_named_by s t (find s selector))
 
 -- No selector at all selects every user attribute.
 abbrev pub is_selected : SchemaModel → List (List ℕ) → ℕ → Bool

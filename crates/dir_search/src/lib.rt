@@ -4,6 +4,7 @@
 
 mod comparing;
 mod found;
+mod laws;
 mod root_dse;
 mod scoping;
 mod searching;
@@ -13,9 +14,10 @@ mod values;
 
 pub use comparing::compare;
 pub use dir_store::{
-    IndexError, Indexes, Name, NameError, Op, Reply, Schema, SchemaError, Store, Update, are_same,
+    IndexError, Indexes, Name, NameError, Op, Reply, Schema, Store, Update, are_same,
 };
 pub use found::SearchAnswer;
+pub use laws::success_is_exact;
 pub use ldap_msg::{
     AddRequest, Attribute, CompareRequest, DerefAliases, ResultCode, Scope, SearchRequest,
 };

@@ -18,6 +18,9 @@ fn is_selected_by_one(schema: &Schema, type_id: TypeId, selector: &str) -> bool
     if selector == "*" {
         return true;
     }
+    if selector == "1.1" {
+        return false;
+    }
     match schema.find(selector) {
         Some(named) => schema.is_under(type_id, named),
         None => false,

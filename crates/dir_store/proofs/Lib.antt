@@ -3,3 +3,5 @@ pub mod Listed
 pub mod Moves
 pub mod Shown
 pub mod Below
+pub mod Joins
+pub mod Rises

@@ -3,6 +3,8 @@ pub mod Listed
 pub mod Places
 pub mod Replies
 pub mod Updates
+pub mod Joins
+pub mod Order
 pub mod Stored
 pub mod View
 -- what layers above name of the crates below

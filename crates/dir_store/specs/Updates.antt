@@ -5,7 +5,7 @@ use Rattle.dir_tree.specs.ldap_dn.Names.{TypeAndValue, RdnModel, rdns}
 use Rattle.dir_tree.specs.ldap_dn.Texts.{name_of_text}
 use Rattle.dir_tree.specs.ldap_schema.Schema.{SchemaModel}
 use Rattle.dir_tree.specs.dir_entry.Entry.{AttributeModel}
-use Rattle.dir_tree.specs.dir_entry.Naming.{renamed}
+use Rattle.entry_updates.specs.Finishing.{renamed}
 use Rattle.entry_updates.specs.Adding.{attributes_asked}
 use Rattle.entry_updates.specs.Modifying.{attributes_changed}
 use Rattle.ldap_op.specs.ldap_parts.Values.{PartialAttributeValue}
@@ -188,3 +188,17 @@ directory_after d number (op ∷ ops) = directory_after (applied d (number + 1) 
 -- The directory of a list of updates, numbered from 1, under a schema and a suffix.
 abbrev pub directory_of : SchemaModel → List RdnModel → List OpValue → Directory
 directory_of s suffix ops = directory_after (record { schema = s; suffix = suffix; entries = [] }) 0 ops
+
+-- the replies to updates, one after the other, the first under the number that follows this one
+abbrev pub replies_after : Directory → ℕ → List OpValue → List ReplyModel
+replies_after d number [] = []
+replies_after d number (op ∷ ops) =
+    reply_to d (number + 1) op ∷ replies_after (applied d (number + 1) op) (number + 1) ops
+
+-- the directory without entries, under a schema and a suffix
+abbrev pub empty_directory : SchemaModel → List RdnModel → Directory
+empty_directory s suffix = record { schema = s; suffix = suffix; entries = [] }
+
+-- The replies to a list of updates, numbered from 1, under a schema and a suffix: the reply at a place is that of the update of this number.
+abbrev pub replies_of : SchemaModel → List RdnModel → List OpValue → List ReplyModel
+replies_of s suffix ops = replies_after (empty_directory s suffix) 0 ops

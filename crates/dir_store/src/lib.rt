@@ -7,6 +7,7 @@ mod deleting;
 mod fault;
 mod finding;
 mod indexed;
+mod laws;
 mod listing;
 mod modifying;
 mod names;
@@ -16,10 +17,11 @@ mod store;
 
 pub use dir_index::{IndexError, Indexes, Postings};
 pub use dir_tree::{
-    Attribute, Entry, EntryError, Name, NameError, NamedEntry, Rdn, Schema, SchemaError, Tree,
-    Truth, TypeId, are_same, is_of_syntax,
+    Attribute, Entry, EntryError, Name, NameError, NamedEntry, Rdn, Schema, Tree, Truth, TypeId,
+    are_same, is_of_syntax,
 };
 pub use indexed::IndexedTree;
+pub use laws::{entries_rise, updates_join};
 pub use ldap_op::{Op, Update};
 pub use reply::Reply;
 pub use store::Store;

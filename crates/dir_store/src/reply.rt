@@ -1,10 +1,10 @@
 //! Replies of updates. Nothing flows in; plain data flows out. Which check gives which reply is not here.
-ghost use Rattle.std.specs.Prelude.{◌≡◌};
+ghost use Rattle.std.specs.Prelude.{◌≡◌, IfOk};
 ghost use Rattle.dir_store.specs.Replies.{only as only_code};
 ghost use Rattle.dir_store.specs.View.{reply_view};
 
 use ldap_op::ResultCode;
-use std::alloc::Global;
+use std::alloc::{AllocError, Global};
 
 /// What an update is answered with (RFC 4511 4.1.9).
 #[derive(Debug, Drop)]
@@ -24,5 +24,16 @@ impl Reply {
             code,
             matched: String::new(alloc),
         }
+    }
+
+    /// An equal reply in memory of its own. Its only error is want of memory.
+    pub fn copy(&self, alloc: Global) -> Result<Reply, AllocError>
+        ensures { IfOk result (λ copied. reply_view copied ≡ reply_view self.now) }
+    {
+        let matched = String::from_str(alloc, &self.matched)?;
+        Ok(Reply {
+            code: self.code,
+            matched,
+        })
     }
 }

@@ -1,6 +1,7 @@
 //! The directory: a schema and a tree of entries, whose keys are those of the schema. Updates flow in; replies flow out, and the
 //! directory after them stays. What each update asks for is judged before anything changes.
 ghost use Rattle.std.specs.Prelude.{◌≡◌, ◌+◌, ◌++◌, ◌∷◌, [], map, Ok, IfOk, IfErr, IfSome, OnOk, OnErr, string_bytes};
+ghost use Rattle.std.specs.Arc.{arc_value};
 ghost use Rattle.std.specs.Option.{option_map};
 ghost use Rattle.dir_tree.specs.ldap_dn.Names.{rdns};
 ghost use Rattle.dir_tree.specs.ldap_dn.Printed.{printed_name};
@@ -29,12 +30,13 @@ use entry_updates::{AddRequest, ModifyDnRequest, ModifyRequest};
 use ldap_op::{Op, ResultCode, Update};
 use std::alloc::{AllocError, Global};
 use std::marker::Model;
+use std::sync::Arc;
 
 /// The directory under one schema: entries, each with the number of the update that added it, at and below one name; and the index choice under
 /// which they are listed.
 #[derive(Drop)]
 pub struct Store {
-    schema: Schema,
+    schema: Arc<Schema>,
     held: IndexedTree,
 }
 
@@ -44,15 +46,17 @@ impl Model for Store {
 
     ghost Value = { StoreModel };
 
-    ghost view = { λ s. record { directory = directory s.schema s.held.tree; indexes = s.held.indexes } };
+    ghost use Rattle.std.specs.Arc.{arc_value};
 
-    ghost invariant = { λ s. AreKeyedBy s.schema s.held.tree.entries };
+    ghost view = { λ s. record { directory = directory (arc_value s.schema) s.held.tree; indexes = s.held.indexes } };
+
+    ghost invariant = { λ s. AreKeyedBy (arc_value s.schema) s.held.tree.entries };
 }
 
 impl Store {
-    /// A directory without entries, whose root is to have this name.
-    pub fn new(alloc: Global, schema: Schema, indexes: Indexes, suffix: Name) -> Store
-        ensures { result ≡ record { directory = record { schema = schema; suffix = suffix; entries = [] }; indexes = indexes } }
+    /// A directory without entries, whose root is to have this name. The schema is shared with whoever else has it.
+    pub fn new(alloc: Global, schema: Arc<Schema>, indexes: Indexes, suffix: Name) -> Store
+        ensures { result ≡ record { directory = record { schema = arc_value schema; suffix = suffix; entries = [] }; indexes = indexes } }
     {
         Store {
             schema,

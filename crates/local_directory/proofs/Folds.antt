@@ -7,22 +7,20 @@ use Rattle.std.proofs.lemmas.Bool.Decides.{nat_tests}
 use Rattle.session_talk.specs.ldap_op.Values.{OpValue}
 use Rattle.session_talk.specs.dir_store.Directory.{Directory}
 use Rattle.session_talk.specs.dir_store.Replies.{ReplyModel}
-use Rattle.session_talk.specs.dir_store.Updates.{applied, reply_to, directory_after}
+use Rattle.session_talk.specs.dir_store.Updates.{reply_to, directory_after, replies_after}
 use Rattle.session_talk.specs.declared.client.Client.{Client}
 use Rattle.session_talk.specs.Talk.{EndedValue, done, stale, lost, refused_memory, Exchange, asked_role, learned, searched, compared, updated, Along, ends, goes}
 use Rattle.local_directory.specs.ClientOrder.{client_cmp}
 use Rattle.local_directory.specs.Latest.{KeptValue, Standing, older, repeated, newer, standing}
 use Rattle.local_directory.specs.Local.{LocalValue}
 use Rattle.local_directory.specs.Allows.{allows, Ends, outcome_by, made_as, unchanged, last_number}
-use Rattle.local_directory.specs.Made.{MadeUpdate, made_if, made_in, made_along, replies_after, ops_of, IsFold, IsKept, DirectoryIsFold}
+use Rattle.local_directory.specs.Made.{MadeUpdate, made_if, made_in, made_along, ops_of, IsFold, IsKept, DirectoryIsFold}
+use Rattle.session_talk.proofs.dir_search.dir_store.Joins.{after_join, replies_join}
 use Rattle.local_directory.proofs.Clients.{clients_total}
 use Rattle.local_directory.proofs.Ends.{same_number, same_reply, not_stale, not_lost}
 
 plus_none : (m : ℕ) → m ≡ m + 0
 plus_none m = omega arith
-
-one_later : (n l : ℕ) → n + 1 + l ≡ n + suc l
-one_later n l = omega arith
 
 through : (u t s a b x : ℕ) → u ≡ t + b → t ≡ s + a → x ≡ a + b → u ≡ s + x
 through u t s a b x e f g = omega (arith, e, f, g)
@@ -36,18 +34,6 @@ suc_more a b x e = omega (arith, e)
 length_join : {A : Type 0} (xs ys : List A) → length (xs ++ ys) ≡ length xs + length ys
 length_join [] ys = none_plus (length ys)
 length_join (x ∷ xs) ys = suc_more (length (xs ++ ys)) (length xs) (length ys) (length_join xs ys)
-
--- updates one after the other, and on over others
-after_join : (d : Directory) (n : ℕ) (ops more : List OpValue) → directory_after d n (ops ++ more) ≡ directory_after (directory_after d n ops) (n + length ops) more
-after_join d n [] more = ap (λ (k : ℕ). directory_after d k more) (plus_none n)
-after_join d n (u ∷ ops) more =
-    after_join (applied d (n + 1) u) (n + 1) ops more ∙ ap (λ (k : ℕ). directory_after (directory_after (applied d (n + 1) u) (n + 1) ops) k more) (one_later n (length ops))
-
-replies_join : (d : Directory) (n : ℕ) (ops more : List OpValue) → replies_after d n (ops ++ more) ≡ replies_after d n ops ++ replies_after (directory_after d n ops) (n + length ops) more
-replies_join d n [] more = ap (λ (k : ℕ). replies_after d k more) (plus_none n)
-replies_join d n (u ∷ ops) more =
-    ap (λ (rs : List ReplyModel). reply_to d (n + 1) u ∷ rs) (replies_join (applied d (n + 1) u) (n + 1) ops more
-    ∙ ap (λ (k : ℕ). replies_after (applied d (n + 1) u) (n + 1) ops ++ replies_after (directory_after (applied d (n + 1) u) (n + 1) ops) k more) (one_later n (length ops)))
 
 ops_length : (ms : List MadeUpdate) → length (ops_of ms) ≡ length ms
 ops_length [] = refl

@@ -3,9 +3,8 @@
 use Rattle.std.specs.Prelude.{◌≡◌, ℕ, ◌+◌, ◌≤◌, List, [], ◌∷◌, ◌++◌, map, length, cond, nat_eq, Some}
 use Rattle.std.specs.FinMap as fin
 use Rattle.session_talk.specs.ldap_op.Values.{OpValue}
-use Rattle.session_talk.specs.dir_store.Directory.{Directory}
 use Rattle.session_talk.specs.dir_store.Replies.{ReplyModel}
-use Rattle.session_talk.specs.dir_store.Updates.{applied, reply_to, directory_after}
+use Rattle.session_talk.specs.dir_store.Updates.{directory_after, replies_after}
 use Rattle.session_talk.specs.declared.client.Client.{Client}
 use Rattle.session_talk.specs.Talk.{EndedValue, done, stale, lost, refused_memory}
 use Rattle.session_talk.specs.Talk.{Exchange, asked_role, learned, searched, compared, updated, Along}
@@ -37,12 +36,6 @@ made_in number (updated client request op ended) = made_if number op ended
 abbrev pub made_along : ℕ → List (Exchange (Unit {0})) → List MadeUpdate
 made_along number [] = []
 made_along number (x ∷ xs) = made_in number x ++ made_along (number + length (made_in number x)) xs
-
--- the replies to updates, one after the other, the first under the number that follows this one
-abbrev pub replies_after : Directory → ℕ → List OpValue → List ReplyModel
-replies_after d number [] = []
-replies_after d number (op ∷ ops) =
-    reply_to d (number + 1) op ∷ replies_after (applied d (number + 1) op) (number + 1) ops
 
 -- the updates alone
 abbrev pub ops_of : List MadeUpdate → List OpValue

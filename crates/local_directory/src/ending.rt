@@ -12,7 +12,7 @@ ghost use Rattle.local_directory.specs.Local.{LocalValue};
 ghost use Rattle.local_directory.specs.View.{kept_view};
 
 use crate::client_table::ClientTable;
-use crate::kept::{Kept, copy_reply};
+use crate::kept::Kept;
 use session_talk::{Client, Ended};
 use std::alloc::Global;
 
@@ -21,7 +21,7 @@ fn ended_again(alloc: Global, kept: &Kept) -> Ended
     ensures { (d : LocalValue) →
         Ends (unchanged d (done kept.now.number (reply_view kept.now.reply))) d (ended_view result) d }
 {
-    match copy_reply(alloc, &kept.reply) {
+    match kept.reply.copy(alloc) {
         Ok(reply) => Ended::Done {
             number: kept.number,
             reply,

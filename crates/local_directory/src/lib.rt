@@ -14,5 +14,5 @@ pub use laws::{directory_is_fold, requests_are_made_once};
 pub use local::LocalDirectory;
 pub use session_talk::{
     AddRequest, Attribute, CompareRequest, DerefAliases, IndexError, Indexes, Name, NameError, Op,
-    Reply, Schema, SchemaError, Scope, SearchAnswer, SearchRequest, Store, Update,
+    Reply, Schema, Scope, SearchAnswer, SearchRequest, Store, Update,
 };

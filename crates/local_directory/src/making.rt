@@ -9,7 +9,7 @@ ghost use Rattle.session_talk.specs.dir_store.View.{reply_view};
 ghost use Rattle.local_directory.specs.Latest.{kept_as};
 
 use crate::client_table::ClientTable;
-use crate::kept::{Kept, copy_reply, is_success};
+use crate::kept::{Kept, is_success};
 use session_talk::{Client, Op, Reply, ResultCode, Store};
 use std::alloc::{AllocError, Global};
 
@@ -35,7 +35,7 @@ fn keep_reply(
     if is_success(&reply) {
         return Ok(reply);
     }
-    let copied = copy_reply(alloc, &reply)?;
+    let copied = reply.copy(alloc)?;
     let kept = Kept {
         request,
         number,

@@ -1,9 +1,8 @@
 //! Searches of the items of a directory, row by row. A directory and rows flow in; what is found, and how many entries were evaluated, is
 //! compared. No expectation is here.
 use crate::sample::{TWO, add, sampled};
-use dir_search::{SearchAnswer, Store, search};
+use dir_search::{DerefAliases, ResultCode, Scope, SearchAnswer, SearchRequest, Store, search};
 use filter_text_reader::read_text;
-use ldap_msg::{DerefAliases, ResultCode, Scope, SearchRequest};
 use std::alloc::Global;
 use std::process::Abort;
 use std::test::*;

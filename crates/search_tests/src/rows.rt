@@ -1,7 +1,7 @@
 //! Worked rows of searches by plans, over the sample, with indexes and without. Expectations are worked out by hand from the standard. Code
 //! that searches is not here.
 use crate::asking::{Row, Rows, check};
-use ldap_msg::ResultCode;
+use dir_search::ResultCode;
 use std::test::*;
 
 /// Some indexes of some types.

@@ -2,10 +2,11 @@
 ghost use Rattle.std.specs.Prelude.{◌+◌, IfOk, OnOk};
 ghost use Rattle.dir_search.specs.dir_store.Stored.{NumbersBelow};
 
-use dir_search::{Indexes, Name, Op, Schema, Store, Update};
-use ldap_msg::{AddRequest, Attribute, ResultCode};
+use dir_search::{AddRequest, Attribute, Indexes, Name, Op, ResultCode, Store, Update};
+use schema_reader::built_in_schema;
 use std::alloc::{AllocError, Global};
 use std::process::Abort;
+use std::sync::Arc;
 use std::test::*;
 
 /// An entry to be added: its name, and its attributes with one value each.
@@ -113,9 +114,10 @@ pub fn add(
 pub fn sampled(rt: &impl Abort, alloc: Global, indexes: &str) -> Result<Store, Fail>
     ensures { IfOk result (λ store. NumbersBelow 7 store.directory.entries) }
 {
-    let schema = Schema::built_in(alloc)?;
+    let schema = built_in_schema(alloc)?;
     let suffix = Name::read(alloc, &schema, "dc=example,dc=com")?;
     let indexes = Indexes::read(alloc, &schema, indexes)?;
+    let schema = Arc::new(alloc, schema)?;
     let mut store = Store::new(alloc, schema, indexes, suffix);
     add(rt, alloc, &mut store, 1, &SAMPLE[0])?;
     add(rt, alloc, &mut store, 2, &SAMPLE[1])?;

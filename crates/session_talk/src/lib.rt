@@ -10,8 +10,8 @@ mod outcomes;
 pub use client::Client;
 pub use dir_search::{
     AddRequest, Attribute, CompareRequest, DerefAliases, IndexError, Indexes, Name, NameError, Op,
-    Reply, ResultCode, Schema, SchemaError, Scope, SearchAnswer, SearchRequest, Store, Update,
-    are_same, compare, search,
+    Reply, ResultCode, Schema, Scope, SearchAnswer, SearchRequest, Store, Update, are_same,
+    compare, search,
 };
 pub use gate::{Ended, Gate, Role};
 pub use look::Look;

@@ -1,0 +1,3 @@
+pub mod Executing
+-- what layers above name of the crates below
+pub use Rattle.dir_store.specs as dir_store

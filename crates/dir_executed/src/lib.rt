@@ -1,0 +1,10 @@
+//! What a replica has executed: the records of its log flow in, one after the other; the directory after them and the reply to each flow out.
+//! Which records are committed, and who asks for them, is not here.
+#![tactic(auto)]
+
+mod coming;
+mod executed;
+
+pub use coming::due;
+pub use dir_store::{Op, Reply, Store};
+pub use executed::Executed;

@@ -1,0 +1,14 @@
+//! Laws on the definitions of updates. Nothing flows in; proofs flow out. Code is not here.
+ghost use Rattle.dir_store.specs.Joins.{DirectoriesJoin, RepliesJoin};
+ghost use Rattle.dir_store.specs.Order.{EntriesRise};
+
+/// Updates and then others come to what the others come to behind the first: a law on the definitions, so its body is empty.
+pub fn updates_join()
+    ensures directories { DirectoriesJoin }
+    ensures replies { RepliesJoin }
+{}
+
+/// The entries of a directory stand in rising order of number, each once, whatever its updates were: a law on the definitions.
+pub fn entries_rise()
+    ensures { EntriesRise }
+{}
