@@ -1,3 +1,2 @@
 pub mod Sampled
-pub mod Schemas
 pub mod Beginning

@@ -50,6 +50,6 @@ abbrev pub local_at_first : SchemaModel → Bool → LocalValue
 local_at_first s with_sample = record { directory = directory_at_first s with_sample; number = number_at_first with_sample; latest = map.empty }
 
 -- An input is answered by one session over a local directory, from its beginning on.
-abbrev pub AnswersFrom : SchemaModel → SchemaModel → Bool → Option (List ℕ) → Option (List ℕ) → Option (List ℕ) → Option (List ℕ) → SessionEnd → Type 0
-AnswersFrom names s with_sample input left output grown end =
-    (after : LocalValue) × Answers allows (config_of names) (local_at_first s with_sample) after input left output grown end
+abbrev pub AnswersFrom : SchemaModel → Bool → Option (List ℕ) → Option (List ℕ) → Option (List ℕ) → Option (List ℕ) → SessionEnd → Type 0
+AnswersFrom s with_sample input left output grown end =
+    (after : LocalValue) × Answers allows (config_of s) (local_at_first s with_sample) after input left output grown end

@@ -1,8 +1,8 @@
 -- What a directory begins with: texts flow in, whether a schema or an index choice is theirs flows out. What their lines mean is not here.
 use Rattle.std.specs.Prelude.{◌≡◌, ℕ, List, [], Option, None, Some, Ok}
 use Rattle.local_directory.specs.ldap_schema.Schema.{SchemaModel}
-use Rattle.local_directory.specs.ldap_schema.BuiltIn.{built_in}
-use Rattle.local_directory.specs.ldap_schema.Reading.{schema_of_text}
+use Rattle.schema_reader.specs.BuiltIn.{built_in}
+use Rattle.schema_reader.specs.Reading.{schema_of_text}
 use Rattle.local_directory.specs.index_choice.declared.kinds.Kinds.{Kinds}
 use Rattle.local_directory.specs.index_choice.Texts.{IsChoiceOf}
 

@@ -6,7 +6,7 @@ use Rattle.filter_text_reader.specs.ldap_filter.Tree.{Tree}
 use Rattle.local_directory.specs.ldap_requests.declared.search.Scope.{Scope}
 use Rattle.local_directory.specs.ldap_requests.declared.search.DerefAliases.TheVariants.{NeverDerefAliases}
 use Rattle.local_directory.specs.ldap_msg.Messages.{SearchRequestValue}
-use Rattle.local_directory.specs.ldap_schema.BuiltIn.{built_in}
+use Rattle.schema_reader.specs.BuiltIn.{built_in}
 use Rattle.ldif_search.specs.Searched.{IsSearched}
 use Rattle.dird_commands.specs.Begun.{empty_directory}
 

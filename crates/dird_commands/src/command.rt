@@ -15,8 +15,8 @@ pub enum Job<'a> {
     Import,
     /// Lines of a search's responses become an LDIF text.
     Export,
-    /// A lab script over replicas in memory.
-    Lab,
+    /// A lab script over replicas in memory, with the index choice of a file's name; none for no index.
+    Lab(Option<&'a str>),
 }
 
 /// What a session's directory begins with.
@@ -42,6 +42,14 @@ pub struct Question<'a> {
 /// The words for scopes.
 const SCOPES: &[&str] = &["base", "one", "sub"];
 
+/// The word for an index choice.
+fn index_word<'a>(alloc: Global) -> Arg<'a> {
+    Arg::new(alloc, "index")
+        .long("index")
+        .value_name("FILE")
+        .help("Read from this file which indexes each attribute type has, in place of none")
+}
+
 /// The words of `answer`.
 fn answer_command<'a>(alloc: Global) -> Result<Command<'a>, AllocError> {
     let sample = Arg::new(alloc, "sample")
@@ -52,17 +60,13 @@ fn answer_command<'a>(alloc: Global) -> Result<Command<'a>, AllocError> {
         .long("schema")
         .value_name("FILE")
         .help("Read the schema from this file, in place of the built-in one");
-    let index = Arg::new(alloc, "index")
-        .long("index")
-        .value_name("FILE")
-        .help("Read from this file which indexes each attribute type has, in place of none");
     Command::new(alloc, "answer")
         .about(
             "Answer one client: the input is its stream of LDAP messages, lines of hex cut anywhere; each response is a line of hex",
         )
         .arg(sample)?
         .arg(schema)?
-        .arg(index)
+        .arg(index_word(alloc))
 }
 
 /// The words of `search`.
@@ -96,9 +100,11 @@ fn command<'a>(alloc: Global) -> Result<Command<'a>, AllocError> {
     let export = Command::new(alloc, "export").about(
         "Turn the responses to a search, lines of hex, into LDIF of the entries",
     );
-    let lab = Command::new(alloc, "lab").about(
-        "Play a script of requests, deliveries, view changes, crashes and recoveries with real replicas",
-    );
+    let lab = Command::new(alloc, "lab")
+        .about(
+            "Play a script of updates, searches, deliveries, view changes, crashes and recoveries with real replicas",
+        )
+        .arg(index_word(alloc))?;
     Command::new(alloc, "dird")
         .version("0.1.0")
         .about("An LDAPv3 directory server whose answers are proved")
@@ -150,7 +156,7 @@ pub fn read_words<'a>(alloc: Global, words: &'a [String]) -> Result<Job<'a>, Err
         Some(("search", inner)) => Ok(Job::Search(question_in(alloc, inner)?)),
         Some(("import", _)) => Ok(Job::Import),
         Some(("export", _)) => Ok(Job::Export),
-        Some(("lab", _)) => Ok(Job::Lab),
+        Some(("lab", inner)) => Ok(Job::Lab(inner.get_str("index"))),
         Some((_, inner)) => Ok(Job::Answer(opening_in(inner))),
         None => Ok(Job::Answer(opening_in(&matches))),
     }

@@ -7,7 +7,8 @@ use filter_text_reader::FilterTextError;
 use hex_session::LineFault;
 use lab_script::ScriptError;
 use ldif_search::{ExportError, ImportError, SearchError};
-use local_directory::{IndexError, SchemaError};
+use local_directory::IndexError;
+use schema_reader::SchemaError;
 use std::alloc::{AllocError, AllocFailed};
 use thiserror::Error;
 

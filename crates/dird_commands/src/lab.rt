@@ -1,20 +1,26 @@
-//! The lab: the lines of a script flow in, what real replicas answer flows out. No rule of replication is here, and no line's
+//! The lab: the lines of a script flow in, what real replicas answer flows out. No rule of replication or of the directory is here, and no line's
 //! meaning: those stand in the crates below.
 
 use crate::fault::Fault;
+use crate::local::root_name;
 use hex_session::next_line;
-use lab_script::{LabReply, Status, play};
+use lab_script::{LabReply, ReplyBy, SearchAnswer, Status, play};
+use local_directory::{Indexes, Schema};
 use std::alloc::Global;
 use std::io::{BufRead, Write};
+use std::sync::Arc;
 
-/// Plays a script, once it is read whole: a line that isn't in the language refuses all of it.
+/// Plays a script over replicas with this schema and these indexes, once it is read whole: a line that isn't in the language refuses all of it.
 pub fn play_script<R: BufRead, W: Write>(
     alloc: Global,
+    schema: Arc<Schema>,
+    indexes: Indexes,
     input: &mut R,
     output: &mut W,
 ) -> Result<(), Fault> {
+    let suffix = root_name(alloc, &schema)?;
     let lines = read_lines(alloc, input)?;
-    for reply in &play(alloc, &lines)? {
+    for reply in &play(alloc, schema, indexes, suffix, &lines)? {
         match write_reply(reply, output) {
             Ok(()) => {}
             Err(_) => return Err(Fault::CannotWrite),
@@ -35,14 +41,13 @@ fn read_lines<R: BufRead>(alloc: Global, input: &mut R) -> Result<Vec<Vec<u8>>, 
     Ok(lines)
 }
 
-/// Writes one line of what a lab shows. The code of a no-op is 0.
+/// Writes what a lab shows at once: a line, and one more for each entry of an answer.
 fn write_reply<W: Write>(reply: &LabReply, output: &mut W) -> std::io::Result<()> {
     match reply {
-        LabReply::Replied { by } => writeln!(
-            output,
-            "reply replica={} client={} number={} op={} code=0",
-            by.replica, by.reply.client.number, by.reply.request_number, by.reply.op_number
-        ),
+        LabReply::Replied { by, code } => write_replied(by, code.number(), output),
+        LabReply::Unavailable => writeln!(output, "unavailable"),
+        LabReply::NotYet { at } => writeln!(output, "notyet at={at}"),
+        LabReply::Answered { at, answer } => write_answer(*at, answer, output),
         LabReply::Standing {
             replica,
             view_number,
@@ -56,6 +61,26 @@ fn write_reply<W: Write>(reply: &LabReply, output: &mut W) -> std::io::Result<()
         ),
         LabReply::Down { replica } => writeln!(output, "state replica={replica} down"),
     }
+}
+
+/// Writes a reply to an update.
+fn write_replied<W: Write>(by: &ReplyBy, code: u32, output: &mut W) -> std::io::Result<()> {
+    writeln!(
+        output,
+        "reply replica={} client={} number={} op={} code={code}",
+        by.replica, by.reply.client.number, by.reply.request_number, by.reply.op_number
+    )
+}
+
+/// Writes the answer of a search: its code and how many entries it has, and then the name of each.
+fn write_answer<W: Write>(at: u64, answer: &SearchAnswer, output: &mut W) -> std::io::Result<()> {
+    let code = answer.code.number();
+    let count = answer.entries.len();
+    writeln!(output, "answer at={at} code={code} entries={count}")?;
+    for entry in &answer.entries {
+        writeln!(output, "entry {}", entry.object_name)?;
+    }
+    Ok(())
 }
 
 /// The word for a status.

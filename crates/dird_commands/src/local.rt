@@ -1,5 +1,6 @@
 //! One session over a local directory: an input flows in, an output flows out. The words of a command line are not here.
 ghost use Rattle.std.specs.Prelude.{◌≡◌, ◌+◌, codes, IfOk};
+ghost use Rattle.std.specs.Arc.{arc_value};
 ghost use Rattle.local_directory.specs.dir_store.Stored.{NumbersBelow};
 ghost use Rattle.dird_commands.specs.Begun.{name_of, empty_directory, directory_at_first, number_at_first, AnswersFrom};
 
@@ -9,6 +10,7 @@ use hex_session::{Config, SessionEnd, answer_lines};
 use local_directory::{Indexes, LocalDirectory, Name, NameError, Schema, Store};
 use std::alloc::Global;
 use std::io::{BufRead, Write};
+use std::sync::Arc;
 
 /// The manager's name.
 const MANAGER: &str = "cn=admin,dc=example,dc=com";
@@ -22,9 +24,8 @@ const SUFFIX: &str = "dc=example,dc=com";
 /// What a session's directory begins with.
 #[derive(Drop)]
 pub struct Options {
-    pub schema: Schema,
-    /// The same schema, by which the names of binds are read.
-    pub names: Schema,
+    /// The schema, which the directory shares with the names of binds.
+    pub schema: Arc<Schema>,
     /// The index choice, of the schema.
     pub indexes: Indexes,
     /// Whether it holds the built-in sample.
@@ -42,23 +43,30 @@ fn name_of_text(alloc: Global, schema: &Schema, text: &str) -> Result<Name, Faul
     }
 }
 
+/// The name of the directory's root.
+pub fn root_name(alloc: Global, schema: &Schema) -> Result<Name, Fault>
+    ensures { IfOk result (λ name. name ≡ name_of schema.now (codes "dc=example,dc=com")) }
+{
+    name_of_text(alloc, schema, SUFFIX)
+}
+
 /// A directory without entries.
-pub fn empty(alloc: Global, schema: Schema, indexes: Indexes) -> Result<Store, Fault>
-    ensures directory { IfOk result (λ store. store.directory ≡ empty_directory schema) }
+pub fn empty(alloc: Global, schema: Arc<Schema>, indexes: Indexes) -> Result<Store, Fault>
+    ensures directory { IfOk result (λ store. store.directory ≡ empty_directory (arc_value schema)) }
     ensures indexes { IfOk result (λ store. store.indexes ≡ indexes) }
 {
-    let suffix = name_of_text(alloc, &schema, SUFFIX)?;
+    let suffix = root_name(alloc, &schema)?;
     Ok(Store::new(alloc, schema, indexes, suffix))
 }
 
 /// The directory at first: the sample, or one without entries; and the number of its last update.
 fn opened(
     alloc: Global,
-    schema: Schema,
+    schema: Arc<Schema>,
     indexes: Indexes,
     sample: bool,
 ) -> Result<(Store, u64), Fault>
-    ensures directory { IfOk result (λ p. p.0.directory ≡ directory_at_first schema sample) }
+    ensures directory { IfOk result (λ p. p.0.directory ≡ directory_at_first (arc_value schema) sample) }
     ensures indexes { IfOk result (λ p. p.0.indexes ≡ indexes) }
     ensures number { IfOk result (λ p. p.1 ≡ number_at_first sample) }
     ensures below { IfOk result (λ p. NumbersBelow (p.1 + 1) p.0.directory.entries) }
@@ -88,20 +96,21 @@ pub fn answer_session<R: BufRead, W: Write>(
     output: &mut W,
 ) -> Result<SessionEnd, Fault>
     // The output grows by the responses of a session over the stream that the lines spell, along a talk with the directory that begins so.
-    ensures { IfOk result (λ end. AnswersFrom options.names options.schema options.sample (R.remaining input.old) (R.remaining input.new)
+    ensures { IfOk result (λ end. AnswersFrom (arc_value options.schema) options.sample (R.remaining input.old) (R.remaining input.new)
         (W.contents output.old) (W.contents output.new) end) }
 {
     let Options {
         schema,
-        names,
         indexes,
         sample,
     } = options;
-    let manager = manager_name(alloc, &names)?;
-    let (store, number) = opened(alloc, schema, indexes, sample)?;
+    let names: &Schema = &schema;
+    let manager = manager_name(alloc, names)?;
+    let shared = Arc::try_clone(&schema)?;
+    let (store, number) = opened(alloc, shared, indexes, sample)?;
     let mut directory = LocalDirectory::new(alloc, store, number);
     let config = Config {
-        schema: &names,
+        schema: names,
         manager: &manager,
         password: PASSWORD.as_bytes(),
         replica: 0,

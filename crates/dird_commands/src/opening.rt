@@ -6,7 +6,9 @@ ghost use Rattle.dird_commands.specs.Opened.{IsSchemaOf, IsIndexOf};
 use crate::fault::Fault;
 use crate::files::ReadFiles;
 use local_directory::{Indexes, Schema};
+use schema_reader::{built_in_schema, read_schema};
 use std::alloc::Global;
+use std::sync::Arc;
 
 /// The text of a named file; none for no name.
 fn text_of<S: ReadFiles>(
@@ -25,8 +27,8 @@ fn schema_of_text(alloc: Global, text: &Option<String>) -> Result<Schema, Fault>
     ensures { IfOk result (λ s. IsSchemaOf (option_map string_bytes text.now) s) }
 {
     match text {
-        Some(text) => Ok(Schema::read(alloc, text)?),
-        None => Ok(Schema::built_in(alloc)?),
+        Some(text) => Ok(read_schema(alloc, text)?),
+        None => Ok(built_in_schema(alloc)?),
     }
 }
 
@@ -40,19 +42,15 @@ fn indexes_of_text(alloc: Global, schema: &Schema, text: Option<String>) -> Resu
     }
 }
 
-/// The schema of a named file, and the built-in one for no name, twice: once for the directory, and once for what its sessions share.
-#[tactic(auto, using(crate::proofs::Schemas::one_schema))]
-pub fn schemas_of<S: ReadFiles>(
+/// The schema of a named file, and the built-in one for no name. It is read once, and shared by all who need it.
+pub fn schema_of<S: ReadFiles>(
     files: &S,
     alloc: Global,
     path: Option<&str>,
-) -> Result<(Schema, Schema), Fault>
-    ensures same { IfOk result (λ p. p.0 ≡ p.1) }
-{
+) -> Result<Arc<Schema>, Fault> {
     let text = text_of(files, alloc, path)?;
     let schema = schema_of_text(alloc, &text)?;
-    let names = schema_of_text(alloc, &text)?;
-    Ok((schema, names))
+    Ok(Arc::new(alloc, schema)?)
 }
 
 /// The index choice of a named file, and no index for no name.

@@ -4,7 +4,7 @@ use crate::fault::Fault;
 use crate::files::ReadFiles;
 use crate::lab::play_script;
 use crate::local::{Options, answer_session};
-use crate::opening::{indexes_of, schemas_of};
+use crate::opening::{indexes_of, schema_of};
 use crate::status::Status;
 use crate::texts::{export_input, import_input, search_input};
 use hex_session::SessionEnd;
@@ -60,7 +60,7 @@ fn perform<S: ReadFiles, R: BufRead, W: Write>(
         Job::Search(question) => search_input(alloc, &question, input, output)?,
         Job::Import => import_input(alloc, input, output)?,
         Job::Export => export_input(alloc, input, output)?,
-        Job::Lab => play_script(alloc, input, output)?,
+        Job::Lab(index) => lab(files, alloc, index, input, output)?,
     }
     Ok(SessionEnd::EndOfInput)
 }
@@ -73,13 +73,25 @@ fn answer<S: ReadFiles, R: BufRead, W: Write>(
     input: &mut R,
     output: &mut W,
 ) -> Result<SessionEnd, Fault> {
-    let (schema, names) = schemas_of(files, alloc, opening.schema)?;
+    let schema = schema_of(files, alloc, opening.schema)?;
     let indexes = indexes_of(files, alloc, &schema, opening.index)?;
     let options = Options {
         schema,
-        names,
         indexes,
         sample: opening.sample,
     };
     answer_session(alloc, options, input, output)
+}
+
+/// One script, once the index choice is read, under the built-in schema.
+fn lab<S: ReadFiles, R: BufRead, W: Write>(
+    files: &S,
+    alloc: Global,
+    index: Option<&str>,
+    input: &mut R,
+    output: &mut W,
+) -> Result<(), Fault> {
+    let schema = schema_of(files, alloc, None)?;
+    let indexes = indexes_of(files, alloc, &schema, index)?;
+    play_script(alloc, schema, indexes, input, output)
 }

@@ -12,9 +12,11 @@ use crate::files::read_fault;
 use crate::local::empty;
 use filter_text_reader::read_text;
 use ldif_search::{export_text, import_text, search_text};
-use local_directory::{DerefAliases, Indexes, Schema, SearchRequest};
+use local_directory::{DerefAliases, Indexes, SearchRequest};
+use schema_reader::built_in_schema;
 use std::alloc::{AllocError, Global};
 use std::io::{BufRead, Write};
+use std::sync::Arc;
 
 /// The octets of an input, up to its end.
 fn read_all<R: BufRead>(alloc: Global, input: &mut R) -> Result<Vec<u8>, Fault>
@@ -102,7 +104,8 @@ pub fn search_input<R: BufRead, W: Write>(
 {
     let request = request_of(alloc, question)?;
     let text = read_all(alloc, input)?;
-    let store = empty(alloc, Schema::built_in(alloc)?, Indexes::none(alloc))?;
+    let schema = Arc::new(alloc, built_in_schema(alloc)?)?;
+    let store = empty(alloc, schema, Indexes::none(alloc))?;
     let written = search_text(alloc, store, &text, &request)?;
     write_out(&written, output)
 }

@@ -1,3 +1,5 @@
 pub mod Numbers
 pub mod Each
 pub mod Lines
+pub mod Refusals
+pub mod Sizes

@@ -1,7 +1,7 @@
 -- Numbers, digit by digit. In: the digits that are left. Out: the number with one more.
 -- Nothing of lines is here.
 use Rattle.std.proofs.Common.{◌≡◌, ℕ, suc, ◌+◌, ◌<◌, List, [], ◌∷◌, length, drop, get_or, Option, Some, None, refl, sym, ap, ◌∙◌, arith, add-one, drop-cons}
-use Rattle.lab_script.specs.Script.{number_after, number_of, with_digit}
+use Rattle.lab_script.specs.Words.{number_after, number_of, with_digit}
 
 -- What is no number stays none.
 no_number : (bs : List ℕ) → number_after None bs ≡ None

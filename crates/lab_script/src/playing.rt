@@ -1,42 +1,65 @@
 // A whole script: its lines become events, and a lab plays them.
 // In: the octets of each line, without its end. Out: what the script shows, or the first line that isn't in the language.
 // Nothing is played before all lines are read.
-ghost use Rattle.std.specs.Prelude.{◌≡◌, ℕ, map, IfOk};
-ghost use Rattle.lab_script.specs.Script.{bad_after, bad_line, event_line, events_by, first_bad, first_line, lines_in, shown_after, shown_by};
+ghost use Rattle.std.specs.Prelude.{◌≡◌, ℕ, List, map, IfOk};
+ghost use Rattle.std.specs.Arc.{arc_value};
+ghost use Rattle.dir_lab.specs.Shown.{shown_view};
+ghost use Rattle.lab_script.specs.Events.{EventValue, event_view};
+ghost use Rattle.lab_script.specs.Lines.{IsLine, first_line};
+ghost use Rattle.lab_script.specs.Played.{IsPlayed};
+ghost use Rattle.lab_script.specs.Script.{AreEvents, IsBadLine, IsFirstBad, IsSchedule, lines_in};
 
 use crate::fault::{LineError, ScriptError};
-use crate::noop::Noop;
 use crate::script::{read_first, read_line};
+use dir_lab::{Lab, LabEvent, LabReply};
+use dir_search::{Indexes, Name, Schema};
 use std::alloc::Global;
-use vr_world::Lab;
-use vr_world::events::{LabEvent, LabReply};
+use std::sync::Arc;
 
-/// Plays a script from the first world on, with as many replicas as its first line names.
-pub fn play(alloc: Global, lines: &[Vec<u8>]) -> Result<Vec<LabReply>, ScriptError>
-    ensures shown { IfOk result (λ shown. Some shown.items ≡ shown_by (lines_in lines.now)) }
-    ensures bad { (n : ℕ) → result ≡ Err (ScriptError.BadLine n) → bad_line (lines_in lines.now) ≡ Some n }
+/// Plays a script from the first world on, with as many replicas as its first line names, each of which begins with a directory without entries over
+/// this schema, with these indexes and this name of the root.
+pub fn play(
+    alloc: Global,
+    schema: Arc<Schema>,
+    indexes: Indexes,
+    suffix: Name,
+    lines: &[Vec<u8>],
+) -> Result<Vec<LabReply>, ScriptError>
+    // What is shown is what the schedule shows that the lines name, and all that a lab promises holds of that schedule; whatever the indexes.
+    ensures shown { IfOk result (λ shown. IsPlayed (arc_value schema) suffix (lines_in lines.now) (map shown_view shown.items)) }
+    // A bad line is the first that isn't in the language.
+    ensures bad { (n : ℕ) → result ≡ Err (ScriptError.BadLine n) → IsBadLine (lines_in lines.now) n }
 {
-    match lines {
-        [] => Err(ScriptError::BadLine { number: 1 }),
-        [first, rest @ ..] => play_after(alloc, first, rest),
-    }
+    let script = read_script(alloc, lines)?;
+    let lab = Lab::new(schema, indexes, suffix, script.count);
+    let shown = lab.run(alloc, script.events)?;
+    Ok(shown)
 }
 
-/// Plays the lines after the first, with as many replicas as that names.
-fn play_after(alloc: Global, first: &[u8], rest: &[Vec<u8>]) -> Result<Vec<LabReply>, ScriptError>
-    ensures shown { IfOk result (λ shown. Some shown.items ≡ shown_after first.now rest.now) }
-    ensures bad { (number : ℕ) → result ≡ Err (ScriptError.BadLine number) → bad_after first.now rest.now ≡ Some number }
+/// A script, as it is read.
+#[derive(Drop)]
+struct Script {
+    count: u64,
+    events: Vec<LabEvent>,
+}
+
+/// Reads a script: its first line, and then the others.
+fn read_script(alloc: Global, lines: &[Vec<u8>]) -> Result<Script, ScriptError>
+    ensures found { IfOk result (λ s. IsSchedule (lines_in lines.now) s.count (map event_view s.events.items)) }
+    ensures bad { (n : ℕ) → result ≡ Err (ScriptError.BadLine n) → IsBadLine (lines_in lines.now) n }
 {
-    let count = count_in(alloc, first)?;
-    let events = events_in(alloc, rest)?;
-    let shown = Lab::new(count).run(alloc, events)?;
-    Ok(shown)
+    if lines.is_empty() {
+        return Err(ScriptError::BadLine { number: 1 });
+    }
+    let count = count_in(alloc, &lines[0])?;
+    let events = events_in(alloc, &lines[1..])?;
+    Ok(Script { count, events })
 }
 
 /// How many replicas the first line names.
 fn count_in(alloc: Global, line: &[u8]) -> Result<u64, ScriptError>
     ensures found { IfOk result (λ count. Some count ≡ first_line line.now) }
-    ensures bad { (number : ℕ) → result ≡ Err (ScriptError.BadLine number) → (first_line line.now ≡ None) × (number ≡ 1) }
+    ensures bad { (n : ℕ) → result ≡ Err (ScriptError.BadLine n) → (first_line line.now ≡ None) × (n ≡ 1) }
 {
     match read_first(alloc, line) {
         Ok(count) => Ok(count),
@@ -46,9 +69,9 @@ fn count_in(alloc: Global, line: &[u8]) -> Result<u64, ScriptError>
 }
 
 /// The events of all lines after the first.
-fn events_in(alloc: Global, lines: &[Vec<u8>]) -> Result<Vec<LabEvent<Noop>>, ScriptError>
-    ensures found { IfOk result (λ events. Some events.items ≡ events_by (λ line. event_line line.items) lines.now) }
-    ensures bad { (number : ℕ) → result ≡ Err (ScriptError.BadLine number) → first_bad (λ line. event_line line.items) 2 lines.now ≡ Some number }
+fn events_in(alloc: Global, lines: &[Vec<u8>]) -> Result<Vec<LabEvent>, ScriptError>
+    ensures found { IfOk result (λ events. AreEvents (lines_in lines.now) (map event_view events.items)) }
+    ensures bad { (n : ℕ) → result ≡ Err (ScriptError.BadLine n) → IsFirstBad 2 (lines_in lines.now) n }
 {
     let mut events = Vec::new(alloc);
     for at in 0..lines.len() {
@@ -59,9 +82,9 @@ fn events_in(alloc: Global, lines: &[Vec<u8>]) -> Result<Vec<LabEvent<Noop>>, Sc
 }
 
 /// The events of the line with this number.
-fn events_at(alloc: Global, line: &[u8], number: u64) -> Result<Vec<LabEvent<Noop>>, ScriptError>
-    ensures found { IfOk result (λ events. Some events.items ≡ event_line line.now) }
-    ensures bad { (n : ℕ) → result ≡ Err (ScriptError.BadLine n) → (event_line line.now ≡ None) × (n ≡ number) }
+fn events_at(alloc: Global, line: &[u8], number: u64) -> Result<Vec<LabEvent>, ScriptError>
+    ensures found { IfOk result (λ events. IsLine line.now (map event_view events.items)) }
+    ensures bad { (n : ℕ) → result ≡ Err (ScriptError.BadLine n) → ((es : List EventValue) → IsLine line.now es → ⊥) × (n ≡ number) }
 {
     match read_line(alloc, line) {
         Ok(events) => Ok(events),

@@ -1,15 +1,18 @@
 // Lines of lab scripts.
 // In: the octets of a line, without its end. Out: the events that it names.
 // What an event does isn't here.
-ghost use Rattle.std.specs.Prelude.{◌≡◌, IfOk, IsErrOf};
-ghost use Rattle.lab_script.specs.Script.{deliveries_of, delivery_of, event_line, events_of, first_line, replicas_of, requested, tokens_of, words_of};
+ghost use Rattle.std.specs.Prelude.{◌≡◌, List, [], ◌∷◌, map, IfOk, IsErrOf, MatchOption};
+ghost use Rattle.lab_script.specs.Events.{EventValue, event_view, happens};
+ghost use Rattle.lab_script.specs.Lines.{IsLine, IsOne, IsRequest, IsSearch, deliveries_of, delivery_of, events_by_words, events_of, first_line, replicas_of};
+ghost use Rattle.lab_script.specs.Words.{tokens_of, words_of};
 
+use crate::cutting::{LineKind, kind_of};
 use crate::fault::LineError;
-use crate::noop::Noop;
+use crate::requests::request_in;
+use crate::searches::search_in;
 use crate::token::{Token, token_of, words_of};
-use std::alloc::Global;
-use vr_state::words::{Client, Entry};
-use vr_world::events::LabEvent;
+use dir_lab::{LabEvent, Op, WorldEvent};
+use std::alloc::{AllocError, Global};
 
 /// How many replicas the first line names.
 pub fn read_first(alloc: Global, line: &[u8]) -> Result<u64, LineError>
@@ -21,15 +24,58 @@ pub fn read_first(alloc: Global, line: &[u8]) -> Result<u64, LineError>
 }
 
 /// The events that any other line names.
-pub fn read_line(alloc: Global, line: &[u8]) -> Result<Vec<LabEvent<Noop>>, LineError>
-    ensures found { IfOk result (λ events. Some events.items ≡ event_line line.now) }
-    ensures bad { IsErrOf result LineError.BadLine → event_line line.now ≡ None }
+pub fn read_line(alloc: Global, line: &[u8]) -> Result<Vec<LabEvent>, LineError>
+    ensures found { IfOk result (λ events. IsLine line.now (map event_view events.items)) }
+    ensures bad { IsErrOf result LineError.BadLine → (es : List EventValue) → IsLine line.now es → ⊥ }
+{
+    match kind_of(line) {
+        LineKind::Request(rest) => read_request(alloc, rest),
+        LineKind::Search(rest) => read_search_line(alloc, rest),
+        LineKind::Plain => read_words(alloc, line),
+    }
+}
+
+/// The events of a request, behind its word.
+fn read_request(alloc: Global, rest: &[u8]) -> Result<Vec<LabEvent>, LineError>
+    ensures found { IfOk result (λ events. IsOne (IsRequest rest.now) (map event_view events.items)) }
+    ensures bad { IsErrOf result LineError.BadLine → (es : List EventValue) → IsOne (IsRequest rest.now) es → ⊥ }
+{
+    match request_in(alloc, rest) {
+        Ok(event) => Ok(alone(alloc, event)?),
+        Err(error) => Err(error),
+    }
+}
+
+/// The events of a search, behind its word.
+fn read_search_line(alloc: Global, rest: &[u8]) -> Result<Vec<LabEvent>, LineError>
+    ensures found { IfOk result (λ events. IsOne (IsSearch rest.now) (map event_view events.items)) }
+    ensures bad { IsErrOf result LineError.BadLine → (es : List EventValue) → IsOne (IsSearch rest.now) es → ⊥ }
+{
+    match search_in(alloc, rest) {
+        Ok(event) => Ok(alone(alloc, event)?),
+        Err(error) => Err(error),
+    }
+}
+
+/// One event alone.
+fn alone(alloc: Global, event: LabEvent) -> Result<Vec<LabEvent>, AllocError>
+    ensures { IfOk result (λ events. map event_view events.items ≡ event_view event ∷ []) }
+{
+    let mut events = Vec::new(alloc);
+    events.push(event)?;
+    Ok(events)
+}
+
+/// The events of words between single spaces.
+fn read_words(alloc: Global, line: &[u8]) -> Result<Vec<LabEvent>, LineError>
+    ensures found { IfOk result (λ events. events_by_words line.now ≡ Some (map event_view events.items)) }
+    ensures bad { IsErrOf result LineError.BadLine → events_by_words line.now ≡ None }
 {
     let tokens = read_tokens(alloc, line)?;
     events_of(alloc, &tokens)
 }
 
-#[tactic(auto, using(crate::proofs::Each::words_begin, crate::proofs::Each::word_more, crate::proofs::Each::word_none, crate::proofs::Each::all_read))]
+#[tactic(auto, using(crate::proofs::Each::word_more, crate::proofs::Each::word_none, script_texts::proofs::Each::all_read))]
 /// The words and numbers of a line.
 fn read_tokens(alloc: Global, line: &[u8]) -> Result<Vec<Token>, LineError>
     ensures found { IfOk result (λ tokens. Some tokens.items ≡ tokens_of (words_of line.now)) }
@@ -58,60 +104,43 @@ fn replicas_of(tokens: &[Token]) -> Result<u64, LineError>
 }
 
 /// The events that these words name.
-fn events_of(alloc: Global, tokens: &[Token]) -> Result<Vec<LabEvent<Noop>>, LineError>
-    ensures found { IfOk result (λ events. Some events.items ≡ events_of tokens.now) }
+fn events_of(alloc: Global, tokens: &[Token]) -> Result<Vec<LabEvent>, LineError>
+    ensures found { IfOk result (λ events. events_of tokens.now ≡ Some (map event_view events.items)) }
     ensures bad { IsErrOf result LineError.BadLine → events_of tokens.now ≡ None }
 {
     let event = match tokens {
         [Token::Deliver, numbers @ ..] => return deliveries_of(alloc, numbers),
-        [
-            Token::Request,
-            Token::Number { value: replica },
-            Token::Number { value: client },
-            Token::Number { value: number },
-            Token::Noop,
-        ] => requested(*replica, *client, *number),
-        [Token::Suspect, Token::Number { value }] => LabEvent::Suspect { replica: *value },
-        [Token::Beat, Token::Number { value }] => LabEvent::Beat { replica: *value },
-        [Token::Crash, Token::Number { value }] => LabEvent::Crash { replica: *value },
+        [Token::Suspect, Token::Number { value }] => happens(WorldEvent::Suspect {
+            replica: *value,
+        }),
+        [Token::Beat, Token::Number { value }] => happens(WorldEvent::Beat { replica: *value }),
+        [Token::Crash, Token::Number { value }] => happens(WorldEvent::Crash { replica: *value }),
         [
             Token::Recover,
             Token::Number { value: replica },
             Token::Number { value: nonce },
-        ] => LabEvent::Recover {
+        ] => happens(WorldEvent::Recover {
             replica: *replica,
             nonce: *nonce,
-        },
+        }),
         [Token::State, Token::Number { value }] => LabEvent::State { replica: *value },
         _ => return Err(LineError::BadLine),
     };
-    let mut events = Vec::new(alloc);
-    events.push(event)?;
+    let events = alone(alloc, event)?;
     Ok(events)
 }
 
-/// A no-op that a client which names itself asks of a replica.
-fn requested(replica: u64, client: u64, number: u64) -> LabEvent<Noop>
-    ensures { result ≡ requested replica client number }
+/// Something happens.
+fn happens(event: WorldEvent<Op>) -> LabEvent
+    ensures { event_view result ≡ happens event }
 {
-    LabEvent::Request {
-        replica,
-        entry: Entry {
-            client: Client {
-                home: 0,
-                life: 0,
-                number: client,
-            },
-            request_number: number,
-            payload: Noop {},
-        },
-    }
+    LabEvent::Happens { event }
 }
 
-#[tactic(auto, using(crate::proofs::Each::delivery_more, crate::proofs::Each::delivery_none, crate::proofs::Each::all_read))]
+#[tactic(auto, using(crate::proofs::Each::delivery_more, crate::proofs::Each::delivery_none, crate::proofs::Each::deliveries_read))]
 /// The messages whose numbers these are, one at least.
-fn deliveries_of(alloc: Global, tokens: &[Token]) -> Result<Vec<LabEvent<Noop>>, LineError>
-    ensures found { IfOk result (λ events. Some events.items ≡ deliveries_of tokens.now) }
+fn deliveries_of(alloc: Global, tokens: &[Token]) -> Result<Vec<LabEvent>, LineError>
+    ensures found { IfOk result (λ events. deliveries_of tokens.now ≡ Some (map event_view events.items)) }
     ensures bad { IsErrOf result LineError.BadLine → deliveries_of tokens.now ≡ None }
 {
     if tokens.is_empty() {
@@ -128,11 +157,11 @@ fn deliveries_of(alloc: Global, tokens: &[Token]) -> Result<Vec<LabEvent<Noop>>,
 }
 
 /// The message with this number comes.
-fn delivery_of(token: Token) -> Option<LabEvent<Noop>>
-    ensures { result ≡ delivery_of token }
+fn delivery_of(token: Token) -> Option<LabEvent>
+    ensures { MatchOption result (delivery_of token ≡ None) (λ e. delivery_of token ≡ Some (event_view e)) }
 {
     match token {
-        Token::Number { value } => Some(LabEvent::Deliver { which: value }),
+        Token::Number { value } => Some(happens(WorldEvent::Deliver { which: value })),
         _ => None,
     }
 }

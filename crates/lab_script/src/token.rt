@@ -3,7 +3,7 @@
 // What a line of them means isn't here.
 
 ghost use Rattle.std.specs.Prelude.{◌≡◌, ◌==◌, ◌≤◌, bytes_eq, map, IfOk, IfSome};
-ghost use Rattle.lab_script.specs.Script.{greatest, number_of, token_of, with_digit, words_of};
+ghost use Rattle.lab_script.specs.Words.{greatest, number_of, token_of, with_digit, words_of};
 
 use std::alloc::{AllocError, Global};
 
@@ -11,8 +11,6 @@ use std::alloc::{AllocError, Global};
 #[derive(Clone, Copy, Debug, PartialEq, Eq)]
 pub enum Token {
     Replicas,
-    Request,
-    Noop,
     Deliver,
     Suspect,
     Beat,
@@ -35,10 +33,6 @@ pub fn token_of(word: &[u8]) -> Option<Token>
 {
     if is_text(word, b"replicas") {
         Some(Token::Replicas)
-    } else if is_text(word, b"request") {
-        Some(Token::Request)
-    } else if is_text(word, b"noop") {
-        Some(Token::Noop)
     } else if is_text(word, b"deliver") {
         Some(Token::Deliver)
     } else if is_text(word, b"suspect") {
@@ -60,7 +54,7 @@ pub fn token_of(word: &[u8]) -> Option<Token>
 }
 
 /// Whether a word is this text.
-fn is_text(word: &[u8], text: &[u8]) -> bool
+pub fn is_text(word: &[u8], text: &[u8]) -> bool
     ensures { result ≡ bytes_eq word.now text.now }
 {
     word == text
@@ -68,7 +62,7 @@ fn is_text(word: &[u8], text: &[u8]) -> bool
 
 #[tactic(auto, using(crate::proofs::Numbers::digit_more, crate::proofs::Numbers::number_is))]
 /// The number that a word writes: decimal digits up to 9223372036854775807.
-fn number_of(word: &[u8]) -> Option<u64>
+pub fn number_of(word: &[u8]) -> Option<u64>
     ensures { result ≡ number_of word.now }
 {
     if word.is_empty() {

@@ -3,7 +3,8 @@
 
 use crate::sample::{BIND, BOUND, config, is_written, joined, octets};
 use ldap_session::{Client, Config, Ended, Found, Gate, Look, LookError, Role, serve};
-use local_directory::{CompareRequest, Name, Reply, Schema, SearchAnswer, SearchRequest, Update};
+use local_directory::{CompareRequest, Name, Reply, SearchAnswer, SearchRequest, Update};
+use schema_reader::built_in_schema;
 use std::alloc::Global;
 use std::process::Abort;
 use std::test::*;
@@ -227,7 +228,7 @@ fn served(
 
 /// The same of a session of the manager's.
 fn answered(alloc: Global, answering: Answering, input: &[u8]) -> Result<String, Fail> {
-    let schema = Schema::built_in(alloc)?;
+    let schema = built_in_schema(alloc)?;
     let manager = Name::read(alloc, &schema, "cn=admin,dc=example,dc=com")?;
     let config = config(&schema, &manager, 1);
     served(alloc, &config, answering, input)

@@ -3,8 +3,10 @@
 
 use ldap_session::{Config, SessionEnd, serve};
 use local_directory::{Indexes, LocalDirectory, Name, Schema, Store};
+use schema_reader::built_in_schema;
 use std::alloc::Global;
 use std::process::Abort;
+use std::sync::Arc;
 use std::test::*;
 
 /// The manager's bind, and its response.
@@ -27,7 +29,7 @@ const BEGINNING: &[&str] = &[
 /// A directory, and what its sessions share.
 #[derive(Drop)]
 pub struct Site {
-    pub schema: Schema,
+    pub schema: Arc<Schema>,
     pub manager: Name,
     pub directory: LocalDirectory,
 }
@@ -46,15 +48,11 @@ pub fn config<'a>(schema: &'a Schema, manager: &'a Name, session: u64) -> Config
 
 /// A directory without entries.
 fn empty_site(alloc: Global) -> Result<Site, Fail> {
-    let schema = Schema::built_in(alloc)?;
+    let schema = Arc::new(alloc, built_in_schema(alloc)?)?;
     let suffix = Name::read(alloc, &schema, "dc=example,dc=com")?;
     let manager = Name::read(alloc, &schema, "cn=admin,dc=example,dc=com")?;
-    let store = Store::new(
-        alloc,
-        Schema::built_in(alloc)?,
-        Indexes::none(alloc),
-        suffix,
-    );
+    let shared = Arc::try_clone(&schema)?;
+    let store = Store::new(alloc, shared, Indexes::none(alloc), suffix);
     let directory = LocalDirectory::new(alloc, store, 0);
     Ok(Site {
         schema,

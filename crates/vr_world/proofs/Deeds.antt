@@ -11,9 +11,7 @@ use Rattle.vr_state.specs.declared.replica.Replica.{Replica}
 use Rattle.vr_world.specs.Acts.{state_of}
 use Rattle.vr_world.specs.Cluster.{up_state, used}
 use Rattle.vr_world.specs.Placed.{IsPlaced, ArePlaced}
-use Rattle.vr_world.specs.Shown.{standing}
 use Rattle.vr_world.specs.World.{put}
-use Rattle.vr_world.specs.declared.events.LabReply.TheVariants.{Down, Standing}
 
 -- What is written is there,
 pub get_written : {A : Type 0} (xs : List A) (i j : ℕ) (x : A) → j ≡ i → i < length xs → slice_get (set xs i x) j ≡ Some x
@@ -131,10 +129,6 @@ is_up_there {P} up i o b is h e = e ∙ same o ∙ ap (λ (z : Option (Option (R
     same None = refl
     same (Some r) = refl
 
--- What is shown of one that is down,
-pub down_there : {P : Type 0} (up : List (Option (Replica P))) (i : ℕ) (o : Option (Replica P)) → o ≡ None → o ≡ get_or up i o → i < length up → Down i ≡ standing i (up_state (slice_get up i))
-down_there {P} up i o e is h = ap (λ (z : Option (Option (Replica P))). standing i (up_state z)) (ap Some (sym e ∙ is) ∙ sym (slice_get-get_or up i o h))
-
--- and of one that is up.
-pub standing_there : {P : Type 0} (up : List (Option (Replica P))) (i : ℕ) (o : Option (Replica P)) (r : Replica P) → o ≡ Some r → o ≡ get_or up i o → i < length up → Standing i r.view_number r.status (length r.log) r.commit_number ≡ standing i (up_state (slice_get up i))
-standing_there {P} up i o r e is h = ap (λ (z : Option (Option (Replica P))). standing i (up_state z)) (ap Some (sym e ∙ is) ∙ sym (slice_get-get_or up i o h))
+-- The state of what is at a place.
+pub state_there : {P : Type 0} (o : Option (Option (Replica P))) → (r : Replica P) → o ≡ Some (Some r) → Some (state r) ≡ up_state o
+state_there o r e = sym (ap up_state e)

@@ -23,4 +23,5 @@ pub mod Places
 pub mod Deeds
 pub mod Telling
 pub mod Stepping
-pub mod Played
+pub mod Executions
+pub mod Laws

@@ -8,9 +8,7 @@ use Rattle.vr_state.specs.Views.{state}
 use Rattle.vr_state.specs.declared.replica.Replica.{Replica}
 use Rattle.vr_world.specs.Cluster.{up_state, used}
 use Rattle.vr_world.specs.Placed.{ArePlaced, IsFirst, AreFirst, AreUnused}
-use Rattle.vr_world.specs.Shown.{replies_in}
-use Rattle.vr_world.specs.World.{World, Message, start}
-use Rattle.vr_world.specs.declared.events.LabReply.{LabReply}
+use Rattle.vr_world.specs.World.{World, Message, ReplyBy, start}
 
 -- Where one is pushed, it is there,
 pub get_last : {A : Type 0} (xs : List A) (x : A) (k : ℕ) → k ≡ length xs → slice_get (xs ++ x ∷ []) k ≡ Some x
@@ -94,13 +92,13 @@ first_placed {P} n up stored f e k r h =
     }
 
 -- The first cluster is the first world.
-pub first_world : {P B : Type 0} (n : ℕ) (up : List (Option (Replica P))) (stored : List ℕ) (nonces : List (Vec ℕ B)) (messages : List (Message P)) (shown : List LabReply) → AreFirst n n up → stored ≡ replicate n 0 → AreUnused n nonces → messages ≡ [] → shown ≡ [] → ◌≡◌ {A = World P} (record { replicas = λ i. up_state (slice_get up i); stored = λ i. slice_index stored i; nonces = λ i. used (slice_get nonces i); messages = reverse messages; replies = reverse (replies_in shown) }) (start n)
-first_world {P} {B} n up stored nonces messages shown f hs hn hm hr =
+pub first_world : {P B : Type 0} (n : ℕ) (up : List (Option (Replica P))) (stored : List ℕ) (nonces : List (Vec ℕ B)) (messages : List (Message P)) (replies : List ReplyBy) → AreFirst n n up → stored ≡ replicate n 0 → AreUnused n nonces → messages ≡ [] → replies ≡ [] → ◌≡◌ {A = World P} (record { replicas = λ i. up_state (slice_get up i); stored = λ i. slice_index stored i; nonces = λ i. used (slice_get nonces i); messages = reverse messages; replies = reverse replies }) (start n)
+first_world {P} {B} n up stored nonces messages replies f hs hn hm hr =
     let zero_views : (i : ℕ) → slice_index stored i ≡ 0 = λ i. ap (λ (l : List ℕ). slice_index l i) hs ∙ all_zero n i in
     λ t. record {
       replicas = λ i. first_up n up f i t;
       stored = λ i. zero_views i t;
       nonces = λ i. first_nonces n nonces hn i t;
       messages = reverse (hm t);
-      replies = reverse (replies_in (hr t));
+      replies = reverse (hr t);
     }

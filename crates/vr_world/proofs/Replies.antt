@@ -17,7 +17,7 @@ use Rattle.vr_world.proofs.Theorems.{committed_stays, replica_agrees}
 use Rattle.vr_world.specs.Law.{IsSize}
 use Rattle.vr_world.specs.World.{has_used, World, ReplyBy, Message, WorldEvent, answered, made, stepped, delivered, recovered, sent_as, happens, run}
 use Rattle.vr_state.specs.declared.event.Event.TheVariants as event
-use Rattle.vr_world.specs.World.WorldEvent.{Request, Deliver, Suspect, Beat, Crash, Recover}
+use Rattle.vr_world.specs.declared.events.WorldEvent.TheVariants.{Request, Deliver, Suspect, Beat, Crash, Recover}
 
 -- a reply was there or is new
 replies_new : (i : ℕ) (rs : List Reply) (ts : List ReplyBy) (t : ReplyBy) → In t (answered i rs ts) → In t ts ⊎ In t.reply rs

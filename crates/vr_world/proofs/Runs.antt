@@ -22,7 +22,7 @@ use Rattle.vr_world.specs.Law.{IsSize}
 use Rattle.vr_world.specs.World.{World, Message, WorldEvent, stepped, delivered, crashed, sent_as, happens, run}
 use Rattle.vr_state.specs.declared.event.Event.TheVariants as event
 use Rattle.vr_state.specs.declared.message.PeerMessage.TheVariants.{Prepare, PrepareOk, Commit, StartViewChange, DoViewChange, StartView, GetState, NewState, Recovery, RecoveryResponse}
-use Rattle.vr_world.specs.World.WorldEvent.{Request, Deliver, Suspect, Beat, Crash, Recover}
+use Rattle.vr_world.specs.declared.events.WorldEvent.TheVariants.{Request, Deliver, Suspect, Beat, Crash, Recover}
 
 module _ {P : Type 0} (n : ℕ) (size : IsSize n) (replicas : ℕ → Option (State P)) (stored : ℕ → ℕ) (given : Given P) (ms : List (Message P)) (inv : Invariant n replicas stored given ms) (i : ℕ) (r : State P) (up : replicas i ≡ Some r) where
   peer_fine : (from : ℕ) (b : PeerMessage P) → (from ≡ i → ⊥) → Sent (enveloped from i b) ms → FineAt n replicas stored given ms i (on_peer_message n i r from b)

@@ -7,7 +7,7 @@ use Rattle.vr_state.specs.declared.words.Status.{Status}
 use Rattle.vr_world.specs.Committed.{committed}
 use Rattle.vr_world.specs.World.{World, WorldEvent, ReplyBy, happens, start, after}
 use Rattle.vr_state.specs.declared.words.Status.TheVariants.{Normal, Recovering}
-use Rattle.vr_world.specs.World.WorldEvent.{Request, Deliver, Suspect, Beat, Crash, Recover}
+use Rattle.vr_world.specs.declared.events.WorldEvent.TheVariants.{Request, Deliver, Suspect, Beat, Crash, Recover}
 
 -- An event, some deliveries in turn, or a look at a replica.
 pub data Action : Type 0 where

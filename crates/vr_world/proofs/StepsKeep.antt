@@ -13,12 +13,12 @@ use Rattle.vr_world.proofs.NormalEvents.{up_of}
 use Rattle.vr_world.proofs.Runs.{happens_holds}
 use Rattle.vr_world.proofs.Invariant.{Holds}
 use Rattle.vr_world.proofs.Theorems.{after_holds, committed_stays, replica_agrees, run-append}
-use Rattle.vr_world.specs.Law.{StepsKeep}
+use Rattle.vr_world.specs.Law.{CommitsAreHeld, StepsKeep}
 use Rattle.vr_world.specs.World.{has_used, World, Message, WorldEvent, made, stepped, delivered, recovered, sent_as, happens, start, after}
 use Rattle.vr_state.proofs.StepPromises.{commits_rise}
 use Rattle.vr_state.specs.declared.event.Event.TheVariants as event
 use Rattle.vr_state.specs.declared.words.Status.TheVariants.{Normal, ViewChange, Recovering}
-use Rattle.vr_world.specs.World.WorldEvent.{Request, Deliver, Suspect, Beat, Crash, Recover}
+use Rattle.vr_world.specs.declared.events.WorldEvent.TheVariants.{Request, Deliver, Suspect, Beat, Crash, Recover}
 
 -- a replica has what it has committed
 within_of : {P : Type 0} (n : ℕ) (past : ℕ → List (Entry P)) (w : World P) → Holds n past w → (i : ℕ) (r : State P) → w.replicas i ≡ Some r → r.commit_number ≤ length r.log
@@ -28,6 +28,10 @@ within_of {P} n past w inv i r up = go r.status (up_of n w.replicas w.stored (re
     go Normal h = h.active.within
     go ViewChange h = h.active.within
     go Recovering h = omega (arith, h.nothing)
+
+-- Each has what it has committed.
+pub commits_are_held : {P : Type 0} → CommitsAreHeld P
+commits_are_held n size es i r up = within_of n (λ v. []) (after n es) (after_holds n size es) i r up
 
 -- The same of a world.
 module _ {P : Type 0} (n i : ℕ) (r s : State P) where

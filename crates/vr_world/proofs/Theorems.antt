@@ -27,7 +27,7 @@ use Rattle.vr_world.specs.World.{has_used, World, Message, WorldEvent, posted, s
 use Rattle.vr_state.specs.declared.event.Event.TheVariants as event
 use Rattle.vr_state.specs.declared.message.PeerMessage.TheVariants.{Recovery}
 use Rattle.vr_state.specs.declared.words.Status.TheVariants.{Normal, ViewChange, Recovering}
-use Rattle.vr_world.specs.World.WorldEvent.{Request, Deliver, Suspect, Beat, Crash, Recover}
+use Rattle.vr_world.specs.declared.events.WorldEvent.TheVariants.{Request, Deliver, Suspect, Beat, Crash, Recover}
 
 -- The invariant holds at the start.
 pub start_holds : {P : Type 0} (n : ℕ) → Holds {P = P} n (λ v. []) (start n)

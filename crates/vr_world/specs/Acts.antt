@@ -1,6 +1,6 @@
 -- What the parts of a cluster's code do. In: a cluster and what is done. Out: the world after it, in the words of specs/World.
 -- No rule of a world is made here.
-use Rattle.std.specs.Prelude.{ℕ, nat_lt, ◌&&◌, not, Bool, cond, is_some, List, [], ◌∷◌, map, Option, Some, option_map}
+use Rattle.std.specs.Prelude.{ℕ, nat_lt, ◌&&◌, not, Bool, cond, is_some, List, ◌∷◌, map, Option, Some, option_map}
 use Rattle.vr_state.specs.declared.words.Reply.{Reply}
 use Rattle.vr_state.specs.declared.event.Event.{Event}
 use Rattle.vr_state.specs.declared.message.Send.{Send}
@@ -10,16 +10,12 @@ use Rattle.vr_state.specs.Step.{step}
 use Rattle.vr_state.specs.Views.{state}
 use Rattle.vr_recover.specs.Rules.{recovers}
 use Rattle.vr_world.specs.Cluster.{world}
-use Rattle.vr_world.specs.Shown.{given_since, happening, shown, standing}
-use Rattle.vr_world.specs.World.{World, answered, crashed, delivered, has_used, made, posted, put, recovered, run, sent_as, stepped}
+use Rattle.vr_world.specs.World.{World, ReplyBy, answered, crashed, delivered, has_used, made, posted, put, recovered, sent_as, stepped}
 use Rattle.vr_world.specs.declared.cluster.Cluster.{Cluster}
-use Rattle.vr_world.specs.declared.events.LabEvent.{LabEvent}
-use Rattle.vr_world.specs.declared.events.LabReply.{LabReply}
-use Rattle.vr_world.specs.declared.events.LabReply.TheVariants.{Replied}
 
--- These replies of replica i, as they are shown.
-abbrev pub shown_replies : ℕ → List Reply → List LabReply
-shown_replies i rs = map Replied (map (λ r. record { replica = i; reply = r }) rs)
+-- These replies, given by replica i.
+abbrev pub given_by : ℕ → List Reply → List ReplyBy
+given_by i rs = map (λ r. record { replica = i; reply = r }) rs
 
 -- The state of a replica, if there is one.
 abbrev pub state_of : {P : Type 0} → Option (Replica P) → Option (State P)
@@ -36,10 +32,6 @@ told i sends replies w = record w { messages = posted i sends w.messages; replie
 -- A step of replica i, if it is up.
 abbrev pub stepped_at : {P : Type 0} → Cluster P → ℕ → Event P → World P
 stepped_at k i e = stepped i (λ r. step k.count i r e) ((world k).replicas i) (world k)
-
--- The replies that came with a change, as they are shown.
-abbrev pub newly_shown : {P : Type 0} → Cluster P → Cluster P → List LabReply
-newly_shown old new = given_since (world old).replies (world new).replies
 
 -- The message with number k comes to its receiver.
 abbrev pub delivered_at : {P : Type 0} → Cluster P → ℕ → World P
@@ -64,15 +56,3 @@ may_come_back n i x w = nat_lt i n && (not (is_some (w.replicas i)) && not (has_
 -- Replica i comes back in its stored view with this nonce.
 abbrev pub come_back : {P : Type 0} → ℕ → ℕ → ℕ → World P → World P
 come_back n i x w = made i (recovers n i (w.stored i) x) w
-
--- What is shown of the state of replica i, if there is one.
-abbrev pub state_shown : {P : Type 0} → Cluster P → ℕ → List LabReply
-state_shown k i = cond (nat_lt i k.count) (standing i ((world k).replicas i) ∷ []) []
-
--- What an event makes of the world of a cluster.
-abbrev pub happened_at : {P : Type 0} → Cluster P → LabEvent P → World P
-happened_at k e = run k.count (happening e) (world k)
-
--- What is shown at an event in the world of a cluster.
-abbrev pub shown_at : {P : Type 0} → Cluster P → LabEvent P → List LabReply
-shown_at k e = shown k.count (world k) e

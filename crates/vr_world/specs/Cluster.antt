@@ -5,7 +5,6 @@ use Rattle.vr_state.specs.State.{State}
 use Rattle.vr_state.specs.Views.{state}
 use Rattle.vr_state.specs.declared.replica.Replica.{Replica}
 use Rattle.vr_world.specs.World.{World}
-use Rattle.vr_world.specs.Shown.{replies_in}
 use Rattle.vr_world.specs.declared.cluster.Cluster.{Cluster}
 
 -- The state at a place: none where there is no replica, or it is down.
@@ -26,5 +25,5 @@ world k = record {
   stored = λ i. slice_index k.stored.items i;
   nonces = λ i. used (slice_get k.nonces.items i);
   messages = reverse k.messages.items;
-  replies = reverse (replies_in k.shown.items);
+  replies = reverse k.replies.items;
 }

@@ -1,11 +1,11 @@
 -- What replication promises, for every schedule. In: the world, and what is committed. Out: the clauses of the law.
 -- Safety alone: that anything is ever committed, or a recovery ever ends, is said nowhere.
-use Rattle.std.specs.Prelude.{◌≡◌, ℕ, ◌*◌, ◌+◌, ◌/◌, ◌≤◌, ◌⊎◌, List, [], ◌∷◌, ◌++◌, take, Some}
+use Rattle.std.specs.Prelude.{◌≡◌, ℕ, ◌*◌, ◌+◌, ◌/◌, ◌≤◌, ◌⊎◌, List, [], ◌∷◌, ◌++◌, take, length, Some}
 use Rattle.vr_state.specs.Lists.{IsPrefix, In, Rising, IsNamedIn}
 use Rattle.vr_state.specs.State.{State}
 use Rattle.vr_state.specs.declared.words.Entry.{Entry}
 use Rattle.vr_world.specs.Committed.{IsChosen, committed}
-use Rattle.vr_world.specs.World.{ReplyBy, WorldEvent, after}
+use Rattle.vr_world.specs.World.{World, ReplyBy, WorldEvent, happens, after}
 
 -- An odd number of replicas, three at least: 2f + 1.
 pub record IsSize (n : ℕ) : Type 0 where
@@ -33,6 +33,10 @@ abbrev pub ReplicasAgree : Type 0 → Type 0
 ReplicasAgree P = (n : ℕ) → IsSize n → (es : List (WorldEvent P)) (i : ℕ) (r : State P) → (after n es).replicas i ≡ Some r →
     IsPrefix (take r.commit_number r.log) (committed n (after n es).messages)
 
+-- A replica's log has the records that its commit-number counts.
+abbrev pub CommitsAreHeld : Type 0 → Type 0
+CommitsAreHeld P = (n : ℕ) → IsSize n → (es : List (WorldEvent P)) (i : ℕ) (r : State P) → (after n es).replicas i ≡ Some r → r.commit_number ≤ length r.log
+
 -- Each client's request numbers rise along what is committed.
 abbrev pub NumbersRise : Type 0 → Type 0
 NumbersRise P = (n : ℕ) → IsSize n → (es : List (WorldEvent P)) → Rising (committed n (after n es).messages)
@@ -41,6 +45,22 @@ NumbersRise P = (n : ℕ) → IsSize n → (es : List (WorldEvent P)) → Rising
 abbrev pub RepliesAreCommitted : Type 0 → Type 0
 RepliesAreCommitted P = (n : ℕ) → IsSize n → (es : List (WorldEvent P)) (t : ReplyBy) → In t (after n es).replies →
     IsNamedIn t.reply (committed n (after n es).messages)
+
+-- The replica that gave a reply is up and has committed a record that the reply names.
+pub record IsExecuted {P : Type 0} (w : World P) (t : ReplyBy) : Type 0 where
+  pub replica : State P
+  pub up : w.replicas t.replica ≡ Some replica
+  pub named : IsNamedIn t.reply (take replica.commit_number replica.log)
+
+-- The replies that came from one world to another, the newest first; each names what its replica has committed by then.
+pub record GivenSince {P : Type 0} (old new : World P) : Type 0 where
+  pub given : List ReplyBy
+  pub replies : new.replies ≡ given ++ old.replies
+  pub executed : (t : ReplyBy) → In t given → IsExecuted new t
+
+-- At each event the replies that are given name what their replica has committed by then.
+abbrev pub RepliesAreExecuted : Type 0 → Type 0
+RepliesAreExecuted P = (n : ℕ) (w : World P) (e : WorldEvent P) → GivenSince w (happens n w e)
 
 -- A step keeps the records that its replica has committed.
 abbrev pub StepsKeep : Type 0 → Type 0

@@ -1,7 +1,6 @@
 pub mod World
 pub mod Committed
 pub mod Law
-pub mod Shown
 pub mod Placed
 pub mod Cluster
 pub mod Acts

@@ -6,12 +6,13 @@ use Rattle.vr_state.specs.Outcome.{Outcome, to_all}
 use Rattle.vr_state.specs.State.{State, first, recovering}
 use Rattle.vr_state.specs.Step.{step}
 use Rattle.vr_state.specs.declared.message.Send.{Send}
-use Rattle.vr_state.specs.declared.words.Entry.{Entry}
 use Rattle.vr_state.specs.declared.words.Reply.{Reply}
 use Rattle.vr_state.specs.declared.event.Event.TheVariants as event
 use Rattle.vr_state.specs.declared.message.PeerMessage.TheVariants.{Recovery}
 pub use Rattle.vr_world.specs.declared.words.Message.{Message}
 pub use Rattle.vr_world.specs.declared.words.ReplyBy.{ReplyBy}
+pub use Rattle.vr_world.specs.declared.events.WorldEvent.{WorldEvent}
+use Rattle.vr_world.specs.declared.events.WorldEvent.TheVariants.{Request, Deliver, Suspect, Beat, Crash, Recover}
 
 -- The world: the replicas that are up, what outlives their crashes, and all that was ever sent or answered.
 pub record World (P : Type 0) : Type 0 where
@@ -20,15 +21,6 @@ pub record World (P : Type 0) : Type 0 where
   pub nonces : ℕ → List ℕ  -- those that this replica has used
   pub messages : List (Message P)  -- each that was ever sent, the newest first
   pub replies : List ReplyBy  -- each that was ever given, the newest first
-
--- What may happen. A loss is a message that is never delivered; a repeated or late one is delivered again, or later.
-pub data WorldEvent (P : Type 0) : Type 0 where
-  Request : (i : ℕ) (entry : Entry P) → WorldEvent P
-  Deliver : (which : ℕ) → WorldEvent P  -- a message by its number, counted from 1 as sent
-  Suspect : (i : ℕ) → WorldEvent P
-  Beat : (i : ℕ) → WorldEvent P
-  Crash : (i : ℕ) → WorldEvent P
-  Recover : (i nonce : ℕ) → WorldEvent P
 
 -- f, but x at i.
 abbrev pub put : {A : Type 0} → ℕ → A → (ℕ → A) → ℕ → A

@@ -1,15 +1,15 @@
 // One event at a cluster: a replica makes a step, crashes or comes back, and what it sends is posted.
-// In: an index and an event, or a message's number. Out: the cluster after it, with what is shown.
+// In: an index and an event, or a message's number. Out: the cluster after it, its replies with it.
 // The order of events is not made here.
-ghost use Rattle.std.specs.Prelude.{◌≡◌, ◌<◌, ◌++◌, reverse, IfOk, OnOk, slice_index, unwrap_or};
+ghost use Rattle.std.specs.Prelude.{◌≡◌, ◌<◌, reverse, IfOk, OnOk, slice_index, unwrap_or};
 ghost use Rattle.vr_state.specs.Views.{outcome};
-ghost use Rattle.vr_world.specs.Acts.{crashed_at, delivered_at, newly_shown, stepped_at, told};
+ghost use Rattle.vr_world.specs.Acts.{crashed_at, delivered_at, stepped_at, told};
 ghost use Rattle.vr_world.specs.Cluster.{world};
 ghost use Rattle.vr_world.specs.World.{made, sent_as};
 
 use crate::cluster::Cluster;
 use crate::moving::{keep_up, take_away};
-use crate::posting::{post, show_replies};
+use crate::posting::{note_replies, post};
 use crate::words::Message;
 use std::alloc::{AllocError, Global};
 use vr_recover::step;
@@ -28,7 +28,6 @@ pub fn step_at<P: Payload>(
     event: Event<P>,
 ) -> Result<(), AllocError>
     ensures world { OnOk result (world cluster.new ≡ stepped_at cluster.old index event) }
-    ensures shown { OnOk result (cluster.new.shown.items ≡ cluster.old.shown.items ++ newly_shown cluster.old cluster.new) }
     ensures count { cluster.new.count ≡ cluster.old.count }
 {
     if cluster.count <= index {
@@ -51,7 +50,6 @@ pub fn deliver<P: Payload>(
     which: u64,
 ) -> Result<(), AllocError>
     ensures world { OnOk result (world cluster.new ≡ delivered_at cluster.old which) }
-    ensures shown { OnOk result (cluster.new.shown.items ≡ cluster.old.shown.items ++ newly_shown cluster.old cluster.new) }
     ensures count { cluster.new.count ≡ cluster.old.count }
 {
     match copy_sent(alloc, cluster.messages.as_slice(), which)? {
@@ -90,7 +88,6 @@ fn copy_sent<P: Payload>(
 /// A replica loses all but its stored view.
 pub fn crash<P: Drop>(cluster: &mut Cluster<P>, index: u64)
     ensures world { world cluster.new ≡ crashed_at cluster.old index }
-    ensures shown { cluster.new.shown.items ≡ cluster.old.shown.items ++ newly_shown cluster.old cluster.new }
     ensures count { cluster.new.count ≡ cluster.old.count }
 {
     if index < cluster.count {
@@ -99,7 +96,7 @@ pub fn crash<P: Drop>(cluster: &mut Cluster<P>, index: u64)
 }
 
 /// A replica is up after its step: its view is stored where the step says so, and then its messages are posted and its replies
-/// shown. Its only error is want of memory.
+/// noted. Its only error is want of memory.
 pub fn settle<P: Drop>(
     cluster: &mut Cluster<P>,
     replica: Replica<P>,
@@ -109,7 +106,6 @@ pub fn settle<P: Drop>(
     requires count { replica.count ≡ cluster.old.count }
     requires view { replica.view_number ≡ unwrap_or outputs.store (slice_index cluster.old.stored.items replica.index) }
     ensures world { OnOk result (world cluster.new ≡ made replica.index (outcome replica outputs) (world cluster.old)) }
-    ensures shown { OnOk result (cluster.new.shown.items ≡ cluster.old.shown.items ++ newly_shown cluster.old cluster.new) }
     ensures count { cluster.new.count ≡ cluster.old.count }
 {
     let index = replica.index;
@@ -122,7 +118,7 @@ pub fn settle<P: Drop>(
     tell(cluster, index, sends, &replies)
 }
 
-/// Posts what a replica sends, and shows what it answers. Its only error is want of memory.
+/// Posts what a replica sends, and notes what it answers. Its only error is want of memory.
 fn tell<P: Drop>(
     cluster: &mut Cluster<P>,
     index: u64,
@@ -130,10 +126,9 @@ fn tell<P: Drop>(
     replies: &[Reply],
 ) -> Result<(), AllocError>
     ensures world { OnOk result (world cluster.new ≡ told index sends.items replies.now (world cluster.old)) }
-    ensures shown { OnOk result (cluster.new.shown.items ≡ cluster.old.shown.items ++ newly_shown cluster.old cluster.new) }
     ensures count { cluster.new.count ≡ cluster.old.count }
 {
     post(&mut cluster.messages, index, sends)?;
-    show_replies(&mut cluster.shown, index, replies)?;
+    note_replies(&mut cluster.replies, index, replies)?;
     Ok(())
 }

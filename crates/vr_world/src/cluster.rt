@@ -1,11 +1,10 @@
 // A cluster: real replicas, what outlives their crashes, and all messages that were ever sent.
-// In: steps of replicas. Out: the cluster after them, and what is shown. Which event leads to which step stands in `lab`.
+// In: steps of replicas. Out: the cluster after them, and what it is asked. Which event leads to which step stands in `happening`.
 // Nothing is ever taken out of the network: a loss is a message that is never delivered.
 ghost use Rattle.std.specs.Prelude.{◌≡◌, length, slice_index};
 ghost use Rattle.vr_world.specs.Placed.{ArePlaced};
 
-use crate::events::LabReply;
-use crate::words::Message;
+use crate::words::{Message, ReplyBy};
 use vr_state::replica::Replica;
 
 /// Replicas by index, and the network between them.
@@ -21,8 +20,8 @@ pub struct Cluster<P> {
     pub nonces: Vec<Vec<u64>>,
     /// Each message that was ever sent, the oldest first.
     pub messages: Vec<Message<P>>,
-    /// What was shown so far.
-    pub shown: Vec<LabReply>,
+    /// Each reply that was ever given, the oldest first.
+    pub replies: Vec<ReplyBy>,
     ghost all_up: { length up.items ≡ count },
     ghost all_stored: { length stored.items ≡ count },
     ghost all_nonces: { length nonces.items ≡ count },

@@ -1,23 +1,24 @@
-//! Replicas under every schedule: what replication promises, whatever the network and crashes do, and a lab that plays
-//! schedules with real replicas. The definitions of a world, of what is committed and of what a lab shows are in `specs/`; here
-//! stands the law over them, and the lab whose replies it speaks of.
+//! Replicas under every schedule: what replication promises, whatever the network and crashes do. Events flow in, and a cluster of
+//! real replicas after them flows out, with all that was ever sent and answered. The definitions of a world and of what is committed
+//! are in `specs/`; here stands the law over them. Schedules, and what is asked of replicas between events, are not here.
 #![tactic(auto)]
 
-ghost use Rattle.vr_world.specs.Law.{ChosenAgree, CommittedIsLongest, CommittedGrows, ReplicasAgree};
-ghost use Rattle.vr_world.specs.Law.{NumbersRise, RepliesAreCommitted, StepsKeep};
+ghost use Rattle.vr_world.specs.Law.{ChosenAgree, CommittedIsLongest, CommittedGrows, ReplicasAgree, CommitsAreHeld};
+ghost use Rattle.vr_world.specs.Law.{NumbersRise, RepliesAreCommitted, RepliesAreExecuted, StepsKeep};
 
 mod acting;
-mod asking;
-mod cluster;
+pub mod cluster;
 pub mod events;
-pub mod lab;
+mod happening;
 mod moving;
 mod placing;
 mod posting;
 mod returning;
 pub mod words;
 
-pub use lab::Lab;
+pub use cluster::Cluster;
+pub use events::WorldEvent;
+pub use words::ReplyBy;
 
 /// The law: for every odd number of replicas of at least three and every list of events (requests, deliveries of any message
 /// ever sent, suspicions, beats, crashes, recoveries) there is one list of committed records, which only grows. The payload
@@ -31,10 +32,14 @@ pub fn one_committed_list<P>()
     ensures grows { CommittedGrows P }
     // The first k records of each replica, k its commit-number, are a beginning of it.
     ensures replicas { ReplicasAgree P }
+    // A replica's log has the records that its commit-number counts.
+    ensures held { CommitsAreHeld P }
     // Each client's request numbers rise along it, so that each request stands there once at most.
     ensures rising { NumbersRise P }
     // Each reply names the record at its place in it.
     ensures replies { RepliesAreCommitted P }
+    // A reply that is given names a record that its replica has committed by then.
+    ensures executed { RepliesAreExecuted P }
     // A step keeps the records that its replica has committed.
     ensures keep { StepsKeep P }
 {}

@@ -1,6 +1,6 @@
 // The places of a cluster: a replica goes, or comes with its view stored.
 // In: an index, or a replica. Out: the cluster with that place changed.
-// Nothing is sent or shown here.
+// Nothing is sent or answered here.
 ghost use Rattle.std.specs.Prelude.{◌≡◌, ◌<◌, IfSome, length, slice_index, slice_set, unwrap_or};
 ghost use Rattle.vr_state.specs.Views.{state};
 ghost use Rattle.vr_world.specs.Acts.{kept_up, state_of};
@@ -20,7 +20,6 @@ pub fn take_away<P: Drop>(cluster: &mut Cluster<P>, index: u64) -> Option<Replic
     ensures placed { IfSome result (λ replica. IsPlaced cluster.old.count index (slice_index cluster.old.stored.items index) replica) }
     ensures count { cluster.new.count ≡ cluster.old.count }
     ensures stored { cluster.new.stored ≡ cluster.old.stored }
-    ensures shown { cluster.new.shown ≡ cluster.old.shown }
 {
     replace(&mut cluster.up[index as usize], None)
 }
@@ -32,7 +31,6 @@ pub fn keep_up<P: Drop>(cluster: &mut Cluster<P>, replica: Replica<P>, store: Op
     requires view { replica.view_number ≡ unwrap_or store (slice_index cluster.old.stored.items replica.index) }
     ensures world { world cluster.new ≡ kept_up replica.index (state replica) (world cluster.old) }
     ensures count { cluster.new.count ≡ cluster.old.count }
-    ensures shown { cluster.new.shown ≡ cluster.old.shown }
 {
     store_view(&mut cluster.stored, replica.index, store);
     let index = replica.index as usize;

@@ -1,7 +1,7 @@
-// The first cluster: each replica at its place, nothing sent and nothing shown.
+// The first cluster: each replica at its place, nothing sent and nothing answered.
 // In: how many replicas there are. Out: the cluster at the start.
 // Nothing happens here.
-ghost use Rattle.std.specs.Prelude.{◌≡◌, [], replicate, IfOk};
+ghost use Rattle.std.specs.Prelude.{◌≡◌, replicate, IfOk};
 ghost use Rattle.vr_world.specs.Cluster.{world};
 ghost use Rattle.vr_world.specs.Placed.{AreFirst, AreUnused};
 ghost use Rattle.vr_world.specs.World.{start};
@@ -14,7 +14,6 @@ use vr_state::replica::Replica;
 pub fn first_cluster<P: Drop>(alloc: Global, count: u64) -> Result<Cluster<P>, AllocError>
     ensures ok { IfOk result (λ cluster. world cluster ≡ start count) }
     ensures count { IfOk result (λ cluster. cluster.count ≡ count) }
-    ensures shown { IfOk result (λ cluster. cluster.shown.items ≡ []) }
 {
     let up = first_replicas(alloc, count)?;
     let stored = first_views(alloc, count)?;
@@ -25,7 +24,7 @@ pub fn first_cluster<P: Drop>(alloc: Global, count: u64) -> Result<Cluster<P>, A
         stored,
         nonces,
         messages: Vec::new(alloc),
-        shown: Vec::new(alloc),
+        replies: Vec::new(alloc),
     })
 }
 

@@ -1,11 +1,10 @@
-// What a step leaves in the network and in what is shown.
-// In: sends and replies of one replica. Out: all messages with the new ones, all that is shown with the new replies.
+// What a step leaves in the network and among the replies.
+// In: sends and replies of one replica. Out: all messages with the new ones, all replies with the new ones.
 // No replica is looked at here.
 ghost use Rattle.std.specs.Prelude.{◌≡◌, ◌++◌, reverse, OnOk};
-ghost use Rattle.vr_world.specs.Acts.{shown_replies};
+ghost use Rattle.vr_world.specs.Acts.{given_by};
 ghost use Rattle.vr_world.specs.World.{posted};
 
-use crate::events::LabReply;
 use crate::words::{Message, ReplyBy};
 use std::alloc::AllocError;
 use vr_state::message::Send;
@@ -29,20 +28,19 @@ pub fn post<P: Drop>(
     Ok(())
 }
 
-/// Shows these replies of a replica, in their order. Its only error is want of memory.
-pub fn show_replies(
-    shown: &mut Vec<LabReply>,
+/// Notes these replies of a replica, in their order. Its only error is want of memory.
+pub fn note_replies(
+    noted: &mut Vec<ReplyBy>,
     replica: u64,
     replies: &[Reply],
 ) -> Result<(), AllocError>
-    ensures { OnOk result (shown.new.items ≡ shown.old.items ++ shown_replies replica replies.now) }
+    ensures { OnOk result (noted.new.items ≡ noted.old.items ++ given_by replica replies.now) }
 {
     for reply in replies {
-        let by = ReplyBy {
+        noted.push(ReplyBy {
             replica,
             reply: *reply,
-        };
-        shown.push(LabReply::Replied { by })?;
+        })?;
     }
     Ok(())
 }

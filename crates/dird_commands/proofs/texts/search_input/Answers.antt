@@ -5,7 +5,7 @@ use Rattle.local_directory.specs.ldap_requests.declared.search.Scope.{Scope}
 use Rattle.local_directory.specs.ldap_msg.Messages.{SearchRequestValue}
 use Rattle.local_directory.specs.ldap_msg.View.{search_view}
 use Rattle.local_directory.specs.ldap_schema.Schema.{SchemaModel}
-use Rattle.local_directory.specs.ldap_schema.BuiltIn.{built_in}
+use Rattle.schema_reader.specs.BuiltIn.{built_in}
 use Rattle.local_directory.specs.dir_store.Directory.{Directory}
 use Rattle.ldif_search.specs.Searched.{IsSearched}
 use Rattle.dird_commands.specs.Begun.{empty_directory}
@@ -32,8 +32,8 @@ pub returns : goal.returns
 returns g c =
     on_ok_weaker c.write_out.result
     (λ h. answered c.args.question.now.base.now c.args.question.now.scope c.args.question.now.filter.now _ (search_view c.in_ok-request.request)
-    c.in_ok-built_in.field-0 c.in_ok-store.store.directory (g.R.Read.remaining c.args.input.now) (g.W.Write.contents c.args.output.now)
+    c.in_ok-built_in_schema.field-0 c.in_ok-store.store.directory (g.R.Read.remaining c.args.input.now) (g.W.Write.contents c.args.output.now)
     (g.W.Write.contents c.write_out.new.output) c.in_ok-text.text.items c.deref.result.now c.in_ok-written.written.items c.deref-2.result.now
-    c.in_ok-request.ensures c.in_ok-text.ensures c.in_ok-built_in.ensures c.in_ok-store.ensures.directory c.deref.ensures.value
+    c.in_ok-request.ensures c.in_ok-text.ensures c.in_ok-built_in_schema.ensures (c.in_ok-store.ensures.directory ∙ ap empty_directory c.in_ok-schema.ensures.ok) c.deref.ensures.value
     c.in_ok-written.ensures.written c.deref-2.ensures.value h)
     c.write_out.ensures

@@ -1,10 +1,11 @@
 use Rattle.std.proofs.Common.{ℕ, Bor, List, ap₂, ◌∙◌}
-use Rattle.lab_script.specs.Script.{all_of, token_of, words_of}
+use Rattle.script_texts.specs.Each.{all_of}
+use Rattle.script_texts.proofs.Each.{after, texts_begin}
+use Rattle.lab_script.specs.Words.{token_of, words_of}
 use Rattle.lab_script.specs.declared.token.Token.{Token}
-use Rattle.lab_script.proofs.Each.{after, words_begin}
 use Rattle.lab_script.proofs.script.read_tokens.Goals as goal
 
 pub loop-word-init : goal.loop-word-init
 loop-word-init c =
     ap₂ (λ (ts : List Token) (ws : List (Bor (List ℕ))). after ts (all_of (λ (w : Bor (List ℕ)). token_of w.now) ws)) c.new-tokens.ensures.items c.deref-word-items.ensures.value
-    ∙ words_begin c.in_ok-words.words.items (words_of c.args.line.now) c.in_ok-words.ensures
+    ∙ texts_begin token_of c.in_ok-words.words.items (words_of c.args.line.now) c.in_ok-words.ensures

@@ -1,6 +1,7 @@
 use Rattle.std.proofs.Common.{◌≡◌, ℕ, Bor, List, drop}
-use Rattle.lab_script.specs.Script.{all_of, token_of, tokens_of, words_of}
-use Rattle.lab_script.proofs.Each.{after}
+use Rattle.script_texts.specs.Each.{all_of}
+use Rattle.script_texts.proofs.Each.{after}
+use Rattle.lab_script.specs.Words.{token_of, tokens_of, words_of}
 use Rattle.lab_script.proofs.script.read_tokens.Given as goal
 
 -- what is read so far, and then what is left, is all

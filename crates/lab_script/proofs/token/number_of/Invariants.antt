@@ -1,5 +1,5 @@
 use Rattle.std.proofs.Common.{◌≡◌, ◌≤◌, drop, Some}
-use Rattle.lab_script.specs.Script.{greatest, number_after}
+use Rattle.lab_script.specs.Words.{greatest, number_after}
 use Rattle.lab_script.proofs.token.number_of.Given as goal
 
 -- so far it is the number of these digits

@@ -1,0 +1,25 @@
+//! A question for a replica's state. A replica flows in; what is shown of it flows out. Nothing happens here.
+ghost use Rattle.std.specs.Prelude.{◌≡◌};
+ghost use Rattle.std.specs.Option.{option_map};
+ghost use Rattle.vr_state.specs.Views.{state};
+ghost use Rattle.dir_lab.specs.Shown.{shown_view, standing};
+
+use crate::events::LabReply;
+use dir_executed::Op;
+use vr_state::replica::Replica;
+
+/// What is shown of the state of a replica with this index.
+pub fn standing(index: u64, replica: Option<&Replica<Op>>) -> LabReply
+    ensures { shown_view result ≡ standing index (option_map (λ r. state r.now) replica.entry) }
+{
+    match replica {
+        None => LabReply::Down { replica: index },
+        Some(replica) => LabReply::Standing {
+            replica: index,
+            view_number: replica.view_number,
+            status: replica.status,
+            op_number: replica.log.len() as u64,
+            commit_number: replica.commit_number,
+        },
+    }
+}

@@ -1,0 +1,10 @@
+use Rattle.std.proofs.Common.{◌≡◌, Err, ap}
+use Rattle.lab_script.specs.Lines.{IsSearch}
+use Rattle.lab_script.specs.declared.fault.LineError.TheVariants.{BadLine}
+use Rattle.lab_script.proofs.Refusals.{no_one}
+use Rattle.lab_script.proofs.script.read_search_line.Goals as goal
+
+pub returns-in-Err-clause-bad : goal.returns-in-Err-clause-bad
+returns-in-Err-clause-bad c = λ e es.
+    let same : c.in-Err.error ≡ BadLine = cc in
+    no_one (IsSearch c.args.rest.now) es (c.in-Err.ensures.bad (ap Err same))
