@@ -1,10 +1,13 @@
 -- Output that grows line by line, and input that is read line by line. Facts on octets flow in and out; no value of the program is here.
-use Rattle.std.proofs.Common.{◌≡◌, ℕ, ◌+◌, ◌<◌, List, [], ◌∷◌, ◌++◌, Option, None, Some, refl, ap, sym, subst, ◌∙◌, map, length, take, get_or, append_assoc}
+use Rattle.std.proofs.Common.{◌≡◌, ℕ, ◌+◌, ◌<◌, List, [], ◌∷◌, ◌++◌, Option, None, Some, refl, ap, sym, subst, ◌∙◌, map, length, take, drop, get_or, append_assoc, take-append-drop}
 use Rattle.std.proofs.lemmas.List.{take_more}
 use Rattle.std.specs.Io.KnownBytes.{Appends}
+use Rattle.std.proofs.KnownBytes.{Appends-nil}
 use Rattle.ldap_session.specs.ldap_msg.Messages.{MessageValue}
 use Rattle.ldap_session.specs.ldap_msg.Written.{message_bytes}
 use Rattle.hex_session.specs.Lines.{hex_line, hex_lines, message_lines}
+use Rattle.hex_session.specs.Faults.{IsWriteFault, IsCutOff}
+use Rattle.hex_session.specs.declared.fault.LineFault.{LineFault}
 
 pub append-nil : {A : Type 0} (xs : List A) → xs ++ [] ≡ xs
 append-nil [] = refl
@@ -44,3 +47,36 @@ lines_more items list i x lt is =
 pub line_done : {A : Type 0} (items : A → List ℕ) (list : List A) (i : ℕ) (x : A) (a b d : Option (List ℕ)) → i < length list → x ≡ get_or list i x → Appends a b (hex_lines (map items (take i list))) → Appends b d (hex_line (items x))
     → Appends a d (hex_lines (map items (take (i + 1) list)))
 line_done items list i x a b d lt is p q = subst (Appends a d) (lines_more items list i x lt is) (appends_both a b d (hex_lines (map items (take i list))) (hex_line (items x)) p q)
+
+map_append : {A B : Type 0} (f : A → B) (xs ys : List A) → map f (xs ++ ys) ≡ map f xs ++ map f ys
+map_append f [] ys = refl
+map_append f (x ∷ xs) ys = ap (λ (l : List _). f x ∷ l) (map_append f xs ys)
+
+lines_split : {A : Type 0} (items : A → List ℕ) (list : List A) (n : ℕ) → hex_lines (map items list) ≡ hex_lines (map items (take n list)) ++ hex_lines (map items (drop n list))
+lines_split items list n =
+    ap (λ (l : List _). hex_lines (map items l)) (sym (take-append-drop n list))
+    ∙ ap hex_lines (map_append items (take n list) (drop n list))
+    ∙ lines_append (map items (take n list)) (map items (drop n list))
+
+-- a line is cut off, behind the lines before it
+pub line_cut : {A : Type 0} (items : A → List ℕ) (list : List A) (i : ℕ) (x : A) (octets : List ℕ) (a b d : Option (List ℕ)) (fault : LineFault) → i < length list → x ≡ get_or list i x → octets ≡ items x →
+    Appends a b (hex_lines (map items (take i list))) → IsCutOff b d (hex_line octets) fault → IsCutOff a d (hex_lines (map items list)) fault
+line_cut items list i x octets a b d fault lt is whose p q = record {
+  kind = q.kind;
+  taken = hex_lines (map items (take i list)) ++ q.taken;
+  appended = appends_both a b d (hex_lines (map items (take i list))) q.taken p q.appended;
+  front = record {
+    rest = q.front.rest ++ hex_lines (map items (drop (i + 1) list));
+    is =
+        lines_split items list (i + 1)
+        ∙ ap (λ (l : List ℕ). l ++ hex_lines (map items (drop (i + 1) list)))
+        (sym (lines_more items list i x lt is)
+        ∙ ap (λ (l : List ℕ). hex_lines (map items (take i list)) ++ l) (ap hex_line (sym whose) ∙ q.front.is)
+        ∙ sym (append_assoc (hex_lines (map items (take i list))) q.taken q.front.rest))
+        ∙ append_assoc (hex_lines (map items (take i list)) ++ q.taken) q.front.rest (hex_lines (map items (drop (i + 1) list)));
+  };
+}
+
+-- nothing of octets is written
+pub none_written : (a : Option (List ℕ)) (octets : List ℕ) (fault : LineFault) → IsWriteFault fault → IsCutOff a a octets fault
+none_written a octets fault kind = record { kind = kind; taken = []; appended = Appends-nil a; front = record { rest = octets; is = refl } }

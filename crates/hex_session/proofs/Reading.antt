@@ -1,7 +1,8 @@
 -- Sessions over lines, a line at a time. Facts on octets and sessions flow in and out; no value of the program is here.
-use Rattle.std.proofs.Common.{◌≡◌, ◌⊎◌, inl, inr, ℕ, suc, ◌+◌, List, Vec, Global, arith, [], ◌∷◌, ◌++◌, Option, None, Some, IfSome, refl, ap, sym, subst, ◌∙◌, append_assoc, append-nil}
+use Rattle.std.proofs.Common.{◌≡◌, ◌⊎◌, inl, inr, ℕ, suc, ◌+◌, List, Vec, Global, arith, [], ◌∷◌, ◌++◌, Option, None, Some, Result, Ok, Err, IfOk, IfErr, IfSome, refl, ap, sym, subst, ◌∙◌, append_assoc, append-nil}
 use Rattle.std.specs.Io.KnownBytes.{Appends}
-use Rattle.ldap_session.specs.ldap_framer.Framed.{HasSeen}
+use Rattle.ldap_session.specs.ldap_framer.Framed.{ending_of, HasSeen}
+use Rattle.ldap_session.specs.ldap_msg.Messages.{MessageValue}
 use Rattle.ldap_session.specs.session_talk.Talk.{Exchange}
 use Rattle.ldap_session.specs.session_talk.Talk as talk
 use Rattle.ldap_session.specs.session_rules.Session.{ConfigValue, at_first}
@@ -12,15 +13,15 @@ use Rattle.ldap_session.specs.session_rules.declared.answered.Next.TheVariants.{
 use Rattle.ldap_session.specs.Octets.{joined}
 use Rattle.ldap_session.specs.View.{SessionValue}
 use Rattle.ldap_session.specs.Progress.{Reached, IsAtLast}
-use Rattle.ldap_session.specs.Serving.{IsCaughtUp, Ends}
+use Rattle.ldap_session.specs.Serving.{IsCaughtUp, IsEnd, Ends}
 use Rattle.ldap_session.specs.declared.end.SessionEnd.{SessionEnd}
 use Rattle.ldap_session.specs.declared.end.SessionEnd.TheVariants.{Unbound, EndOfInput, Truncated, Disconnected, ReadFailed, WriteFailed, NoMemory}
-use Rattle.ldap_session.proofs.Written.{joined_append}
+use Rattle.ldap_session.proofs.Written.{joined_append, whole_front}
 use Rattle.ldap_session.proofs.Progressed.{ends_here}
-use Rattle.ldap_session.proofs.Served.{last}
+use Rattle.ldap_session.proofs.Served.{awaiting, last}
 use Rattle.hex_session.specs.Lines.{after_line, after_lines, BeginsWith, Spell, stops, skips, spells, message_lines}
-use Rattle.hex_session.specs.Faults.{IsLineFault, IsWriteFault}
-use Rattle.hex_session.specs.Answered.{ComesTo, HasFed, EndsBy, IsUntouched, Takes, IsAllRead, IsAnswered, Answers, IsCause, IsCutShort, Fails}
+use Rattle.hex_session.specs.Faults.{IsLineFault, IsReadFault, IsWriteFault, end_of}
+use Rattle.hex_session.specs.Answered.{ComesTo, HasFed, HasFailedAt, EndsBy, IsUntouched, Takes, FailsAt, IsAllRead, IsAnswered, Answers, IsCause, IsCutShort, Fails}
 use Rattle.hex_session.specs.declared.line.Line.{Line}
 use Rattle.hex_session.specs.declared.line.Line.TheVariants.{End, Blank, Piece}
 use Rattle.hex_session.specs.declared.answering.Flow.{Flow}
@@ -139,6 +140,11 @@ line_taken allows c first d e s t (Some xs) b left None w v n line flow h begins
 line_taken allows c first d e s t (Some xs) b left (Some ys) w v n line flow h begins takes is =
     goes_on allows c first d e s t xs ys b left w v n line h begins (subst (λ (f : Flow). Takes allows c d e s t line w v f) is takes)
 
+-- what a line made of a session, as it came out
+pub takes_as : {D T : Type 0} (allows : D → Exchange T → D → Type 0) (c : ConfigValue) (d e : D) (s t : SessionValue) (line : Line) (w v : Option (List ℕ)) (r : Result Flow LineFault) (flow to : Flow) →
+    r ≡ Ok flow → flow ≡ to → IfOk r (λ f. Takes allows c d e s t line w v f) → Takes allows c d e s t line w v to
+takes_as allows c d e s t line w v r flow to ok is h = subst (λ (x : Result Flow LineFault). IfOk x (λ f. Takes allows c d e s t line w v f)) (ok ∙ ap Ok is) h
+
 -- the last word of a session that ends so
 end_comes : {D T : Type 0} (allows : D → Exchange T → D → Type 0) (c : ConfigValue) (first e : D) (t : SessionValue) (read written : List ℕ) (next : Next) (end : SessionEnd) → EndsBy end next →
     ComesTo allows c first e t read written next → Ends message_lines allows c first e read written end
@@ -211,27 +217,50 @@ line_ends allows c first d e s t (Some xs) b left None w v n line flow end h beg
 line_ends allows c first d e s t (Some xs) b left (Some ys) w v n line flow end h begins takes is =
     ends_by_line allows c first d e s t xs ys b left w v n line end h begins (subst (λ (f : Flow). Takes allows c d e s t line w v f) is takes)
 
+-- what an end at a fault of reading says of a session that is caught up
+caught_end : (fault : LineFault) (s : SessionValue) (rs : List MessageValue) (written : List ℕ) → IsReadFault fault → IsCaughtUp s → written ≡ message_lines rs →
+    IsEnd message_lines (end_of fault) GoesOn s.framed.ready (ending_of s.framed.fault s.framed.rest) rs (written ++ [])
+caught_end (BadHexLine number) s rs written kind caught are = absurd kind
+caught_end CannotRead s rs written kind caught are = (refl, caught.none_ready, awaiting s.framed.fault s.framed.rest caught.no_fault, append-nil written ∙ are)
+caught_end CannotWrite s rs written kind caught are = absurd kind
+caught_end TooLong s rs written kind caught are = absurd kind
+caught_end NoMemoryFault s rs written kind caught are = inl (whole_front (message_lines rs) written are)
+
+bad_end : (s : SessionValue) (rs : List MessageValue) (written : List ℕ) → IsCaughtUp s → written ≡ message_lines rs →
+    IsEnd message_lines ReadFailed GoesOn s.framed.ready (ending_of s.framed.fault s.framed.rest) rs (written ++ [])
+bad_end s rs written caught are = (refl, caught.none_ready, awaiting s.framed.fault s.framed.rest caught.no_fault, append-nil written ∙ are)
+
 -- lines that are answered, up to one that can't be read
 cut_short : {D T : Type 0} (allows : D → Exchange T → D → Type 0) (c : ConfigValue) (first d : D) (s : SessionValue) (xs ys : List ℕ) (b w : Option (List ℕ)) (n : ℕ) (fault : LineFault) →
-    (h : Lines allows c first d s xs b ys w n) → IsCause fault h.before (after_lines h.before xs) → IsCutShort allows c first d xs ys w fault
-cut_short allows c first d s xs ys b w n fault h cause = record {
+    (h : Lines allows c first d s xs b ys w n) → IsCause fault h.before (after_lines h.before xs) →
+    IsEnd message_lines (end_of fault) GoesOn s.framed.ready (ending_of s.framed.fault s.framed.rest) h.reached.responses (h.more ++ []) → IsCutShort allows c first d xs ys w fault
+cut_short allows c first d s xs ys b w n fault h cause is = record {
   before = h.before;
   pieces = h.pieces;
   more = h.more;
   spell = h.spell;
   grown_is = h.grown_is;
   ends =
-      subst (λ (l : List ℕ). Ends message_lines allows c first d (joined h.pieces) l ReadFailed) (append-nil h.more)
-      (ends_here message_lines allows c first d s (joined h.pieces) h.more [] ReadFailed h.reached (refl, h.caught_up.none_ready, append-nil h.more ∙ h.reached.written_are));
+      subst (λ (l : List ℕ). Ends message_lines allows c first d (joined h.pieces) l (end_of fault)) (append-nil h.more)
+      (ends_here message_lines allows c first d s (joined h.pieces) h.more [] (end_of fault) h.reached is);
   cause = cause;
 }
 
--- the input can't be read any further
-pub unread : {D T : Type 0} (allows : D → Exchange T → D → Type 0) (c : ConfigValue) (first d : D) (s : SessionValue) (i b o w : Option (List ℕ)) (n : ℕ) →
-    LinesSoFar allows c first d s i b o w n → Fails allows c first d i o w CannotRead
-unread allows c first d s None b o w n h = tt
-unread allows c first d s (Some xs) b None w n h = tt
-unread allows c first d s (Some xs) b (Some ys) w n h = cut_short allows c first d s xs ys b w n CannotRead h tt
+no_cause : (fault : LineFault) (before : ℕ) (rest : List ℕ) → IsReadFault fault → IsCause fault before rest
+no_cause (BadHexLine number) before rest kind = absurd kind
+no_cause CannotRead before rest kind = tt
+no_cause CannotWrite before rest kind = absurd kind
+no_cause TooLong before rest kind = absurd kind
+no_cause NoMemoryFault before rest kind = tt
+
+-- the input can't be read any further, or there is no memory for a line
+pub unread : {D T : Type 0} (allows : D → Exchange T → D → Type 0) (c : ConfigValue) (first d : D) (s : SessionValue) (i b o w : Option (List ℕ)) (n : ℕ) (fault : LineFault) →
+    LinesSoFar allows c first d s i b o w n → IsReadFault fault → Fails allows c first d i o w fault
+unread allows c first d s None b o w n fault h kind = tt
+unread allows c first d s (Some xs) b None w n fault h kind = tt
+unread allows c first d s (Some xs) b (Some ys) w n fault h kind =
+    cut_short allows c first d s xs ys b w n fault h (no_cause fault h.before (after_lines h.before xs) kind)
+    (caught_end fault s h.reached.responses h.more kind h.caught_up h.reached.written_are)
 
 -- the next line is no hex
 bad_line : {D T : Type 0} (allows : D → Exchange T → D → Type 0) (c : ConfigValue) (first d : D) (s : SessionValue) (i b o w : Option (List ℕ)) (n named : ℕ) →
@@ -240,21 +269,81 @@ bad_line allows c first d s None b o w n named h bad = tt
 bad_line allows c first d s (Some xs) b None w n named h bad = tt
 bad_line allows c first d s (Some xs) b (Some ys) w n named h bad =
     let k : IsLineFault (after_lines h.before xs) n (BadHexLine named) = of_left b (after_lines h.before xs) (λ (zs : List ℕ). IsLineFault zs n (BadHexLine named)) h.left_is bad in
-    cut_short allows c first d s xs ys b w n (BadHexLine named) h (k.0 ∙ h.numbered, k.1)
+    cut_short allows c first d s xs ys b w n (BadHexLine named) h (k.0 ∙ h.numbered, k.1) (bad_end s h.reached.responses h.more h.caught_up h.reached.written_are)
+
+-- where the octets that are left are known, what is said of them
+not_line : {D T : Type 0} (allows : D → Exchange T → D → Type 0) (c : ConfigValue) (first d : D) (s : SessionValue) (i b o w : Option (List ℕ)) (n : ℕ) (fault : LineFault) →
+    LinesSoFar allows c first d s i b o w n → IfSome b (λ zs. ⊥) → Fails allows c first d i o w fault
+not_line allows c first d s None b o w n fault h bad = tt
+not_line allows c first d s (Some xs) b None w n fault h bad = tt
+not_line allows c first d s (Some xs) b (Some ys) w n fault h bad = absurd (of_left b (after_lines h.before xs) (λ (zs : List ℕ). ⊥) h.left_is bad)
 
 -- a fault of reading the next line
 pub line_fails : {D T : Type 0} (allows : D → Exchange T → D → Type 0) (c : ConfigValue) (first d : D) (s : SessionValue) (i b o w : Option (List ℕ)) (n : ℕ) (fault : LineFault) →
     LinesSoFar allows c first d s i b o w n → IfSome b (λ zs. IsLineFault zs n fault) → Fails allows c first d i o w fault
 line_fails allows c first d s i b o w n (BadHexLine named) h bad = bad_line allows c first d s i b o w n named h bad
-line_fails allows c first d s i b o w n CannotRead h bad = unread allows c first d s i b o w n h
-line_fails allows c first d s i b o w n CannotWrite h bad = tt
-line_fails allows c first d s i b o w n TooLong h bad = tt
-line_fails allows c first d s i b o w n NoMemoryFault h bad = tt
+line_fails allows c first d s i b o w n CannotRead h bad = unread allows c first d s i b o w n CannotRead h tt
+line_fails allows c first d s i b o w n CannotWrite h bad = not_line allows c first d s i b o w n CannotWrite h bad
+line_fails allows c first d s i b o w n TooLong h bad = not_line allows c first d s i b o w n TooLong h bad
+line_fails allows c first d s i b o w n NoMemoryFault h bad = unread allows c first d s i b o w n NoMemoryFault h tt
+
+-- the same, as it is handed on
+pub line_fails_as : {D T : Type 0} (allows : D → Exchange T → D → Type 0) (c : ConfigValue) (first d : D) (s : SessionValue) (i b o w : Option (List ℕ)) (n : ℕ) (r : Result SessionEnd LineFault) (handed fault : LineFault) →
+    r ≡ Err handed → handed ≡ fault → LinesSoFar allows c first d s i b o w n → IfSome b (λ zs. IsLineFault zs n fault) → IfErr r (λ f. Fails allows c first d i o w f)
+line_fails_as allows c first d s i b o w n r handed fault err is h bad =
+    subst (λ (x : Result SessionEnd LineFault). IfErr x (λ f. Fails allows c first d i o w f)) (sym (err ∙ ap Err is)) (line_fails allows c first d s i b o w n fault h bad)
+
+write_cause : (fault : LineFault) (before : ℕ) (rest : List ℕ) → IsWriteFault fault → IsCause fault before rest
+write_cause (BadHexLine number) before rest kind = absurd kind
+write_cause CannotRead before rest kind = absurd kind
+write_cause CannotWrite before rest kind = tt
+write_cause TooLong before rest kind = tt
+write_cause NoMemoryFault before rest kind = tt
+
+-- a piece whose answers end by a fault; it counts as read where it was taken
+piece_fails : {D T : Type 0} (allows : D → Exchange T → D → Type 0) (c : ConfigValue) (first d e : D) (s : SessionValue) (xs ys : List ℕ) (b left w v : Option (List ℕ)) (n : ℕ) (piece : Vec ℕ Global) (fault : LineFault) →
+    Lines allows c first d s xs b ys w n → IfSome b (λ zs. BeginsWith zs (Piece piece) left) → HasFailedAt allows c d e s piece.items w v fault → IsCutShort allows c first e xs ys v fault
+piece_fails {D} {T} allows c first d e s xs ys b left w v n piece fault h begins f = by f.takes
+  where
+    k : BeginsWith (after_lines h.before xs) (Piece piece) left
+    k = of_left b (after_lines h.before xs) (λ (zs : List ℕ). BeginsWith zs (Piece piece) left) h.left_is begins
+
+    come : Ends message_lines allows c first e (joined h.pieces ++ f.taken) (h.more ++ f.more) (end_of fault)
+    come = f.comes first (joined h.pieces) h.more h.reached
+
+    by : (f.taken ≡ piece.items) ⊎ ((f.taken ≡ []) × (fault ≡ NoMemoryFault)) → IsCutShort allows c first e xs ys v fault
+    by (inl whole) = record {
+      before = suc h.before;
+      pieces = h.pieces ++ piece.items ∷ [];
+      more = h.more ++ f.more;
+      spell = spell_then xs (after_lines h.before xs) (after_line (after_lines h.before xs)) h.pieces (piece.items ∷ []) h.spell (spells piece.items k.1 k.2 stops);
+      grown_is = grown_to w v ys h.more f.more h.grown_is f.appended;
+      ends =
+          subst (λ (l : List ℕ). Ends message_lines allows c first e l (h.more ++ f.more) (end_of fault))
+          (ap (λ (l : List ℕ). joined h.pieces ++ l) whole ∙ stream_more h.pieces piece.items) come;
+      cause = write_cause fault (suc h.before) (after_lines (suc h.before) xs) f.kind;
+    }
+    by (inr (none, x)) = record {
+      before = h.before;
+      pieces = h.pieces;
+      more = h.more ++ f.more;
+      spell = h.spell;
+      grown_is = grown_to w v ys h.more f.more h.grown_is f.appended;
+      ends =
+          subst (λ (l : List ℕ). Ends message_lines allows c first e l (h.more ++ f.more) (end_of fault))
+          (ap (λ (l : List ℕ). joined h.pieces ++ l) none ∙ append-nil (joined h.pieces)) come;
+      cause = write_cause fault h.before (after_lines h.before xs) f.kind;
+    }
+
+fails_at : {D T : Type 0} (allows : D → Exchange T → D → Type 0) (c : ConfigValue) (first d e : D) (s : SessionValue) (xs ys : List ℕ) (b left w v : Option (List ℕ)) (n : ℕ) (line : Line) (fault : LineFault) →
+    Lines allows c first d s xs b ys w n → IfSome b (λ zs. BeginsWith zs line left) → FailsAt allows c d e s line w v fault → IsCutShort allows c first e xs ys v fault
+fails_at allows c first d e s xs ys b left w v n End fault h begins f = absurd f
+fails_at allows c first d e s xs ys b left w v n Blank fault h begins f = absurd f
+fails_at allows c first d e s xs ys b left w v n (Piece piece) fault h begins f = piece_fails allows c first d e s xs ys b left w v n piece fault h begins f
 
 -- a fault of answering or writing
-pub answer_fails : {D T : Type 0} (allows : D → Exchange T → D → Type 0) (c : ConfigValue) (first d : D) (i o w : Option (List ℕ)) (fault : LineFault) → IsWriteFault fault → Fails allows c first d i o w fault
-answer_fails allows c first d i o w (BadHexLine named) is = absurd is
-answer_fails allows c first d i o w CannotRead is = absurd is
-answer_fails allows c first d i o w CannotWrite is = tt
-answer_fails allows c first d i o w TooLong is = tt
-answer_fails allows c first d i o w NoMemoryFault is = tt
+pub answer_fails : {D T : Type 0} (allows : D → Exchange T → D → Type 0) (c : ConfigValue) (first d e : D) (s : SessionValue) (i b left o w v : Option (List ℕ)) (n : ℕ) (line : Line) (fault : LineFault) →
+    LinesSoFar allows c first d s i b o w n → IfSome b (λ zs. BeginsWith zs line left) → FailsAt allows c d e s line w v fault → Fails allows c first e i o v fault
+answer_fails allows c first d e s None b left o w v n line fault h begins f = tt
+answer_fails allows c first d e s (Some xs) b left None w v n line fault h begins f = tt
+answer_fails allows c first d e s (Some xs) b left (Some ys) w v n line fault h begins f = fails_at allows c first d e s xs ys b left w v n line fault h begins f

@@ -1,23 +1,30 @@
 -- What a session over lines has written when it goes on or ends. Facts on definitions flow in and out; no value of the program is here.
-use Rattle.std.proofs.Common.{◌≡◌, ◌⊎◌, inl, inr, ℕ, List, [], ◌∷◌, ◌++◌, Option, None, Some, Ok, refl, ap, sym, subst, ◌∙◌, map, append_assoc, append-nil}
+use Rattle.std.proofs.Common.{◌≡◌, ◌⊎◌, inl, inr, ℕ, List, [], ◌∷◌, ◌++◌, Option, None, Some, Result, Ok, Err, IfOk, IfErr, refl, ap, sym, subst, ◌∙◌, map, append_assoc, append-nil}
 use Rattle.std.specs.Io.KnownBytes.{Appends}
 use Rattle.std.proofs.KnownBytes.{Appends-nil, Appends-trans}
 use Rattle.ldap_session.specs.ldap_msg.Messages.{MessageValue}
+use Rattle.ldap_session.specs.ldap_framer.Stream.{Ending}
 use Rattle.ldap_session.specs.session_talk.Talk.{Exchange}
 use Rattle.ldap_session.specs.session_rules.Responses.{notice}
 use Rattle.ldap_session.specs.session_rules.Session.{ConfigValue}
 use Rattle.ldap_session.specs.session_rules.declared.answered.Answered.{Answered}
 use Rattle.ldap_session.specs.session_rules.declared.answered.Next.{Next}
 use Rattle.ldap_session.specs.session_rules.declared.answered.Next.TheVariants.{GoesOn, Unbound as UnboundNext, Disconnected as DisconnectedNext}
+use Rattle.ldap_session.specs.session_rules.message_rules.declared.fault.AnswerError.{AnswerError}
+use Rattle.ldap_session.specs.Octets.{IsFront}
 use Rattle.ldap_session.specs.View.{SessionValue}
 use Rattle.ldap_session.specs.Progress.{IsWritten, AnswersNext, IsIdle, Answers, Reached}
-use Rattle.ldap_session.specs.Serving.{IsCaughtUp}
-use Rattle.ldap_session.specs.declared.end.SessionEnd.TheVariants.{Unbound, Disconnected}
+use Rattle.ldap_session.specs.Serving.{IsFrontDue, IsEnd, Ends, IsCaughtUp}
+use Rattle.ldap_session.specs.declared.end.SessionEnd.TheVariants.{Unbound, Disconnected, NoMemory}
 use Rattle.ldap_session.proofs.Progressed.{reached_more, ends_with, ends_here, goes_apart_too}
-use Rattle.ldap_session.proofs.Worked.{stopped_by}
+use Rattle.ldap_session.proofs.Written.{whole_front}
+use Rattle.ldap_session.proofs.Worked.{stopped_by, front_of, no_front}
 use Rattle.ldap_session.proofs.Served.{HasTaken, piece_reached}
 use Rattle.hex_session.specs.Lines.{hex_lines, message_lines}
-use Rattle.hex_session.specs.Answered.{ComesTo, HasWorked, HasFed}
+use Rattle.hex_session.specs.Faults.{IsWriteFault, end_of, IsCutOff}
+use Rattle.hex_session.specs.Answered.{ComesTo, HasPut, HasWorked, HasFailed, HasFlushed, HasNotFlushed, HasFed, HasFailedAt}
+use Rattle.hex_session.specs.declared.fault.LineFault.{LineFault}
+use Rattle.hex_session.specs.declared.fault.LineFault.TheVariants.{BadHexLine, CannotRead, CannotWrite, TooLong, NoMemory as NoMemoryFault}
 use Rattle.hex_session.proofs.Growing.{messages_append, written_lines}
 
 -- a session that has answered some messages, and written so many lines for them
@@ -41,9 +48,13 @@ abbrev pub Answered1 : {D T : Type 0} → (D → Exchange T → D → Type 0) �
 Answered1 allows c s t d e given =
     AnswersNext allows c s t d e given ⊎ (IsIdle s t d e × (s.framed.fault ≡ None → ⊥) × IsWritten given (notice ∷ []) DisconnectedNext)
 
-pub answered_some : {D T : Type 0} (allows : D → Exchange T → D → Type 0) (c : ConfigValue) (s t : SessionValue) (d e : D) (o : Option Answered) (given : Answered) →
-    o ≡ Some given → Answers allows c s t d e (Ok o) → Answered1 allows c s t d e given
-answered_some allows c s t d e o given is h = subst (λ (x : Option Answered). Answers allows c s t d e (Ok x)) is h
+pub answered_some : {D T : Type 0} (allows : D → Exchange T → D → Type 0) (c : ConfigValue) (s t : SessionValue) (d e : D) (r : Result (Option Answered) AnswerError) (o : Option Answered) (given : Answered) →
+    r ≡ Ok o → o ≡ Some given → Answers allows c s t d e r → Answered1 allows c s t d e given
+answered_some allows c s t d e r o given ok is h = subst (λ (x : Result (Option Answered) AnswerError). Answers allows c s t d e x) (ok ∙ ap Ok is) h
+
+-- it is written, and the session goes on or ends
+pub put_as : (o g : Option (List ℕ)) (given : Answered) (r : Result Next LineFault) (n m : Next) → r ≡ Ok n → n ≡ m → IfOk r (λ next. HasPut o g given next) → HasPut o g given m
+put_as o g given r n m ok is h = subst (λ (x : Result Next LineFault). IfOk x (λ next. HasPut o g given next)) (ok ∙ ap Ok is) h
 
 -- a message more is answered, and the session goes on
 pub more_answered : {D T : Type 0} (allows : D → Exchange T → D → Type 0) (c : ConfigValue) (old now e : D) (s0 s t : SessionValue) (o g h : Option (List ℕ)) (given : Answered) →
@@ -96,7 +107,7 @@ last_notice allows c first now s t read written given UnboundNext none fault w r
     apart e = cc
 last_notice allows c first now s t read written given DisconnectedNext none fault w r is =
     ends_here message_lines allows c first now s read written (message_lines (notice ∷ [])) Disconnected r
-    (inr (refl, none, stopped_by s.framed.fault s.framed.rest fault, all_of r.responses (notice ∷ []) written r.written_are))
+    (inr ((refl, none, stopped_by s.framed.fault s.framed.rest fault), all_of r.responses (notice ∷ []) written r.written_are))
 
 -- a message, or what is none, is answered, and the session ends
 pub last_answered : {D T : Type 0} (allows : D → Exchange T → D → Type 0) (c : ConfigValue) (old now e : D) (s0 s t : SessionValue) (o g h : Option (List ℕ)) (given : Answered) (next : Next) →
@@ -118,11 +129,131 @@ last_answered allows c old now e s0 s t o g h given next w (inr (idle, fault, wr
       (last_notice allows c first now s t read (written ++ w.more) given next idle.none fault wr (w.comes first read written r) is));
 }
 
--- a piece is taken, and answered
-pub fed : {D T : Type 0} (allows : D → Exchange T → D → Type 0) (c : ConfigValue) (old now : D) (s u t : SessionValue) (piece : List ℕ) (o g : Option (List ℕ)) (next : Next) →
-    HasTaken s u piece → u.state ≡ s.state → HasWorked allows c old now u t o g next → HasFed allows c old now s t piece o g next
-fed allows c old now s u t piece o g next taken state w = record {
+-- what an end by a fault of answering or writing says
+due_end : (fault : LineFault) (next : Next) (more : List MessageValue) (ending : Ending) (rs : List MessageValue) (written : List ℕ) → IsWriteFault fault →
+    IsFrontDue message_lines next more ending rs written → IsEnd message_lines (end_of fault) next more ending rs written
+due_end (BadHexLine number) next more ending rs written kind f = absurd kind
+due_end CannotRead next more ending rs written kind f = absurd kind
+due_end CannotWrite next more ending rs written kind f = f
+due_end TooLong next more ending rs written kind f = f
+due_end NoMemoryFault next more ending rs written kind f = f
+
+-- the lines of an answer are cut off
+cut_off : {D T : Type 0} (allows : D → Exchange T → D → Type 0) (c : ConfigValue) (first now e : D) (s t : SessionValue) (read written more : List ℕ) (given : Answered) (fault : LineFault) →
+    Answered1 allows c s t now e given → IsWriteFault fault → IsFront more (hex_lines (map (λ v. v.items) given.responses.items)) → Reached message_lines allows c first now s read written →
+    Ends message_lines allows c first e read (written ++ more) (end_of fault)
+cut_off allows c first now e s t read written more given fault (inl a) kind front r =
+    ends_with message_lines allows c first now e s t read written more a.reaction (end_of fault) a.takes r
+    (due_end fault _ _ _ _ _ kind (inl (front_of message_lines messages_append r.responses a.reaction.responses written more r.written_are
+    (subst (λ (l : List ℕ). IsFront more l) (lines_are given a.reaction.responses a.reaction.next a.written) front))))
+cut_off allows c first now e s t read written more given fault (inr (idle, stopped, w)) kind front r =
+    subst (λ (x : _). Ends message_lines allows c first x read (written ++ more) (end_of fault)) (sym idle.untouched)
+    (ends_here message_lines allows c first now s read written more (end_of fault) r
+    (due_end fault _ _ _ _ _ kind (inr (
+      (refl, idle.none, stopped_by s.framed.fault s.framed.rest stopped),
+      front_of message_lines messages_append r.responses (notice ∷ []) written more r.written_are
+          (subst (λ (l : List ℕ). IsFront more l) (lines_are given (notice ∷ []) DisconnectedNext w) front),
+    ))))
+
+-- an answer can't be written
+pub not_put : {D T : Type 0} (allows : D → Exchange T → D → Type 0) (c : ConfigValue) (old now e : D) (s0 s t : SessionValue) (o g h : Option (List ℕ)) (given : Answered) (fault : LineFault) →
+    SoFar allows c old now s0 s o g → Answered1 allows c s t now e given → IsCutOff g h (hex_lines (map (λ v. v.items) given.responses.items)) fault → HasFailed allows c old e s0 o h fault
+not_put allows c old now e s0 s t o g h given fault w a cut = record {
+  kind = cut.kind;
+  more = w.more ++ cut.taken;
+  appended = Appends-trans o g h w.more cut.taken w.appended cut.appended;
+  comes = λ first read written r.
+      subst (λ (l : List ℕ). Ends message_lines allows c first e read l (end_of fault)) (append_assoc written w.more cut.taken)
+      (cut_off allows c first now e s t read (written ++ w.more) cut.taken given fault a cut.kind cut.front (w.comes first read written r));
+}
+
+-- a session that stands somewhere ends there, by a fault of writing
+ends_by : {D T : Type 0} (allows : D → Exchange T → D → Type 0) (c : ConfigValue) (first d : D) (s : SessionValue) (read written : List ℕ) (fault : LineFault) → IsWriteFault fault →
+    Reached message_lines allows c first d s read written → Ends message_lines allows c first d read written (end_of fault)
+ends_by allows c first d s read written fault kind r =
+    subst (λ (l : List ℕ). Ends message_lines allows c first d read l (end_of fault)) (append-nil written)
+    (ends_here message_lines allows c first d s read written [] (end_of fault) r (due_end fault _ _ _ _ _ kind (inl (whole_front (message_lines r.responses) written r.written_are))))
+
+-- a message can't be answered
+pub not_answered : {D T : Type 0} (allows : D → Exchange T → D → Type 0) (c : ConfigValue) (old now e : D) (s0 s t : SessionValue) (o g : Option (List ℕ)) (error : AnswerError) (fault : LineFault) →
+    SoFar allows c old now s0 s o g → Answers allows c s t now e (Err error) → IsWriteFault fault → HasFailed allows c old e s0 o g fault
+not_answered allows c old now e s0 s t o g error fault w (inl a) kind = record {
+  kind = kind;
+  more = w.more;
+  appended = w.appended;
+  comes = λ first read written r.
+      let x = w.comes first read written r in
+      subst (λ (l : List ℕ). Ends message_lines allows c first e read l (end_of fault)) (append-nil (written ++ w.more))
+      (ends_with message_lines allows c first now e s t read (written ++ w.more) [] a.reaction (end_of fault) a.takes x
+      (due_end fault _ _ _ _ _ kind (inl (front_of message_lines messages_append x.responses a.reaction.responses (written ++ w.more) [] x.written_are (no_front (message_lines a.reaction.responses))))));
+}
+not_answered allows c old now e s0 s t o g error fault w (inr (idle, stopped, apart)) kind = record {
+  kind = kind;
+  more = w.more;
+  appended = w.appended;
+  comes = λ first read written r.
+      subst (λ (y : _). Ends message_lines allows c first y read (written ++ w.more) (end_of fault)) (sym idle.untouched)
+      (ends_by allows c first now s read (written ++ w.more) fault kind (w.comes first read written r));
+}
+
+-- there is no memory for a piece
+pub not_fed : {D T : Type 0} (allows : D → Exchange T → D → Type 0) (c : ConfigValue) (d : D) (s : SessionValue) (piece : List ℕ) (o : Option (List ℕ)) → HasFailedAt allows c d d s piece o o NoMemoryFault
+not_fed allows c d s piece o = record {
+  kind = tt;
+  taken = [];
+  takes = inr (refl, refl);
+  more = [];
+  appended = Appends-nil o;
+  comes = λ first read written r.
+      subst (λ (l : List ℕ). Ends message_lines allows c first d l (written ++ []) NoMemory) (sym (append-nil read))
+      (subst (λ (l : List ℕ). Ends message_lines allows c first d read l NoMemory) (sym (append-nil written)) (ends_by allows c first d s read written NoMemoryFault tt r));
+}
+
+-- a piece is taken, and its answers end by a fault
+pub fed_failed : {D T : Type 0} (allows : D → Exchange T → D → Type 0) (c : ConfigValue) (old now : D) (s u : SessionValue) (piece : List ℕ) (o g : Option (List ℕ)) (fault : LineFault) →
+    HasTaken s u piece → u.state ≡ s.state → HasFailed allows c old now u o g fault → HasFailedAt allows c old now s piece o g fault
+fed_failed allows c old now s u piece o g fault taken state w = record {
+  kind = w.kind;
+  taken = piece;
+  takes = inl refl;
   more = w.more;
   appended = w.appended;
   comes = λ first read written r. w.comes first (read ++ piece) written (piece_reached message_lines allows c first old s u piece read written taken state r);
 }
+
+-- a piece is taken and answered, and the output can't be flushed
+pub fed_not_flushed : {D T : Type 0} (allows : D → Exchange T → D → Type 0) (c : ConfigValue) (old now : D) (s u t : SessionValue) (piece : List ℕ) (o g h : Option (List ℕ)) (next : Next) (fault : LineFault) →
+    HasTaken s u piece → u.state ≡ s.state → HasWorked allows c old now u t o g next → HasNotFlushed g h next fault → HasFailedAt allows c old now s piece o h fault
+fed_not_flushed allows c old now s u t piece o g h next fault taken state w f = record {
+  kind = subst (λ (x : LineFault). IsWriteFault x) (sym f.cause) tt;
+  taken = piece;
+  takes = inl refl;
+  more = w.more;
+  appended = subst (λ (l : List ℕ). Appends o h l) (append-nil w.more) (Appends-trans o g h w.more [] w.appended f.appended);
+  comes = λ first read written r.
+      ends_by allows c first now t (read ++ piece) (written ++ w.more) fault (subst (λ (x : LineFault). IsWriteFault x) (sym f.cause) tt)
+      (subst (λ (n : Next). ComesTo allows c first now t (read ++ piece) (written ++ w.more) n) f.goes
+      (w.comes first (read ++ piece) written (piece_reached message_lines allows c first old s u piece read written taken state r))).0;
+}
+
+-- a piece is taken, and answered
+pub fed : {D T : Type 0} (allows : D → Exchange T → D → Type 0) (c : ConfigValue) (old now : D) (s u t : SessionValue) (piece : List ℕ) (o g h : Option (List ℕ)) (next after : Next) →
+    HasTaken s u piece → u.state ≡ s.state → HasWorked allows c old now u t o g next → HasFlushed g h next after → HasFed allows c old now s t piece o h after
+fed allows c old now s u t piece o g h next after taken state w f = record {
+  more = w.more;
+  appended = subst (λ (l : List ℕ). Appends o h l) (append-nil w.more) (Appends-trans o g h w.more [] w.appended f.appended);
+  comes = λ first read written r.
+      subst (λ (n : Next). ComesTo allows c first now t (read ++ piece) (written ++ w.more) n) (sym f.same)
+      (w.comes first (read ++ piece) written (piece_reached message_lines allows c first old s u piece read written taken state r));
+}
+
+-- the same, as the flush comes out
+pub fed_if : {D T : Type 0} (allows : D → Exchange T → D → Type 0) (c : ConfigValue) (old now : D) (s u t : SessionValue) (piece : List ℕ) (o g h : Option (List ℕ)) (next : Next) (r : Result Next LineFault) →
+    HasTaken s u piece → u.state ≡ s.state → HasWorked allows c old now u t o g next → IfOk r (λ after. HasFlushed g h next after) → IfOk r (λ after. HasFed allows c old now s t piece o h after)
+fed_if allows c old now s u t piece o g h next (Ok after) taken state w f = fed allows c old now s u t piece o g h next after taken state w f
+fed_if allows c old now s u t piece o g h next (Err fault) taken state w f = tt
+
+pub not_flushed_if : {D T : Type 0} (allows : D → Exchange T → D → Type 0) (c : ConfigValue) (old now : D) (s u t : SessionValue) (piece : List ℕ) (o g h : Option (List ℕ)) (next : Next) (r : Result Next LineFault) →
+    HasTaken s u piece → u.state ≡ s.state → HasWorked allows c old now u t o g next → IfErr r (λ fault. HasNotFlushed g h next fault) → IfErr r (λ fault. HasFailedAt allows c old now s piece o h fault)
+not_flushed_if allows c old now s u t piece o g h next (Ok after) taken state w f = tt
+not_flushed_if allows c old now s u t piece o g h next (Err fault) taken state w f = fed_not_flushed allows c old now s u t piece o g h next fault taken state w f

@@ -1,6 +1,6 @@
 -- What a session over lines of hex comes to. An input, an output and a directory before and after flow in. What a session makes of its stream
 -- is below.
-use Rattle.std.specs.Prelude.{◌≡◌, ℕ, suc, List, [], ◌++◌, map, Option, Some, IfSome}
+use Rattle.std.specs.Prelude.{◌≡◌, ◌⊎◌, ℕ, suc, List, [], ◌++◌, map, Option, Some, IfSome}
 use Rattle.std.specs.Io.KnownBytes.{Appends}
 use Rattle.ldap_session.specs.session_talk.Talk.{Exchange}
 use Rattle.ldap_session.specs.session_rules.Session.{ConfigValue}
@@ -14,7 +14,7 @@ use Rattle.ldap_session.specs.Serving.{IsCaughtUp, Ends}
 use Rattle.ldap_session.specs.declared.end.SessionEnd.{SessionEnd}
 use Rattle.ldap_session.specs.declared.end.SessionEnd.TheVariants.{Unbound, EndOfInput, Truncated, Disconnected, ReadFailed, WriteFailed, NoMemory}
 use Rattle.hex_session.specs.Lines.{Spell, hex_lines, message_lines, after_lines}
-use Rattle.hex_session.specs.Faults.{IsBadLine}
+use Rattle.hex_session.specs.Faults.{IsBadLine, IsWriteFault, end_of}
 use Rattle.hex_session.specs.declared.line.Line.{Line}
 use Rattle.hex_session.specs.declared.line.Line.TheVariants.{End, Blank, Piece}
 use Rattle.hex_session.specs.declared.answering.Flow.{Flow}
@@ -39,7 +39,22 @@ pub record HasWorked {D T : Type 0} (allows : D → Exchange T → D → Type 0)
   pub appended : Appends output grown more
   pub comes : (first : D) (read written : List ℕ) → Reached message_lines allows c first old s read written → ComesTo allows c first now t read (written ++ more) next
 
--- The same, where it has read a piece before.
+-- Wherever a session stood, its answers end by this fault, and it has written more lines, or a front of them.
+pub record HasFailed {D T : Type 0} (allows : D → Exchange T → D → Type 0) (c : ConfigValue) (old now : D) (s : SessionValue) (output grown : Option (List ℕ)) (fault : LineFault) : Type 0 where
+  pub kind : IsWriteFault fault
+  pub more : List ℕ
+  pub appended : Appends output grown more
+  pub comes : (first : D) (read written : List ℕ) → Reached message_lines allows c first old s read written → Ends message_lines allows c first now read (written ++ more) (end_of fault)
+
+-- The same of either, where it has read a piece before; the piece is not taken, where memory is wanting for it.
+pub record HasFailedAt {D T : Type 0} (allows : D → Exchange T → D → Type 0) (c : ConfigValue) (old now : D) (s : SessionValue) (piece : List ℕ) (output grown : Option (List ℕ)) (fault : LineFault) : Type 0 where
+  pub kind : IsWriteFault fault
+  pub taken : List ℕ
+  pub takes : (taken ≡ piece) ⊎ ((taken ≡ []) × (fault ≡ NoMemoryFault))
+  pub more : List ℕ
+  pub appended : Appends output grown more
+  pub comes : (first : D) (read written : List ℕ) → Reached message_lines allows c first old s read written → Ends message_lines allows c first now (read ++ taken) (written ++ more) (end_of fault)
+
 pub record HasFed {D T : Type 0} (allows : D → Exchange T → D → Type 0) (c : ConfigValue) (old now : D) (s t : SessionValue) (piece : List ℕ) (output grown : Option (List ℕ)) (next : Next) : Type 0 where
   pub more : List ℕ
   pub appended : Appends output grown more
@@ -70,6 +85,23 @@ Takes allows c d e s t Blank output grown (EndsWith end) = ⊥
 Takes allows c d e s t (Piece v) output grown Goes = HasFed allows c d e s t v.items output grown GoesOn
 Takes allows c d e s t (Piece v) output grown (EndsWith end) = (next : Next) × EndsBy end next × HasFed allows c d e s t v.items output grown next
 
+-- what is written goes on its way, and nothing else changes
+pub record HasFlushed (output grown : Option (List ℕ)) (before after : Next) : Type 0 where
+  pub appended : Appends output grown []
+  pub same : after ≡ before
+
+-- the output can't be flushed, where the session would go on
+pub record HasNotFlushed (output grown : Option (List ℕ)) (before : Next) (fault : LineFault) : Type 0 where
+  pub appended : Appends output grown []
+  pub goes : before ≡ GoesOn
+  pub cause : fault ≡ CannotWrite
+
+-- what a line makes of a session whose answers end by a fault: it is a piece, and taken, but for want of memory
+abbrev pub FailsAt : {D T : Type 0} → (D → Exchange T → D → Type 0) → ConfigValue → D → D → SessionValue → Line → Option (List ℕ) → Option (List ℕ) → LineFault → Type 0
+FailsAt allows c d e s End output grown fault = ⊥
+FailsAt allows c d e s Blank output grown fault = ⊥
+FailsAt allows c d e s (Piece v) output grown fault = HasFailedAt allows c d e s v.items output grown fault
+
 -- all of an input was read, where its end is what ended the session
 abbrev pub IsAllRead : SessionEnd → List ℕ → Type 0
 IsAllRead Unbound rest = Unit {0}
@@ -96,30 +128,27 @@ pub record IsAnswered {D T : Type 0} (allows : D → Exchange T → D → Type 0
 abbrev pub Answers : {D T : Type 0} → (D → Exchange T → D → Type 0) → ConfigValue → D → D → Option (List ℕ) → Option (List ℕ) → Option (List ℕ) → Option (List ℕ) → SessionEnd → Type 0
 Answers allows c d e input left output grown end = IfSome input (λ xs. IfSome output (λ ys. IsAnswered allows c d e xs left ys grown end))
 
--- which fault comes behind so many lines, where this is left: a line is named, counted from 1, that is no hex; or the input can't be read
+-- Which fault comes behind so many lines, where this is left: a line is named, counted from 1, that is no hex. Of the others, what they are
+-- says why.
 abbrev pub IsCause : LineFault → ℕ → List ℕ → Type 0
 IsCause (BadHexLine number) before rest = (number ≡ suc before) × IsBadLine rest
 IsCause CannotRead before rest = Unit {0}
-IsCause CannotWrite before rest = ⊥
-IsCause TooLong before rest = ⊥
-IsCause NoMemoryFault before rest = ⊥
+IsCause CannotWrite before rest = Unit {0}
+IsCause TooLong before rest = Unit {0}
+IsCause NoMemoryFault before rest = Unit {0}
 
--- The lines before one that can't be read spell the pieces of a stream, all whole messages of that stream are answered, and the output has
--- grown by all their responses, each a line.
+-- The lines up to a fault spell the pieces of a stream. Before a line that can't be read all whole messages of that stream are answered, and the
+-- output has grown by all their responses, each a line. Where the output can't be written, a response is too long or memory is wanting, it has
+-- grown by a front of these lines, with the notice only where it is due.
 pub record IsCutShort {D T : Type 0} (allows : D → Exchange T → D → Type 0) (c : ConfigValue) (d e : D) (xs ys : List ℕ) (grown : Option (List ℕ)) (fault : LineFault) : Type 0 where
   pub before : ℕ
   pub pieces : List (List ℕ)
   pub more : List ℕ
   pub spell : Spell xs pieces (after_lines before xs)
   pub grown_is : grown ≡ Some (ys ++ more)
-  pub ends : Ends message_lines allows c d e (joined pieces) more ReadFailed
+  pub ends : Ends message_lines allows c d e (joined pieces) more (end_of fault)
   pub cause : IsCause fault before (after_lines before xs)
 
--- What a fault says, where the octets of the input and the output are known; nothing of one that comes of answering or writing, or of
--- want of memory.
+-- the same, where the octets of the input and the output are known
 abbrev pub Fails : {D T : Type 0} → (D → Exchange T → D → Type 0) → ConfigValue → D → D → Option (List ℕ) → Option (List ℕ) → Option (List ℕ) → LineFault → Type 0
-Fails allows c d e input output grown (BadHexLine number) = IfSome input (λ xs. IfSome output (λ ys. IsCutShort allows c d e xs ys grown (BadHexLine number)))
-Fails allows c d e input output grown CannotRead = IfSome input (λ xs. IfSome output (λ ys. IsCutShort allows c d e xs ys grown CannotRead))
-Fails allows c d e input output grown CannotWrite = Unit {0}
-Fails allows c d e input output grown TooLong = Unit {0}
-Fails allows c d e input output grown NoMemoryFault = Unit {0}
+Fails allows c d e input output grown fault = IfSome input (λ xs. IfSome output (λ ys. IsCutShort allows c d e xs ys grown fault))

@@ -1,5 +1,10 @@
--- What ends a session over lines early: which fault comes of what. Octets of an input flow in.
-use Rattle.std.specs.Prelude.{◌≡◌, ℕ, List, false}
+-- What ends a session over lines early: which fault comes of what, and how far an output has grown then. Octets of an input and of an output
+-- flow in.
+use Rattle.std.specs.Prelude.{◌≡◌, ℕ, List, false, Option}
+use Rattle.std.specs.Io.KnownBytes.{Appends}
+use Rattle.ldap_session.specs.Octets.{IsFront}
+use Rattle.ldap_session.specs.declared.end.SessionEnd.{SessionEnd}
+use Rattle.ldap_session.specs.declared.end.SessionEnd.TheVariants.{ReadFailed, WriteFailed, NoMemory as NoMemoryEnd}
 use Rattle.hex_session.specs.Lines.{is_empty, first_line, IsNoHex}
 use Rattle.hex_session.specs.declared.fault.LineFault.{LineFault}
 use Rattle.hex_session.specs.declared.fault.LineFault.TheVariants.{BadHexLine, CannotRead, CannotWrite, TooLong, NoMemory}
@@ -39,3 +44,18 @@ IsFaultOf line number CannotRead = ⊥
 IsFaultOf line number CannotWrite = ⊥
 IsFaultOf line number TooLong = ⊥
 IsFaultOf line number NoMemory = Unit {0}
+
+-- how a session ends whose lines end by a fault: as by a failed read, by a failed write, or for want of memory
+abbrev pub end_of : LineFault → SessionEnd
+end_of (BadHexLine number) = ReadFailed
+end_of CannotRead = ReadFailed
+end_of CannotWrite = WriteFailed
+end_of TooLong = WriteFailed
+end_of NoMemory = NoMemoryEnd
+
+-- An output has grown by a front of these octets, and this fault says why by no more.
+pub record IsCutOff (output grown : Option (List ℕ)) (octets : List ℕ) (fault : LineFault) : Type 0 where
+  pub kind : IsWriteFault fault
+  pub taken : List ℕ
+  pub appended : Appends output grown taken
+  pub front : IsFront taken octets

@@ -4,8 +4,8 @@ ghost use Rattle.std.specs.Io.KnownBytes.{Appends};
 ghost use Rattle.ldap_session.specs.session_rules.View.{config_view};
 ghost use Rattle.ldap_session.specs.View.{session_view};
 ghost use Rattle.hex_session.specs.Lines.{hex_lines};
-ghost use Rattle.hex_session.specs.Faults.{IsWriteFault};
-ghost use Rattle.hex_session.specs.Answered.{HasPut, HasWorked, HasFed, Takes, Answers, Fails};
+ghost use Rattle.hex_session.specs.Faults.{IsCutOff};
+ghost use Rattle.hex_session.specs.Answered.{HasPut, HasWorked, HasFailed, HasFlushed, HasNotFlushed, HasFed, HasFailedAt, Takes, FailsAt, Answers, Fails};
 
 use crate::fault::LineFault;
 use crate::line::Line;
@@ -28,7 +28,8 @@ fn put_answered<W: Write>(
     output: &mut W,
 ) -> Result<Next, LineFault>
     ensures ok { IfOk result (λ next. HasPut (W.contents output.old) (W.contents output.new) answered.now next) }
-    ensures err { IfErr result IsWriteFault }
+    ensures err { IfErr result (λ fault. IsCutOff (W.contents output.old) (W.contents output.new)
+        (hex_lines (map (λ v. v.items) answered.now.responses.items)) fault) }
 {
     write_lines(alloc, &answered.responses, output)?;
     Ok(answered.next)
@@ -44,16 +45,31 @@ fn answer_ready<W: Write, D: Gate>(
 ) -> Result<Next, LineFault>
     ensures ok { IfOk result (λ next. HasWorked D.allows (config_view config.now) directory.old directory.new (session_view session.old) (session_view session.new)
         (W.contents output.old) (W.contents output.new) next) }
-    ensures err { IfErr result IsWriteFault }
+    ensures err { IfErr result (λ fault. HasFailed D.allows (config_view config.now) directory.old directory.new (session_view session.old)
+        (W.contents output.old) (W.contents output.new) fault) }
 {
     loop {
-        match session.answer(alloc, config, directory)? {
-            None => return Ok(Next::GoesOn),
-            Some(answered) => match put_answered(alloc, &answered, output)? {
-                Next::GoesOn => {}
-                ended => return Ok(ended),
+        match session.answer(alloc, config, directory) {
+            Ok(None) => return Ok(Next::GoesOn),
+            Ok(Some(answered)) => match put_answered(alloc, &answered, output) {
+                Ok(Next::GoesOn) => {}
+                Ok(Next::Unbound) => return Ok(Next::Unbound),
+                Ok(Next::Disconnected) => return Ok(Next::Disconnected),
+                Err(fault) => return Err(fault),
             },
+            Err(error) => return Err(LineFault::from(error)),
         }
+    }
+}
+
+/// Sees to it that what is written goes on its way before more input is awaited.
+fn flushed<W: Write>(output: &mut W, next: Next) -> Result<Next, LineFault>
+    ensures ok { IfOk result (λ after. HasFlushed (W.contents output.old) (W.contents output.new) next after) }
+    ensures err { IfErr result (λ fault. HasNotFlushed (W.contents output.old) (W.contents output.new) next fault) }
+{
+    match (next, output.flush()) {
+        (Next::GoesOn, Err(_)) => Err(LineFault::CannotWrite),
+        _ => Ok(next),
     }
 }
 
@@ -68,10 +84,16 @@ fn answer_piece<W: Write, D: Gate>(
 ) -> Result<Next, LineFault>
     ensures ok { IfOk result (λ next. HasFed D.allows (config_view config.now) directory.old directory.new (session_view session.old) (session_view session.new) piece.now
         (W.contents output.old) (W.contents output.new) next) }
-    ensures err { IfErr result IsWriteFault }
+    ensures err { IfErr result (λ fault. HasFailedAt D.allows (config_view config.now) directory.old directory.new (session_view session.old) piece.now
+        (W.contents output.old) (W.contents output.new) fault) }
 {
-    session.feed(piece)?;
-    answer_ready(alloc, session, config, directory, output)
+    match session.feed(piece) {
+        Ok(()) => match answer_ready(alloc, session, config, directory, output) {
+            Ok(next) => flushed(output, next),
+            Err(fault) => Err(fault),
+        },
+        Err(_) => Err(LineFault::NoMemory),
+    }
 }
 
 /// Answers what the next line is.
@@ -85,7 +107,8 @@ fn answer_line<W: Write, D: Gate>(
 ) -> Result<Flow, LineFault>
     ensures ok { IfOk result (λ flow. Takes D.allows (config_view config.now) directory.old directory.new (session_view session.old) (session_view session.new) line
         (W.contents output.old) (W.contents output.new) flow) }
-    ensures err { IfErr result IsWriteFault }
+    ensures err { IfErr result (λ fault. FailsAt D.allows (config_view config.now) directory.old directory.new (session_view session.old) line
+        (W.contents output.old) (W.contents output.new) fault) }
 {
     match line {
         Line::End => Ok(Flow::Ends(session.end_of_input())),
@@ -101,7 +124,7 @@ fn answer_line<W: Write, D: Gate>(
 }
 
 /// Answers an input line by line, up to its end or what ends the session: each line is a piece of the stream in hex, each response a line;
-/// empty lines are skipped. The 18446744073709551615th line counts as one that can't be read.
+/// empty lines are skipped. What is written is flushed before the next line is read. The 18446744073709551615th line counts as one that can't be read.
 pub fn answer_lines<R: BufRead, W: Write, D: Gate>(
     alloc: Global,
     config: &Config,
@@ -112,16 +135,17 @@ pub fn answer_lines<R: BufRead, W: Write, D: Gate>(
     // The output grows by the responses of a session over the stream that the lines spell.
     ensures ok { IfOk result (λ end. Answers D.allows (config_view config.now) directory.old directory.new (R.remaining input.old) (R.remaining input.new)
         (W.contents output.old) (W.contents output.new) end) }
-    // Before a line that can't be read all is answered and written.
+    // Before a line that can't be read all is answered and written; a front of that, where it can't be written or memory is wanting.
     ensures err { IfErr result (λ fault. Fails D.allows (config_view config.now) directory.old directory.new (R.remaining input.old)
         (W.contents output.old) (W.contents output.new) fault) }
 {
     let mut session = Session::new(alloc);
     for number in 1..u64::MAX {
         let line = next_piece(alloc, input, number)?;
-        match answer_line(alloc, &mut session, line, config, directory, output)? {
-            Flow::Goes => {}
-            Flow::Ends(end) => return Ok(end),
+        match answer_line(alloc, &mut session, line, config, directory, output) {
+            Ok(Flow::Goes) => {}
+            Ok(Flow::Ends(end)) => return Ok(end),
+            Err(fault) => return Err(fault),
         }
     }
     Err(LineFault::CannotRead)

@@ -1,12 +1,14 @@
 //! Lines of hex. Octets of an input flow in line by line, octets of responses flow out, each list of them as a line. Messages are not here.
-ghost use Rattle.std.specs.Prelude.{◌≡◌, map, option_map, IfOk, IfErr, OnOk, IfSome};
+ghost use Rattle.std.specs.Prelude.{◌≡◌, map, option_map, string_bytes, IfOk, IfErr, OnOk, IfSome};
 ghost use Rattle.std.specs.Io.KnownBytes.{Appends};
 ghost use Rattle.std.specs.Io.BufRead.{strip_last};
 ghost use Rattle.hex_session.specs.Lines.{hex_line, hex_lines, IsNextLine, IsLineOf, BeginsWith};
-ghost use Rattle.hex_session.specs.Faults.{IsReadFault, IsWriteFault, IsLineFault, IsFaultOf};
+ghost use Rattle.hex_session.specs.Faults.{IsReadFault, IsLineFault, IsFaultOf, IsCutOff};
+ghost use Rattle.hex_session.specs.declared.fault.LineFault.TheVariants.{NoMemory};
 
 use crate::fault::LineFault;
 use crate::line::Line;
+use ldap_session::write_octets;
 use std::alloc::Global;
 use std::io::{BufRead, ErrorKind, Write};
 
@@ -74,30 +76,43 @@ pub fn next_piece<R: BufRead>(alloc: Global, input: &mut R, number: u64) -> Resu
     }
 }
 
-/// Writes octets as a line of lower-case hex.
-fn write_line<W: Write>(alloc: Global, octets: &[u8], output: &mut W) -> Result<(), LineFault>
-    ensures ok { OnOk result (Appends (W.contents output.old) (W.contents output.new) (hex_line octets.now)) }
-    ensures err { IfErr result IsWriteFault }
+/// Octets as a line of lower-case hex.
+fn line_of(alloc: Global, octets: &[u8]) -> Result<String, LineFault>
+    ensures ok { IfOk result (λ line. string_bytes line ≡ hex_line octets.now) }
+    ensures err { IfErr result (λ fault. fault ≡ NoMemory) }
 {
     let mut line = hex::encode(alloc, octets)?;
     line.push('\n')?;
-    match output.write_all(line.as_bytes()) {
-        Ok(()) => Ok(()),
-        Err(_) => Err(LineFault::CannotWrite),
+    Ok(line)
+}
+
+/// Writes octets as a line of lower-case hex.
+fn write_line<W: Write>(alloc: Global, octets: &[u8], output: &mut W) -> Result<(), LineFault>
+    ensures ok { OnOk result (Appends (W.contents output.old) (W.contents output.new) (hex_line octets.now)) }
+    ensures err { IfErr result (λ fault. IsCutOff (W.contents output.old) (W.contents output.new) (hex_line octets.now) fault) }
+{
+    let line = line_of(alloc, octets)?;
+    if write_octets(output, line.as_bytes()) {
+        Ok(())
+    } else {
+        Err(LineFault::CannotWrite)
     }
 }
 
-/// Writes the octets of each response as a line.
+/// Writes the octets of each response as a line; at an error, a front of these lines.
 pub fn write_lines<W: Write>(
     alloc: Global,
     responses: &[Vec<u8>],
     output: &mut W,
 ) -> Result<(), LineFault>
     ensures ok { OnOk result (Appends (W.contents output.old) (W.contents output.new) (hex_lines (map (λ v. v.items) responses.now))) }
-    ensures err { IfErr result IsWriteFault }
+    ensures err { IfErr result (λ fault. IsCutOff (W.contents output.old) (W.contents output.new) (hex_lines (map (λ v. v.items) responses.now)) fault) }
 {
     for response in responses {
-        write_line(alloc, response, output)?;
+        match write_line(alloc, response, output) {
+            Ok(()) => {}
+            Err(fault) => return Err(fault),
+        }
     }
     Ok(())
 }

@@ -3,3 +3,4 @@ pub mod Progressed
 pub mod Worked
 pub mod Served
 pub mod Fewer
+pub mod Counted

@@ -1,5 +1,5 @@
 -- Sessions that go on message by message. Facts on definitions flow in and out; no value of the program is here.
-use Rattle.std.proofs.Common.{◌≡◌, ℕ, List, [], ◌∷◌, ◌++◌, Option, refl, ap, sym, subst, ◌∙◌, append_assoc, append-nil}
+use Rattle.std.proofs.Common.{◌≡◌, ◌≤◌, ℕ, arith, length, List, [], ◌∷◌, ◌++◌, Option, refl, ap, sym, subst, ◌∙◌, append_assoc, append-nil}
 use Rattle.session_rules.specs.ldap_msg.Messages.{MessageValue}
 use Rattle.ldap_framer.specs.Stream.{Reads}
 use Rattle.ldap_framer.specs.Framed.{Framed, ending_of, HasSeen}
@@ -10,6 +10,7 @@ use Rattle.session_rules.specs.declared.state.State.{State}
 use Rattle.session_rules.specs.Turns.{Turn, Session, ends, goes_on, stops}
 use Rattle.session_rules.specs.declared.answered.Next.{Next}
 use Rattle.session_rules.specs.declared.answered.Next.TheVariants.{GoesOn, Unbound, Disconnected}
+use Rattle.ldap_session.specs.Octets.{IsFront}
 use Rattle.ldap_session.specs.View.{SessionValue}
 use Rattle.ldap_session.specs.Progress.{TakesNext, Reached}
 use Rattle.ldap_session.specs.Serving.{IsEnd, Ends}
@@ -78,6 +79,16 @@ reached_more {D} {T} shown append allows c first d e s t read written a state go
   written_are = ap (λ (l : List ℕ). l ++ shown a.responses) r.written_are ∙ sym (append r.responses a.responses);
 }
 
+-- what is written so far stays in front of what is written further on
+written_whole : (shown written more : List ℕ) → written ≡ shown → IsFront shown (written ++ more)
+written_whole shown written more are = record { rest = more; is = ap (λ (l : List ℕ). l ++ more) are }
+
+at_most_one : (m : MessageValue) → length (m ∷ []) ≤ 1
+at_most_one m = omega arith
+
+none_at_all : length {A = MessageValue} [] ≤ 1
+none_at_all = omega arith
+
 -- a session ends with a message
 pub ends_with : {D T : Type 0} (shown : List MessageValue → List ℕ) (allows : D → Exchange T → D → Type 0) (c : ConfigValue) (first d e : D) (s t : SessionValue) (read written more : List ℕ) (a : Reaction) (end : SessionEnd) →
     TakesNext allows c s t d e a → (r : Reached shown allows c first d s read written) →
@@ -94,6 +105,21 @@ ends_with {D} {T} shown allows c first d e s t read written more a end takes r i
   session = session_more c at_first s.state r.handed r.talk takes.talk r.responses takes.taken a r.session takes.turn;
   along = talks_join allows r.along takes.along;
   is_end = is;
+  before = record {
+    earlier = r.handed;
+    last = takes.taken ∷ [];
+    talk_before = r.talk;
+    talk_last = takes.talk;
+    said = r.responses;
+    said_last = a.responses;
+    state = s.state;
+    handed_are = refl;
+    at_most_one = at_most_one takes.taken;
+    talk_is = refl;
+    responses_are = refl;
+    session = r.session;
+    whole = written_whole (shown r.responses) written more r.written_are;
+  };
 }
 
 -- a session ends where it stands
@@ -112,4 +138,19 @@ ends_here shown allows c first d s read written more end r is = record {
   session = r.session;
   along = r.along;
   is_end = is;
+  before = record {
+    earlier = r.handed;
+    last = [];
+    talk_before = r.talk;
+    talk_last = [];
+    said = r.responses;
+    said_last = [];
+    state = s.state;
+    handed_are = sym (append-nil r.handed);
+    at_most_one = none_at_all;
+    talk_is = sym (append-nil r.talk);
+    responses_are = sym (append-nil r.responses);
+    session = r.session;
+    whole = written_whole (shown r.responses) written more r.written_are;
+  };
 }

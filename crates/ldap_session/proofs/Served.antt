@@ -6,21 +6,20 @@ use Rattle.session_rules.specs.ldap_msg.Messages.{MessageValue}
 use Rattle.ldap_framer.specs.Framed.{ending_of, HasSeen}
 use Rattle.session_rules.specs.session_talk.Talk.{Exchange}
 use Rattle.session_rules.specs.session_talk.Talk as talk
-use Rattle.session_rules.specs.Responses.{notice}
 use Rattle.session_rules.specs.Session.{ConfigValue, at_first}
 use Rattle.session_rules.specs.declared.state.State.{State}
 use Rattle.session_rules.specs.Turns.{Session, ends}
 use Rattle.session_rules.specs.declared.answered.Next.TheVariants.{GoesOn}
-use Rattle.ldap_session.specs.Octets.{octets_of, IsFront}
+use Rattle.ldap_session.specs.Octets.{octets_of}
 use Rattle.ldap_session.specs.View.{SessionValue}
 use Rattle.ldap_session.specs.Progress.{Reached, IsAtLast}
-use Rattle.ldap_session.specs.Serving.{IsBetween, IsInside, Ends, IsRead, Served, IsCaughtUp, ComesTo}
+use Rattle.ldap_session.specs.Serving.{IsBetween, IsInside, IsAwaiting, Ends, IsRead, Served, IsCaughtUp, ComesTo}
 use Rattle.ldap_session.specs.Steps.{IsFlushed, HasFlushed, IsEarly, HasWorked, Takes, HasFed}
 use Rattle.ldap_session.specs.declared.end.SessionEnd.{SessionEnd}
 use Rattle.ldap_session.specs.declared.end.SessionEnd.TheVariants.{Unbound, EndOfInput, Truncated, Disconnected, ReadFailed, WriteFailed, NoMemory}
 use Rattle.ldap_session.specs.declared.serving.Flow.{Flow}
 use Rattle.ldap_session.specs.declared.serving.Flow.TheVariants.{Goes, Ends as EndsWith}
-use Rattle.ldap_session.proofs.Written.{octets_append}
+use Rattle.ldap_session.proofs.Written.{whole_front}
 use Rattle.ldap_session.proofs.Progressed.{ends_here}
 
 -- the stream goes on by a piece
@@ -39,18 +38,13 @@ piece_reached shown allows c first d s t piece read written taken state r = reco
   written_are = r.written_are;
 }
 
--- what is written is a front of all responses and the notice
-front_here : (rs : List MessageValue) (written : List ℕ) → written ≡ octets_of rs → IsFront written (octets_of (rs ++ notice ∷ []))
-front_here rs written are = record { rest = octets_of (notice ∷ []); is = octets_append rs (notice ∷ []) ∙ ap (λ (l : List ℕ). l ++ octets_of (notice ∷ [])) (sym are) }
-
 -- a session that stands somewhere ends there
 cut_off : {D T : Type 0} (allows : D → Exchange T → D → Type 0) (c : ConfigValue) (first d : D) (s : SessionValue) (read written : List ℕ) →
     Reached octets_of allows c first d s read written → Ends octets_of allows c first d read written WriteFailed × Ends octets_of allows c first d read written NoMemory
 cut_off allows c first d s read written r =
-    let front = front_here r.responses written r.written_are in
-    let front' = subst (λ (l : List ℕ). IsFront l (octets_of (r.responses ++ notice ∷ []))) (sym (append-nil written)) front in (
-      subst (λ (l : List ℕ). Ends octets_of allows c first d read l WriteFailed) (append-nil written) (ends_here octets_of allows c first d s read written [] WriteFailed r front'),
-      subst (λ (l : List ℕ). Ends octets_of allows c first d read l NoMemory) (append-nil written) (ends_here octets_of allows c first d s read written [] NoMemory r front'),
+    let front = whole_front (octets_of r.responses) written r.written_are in (
+      subst (λ (l : List ℕ). Ends octets_of allows c first d read l WriteFailed) (append-nil written) (ends_here octets_of allows c first d s read written [] WriteFailed r (inl front)),
+      subst (λ (l : List ℕ). Ends octets_of allows c first d read l NoMemory) (append-nil written) (ends_here octets_of allows c first d s read written [] NoMemory r (inl front)),
     )
 
 -- there is no memory for a piece
@@ -192,6 +186,14 @@ inside (Some x) rest f r = absurd (some_apart f)
     some_apart : Some x ≡ None → ⊥
     some_apart e = cc
 
+-- where no fault has stopped a stream, a message is awaited
+pub awaiting : (fault : Option _) (rest : List ℕ) → fault ≡ None → IsAwaiting (ending_of fault rest)
+awaiting None rest f = tt
+awaiting (Some x) rest f = absurd (some_apart f)
+  where
+    some_apart : Some x ≡ None → ⊥
+    some_apart e = cc
+
 -- a session that is caught up ends where its input ends, all responses written
 pub last : {D T : Type 0} (shown : List MessageValue → List ℕ) (allows : D → Exchange T → D → Type 0) (c : ConfigValue) (first now : D) (s : SessionValue) (read written : List ℕ) (end : SessionEnd) →
     IsAtLast s end → IsCaughtUp s → Reached shown allows c first now s read written → Ends shown allows c first now read written end
@@ -244,7 +246,7 @@ served_failed allows c first now s i l m o g go got = record {
   ends =
       subst (λ (x : List ℕ). Ends octets_of allows c first now go.read x ReadFailed) (append-nil go.written)
       (ends_here octets_of allows c first now s go.read go.written [] ReadFailed go.reached
-      (refl, go.caught_up.none_ready, append-nil go.written ∙ go.reached.written_are));
+      (refl, go.caught_up.none_ready, awaiting s.framed.fault s.framed.rest go.caught_up.no_fault, append-nil go.written ∙ go.reached.written_are));
   all = λ _. refl;
   at_end = tt;
 }

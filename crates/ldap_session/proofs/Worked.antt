@@ -11,17 +11,17 @@ use Rattle.session_rules.specs.Session.{ConfigValue, Reaction}
 use Rattle.session_rules.specs.declared.answered.Answered.{Answered}
 use Rattle.session_rules.specs.declared.answered.Next.{Next}
 use Rattle.session_rules.specs.declared.answered.Next.TheVariants.{GoesOn, Unbound as UnboundNext, Disconnected as DisconnectedNext}
-use Rattle.session_rules.specs.declared.fault.AnswerError.{AnswerError}
-use Rattle.session_rules.specs.declared.fault.AnswerError.TheVariants.{TooLong, NoMemory as NoMemoryError}
+use Rattle.session_rules.specs.message_rules.declared.fault.AnswerError.{AnswerError}
+use Rattle.session_rules.specs.message_rules.declared.fault.AnswerError.TheVariants.{TooLong, NoMemory as NoMemoryError}
 use Rattle.ldap_session.specs.Octets.{joined, octets_of, IsFront}
 use Rattle.ldap_session.specs.View.{SessionValue}
 use Rattle.ldap_session.specs.Progress.{TakesNext, IsWritten, AnswersNext, FailsNext, IsIdle, Reached}
-use Rattle.ldap_session.specs.Serving.{IsStopped, IsEnd, Ends, IsCaughtUp}
+use Rattle.ldap_session.specs.Serving.{IsStopped, IsFrontDue, IsEnd, Ends, IsCaughtUp}
 use Rattle.ldap_session.specs.Steps.{IsEarly, IsPut, HasPut, HasWorked}
 use Rattle.ldap_session.specs.declared.end.SessionEnd.{SessionEnd}
 use Rattle.ldap_session.specs.declared.end.SessionEnd.TheVariants.{Unbound, Disconnected, WriteFailed, NoMemory}
 use Rattle.ldap_session.specs.declared.serving.Flow.TheVariants.{Goes, Ends as EndsWith}
-use Rattle.ldap_session.proofs.Written.{joined_octets, octets_append}
+use Rattle.ldap_session.proofs.Written.{joined_octets, octets_append, whole_front}
 use Rattle.ldap_session.proofs.Progressed.{reached_more, ends_with, ends_here, goes_apart_too}
 
 -- a session that has answered some messages, and written so much for them
@@ -76,32 +76,16 @@ all_answered allows c old now e s0 s t o g w (idle, fault) = record {
 }
 
 -- a front of what is written further on
-front_more : (xs ys more zs all : List ℕ) → all ≡ ys ++ zs → IsFront more ys → IsFront (xs ++ more) (xs ++ all)
-front_more xs ys more zs all is f = record {
-  rest = f.rest ++ zs;
-  is =
-      ap (λ (l : List ℕ). xs ++ l) (is ∙ ap (λ (l : List ℕ). l ++ zs) f.is ∙ append_assoc more f.rest zs)
-      ∙ sym (append_assoc xs more (f.rest ++ zs));
-}
+front_more : (xs ys more : List ℕ) → IsFront more ys → IsFront (xs ++ more) (xs ++ ys)
+front_more xs ys more f = record { rest = f.rest; is = ap (λ (l : List ℕ). xs ++ l) f.is ∙ sym (append_assoc xs more f.rest) }
 
 -- a front of the responses to a message, behind all responses before it
-front_of : (rs qs : List MessageValue) (written more : List ℕ) → written ≡ octets_of rs → IsFront more (octets_of qs) → IsFront (written ++ more) (octets_of ((rs ++ qs) ++ notice ∷ []))
-front_of rs qs written more are f =
-    subst (λ (l : List ℕ). IsFront (written ++ more) l)
-    (ap (λ (l : List ℕ). l ++ (octets_of qs ++ octets_of (notice ∷ []))) are
-    ∙ ap (λ (l : List ℕ). octets_of rs ++ l) (sym (octets_append qs (notice ∷ [])))
-    ∙ sym (octets_append rs (qs ++ (notice ∷ [])))
-    ∙ ap octets_of (sym (append_assoc rs qs (notice ∷ []))))
-    (front_more written (octets_of qs) more (octets_of (notice ∷ [])) (octets_of qs ++ octets_of (notice ∷ [])) refl f)
+pub front_of : (shown : List MessageValue → List ℕ) → ((xs ys : List MessageValue) → shown (xs ++ ys) ≡ shown xs ++ shown ys) → (rs qs : List MessageValue) (written more : List ℕ) →
+    written ≡ shown rs → IsFront more (shown qs) → IsFront (written ++ more) (shown (rs ++ qs))
+front_of shown append rs qs written more are f =
+    subst (λ (l : List ℕ). IsFront (written ++ more) l) (ap (λ (l : List ℕ). l ++ shown qs) are ∙ sym (append rs qs)) (front_more written (shown qs) more f)
 
--- a front of the notice, behind all responses
-front_notice : (rs : List MessageValue) (written more : List ℕ) → written ≡ octets_of rs → IsFront more (octets_of (notice ∷ [])) → IsFront (written ++ more) (octets_of (rs ++ notice ∷ []))
-front_notice rs written more are f =
-    subst (λ (l : List ℕ). IsFront (written ++ more) l)
-    (ap (λ (l : List ℕ). l ++ octets_of (notice ∷ [])) are ∙ sym (octets_append rs (notice ∷ [])))
-    (front_more written (octets_of (notice ∷ [])) more [] (octets_of (notice ∷ [])) (sym (append-nil (octets_of (notice ∷ [])))) f)
-
-no_front : (ys : List ℕ) → IsFront [] ys
+pub no_front : (ys : List ℕ) → IsFront [] ys
 no_front ys = record { rest = ys; is = refl }
 
 pub stopped_by : (fault : Option _) (rest : List ℕ) → (fault ≡ None → ⊥) → IsStopped (ending_of fault rest)
@@ -122,7 +106,7 @@ put_last_answer : {D T : Type 0} (allows : D → Exchange T → D → Type 0) (c
 put_last_answer allows c first now e s t read written more given end a r (inl (failed, front)) =
     subst (λ (x : SessionEnd). Ends octets_of allows c first e read (written ++ more) x) (sym failed)
     (ends_with octets_of allows c first now e s t read written more a.reaction WriteFailed a.takes r
-    (front_of r.responses a.reaction.responses written more r.written_are (subst (λ (l : List ℕ). IsFront more l) (octets_are given a.reaction.responses a.reaction.next a.written) front)))
+    (inl (front_of octets_of octets_append r.responses a.reaction.responses written more r.written_are (subst (λ (l : List ℕ). IsFront more l) (octets_are given a.reaction.responses a.reaction.next a.written) front))))
 put_last_answer allows c first now e s t read written more given end a r (inr (is, inl (next, ended))) =
     subst (λ (x : SessionEnd). Ends octets_of allows c first e read (written ++ more) x) (sym ended)
     (ends_with octets_of allows c first now e s t read written more a.reaction Unbound a.takes r
@@ -139,12 +123,15 @@ put_last_notice : {D T : Type 0} (allows : D → Exchange T → D → Type 0) (c
 put_last_notice allows c first now s read written more given end none fault w r (inl (failed, front)) =
     subst (λ (x : SessionEnd). Ends octets_of allows c first now read (written ++ more) x) (sym failed)
     (ends_here octets_of allows c first now s read written more WriteFailed r
-    (front_notice r.responses written more r.written_are (subst (λ (l : List ℕ). IsFront more l) (octets_are given (notice ∷ []) DisconnectedNext w) front)))
+    (inr (
+      (refl, none, stopped_by s.framed.fault s.framed.rest fault),
+      front_of octets_of octets_append r.responses (notice ∷ []) written more r.written_are (subst (λ (l : List ℕ). IsFront more l) (octets_are given (notice ∷ []) DisconnectedNext w) front),
+    )))
 put_last_notice allows c first now s read written more given end none fault w r (inr (is, inl (next, ended))) = absurd (unbound_apart (sym next ∙ w.goes))
 put_last_notice allows c first now s read written more given end none fault w r (inr (is, inr (next, ended))) =
     subst (λ (x : SessionEnd). Ends octets_of allows c first now read (written ++ more) x) (sym ended)
     (ends_here octets_of allows c first now s read written more Disconnected r
-    (inr (refl, none, stopped_by s.framed.fault s.framed.rest fault, all_of r.responses (notice ∷ []) written more _ r.written_are is (octets_are given (notice ∷ []) DisconnectedNext w))))
+    (inr ((refl, none, stopped_by s.framed.fault s.framed.rest fault), all_of r.responses (notice ∷ []) written more _ r.written_are is (octets_are given (notice ∷ []) DisconnectedNext w))))
 
 early_end : (more octets : List ℕ) (next : Next) (end : SessionEnd) → IsPut more octets next (EndsWith end) → IsEarly (EndsWith end)
 early_end more octets next end (inl (failed, front)) = subst (λ (x : SessionEnd). IsEarly (EndsWith x)) (sym failed) tt
@@ -179,9 +166,9 @@ abbrev pub end_of : AnswerError → SessionEnd
 end_of TooLong = WriteFailed
 end_of NoMemoryError = NoMemory
 
--- an end after which a front of all responses is written
+-- an end after which a front of what is due is written
 front_end : (error : AnswerError) (next : Next) (more : List MessageValue) (ending : Ending) (rs : List MessageValue) (written : List ℕ) →
-    IsFront written (octets_of (rs ++ notice ∷ [])) → IsEnd octets_of (end_of error) next more ending rs written
+    IsFrontDue octets_of next more ending rs written → IsEnd octets_of (end_of error) next more ending rs written
 front_end TooLong next more ending rs written f = f
 front_end NoMemoryError next more ending rs written f = f
 
@@ -201,7 +188,7 @@ failed allows c old now e s0 s t o g error w (inl a) = record {
       let x = w.comes first read written r in
       subst (λ (l : List ℕ). Ends octets_of allows c first e read l (end_of error)) (append-nil (written ++ w.more))
       (ends_with octets_of allows c first now e s t read (written ++ w.more) [] a.reaction (end_of error) a.takes x
-      (front_end error _ _ _ _ _ (front_of x.responses a.reaction.responses (written ++ w.more) [] x.written_are (no_front (octets_of a.reaction.responses)))));
+      (front_end error _ _ _ _ _ (inl (front_of octets_of octets_append x.responses a.reaction.responses (written ++ w.more) [] x.written_are (no_front (octets_of a.reaction.responses))))));
 }
 failed allows c old now e s0 s t o g error w (inr (idle, fault, apart)) = record {
   more = w.more;
@@ -212,5 +199,5 @@ failed allows c old now e s0 s t o g error w (inr (idle, fault, apart)) = record
       subst (λ (y : _). Ends octets_of allows c first y read (written ++ w.more) (end_of error)) (sym idle.untouched)
       (subst (λ (l : List ℕ). Ends octets_of allows c first now read l (end_of error)) (append-nil (written ++ w.more))
       (ends_here octets_of allows c first now s read (written ++ w.more) [] (end_of error) x
-      (front_end error _ _ _ _ _ (front_notice x.responses (written ++ w.more) [] x.written_are (no_front (octets_of (notice ∷ [])))))));
+      (front_end error _ _ _ _ _ (inl (whole_front (octets_of x.responses) (written ++ w.more) x.written_are)))));
 }

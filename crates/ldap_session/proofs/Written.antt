@@ -5,7 +5,7 @@ use Rattle.std.proofs.KnownBytes.{Appends-nil, Appends-trans, Appends-kept}
 use Rattle.std.specs.Io.KnownBytes.{Appends, Keeps}
 use Rattle.session_rules.specs.ldap_msg.Messages.{MessageValue}
 use Rattle.session_rules.specs.ldap_msg.Written.{message_bytes}
-use Rattle.ldap_session.specs.Octets.{is_empty, joined, octets_of, WritesSome, HasWritten}
+use Rattle.ldap_session.specs.Octets.{is_empty, joined, octets_of, IsFront, WritesSome, HasWritten}
 
 -- what a writer took of octets, and what is left of them
 pub some_taken : (a b : Option (List ℕ)) (octets : List ℕ) (n : ℕ) → Appends a b (take n octets) → WritesSome a b octets (drop n octets)
@@ -67,6 +67,10 @@ octets_append (x ∷ xs) ys = ap (λ (l : List ℕ). message_bytes x ++ l) (octe
 pub joined_octets : (ms : List MessageValue) → joined (map message_bytes ms) ≡ octets_of ms
 joined_octets [] = refl
 joined_octets (m ∷ ms) = ap (λ (l : List ℕ). message_bytes m ++ l) (joined_octets ms)
+
+-- all octets, and nothing further, are a front of themselves
+pub whole_front : (whole written : List ℕ) → written ≡ whole → IsFront (written ++ []) whole
+whole_front whole written are = record { rest = []; is = sym are ∙ sym (append-nil written) ∙ sym (append-nil (written ++ [])) }
 
 map_append : {A B : Type 0} (f : A → B) (xs ys : List A) → map f (xs ++ ys) ≡ map f xs ++ map f ys
 map_append f [] ys = refl

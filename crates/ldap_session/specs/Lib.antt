@@ -1,3 +1,4 @@
+pub mod Counting
 pub mod Octets
 pub mod Progress
 pub mod Serving

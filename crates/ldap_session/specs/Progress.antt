@@ -4,14 +4,15 @@ use Rattle.session_rules.specs.ldap_msg.Messages.{MessageValue}
 use Rattle.session_rules.specs.ldap_msg.Written.{message_bytes}
 use Rattle.ldap_framer.specs.Framed.{HasSeen}
 use Rattle.session_rules.specs.session_talk.Talk.{Exchange, Along}
-use Rattle.session_rules.specs.Responses.{notice, HasTooLong}
+use Rattle.session_rules.specs.message_rules.Messages.{HasTooLong}
+use Rattle.session_rules.specs.Responses.{notice}
 use Rattle.session_rules.specs.Session.{ConfigValue, Reaction, at_first}
 use Rattle.session_rules.specs.Turns.{Turn, Session}
 use Rattle.session_rules.specs.declared.answered.Answered.{Answered}
 use Rattle.session_rules.specs.declared.answered.Next.{Next}
 use Rattle.session_rules.specs.declared.answered.Next.TheVariants.{GoesOn, Disconnected}
-use Rattle.session_rules.specs.declared.fault.AnswerError.{AnswerError}
-use Rattle.session_rules.specs.declared.fault.AnswerError.TheVariants.{TooLong}
+use Rattle.session_rules.specs.message_rules.declared.fault.AnswerError.{AnswerError}
+use Rattle.session_rules.specs.message_rules.declared.fault.AnswerError.TheVariants.{TooLong}
 use Rattle.session_rules.specs.ldap_fields.declared.fault.MsgFault.{MsgFault}
 use Rattle.ldap_session.specs.View.{SessionValue}
 use Rattle.ldap_session.specs.declared.end.SessionEnd.{SessionEnd}

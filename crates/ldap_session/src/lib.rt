@@ -3,13 +3,16 @@
 #![tactic(auto)]
 
 mod end;
+mod laws;
 mod serving;
 mod session;
 mod writing;
 
 pub use end::SessionEnd;
+pub use laws::{one_update_a_message, updates_are_counted};
 pub use serving::serve;
 pub use session::Session;
 pub use session_rules::{
     AnswerError, Answered, Client, Config, Ended, Found, Gate, Look, LookError, Next, Role,
 };
+pub use writing::write_octets;

@@ -30,8 +30,8 @@ fn is_done(octets: &[u8]) -> bool
     octets.is_empty()
 }
 
-/// Writes octets; whether the writer took them all.
-fn write_octets<W: Write>(writer: &mut W, octets: &[u8]) -> bool
+/// Writes octets; whether the writer took them all. Where it did not, it took a front of them.
+pub fn write_octets<W: Write>(writer: &mut W, octets: &[u8]) -> bool
     ensures { HasWritten (W.contents writer.old) (W.contents writer.new) octets.now result }
 {
     let mut left = octets;

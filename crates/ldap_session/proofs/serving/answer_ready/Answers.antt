@@ -1,7 +1,7 @@
 use Rattle.std.proofs.Common.{Option, Result, Ok, subst, ap, ◌∙◌}
 use Rattle.session_rules.specs.View.{config_view}
 use Rattle.session_rules.specs.declared.answered.Answered.{Answered}
-use Rattle.session_rules.specs.declared.fault.AnswerError.{AnswerError}
+use Rattle.session_rules.specs.message_rules.declared.fault.AnswerError.{AnswerError}
 use Rattle.ldap_session.specs.View.{session_view}
 use Rattle.ldap_session.specs.Progress.{Answers}
 use Rattle.ldap_session.specs.Steps.{HasWorked}

@@ -1,0 +1,5 @@
+use Rattle.ldap_session.proofs.Counted.{one_update_a_message}
+use Rattle.ldap_session.proofs.laws.one_update_a_message.Goals as goal
+
+pub returns : goal.returns
+returns g c = one_update_a_message _
