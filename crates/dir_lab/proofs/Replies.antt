@@ -4,7 +4,7 @@ use Rattle.std.proofs.Common.{◌≡◌, ℕ, zero, suc, ◌+◌, ◌-◌, ◌<�
 use Rattle.std.proofs.Math.ListN.{drop_of_length-le}
 use Rattle.std.proofs.Math.Seq.{drop-append_seam}
 use Rattle.std.proofs.lemmas.List.{reverse-append, length-reverse, map-append}
-use Rattle.vr_state.proofs.Lists.{prefix_refl, prefix_trans, prefix_length}
+use Rattle.vr_state.proofs.Laws.{prefix_refl, prefix_trans, prefix_length}
 use Rattle.vr_state.specs.Lists.{IsPrefix, In, EntryAt, IsNamedIn}
 use Rattle.vr_state.specs.State.{State, is_recovering}
 use Rattle.vr_state.specs.declared.words.Entry.{Entry}

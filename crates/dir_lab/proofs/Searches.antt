@@ -1,7 +1,7 @@
 -- Each search of each schedule. The law on worlds and the law on answers flow in; what is told at a search flows out.
 use Rattle.std.proofs.Common.{◌≡◌, ℕ, ◌<◌, ◌≤◌, nat_lt, Bool, true, false, cond, List, [], ◌∷◌, ◌++◌, length, take, Option, Some, None, refl, sym, ap, ◌∙◌, subst, true≢false, lt-ltb, le-ltb}
 use Rattle.std.proofs.lemmas.List.{length-take-le}
-use Rattle.vr_state.proofs.Lists.{prefix_trans}
+use Rattle.vr_state.proofs.Laws.{prefix_trans}
 use Rattle.vr_state.specs.Lists.{IsPrefix}
 use Rattle.vr_state.specs.State.{State, is_recovering}
 use Rattle.vr_state.specs.declared.words.Entry.{Entry}

@@ -13,8 +13,8 @@ mod searching;
 mod telling;
 
 pub use dir_executed::{Executed, Op, Store};
-pub use dir_search::{SearchAnswer, SearchRequest};
+pub use dir_search::{Indexes, Name, Schema, SearchAnswer, SearchRequest};
 pub use events::{LabEvent, LabReply};
 pub use lab::Lab;
-pub use vr_state::words::Status;
+pub use vr_state::words::{Client, Entry, Status};
 pub use vr_world::{ReplyBy, WorldEvent};

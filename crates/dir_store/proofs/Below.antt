@@ -2,7 +2,7 @@
 use Rattle.std.proofs.Common.{◌≡◌, ◌<◌, ◌+◌, ℕ, List, [], ◌∷◌, ◌++◌, Bool, true, false, cond, Result, Ok, Err, nat_eq, arith, sym, ap, subst}
 use Rattle.std.specs.Prelude.{IfOk}
 use Rattle.dir_tree.specs.ldap_dn.Names.{RdnModel, rdns}
-use Rattle.ldap_op.specs.Values.{OpValue, add, delete, modify, modify_dn, noop}
+use Rattle.entry_updates.specs.ldap_op.Values.{OpValue, add, delete, modify, modify_dn, noop}
 use Rattle.dir_tree.specs.dir_entry.Entry.{AttributeModel}
 use Rattle.dir_tree.specs.Directory.{NameKey}
 use Rattle.dir_store.specs.Directory.{Directory, NamedEntry}

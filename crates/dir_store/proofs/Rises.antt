@@ -1,7 +1,7 @@
 -- Numbers rise from entry to entry, whatever the updates. Facts on definitions flow in and out; no value of the program is here.
 use Rattle.std.proofs.Common.{◌≡◌, ◌<◌, ◌+◌, ℕ, zero, suc, List, [], ◌∷◌, ◌++◌, Bool, true, false, cond, Result, Ok, Err, nat_eq, arith, sym, ap, subst}
 use Rattle.dir_tree.specs.ldap_dn.Names.{RdnModel, rdns}
-use Rattle.ldap_op.specs.Values.{OpValue, add, delete, modify, modify_dn, noop}
+use Rattle.entry_updates.specs.ldap_op.Values.{OpValue, add, delete, modify, modify_dn, noop}
 use Rattle.dir_tree.specs.dir_entry.Entry.{AttributeModel}
 use Rattle.dir_tree.specs.Directory.{NameKey}
 use Rattle.dir_store.specs.Directory.{Directory, NamedEntry}

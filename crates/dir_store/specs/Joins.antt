@@ -1,6 +1,6 @@
 -- Lists of updates, one behind the other. Lists flow in; what both together come to flows out. What one update comes to is above.
 use Rattle.std.specs.Prelude.{◌≡◌, ℕ, ◌+◌, List, ◌++◌, length}
-use Rattle.ldap_op.specs.Values.{OpValue}
+use Rattle.entry_updates.specs.ldap_op.Values.{OpValue}
 use Rattle.dir_store.specs.Directory.{Directory}
 use Rattle.dir_store.specs.Updates.{directory_after, replies_after}
 

@@ -8,8 +8,8 @@ pub mod Order
 pub mod Stored
 pub mod View
 -- what layers above name of the crates below
-pub use Rattle.ldap_op.specs.ldap_parts as ldap_parts
-pub use Rattle.ldap_op.specs as ldap_op
+pub use Rattle.entry_updates.specs.ldap_op.ldap_parts as ldap_parts
+pub use Rattle.entry_updates.specs.ldap_op as ldap_op
 pub use Rattle.dir_tree.specs.ldap_schema as ldap_schema
 pub use Rattle.dir_tree.specs.ldap_dn as ldap_dn
 pub use Rattle.dir_tree.specs.ldap_match as ldap_match

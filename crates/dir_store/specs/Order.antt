@@ -2,7 +2,7 @@
 use Rattle.std.specs.Prelude.{◌<◌, ℕ, List, [], ◌∷◌}
 use Rattle.dir_tree.specs.ldap_dn.Names.{RdnModel}
 use Rattle.dir_tree.specs.ldap_schema.Schema.{SchemaModel}
-use Rattle.ldap_op.specs.Values.{OpValue}
+use Rattle.entry_updates.specs.ldap_op.Values.{OpValue}
 use Rattle.dir_store.specs.Directory.{NamedEntry}
 use Rattle.dir_store.specs.Updates.{directory_of}
 

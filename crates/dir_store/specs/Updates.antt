@@ -8,9 +8,9 @@ use Rattle.dir_tree.specs.dir_entry.Entry.{AttributeModel}
 use Rattle.entry_updates.specs.Finishing.{renamed}
 use Rattle.entry_updates.specs.Adding.{attributes_asked}
 use Rattle.entry_updates.specs.Modifying.{attributes_changed}
-use Rattle.ldap_op.specs.ldap_parts.Values.{PartialAttributeValue}
+use Rattle.entry_updates.specs.ldap_op.ldap_parts.Values.{PartialAttributeValue}
 use Rattle.entry_updates.specs.ldap_updates.Values.{AddRequestValue, ChangeValue, ModifyRequestValue, ModifyDnRequestValue}
-use Rattle.ldap_op.specs.Values.{OpValue, add, delete, modify, modify_dn, noop}
+use Rattle.entry_updates.specs.ldap_op.Values.{OpValue, add, delete, modify, modify_dn, noop}
 use Rattle.dir_tree.specs.Directory.{name_eq, begins}
 use Rattle.dir_store.specs.Directory.{Directory, NamedEntry}
 use Rattle.dir_store.specs.Places.{entry_named, has_subordinate, parent_of, last_of, own_rdn, without_entry, with_attributes, moved}

@@ -2,7 +2,7 @@
 //! as it is.
 ghost use Rattle.std.specs.Prelude.{◌≡◌, ◌++◌, Ok, true, false, is_some, IfOk, IfErr, OnOk, map};
 ghost use Rattle.dir_tree.specs.ldap_dn.Names.{rdns};
-ghost use Rattle.ldap_op.specs.ldap_parts.View.{attribute_view};
+ghost use Rattle.entry_updates.specs.ldap_op.ldap_parts.View.{attribute_view};
 ghost use Rattle.entry_updates.specs.ldap_updates.View.{add_view};
 ghost use Rattle.dir_tree.specs.dir_entry.Entry.{IsKeyedBy};
 ghost use Rattle.dir_tree.specs.Directory.{find, has_footing};
@@ -16,8 +16,7 @@ use crate::finding::{asked_entry, is_same, is_taken};
 use crate::names::{asked_name, own_rdn, parent_of_name};
 use crate::reply::Reply;
 use dir_tree::{Entry, Name, Rdn, Schema, Tree, TypeAndValue};
-use entry_updates::{AddRequest, entry_asked};
-use ldap_op::{PartialAttribute, ResultCode};
+use entry_updates::{AddRequest, PartialAttribute, ResultCode, entry_asked};
 use std::alloc::{AllocError, Global};
 
 /// A new entry and its whole name.

@@ -12,7 +12,7 @@ use crate::fault::StoreError;
 use crate::finding::asked_entry;
 use crate::reply::Reply;
 use dir_tree::{Rdn, Schema, Tree};
-use ldap_op::ResultCode;
+use entry_updates::ResultCode;
 use std::alloc::Global;
 
 /// The number of the entry that a delete takes out (RFC 4511 4.8): 32 where there is none, 66 where one stands below it.

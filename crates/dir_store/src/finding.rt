@@ -14,7 +14,7 @@ ghost use Rattle.dir_store.specs.View.{reply_view, RefusedWith};
 use crate::fault::StoreError;
 use crate::reply::Reply;
 use dir_tree::{NamedEntry, Rdn, Schema, Tree};
-use ldap_op::ResultCode;
+use entry_updates::ResultCode;
 use std::alloc::{AllocError, Global};
 
 /// The number of a name's entry, and the entry.

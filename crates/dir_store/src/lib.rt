@@ -20,8 +20,8 @@ pub use dir_tree::{
     Attribute, Entry, EntryError, Name, NameError, NamedEntry, Rdn, Schema, Tree, Truth, TypeId,
     are_same, is_of_syntax,
 };
+pub use entry_updates::{Op, Update};
 pub use indexed::IndexedTree;
 pub use laws::{entries_rise, updates_join};
-pub use ldap_op::{Op, Update};
 pub use reply::Reply;
 pub use store::Store;

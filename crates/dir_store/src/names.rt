@@ -9,7 +9,7 @@ ghost use Rattle.dir_store.specs.View.{RefusedWith};
 use crate::fault::StoreError;
 use crate::reply::Reply;
 use dir_tree::{Name, NameError, Rdn, Schema, TypeAndValue};
-use ldap_op::ResultCode;
+use entry_updates::ResultCode;
 use std::alloc::Global;
 
 /// The name of a text; 34 where it has none.

@@ -17,8 +17,7 @@ use crate::finding::{asked_entry, is_front, is_same};
 use crate::names::{asked_name, asked_rdn, asked_superior, own_rdn};
 use crate::reply::Reply;
 use dir_tree::{Entry, Name, NamedEntry, Rdn, Schema, Tree};
-use entry_updates::{ModifyDnRequest, entry_renamed};
-use ldap_op::ResultCode;
+use entry_updates::{ModifyDnRequest, ResultCode, entry_renamed};
 use std::alloc::{AllocError, Global};
 
 /// An entry's number, its name before and after, and its attributes after.

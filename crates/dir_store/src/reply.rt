@@ -3,7 +3,7 @@ ghost use Rattle.std.specs.Prelude.{◌≡◌, IfOk};
 ghost use Rattle.dir_store.specs.Replies.{only as only_code};
 ghost use Rattle.dir_store.specs.View.{reply_view};
 
-use ldap_op::ResultCode;
+use entry_updates::ResultCode;
 use std::alloc::{AllocError, Global};
 
 /// What an update is answered with (RFC 4511 4.1.9).

@@ -4,8 +4,8 @@ use Rattle.std.proofs.Common.{◌≡◌, ◌<◌, ◌+◌, ℕ, suc, List, lengt
 use Rattle.entry_changes.specs.ldap_schema.Schema.{SchemaModel, find}
 use Rattle.entry_changes.specs.dir_entry.Entry.{AttributeModel}
 use Rattle.entry_changes.specs.Naming.{and_then}
-use Rattle.ldap_updates.specs.ldap_parts.Values.{PartialAttributeValue}
-use Rattle.ldap_updates.specs.Values.{ChangeValue}
+use Rattle.ldap_op.specs.ldap_updates.ldap_parts.Values.{PartialAttributeValue}
+use Rattle.ldap_op.specs.ldap_updates.Values.{ChangeValue}
 use Rattle.entry_updates.specs.Adding.{with_given, with_all_given}
 use Rattle.entry_updates.specs.Modifying.{changed, all_changed}
 

@@ -3,4 +3,5 @@ pub mod Finishing
 pub mod Modifying
 pub mod Refused
 -- what layers above name of the crates below
-pub use Rattle.ldap_updates.specs as ldap_updates
+pub use Rattle.ldap_op.specs.ldap_updates as ldap_updates
+pub use Rattle.ldap_op.specs as ldap_op

@@ -2,7 +2,7 @@
 //! The directory is not here.
 ghost use Rattle.std.specs.Prelude.{◌≡◌, [], Ok, map, IfOk, IfErr, OnOk, OnErr};
 ghost use Rattle.entry_changes.specs.dir_entry.Entry.{attributes_of, IsKeyedBy};
-ghost use Rattle.ldap_updates.specs.ldap_parts.View.{attribute_view};
+ghost use Rattle.ldap_op.specs.ldap_updates.ldap_parts.View.{attribute_view};
 ghost use Rattle.entry_changes.specs.ldap_schema.Schema.{find as type_of};
 ghost use Rattle.entry_updates.specs.Adding.{with_given, with_all_given, attributes_asked};
 ghost use Rattle.entry_updates.specs.Refused.{RefusedAs};
@@ -11,7 +11,7 @@ use crate::copying::copy_values;
 use crate::fault::UpdateError;
 use crate::finishing::name;
 use entry_changes::{Entry, Schema, TypeAndValue};
-use ldap_updates::{PartialAttribute, ResultCode};
+use ldap_op::{PartialAttribute, ResultCode};
 use std::alloc::Global;
 
 /// Adds what is given to the entry.

@@ -4,7 +4,7 @@ ghost use Rattle.std.specs.Prelude.{◌≡◌, IfOk};
 ghost use Rattle.entry_updates.specs.declared.fault.UpdateError.TheVariants.{NoMemory};
 
 use entry_changes::EntryError;
-use ldap_updates::ResultCode;
+use ldap_op::ResultCode;
 use std::alloc::{AllocError, AllocFailed};
 
 /// Why an entry is not made or changed.

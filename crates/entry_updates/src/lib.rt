@@ -11,6 +11,8 @@ mod renaming;
 
 pub use adding::entry_asked;
 pub use fault::{UpdateError, code_of_refusal};
-pub use ldap_updates::{AddRequest, Change, ModifyDnRequest, ModifyRequest};
+pub use ldap_op::{
+    AddRequest, Change, ModifyDnRequest, ModifyRequest, Op, PartialAttribute, ResultCode, Update,
+};
 pub use modifying::entry_changed;
 pub use renaming::entry_renamed;

@@ -2,7 +2,7 @@
 //! that is changed stays as it is. The directory is not here.
 ghost use Rattle.std.specs.Prelude.{◌≡◌, Ok, map, IfOk, IfErr};
 ghost use Rattle.entry_changes.specs.dir_entry.Entry.{attributes_of, IsKeyedBy};
-ghost use Rattle.ldap_updates.specs.View.{change_view};
+ghost use Rattle.ldap_op.specs.ldap_updates.View.{change_view};
 ghost use Rattle.entry_updates.specs.Modifying.{is_increment as is_increment_of, with_change, changed, all_changed, attributes_changed};
 ghost use Rattle.entry_updates.specs.Refused.{RefusedAs};
 
@@ -12,7 +12,7 @@ use crate::finishing::finish;
 use entry_changes::{
     Entry, Schema, TypeAndValue, TypeId, add_values, delete_values, replace_values,
 };
-use ldap_updates::{Change, ModifyOperation, ResultCode};
+use ldap_op::{Change, ModifyOperation, ResultCode};
 use std::alloc::Global;
 
 /// Whether the change is an increment.

@@ -13,8 +13,8 @@ pub enum FilterTextError {
     /// The text is in no filter's grammar, or no text spells the filter (RFC 4515 3).
     #[error("E18: no filter text, at {at}")]
     BadFilterText { at: usize },
-    /// The filter is more than 64 deep.
-    #[error("E9: a filter more than 64 deep")]
+    /// The filter is more than 128 deep.
+    #[error("E9: a filter more than 128 deep")]
     TooDeep,
     /// The filter has more than 512 items.
     #[error("E10: a filter of more than 512 items")]

@@ -21,23 +21,23 @@ scan_refused TooDeep text h = absurd h
 scan_refused TooManyItems text h = absurd h
 scan_refused NoMemory text h = tt
 
-pub filter_refused : (e : FilterTextError) (text : List ℕ) → stop text ≡ None → IsFrontFault e 64 512 text → IsReadFault e text
+pub filter_refused : (e : FilterTextError) (text : List ℕ) → stop text ≡ None → IsFrontFault e 128 512 text → IsReadFault e text
 filter_refused (BadFilterText n) text h f = let p = passed_text text h in absurd (f p.0 [] p.1)
 filter_refused TooDeep text h f = let p = passed_text text h in (p.0, p.1, f p.0 [] p.1)
 filter_refused TooManyItems text h f = let p = passed_text text h in (p.0, p.1, f p.0 [] p.1)
 filter_refused NoMemory text h f = tt
 
-pub filter_only : (e : FilterTextError) (text : List ℕ) (t : Tree) → IsFrontFault e 64 512 text → IsFilterText t text → depth t ≤ 64 → count t ≤ 512 → e ≡ NoMemory
+pub filter_only : (e : FilterTextError) (text : List ℕ) (t : Tree) → IsFrontFault e 128 512 text → IsFilterText t text → depth t ≤ 128 → count t ≤ 512 → e ≡ NoMemory
 filter_only (BadFilterText n) text t f p d m = absurd (f t [] p)
 filter_only TooDeep text t f p d m = let x = f t [] p in let no : ⊥ = omega (arith, x, d) in absurd no
 filter_only TooManyItems text t f p d m = let x = f t [] p in let no : ⊥ = omega (arith, x, m) in absurd no
 filter_only NoMemory text t f p d m = refl
 
-pub filter_found : (text : List ℕ) (u : Tree) (left : ℕ) (after : List ℕ) → stop text ≡ None → IsFrontRead 64 512 text u left after → IsFilterText u text × (depth u ≤ 64) × (count u ≤ 512)
+pub filter_found : (text : List ℕ) (u : Tree) (left : ℕ) (after : List ℕ) → stop text ≡ None → IsFrontRead 128 512 text u left after → IsFilterText u text × (depth u ≤ 128) × (count u ≤ 512)
 filter_found text u left after h r =
     let p = passed_text text h in
     let q = r p.0 [] p.1 in
     (subst (λ (t : Tree). IsFilterText t text) (sym q.same) p.1, omega (arith, ap depth q.same, q.deep), omega (arith, ap count q.same, q.many))
 
-pub filter_same : (text : List ℕ) (u t : Tree) (left : ℕ) (after : List ℕ) → IsFrontRead 64 512 text u left after → IsFilterText t text → u ≡ t
+pub filter_same : (text : List ℕ) (u t : Tree) (left : ℕ) (after : List ℕ) → IsFrontRead 128 512 text u left after → IsFilterText t text → u ≡ t
 filter_same text u t left after r p = (r t [] p).same

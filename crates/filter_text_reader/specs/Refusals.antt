@@ -11,6 +11,6 @@ use Rattle.filter_text_reader.specs.Longest.{IsLongestFront}
 -- that is too deep, or has too many items; or memory ran out.
 abbrev pub IsReadFault : FilterTextError → List ℕ → Type 0
 IsReadFault (BadFilterText at) text = ((t : Tree) → IsFilterText t text → ⊥) × IsLongestFront text at
-IsReadFault TooDeep text = (t : Tree) × IsFilterText t text × (64 < depth t)
+IsReadFault TooDeep text = (t : Tree) × IsFilterText t text × (128 < depth t)
 IsReadFault TooManyItems text = (t : Tree) × IsFilterText t text × (512 < count t)
 IsReadFault NoMemory text = Unit {0}

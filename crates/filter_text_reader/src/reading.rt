@@ -161,13 +161,13 @@ fn row_of(
 }
 
 /// The filter that a text spells (RFC 4515 3, RFC 4526 2). E18 where it spells none, with the length in octets of its
-/// longest front that begins some filter's text; else E9 where the filter is more than 64 deep, E10 where it has more than 512 items.
+/// longest front that begins some filter's text; else E9 where the filter is more than 128 deep, E10 where it has more than 512 items.
 pub fn read_text(alloc: Global, text: &str) -> Result<Filter, FilterTextError>
     // What is read is the filter that the text spells, within the limits.
     ensures found { IfOk result (λ f.
-        IsFilterText (view f) text.now × (depth_of (view f) ≤ 64) × (count (view f) ≤ 512)) }
+        IsFilterText (view f) text.now × (depth_of (view f) ≤ 128) × (count (view f) ≤ 512)) }
     // A text of a filter within the limits is read as that filter, unless memory runs out.
-    ensures only { (t : Tree) → IsFilterText t text.now → depth_of t ≤ 64 → count t ≤ 512
+    ensures only { (t : Tree) → IsFilterText t text.now → depth_of t ≤ 128 → count t ≤ 512
         → MatchResult result (λ f. view f ≡ t) (λ e. e ≡ FilterTextError.NoMemory) }
     // Which refusal it is.
     ensures refused { IfErr result (λ e. IsReadFault e text.now) }

@@ -11,8 +11,7 @@ ghost use Rattle.lab_script.specs.Script.{AreEvents, IsBadLine, IsFirstBad, IsSc
 
 use crate::fault::{LineError, ScriptError};
 use crate::script::{read_first, read_line};
-use dir_lab::{Lab, LabEvent, LabReply};
-use dir_search::{Indexes, Name, Schema};
+use dir_lab::{Indexes, Lab, LabEvent, LabReply, Name, Schema};
 use std::alloc::Global;
 use std::sync::Arc;
 

@@ -10,10 +10,9 @@ ghost use Rattle.script_texts.specs.Updates.{IsUpdateText};
 
 use crate::cutting::request_parts;
 use crate::fault::LineError;
-use dir_lab::{LabEvent, Op, WorldEvent};
+use dir_lab::{Client, Entry, LabEvent, Op, WorldEvent};
 use script_texts::{TextError, read_update};
 use std::alloc::Global;
-use vr_state::words::{Client, Entry};
 
 /// The update that a text writes.
 fn update_in(alloc: Global, text: &[u8]) -> Result<Op, LineError>

@@ -4,3 +4,5 @@ pub mod Written
 pub mod Parts
 pub mod Spelled
 pub mod Puts
+-- what layers above name of the crates below
+pub use Rattle.ldap_ber.proofs as ldap_ber

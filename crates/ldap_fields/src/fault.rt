@@ -10,14 +10,14 @@ use thiserror::Error;
 /// Why octets are not read as a message or a filter.
 #[derive(Clone, Copy, Debug, PartialEq, Eq, Error)]
 pub enum MsgFault {
-    /// A message of more than 1048576 octets.
-    #[error("E7: a message of more than 1048576 octets")]
+    /// A message of more than 4194304 octets.
+    #[error("E7: a message of more than 4194304 octets")]
     TooLarge,
     /// The octets are not in the grammar of RFC 4511.
     #[error("E8: no message")]
     NotAMessage,
-    /// A filter more than 64 deep.
-    #[error("E9: a filter more than 64 deep")]
+    /// A filter more than 128 deep.
+    #[error("E9: a filter more than 128 deep")]
     TooDeep,
     /// A filter of more than 512 items.
     #[error("E10: a filter of more than 512 items")]

@@ -15,6 +15,7 @@ pub use fields::{
     element, field, flag_field, integer_field, number_field, octets_field, small_integer, text,
     text_field,
 };
+pub use ldap_ber::{BerFault, WriteError, header, write, write_integer};
 pub use numbers::{put_flag, put_number, put_optional_octets, put_optional_text};
 pub use optional::{flag_or_false, has_first, optional_octets, optional_text};
 pub use rows::{elements, texts_field, texts_or_none, values_field};

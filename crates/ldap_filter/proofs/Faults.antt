@@ -1,7 +1,7 @@
 -- Wire, filters: why a filter was refused, at each exit.
 use Rattle.std.proofs.Common.{◌≡◌, ℕ, suc, ◌-◌, ◌<◌, List, [], ◌++◌, refl, sym, ap, subst, ◌∙◌, ◌⊎◌, inl, inr, arith}
 use Rattle.std.proofs.lemmas.List.{append-nil}
-use Rattle.ldap_ber.specs.Element.{IsElement}
+use Rattle.ldap_fields.specs.ldap_ber.Element.{IsElement}
 use Rattle.ldap_filter.specs.Item.{Item}
 use Rattle.ldap_filter.specs.Tree.{Tree, conj, disj, negation, item}
 use Rattle.ldap_filter.specs.ItemGrammar.{item_octet, IsItem}

@@ -1,7 +1,7 @@
 -- Wire, filters: what is written for an item is in the grammar.
 use Rattle.std.proofs.Common.{◌≡◌, ℕ, ◌<◌, ◌%◌, Option, Some, None, List, [], ◌∷◌, ◌++◌, length, refl, sym, ap, subst, ◌∙◌, append_assoc, arith}
 use Rattle.std.proofs.lemmas.List.{append-nil}
-use Rattle.ldap_ber.specs.Element.{element_bytes}
+use Rattle.ldap_fields.specs.ldap_ber.Element.{element_bytes}
 use Rattle.ldap_fields.specs.Fields.{HasField, HasTextOrNone, HasOctetsOrNone, HasFlagOrFalse, BeginsOtherwise}
 use Rattle.ldap_fields.specs.Rows.{row_bytes}
 use Rattle.ldap_fields.specs.Written.{optional_bytes, flag_or_false_bytes}

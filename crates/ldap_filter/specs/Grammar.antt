@@ -2,7 +2,7 @@
 -- In: a tree and octets. Out: whether the octets spell it, and the one spelling that is written.
 -- Not here: limits. A length may be spelled in several ways, so a filter has several spellings.
 use Rattle.std.specs.Prelude.{◌≡◌, ℕ, List, [], ◌++◌}
-use Rattle.ldap_ber.specs.Element.{IsElement, element_bytes}
+use Rattle.ldap_fields.specs.ldap_ber.Element.{IsElement, element_bytes}
 use Rattle.ldap_filter.specs.Tree.{Tree, conj, disj, negation, item, Trees, no_trees, tree}
 use Rattle.ldap_filter.specs.ItemGrammar.{item_octet, IsItem, item_content, IsSpellable}
 

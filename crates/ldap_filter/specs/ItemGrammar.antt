@@ -3,7 +3,7 @@
 -- Not here: filters round filters.
 use Rattle.std.specs.Prelude.{◌≡◌, ◌≢◌, ℕ, List, [], ◌∷◌, ◌++◌, Option, Some, None}
 use Rattle.std.specs.Str.{IsUtf8}
-use Rattle.ldap_ber.specs.Element.{element_bytes}
+use Rattle.ldap_fields.specs.ldap_ber.Element.{element_bytes}
 use Rattle.ldap_fields.specs.Fields.{HasField, HasText, HasPart, HasTextOrNone, HasOctetsOrNone, HasFlagOrFalse, BeginsOtherwise, Seq}
 use Rattle.ldap_fields.specs.Rows.{row_bytes}
 use Rattle.ldap_fields.specs.Written.{optional_bytes, flag_or_false_bytes, IsTextOrNone}

@@ -15,6 +15,11 @@ mod writing_item;
 
 pub use copying::copy_filter;
 pub use item::{MatchingRuleAssertion, SubstringFilter};
+pub use ldap_fields::{
+    BerFault, MsgFault, WriteError, copied, element, elements, field, flag_field, has_first,
+    header, integer_field, number_field, octets_field, optional_octets, put_flag, put_number,
+    put_optional_octets, put_texts, small_integer, text_field, texts_field, write, write_integer,
+};
 pub use reading::{MAX_DEPTH, MAX_ITEMS, one_filter, read_filter};
 pub use tree::Filter;
 pub use writing::{is_spelling, write_filter};

@@ -15,7 +15,7 @@ use ldap_fields::{MsgFault, element};
 use std::alloc::Global;
 
 /// How deep a filter may be: an item is 1 deep, and `and`, `or` and `not` add 1.
-pub const MAX_DEPTH: usize = 64;
+pub const MAX_DEPTH: usize = 128;
 
 /// How many items a filter may have, each `and`, `or` and `not` counted too.
 pub const MAX_ITEMS: usize = 512;
@@ -101,13 +101,13 @@ pub fn read_filter(alloc: Global, octets: &[u8]) -> Result<(Filter, &[u8]), MsgF
     // What is read is a filter within the limits.
     ensures found { IfOk result (λ x. (spelling : List ℕ) × IsFilter (view x.0) spelling
         × (octets.now ≡ spelling ++ x.1.now)
-        × (depth_of (view x.0) ≤ 64) × (count (view x.0) ≤ 512)) }
+        × (depth_of (view x.0) ≤ 128) × (count (view x.0) ≤ 512)) }
     // A filter within the limits is read, whatever follows it, unless memory runs out.
     ensures only { (t : Tree) (spelling rest : List ℕ) → IsFilter t spelling
-        → octets.now ≡ spelling ++ rest → depth_of t ≤ 64 → count t ≤ 512
+        → octets.now ≡ spelling ++ rest → depth_of t ≤ 128 → count t ≤ 512
         → MatchResult result (λ x. (view x.0 ≡ t) × (x.1.now ≡ rest)) (λ e. e ≡ MsgFault.NoMemory) }
     // Which fault it is.
-    ensures fault { IfErr result (λ e. IsFault e 64 512 octets.now) }
+    ensures fault { IfErr result (λ e. IsFault e 128 512 octets.now) }
 {
     let (filter, _, rest) = filter_of(alloc, octets, MAX_DEPTH, MAX_ITEMS)?;
     Ok((filter, rest))

@@ -57,7 +57,7 @@ framed o h rest f n begins is e long =
     let same : take (length h + n) o ≡ h ++ content = ap (take (length h + n)) e ∙ take-append-add h rest n in
     (content, subst (λ (s : List ℕ). IsElement s 48 content) (sym same) (framed_by h content n (of_frame o h rest f n begins is e) (length-take-le n rest enough)))
 
-pub bad_frame : (f : MsgFault) (o : List ℕ) (size : ℕ) → size ≤ length o → size ≤ 1048576 → IsFrame (take size o) → IsFault f (take size o) → HasBadFrame f o
+pub bad_frame : (f : MsgFault) (o : List ℕ) (size : ℕ) → size ≤ length o → size ≤ 4194304 → IsFrame (take size o) → IsFault f (take size o) → HasBadFrame f o
 bad_frame f o size within small is fault = record {
   frame = take size o;
   rest = drop size o;
@@ -67,7 +67,7 @@ bad_frame f o size within small is fault = record {
   is_fault = fault;
 }
 
-pub not_large : (o : List ℕ) (size : ℕ) → size ≤ length o → size ≤ 1048576 → 1048576 < length (take size o) → ⊥
+pub not_large : (o : List ℕ) (size : ℕ) → size ≤ length o → size ≤ 4194304 → 4194304 < length (take size o) → ⊥
 not_large o size within small large = omega (arith, length-take-le size o within)
 
 pub awaited_short : (o : List ℕ) → BeginsFrame o → IsHeaderFront o → IsAwaited o

@@ -70,7 +70,7 @@ frame_not_awaited (a ∷ bs) frame after is e (begins, inr b) =
     let s = same_header (48 ∷ is.1.len_octets) b.header (is.0 ++ after) b.rest 48 48 (length is.0) b.n (header_of frame is.0 is.1) b.is_header (sym (behind (a ∷ bs) frame after is.0 is.1 e) ∙ b.whole) in
     omega (arith, b.not_whole, s.length_is, ap length s.rest_is, length-append is.0 after)
 
-frame_not_large : (o frame after : List ℕ) → IsFrame frame → length frame ≤ 1048576 → o ≡ frame ++ after → StatesTooLarge o → ⊥
+frame_not_large : (o frame after : List ℕ) → IsFrame frame → length frame ≤ 4194304 → o ≡ frame ++ after → StatesTooLarge o → ⊥
 frame_not_large o frame after is small e t =
     let h : List ℕ = 48 ∷ is.1.len_octets in
     let x : List ℕ = is.0 ++ after in

@@ -17,16 +17,16 @@ IsFrame octets = (content : List ℕ) × IsElement octets 48 content
 pub record IsWhole (octets : List ℕ) (m : MessageValue) : Type 0 where
   pub is_message : IsMessage octets m
   pub within : IsWithin m.op
-  pub small : length octets ≤ 1048576
+  pub small : length octets ≤ 4194304
 
--- a header that states at most 1048576 octets with its own, and less content than it states
+-- a header that states at most 4194304 octets with its own, and less content than it states
 pub record IsBegun (octets : List ℕ) : Type 0 where
   pub header : List ℕ
   pub n : ℕ
   pub rest : List ℕ
   pub is_header : IsHeader header 48 n
   pub whole : octets ≡ header ++ rest
-  pub small : length header + n ≤ 1048576
+  pub small : length header + n ≤ 4194304
   pub not_whole : length rest < n
 
 -- what is awaited to become a whole message: nothing yet, a front of a header, or a front behind a header
@@ -34,26 +34,26 @@ abbrev pub IsAwaited : List ℕ → Type 0
 IsAwaited [] = Unit {0}
 IsAwaited (a ∷ bs) = (a ≡ 48) × (IsHeaderFront (a ∷ bs) ⊎ IsBegun (a ∷ bs))
 
--- A header at the front states more than 1048576 octets with its own.
+-- A header at the front states more than 4194304 octets with its own.
 pub record StatesTooLarge (octets : List ℕ) : Type 0 where
   pub header : List ℕ
   pub n : ℕ
   pub rest : List ℕ
   pub is_header : IsHeader header 48 n
   pub whole : octets ≡ header ++ rest
-  pub large : 1048576 < length header + n
+  pub large : 4194304 < length header + n
 
 -- No element of a message's first octet begins so, however the octets go on.
 abbrev pub BeginsNoFrame : List ℕ → Type 0
 BeginsNoFrame octets = (more frame after : List ℕ) → IsFrame frame → octets ++ more ≡ frame ++ after → ⊥
 
--- At the front stands a whole element of at most 1048576 octets of which this fault is true.
+-- At the front stands a whole element of at most 4194304 octets of which this fault is true.
 pub record HasBadFrame (fault : MsgFault) (octets : List ℕ) : Type 0 where
   pub frame : List ℕ
   pub rest : List ℕ
   pub is_frame : IsFrame frame
   pub whole : octets ≡ frame ++ rest
-  pub small : length frame ≤ 1048576
+  pub small : length frame ≤ 4194304
   pub is_fault : IsFault fault frame
 
 -- What stands where a message is to begin, and stops the stream.

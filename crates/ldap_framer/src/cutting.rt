@@ -16,7 +16,7 @@ use std::collections::VecDeque;
 /// What a whole element of so many octets at the front is.
 fn frame_of(alloc: Global, octets: &[u8], size: usize) -> Result<Finding, MsgFault>
     requires within { size ≤ length octets.now }
-    requires small { size ≤ 1048576 }
+    requires small { size ≤ 4194304 }
     requires is_frame { IsFrame (take size octets.now) }
     ensures found { IfOk result (λ f. IsTrueOf f octets.now) }
     ensures no_memory { IfErr result (λ e. e ≡ MsgFault.NoMemory) }

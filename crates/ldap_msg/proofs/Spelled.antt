@@ -2,10 +2,10 @@
 use Rattle.std.proofs.Common.{◌≡◌, ◌^◌, ◌%◌, ◌<◌, ℕ, List, [], ◌++◌, length, refl, sym, subst, ◌∙◌, arith}
 use Rattle.std.specs.Str.{IsUtf8}
 use Rattle.std.proofs.lemmas.List.{append-nil}
-use Rattle.ldap_fields.specs.Written.{number_bytes, row_or_none_bytes}
-use Rattle.ldap_fields.proofs.Spelled.{IsShort, inner, left, right, number, small_number, part, row_or_none, regroup_three}
+use Rattle.ldap_requests.specs.ldap_fields.Written.{number_bytes, row_or_none_bytes}
+use Rattle.ldap_requests.proofs.ldap_fields.Spelled.{IsShort, inner, left, right, number, small_number, part, row_or_none, regroup_three}
 use Rattle.ldap_updates.specs.ldap_parts.Grammar.{HasControl, AreControls}
-use Rattle.ldap_fields.specs.Rows.{none}
+use Rattle.ldap_requests.specs.ldap_fields.Rows.{none}
 use Rattle.ldap_updates.specs.ldap_parts.Written.{control_bytes}
 use Rattle.ldap_updates.proofs.ldap_parts.Spelled.{control}
 use Rattle.ldap_requests.proofs.Binds.{bind_written}

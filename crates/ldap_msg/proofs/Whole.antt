@@ -1,10 +1,10 @@
 -- Wire, messages: a message within the limits is read: what stands open at a filter's place is in the filter of the message.
 use Rattle.std.proofs.Common.{◌≡◌, ◌^◌, ◌<◌, ◌≤◌, ℕ, List, [], length, Result, Ok, Err, refl, sym, subst, arith}
 use Rattle.std.specs.Prelude.{MatchResult, IfOk, IfErr}
-use Rattle.ldap_fields.specs.declared.fault.MsgFault.{MsgFault}
-use Rattle.ldap_fields.specs.declared.fault.MsgFault.TheVariants.{TooLarge, NotAMessage, TooDeep, TooManyItems, NoMemory}
-use Rattle.ldap_fields.specs.Fields.{HasField}
-use Rattle.ldap_fields.proofs.Same.{step, same_field, number_unique}
+use Rattle.ldap_requests.specs.ldap_fields.declared.fault.MsgFault.{MsgFault}
+use Rattle.ldap_requests.specs.ldap_fields.declared.fault.MsgFault.TheVariants.{TooLarge, NotAMessage, TooDeep, TooManyItems, NoMemory}
+use Rattle.ldap_requests.specs.ldap_fields.Fields.{HasField}
+use Rattle.ldap_requests.proofs.ldap_fields.Same.{step, same_field, number_unique}
 use Rattle.ldap_requests.specs.ldap_filter.Limits.{Opens}
 use Rattle.ldap_requests.proofs.ldap_filter.Unique.{opens_within}
 use Rattle.ldap_requests.specs.Values.{SearchRequestValue}
@@ -13,14 +13,14 @@ use Rattle.ldap_msg.specs.Messages.{search, OperationValue, request, response, M
 use Rattle.ldap_msg.specs.Grammar.{operation_octet, IsOperation, IsMessageContent, IsMessage}
 use Rattle.ldap_requests.specs.Limits.{FilterStandsAt, IsLimitFault}
 use Rattle.ldap_msg.specs.Limits.{ContentHasFilterAt, IsFault, IsRequestWithin, IsWithin}
-use Rattle.ldap_fields.proofs.Parts.{number_part}
+use Rattle.ldap_requests.proofs.ldap_fields.Parts.{number_part}
 use Rattle.ldap_requests.proofs.Unique.{Target, target_part, target_unique, Bounds, bounds_part, bounds_unique, target_of, bounds_of}
 use Rattle.ldap_msg.proofs.Choices.{is_search, request_same, no_response}
 use Rattle.ldap_msg.proofs.Unique.{content_one}
 use Rattle.ldap_msg.proofs.Exits.{whole_fault, message_inside, message_at}
 use Rattle.ldap_requests.proofs.Exits.{limit_weaker}
 
-in_search : {d k : ℕ} (s : SearchRequestValue) (content place : List ℕ) → IsSearchRequest s content → FilterStandsAt content place → IsRequestWithin (search s) → Opens d k place → (d < 64) × (k < 512)
+in_search : {d k : ℕ} (s : SearchRequestValue) (content place : List ℕ) → IsSearchRequest s content → FilterStandsAt content place → IsRequestWithin (search s) → Opens d k place → (d < 128) × (k < 512)
 in_search s content place h at within o =
     let target : Target = record { base = at.base; scope = at.scope; deref = at.deref } in
     let bounds : Bounds = record { size = at.size; time = at.time; types_only = at.types_only } in
@@ -30,14 +30,14 @@ in_search s content place h at within o =
     let inside = opens_within place o s.filter f.spelling b.next.rest f.is_filter f.parts in
     (omega (arith, inside.0, within.0), omega (arith, inside.1, within.1))
 
-in_operation : {d k : ℕ} (op : OperationValue) (content place : List ℕ) → operation_octet op ≡ 99 → IsOperation op content → FilterStandsAt content place → IsWithin op → Opens d k place → (d < 64) × (k < 512)
+in_operation : {d k : ℕ} (op : OperationValue) (content place : List ℕ) → operation_octet op ≡ 99 → IsOperation op content → FilterStandsAt content place → IsWithin op → Opens d k place → (d < 128) × (k < 512)
 in_operation (response r) content place e h at within o = absurd (no_response 99 refl r e)
 in_operation (request r) content place e h at within o =
     let found = is_search content (r, e, h) in
     let same : r ≡ search found.0 = request_same r (search found.0) content e h found.1 in
     in_search found.0 content place found.1 at (subst IsRequestWithin same within) o
 
-in_content : {d k : ℕ} (m : MessageValue) (content place : List ℕ) → IsMessageContent m content → ContentHasFilterAt content place → IsWithin m.op → Opens d k place → (d < 64) × (k < 512)
+in_content : {d k : ℕ} (m : MessageValue) (content place : List ℕ) → IsMessageContent m content → ContentHasFilterAt content place → IsWithin m.op → Opens d k place → (d < 128) × (k < 512)
 in_content m content place h at within o =
     let s = step (number_part 2 (2 ^ 31)) (number_unique 2 (2 ^ 31)) _ at.id m.id content at.rest at.id_field h.parts in
     let p = s.next.first in
@@ -67,7 +67,7 @@ whole_faults (Ok x) o content rest p e fault = tt
 whole_faults (Err f) o content rest p e fault = whole_fault f o (limit_weaker f _ _ _ _ (message_inside o content rest p) (message_at o content rest p e) fault)
 
 -- of a message within the limits no fault is true but want of memory
-pub no_fault : (e : MsgFault) (o : List ℕ) (m : MessageValue) → IsMessage o m → IsWithin m.op → length o ≤ 1048576 → IsFault e o → e ≡ NoMemory
+pub no_fault : (e : MsgFault) (o : List ℕ) (m : MessageValue) → IsMessage o m → IsWithin m.op → length o ≤ 4194304 → IsFault e o → e ≡ NoMemory
 no_fault NoMemory o m h within size fault = refl
 no_fault NotAMessage o m h within size fault = absurd (fault (m, h))
 no_fault TooLarge o m h within size fault = absurd (omega arith)

@@ -1,9 +1,9 @@
 -- Wire, messages: where a filter stands in a message, and what each fault says of the octets.
 -- In: octets. Out: what a fault means, and which values are within the limits. Not here: the grammar.
 use Rattle.std.specs.Prelude.{◌^◌, ◌<◌, ◌≤◌, ℕ, List, [], length}
-use Rattle.ldap_fields.specs.declared.fault.MsgFault.{MsgFault}
-use Rattle.ldap_fields.specs.declared.fault.MsgFault.TheVariants.{TooLarge, NotAMessage, TooDeep, TooManyItems, NoMemory}
-use Rattle.ldap_fields.specs.Fields.{HasField, HasNumber}
+use Rattle.ldap_requests.specs.ldap_fields.declared.fault.MsgFault.{MsgFault}
+use Rattle.ldap_requests.specs.ldap_fields.declared.fault.MsgFault.TheVariants.{TooLarge, NotAMessage, TooDeep, TooManyItems, NoMemory}
+use Rattle.ldap_requests.specs.ldap_fields.Fields.{HasField, HasNumber}
 use Rattle.ldap_requests.specs.ldap_filter.Tree.{depth, count}
 use Rattle.ldap_requests.specs.ldap_filter.Limits.{Opens}
 use Rattle.ldap_msg.specs.Messages.{search, RequestValue, OperationValue, request, response, MessageValue}
@@ -32,15 +32,15 @@ pub record HasFilterAt (octets place : List ℕ) : Type 0 where
 
 -- What a fault says of octets that are to be a whole message.
 abbrev pub IsFault : MsgFault → List ℕ → Type 0
-IsFault TooLarge octets = 1048576 < length octets
+IsFault TooLarge octets = 4194304 < length octets
 IsFault NotAMessage octets = ((m : MessageValue) × IsMessage octets m) → ⊥
-IsFault TooDeep octets = (place : List ℕ) × (k : ℕ) × HasFilterAt octets place × Opens 64 k place
+IsFault TooDeep octets = (place : List ℕ) × (k : ℕ) × HasFilterAt octets place × Opens 128 k place
 IsFault TooManyItems octets = (place : List ℕ) × (d : ℕ) × HasFilterAt octets place × Opens d 512 place
 IsFault NoMemory octets = Unit {0}
 
--- The filter of a search is at most 64 deep and of at most 512 items.
+-- The filter of a search is at most 128 deep and of at most 512 items.
 abbrev pub IsRequestWithin : RequestValue → Type 0
-IsRequestWithin (search s) = (depth s.filter ≤ 64) × (count s.filter ≤ 512)
+IsRequestWithin (search s) = (depth s.filter ≤ 128) × (count s.filter ≤ 512)
 IsRequestWithin other = Unit {0}
 
 -- A message is within the limits where its search is; other operations have none.

@@ -5,7 +5,7 @@ use Rattle.std.specs.Str.{IsUtf8}
 use Rattle.std.specs.List.{AllByRecursion}
 use Rattle.ldap_requests.specs.ldap_ber.Element.{element_bytes}
 use Rattle.ldap_requests.specs.ldap_ber.Values.{integer_octets, IsLong}
-use Rattle.ldap_fields.specs.Written.{number_bytes, row_or_none_bytes}
+use Rattle.ldap_requests.specs.ldap_fields.Written.{number_bytes, row_or_none_bytes}
 use Rattle.ldap_updates.specs.ldap_parts.Written.{result_content, control_bytes}
 use Rattle.ldap_requests.specs.Written.{bind_content, search_content, compare_content, extended_request_content}
 use Rattle.ldap_updates.specs.Written.{modify_content, add_content, modify_dn_content}

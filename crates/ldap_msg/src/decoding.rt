@@ -12,12 +12,12 @@ ghost use Rattle.ldap_msg.specs.Limits.{OperationHasFilterAt, ContentHasFilterAt
 use crate::decoding_request::{is_request, request_of};
 use crate::decoding_response::response_of;
 use crate::message::{Message, ProtocolOp};
-use ldap_fields::{MsgFault, element, field, number_field};
+use ldap_requests::{MsgFault, element, field, number_field};
 use ldap_updates::controls_of;
 use std::alloc::Global;
 
 /// How many octets a message may have, its header included.
-pub const MAX_MESSAGE: usize = 1_048_576;
+pub const MAX_MESSAGE: usize = 4_194_304;
 
 /// The operation of this first octet whose content this is.
 fn operation_of(alloc: Global, first: u8, content: &[u8]) -> Result<ProtocolOp, MsgFault>
@@ -75,15 +75,15 @@ fn message_of(alloc: Global, content: &[u8]) -> Result<Message, MsgFault>
 }
 
 /// The message whose octets these are, and nothing after it (RFC 4511 4.1.1). E7 where there are more
-/// than 1048576 octets, E8 only where no message is, E9 and E10 only where a filter opens at its place
+/// than 4194304 octets, E8 only where no message is, E9 and E10 only where a filter opens at its place
 /// that is too deep or of too many items.
 pub fn decode(alloc: Global, octets: &[u8]) -> Result<Message, MsgFault>
     // What is read is the message of the octets, within the limits.
     ensures found { IfOk result (λ m. IsMessage octets.now (view m)) }
-    ensures within { IfOk result (λ m. IsWithin (view m).op × (length octets.now ≤ 1048576)) }
+    ensures within { IfOk result (λ m. IsWithin (view m).op × (length octets.now ≤ 4194304)) }
     // A message within the limits is read, unless memory runs out.
     ensures only { (m : MessageValue) → IsMessage octets.now m → IsWithin m.op
-        → length octets.now ≤ 1048576
+        → length octets.now ≤ 4194304
         → MatchResult result (λ x. view x ≡ m) (λ e. e ≡ MsgFault.NoMemory) }
     // Which fault it is.
     ensures fault { IfErr result (λ e. IsFault e octets.now) }

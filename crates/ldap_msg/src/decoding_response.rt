@@ -3,13 +3,13 @@
 //! Not here: the parts of each response, requests.
 
 ghost use Rattle.std.specs.Prelude.{◌≡◌, IfOk, IfErr};
-ghost use Rattle.ldap_fields.specs.Faults.{IsPlainFault};
+ghost use Rattle.ldap_requests.specs.ldap_fields.Faults.{IsPlainFault};
 ghost use Rattle.ldap_msg.specs.Messages.{ResponseValue};
 ghost use Rattle.ldap_msg.specs.View.{response_view};
 ghost use Rattle.ldap_msg.specs.Grammar.{response_octet, IsResponseContent};
 
 use crate::message::Response;
-use ldap_fields::MsgFault;
+use ldap_requests::MsgFault;
 use ldap_responses::{entry_of, extended_of};
 use ldap_updates::result_of;
 use std::alloc::Global;

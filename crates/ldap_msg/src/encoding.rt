@@ -10,8 +10,7 @@ ghost use Rattle.ldap_msg.specs.Written.{operation_content, operation_bytes, mes
 use crate::encoding_request::{request_content, request_octet};
 use crate::encoding_response::{response_content, response_octet};
 use crate::message::{Message, ProtocolOp};
-use ldap_fields::put_number;
-use ldap_requests::{WriteError, write};
+use ldap_requests::{WriteError, put_number, write};
 use ldap_updates::put_controls;
 use std::alloc::Global;
 

@@ -13,10 +13,9 @@ mod message;
 
 pub use decoding::{MAX_MESSAGE, decode, one_message};
 pub use encoding::{encode, is_message};
-pub use ldap_fields::MsgFault;
 pub use ldap_requests::{
     AttributeValueAssertion, AuthenticationChoice, BerFault, BindRequest, CompareRequest,
-    DerefAliases, ExtendedRequest, Filter, SaslCredentials, Scope, SearchRequest,
+    DerefAliases, ExtendedRequest, Filter, MsgFault, SaslCredentials, Scope, SearchRequest,
     WriteError as EncodeError, header,
 };
 pub use ldap_responses::{ExtendedResponse, SearchResultEntry};

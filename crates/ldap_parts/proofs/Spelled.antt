@@ -2,7 +2,7 @@
 use Rattle.std.proofs.Common.{◌≡◌, ◌^◌, ℕ, List, [], ◌++◌, sym, ap, subst, ◌∙◌, append_assoc, arith}
 use Rattle.std.specs.Str.{IsUtf8}
 use Rattle.std.proofs.lemmas.List.{append-nil}
-use Rattle.ldap_ber.specs.Element.{element_bytes}
+use Rattle.ldap_fields.specs.ldap_ber.Element.{element_bytes}
 use Rattle.ldap_fields.specs.Fields.{HasPart, BeginsOtherwise}
 use Rattle.ldap_fields.specs.Rows.{AreValues, none, row_bytes}
 use Rattle.ldap_fields.proofs.Same.{text_part}

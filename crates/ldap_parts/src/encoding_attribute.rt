@@ -7,8 +7,7 @@ ghost use Rattle.ldap_parts.specs.View.{attribute_view};
 ghost use Rattle.ldap_parts.specs.Written.{attribute_content, attribute_bytes};
 
 use crate::attribute::PartialAttribute;
-use ldap_ber::{WriteError, write};
-use ldap_fields::put_values;
+use ldap_fields::{WriteError, put_values, write};
 use std::alloc::Global;
 
 /// The content of an attribute's element.

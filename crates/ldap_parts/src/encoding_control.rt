@@ -8,7 +8,7 @@ ghost use Rattle.ldap_parts.specs.Written.{control_content, control_bytes};
 ghost use Rattle.ldap_fields.specs.Written.{row_or_none_bytes};
 
 use crate::control::Control;
-use ldap_ber::{WriteError, write};
+use ldap_fields::{WriteError, write};
 use std::alloc::Global;
 
 /// The content of a control's element: a criticality that is false is left out.

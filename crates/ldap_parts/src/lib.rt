@@ -21,4 +21,9 @@ pub use decoding_result::{result_field, result_of};
 pub use encoding_attribute::{attribute_content, put_attributes};
 pub use encoding_control::put_controls;
 pub use encoding_result::result_content;
+pub use ldap_fields::{
+    MsgFault, WriteError, copied, element, elements, field, flag_field, number_field,
+    optional_octets, optional_text, put_flag, put_number, put_optional_octets, put_optional_text,
+    text, text_field, write,
+};
 pub use result::{LdapResult, ResultCode};

@@ -1,11 +1,11 @@
 -- Wire, requests: what a part lacks, the request lacks: at each exit of a reader, behind the parts that it read.
 use Rattle.std.proofs.Common.{◌≡◌, ◌^◌, ℕ, Bool, List, ◌++◌, refl, subst}
-use Rattle.ldap_fields.specs.declared.fault.MsgFault.{MsgFault}
-use Rattle.ldap_fields.specs.declared.fault.MsgFault.TheVariants.{TooLarge, NotAMessage, TooDeep, TooManyItems, NoMemory}
-use Rattle.ldap_fields.specs.Faults.{IsPlainFault}
-use Rattle.ldap_fields.specs.Fields.{Seq, HasText, HasNumber, HasFlag, HasPart}
-use Rattle.ldap_fields.specs.Rows.{AreTexts, AreElements}
-use Rattle.ldap_fields.proofs.Same.{step, text_part, text_unique, number_unique}
+use Rattle.ldap_filter.specs.ldap_fields.declared.fault.MsgFault.{MsgFault}
+use Rattle.ldap_filter.specs.ldap_fields.declared.fault.MsgFault.TheVariants.{TooLarge, NotAMessage, TooDeep, TooManyItems, NoMemory}
+use Rattle.ldap_filter.specs.ldap_fields.Faults.{IsPlainFault}
+use Rattle.ldap_filter.specs.ldap_fields.Fields.{Seq, HasText, HasNumber, HasFlag, HasPart}
+use Rattle.ldap_filter.specs.ldap_fields.Rows.{AreTexts, AreElements}
+use Rattle.ldap_filter.proofs.ldap_fields.Same.{step, text_part, text_unique, number_unique}
 use Rattle.ldap_filter.specs.Tree.{Tree}
 use Rattle.ldap_filter.specs.Grammar.{IsFilter, HasFilter}
 use Rattle.ldap_filter.specs.Limits.{IsFault as IsFilterFault}
@@ -14,7 +14,7 @@ use Rattle.ldap_requests.specs.Grammar.{scope_number, deref_number, IsTarget, Is
 use Rattle.ldap_requests.specs.Limits.{FilterStandsAt, IsLimitFault}
 use Rattle.ldap_requests.specs.declared.search.Scope.{Scope}
 use Rattle.ldap_requests.specs.declared.search.DerefAliases.{DerefAliases}
-use Rattle.ldap_fields.proofs.Parts.{number_part, texts_part, texts_part_unique}
+use Rattle.ldap_filter.proofs.ldap_fields.Parts.{number_part, texts_part, texts_part_unique}
 use Rattle.ldap_requests.proofs.Unique.{Target, target_part, target_unique, Bounds, bounds_part, bounds_unique, filter_unique, target_of, bounds_of}
 
 pub target_scope : (o x t : List ℕ) → HasText o 4 t x → (base : List ℕ) × (scope : Scope) × (deref : DerefAliases) × (rest : List ℕ) × IsTarget base scope deref o rest → (n : ℕ) × (rest : List ℕ) × HasNumber x 10 4 n rest
@@ -50,7 +50,7 @@ from_plain TooManyItems P Q At f fault = absurd fault
 from_plain NoMemory P Q At f fault = fault
 from_plain TooLarge P Q At f fault = fault
 
-pub from_filter : (e : MsgFault) (o : List ℕ) → IsFilterFault e 64 512 o → IsLimitFault e ((f : Tree) × (attributes : List (List ℕ)) × IsQuestion f attributes o) (λ place. o ≡ place)
+pub from_filter : (e : MsgFault) (o : List ℕ) → IsFilterFault e 128 512 o → IsLimitFault e ((f : Tree) × (attributes : List (List ℕ)) × IsQuestion f attributes o) (λ place. o ≡ place)
 from_filter NotAMessage o fault = λ q. fault q.0 q.2.first.spelling q.2.rest q.2.first.is_filter q.2.first.parts
 from_filter TooDeep o (k, opens) = (o, k, refl, opens)
 from_filter TooManyItems o (d, opens) = (o, d, refl, opens)

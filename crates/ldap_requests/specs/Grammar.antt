@@ -2,9 +2,9 @@
 -- In: a value and octets. Out: whether the octets spell it. Not here: limits, the one spelling that is written.
 -- Each part is a relation of a value, the octets where it begins, and the octets that follow it.
 use Rattle.std.specs.Prelude.{◌≡◌, ℤ, [], ◌^◌, ℕ, Bool, List}
-use Rattle.ldap_ber.specs.Values.{IsInteger}
-use Rattle.ldap_fields.specs.Fields.{HasField, Seq, HasText, HasNumber, HasInteger, HasFlag, HasPart, HasOctetsOrNone}
-use Rattle.ldap_fields.specs.Rows.{AreTexts, AreElements}
+use Rattle.ldap_filter.specs.ldap_ber.Values.{IsInteger}
+use Rattle.ldap_filter.specs.ldap_fields.Fields.{HasField, Seq, HasText, HasNumber, HasInteger, HasFlag, HasPart, HasOctetsOrNone}
+use Rattle.ldap_filter.specs.ldap_fields.Rows.{AreTexts, AreElements}
 use Rattle.ldap_filter.specs.Tree.{Tree}
 use Rattle.ldap_filter.specs.Grammar.{HasFilter}
 use Rattle.ldap_requests.specs.Values.{SearchRequestValue, SaslCredentialsValue, AuthenticationValue, simple, sasl, BindRequestValue, AssertionValue, CompareRequestValue, ExtendedRequestValue}

@@ -2,14 +2,14 @@
 //! In: the content of its element. Out: the bind, or a fault. Not here: the envelope.
 
 ghost use Rattle.std.specs.Prelude.{ℕ, List, IfOk, IfErr};
-ghost use Rattle.ldap_fields.specs.Faults.{IsPlainFault};
-ghost use Rattle.ldap_fields.specs.Fields.{HasPart};
+ghost use Rattle.ldap_filter.specs.ldap_fields.Faults.{IsPlainFault};
+ghost use Rattle.ldap_filter.specs.ldap_fields.Fields.{HasPart};
 ghost use Rattle.ldap_requests.specs.Values.{SaslCredentialsValue, AuthenticationValue, BindRequestValue};
 ghost use Rattle.ldap_requests.specs.View.{sasl_view, authentication_view, bind_view};
 ghost use Rattle.ldap_requests.specs.Grammar.{IsSaslCredentials, HasAuthentication, IsBindRequest};
 
 use crate::bind::{AuthenticationChoice, BindRequest, SaslCredentials};
-use ldap_fields::{
+use ldap_filter::{
     MsgFault, elements, field, has_first, integer_field, octets_field, optional_octets, text_field,
 };
 use std::alloc::Global;

@@ -2,14 +2,14 @@
 //! In: the content of its element. Out: the compare, or a fault. Not here: the envelope.
 
 ghost use Rattle.std.specs.Prelude.{ℕ, List, IfOk, IfErr};
-ghost use Rattle.ldap_fields.specs.Faults.{IsPlainFault};
-ghost use Rattle.ldap_fields.specs.Fields.{HasPart};
+ghost use Rattle.ldap_filter.specs.ldap_fields.Faults.{IsPlainFault};
+ghost use Rattle.ldap_filter.specs.ldap_fields.Fields.{HasPart};
 ghost use Rattle.ldap_requests.specs.Values.{AssertionValue, CompareRequestValue};
 ghost use Rattle.ldap_requests.specs.View.{ava_view, compare_view};
 ghost use Rattle.ldap_requests.specs.Grammar.{IsAva, IsCompareRequest};
 
 use crate::compare::{AttributeValueAssertion, CompareRequest};
-use ldap_fields::{MsgFault, elements, field, octets_field, text_field};
+use ldap_filter::{MsgFault, elements, field, octets_field, text_field};
 use std::alloc::Global;
 
 /// The assertion whose content this is.

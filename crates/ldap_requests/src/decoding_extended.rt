@@ -2,13 +2,13 @@
 //! In: the content of its element. Out: the request, or a fault. Not here: the envelope.
 
 ghost use Rattle.std.specs.Prelude.{ℤ, IfOk, IfErr};
-ghost use Rattle.ldap_fields.specs.Faults.{IsPlainFault};
+ghost use Rattle.ldap_filter.specs.ldap_fields.Faults.{IsPlainFault};
 ghost use Rattle.ldap_requests.specs.Values.{ExtendedRequestValue};
 ghost use Rattle.ldap_requests.specs.View.{extended_request_view};
 ghost use Rattle.ldap_requests.specs.Grammar.{IsExtendedRequest, IsAbandonRequest, IsUnbindRequest};
 
 use crate::extended::ExtendedRequest;
-use ldap_fields::{MsgFault, elements, optional_octets, small_integer, text_field};
+use ldap_filter::{MsgFault, elements, optional_octets, small_integer, text_field};
 use std::alloc::Global;
 
 /// The extended request whose content this is.

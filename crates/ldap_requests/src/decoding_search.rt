@@ -2,7 +2,7 @@
 //! In: the content of its element. Out: the request, or a fault. Not here: the envelope.
 
 ghost use Rattle.std.specs.Prelude.{◌≡◌, ◌<◌, ◌≤◌, ℕ, List, Bool, IfOk, IfErr, map, string_bytes};
-ghost use Rattle.ldap_fields.specs.Faults.{IsPlainFault};
+ghost use Rattle.ldap_filter.specs.ldap_fields.Faults.{IsPlainFault};
 ghost use Rattle.ldap_filter.specs.Tree.{Tree, depth, count};
 ghost use Rattle.ldap_filter.specs.View.{view as filter_view};
 ghost use Rattle.ldap_requests.specs.Values.{SearchRequestValue};
@@ -13,8 +13,9 @@ ghost use Rattle.ldap_requests.specs.declared.search.Scope.{Scope};
 ghost use Rattle.ldap_requests.specs.declared.search.DerefAliases.{DerefAliases};
 
 use crate::search::{DerefAliases, Scope, SearchRequest};
-use ldap_fields::{MsgFault, elements, flag_field, number_field, text_field, texts_field};
-use ldap_filter::{Filter, read_filter};
+use ldap_filter::{
+    Filter, MsgFault, elements, flag_field, number_field, read_filter, text_field, texts_field,
+};
 use std::alloc::Global;
 
 /// The greatest number that a message holds, and one.
@@ -74,7 +75,7 @@ fn bounds(octets: &[u8]) -> Result<((u32, u32, bool), &[u8]), MsgFault>
 fn question(alloc: Global, octets: &[u8]) -> Result<(Filter, Vec<String>), MsgFault>
     ensures found { IfOk result (λ x. IsQuestion (filter_view x.0)
         (map string_bytes x.1.items) octets.now) }
-    ensures within { IfOk result (λ x. (depth (filter_view x.0) ≤ 64)
+    ensures within { IfOk result (λ x. (depth (filter_view x.0) ≤ 128)
         × (count (filter_view x.0) ≤ 512)) }
     ensures fault { IfErr result (λ e. IsLimitFault e ((f : Tree) × (attributes : List (List ℕ))
         × IsQuestion f attributes octets.now) (λ place. octets.now ≡ place)) }
@@ -88,7 +89,7 @@ fn question(alloc: Global, octets: &[u8]) -> Result<(Filter, Vec<String>), MsgFa
 /// The search request whose content this is.
 pub fn search_of(alloc: Global, content: &[u8]) -> Result<SearchRequest, MsgFault>
     ensures found { IfOk result (λ s. IsSearchRequest (search_view s) content.now) }
-    ensures within { IfOk result (λ s. (depth (search_view s).filter ≤ 64)
+    ensures within { IfOk result (λ s. (depth (search_view s).filter ≤ 128)
         × (count (search_view s).filter ≤ 512)) }
     ensures fault { IfErr result (λ e. IsLimitFault e ((s : SearchRequestValue)
         × IsSearchRequest s content.now) (FilterStandsAt content.now)) }

@@ -6,8 +6,7 @@ ghost use Rattle.ldap_requests.specs.View.{sasl_view, authentication_view, bind_
 ghost use Rattle.ldap_requests.specs.Written.{sasl_content, authentication_bytes, bind_content};
 
 use crate::bind::{AuthenticationChoice, BindRequest, SaslCredentials};
-use ldap_ber::{WriteError, write, write_integer};
-use ldap_fields::put_optional_octets;
+use ldap_filter::{WriteError, put_optional_octets, write, write_integer};
 use std::alloc::Global;
 
 /// The content of SASL credentials.

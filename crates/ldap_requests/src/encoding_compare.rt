@@ -6,7 +6,7 @@ ghost use Rattle.ldap_requests.specs.View.{ava_view, compare_view};
 ghost use Rattle.ldap_requests.specs.Written.{ava_content, compare_content};
 
 use crate::compare::{AttributeValueAssertion, CompareRequest};
-use ldap_ber::{WriteError, write};
+use ldap_filter::{WriteError, write};
 use std::alloc::Global;
 
 /// The content of an assertion.

@@ -2,13 +2,12 @@
 //! In: a request. Out: the content of its element. Not here: the envelope.
 
 ghost use Rattle.std.specs.Prelude.{◌≡◌, ◌^◌, ◌≤◌, length, IfOk, IfErr, IsErrOf};
-ghost use Rattle.ldap_ber.specs.Values.{integer_octets};
+ghost use Rattle.ldap_filter.specs.ldap_ber.Values.{integer_octets};
 ghost use Rattle.ldap_requests.specs.View.{extended_request_view};
 ghost use Rattle.ldap_requests.specs.Written.{extended_request_content};
 
 use crate::extended::ExtendedRequest;
-use ldap_ber::{WriteError, write, write_integer};
-use ldap_fields::{copied, put_optional_octets};
+use ldap_filter::{WriteError, copied, put_optional_octets, write, write_integer};
 use std::alloc::Global;
 
 /// The content of an extended request.

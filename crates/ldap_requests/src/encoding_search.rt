@@ -2,15 +2,13 @@
 //! In: a request. Out: the content of its element. Not here: the envelope.
 
 ghost use Rattle.std.specs.Prelude.{◌≡◌, ◌^◌, ◌≤◌, ◌<◌, ◌++◌, length, IfOk, OnOk, OnErr, IsErrOf};
-ghost use Rattle.ldap_fields.specs.Rows.{row_bytes};
+ghost use Rattle.ldap_filter.specs.ldap_fields.Rows.{row_bytes};
 ghost use Rattle.ldap_requests.specs.View.{search_view};
 ghost use Rattle.ldap_requests.specs.Grammar.{scope_number, deref_number};
 ghost use Rattle.ldap_requests.specs.Written.{search_content, target_bytes, bounds_bytes};
 
 use crate::search::{DerefAliases, Scope, SearchRequest};
-use ldap_ber::{WriteError, write};
-use ldap_fields::{put_flag, put_number, put_texts};
-use ldap_filter::write_filter;
+use ldap_filter::{WriteError, put_flag, put_number, put_texts, write, write_filter};
 use std::alloc::Global;
 
 /// The number of a scope.

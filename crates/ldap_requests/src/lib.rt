@@ -27,6 +27,7 @@ pub use encoding_compare::compare_content;
 pub use encoding_extended::{abandon_content, extended_request_content};
 pub use encoding_search::search_content;
 pub use extended::ExtendedRequest;
-pub use ldap_ber::{BerFault, WriteError, header, write};
-pub use ldap_filter::Filter;
+pub use ldap_filter::{
+    BerFault, Filter, MsgFault, WriteError, element, field, header, number_field, put_number, write,
+};
 pub use search::{DerefAliases, Scope, SearchRequest};

@@ -2,16 +2,16 @@
 use Rattle.std.proofs.Common.{◌≡◌, ℕ, List, [], ◌++◌, sym, ap, subst, ◌∙◌, append_assoc, arith}
 use Rattle.std.specs.Str.{IsUtf8}
 use Rattle.std.proofs.lemmas.List.{append-nil}
-use Rattle.ldap_ber.specs.Element.{element_bytes}
-use Rattle.ldap_fields.specs.Fields.{HasPart, BeginsOtherwise}
-use Rattle.ldap_fields.specs.Rows.{AreRow, none, row_bytes}
+use Rattle.ldap_parts.specs.ldap_ber.Element.{element_bytes}
+use Rattle.ldap_parts.specs.ldap_fields.Fields.{HasPart, BeginsOtherwise}
+use Rattle.ldap_parts.specs.ldap_fields.Rows.{AreRow, none, row_bytes}
 use Rattle.ldap_responses.specs.Values.{SearchResultEntryValue, ExtendedResponseValue}
 use Rattle.ldap_parts.specs.Grammar.{HasPartialAttribute}
 use Rattle.ldap_responses.specs.Grammar.{IsSearchResultEntry, IsExtendedResponse}
-use Rattle.ldap_fields.specs.Written.{optional_bytes}
+use Rattle.ldap_parts.specs.ldap_fields.Written.{optional_bytes}
 use Rattle.ldap_parts.specs.Written.{attribute_bytes, result_content}
 use Rattle.ldap_responses.specs.Written.{entry_content, extended_content, IsEntryInRange, IsExtendedInRange}
-use Rattle.ldap_fields.proofs.Spelled.{IsShort, inner, left, right, text, part, rows, optional_otherwise, text_or_none, octets_or_none}
+use Rattle.ldap_parts.proofs.ldap_fields.Spelled.{IsShort, inner, left, right, text, part, rows, optional_otherwise, text_or_none, octets_or_none}
 use Rattle.ldap_parts.proofs.Spelled.{attribute, result}
 
 pub entry : (e : SearchResultEntryValue) → IsEntryInRange e → IsShort (entry_content e) → IsSearchResultEntry e (entry_content e)

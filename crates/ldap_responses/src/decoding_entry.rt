@@ -2,14 +2,13 @@
 //! In: the content of its element. Out: the entry, or a fault. Not here: the envelope.
 
 ghost use Rattle.std.specs.Prelude.{IfOk, IfErr};
-ghost use Rattle.ldap_fields.specs.Faults.{IsPlainFault};
+ghost use Rattle.ldap_parts.specs.ldap_fields.Faults.{IsPlainFault};
 ghost use Rattle.ldap_responses.specs.Values.{SearchResultEntryValue};
 ghost use Rattle.ldap_responses.specs.View.{entry_view};
 ghost use Rattle.ldap_responses.specs.Grammar.{IsSearchResultEntry};
 
 use crate::entry::SearchResultEntry;
-use ldap_fields::{MsgFault, elements, text_field};
-use ldap_parts::attributes_field;
+use ldap_parts::{MsgFault, attributes_field, elements, text_field};
 use std::alloc::Global;
 
 /// The entry whose content this is.

@@ -2,14 +2,13 @@
 //! In: the content of its element. Out: the response, or a fault. Not here: the envelope.
 
 ghost use Rattle.std.specs.Prelude.{IfOk, IfErr};
-ghost use Rattle.ldap_fields.specs.Faults.{IsPlainFault};
+ghost use Rattle.ldap_parts.specs.ldap_fields.Faults.{IsPlainFault};
 ghost use Rattle.ldap_responses.specs.Values.{ExtendedResponseValue};
 ghost use Rattle.ldap_responses.specs.View.{extended_view};
 ghost use Rattle.ldap_responses.specs.Grammar.{IsExtendedResponse};
 
 use crate::extended::ExtendedResponse;
-use ldap_fields::{MsgFault, elements, optional_octets, optional_text};
-use ldap_parts::result_field;
+use ldap_parts::{MsgFault, elements, optional_octets, optional_text, result_field};
 use std::alloc::Global;
 
 /// The extended response whose content this is.

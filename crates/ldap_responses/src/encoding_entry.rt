@@ -6,8 +6,7 @@ ghost use Rattle.ldap_responses.specs.View.{entry_view};
 ghost use Rattle.ldap_responses.specs.Written.{entry_content};
 
 use crate::entry::SearchResultEntry;
-use ldap_ber::{WriteError, write};
-use ldap_parts::put_attributes;
+use ldap_parts::{WriteError, put_attributes, write};
 use std::alloc::Global;
 
 /// The content of an entry.

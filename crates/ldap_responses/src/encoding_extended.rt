@@ -6,9 +6,7 @@ ghost use Rattle.ldap_responses.specs.View.{extended_view};
 ghost use Rattle.ldap_responses.specs.Written.{extended_content};
 
 use crate::extended::ExtendedResponse;
-use ldap_ber::WriteError;
-use ldap_fields::{put_optional_octets, put_optional_text};
-use ldap_parts::result_content;
+use ldap_parts::{WriteError, put_optional_octets, put_optional_text, result_content};
 use std::alloc::Global;
 
 /// The content of an extended response.

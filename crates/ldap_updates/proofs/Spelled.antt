@@ -2,10 +2,10 @@
 use Rattle.std.proofs.Common.{ℕ, List, [], ◌++◌, subst, arith}
 use Rattle.std.specs.Str.{IsUtf8}
 use Rattle.std.proofs.lemmas.List.{append-nil}
-use Rattle.ldap_ber.specs.Element.{element_bytes}
-use Rattle.ldap_fields.specs.Fields.{HasPart}
-use Rattle.ldap_fields.specs.Rows.{AreRow, none, row_bytes}
-use Rattle.ldap_fields.proofs.Spelled.{IsShort, inner, left, right, text, part, rows}
+use Rattle.ldap_parts.specs.ldap_ber.Element.{element_bytes}
+use Rattle.ldap_parts.specs.ldap_fields.Fields.{HasPart}
+use Rattle.ldap_parts.specs.ldap_fields.Rows.{AreRow, none, row_bytes}
+use Rattle.ldap_parts.proofs.ldap_fields.Spelled.{IsShort, inner, left, right, text, part, rows}
 use Rattle.ldap_parts.specs.Values.{PartialAttributeValue}
 use Rattle.ldap_parts.specs.Written.{attribute_content, attribute_bytes}
 use Rattle.ldap_parts.proofs.Spelled.{attribute_inside}

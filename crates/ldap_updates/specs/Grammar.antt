@@ -3,8 +3,8 @@
 -- Each part is a relation of a value, the octets where it begins, and the octets that follow it.
 use Rattle.std.specs.Prelude.{◌≡◌, ◌≢◌, ℕ, Bool, List, []}
 use Rattle.std.specs.Str.{IsUtf8}
-use Rattle.ldap_fields.specs.Fields.{Seq, HasText, HasNumber, HasFlag, HasPart, HasTextOrNone}
-use Rattle.ldap_fields.specs.Rows.{AreRow, AreElements}
+use Rattle.ldap_parts.specs.ldap_fields.Fields.{Seq, HasText, HasNumber, HasFlag, HasPart, HasTextOrNone}
+use Rattle.ldap_parts.specs.ldap_fields.Rows.{AreRow, AreElements}
 use Rattle.ldap_parts.specs.Values.{PartialAttributeValue}
 use Rattle.ldap_parts.specs.Grammar.{IsPartialAttribute, HasPartialAttribute}
 use Rattle.ldap_updates.specs.Values.{AddRequestValue, ChangeValue, ModifyRequestValue, ModifyDnRequestValue}

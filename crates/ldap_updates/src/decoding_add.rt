@@ -2,9 +2,9 @@
 //! In: the content of its element. Out: the add, or a fault. Not here: the envelope.
 
 ghost use Rattle.std.specs.Prelude.{ℕ, List, IfOk, IfErr, map};
-ghost use Rattle.ldap_fields.specs.Faults.{IsPlainFault};
-ghost use Rattle.ldap_fields.specs.Fields.{HasPart};
-ghost use Rattle.ldap_fields.specs.Rows.{AreRow};
+ghost use Rattle.ldap_parts.specs.ldap_fields.Faults.{IsPlainFault};
+ghost use Rattle.ldap_parts.specs.ldap_fields.Fields.{HasPart};
+ghost use Rattle.ldap_parts.specs.ldap_fields.Rows.{AreRow};
 ghost use Rattle.ldap_parts.specs.Values.{PartialAttributeValue};
 ghost use Rattle.ldap_parts.specs.View.{attribute_view};
 ghost use Rattle.ldap_updates.specs.Values.{AddRequestValue};
@@ -12,8 +12,7 @@ ghost use Rattle.ldap_updates.specs.View.{add_view};
 ghost use Rattle.ldap_updates.specs.Grammar.{IsAttribute, HasAttribute, IsAddRequest};
 
 use crate::add::AddRequest;
-use ldap_fields::{MsgFault, elements, field, text_field};
-use ldap_parts::{Attribute, attribute_of};
+use ldap_parts::{Attribute, MsgFault, attribute_of, elements, field, text_field};
 use std::alloc::Global;
 
 /// The attribute whose content this is; E8 where it has no value.

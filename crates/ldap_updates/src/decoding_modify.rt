@@ -2,16 +2,15 @@
 //! In: the content of its element. Out: the modify, or a fault. Not here: the envelope.
 
 ghost use Rattle.std.specs.Prelude.{◌≡◌, ◌<◌, ℕ, List, IfOk, IfErr, map};
-ghost use Rattle.ldap_fields.specs.Faults.{IsPlainFault};
-ghost use Rattle.ldap_fields.specs.Fields.{HasPart};
-ghost use Rattle.ldap_fields.specs.Rows.{AreRow};
+ghost use Rattle.ldap_parts.specs.ldap_fields.Faults.{IsPlainFault};
+ghost use Rattle.ldap_parts.specs.ldap_fields.Fields.{HasPart};
+ghost use Rattle.ldap_parts.specs.ldap_fields.Rows.{AreRow};
 ghost use Rattle.ldap_updates.specs.Values.{ChangeValue, ModifyRequestValue};
 ghost use Rattle.ldap_updates.specs.View.{change_view, modify_view};
 ghost use Rattle.ldap_updates.specs.Grammar.{modify_number, IsChange, HasChange, IsModifyRequest};
 
 use crate::modify::{Change, ModifyOperation, ModifyRequest};
-use ldap_fields::{MsgFault, elements, field, number_field, text_field};
-use ldap_parts::attribute_field;
+use ldap_parts::{MsgFault, attribute_field, elements, field, number_field, text_field};
 use std::alloc::Global;
 
 /// What a change does, of a number.

@@ -2,13 +2,13 @@
 //! In: the content of its element. Out: the update, or a fault. Not here: the envelope.
 
 ghost use Rattle.std.specs.Prelude.{ℕ, List, Bool, IfOk, IfErr, string_bytes};
-ghost use Rattle.ldap_fields.specs.Faults.{IsPlainFault};
+ghost use Rattle.ldap_parts.specs.ldap_fields.Faults.{IsPlainFault};
 ghost use Rattle.ldap_updates.specs.Values.{ModifyDnRequestValue};
 ghost use Rattle.ldap_updates.specs.View.{modify_dn_view};
 ghost use Rattle.ldap_updates.specs.Grammar.{IsDelRequest, IsNewName, IsModifyDnRequest};
 
 use crate::modify_dn::ModifyDnRequest;
-use ldap_fields::{MsgFault, elements, flag_field, optional_text, text, text_field};
+use ldap_parts::{MsgFault, elements, flag_field, optional_text, text, text_field};
 use std::alloc::Global;
 
 /// The entry, its new relative name, and whether the old one's values go, and the octets after them.

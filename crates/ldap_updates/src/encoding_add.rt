@@ -6,8 +6,7 @@ ghost use Rattle.ldap_updates.specs.View.{add_view};
 ghost use Rattle.ldap_updates.specs.Written.{add_content};
 
 use crate::add::AddRequest;
-use ldap_ber::{WriteError, write};
-use ldap_parts::put_attributes;
+use ldap_parts::{WriteError, put_attributes, write};
 use std::alloc::Global;
 
 /// The content of an add.

@@ -2,15 +2,13 @@
 //! In: a modify. Out: the content of its element. Not here: the envelope.
 
 ghost use Rattle.std.specs.Prelude.{◌≡◌, ◌^◌, ◌≤◌, ◌<◌, ◌++◌, map, length, IfOk, OnOk, IsErrOf};
-ghost use Rattle.ldap_fields.specs.Rows.{row_bytes};
+ghost use Rattle.ldap_parts.specs.ldap_fields.Rows.{row_bytes};
 ghost use Rattle.ldap_updates.specs.View.{change_view, modify_view};
 ghost use Rattle.ldap_updates.specs.Grammar.{modify_number};
 ghost use Rattle.ldap_updates.specs.Written.{change_content, change_bytes, modify_content};
 
 use crate::modify::{Change, ModifyOperation, ModifyRequest};
-use ldap_ber::{WriteError, write};
-use ldap_fields::put_number;
-use ldap_parts::attribute_content;
+use ldap_parts::{WriteError, attribute_content, put_number, write};
 use std::alloc::Global;
 
 /// The number of what a change does.

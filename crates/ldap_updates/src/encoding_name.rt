@@ -6,8 +6,7 @@ ghost use Rattle.ldap_updates.specs.View.{modify_dn_view};
 ghost use Rattle.ldap_updates.specs.Written.{modify_dn_content};
 
 use crate::modify_dn::ModifyDnRequest;
-use ldap_ber::{WriteError, write};
-use ldap_fields::{copied, put_flag, put_optional_text};
+use ldap_parts::{WriteError, copied, put_flag, put_optional_text, write};
 use std::alloc::Global;
 
 /// The content of a modifyDN.

@@ -20,11 +20,9 @@ pub use decoding_name::{delete_of, modify_dn_of};
 pub use encoding_add::add_content;
 pub use encoding_modify::modify_content;
 pub use encoding_name::{delete_content, modify_dn_content};
-pub use ldap_ber::{WriteError, write};
-pub use ldap_fields::{MsgFault, element};
 pub use ldap_parts::{
-    Attribute, Control, LdapResult, PartialAttribute, ResultCode, controls_of, put_controls,
-    result_content, result_of,
+    Attribute, Control, LdapResult, MsgFault, PartialAttribute, ResultCode, WriteError,
+    controls_of, element, put_controls, result_content, result_of, write,
 };
 pub use modify::{Change, ModifyOperation, ModifyRequest};
 pub use modify_dn::ModifyDnRequest;

@@ -42,7 +42,7 @@ meant_by (response r) = meant_by_response r
 -- octets are one whole message, within the limits
 pub record IsWhole (octets : List ℕ) (m : MessageValue) : Type 0 where
   pub is_message : IsMessage octets m
-  pub size : length octets ≤ 1048576
+  pub size : length octets ≤ 4194304
   pub within : IsWithin m.op
 
 -- What octets mean among the responses to a search; those that are no message mean nothing there.

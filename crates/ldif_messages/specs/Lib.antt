@@ -6,3 +6,4 @@ pub mod Entries
 pub mod Exports
 -- what layers above name of the crates below
 pub use Rattle.ldif.specs as ldif
+pub use Rattle.ldap_msg.specs as ldap_msg

@@ -18,5 +18,8 @@ pub use adding::add_of;
 pub use exporting::export_text;
 pub use fault::{ExportError, ImportError};
 pub use importing::import_text;
+pub use ldap_msg::{
+    DerefAliases, Message, MsgFault, ProtocolOp, Request, Scope, SearchRequest, decode, one_message,
+};
 pub use ldif::{AttributeValue, LdifError, Record, read, write};
 pub use showing::{record_of, records_of};

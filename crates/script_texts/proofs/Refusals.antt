@@ -1,7 +1,7 @@
 -- What no text writes. In: that a part of it writes none. Out: that all of it writes none. Code is not here.
 use Rattle.std.proofs.Common.{◌≡◌, ℕ, List, Option, Some, None, Result, Ok, sym, ap, ◌∙◌, subst}
 use Rattle.hex.specs.Hex.{decode_of}
-use Rattle.ldap_msg.specs.Messages.{MessageValue, SearchRequestValue}
+use Rattle.ldif_messages.specs.ldap_msg.Messages.{MessageValue, SearchRequestValue}
 use Rattle.ldap_op.specs.Values.{OpValue}
 use Rattle.ldif_messages.specs.Exports.{IsWhole}
 use Rattle.script_texts.specs.Updates.{update_by, IsUpdateIn, IsHexText}

@@ -4,10 +4,10 @@ use Rattle.std.specs.Prelude.{◌≡◌, ◌≤◌, ℕ, List, [], cond, codes, 
 use Rattle.std.specs.Str.{bytes_eq, is_utf8}
 use Rattle.ldap_filter.specs.Tree.{Tree, depth, count}
 use Rattle.filter_text_reader.specs.filter_text.Grammar.{IsFilterText}
-use Rattle.ldap_msg.specs.Messages.{SearchRequestValue}
-use Rattle.ldap_msg.specs.ldap_requests.declared.search.Scope.{Scope}
-use Rattle.ldap_msg.specs.ldap_requests.declared.search.Scope.TheVariants.{BaseObject, SingleLevel, WholeSubtree}
-use Rattle.ldap_msg.specs.ldap_requests.declared.search.DerefAliases.TheVariants.{NeverDerefAliases}
+use Rattle.ldif_messages.specs.ldap_msg.Messages.{SearchRequestValue}
+use Rattle.ldif_messages.specs.ldap_msg.ldap_requests.declared.search.Scope.{Scope}
+use Rattle.ldif_messages.specs.ldap_msg.ldap_requests.declared.search.Scope.TheVariants.{BaseObject, SingleLevel, WholeSubtree}
+use Rattle.ldif_messages.specs.ldap_msg.ldap_requests.declared.search.DerefAliases.TheVariants.{NeverDerefAliases}
 use Rattle.script_texts.specs.Cuts.{Cut, cut}
 
 -- what stands between the first two bars, before them and behind them
@@ -58,7 +58,7 @@ search_of p tree = record {
 -- a text spells this filter, which is within the limits (RFC 4515 3)
 pub record IsSpelled (text : List ℕ) (tree : Tree) : Type 0 where
   pub spelled : IsFilterText tree text
-  pub deep : depth tree ≤ 64
+  pub deep : depth tree ≤ 128
   pub many : count tree ≤ 512
 
 -- octets are UTF-8, and the text of this filter

@@ -7,8 +7,8 @@ use Rattle.hex.specs.Hex.{decode_of}
 use Rattle.ldif_messages.specs.ldif.Records.{ValueModel, RecordModel}
 use Rattle.ldif_messages.specs.Adds.{add_of}
 use Rattle.ldif_messages.specs.Exports.{IsWhole}
-use Rattle.ldap_msg.specs.Messages.{RequestValue, OperationValue, request, response, MessageValue}
-use Rattle.ldap_msg.specs.Messages as messages
+use Rattle.ldif_messages.specs.ldap_msg.Messages.{RequestValue, OperationValue, request, response, MessageValue}
+use Rattle.ldif_messages.specs.ldap_msg.Messages as messages
 use Rattle.ldap_op.specs.Values.{OpValue, add, delete, modify, modify_dn, noop}
 use Rattle.script_texts.specs.Cuts.{Cut, cut, cut_pair}
 use Rattle.script_texts.specs.Each.{all_of}

@@ -14,7 +14,7 @@ mod updates;
 pub use cutting::{Cut, cut_text};
 pub use fault::TextError;
 pub use laws::{one_search, one_update};
-pub use ldap_msg::SearchRequest;
 pub use ldap_op::Op;
+pub use ldif_messages::SearchRequest;
 pub use searches::read_search;
 pub use updates::read_update;

@@ -4,8 +4,8 @@
 ghost use Rattle.std.specs.Prelude.{◌≡◌, ◌≤◌, IfOk, IsErrOf, MatchOption};
 ghost use Rattle.ldap_filter.specs.Tree.{Tree};
 ghost use Rattle.ldap_filter.specs.View.{view};
-ghost use Rattle.ldap_msg.specs.Messages.{SearchRequestValue};
-ghost use Rattle.ldap_msg.specs.View.{search_view};
+ghost use Rattle.ldif_messages.specs.ldap_msg.Messages.{SearchRequestValue};
+ghost use Rattle.ldif_messages.specs.ldap_msg.View.{search_view};
 ghost use Rattle.script_texts.specs.Cuts.{cut};
 ghost use Rattle.script_texts.specs.Searches as searches;
 ghost use Rattle.script_texts.specs.Searches.{IsFilterOf, IsSearchText};
@@ -16,7 +16,7 @@ use crate::fault::TextError;
 use crate::kinds::is_word;
 use filter_text_reader::{FilterTextError, read_text};
 use ldap_filter::Filter;
-use ldap_msg::{DerefAliases, Scope, SearchRequest};
+use ldif_messages::{DerefAliases, Scope, SearchRequest};
 use std::alloc::Global;
 
 /// The parts of a search's text.

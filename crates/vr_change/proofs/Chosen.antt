@@ -7,8 +7,7 @@ use Rattle.std.proofs.lemmas.List.{drop-append-le}
 use Rattle.vr_state.specs.declared.message.Change.{Change}
 use Rattle.vr_state.specs.Outcome.{indices, noted}
 use Rattle.vr_state.specs.ViewChange.{best, prefer, most, commit_of}
-use Rattle.vr_state.proofs.Lists.{length_indices}
-use Rattle.vr_state.proofs.Noted.{indices_more}
+use Rattle.vr_state.proofs.Laws.{length_indices, indices_more}
 
 -- The indices from one on begin with it.
 indices_from : (j n : ℕ) → j < n → drop j (indices n) ≡ j ∷ drop (suc j) (indices n)

@@ -4,8 +4,7 @@ use Rattle.std.proofs.Common.{◌≡◌, ◌≢◌, ℕ, ◌+◌, ◌<◌, ◌�
 use Rattle.std.proofs.lemmas.Bool.{lt-leb}
 use Rattle.vr_state.specs.Outcome.{count, tick, others}
 use Rattle.vr_state.specs.NormalCase.{reached}
-use Rattle.vr_state.proofs.Noted.{count_end}
-use Rattle.vr_state.proofs.Others.{others_with, others_without}
+use Rattle.vr_state.proofs.Laws.{count_end, others_with, others_without}
 
 -- One more of the others passes.
 pub count_with : (p : ℕ → Bool) (i k n : ℕ) → n ≡ count p (others k i) → k ≢ i → p k ≡ true → n + 1 ≡ count p (others (k + 1) i)

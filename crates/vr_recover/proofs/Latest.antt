@@ -4,7 +4,7 @@ use Rattle.std.proofs.Common.{◌≡◌, ℕ, ◌+◌, max, List, [], ◌∷◌,
 use Rattle.vr_state.specs.declared.message.Response.{Response}
 use Rattle.vr_state.specs.Outcome.{indices, noted}
 use Rattle.vr_state.specs.Recovery.{latest_view, view_of}
-use Rattle.vr_state.proofs.Noted.{indices_more}
+use Rattle.vr_state.proofs.Laws.{indices_more}
 
 -- the latest goes on with one at the end
 latest_end : {P : Type 0} (xs : List (ℕ × Response P)) (js : List ℕ) (k : ℕ) → latest_view xs (js ++ k ∷ []) ≡ max (view_of (noted k xs)) (latest_view xs js)

@@ -12,3 +12,4 @@ pub mod Others
 pub mod Between
 pub mod Stores
 pub mod Noted
+pub mod Laws

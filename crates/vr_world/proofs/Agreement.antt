@@ -3,7 +3,7 @@
 use Rattle.std.proofs.Common.{◌≡◌, ℕ, zero, suc, ◌+◌, ◌<◌, ◌≤◌, ◌==◌, Bool, true, false, cond, ◌&&◌, ◌||◌, ◌⊎◌, inl, inr, List, [], ◌∷◌, length, take, refl, sym, ap, ◌∙◌, subst, ap₂, arith, le_trans, leb-true, leb-false, le-leb, eq-eqb, nat_lt, ltb-true, ltb-false, true≢false}
 use Rattle.std.proofs.lemmas.List.{length-take-le}
 use Rattle.std.proofs.lemmas.Bool.{cases_Bool, cases_lt}
-use Rattle.vr_state.proofs.Lists.{prefix_refl, prefix_nil, prefix_trans, prefix_take, prefix_shorter, prefix_full, count_lt}
+use Rattle.vr_state.proofs.Laws.{prefix_refl, prefix_nil, prefix_trans, prefix_take, prefix_shorter, prefix_full, count_lt}
 use Rattle.vr_state.specs.Lists.{IsPrefix}
 use Rattle.vr_state.specs.Outcome.{others}
 use Rattle.vr_state.specs.State.{primary}

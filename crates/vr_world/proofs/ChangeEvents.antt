@@ -1,7 +1,7 @@
 -- The view change, state transfer and recovery keep the invariant. In: one replica's event. Out: the invariant after its step.
 -- Nothing of the normal case is here.
 use Rattle.std.proofs.Common.{◌≡◌, ℕ, ◌+◌, ◌/◌, ◌<◌, ◌≤◌, ◌==◌, nat_lt, nat_le, min, max, Bool, true, false, cond, not, ◌&&◌, ◌||◌, ◌⊎◌, inl, inr, List, [], ◌∷◌, ◌++◌, length, replicate, Option, Some, None, refl, sym, ap, ◌∙◌, subst, arith, le_refl, le_of_eq, le_of_lt, leb-true, ltb-true, eq-eqb, eqb-true, true≢false}
-use Rattle.vr_state.proofs.Tests.{by_test, both_true, either_true}
+use Rattle.vr_state.proofs.Laws.{by_test, both_true, either_true}
 use Rattle.vr_state.specs.Outcome.{indices, count, others, noted, is_noted, Outcome, sending, idle, to_all, after_sends, snapshot}
 use Rattle.vr_state.specs.Recovery.{on_recovery, keep, latest_view, held_in, end_recovery, try_recovery, on_recovery_response}
 use Rattle.vr_state.specs.State.{State, primary, is_normal, is_changing, is_recovering, is_behind, greatest_view}

@@ -5,7 +5,7 @@ use Rattle.std.specs.List.{list_any}
 use Rattle.std.proofs.lemmas.List.{get_or-set_same, get_or-set_other, reverse-append}
 use Rattle.std.proofs.lemmas.List.Folds.{list_any-append}
 use Rattle.std.proofs.lemmas.Option.{slice_get-get_or}
-use Rattle.vr_state.proofs.Tests.{by_test}
+use Rattle.vr_state.proofs.Laws.{by_test}
 use Rattle.vr_state.specs.Views.{state}
 use Rattle.vr_state.specs.declared.replica.Replica.{Replica}
 use Rattle.vr_world.specs.Acts.{state_of}

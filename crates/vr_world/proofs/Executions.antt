@@ -2,8 +2,7 @@
 -- What one step answers is the law on steps.
 use Rattle.std.proofs.Common.{◌≡◌, ℕ, nat_lt, ◌⊎◌, inl, inr, List, [], ◌∷◌, ◌++◌, reverse, Option, Some, None, refl, ap, ◌∙◌, subst}
 use Rattle.std.proofs.lemmas.List.{reverse-append}
-use Rattle.vr_state.proofs.Executed.{Right, request_right, message_right, suspect_right, beat_right}
-use Rattle.vr_state.proofs.Tests.{by_test}
+use Rattle.vr_state.proofs.Laws.{Right, request_right, message_right, suspect_right, beat_right, by_test}
 use Rattle.vr_state.specs.Lists.{In}
 use Rattle.vr_state.specs.Outcome.{Outcome}
 use Rattle.vr_state.specs.State.{State}

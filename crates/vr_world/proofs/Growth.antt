@@ -1,7 +1,7 @@
 -- What holds goes on holding as messages are added. In: the invariant, and how the messages grow. Out: all that needn't be
 -- proved again at each event. No event is here.
 use Rattle.std.proofs.Common.{◌≡◌, ℕ, ◌<◌, ◌≤◌, true, ◌⊎◌, inl, inr, List, [], length, Option, Some, None, sym, ◌∙◌, subst, arith, le_trans, leb-true, le-leb, slice_index}
-use Rattle.vr_state.proofs.Lists.{prefix_trans, prefix_length, count_le}
+use Rattle.vr_state.proofs.Laws.{prefix_trans, prefix_length, count_le}
 use Rattle.vr_state.specs.Lists.{Rising, IsPrefix}
 use Rattle.vr_state.specs.Outcome.{others}
 use Rattle.vr_state.specs.State.{State, primary}

@@ -1,9 +1,7 @@
 -- The moves that an event is made of. In: a replica that changes, or one quiet message. Out: the invariant after it.
 -- Which event makes which move isn't said here.
 use Rattle.std.proofs.Common.{◌≡◌, ℕ, ◌<◌, ◌≤◌, ◌≢◌, ◌==◌, true, false, cond, ◌&&◌, ◌⊎◌, inl, inr, List, [], ◌∷◌, length, Option, Some, None, refl, sym, ap, ◌∙◌, subst, arith, le_refl, eq-eqb, eqb-true, true≢false}
-use Rattle.vr_state.proofs.Tests.{by_test, or_right}
-use Rattle.vr_state.proofs.Lists.{prefix_refl, prefix_trans}
-use Rattle.vr_state.proofs.Tests.{both_true, either_true}
+use Rattle.vr_state.proofs.Laws.{by_test, or_right, prefix_refl, prefix_trans, both_true, either_true}
 use Rattle.vr_state.specs.Lists.{Rising, IsPrefix}
 use Rattle.vr_state.specs.State.{State, primary}
 use Rattle.vr_state.specs.declared.message.PeerMessage.{PeerMessage}

@@ -3,8 +3,7 @@
 use Rattle.std.proofs.Common.{◌≡◌, ℕ, suc, ◌+◌, ◌-◌, ◌/◌, ◌<◌, ◌≤◌, ◌==◌, nat_lt, nat_le, min, max, true, false, cond, ◌&&◌, inl, List, [], ◌∷◌, ◌++◌, length, map, Option, Some, None, refl, sym, ap, ◌∙◌, subst, arith, le_refl, le_of_eq, ltb-true, eqb-true, slice_index, slice_set, slice_get, true≢false, length-append}
 use Rattle.std.specs.List.{list_any}
 use Rattle.vr_world.proofs.Changes.{entry_at}
-use Rattle.vr_state.proofs.Lists.{prefix_length}
-use Rattle.vr_state.proofs.Tests.{by_test, both_true}
+use Rattle.vr_state.proofs.Laws.{prefix_length, by_test, both_true}
 use Rattle.vr_state.specs.ClientTable.{latest_from}
 use Rattle.vr_state.specs.Lists.{Rising, EntryAt}
 use Rattle.vr_state.specs.NormalCase.{append, take_in, ask_primary, on_request, answer_prepare, on_prepare, reached, on_prepare_ok, on_commit, prepare_again}

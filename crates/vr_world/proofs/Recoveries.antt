@@ -2,7 +2,7 @@
 -- How a recovery ends is an event of its own, in ChangeEvents.
 use Rattle.std.proofs.Common.{◌≡◌, ℕ, ◌≤◌, ◌==◌, false, ◌||◌, List, ◌∷◌, map, Option, Some, None, refl, sym, ap, ◌∙◌, subst, le_refl, eq-eqb, true≢false}
 use Rattle.std.specs.List.{list_any}
-use Rattle.vr_state.proofs.Tests.{by_test, or_right}
+use Rattle.vr_state.proofs.Laws.{by_test, or_right}
 use Rattle.vr_state.specs.Outcome.{send_to, others}
 use Rattle.vr_state.specs.State.{State, recovering}
 use Rattle.vr_state.specs.declared.message.PeerMessage.{PeerMessage}

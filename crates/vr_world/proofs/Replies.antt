@@ -1,8 +1,7 @@
 -- Each reply names a committed record. In: a schedule. Out: every reply ever given names a record of the committed list.
 -- What one step answers is the law on steps.
 use Rattle.std.proofs.Common.{◌≡◌, ℕ, nat_lt, ◌⊎◌, inl, inr, List, [], ◌∷◌, take, Option, Some, None, refl, ap, subst}
-use Rattle.vr_state.proofs.Executed.{Right, named_more, request_right, message_right, suspect_right, beat_right}
-use Rattle.vr_state.proofs.Tests.{by_test}
+use Rattle.vr_state.proofs.Laws.{Right, named_more, request_right, message_right, suspect_right, beat_right, by_test}
 use Rattle.vr_state.specs.Lists.{In, IsNamedIn}
 use Rattle.vr_state.specs.Outcome.{Outcome}
 use Rattle.vr_state.specs.State.{State}

@@ -3,8 +3,7 @@
 use Rattle.std.proofs.Common.{◌≡◌, ℕ, zero, suc, ◌<◌, ◌≤◌, ◌==◌, Bool, true, false, ◌&&◌, ◌||◌, ◌⊎◌, inl, inr, List, [], ◌∷◌, length, take, refl, sym, ap, ◌∙◌, subst, arith, leb-true, le-leb, le_trans, le_refl, max, ap₂, eqb-true, mod-lt}
 use Rattle.std.proofs.lemmas.List.{length-take-le}
 use Rattle.std.proofs.lemmas.Bool.{cases_lt}
-use Rattle.vr_state.proofs.Tests.{both_true, either_true}
-use Rattle.vr_state.proofs.Lists.{prefix_trans, prefix_length, prefix_take, take_prefix, prefix_shorter, count_le, quorums}
+use Rattle.vr_state.proofs.Laws.{both_true, either_true, prefix_trans, prefix_length, prefix_take, take_prefix, prefix_shorter, count_le, quorums}
 use Rattle.vr_state.specs.Lists.{In, IsPrefix}
 use Rattle.vr_state.specs.Outcome.{indices, others}
 use Rattle.vr_state.specs.State.{primary}

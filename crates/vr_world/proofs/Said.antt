@@ -1,8 +1,7 @@
 -- What PREPAREOKs show. In: sound messages. Out: who has said how much, and that what is chosen was started and is there.
 -- No two views are compared here.
 use Rattle.std.proofs.Common.{◌≡◌, ℕ, ◌+◌, ◌/◌, ◌<◌, ◌≤◌, ◌==◌, true, false, cond, ◌&&◌, ◌⊎◌, inl, inr, List, [], ◌∷◌, ◌++◌, length, refl, ap, subst, arith, leb-true, eqb-true}
-use Rattle.vr_state.proofs.Tests.{both_true, either_true}
-use Rattle.vr_state.proofs.Lists.{prefix_refl, prefix_more, prefix_nil, prefix_trans, count_some}
+use Rattle.vr_state.proofs.Laws.{both_true, either_true, prefix_refl, prefix_more, prefix_nil, prefix_trans, count_some}
 use Rattle.vr_state.specs.Lists.{IsPrefix}
 use Rattle.vr_state.specs.Outcome.{count, others}
 use Rattle.vr_state.specs.State.{primary}

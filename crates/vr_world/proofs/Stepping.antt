@@ -2,8 +2,7 @@
 -- Nothing of vectors is here.
 use Rattle.std.proofs.Common.{◌≡◌, ◌≢◌, ℕ, ◌<◌, ◌≤◌, ◌==◌, nat_lt, Bool, true, false, cond, not, ◌&&◌, is_some, ◌⊎◌, inl, inr, Option, Some, None, unwrap_or, refl, sym, ap, ap₂, ◌∙◌, subst, arith, eqb-true, eq-eqb, true≢false, lt-ltb, le-ltb}
 use Rattle.std.proofs.lemmas.Bool.{cases_lt}
-use Rattle.vr_state.proofs.Steps.{step_keeps}
-use Rattle.vr_state.proofs.Tests.{by_test}
+use Rattle.vr_state.proofs.Laws.{step_keeps, by_test}
 use Rattle.vr_state.specs.Outcome.{Outcome}
 use Rattle.vr_state.specs.State.{State}
 use Rattle.vr_state.specs.Step.{step}

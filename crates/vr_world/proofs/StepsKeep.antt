@@ -1,8 +1,7 @@
 -- A step keeps the records that its replica has committed. In: the invariant, and the law on steps. Out: that clause of the law.
 -- Nothing else is proved here.
 use Rattle.std.proofs.Common.{◌≡◌, ℕ, ◌≤◌, ◌==◌, nat_lt, List, [], ◌∷◌, length, Option, Some, None, arith, refl, ap, subst, eqb-true, le_of_eq, length-take}
-use Rattle.vr_state.proofs.Lists.{prefix_trans, prefix_shorter}
-use Rattle.vr_state.proofs.Tests.{by_test}
+use Rattle.vr_state.proofs.Laws.{prefix_trans, prefix_shorter, by_test, commits_rise}
 use Rattle.vr_state.specs.Outcome.{Outcome}
 use Rattle.vr_state.specs.State.{State}
 use Rattle.vr_state.specs.Step.{step}
@@ -15,7 +14,6 @@ use Rattle.vr_world.proofs.Invariant.{Holds}
 use Rattle.vr_world.proofs.Theorems.{after_holds, committed_stays, replica_agrees, run-append}
 use Rattle.vr_world.specs.Law.{CommitsAreHeld, StepsKeep}
 use Rattle.vr_world.specs.World.{has_used, World, Message, WorldEvent, made, stepped, delivered, recovered, sent_as, happens, start, after}
-use Rattle.vr_state.proofs.StepPromises.{commits_rise}
 use Rattle.vr_state.specs.declared.event.Event.TheVariants as event
 use Rattle.vr_state.specs.declared.words.Status.TheVariants.{Normal, ViewChange, Recovering}
 use Rattle.vr_world.specs.declared.events.WorldEvent.TheVariants.{Request, Deliver, Suspect, Beat, Crash, Recover}

@@ -2,8 +2,7 @@
 -- committed a beginning of it. The clauses of the law are made of these in Promises.
 use Rattle.std.proofs.Common.{◌≡◌, ℕ, ◌≤◌, ◌==◌, nat_lt, true, false, ◌&&◌, ◌⊎◌, inl, inr, List, [], ◌∷◌, ◌++◌, length, take, Option, Some, None, refl, sym, ap, ◌∙◌, subst, arith, le_refl, leb-true, le-leb, le_trans, true≢false}
 use Rattle.std.proofs.lemmas.List.{length-take-le}
-use Rattle.vr_state.proofs.Lists.{prefix_refl, prefix_nil, prefix_is, take_prefix, count_le}
-use Rattle.vr_state.proofs.Tests.{by_test, or_right}
+use Rattle.vr_state.proofs.Laws.{prefix_refl, prefix_nil, prefix_is, take_prefix, count_le, by_test, or_right}
 use Rattle.vr_state.specs.Lists.{IsPrefix}
 use Rattle.vr_state.specs.Outcome.{Outcome, to_all, others}
 use Rattle.vr_state.specs.State.{State, primary, first}

@@ -2,8 +2,7 @@
 -- are equal, and so are the chosen and committed lists by them. No event is looked at here.
 use Rattle.std.proofs.Common.{◌≡◌, ℕ, ◌+◌, ◌<◌, ◌≤◌, ◌==◌, true, cond, ◌&&◌, ◌⊎◌, inl, inr, List, [], ◌∷◌, ◌++◌, length, take, refl, sym, ap, ap₂, ◌∙◌, subst, arith, eq-eqb, eqb-true, true≢false, length-append, append_assoc, append-nil}
 use Rattle.std.proofs.lemmas.Bool.{cases_lt}
-use Rattle.vr_state.proofs.Lists.{prefix_trans, prefix_more, prefix_full, prefix_shorter}
-use Rattle.vr_state.proofs.Tests.{both_true, by_test}
+use Rattle.vr_state.proofs.Laws.{prefix_trans, prefix_more, prefix_full, prefix_shorter, both_true, by_test}
 use Rattle.vr_state.specs.Lists.{IsPrefix}
 use Rattle.vr_state.specs.declared.message.PeerMessage.{PeerMessage}
 use Rattle.vr_state.specs.declared.words.Entry.{Entry}

@@ -1,7 +1,7 @@
 -- Wire, updates: the goals of `changes_of` that no tactic closes, each by one lemma over plain lists.
 use Rattle.std.proofs.lemmas.Result.{err_from_is_err_and}
-use Rattle.ldap_fields.proofs.Same.{field_shorter}
-use Rattle.ldap_fields.proofs.RowLemmas.{goes_on_map, ends, fails, some_left, none_left}
+use Rattle.ldap_parts.proofs.ldap_fields.Same.{field_shorter}
+use Rattle.ldap_parts.proofs.ldap_fields.RowLemmas.{goes_on_map, ends, fails, some_left, none_left}
 use Rattle.ldap_updates.specs.View.{change_view}
 use Rattle.ldap_updates.specs.Grammar.{HasChange}
 use Rattle.ldap_updates.proofs.Modifies.{change_unique, change_some}

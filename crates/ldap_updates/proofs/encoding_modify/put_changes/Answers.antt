@@ -1,11 +1,11 @@
 -- Wire, updates: the goals of `put_changes` that no tactic closes, each by one lemma over plain lists.
 use Rattle.std.proofs.Common.{ℕ, List, ◌++◌, ap, ◌∙◌}
 use Rattle.std.proofs.lemmas.Result.{err_from_is_err_and}
-use Rattle.ldap_ber.specs.Element.{element_bytes}
-use Rattle.ldap_fields.proofs.Written.{row_step, row_long, element_long}
+use Rattle.ldap_parts.specs.ldap_ber.Element.{element_bytes}
+use Rattle.ldap_parts.proofs.ldap_fields.Written.{row_step, row_long, element_long}
 use Rattle.ldap_updates.specs.View.{change_view}
 use Rattle.ldap_updates.specs.Written.{change_content, change_bytes}
-use Rattle.ldap_fields.proofs.Puts.{same_error}
+use Rattle.ldap_parts.proofs.ldap_fields.Puts.{same_error}
 use Rattle.ldap_updates.proofs.encoding_modify.put_changes.Goals as goal
 
 pub returns-in_err-content-clause-too_long : goal.returns-in_err-content-clause-too_long

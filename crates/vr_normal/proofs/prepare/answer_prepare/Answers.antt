@@ -1,7 +1,7 @@
 use Rattle.std.proofs.Common.{ap, ◌∙◌}
 use Rattle.vr_state.specs.Views.{state}
 use Rattle.vr_normal.proofs.Steps.{prepared_is, view_kept}
-use Rattle.vr_state.proofs.Stores.{none_to_store}
+use Rattle.vr_state.proofs.Laws.{none_to_store}
 use Rattle.vr_normal.proofs.prepare.answer_prepare.Goals as goal
 
 pub returns-clause-step : goal.returns-clause-step

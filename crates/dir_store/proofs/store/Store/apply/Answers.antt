@@ -1,5 +1,5 @@
 use Rattle.std.proofs.Common.{ap}
-use Rattle.ldap_op.specs.View.{update_view}
+use Rattle.entry_updates.specs.ldap_op.View.{update_view}
 use Rattle.dir_store.specs.Listed.{StoreModel}
 use Rattle.dir_store.proofs.Below.{below_updated, below_kept, whatever_reply}
 use Rattle.dir_store.proofs.store.Store.apply.Goals as goal
