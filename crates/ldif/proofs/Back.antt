@@ -9,7 +9,7 @@ use Rattle.base64.specs.Engines.{standard}
 use Rattle.base64.specs.GeneralPurpose.{encode_of, decode_of, IsBytes}
 use Rattle.base64.proofs.EngineFacts.{decode_of-encode_of}
 use Rattle.ldif.specs.Written.{is_safe_first, is_safe_octet, is_safe, ends_with_space, value_part, pair_line}
-use Rattle.ldif.specs.Says.{comment, past_spaces, octets_of, pair_says, colon_says, line_says}
+use Rattle.ldif.specs.Says.{comment, past_spaces, is_encoded, octets_of, pair_says, colon_says, line_says}
 use Rattle.ldif.specs.RoundTrip.{are_octets}
 use Rattle.ldif.proofs.Booleans.{left, right}
 use Rattle.ldif.proofs.Plain.{is_plain}
@@ -68,15 +68,15 @@ behind w part =
     ap (drop (length w + 1)) (sym (append_assoc w (58 ∷ []) part))
     ∙ drop_at (w ++ 58 ∷ []) part (length w + 1) (length-append w (58 ∷ []) ∙ omega arith)
 
-colon_back : (w octets : List ℕ) → list_all is_plain w ≡ true → are_octets octets ≡ true → colon_says (pair_line w octets) (position (nat_eq 58) (pair_line w octets)) ≡ pair_says w (Some octets)
+colon_back : (w octets : List ℕ) → list_all is_plain w ≡ true → are_octets octets ≡ true → colon_says (pair_line w octets) (position (nat_eq 58) (pair_line w octets)) ≡ pair_says (is_encoded (value_part octets)) w (Some octets)
 colon_back w octets h o =
     ap (colon_says (pair_line w octets)) (colon_at w (value_part octets) h)
-    ∙ ap (λ v. pair_says v (octets_of (drop (length w + 1) (pair_line w octets)))) (take_at w (58 ∷ value_part octets) (length w) refl)
-    ∙ ap (λ v. pair_says w (octets_of v)) (behind w (value_part octets))
-    ∙ ap (pair_says w) (value_back octets o)
+    ∙ ap (λ v. pair_says (is_encoded (drop (length w + 1) (pair_line w octets))) v (octets_of (drop (length w + 1) (pair_line w octets)))) (take_at w (58 ∷ value_part octets) (length w) refl)
+    ∙ ap (λ v. pair_says (is_encoded v) w (octets_of v)) (behind w (value_part octets))
+    ∙ ap (pair_says (is_encoded (value_part octets)) w) (value_back octets o)
 
 -- a line of a type and a value says them
-pub pair_back : (c : ℕ) (cs octets : List ℕ) → list_all is_plain (c ∷ cs) ≡ true → are_octets octets ≡ true → line_says (pair_line (c ∷ cs) octets) ≡ pair_says (c ∷ cs) (Some octets)
+pub pair_back : (c : ℕ) (cs octets : List ℕ) → list_all is_plain (c ∷ cs) ≡ true → are_octets octets ≡ true → line_says (pair_line (c ∷ cs) octets) ≡ pair_says (is_encoded (value_part octets)) (c ∷ cs) (Some octets)
 pair_back c cs octets h o =
     ap (λ b. cond b comment (colon_says (pair_line (c ∷ cs) octets) (position (nat_eq 58) (pair_line (c ∷ cs) octets)))) (flip 35 c (unlike 35 c refl (left (is_plain c) (list_all is_plain cs) h)))
     ∙ colon_back (c ∷ cs) octets h o

@@ -3,9 +3,9 @@ use Rattle.std.proofs.Common.{◌≡◌, ℕ, List, [], ◌∷◌, ◌++◌, map
 use Rattle.std.specs.declared.result.Result.TheVariants.{Ok}
 use Rattle.ldif.specs.Records.{ValueModel, RecordModel}
 use Rattle.ldif.specs.Lines.{LineModel, lines_of}
-use Rattle.ldif.specs.Says.{Says, blank, comment, named, valued, wrong, line_says}
+use Rattle.ldif.specs.Says.{Says, blank, comment, named, valued, encoded, wrong, line_says}
 use Rattle.ldif.specs.Reading.{ReadingModel, with_open, after_line, is_version, or_wrong, read_from, nothing_read}
-use Rattle.ldif.specs.Content.{HasValues, text_ends, record_ends, a_value, comment_inside, AreRecords, no_record, blank_before, comment_before, a_record, IsContent, unversioned, versioned, blank_first, comment_first, RecordsAreOfText}
+use Rattle.ldif.specs.Content.{HasValues, text_ends, record_ends, a_value, an_encoded_value, comment_inside, AreRecords, no_record, blank_before, comment_before, a_record, IsContent, unversioned, versioned, blank_first, comment_first, RecordsAreOfText}
 
 -- ---- reading without numbers
 
@@ -52,6 +52,8 @@ values_are_read text_ends done name us result e = ap (λ x. Some (done ++ of nam
 values_are_read (record_ends rest) done name us result e = ap (λ x. read_says (state (done ++ of name x ∷ []) None true) rest) (sym (append-nil us)) ∙ e
 values_are_read (a_value {ss} {rest} {vs} v p) done name us result e =
     values_are_read p done name (us ++ v ∷ []) result (ap (λ x. read_says (state (done ++ of name x ∷ []) None true) rest) (append_assoc us (v ∷ []) vs) ∙ e)
+values_are_read (an_encoded_value {ss} {rest} {vs} v p) done name us result e =
+    values_are_read p done name (us ++ v ∷ []) result (ap (λ x. read_says (state (done ++ of name x ∷ []) None true) rest) (append_assoc us (v ∷ []) vs) ∙ e)
 values_are_read (comment_inside p) done name us result e = values_are_read p done name us result e
 
 records_are_read : {ss : List Says} {rs : List RecordModel} → AreRecords ss rs → (done : List RecordModel) (begun : Bool) → read_says (state done None begun) ss ≡ Some (done ++ rs)
@@ -97,6 +99,9 @@ mutual
   inside (valued v ∷ ss) done name us out e =
       let i = inside ss done name (us ++ v ∷ []) out e in
       record { vs = v ∷ i.vs; rest = i.rest; rs = i.rs; has = a_value v i.has; are = i.are; is = i.is ∙ ap (λ x. done ++ of name x ∷ i.rs) (append_assoc us (v ∷ []) i.vs) }
+  inside (encoded v ∷ ss) done name us out e =
+      let i = inside ss done name (us ++ v ∷ []) out e in
+      record { vs = v ∷ i.vs; rest = i.rest; rs = i.rs; has = an_encoded_value v i.has; are = i.are; is = i.is ∙ ap (λ x. done ++ of name x ∷ i.rs) (append_assoc us (v ∷ []) i.vs) }
   inside (wrong ∷ ss) done name us out e = absurd cc
 
   outside : (ss : List Says) (done : List RecordModel) (out : List RecordModel) → read_says (state done None true) ss ≡ Some out → Outside ss done out
@@ -107,6 +112,7 @@ mutual
       let i = inside ss done n [] out e in
       record { rs = of n i.vs ∷ i.rs; are = a_record n i.vs i.has i.are; is = i.is }
   outside (valued v ∷ ss) done out e = absurd cc
+  outside (encoded v ∷ ss) done out e = absurd cc
   outside (wrong ∷ ss) done out e = absurd cc
 
 by_version : (b : Bool) (v : ValueModel) (ss : List Says) (out : List RecordModel) → is_version v ≡ b → on_some (cond b (Some (state [] None true)) None) (λ t. read_says t ss) ≡ Some out
@@ -120,6 +126,7 @@ content_from (blank ∷ ss) out e = blank_first (content_from ss out e)
 content_from (comment ∷ ss) out e = comment_first (content_from ss out e)
 content_from (named n ∷ ss) out e = let i = inside ss [] n [] out e in subst (λ x. IsContent (named n ∷ ss) x) (sym i.is) (unversioned (a_record n i.vs i.has i.are))
 content_from (valued v ∷ ss) out e = by_version (is_version v) v ss out refl e
+content_from (encoded v ∷ ss) out e = absurd cc
 content_from (wrong ∷ ss) out e = absurd cc
 
 pub records_are_of_text : RecordsAreOfText

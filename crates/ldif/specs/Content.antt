@@ -4,7 +4,7 @@ use Rattle.std.specs.Prelude.{◌≡◌, ◌↔◌, ℕ, List, [], ◌∷◌, ma
 use Rattle.std.specs.declared.result.Result.TheVariants.{Ok}
 use Rattle.ldif.specs.Records.{ValueModel, RecordModel}
 use Rattle.ldif.specs.Lines.{lines_of}
-use Rattle.ldif.specs.Says.{Says, blank, comment, named, valued, line_says}
+use Rattle.ldif.specs.Says.{Says, blank, comment, named, valued, encoded, line_says}
 use Rattle.ldif.specs.Reading.{is_version, records_of}
 
 -- the values of a record, and the lines that follow: it ends by an empty line or where the text ends
@@ -14,6 +14,8 @@ pub data HasValues : List Says → List ValueModel → List Says → Type 0 wher
   record_ends : (rest : List Says) → HasValues (blank ∷ rest) [] rest
   a_value : {ss rest : List Says} {vs : List ValueModel} (v : ValueModel) → HasValues ss vs rest
       → HasValues (valued v ∷ ss) (v ∷ vs) rest
+  an_encoded_value : {ss rest : List Says} {vs : List ValueModel} (v : ValueModel) → HasValues ss vs rest
+      → HasValues (encoded v ∷ ss) (v ∷ vs) rest
   comment_inside : {ss rest : List Says} {vs : List ValueModel} → HasValues ss vs rest
       → HasValues (comment ∷ ss) vs rest
 
@@ -25,7 +27,7 @@ pub data AreRecords : List Says → List RecordModel → Type 0 where
   a_record : {ss rest : List Says} {rs : List RecordModel} (name : List ℕ) (vs : List ValueModel)
       → HasValues ss vs rest → AreRecords rest rs → AreRecords (named name ∷ ss) (record { name = name; values = vs } ∷ rs)
 
--- records, before which the version may stand (RFC 2849, ldif-file)
+-- records, before which the version may stand, as it is and not in base64 (RFC 2849, ldif-file and version-spec)
 pub data IsContent : List Says → List RecordModel → Type 0 where
   unversioned : {ss : List Says} {rs : List RecordModel} → AreRecords ss rs → IsContent ss rs
   versioned : {ss : List Says} {rs : List RecordModel} (v : ValueModel) → is_version v ≡ true → AreRecords ss rs

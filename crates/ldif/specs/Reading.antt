@@ -6,7 +6,7 @@ use Rattle.std.specs.declared.result.Result.TheVariants.{Ok, Err}
 use Rattle.ldif.specs.Descriptions.{is_same_word}
 use Rattle.ldif.specs.Records.{ValueModel, RecordModel}
 use Rattle.ldif.specs.Lines.{LineModel, lines_of}
-use Rattle.ldif.specs.Says.{Says, blank, comment, named, valued, wrong, line_says}
+use Rattle.ldif.specs.Says.{Says, blank, comment, named, valued, encoded, wrong, line_says}
 
 -- what was read so far: whole records, the one that stands open, and whether a version or a record has come
 pub record ReadingModel : Type 0 where
@@ -34,27 +34,28 @@ is_one [] = false
 is_one (c ∷ []) = nat_eq c 49
 is_one (c ∷ d ∷ ds) = false
 
--- whether a value is the version 1 (RFC 2849, version-spec)
+-- whether a value is the version 1, where it stands as it is (RFC 2849, version-spec)
 abbrev pub is_version : ValueModel → Bool
 is_version v = is_same_word v.description (codes "version") && is_one v.octets
 
--- a value is its record's; before all else it may be the version
-abbrev pub after_value : ReadingModel → ValueModel → Option RecordModel → Option ReadingModel
-after_value s v None =
-    cond s.begun None (cond (is_version v) (Some (record { done = s.done; current = None; begun = true })) None)
-after_value s v (Some r) =
+-- a value is its record's; before all else it may be the version, where its line is one
+abbrev pub after_value : ReadingModel → Bool → ValueModel → Option RecordModel → Option ReadingModel
+after_value s is_version_line v None =
+    cond s.begun None (cond is_version_line (Some (record { done = s.done; current = None; begun = true })) None)
+after_value s is_version_line v (Some r) =
     Some (record {
       done = s.done;
       current = Some (record { name = r.name; values = r.values ++ v ∷ [] });
       begun = s.begun;
     })
 
--- after one more line
+-- after one more line; no line of base64 is the version, whose number stands as it is (RFC 2849, version-spec)
 abbrev pub after_line : ReadingModel → Says → Option ReadingModel
 after_line s blank = Some (after_blank s)
 after_line s comment = Some s
 after_line s (named name) = after_name s name s.current
-after_line s (valued v) = after_value s v s.current
+after_line s (valued v) = after_value s (is_version v) v s.current
+after_line s (encoded v) = after_value s false v s.current
 after_line s wrong = None
 
 -- what follows, or the number of the line that has no meaning there

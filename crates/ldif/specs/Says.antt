@@ -1,6 +1,6 @@
 -- LDIF: what one line says.
 -- In: a line's octets, unfolded. Out: a name, a value, nothing, or that it is wrong. Not here: records.
-use Rattle.std.specs.Prelude.{ℕ, ◌+◌, List, [], ◌∷◌, take, drop, position, cond, Option, None, Some, nat_eq}
+use Rattle.std.specs.Prelude.{ℕ, ◌+◌, List, [], ◌∷◌, take, drop, position, Bool, false, cond, Option, None, Some, nat_eq}
 use Rattle.std.specs.Result.{result_ok}
 use Rattle.std.specs.Str.{is_utf8}
 use Rattle.base64.specs.Engines.{standard}
@@ -16,8 +16,10 @@ pub data Says : Type 0 where
   comment : Says
   -- a record's name (RFC 2849, dn-spec)
   named : List ℕ → Says
-  -- a value (RFC 2849, attrval-spec)
+  -- a value that stands as it is (RFC 2849, attrval-spec)
   valued : ValueModel → Says
+  -- a value in base64 (RFC 2849, attrval-spec)
+  encoded : ValueModel → Says
   -- no line of the profile
   wrong : Says
 
@@ -25,6 +27,11 @@ pub data Says : Type 0 where
 abbrev pub past_spaces : List ℕ → List ℕ
 past_spaces [] = []
 past_spaces (c ∷ cs) = cond (nat_eq c 32) (past_spaces cs) (c ∷ cs)
+
+-- whether what stands behind a type's colon is in base64: a second colon stands first (RFC 2849, value-spec)
+abbrev pub is_encoded : List ℕ → Bool
+is_encoded [] = false
+is_encoded (c ∷ cs) = nat_eq c 58
 
 -- the octets that stand behind a type's colon: as they are, or as base64 behind a second colon; none by URL (RFC 2849,
 -- value-spec)
@@ -38,18 +45,23 @@ octets_of (c ∷ cs) =
 abbrev pub name_says : List ℕ → Says
 name_says octets = cond (is_utf8 octets) (named octets) wrong
 
--- a value of a type
-abbrev pub value_says : List ℕ → List ℕ → Says
-value_says word octets = cond (is_type word) (valued (record { description = word; octets = octets })) wrong
+-- a value, in base64 or as it stands
+abbrev pub form_says : Bool → ValueModel → Says
+form_says in_base64 v = cond in_base64 (encoded v) (valued v)
 
-abbrev pub pair_says : List ℕ → Option (List ℕ) → Says
-pair_says word None = wrong
-pair_says word (Some octets) = cond (is_dn word) (name_says octets) (value_says word octets)
+-- a value of a type
+abbrev pub value_says : Bool → List ℕ → List ℕ → Says
+value_says in_base64 word octets =
+    cond (is_type word) (form_says in_base64 (record { description = word; octets = octets })) wrong
+
+abbrev pub pair_says : Bool → List ℕ → Option (List ℕ) → Says
+pair_says in_base64 word None = wrong
+pair_says in_base64 word (Some octets) = cond (is_dn word) (name_says octets) (value_says in_base64 word octets)
 
 -- a line with its first colon here
 abbrev pub colon_says : List ℕ → Option ℕ → Says
 colon_says l None = wrong
-colon_says l (Some i) = pair_says (take i l) (octets_of (drop (i + 1) l))
+colon_says l (Some i) = pair_says (is_encoded (drop (i + 1) l)) (take i l) (octets_of (drop (i + 1) l))
 
 -- What a line says.
 abbrev pub line_says : List ℕ → Says

@@ -29,7 +29,7 @@ impl Model for Reading {
     ghost view = { λ s. record { done = s.done.items; current = s.current; begun = s.begun } };
 }
 
-/// Whether a value is the version 1.
+/// Whether a value is the version 1, where it stands as it is.
 fn is_version(value: &AttributeValue) -> bool
     ensures { result ≡ specs.is_version value.now }
 {
@@ -88,9 +88,15 @@ impl Reading {
     }
 
     /// Takes a value of the record that stands open, or the version before all else.
-    fn put_value(&mut self, value: AttributeValue, line: usize) -> Result<(), LdifError>
-        ensures taken { OnOk result (specs.after_value self.old value self.old.current ≡ Some self.new) }
-        ensures refused { IfErr result (λ e. IsLineFault e (specs.after_value self.old value self.old.current) line) }
+    fn put_value(
+        &mut self,
+        is_version: bool,
+        value: AttributeValue,
+        line: usize,
+    ) -> Result<(), LdifError>
+        ensures taken { OnOk result (specs.after_value self.old is_version value self.old.current ≡ Some self.new) }
+        ensures refused { IfErr result
+            (λ e. IsLineFault e (specs.after_value self.old is_version value self.old.current) line) }
     {
         match self.current.take() {
             Some(mut whole) => {
@@ -99,7 +105,7 @@ impl Reading {
                 Ok(())
             }
             None => {
-                if self.begun || !is_version(&value) {
+                if self.begun || !is_version {
                     return Err(LdifError::BadLdif { line });
                 }
                 self.begun = true;
@@ -117,7 +123,8 @@ impl Reading {
             Said::Blank => Ok(self.close()?),
             Said::Comment => Ok(()),
             Said::Name(name) => self.put_name(alloc, name, line),
-            Said::Value(value) => self.put_value(value, line),
+            Said::Value(value) => self.put_value(is_version(&value), value, line),
+            Said::Encoded(value) => self.put_value(false, value, line),
             Said::Wrong => Err(LdifError::BadLdif { line }),
         }
     }

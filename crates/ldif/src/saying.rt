@@ -24,8 +24,10 @@ pub enum Said {
     Comment,
     /// A record's name.
     Name(String),
-    /// A value.
+    /// A value that stands as it is.
     Value(AttributeValue),
+    /// A value in base64.
+    Encoded(AttributeValue),
     /// Nothing of the profile.
     Wrong,
 }
@@ -50,6 +52,16 @@ fn decoded(alloc: Global, text: &[u8]) -> Result<Option<Vec<u8>>, AllocError>
         Ok(octets) => Ok(Some(octets)),
         Err(DecodeAllocError::DecodeError(_)) => Ok(None),
         Err(DecodeAllocError::OutOfMemory) => Err(AllocError),
+    }
+}
+
+/// Whether what stands behind a type's colon is in base64.
+fn is_encoded(part: &[u8]) -> bool
+    ensures { result ≡ says.is_encoded part.now }
+{
+    match part {
+        [b':', ..] => true,
+        _ => false,
     }
 }
 
@@ -86,9 +98,25 @@ fn name_said(alloc: Global, octets: &[u8]) -> Result<Said, AllocError>
     }
 }
 
+/// What a value says, in base64 or as it stands.
+fn form_said(in_base64: bool, value: AttributeValue) -> Said
+    ensures { said_of result ≡ says.form_says in_base64 value }
+{
+    if in_base64 {
+        Said::Encoded(value)
+    } else {
+        Said::Value(value)
+    }
+}
+
 /// What a value's line says.
-fn value_said(alloc: Global, word: &[u8], octets: Vec<u8>) -> Result<Said, AllocError>
-    ensures { IfOk result (λ s. said_of s ≡ says.value_says word.now octets.items) }
+fn value_said(
+    alloc: Global,
+    in_base64: bool,
+    word: &[u8],
+    octets: Vec<u8>,
+) -> Result<Said, AllocError>
+    ensures { IfOk result (λ s. said_of s ≡ says.value_says in_base64 word.now octets.items) }
 {
     if !is_type(alloc, word)? {
         return Ok(Said::Wrong);
@@ -96,7 +124,7 @@ fn value_said(alloc: Global, word: &[u8], octets: Vec<u8>) -> Result<Said, Alloc
     match text_of(word) {
         Some(description) => {
             let description = String::from_str(alloc, description)?;
-            Ok(Said::Value(AttributeValue::new(description, octets)))
+            Ok(form_said(in_base64, AttributeValue::new(description, octets)))
         }
         None => Ok(Said::Wrong),
     }
@@ -104,7 +132,7 @@ fn value_said(alloc: Global, word: &[u8], octets: Vec<u8>) -> Result<Said, Alloc
 
 /// What a line of a type and a value says.
 fn pair_said(alloc: Global, word: &[u8], part: &[u8]) -> Result<Said, AllocError>
-    ensures { IfOk result (λ s. said_of s ≡ says.pair_says word.now (says.octets_of part.now)) }
+    ensures { IfOk result (λ s. said_of s ≡ says.pair_says (says.is_encoded part.now) word.now (says.octets_of part.now)) }
 {
     match octets_of(alloc, part)? {
         None => Ok(Said::Wrong),
@@ -112,7 +140,7 @@ fn pair_said(alloc: Global, word: &[u8], part: &[u8]) -> Result<Said, AllocError
             if is_dn(word) {
                 name_said(alloc, octets.as_slice())
             } else {
-                value_said(alloc, word, octets)
+                value_said(alloc, is_encoded(part), word, octets)
             }
         }
     }
