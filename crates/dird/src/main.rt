@@ -2,13 +2,20 @@
 //! directory is here.
 #![tactic(auto)]
 
-use dird_commands::{SystemFiles, run};
-use std::io::{self, BufReader, BufWriter, Write};
+use dird_commands::{Status, SystemFiles, run};
+use std::io::{self, BufReader, BufWriter, ErrorKind, Write};
 use std::process::ExitCode;
 
 fn main(rt: HostRuntime) -> io::Result<ExitCode> {
     let alloc = rt.alloc();
-    let words: Vec<String> = std::env::args(&rt)?.collect(alloc)?;
+    let words: Vec<String> = match std::env::args(&rt) {
+        Ok(words) => words.collect(alloc)?,
+        Err(error) if error.kind() == ErrorKind::InvalidData => {
+            rt.eprint("error: a word of the command line is not UTF-8\n")?;
+            return Ok(ExitCode::from(Status::BadCommandLine.code()));
+        }
+        Err(error) => return Err(error),
+    };
     let mut input = BufReader::new(alloc, rt.reader())?;
     let mut output = BufWriter::new(alloc, io::writer(&rt))?;
     let mut faults = Vec::new(alloc);
@@ -20,10 +27,10 @@ fn main(rt: HostRuntime) -> io::Result<ExitCode> {
         &mut output,
         &mut faults,
     );
-    let flushed = output.flush();
+    // The run has flushed it and told of it; what an early end left is handed on where it can be.
+    let _ = output.flush();
     if let Ok(text) = str::from_utf8(&faults) {
         rt.eprint(text)?;
     }
-    flushed?;
     Ok(ExitCode::from(status.code()))
 }

@@ -7,11 +7,12 @@ use crate::local::{Options, answer_session};
 use crate::opening::{indexes_of, schema_of};
 use crate::status::Status;
 use crate::texts::{export_input, import_input, search_input};
+use clap::Error;
 use hex_session::SessionEnd;
 use std::alloc::Global;
 use std::io::{BufRead, Write};
 
-/// Runs the job that the words ask for. Responses go to `output`, faults to `faults`.
+/// Runs the job that the words ask for. Responses go to `output`, which is flushed at the end, and faults to `faults`.
 pub fn run<S: ReadFiles, R: BufRead, W: Write, F: Write>(
     files: &S,
     alloc: Global,
@@ -27,11 +28,10 @@ pub fn run<S: ReadFiles, R: BufRead, W: Write, F: Write>(
                 let _ = write!(faults, "{error}");
                 return Status::BadCommandLine;
             }
-            let _ = write!(output, "{error}");
-            return Status::Done;
+            return tell(output, faults, &error);
         }
     };
-    match perform(files, alloc, job, input, output) {
+    match perform_whole(files, alloc, job, input, output) {
         Ok(SessionEnd::EndOfInput | SessionEnd::Unbound) => Status::Done,
         Ok(
             SessionEnd::Truncated
@@ -44,6 +44,30 @@ pub fn run<S: ReadFiles, R: BufRead, W: Write, F: Write>(
             let _ = writeln!(faults, "{fault}");
             Status::Refused
         }
+    }
+}
+
+/// Tells what the words ask to be told: how the program is used, or its version.
+fn tell<W: Write, F: Write>(output: &mut W, faults: &mut F, text: &Error) -> Status {
+    if write!(output, "{text}").is_ok() && output.flush().is_ok() {
+        return Status::Done;
+    }
+    let _ = writeln!(faults, "{}", Fault::CannotWrite);
+    Status::Refused
+}
+
+/// Does the job, and hands on all that it wrote.
+fn perform_whole<S: ReadFiles, R: BufRead, W: Write>(
+    files: &S,
+    alloc: Global,
+    job: Job<'_>,
+    input: &mut R,
+    output: &mut W,
+) -> Result<SessionEnd, Fault> {
+    let end = perform(files, alloc, job, input, output)?;
+    match output.flush() {
+        Ok(()) => Ok(end),
+        Err(_) => Err(Fault::CannotWrite),
     }
 }
 
