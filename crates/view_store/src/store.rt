@@ -1,22 +1,24 @@
-//! The pair in two slots of 32 octets, of which one is written at a time. Pairs flow in and out; a device is called. How a
-//! slot is spelled and in which order its octets are written is decided below this file.
-ghost use Rattle.std.specs.Prelude.{◌≡◌, ◌≢◌, replicate, ◌≤◌, ◌+◌, ◌^◌, ◌↔◌, ◌⊎◌, ℕ, List, length, OnOk, OnErr, IfOk, IsErrOf, IsOk, Some, None};
+//! The pair of a cluster's replica in two slots of 32 octets, of which one is written at a time. Pairs flow in and out; a
+//! device is called. How a slot is spelled and in which order its octets are written is decided below this file.
+ghost use Rattle.std.specs.Prelude.{◌≡◌, ◌≢◌, replicate, ◌≤◌, ◌+◌, ◌^◌, ◌↔◌, ◌⊎◌, ℕ, List, length, OnOk, OnErr, IfOk, IsErrOf, IsOk, Some};
 ghost use Rattle.view_store.specs.Device.{Only, HasRisen, LeavesOnly};
 ghost use Rattle.view_store.specs.Store.{IsFormerOrNew};
-ghost use Rattle.view_store.specs.Slots.{found, IsWellPlaced, taken_from, sequence_of};
+ghost use Rattle.view_store.specs.Slots.{found, nothing, foreign, own, IsWellPlaced, taken_from, sequence_of};
 
+use crate::cluster::Cluster;
 use crate::device::Device;
 use crate::fault::ViewStoreError;
 use crate::reading::read_taken;
-use crate::slot::{MAX_NUMBER, Pair};
+use crate::slot::{MAX_NUMBER, Pair, own_pair};
 use crate::state::{Gates, State};
 use crate::writing::{opened_gates, write_empty, write_pair};
 use std::marker::Model;
 
-/// The stored pair of a replica on a device of 64 octets.
+/// The stored pair of a replica of a cluster, on a device of 64 octets.
 #[derive(Drop)]
 pub struct ViewStore<D: Device> {
     device: D,
+    cluster: Cluster,
     state: State,
 }
 
@@ -28,7 +30,7 @@ impl<D: Device> Model for ViewStore<D> {
     ghost use Rattle.view_store.specs.Status.{status_of};
     ghost use Rattle.view_store.specs.Store.{IsInMind};
 
-    ghost view = { λ s. record { device = s.device; status = status_of s.state } };
+    ghost view = { λ s. record { device = s.device; cluster = s.cluster; status = status_of s.state } };
 
     ghost invariant = { λ s. IsInMind s.state (D.seen s.device) (D.may_leave s.device) };
 }
@@ -36,13 +38,16 @@ impl<D: Device> Model for ViewStore<D> {
 impl<D: Device> ViewStore<D> {
     ghost use Rattle.view_store.specs.declared.state.Status.TheVariants as status;
 
-    /// A store over a device, which is not called. It can be used once `format` or `load` has answered Ok.
-    pub fn new(device: D) -> Self
+    /// A store of a cluster's pair over a device, which is not called. It can be used once `format` or `load` has answered
+    /// Ok.
+    pub fn new(device: D, cluster: Cluster) -> Self
         ensures device { result.device ≡ device }
+        ensures cluster { result.cluster ≡ cluster }
         ensures status { result.status ≡ status.New }
     {
         ViewStore {
             device,
+            cluster,
             state: State::New,
         }
     }
@@ -51,14 +56,27 @@ impl<D: Device> ViewStore<D> {
     pub fn into_device(self) -> D
         ensures { result ≡ self.device }
     {
-        let ViewStore { device, state: _ } = self;
+        let ViewStore {
+            device,
+            cluster: _,
+            state: _,
+        } = self;
         device
     }
 
-    /// Stores a pair in the place of the former one. A crash at any moment of the call leaves one of the two; once it
-    /// has answered Ok, the new one. After E21 every further call answers `Failed`.
+    /// Stores a pair in the place of the former one, which may be of the first version; the new one names the cluster. A
+    /// crash at any moment of the call leaves one of the two; once it has answered Ok, the new one. After E21 every
+    /// further call answers `Failed`.
     pub fn store(&mut self, view: u64, restarts: u64) -> Result<(), ViewStoreError>
-        ensures stored { OnOk result (found (D.seen self.new.device) ≡ Some (record { view = view; restarts = restarts })) }
+        ensures stored { OnOk result (found self.old.cluster (D.seen self.new.device) ≡ own (record { view = view; restarts = restarts })) }
+
+        // The slot that is taken then is of version 2 and names the cluster; its sequence is the next one.
+        ensures version { OnOk result (taken_from (D.seen self.new.device) ≡ Some (record {
+          sequence = sequence_of (taken_from (D.seen self.old.device)) + 1;
+          cluster = Some self.old.cluster;
+          pair = record { view = view; restarts = restarts };
+        })) }
+        ensures cluster { self.new.cluster ≡ self.old.cluster }
         ensures durable { OnOk result (Only (D.seen self.new.device) (D.may_leave self.new.device)) }
         ensures ready { OnOk result ((self.old.status ≡ status.Ready) × (self.new.status ≡ status.Ready)) }
 
@@ -68,7 +86,7 @@ impl<D: Device> ViewStore<D> {
         // left, whole or stopped.
         ensures any_moment { self.old.status ≡ status.Ready → IsWellPlaced (D.seen self.old.device)
             → LeavesOnly D.moment D.left_since self.old.device self.new.device
-            (IsFormerOrNew (found (D.seen self.old.device)) (record { view = view; restarts = restarts })) }
+            (IsFormerOrNew self.old.cluster (found self.old.cluster (D.seen self.old.device)) (record { view = view; restarts = restarts })) }
 
         // E21 only where the device failed, and then the store has failed; before that it was ready.
         ensures device_failed { IsErrOf result ViewStoreError.DeviceFailed → HasRisen (D.failure_count self.old.device) (D.failure_count self.new.device)
@@ -78,6 +96,9 @@ impl<D: Device> ViewStore<D> {
         ensures no_pair { IsErrOf result ViewStoreError.NoPair ↔ (self.old.status ≡ status.New) ⊎ ((self.old.status ≡ status.Ready)
             × ((2 ^ 63 ≤ view) ⊎ (2 ^ 63 ≤ restarts) ⊎ (2 ^ 63 ≤ sequence_of (taken_from (D.seen self.old.device)) + 1))) }
         ensures no_pair_same { IsErrOf result ViewStoreError.NoPair → self.new ≡ self.old }
+
+        // Never E23: where another cluster's pair is found, the store isn't ready.
+        ensures foreign_cluster { IsErrOf result ViewStoreError.ForeignCluster → ⊥ }
 
         // A store that has failed answers so, and calls no device.
         ensures failed { IsErrOf result ViewStoreError.Failed ↔ (self.old.status ≡ status.Failed) }
@@ -92,7 +113,7 @@ impl<D: Device> ViewStore<D> {
             return Err(ViewStoreError::NoPair);
         }
         let pair = Pair { view, restarts };
-        match write_pair(&mut self.device, sequence, gates, pair) {
+        match write_pair(&mut self.device, sequence, gates, self.cluster, pair) {
             Ok(()) => {
                 self.state = State::Ready(sequence + 1, opened_gates(sequence, gates));
                 Ok(())
@@ -104,19 +125,26 @@ impl<D: Device> ViewStore<D> {
         }
     }
 
-    /// The pair that the device holds. A crash after it leaves that pair.
+    /// The pair that the device holds for the cluster: of the first version, or one that names it. A crash after it leaves
+    /// that pair.
     pub fn load(&mut self) -> Result<Pair, ViewStoreError>
-        ensures found { IfOk result (λ pair. found (D.seen self.old.device) ≡ Some pair) }
+        ensures found { IfOk result (λ pair. found self.old.cluster (D.seen self.old.device) ≡ own pair) }
         ensures durable { OnOk result (Only (D.seen self.old.device) (D.may_leave self.new.device)) }
         ensures ready { OnOk result (self.new.status ≡ status.Ready) }
         ensures seen { D.seen self.new.device ≡ D.seen self.old.device }
+        ensures cluster { self.new.cluster ≡ self.old.cluster }
 
         // It writes nothing: a crash at any moment of the call leaves what it might have left before.
         ensures any_moment { self.old.status ≢ status.Failed
             → LeavesOnly D.moment D.left_since self.old.device self.new.device (D.may_leave self.old.device) }
 
         // E22 exactly where no pair is found; the store isn't ready then.
-        ensures no_pair { IsErrOf result ViewStoreError.NoPair → (found (D.seen self.old.device) ≡ None) × (self.new.status ≡ status.New) }
+        ensures no_pair { IsErrOf result ViewStoreError.NoPair
+            → (found self.old.cluster (D.seen self.old.device) ≡ nothing) × (self.new.status ≡ status.New) }
+
+        // E23 exactly where another cluster's pair is found; the store isn't ready then.
+        ensures foreign_cluster { IsErrOf result ViewStoreError.ForeignCluster
+            → (found self.old.cluster (D.seen self.old.device) ≡ foreign) × (self.new.status ≡ status.New) }
 
         // E21 only where the device failed, and then the store has failed.
         ensures device_failed { IsErrOf result ViewStoreError.DeviceFailed
@@ -137,10 +165,16 @@ impl<D: Device> ViewStore<D> {
             }
         };
         match taken {
-            Some((slot, gates)) => {
-                self.state = State::Ready(slot.sequence, gates);
-                Ok(slot.pair)
-            }
+            Some((slot, gates)) => match own_pair(slot, self.cluster) {
+                Some(pair) => {
+                    self.state = State::Ready(slot.sequence, gates);
+                    Ok(pair)
+                }
+                None => {
+                    self.state = State::New;
+                    Err(ViewStoreError::ForeignCluster)
+                }
+            },
             None => {
                 self.state = State::New;
                 Err(ViewStoreError::NoPair)
@@ -152,13 +186,17 @@ impl<D: Device> ViewStore<D> {
     pub fn format(&mut self) -> Result<(), ViewStoreError>
         ensures empty { OnOk result (D.seen self.new.device ≡ replicate 64 0) }
         ensures placed { OnOk result (IsWellPlaced (D.seen self.new.device)) }
-        ensures no_pair_found { OnOk result (found (D.seen self.new.device) ≡ None) }
+        ensures no_pair_found { OnOk result (found self.old.cluster (D.seen self.new.device) ≡ nothing) }
         ensures durable { OnOk result (Only (D.seen self.new.device) (D.may_leave self.new.device)) }
         ensures ready { OnOk result (self.new.status ≡ status.Ready) }
+        ensures cluster { self.new.cluster ≡ self.old.cluster }
 
         // E22 exactly where the device is longer than 64 octets; nothing is written.
         ensures no_pair { IsErrOf result ViewStoreError.NoPair → (65 ≤ length (D.seen self.old.device))
             × (D.seen self.new.device ≡ D.seen self.old.device) × (self.new.status ≡ status.New) }
+
+        // Never E23: whosever pair the device holds, it is written over.
+        ensures foreign_cluster { IsErrOf result ViewStoreError.ForeignCluster → ⊥ }
 
         // E21 only where the device failed, and then the store has failed.
         ensures device_failed { IsErrOf result ViewStoreError.DeviceFailed

@@ -1,4 +1,5 @@
-//! Tests of the stored view over a device in memory: outside vectors, stops at each device call, each call failing in turn.
+//! Tests of the stored view over a device in memory: outside vectors, pairs of version 1 and of other clusters, stops at each
+//! device call, each call failing in turn.
 #![tactic(auto)]
 
 #[cfg(test)]

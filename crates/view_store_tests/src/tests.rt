@@ -3,15 +3,65 @@
 use std::alloc::Global;
 use std::process::Abort;
 use std::test::*;
-use view_store::{Fate, Fault, MemoryDevice, Pair, ViewStore, ViewStoreError};
+use view_store::{Cluster, Fate, Fault, MemoryDevice, Pair, ViewStore, ViewStoreError};
 
-/// The 64 octets after the pair (0, 1) was stored on a formatted device.
+/// The 64 octets after the pair (0, 1) of cluster 9 was stored on a formatted device.
 const FIRST: &str =
-    "a5010000000000000001000000000000000000000000000000010000000000000000000000000000000000000000000000000000000000000000000000000000";
+    "a5020000000000000001000000000000000000000000000000010000000000090000000000000000000000000000000000000000000000000000000000000000";
 
 /// The same after (3, 1) was stored too.
 const SECOND: &str =
-    "a501000000000000000100000000000000000000000000000001000000000000a501000000000000000200000000000000030000000000000001000000000000";
+    "a502000000000000000100000000000000000000000000000001000000000009a502000000000000000200000000000000030000000000000001000000000009";
+
+/// What a store of version 1 left of the pair (0, 1).
+const VERSION_1: &str =
+    "a5010000000000000001000000000000000000000000000000010000000000000000000000000000000000000000000000000000000000000000000000000000";
+
+/// The same after cluster 9 stored (0, 2).
+const MIGRATED: &str =
+    "a501000000000000000100000000000000000000000000000001000000000000a502000000000000000200000000000000000000000000000002000000000009";
+
+/// A slot that holds nothing.
+const EMPTY: &str = "0000000000000000000000000000000000000000000000000000000000000000";
+
+/// Two slots, and what cluster 9 loads of them. In turn: version 1 and 2; each beside a slot of the greater sequence, which
+/// decides; no version, no cluster in version 2, a cluster in version 1.
+const LOADS: [(&str, &str, Result<Pair, ViewStoreError>); 12] = [
+    (A_OF_ANY, EMPTY, Ok(A)),
+    (A_OF_9, EMPTY, Ok(A)),
+    (A_OF_8, EMPTY, Err(ViewStoreError::ForeignCluster)),
+    (EMPTY, B_OF_9, Ok(B)),
+    (EMPTY, B_OF_8, Err(ViewStoreError::ForeignCluster)),
+    (A_OF_ANY, B_OF_9, Ok(B)),
+    (A_OF_ANY, B_OF_8, Err(ViewStoreError::ForeignCluster)),
+    (A_OF_9, B_OF_8, Err(ViewStoreError::ForeignCluster)),
+    (A_OF_8, B_OF_9, Ok(B)),
+    (
+        "a503000000000000000100000000000000000000000000000001000000000009",
+        EMPTY,
+        Err(ViewStoreError::NoPair),
+    ),
+    (
+        "a502000000000000000100000000000000000000000000000001000000000000",
+        EMPTY,
+        Err(ViewStoreError::NoPair),
+    ),
+    (
+        "a501000000000000000100000000000000000000000000000001000000000009",
+        EMPTY,
+        Err(ViewStoreError::NoPair),
+    ),
+];
+
+const A_OF_ANY: &str = "a501000000000000000100000000000000000000000000000001000000000000";
+
+const A_OF_8: &str = "a502000000000000000100000000000000000000000000000001000000000008";
+
+const A_OF_9: &str = "a502000000000000000100000000000000000000000000000001000000000009";
+
+const B_OF_8: &str = "a502000000000000000200000000000000030000000000000001000000000008";
+
+const B_OF_9: &str = "a502000000000000000200000000000000030000000000000001000000000009";
 
 const ROOM: usize = 100;
 
@@ -38,15 +88,20 @@ fn device(alloc: Global, text: &str, fault: Fault) -> Result<MemoryDevice, Fail>
     Ok(MemoryDevice::new(alloc, bytes, ROOM, fault)?)
 }
 
-/// What is found after a crash.
+fn nine(rt: &impl Abort) -> Cluster {
+    Cluster::new(9).expect(rt, "9 is the number of a cluster")
+}
+
+/// What cluster 9 finds after a crash.
 fn found_after_crash(
+    rt: &impl Abort,
     alloc: Global,
     device: &MemoryDevice,
     fate: Fate,
 ) -> Result<Option<Pair>, Fail> {
     let image = device.left_by_crash(alloc, fate)?;
     let device = MemoryDevice::new(alloc, image, ROOM, Fault::None)?;
-    let mut store = ViewStore::new(device);
+    let mut store = ViewStore::new(device, nine(rt));
     let pair = store.load().ok();
     let _ = store.into_device();
     Ok(pair)
@@ -56,7 +111,7 @@ fn found_after_crash(
 fn stores_the_pair_in_its_octets(rt: HostRuntime) -> Result<(), Fail> {
     let alloc = rt.alloc();
     let empty = MemoryDevice::new(alloc, Vec::new(alloc), ROOM, Fault::None)?;
-    let mut store = ViewStore::new(empty);
+    let mut store = ViewStore::new(empty, nine(&rt));
     store.format()?;
     assert_eq!(rt; store.load(), Err(ViewStoreError::NoPair));
     store.format()?;
@@ -64,7 +119,7 @@ fn stores_the_pair_in_its_octets(rt: HostRuntime) -> Result<(), Fail> {
     assert_eq!(rt; store.load(), Ok(A));
     let first = store.into_device();
     assert!(rt; hex::encode(alloc, first.bytes())?.as_str() == FIRST);
-    let mut store = ViewStore::new(first);
+    let mut store = ViewStore::new(first, nine(&rt));
     assert_eq!(rt; store.load(), Ok(A));
     store.store(3, 1)?;
     assert_eq!(rt; store.load(), Ok(B));
@@ -76,7 +131,7 @@ fn stores_the_pair_in_its_octets(rt: HostRuntime) -> Result<(), Fail> {
 #[test]
 fn refuses_what_is_no_pair(rt: HostRuntime) -> Result<(), Fail> {
     let alloc = rt.alloc();
-    let mut store = ViewStore::new(device(alloc, FIRST, Fault::None)?);
+    let mut store = ViewStore::new(device(alloc, FIRST, Fault::None)?, nine(&rt));
     assert_eq!(rt; store.store(0, 2), Err(ViewStoreError::NoPair));
     assert_eq!(rt; store.load(), Ok(A));
     assert_eq!(rt; store.store(1 << 63, 1), Err(ViewStoreError::NoPair));
@@ -84,7 +139,7 @@ fn refuses_what_is_no_pair(rt: HostRuntime) -> Result<(), Fail> {
     let kept = store.into_device();
     assert!(rt; hex::encode(alloc, kept.bytes())?.as_str() == FIRST);
     let long = MemoryDevice::new(alloc, vec![in alloc; 0u8; 65]?, ROOM, Fault::None)?;
-    let mut store = ViewStore::new(long);
+    let mut store = ViewStore::new(long, nine(&rt));
     assert_eq!(rt; store.load(), Err(ViewStoreError::NoPair));
     assert_eq!(rt; store.format(), Err(ViewStoreError::NoPair));
     let _ = store.into_device();
@@ -98,7 +153,8 @@ fn stopped_store(
     text: &str,
     at: usize,
 ) -> Result<MemoryDevice, Fail> {
-    let mut store = ViewStore::new(device(alloc, text, Fault::StopAt(3usize.saturating_add(at)))?);
+    let fault = Fault::StopAt(3usize.saturating_add(at));
+    let mut store = ViewStore::new(device(alloc, text, fault)?, nine(rt));
     assert_eq!(rt; store.load(), Ok(A));
     let stored = store.store(3, 1);
     if at <= 6 {
@@ -111,13 +167,12 @@ fn stopped_store(
     Ok(store.into_device())
 }
 
-#[test]
-fn a_stop_leaves_one_of_the_two_pairs(rt: HostRuntime) -> Result<(), Fail> {
-    let alloc = rt.alloc();
+/// Loads and stores with a stop at each of the six calls, over a device that holds A: what a crash leaves.
+fn check_stops(rt: &impl Abort, alloc: Global, text: &str) -> Result<(), Fail> {
     for at in 1..8 {
-        let left = stopped_store(&rt, alloc, FIRST, at)?;
+        let left = stopped_store(rt, alloc, text, at)?;
         for fate in FATES {
-            let pair = found_after_crash(alloc, &left, fate)?;
+            let pair = found_after_crash(rt, alloc, &left, fate)?;
             if at <= 4 {
                 assert_eq!(rt; pair, Some(A), "stopped at {at}");
             } else if at <= 6 {
@@ -131,17 +186,29 @@ fn a_stop_leaves_one_of_the_two_pairs(rt: HostRuntime) -> Result<(), Fail> {
 }
 
 #[test]
+fn a_stop_leaves_one_of_the_two_pairs(rt: HostRuntime) -> Result<(), Fail> {
+    check_stops(&rt, rt.alloc(), FIRST)
+}
+
+#[test]
+fn a_stop_of_a_migrating_store_leaves_one_of_the_two_pairs(rt: HostRuntime) -> Result<(), Fail> {
+    check_stops(&rt, rt.alloc(), VERSION_1)
+}
+
+#[test]
 fn a_load_settles_what_a_stop_left(rt: HostRuntime) -> Result<(), Fail> {
     let alloc = rt.alloc();
-    for at in 5..7 {
-        let mut left = stopped_store(&rt, alloc, FIRST, at)?;
-        left.set_fault(Fault::StopAt(left.count_of_calls().saturating_add(4)));
-        let mut store = ViewStore::new(left);
-        let loaded = store.load()?;
-        assert_eq!(rt; store.store(5, 1), Err(ViewStoreError::DeviceFailed));
-        let left = store.into_device();
-        for fate in FATES {
-            assert_eq!(rt; found_after_crash(alloc, &left, fate)?, Some(loaded));
+    for text in [FIRST, VERSION_1] {
+        for at in 5..7 {
+            let mut left = stopped_store(&rt, alloc, text, at)?;
+            left.set_fault(Fault::StopAt(left.count_of_calls().saturating_add(4)));
+            let mut store = ViewStore::new(left, nine(&rt));
+            let loaded = store.load()?;
+            assert_eq!(rt; store.store(5, 1), Err(ViewStoreError::DeviceFailed));
+            let left = store.into_device();
+            for fate in FATES {
+                assert_eq!(rt; found_after_crash(&rt, alloc, &left, fate)?, Some(loaded));
+            }
         }
     }
     Ok(())
@@ -152,7 +219,7 @@ fn a_first_store_that_stops_leaves_no_pair_or_the_new_one(rt: HostRuntime) -> Re
     let alloc = rt.alloc();
     for at in 1..7 {
         let empty = MemoryDevice::new(alloc, Vec::new(alloc), ROOM, Fault::None)?;
-        let mut store = ViewStore::new(empty);
+        let mut store = ViewStore::new(empty, nine(&rt));
         store.format()?;
         let mut formatted = store.into_device();
         formatted.set_fault(Fault::StopAt(
@@ -161,12 +228,12 @@ fn a_first_store_that_stops_leaves_no_pair_or_the_new_one(rt: HostRuntime) -> Re
                 .saturating_add(at)
                 .saturating_add(3),
         ));
-        let mut store = ViewStore::new(formatted);
+        let mut store = ViewStore::new(formatted, nine(&rt));
         store.format()?;
         assert_eq!(rt; store.store(3, 1), Err(ViewStoreError::DeviceFailed));
         let left = store.into_device();
         for fate in FATES {
-            let pair = found_after_crash(alloc, &left, fate)?;
+            let pair = found_after_crash(&rt, alloc, &left, fate)?;
             assert!(rt;
                 pair.is_none() || at > 4 && pair == Some(B),
                 "stopped at {at}"
@@ -177,10 +244,49 @@ fn a_first_store_that_stops_leaves_no_pair_or_the_new_one(rt: HostRuntime) -> Re
 }
 
 #[test]
-fn each_call_that_fails_is_told(rt: HostRuntime) -> Result<(), Fail> {
+fn migrates_a_pair_of_version_1(rt: HostRuntime) -> Result<(), Fail> {
     let alloc = rt.alloc();
+    let mut store = ViewStore::new(device(alloc, VERSION_1, Fault::None)?, nine(&rt));
+    assert_eq!(rt; store.load(), Ok(A));
+    store.store(0, 2)?;
+    let migrated = store.into_device();
+    assert!(rt; hex::encode(alloc, migrated.bytes())?.as_str() == MIGRATED);
+    Ok(())
+}
+
+#[test]
+fn loads_the_slot_of_the_greater_sequence(rt: HostRuntime) -> Result<(), Fail> {
+    let alloc = rt.alloc();
+    for (first, second, want) in LOADS {
+        let text = format!(in alloc; "{first}{second}")?;
+        let mut store = ViewStore::new(device(alloc, &text, Fault::None)?, nine(&rt));
+        assert_eq!(rt; store.load(), want, "{text}");
+        if want.is_err() {
+            assert_eq!(rt; store.store(0, 2), Err(ViewStoreError::NoPair), "{text}");
+        }
+        let kept = store.into_device();
+        assert!(rt; hex::encode(alloc, kept.bytes())?.as_str() == text.as_str());
+    }
+    Ok(())
+}
+
+#[test]
+fn a_cluster_has_a_number_of_six_octets(rt: HostRuntime) {
+    for number in [1, 9, 281474976710655] {
+        assert_eq!(rt;
+            Cluster::new(number).map(|cluster| cluster.number()),
+            Some(number)
+        );
+    }
+    for number in [0, 281474976710656, 18446744073709551615] {
+        assert_eq!(rt; Cluster::new(number), None);
+    }
+}
+
+/// Loads and stores over a device of which one call fails: that call tells it, and all after it.
+fn check_failures(rt: &impl Abort, alloc: Global, text: &str) -> Result<(), Fail> {
     for at in 1..10 {
-        let mut store = ViewStore::new(device(alloc, FIRST, Fault::FailAt(at))?);
+        let mut store = ViewStore::new(device(alloc, text, Fault::FailAt(at))?, nine(rt));
         let loaded = store.load();
         if at <= 3 {
             assert_eq!(rt; loaded, Err(ViewStoreError::DeviceFailed), "call {at}");
@@ -194,6 +300,14 @@ fn each_call_that_fails_is_told(rt: HostRuntime) -> Result<(), Fail> {
         }
         assert_eq!(rt; store.store(3, 1), Err(ViewStoreError::Failed));
         let _ = store.into_device();
+    }
+    Ok(())
+}
+
+#[test]
+fn each_call_that_fails_is_told(rt: HostRuntime) -> Result<(), Fail> {
+    for text in [FIRST, VERSION_1] {
+        check_failures(&rt, rt.alloc(), text)?;
     }
     Ok(())
 }
