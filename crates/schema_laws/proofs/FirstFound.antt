@@ -211,7 +211,7 @@ hit d w = calls_plainly (goes_by d) d w ∙ hit_by d.oid (names_of d)
 
 -- ---- among all types
 
-get_all : {A : Type 0} (P : A → Type 0) (xs : List A) (i : ℕ) (x : A) → AllByRecursion P xs → slice_get xs i ≡ Some x → P x
+pub get_all : {A : Type 0} (P : A → Type 0) (xs : List A) (i : ℕ) (x : A) → AllByRecursion P xs → slice_get xs i ≡ Some x → P x
 get_all P [] i x h e = absurd (none_some e)
 get_all P (y ∷ xs) zero x h e = subst P (some_same e) h.0
 get_all P (y ∷ xs) (suc i) x h e = get_all P xs i x h.1 e
@@ -230,7 +230,7 @@ seek all d w (x ∷ ds) k (suc i) ws bs r e =
     ∙ seek all d w ds (k + 1) i ws.1 bs.1 r.1 e
     ∙ ap Some (omega arith)
 
-type_at : (all ds : List DescriptionModel) (k i : ℕ) (d : DescriptionModel) → slice_get ds i ≡ Some d → slice_get (types_from all k ds) i ≡ Some (type_with all d (effect_of all (k + i)))
+pub type_at : (all ds : List DescriptionModel) (k i : ℕ) (d : DescriptionModel) → slice_get ds i ≡ Some d → slice_get (types_from all k ds) i ≡ Some (type_with all d (effect_of all (k + i)))
 type_at all [] k i d e = absurd (none_some e)
 type_at all (x ∷ ds) k zero d e = ap₂ (λ (y : DescriptionModel) (n : ℕ). Some (type_with all y (effect_of all n))) (some_same e) (omega arith)
 type_at all (x ∷ ds) k (suc i) d e = type_at all ds (k + 1) i d e ∙ ap (λ (n : ℕ). Some (type_with all d (effect_of all n))) (omega arith)
@@ -262,7 +262,7 @@ found all classes s same ws r un i d e =
 
 -- ---- of a text without faults
 
-some_at : {A : Type 0} (xs : List A) (i : ℕ) → i < length xs → (x : A) × (slice_get xs i ≡ Some x)
+pub some_at : {A : Type 0} (xs : List A) (i : ℕ) → i < length xs → (x : A) × (slice_get xs i ≡ Some x)
 some_at [] i lt = absurd (omega (arith, lt))
 some_at (x ∷ xs) zero lt = (x, refl)
 some_at (x ∷ xs) (suc i) lt = some_at xs i (omega (arith, lt))
@@ -274,25 +274,25 @@ all_go s (x ∷ xs) t h =
     ap (λ b. b && go_by_their_names s xs (t + 1)) (ap (goes_by_its_name s) (sym e) ∙ h 0 (omega arith))
     ∙ all_go s xs (t + 1) (λ i lt. let f : (t + 1) + i ≡ t + suc i = omega arith in ap (goes_by_its_name s) f ∙ h (suc i) (omega (arith, lt)))
 
-count_types : (types : List DescriptionModel) (t : ℕ) (ds : List DescriptionModel) → length (types_from types t ds) ≡ length ds
+pub count_types : (types : List DescriptionModel) (t : ℕ) (ds : List DescriptionModel) → length (types_from types t ds) ≡ length ds
 count_types types t [] = refl
 count_types types t (d ∷ ds) = ap suc (count_types types (t + 1) ds)
 
-refused_none : (o : Option ℕ) (f : ℕ → SchemaError) (rest : Option SchemaError) → refused_at o f rest ≡ None → o ≡ None
+pub refused_none : (o : Option ℕ) (f : ℕ → SchemaError) (rest : Option SchemaError) → refused_at o f rest ≡ None → o ≡ None
 refused_none None f rest h = refl
 refused_none (Some n) f rest h = absurd (none_some (sym h))
 
-second_none : (a b : Option ℕ) → earlier a b ≡ None → b ≡ None
+pub second_none : (a b : Option ℕ) → earlier a b ≡ None → b ≡ None
 second_none None b h = h
 second_none (Some n) None h = refl
 second_none (Some n) (Some m) h = absurd (none_some (sym h))
 
-first_none : (a b : Option ℕ) → earlier a b ≡ None → a ≡ None
+pub first_none : (a b : Option ℕ) → earlier a b ≡ None → a ≡ None
 first_none None b h = refl
 first_none (Some n) None h = absurd (none_some (sym h))
 first_none (Some n) (Some m) h = absurd (none_some (sym h))
 
-none_bad_by : (b : Bool) (n : ℕ) (rest : Option ℕ) → cond b (Some n) rest ≡ None → (b ≡ false) × (rest ≡ None)
+pub none_bad_by : (b : Bool) (n : ℕ) (rest : Option ℕ) → cond b (Some n) rest ≡ None → (b ≡ false) × (rest ≡ None)
 none_bad_by true n rest h = absurd (none_some (sym h))
 none_bad_by false n rest h = (refl, h)
 
@@ -302,7 +302,7 @@ none_bad t k (d ∷ ds) h =
     let f = none_bad_by (is_bad_type t k d) d.line (first_of_types (is_bad_type t) (k + 1) ds) h in
     (not_left (is_repeated t.types t.classes d) (is_unfit t.types k) f.0, none_bad t (k + 1) ds f.1)
 
-no_fault : (s m : SchemaModel) (o : Option SchemaError) → unless_refused s o ≡ Ok m → (o ≡ None) × (s ≡ m)
+pub no_fault : (s m : SchemaModel) (o : Option SchemaError) → unless_refused s o ≡ Ok m → (o ≡ None) × (s ≡ m)
 no_fault s m None h = let e : s ≡ m = cc in (refl, e)
 no_fault s m (Some e) h = cc
 

@@ -6,3 +6,10 @@ pub mod TypeNames
 pub mod SoundTexts
 pub mod FirstFound
 pub mod ReadNames
+pub mod OneFamily
+pub mod MeantNames
+pub mod Walks
+pub mod Looped
+pub mod InEffect
+pub mod Lineages
+pub mod FirstLoops

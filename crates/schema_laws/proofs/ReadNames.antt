@@ -25,7 +25,7 @@ low_by : {K : Type 0} (p : K → Bool) (b : Bool) (k : ℕ) (x : K) (xs : List K
 low_by p true k x xs i e f = let s : k ≡ i = cc in omega (arith, s)
 low_by p false k x xs i e f = omega (arith, f e)
 
-found_low : {K : Type 0} (p : K → Bool) (k : ℕ) (xs : List K) (i : ℕ) → position_from p k xs ≡ Some i → i < k + length xs
+pub found_low : {K : Type 0} (p : K → Bool) (k : ℕ) (xs : List K) (i : ℕ) → position_from p k xs ≡ Some i → i < k + length xs
 found_low p k [] i h = absurd (none_some h)
 found_low p k (x ∷ xs) i h = low_by p (p x) k x xs i h (λ e. found_low p (k + 1) xs i e)
 

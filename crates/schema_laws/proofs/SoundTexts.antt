@@ -211,3 +211,33 @@ pub text_is_sound : (text : List ℕ) → IsSoundText (read_text text)
 text_is_sound text =
     let h = lines_by nothing 1 (lines_of text) (record { worded = tt; below = tt; rising = tt }) in
     record { before = h.before; are_sound = h.are_sound }
+
+-- ---- the lines of classes
+
+type_line_on : (n : ℕ) (t : SchemaTextModel) (o : Option DescriptionModel) → AreSound n t.classes → AreSound (n + 1) (with_type t n o).classes
+type_line_on n t None h = later n t.classes h
+type_line_on n t (Some d) h = later n t.classes h
+
+class_line_on : (n : ℕ) (t : SchemaTextModel) (o : Option DescriptionModel) → ((d : DescriptionModel) → o ≡ Some d → IsSound n d) → AreSound n t.classes → AreSound (n + 1) (with_class t n o).classes
+class_line_on n t None f h = later n t.classes h
+class_line_on n t (Some d) f h = one_more n t.classes d (f d refl) h
+
+line_on : (a b c : Bool) (n : ℕ) (t : SchemaTextModel) (line : List ℕ) → AreSound n t.classes
+    → AreSound (n + 1) (cond a t (cond b (with_type t n (description_behind n AttributeTypes line)) (cond c (with_class t n (description_behind n ObjectClasses line)) (with_bad t n)))).classes
+line_on true b c n t line h = later n t.classes h
+line_on false true c n t line h = type_line_on n t (description_behind n AttributeTypes line) h
+line_on false false true n t line h = class_line_on n t (description_behind n ObjectClasses line) (λ d e. description_is n ObjectClasses (drop (length (heading_of ObjectClasses)) line) d e) h
+line_on false false false n t line h = later n t.classes h
+
+pub record HasSoundClasses (t : SchemaTextModel) : Type 0 where
+  pub before : ℕ
+  pub are_sound : AreSound before t.classes
+
+lines_on : (t : SchemaTextModel) (n : ℕ) (ls : List (List ℕ)) → AreSound n t.classes → HasSoundClasses (read_from t n ls)
+lines_on t n [] h = record { before = n; are_sound = h }
+lines_on t n (l ∷ ls) h = lines_on (with_line t n l) (n + 1) ls (line_on (is_skipped l) (is_headed AttributeTypes l) (is_headed ObjectClasses l) n t l h)
+
+pub classes_are_sound : (text : List ℕ) → HasSoundClasses (read_text text)
+classes_are_sound text =
+    let h = lines_on nothing 1 (lines_of text) (record { worded = tt; below = tt; rising = tt }) in
+    record { before = h.before; are_sound = h.are_sound }

@@ -1,2 +1,4 @@
 pub mod PrintedRead
 pub mod Ruled
+pub mod MeaningNames
+pub mod Chains

@@ -1,9 +1,12 @@
-//! Laws of schemas that are read: what is printed of a name is read again, and the rules of the built-in types are of one family.
+//! Laws of schemas that are read: what is printed of a name is read again, names are one where they mean one, the rules of a type are of one
+//! family and inherited along its SUPs, and loops and missing superclasses are those of the chains.
 //! Nothing flows in or out; how texts, schemas, names and values are read is not here.
 #![tactic(auto)]
 
+mod chaining;
 mod naming;
 mod ruling;
 
-pub use naming::{printed_is_read, read_names_are_read_again};
-pub use ruling::built_in_rules_are_of_one_family;
+pub use chaining::{effects_are_inherited, loops_lead_back, missing_are_above};
+pub use naming::{names_are_one_by_meaning, printed_is_read, read_names_are_read_again};
+pub use ruling::{built_in_rules_are_of_one_family, read_types_are_of_one_family};

@@ -1,7 +1,10 @@
-// Laws of printed names. Nothing flows in or out.
+// Laws of names: printed and read again, and told apart by what they mean. Nothing flows in or out.
 // What must not be here: how names are printed and read.
 
+ghost use Rattle.schema_laws.specs.MeaningNames.{NamesAreOneByMeaning};
 ghost use Rattle.schema_laws.specs.PrintedRead.{PrintedIsRead, ReadNamesAreReadAgain};
+
+use ldap_dn::{keys_compare, name_keys_are_of_names, parts_compare};
 
 /// What is printed of a name of the schema's types is read as that name, its spelling too.
 pub fn printed_is_read()
@@ -12,3 +15,13 @@ pub fn printed_is_read()
 pub fn read_names_are_read_again()
     ensures { ReadNamesAreReadAgain }
 {}
+
+/// Two names that were read under one schema are one name exactly where they have as many relative names and those at one place are
+/// equal as sets of types with what their values mean.
+pub fn names_are_one_by_meaning()
+    ensures { NamesAreOneByMeaning }
+{
+    keys_compare();
+    parts_compare();
+    name_keys_are_of_names();
+}

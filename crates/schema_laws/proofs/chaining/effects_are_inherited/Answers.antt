@@ -1,0 +1,8 @@
+use Rattle.schema_laws.proofs.InEffect.{effects_are_inherited, types_have_what_is_in_effect}
+use Rattle.schema_laws.proofs.chaining.effects_are_inherited.Goals as goal
+
+pub returns-clause-effects : goal.returns-clause-effects
+returns-clause-effects c = effects_are_inherited
+
+pub returns-clause-types : goal.returns-clause-types
+returns-clause-types c = types_have_what_is_in_effect
