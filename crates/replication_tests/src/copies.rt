@@ -45,6 +45,11 @@ fn messages_of_two_numbers_are_copied(rt: HostRuntime) -> Result<(), AllocError>
         commit_number: 2,
     };
     assert!(rt; is_copied(rt.alloc(), message, &[COMMIT, 3, 2])?);
+    let message = PeerMessage::GetState {
+        view_number: 3,
+        commit_number: 2,
+    };
+    assert!(rt; is_copied(rt.alloc(), message, &[GET_STATE, 3, 2])?);
     Ok(())
 }
 
@@ -53,8 +58,6 @@ fn messages_of_one_number_are_copied(rt: HostRuntime) -> Result<(), AllocError> 
     let alloc = rt.alloc();
     let message = PeerMessage::StartViewChange { view_number: 4 };
     assert!(rt; is_short(alloc, message, [START_VIEW_CHANGE, 4])?);
-    let message = PeerMessage::GetState { view_number: 3 };
-    assert!(rt; is_short(alloc, message, [GET_STATE, 3])?);
     let message = PeerMessage::Recovery { nonce: 6 };
     assert!(rt; is_short(alloc, message, [RECOVERY, 6])?);
     Ok(())
@@ -77,9 +80,10 @@ fn a_state_is_copied(rt: HostRuntime) -> Result<(), AllocError> {
     let alloc = rt.alloc();
     let message = PeerMessage::NewState {
         view_number: 3,
-        held: held(alloc)?,
+        base: 6,
+        tail: held(alloc)?,
     };
-    let want = [NEW_STATE, 3, 2, 0, 0, 7, 1, 97, 2, 1, 8, 5, 98, 99, 1];
+    let want = [NEW_STATE, 3, 6, 2, 0, 0, 7, 1, 97, 2, 1, 8, 5, 98, 99, 1];
     assert!(rt; is_copied(alloc, message, want.as_slice())?);
     Ok(())
 }

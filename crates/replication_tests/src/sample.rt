@@ -187,12 +187,15 @@ fn numbers(alloc: Global, message: &PeerMessage<Text>) -> Result<Vec<u64>, Alloc
         PeerMessage::StartView { view_number, held } => {
             with_held(alloc, &[START_VIEW, *view_number], Some(held))
         }
-        PeerMessage::GetState { view_number } => {
-            Vec::from_slice(alloc, &[GET_STATE, *view_number])
-        }
-        PeerMessage::NewState { view_number, held } => {
-            with_held(alloc, &[NEW_STATE, *view_number], Some(held))
-        }
+        PeerMessage::GetState {
+            view_number,
+            commit_number,
+        } => Vec::from_slice(alloc, &[GET_STATE, *view_number, *commit_number]),
+        PeerMessage::NewState {
+            view_number,
+            base,
+            tail,
+        } => with_held(alloc, &[NEW_STATE, *view_number, *base], Some(tail)),
         PeerMessage::Recovery { nonce } => Vec::from_slice(alloc, &[RECOVERY, *nonce]),
         PeerMessage::RecoveryResponse { nonce, response } => with_held(
             alloc,

@@ -16,6 +16,6 @@ mod suspect;
 
 pub use beat::beat_changing;
 pub use do_view_change::on_do_view_change;
-pub use start_view::{on_start_view, take_over};
+pub use start_view::on_start_view;
 pub use start_view_change::on_start_view_change;
 pub use suspect::{GREATEST_VIEW, on_suspect};

@@ -33,7 +33,7 @@ pub fn on_start_view<P: Payload>(
 }
 
 /// Adopts a log of this view and tells its primary how much that is. At an error nothing has changed.
-pub fn take_over<P: Payload>(
+fn take_over<P: Payload>(
     alloc: Global,
     replica: &mut Replica<P>,
     view_number: u64,

@@ -33,14 +33,27 @@ chosen : {P : Type 0} (r : State P) (b : Bool) (xs ys : List (Send P)) → sendi
 chosen r true xs ys = refl
 chosen r false xs ys = refl
 
+-- a choice of logs has committed as much
+commit_of : {P : Type 0} (e : Entry P) (r : State P) (b : Bool) → (cond b (append e r) r).commit_number ≡ r.commit_number
+commit_of e r true = refl
+commit_of e r false = refl
+
 -- A PREPARE that is taken in and answered, from its parts.
-pub prepared_is : {P : Type 0} (from v p x held : ℕ) (e : Entry P) (r mid new : State P) (sends : List (Send P)) (replies : List Reply) → new ≡ commit_to x mid → mid ≡ take_in e p r → held ≡ cond (p == length r.log + 1) p (length r.log) → sends ≡ cond (nat_le p held) (send_to from (PrepareOk v held) ∷ []) (send_to from (GetState v) ∷ []) → replies ≡ [] → ◌≡◌ {A = Outcome P} (record { state = new; sends = sends; replies = replies }) (answer_prepare from v p (commit_to x (take_in e p r)))
-prepared_is {P} from v p x held e r mid new sends replies hn hm hh hs hr =
-    let w : held ≡ length (take_in e p r).log = hh ∙ sym (held_is e p r (p == length r.log + 1) refl) in
+pub prepared_is : {P : Type 0} (from v p x held k : ℕ) (e : Entry P) (r mid new : State P) (sends : List (Send P)) (replies : List Reply) → new ≡ commit_to x mid → mid ≡ take_in e p r → held ≡ cond (p == length r.log + 1) p (length r.log) → k ≡ max r.commit_number (min x held) → sends ≡ cond (nat_le p held) (send_to from (PrepareOk v held) ∷ []) (send_to from (GetState v k) ∷ []) → replies ≡ [] → ◌≡◌ {A = Outcome P} (record { state = new; sends = sends; replies = replies }) (answer_prepare from v p (commit_to x (take_in e p r)))
+prepared_is {P} from v p x held k e r mid new sends replies hn hm hh hk hs hr =
     let s : new ≡ commit_to x (take_in e p r) = hn ∙ ap (commit_to x) hm in
-    let m : sends ≡ cond (nat_le p (length (take_in e p r).log)) (send_to from (PrepareOk v (length (take_in e p r).log)) ∷ []) (send_to from (GetState v) ∷ []) = hs ∙ ap (λ (k : ℕ). cond (nat_le p k) (send_to from (PrepareOk v k) ∷ []) (send_to from (GetState v) ∷ [])) w in
-    let made : ◌≡◌ {A = Outcome P} (record { state = new; sends = sends; replies = replies }) (sending (commit_to x (take_in e p r)) (cond (nat_le p (length (take_in e p r).log)) (send_to from (PrepareOk v (length (take_in e p r).log)) ∷ []) (send_to from (GetState v) ∷ []))) = λ j. record { state = s j; sends = m j; replies = hr j } in
+    let made : ◌≡◌ {A = Outcome P} (record { state = new; sends = sends; replies = replies }) (sending (commit_to x (take_in e p r)) (cond (nat_le p (length (take_in e p r).log)) (send_to from (PrepareOk v (length (take_in e p r).log)) ∷ []) (send_to from (GetState v (commit_to x (take_in e p r)).commit_number) ∷ []))) = λ j. record { state = s j; sends = asked j; replies = hr j } in
     made ∙ chosen (commit_to x (take_in e p r)) (nat_le p (length (take_in e p r).log)) _ _
+  where
+    long : held ≡ length (take_in e p r).log
+    long = hh ∙ sym (held_is e p r (p == length r.log + 1) refl)
+
+    by_then : k ≡ max (take_in e p r).commit_number (min x held)
+    by_then = hk ∙ ap (λ (y : ℕ). max y (min x held)) (sym (commit_of e r (p == length r.log + 1)))
+
+    asked : sends ≡ cond (nat_le p (length (take_in e p r).log)) (send_to from (PrepareOk v (length (take_in e p r).log)) ∷ []) (send_to from (GetState v (commit_to x (take_in e p r)).commit_number) ∷ [])
+    asked = hs ∙ ap (λ (y : ℕ). cond (nat_le p held) (send_to from (PrepareOk v held) ∷ []) (send_to from (GetState v y) ∷ [])) by_then
+        ∙ ap (λ (y : ℕ). cond (nat_le p y) (send_to from (PrepareOk v y) ∷ []) (send_to from (GetState v (max (take_in e p r).commit_number (min x y))) ∷ [])) long
 
 -- a choice of logs is of one view
 view_of : {P : Type 0} (e : Entry P) (r : State P) (b : Bool) → (cond b (append e r) r).view_number ≡ r.view_number

@@ -1,6 +1,6 @@
 -- The rules of the normal case, at a replica with its count and index. In: a replica and what comes. Out: the step that the
 -- definition of vr_state has. No rule is made here.
-use Rattle.std.specs.Prelude.{ℕ, ◌-◌, ◌/◌, max, cond, nat_le, nat_lt, List, [], ◌∷◌, length, slice_get, slice_index, slice_set}
+use Rattle.std.specs.Prelude.{ℕ, ◌-◌, ◌/◌, max, cond, nat_le, List, [], ◌∷◌, length, slice_get, slice_index, slice_set}
 use Rattle.vr_state.specs.declared.replica.Replica.{Replica}
 use Rattle.vr_state.specs.State.{State}
 use Rattle.vr_state.specs.declared.words.Entry.{Entry}
@@ -31,10 +31,10 @@ on_prepare_at r from v e p x = rules.on_prepare r.count r.index (state r) from v
 abbrev pub taken_in_at : {P : Type 0} → Replica P → ℕ → ℕ → Entry P → ℕ → ℕ → Outcome P
 taken_in_at r from v e p x = rules.answer_prepare from v p (commit_to x (rules.take_in e p (state r)))
 
--- The answer to a PREPARE for place p of a backup that has so many records (VRR 4.1, step 4; 5.2).
-abbrev pub acknowledge_or_ask : {P : Type 0} → ℕ → ℕ → ℕ → ℕ → List (Send P)
-acknowledge_or_ask from v p held =
-    cond (nat_le p held) (send_to from (PrepareOk v held) ∷ []) (send_to from (GetState v) ∷ [])
+-- The answer to a PREPARE for place p of a backup that has so many records, k of them committed (VRR 4.1, step 4; 5.2).
+abbrev pub acknowledge_or_ask : {P : Type 0} → ℕ → ℕ → ℕ → ℕ → ℕ → List (Send P)
+acknowledge_or_ask from v p held k =
+    cond (nat_le p held) (send_to from (PrepareOk v held) ∷ []) (send_to from (GetState v k) ∷ [])
 
 -- A PREPAREOK(v, p) comes (VRR 4.1, step 5).
 abbrev pub on_prepare_ok_at : {P : Type 0} → Replica P → ℕ → ℕ → ℕ → Outcome P
@@ -67,9 +67,9 @@ acknowledged_at r from p =
 abbrev pub on_commit_at : {P : Type 0} → Replica P → ℕ → ℕ → ℕ → Outcome P
 on_commit_at r from v x = rules.on_commit r.count r.index (state r) from v x
 
--- A GETSTATE, where of x committed records only so many are held (VRR 4.1, step 7).
-abbrev pub ask_if_short : {P : Type 0} → ℕ → ℕ → ℕ → ℕ → List (Send P)
-ask_if_short from v x held = cond (nat_lt held x) (send_to from (GetState v) ∷ []) []
+-- A GETSTATE, where not all of x committed records are held, from those on that are committed once it knows (VRR 4.1, step 7).
+abbrev pub ask_if_short_at : {P : Type 0} → Replica P → ℕ → ℕ → ℕ → List (Send P)
+ask_if_short_at r from v x = (rules.ask_if_short from v x (commit_to x (state r))).sends
 
 -- The primary's timer goes off (VRR 4.1, step 6).
 abbrev pub beat_at : {P : Type 0} → Replica P → Outcome P

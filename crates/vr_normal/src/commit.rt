@@ -1,16 +1,16 @@
 // COMMIT: a backup learns how much is committed.
 // In: the sender, its view and its commit-number. Out: the replica's step by VRR 4.1, steps 6 and 7.
 // No reply is here: only a primary answers clients.
-ghost use Rattle.std.specs.Prelude.{◌≡◌, length, IfOk, OnErr};
-ghost use Rattle.vr_normal.specs.Rules.{ask_if_short, on_commit_at};
+ghost use Rattle.std.specs.Prelude.{◌≡◌, IfOk, OnErr};
+ghost use Rattle.vr_normal.specs.Rules.{ask_if_short_at, on_commit_at};
 ghost use Rattle.vr_state.specs.Views.{state, outcome, view_to_store};
 
 use std::alloc::{AllocError, Global};
-use vr_state::message::{Outputs, PeerMessage, Send};
+use vr_state::message::{Outputs, Send};
 use vr_state::payload::Payload;
 use vr_state::replica::Replica;
-use vr_state::sending::{send_one, sending};
-use vr_state::standing::{commit_to, follows, is_behind};
+use vr_state::sending::{ask_for_state, sending};
+use vr_state::standing::{commit_to, committed, follows, is_behind};
 
 /// What comes with a COMMIT of the replica with index `from`. At an error, which is want of memory, nothing has changed. It
 /// looks at no record.
@@ -28,7 +28,7 @@ pub fn on_commit<P: Payload>(
     ensures count { replica.new.count ≡ replica.old.count }
 {
     if is_behind(replica, view_number) {
-        let sends = send_one(alloc, from, PeerMessage::GetState { view_number })?;
+        let sends = ask_for_state(alloc, from, view_number, replica.commit_number)?;
         Ok(sending(alloc, sends))
     } else if follows(replica, view_number) {
         let sends = ask_if_short(alloc, replica, from, view_number, commit_number)?;
@@ -39,7 +39,8 @@ pub fn on_commit<P: Payload>(
     }
 }
 
-/// A GETSTATE, if the log has fewer records than are committed. Its only error is want of memory.
+/// A GETSTATE, if the log has fewer records than are committed, from those on that are committed here by then. Its only error is
+/// want of memory.
 fn ask_if_short<P: Payload>(
     alloc: Global,
     replica: &Replica<P>,
@@ -47,10 +48,12 @@ fn ask_if_short<P: Payload>(
     view_number: u64,
     commit_number: u64,
 ) -> Result<Vec<Send<P>>, AllocError>
-    ensures { IfOk result (λ sends. sends.items ≡ ask_if_short from view_number commit_number (length replica.now.log)) }
+    ensures { IfOk result (λ sends. sends.items ≡ ask_if_short_at replica.now from view_number commit_number) }
 {
-    if (replica.log.len() as u64) < commit_number {
-        send_one(alloc, from, PeerMessage::GetState { view_number })
+    let held = replica.log.len() as u64;
+    if held < commit_number {
+        let by_then = committed(replica, held, commit_number);
+        ask_for_state(alloc, from, view_number, by_then)
     } else {
         Ok(Vec::new(alloc))
     }

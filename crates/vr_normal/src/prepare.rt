@@ -10,8 +10,8 @@ use std::alloc::{AllocError, Global};
 use vr_state::message::{Outputs, PeerMessage, Send};
 use vr_state::payload::Payload;
 use vr_state::replica::Replica;
-use vr_state::sending::{send_one, sending};
-use vr_state::standing::{commit_to, follows, is_behind};
+use vr_state::sending::{ask_for_state, send_one, sending};
+use vr_state::standing::{commit_to, committed, follows, is_behind};
 use vr_state::words::Entry;
 
 /// What comes with a PREPARE of the replica with index `from`, whose record stands at the place `op_number`. At an error,
@@ -33,7 +33,7 @@ pub fn on_prepare<P: Payload>(
     ensures count { replica.new.count ≡ replica.old.count }
 {
     if is_behind(replica, view_number) {
-        let sends = send_one(alloc, from, PeerMessage::GetState { view_number })?;
+        let sends = ask_for_state(alloc, from, view_number, replica.commit_number)?;
         Ok(sending(alloc, sends))
     } else if follows(replica, view_number) {
         answer_prepare(
@@ -67,7 +67,8 @@ fn answer_prepare<P: Payload>(
     ensures count { replica.new.count ≡ replica.old.count }
 {
     let held = held_with(replica, op_number);
-    let sends = acknowledge_or_ask(alloc, from, view_number, op_number, held)?;
+    let by_then = committed(replica, held, commit_number);
+    let sends = acknowledge_or_ask(alloc, from, view_number, op_number, held, by_then)?;
     take_in(replica, entry, op_number)?;
     commit_to(replica, commit_number);
     Ok(sending(alloc, sends))
@@ -103,23 +104,25 @@ fn take_in<P: Payload>(
     }
 }
 
-/// A PREPAREOK for all that it then has, or a GETSTATE where earlier records are missing. Its only error is want of memory.
+/// A PREPAREOK for all that it then has, or, where earlier records are missing, a GETSTATE from those on that it then has committed.
+/// Its only error is want of memory.
 fn acknowledge_or_ask<P: Payload>(
     alloc: Global,
     from: u64,
     view_number: u64,
     op_number: u64,
     held: u64,
+    commit_number: u64,
 ) -> Result<Vec<Send<P>>, AllocError>
-    ensures { IfOk result (λ sends. sends.items ≡ acknowledge_or_ask from view_number op_number held) }
+    ensures { IfOk result (λ sends. sends.items ≡ acknowledge_or_ask from view_number op_number held commit_number) }
 {
-    let message = if op_number <= held {
-        PeerMessage::PrepareOk {
+    if op_number <= held {
+        let message = PeerMessage::PrepareOk {
             view_number,
             op_number: held,
-        }
+        };
+        send_one(alloc, from, message)
     } else {
-        PeerMessage::GetState { view_number }
-    };
-    send_one(alloc, from, message)
+        ask_for_state(alloc, from, view_number, commit_number)
+    }
 }

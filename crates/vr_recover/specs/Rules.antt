@@ -12,19 +12,32 @@ use Rattle.vr_state.specs.Recovery as recovery
 use Rattle.vr_state.specs.State.{primary, recovering}
 use Rattle.vr_state.specs.StateTransfer as transfer
 use Rattle.vr_state.specs.Step as steps
+use Rattle.vr_state.specs.ViewChange as changes
 use Rattle.vr_state.specs.Views.{state}
 
--- A GETSTATE(v) comes (VRR 5.2).
-abbrev pub get_state_at : {P : Type 0} → Replica P → ℕ → ℕ → Outcome P
-get_state_at r from v = transfer.on_get_state (state r) from v
+-- A GETSTATE(v, x) comes (VRR 5.2).
+abbrev pub get_state_at : {P : Type 0} → Replica P → ℕ → ℕ → ℕ → Outcome P
+get_state_at r from v x = transfer.on_get_state (state r) from v x
 
--- A NEWSTATE(v, l, x) comes (VRR 5.2).
-abbrev pub new_state_at : {P : Type 0} → Replica P → ℕ → Snapshot P → Outcome P
-new_state_at r v held = transfer.on_new_state r.count r.index (state r) v held
+-- It is normal in v and has x records (VRR 5.2).
+abbrev pub can_answer_at : {P : Type 0} → Replica P → ℕ → ℕ → Bool
+can_answer_at r v x = transfer.can_answer (state r) v x
+
+-- A NEWSTATE(v, x, l, k) comes (VRR 5.2).
+abbrev pub new_state_at : {P : Type 0} → Replica P → ℕ → ℕ → ℕ → Snapshot P → Outcome P
+new_state_at r from v x tail = transfer.on_new_state r.count r.index (state r) from v x tail
 
 -- The state is new to it (VRR 5.2).
-abbrev pub is_news_at : {P : Type 0} → Replica P → ℕ → Snapshot P → Bool
-is_news_at r v held = transfer.is_news (state r) v held
+abbrev pub is_news_at : {P : Type 0} → Replica P → ℕ → ℕ → Snapshot P → Bool
+is_news_at r v x tail = transfer.is_news (state r) v x tail
+
+-- News are joined, or asked for again (VRR 5.2).
+abbrev pub take_news_at : {P : Type 0} → Replica P → ℕ → ℕ → ℕ → Snapshot P → Outcome P
+take_news_at r from v x tail = transfer.take_news r.count r.index (state r) from v x tail
+
+-- Its own first x records and the tail are adopted, and acknowledged (VRR 5.2).
+abbrev pub take_joined_at : {P : Type 0} → Replica P → ℕ → ℕ → Snapshot P → Outcome P
+take_joined_at r v x tail = changes.take_over r.count r.index (state r) v (transfer.joined (state r) x tail)
 
 -- A RECOVERY(x) comes (VRR 4.3, step 2).
 abbrev pub recovery_at : {P : Type 0} → Replica P → ℕ → ℕ → Outcome P

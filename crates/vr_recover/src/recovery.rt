@@ -52,10 +52,7 @@ fn copy_if_primary<P: Payload>(
 }
 
 /// The log and how much of it is committed, in memory of its own. Its only error is want of memory.
-pub fn copy_state<P: Payload>(
-    alloc: Global,
-    replica: &Replica<P>,
-) -> Result<Snapshot<P>, AllocError>
+fn copy_state<P: Payload>(alloc: Global, replica: &Replica<P>) -> Result<Snapshot<P>, AllocError>
     ensures { IfOk result (λ held. held ≡ snapshot (state replica.now)) }
 {
     let log = replica.log.copy(alloc)?;

@@ -135,10 +135,15 @@ fn on_peer_message<P: Payload>(
         PeerMessage::StartView { view_number, held } => {
             on_start_view(alloc, replica, view_number, held)
         }
-        PeerMessage::GetState { view_number } => on_get_state(alloc, replica, from, view_number),
-        PeerMessage::NewState { view_number, held } => {
-            on_new_state(alloc, replica, view_number, held)
-        }
+        PeerMessage::GetState {
+            view_number,
+            commit_number,
+        } => on_get_state(alloc, replica, from, view_number, commit_number),
+        PeerMessage::NewState {
+            view_number,
+            base,
+            tail,
+        } => on_new_state(alloc, replica, from, view_number, base, tail),
         PeerMessage::Recovery { nonce } => on_recovery(alloc, replica, from, nonce),
         PeerMessage::RecoveryResponse { nonce, response } => {
             on_recovery_response(alloc, replica, from, nonce, response)

@@ -1,9 +1,9 @@
 // The client table: each client's latest record, found without a walk of the log.
 // In: records as they are appended, or a whole log that is adopted. Out: the latest record of a client.
 // The table is a function of the log: what it should have is in specs/ClientTable.
-ghost use Rattle.std.specs.Prelude.{◌≡◌, IfOk, OnOk, OnErr};
+ghost use Rattle.std.specs.Prelude.{◌≡◌, ◌<◌, ◌^◌, ◌++◌, length, IfOk, OnOk, OnErr};
 ghost use Rattle.std.specs.FinMap as map;
-ghost use Rattle.vr_state.specs.ClientTable.{IsTableOf, GoesOnWith};
+ghost use Rattle.vr_state.specs.ClientTable.{IsTableOf, GoesOnWith, GoesOnWithAll};
 
 use crate::log::Log;
 use crate::words::{Client, Entry, Latest};
@@ -72,9 +72,37 @@ impl ClientTable {
     pub fn of_log<P: Drop>(alloc: Global, log: &Log<P>) -> Result<Self, AllocError>
         ensures { IfOk result (λ table. IsTableOf table log.now) }
     {
-        let mut table = ClientTable::new(alloc);
-        let mut op_number = 0;
-        for entry in log.as_slice() {
+        ClientTable::of_records(alloc, log.as_slice())
+    }
+
+    /// The table of a log that is joined of two parts, which stay where they are. Its only error is want of memory.
+    pub fn of_parts<P: Drop>(
+        alloc: Global,
+        first: &[Entry<P>],
+        then: &[Entry<P>],
+    ) -> Result<Self, AllocError>
+        requires { length first.now < 2 ^ 63 }
+        ensures { IfOk result (λ table. IsTableOf table (first.now ++ then.now)) }
+    {
+        ClientTable::of_records(alloc, first)?.noting_all(then, first.len() as u64)
+    }
+
+    /// The table of these records. Its only error is want of memory.
+    fn of_records<P: Drop>(alloc: Global, entries: &[Entry<P>]) -> Result<Self, AllocError>
+        ensures { IfOk result (λ table. IsTableOf table entries.now) }
+    {
+        ClientTable::new(alloc).noting_all(entries, 0)
+    }
+
+    /// The table once these records are appended to a log that has so many. Its only error is want of memory; the table is gone
+    /// then.
+    fn noting_all<P: Drop>(self, entries: &[Entry<P>], before: u64) -> Result<Self, AllocError>
+        requires { before < 2 ^ 63 }
+        ensures { IfOk result (λ table. GoesOnWithAll self table entries.now before) }
+    {
+        let mut table = self;
+        let mut op_number = before;
+        for entry in entries {
             op_number += 1;
             table.note(entry, op_number)?;
         }

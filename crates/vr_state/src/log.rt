@@ -1,6 +1,7 @@
 // A log: the records of a replica in their order, seen as a list.
-// In: records, one after another. Out: the records at their places, counted from 1. A record is taken out only to undo a push.
-ghost use Rattle.std.specs.Prelude.{◌≡◌, ◌<◌, ◌^◌, ◌↔◌, [], ◌∷◌, ◌++◌, length, IsTrue, IfOk, IfSome, IfNone, OnOk, OnErr};
+// In: records, one after another. Out: the records at their places, counted from 1. Records are taken out only to undo a push, or
+// where others take their places.
+ghost use Rattle.std.specs.Prelude.{◌≡◌, ◌<◌, ◌≤◌, ◌^◌, ◌↔◌, [], ◌∷◌, ◌++◌, length, take, drop, IsTrue, IfOk, IfSome, IfNone, OnOk, OnErr};
 
 use crate::payload::Payload;
 use crate::words::Entry;
@@ -77,6 +78,19 @@ impl<P: Drop> Log<P> {
         Ok(())
     }
 
+    /// Puts these records in the place of all after the first `base`, which stay where they are. It moves the new records alone. At
+    /// an error the log is unchanged.
+    pub fn replace_after(&mut self, base: usize, mut tail: Log<P>) -> Result<(), AllocError>
+        ensures ok { OnOk result (self.new ≡ take base self.old ++ tail) }
+        ensures err { OnErr result (self.new ≡ self.old) }
+    {
+        let held = self.entries.len();
+        let room = held.min(base) + tail.entries.len();
+        self.entries.reserve(room.saturating_sub(held))?;
+        self.entries.truncate(base);
+        self.entries.append(&mut tail.entries)
+    }
+
     /// Takes the last record back out, as after a push whose sequel was refused memory.
     pub fn pop(&mut self) -> Option<Entry<P>>
         ensures some { IfSome result (λ entry. self.old ≡ self.new ++ entry ∷ []) }
@@ -91,10 +105,30 @@ impl<P: Payload> Log<P> {
     pub fn copy(&self, alloc: Global) -> Result<Self, AllocError>
         ensures { IfOk result (λ copied. copied ≡ self.now) }
     {
-        let mut entries = Vec::new(alloc);
-        for entry in &self.entries {
-            entries.push(entry.copy(alloc)?)?;
-        }
+        let entries = copy_records(alloc, self.entries.as_slice())?;
         Ok(Log { entries })
     }
+
+    /// The records after the first `base`, in memory of their own. Its only error is want of memory.
+    pub fn copy_after(&self, alloc: Global, base: usize) -> Result<Self, AllocError>
+        requires { base ≤ length self.now }
+        ensures { IfOk result (λ copied. copied ≡ drop base self.now) }
+    {
+        let entries = copy_records(alloc, &self.entries.as_slice()[base..])?;
+        Ok(Log { entries })
+    }
+}
+
+/// Equal records in memory of their own. Its only error is want of memory.
+fn copy_records<P: Payload>(
+    alloc: Global,
+    records: &[Entry<P>],
+) -> Result<Vec<Entry<P>>, AllocError>
+    ensures { IfOk result (λ copied. copied.items ≡ records.now) }
+{
+    let mut entries = Vec::new(alloc);
+    for entry in records {
+        entries.push(entry.copy(alloc)?)?;
+    }
+    Ok(entries)
 }

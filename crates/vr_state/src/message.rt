@@ -63,14 +63,16 @@ pub enum PeerMessage<P> {
         view_number: u64,
         held: Snapshot<P>,
     },
-    /// The sender lacks records of this view (VRR 5.2).
+    /// The sender lacks records of this view, and has so many committed (VRR 5.2).
     GetState {
         view_number: u64,
+        commit_number: u64,
     },
-    /// The sender's log in this view (VRR 5.2).
+    /// The sender's log in this view without its first `base` records, and how much of the whole is committed (VRR 5.2).
     NewState {
         view_number: u64,
-        held: Snapshot<P>,
+        base: u64,
+        tail: Snapshot<P>,
     },
     /// The sender recovers (VRR 4.3, step 1).
     Recovery {

@@ -1,7 +1,7 @@
 // A replica: its state, the table beside its log, and who it is.
 // In: an index and a count, records, logs. Out: a replica at its start or after a crash, and its log with the table of it.
 // The steps stand in the crates above, and what each must do in specs/.
-ghost use Rattle.std.specs.Prelude.{◌≡◌, ◌<◌, length, IfOk, OnOk, OnErr};
+ghost use Rattle.std.specs.Prelude.{◌≡◌, ◌<◌, ◌≤◌, ◌++◌, length, take, IfOk, OnOk, OnErr};
 ghost use Rattle.vr_state.specs.ClientTable.{IsTableOf};
 
 use crate::client_table::ClientTable;
@@ -44,6 +44,7 @@ impl<P: Drop> Replica<P> {
     ghost use Rattle.vr_state.specs.State.{first, recovering};
     ghost use Rattle.vr_state.specs.Views.{state};
     ghost use Rattle.vr_state.specs.NormalCase.{append};
+    ghost use Rattle.vr_state.specs.StateTransfer.{joined};
     ghost use Rattle.vr_state.specs.ViewChange.{adopt};
 
     /// The replica at the start of a cluster: normal in view 0, with nothing. Its only error is want of memory.
@@ -152,5 +153,50 @@ impl<P: Drop> Replica<P> {
         self.do_view_changes = Vec::new(alloc);
         self.responses = Vec::new(alloc);
         Ok(())
+    }
+
+    /// Is normal in this view with its own first `base` records and this tail for its log, and commits what is committed of it. They
+    /// are joined in place: its own records stay where they are. The client table is made anew, by one walk of both parts, before
+    /// anything changes. At an error nothing has changed.
+    pub fn adopt_tail(
+        &mut self,
+        alloc: Global,
+        view_number: u64,
+        base: u64,
+        tail: Snapshot<P>,
+    ) -> Result<(), AllocError>
+        ensures ok { OnOk result (state self.new ≡ adopt self.old.count view_number (joined (state self.old) base tail) (state self.old)) }
+        ensures err { OnErr result (state self.new ≡ state self.old) }
+        ensures index { self.new.index ≡ self.old.index }
+        ensures count { self.new.count ≡ self.old.count }
+    {
+        let Snapshot { log, commit_number } = tail;
+        let base = self.log.len().min(base as usize);
+        let joined_table = self.table_joined(alloc, base, &log)?;
+        self.log.replace_after(base, log)?;
+        let joined = self.log.len() as u64;
+        self.view_number = view_number;
+        self.status = Status::Normal;
+        self.last_normal_view = view_number;
+        self.commit_number = self.commit_number.max(commit_number.min(joined));
+        self.client_table = joined_table;
+        self.acknowledged.fill(0);
+        self.start_view_changes = Vec::new(alloc);
+        self.do_view_changes = Vec::new(alloc);
+        self.responses = Vec::new(alloc);
+        Ok(())
+    }
+
+    /// The client table of its own first `base` records and these. Its only error is want of memory.
+    fn table_joined(
+        &self,
+        alloc: Global,
+        base: usize,
+        tail: &Log<P>,
+    ) -> Result<ClientTable, AllocError>
+        requires { base ≤ length self.now.log }
+        ensures { IfOk result (λ table. IsTableOf table (take base self.now.log ++ tail.now)) }
+    {
+        ClientTable::of_parts(alloc, &self.log.as_slice()[..base], tail.as_slice())
     }
 }

@@ -137,8 +137,8 @@ candidate_is n stored given ms size sound (Commit v x) = inl refl
 candidate_is n stored given ms size sound (StartViewChange v) = inl refl
 candidate_is n stored given ms size sound (DoViewChange v c) = inl refl
 candidate_is n stored given ms size sound (StartView v held) = inl refl
-candidate_is n stored given ms size sound (GetState v) = inl refl
-candidate_is n stored given ms size sound (NewState v held) = inl refl
+candidate_is n stored given ms size sound (GetState v y) = inl refl
+candidate_is n stored given ms size sound (NewState v y tail) = inl refl
 candidate_is n stored given ms size sound (Recovery x) = inl refl
 candidate_is n stored given ms size sound (RecoveryResponse x a) = inl refl
 

@@ -1,6 +1,6 @@
 -- What holds of each world: n replicas, stored views, the messages ms. In: the definitions. Out: the invariant, as records
 -- over components. It is explained in docs/REPLICATION.md, section 4. Nothing is proved here.
-use Rattle.std.proofs.Common.{◌≡◌, ℕ, suc, ◌/◌, ◌<◌, ◌≤◌, ◌≢◌, ◌==◌, Bool, true, ◌⊎◌, List, [], ◌∷◌, length, Option, Some, None, slice_index}
+use Rattle.std.proofs.Common.{◌≡◌, ℕ, suc, ◌/◌, ◌<◌, ◌≤◌, ◌≢◌, ◌==◌, Bool, true, ◌⊎◌, List, [], ◌∷◌, length, drop, Option, Some, None, slice_index}
 use Rattle.std.specs.List.{list_any}
 use Rattle.vr_state.specs.Lists.{IsPrefix, In, Rising, EntryAt}
 use Rattle.vr_state.specs.Outcome.{indices, count, noted}
@@ -42,6 +42,13 @@ pub record IsLogOf {P : Type 0} (ms : List (Message P)) (v : ℕ) (l : List (Ent
   pub started : Started v ms
   pub within : IsPrefix l (listed v ms)
   pub whole : length (start_log v ms) ≤ length l
+
+-- the end of a log of view v, without its first x records
+pub record IsTailOf {P : Type 0} (ms : List (Message P)) (v x : ℕ) (tail : List (Entry P)) : Type 0 where
+  pub log : List (Entry P)
+  pub is_log : IsLogOf ms v log
+  pub short : x ≤ length log
+  pub is : tail ≡ drop x log
 
 -- r has said that it has q records of v, or leads v and the list has as many
 abbrev pub Owes : {P : Type 0} → ℕ → List (Message P) → ℕ → ℕ → ℕ → Type 0
@@ -125,8 +132,8 @@ BodyFact n stored given ms from to (Commit v x) = IsCommitted n ms v x
 BodyFact n stored given ms from to (StartViewChange v) = Unit {0}
 BodyFact n stored given ms from to (DoViewChange v c) = ChangeFact n stored ms v from c
 BodyFact n stored given ms from to (StartView v held) = StartViewFact n stored ms from v held
-BodyFact n stored given ms from to (GetState v) = Unit {0}
-BodyFact n stored given ms from to (NewState v held) = IsLogOf ms v held.log × IsCommitted n ms v held.commit_number
+BodyFact n stored given ms from to (GetState v x) = Unit {0}
+BodyFact n stored given ms from to (NewState v x tail) = IsTailOf ms v x tail.log × IsCommitted n ms v tail.commit_number
 BodyFact n stored given ms from to (Recovery x) = IsUsed x (given.used from)
 BodyFact n stored given ms from to (RecoveryResponse x a) = IsUsed x (given.used to) × HeldFact n ms a.view_number a.held
 

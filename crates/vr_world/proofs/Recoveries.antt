@@ -53,8 +53,8 @@ module _ {P : Type 0} (n : ℕ) (past : ℕ → List (Entry P)) where
           go (StartViewChange v) f = tt
           go (DoViewChange v c) f = tt
           go (StartView v held) f = tt
-          go (GetState v) f = tt
-          go (NewState v held) f = tt
+          go (GetState v y) f = tt
+          go (NewState v y tail) f = tt
           go (Recovery y) f = tt
 
       settled : (list_any (λ y. y == x) (w.nonces i) ≡ false) → Invariant n (put i (Some (recovering n view x)) w.replicas) stored' new w.messages

@@ -35,8 +35,8 @@ module _ {P : Type 0} (n : ℕ) (size : IsSize n) (replicas : ℕ → Option (St
       let f = inv.sound.messages (enveloped from i (StartView v held)) s in
       start_view_fine n size replicas stored given ms inv i r up v held
       (record { started = f.started; within = subst (λ l. IsPrefix l (listed v ms)) (sym f.log) (start_log_within v ms); whole = le_of_eq (ap length (sym f.log)) }) f.commit_number
-  peer_fine from (GetState v) apart s = get_state_fine n size replicas stored given ms inv i r up from v
-  peer_fine from (NewState v held) apart s = let f = inv.sound.messages (enveloped from i (NewState v held)) s in new_state_fine n size replicas stored given ms inv i r up v held f.0 f.1
+  peer_fine from (GetState v x) apart s = get_state_fine n size replicas stored given ms inv i r up from v x
+  peer_fine from (NewState v x tail) apart s = let f = inv.sound.messages (enveloped from i (NewState v x tail)) s in new_state_fine n size replicas stored given ms inv i r up from v x tail f.0 f.1
   peer_fine from (Recovery x) apart s = recovery_fine n size replicas stored given ms inv i r up from x (inv.sound.messages (enveloped from i (Recovery x)) s)
   peer_fine from (RecoveryResponse x a) apart s = response_fine n size replicas stored given ms inv i r up from x a apart s
 

@@ -2,10 +2,12 @@
 -- Out: its lines in order, one refl a script. Nothing else is proved here.
 use Rattle.std.proofs.Common.{◌≡◌, ℕ, ◌-◌, List, [], ◌∷◌, ◌++◌, length, take, Option, Some, None, refl}
 use Rattle.vr_state.specs.State.{State}
+use Rattle.vr_state.specs.declared.message.PeerMessage.{PeerMessage}
 use Rattle.vr_state.specs.declared.words.Entry.{Entry}
 use Rattle.vr_state.specs.declared.words.Status.{Status}
 use Rattle.vr_world.specs.Committed.{committed}
-use Rattle.vr_world.specs.World.{World, WorldEvent, ReplyBy, happens, start, after}
+use Rattle.vr_world.specs.World.{World, WorldEvent, Message, ReplyBy, happens, start, after, sent_as}
+use Rattle.vr_state.specs.declared.message.PeerMessage.TheVariants.{NewState}
 use Rattle.vr_state.specs.declared.words.Status.TheVariants.{Normal, Recovering}
 use Rattle.vr_world.specs.declared.events.WorldEvent.TheVariants.{Request, Deliver, Suspect, Beat, Crash, Recover}
 
@@ -71,10 +73,15 @@ old_view_commits : printed 3 (start 3) (ask 0 7 1 ∷ DeliverAll (1 ∷ []) ∷ 
     ≡ Replied 1 7 1 1 ∷ Replied 0 7 1 1 ∷ IsIn 0 0 Normal 1 1 ∷ IsIn 0 1 Normal 1 1 ∷ IsIn 1 1 Normal 1 1 ∷ []
 old_view_commits = refl
 
--- A backup that misses a record gets the whole state, and acknowledges all of it.
+-- A backup that misses records gets all from its commit-number on, here from the first, and acknowledges all of it.
 missing_record : printed 3 (start 3) (ask 0 7 1 ∷ ask 0 7 2 ∷ DeliverAll (4 ∷ 5 ∷ 6 ∷ 7 ∷ []) ∷ Look 2 ∷ [])
     ≡ Replied 0 7 1 1 ∷ Replied 0 7 2 2 ∷ IsIn 2 0 Normal 2 0 ∷ []
 missing_record = refl
+
+-- A backup that has one record committed and misses the second asks from there on: message 11 has records 2 and 3.
+tail_alone : printed 3 (start 3) (ask 0 7 1 ∷ DeliverAll (2 ∷ 3 ∷ []) ∷ Do (Beat 0) ∷ DeliverAll (5 ∷ []) ∷ ask 0 7 2 ∷ ask 0 7 3 ∷ DeliverAll (9 ∷ 10 ∷ []) ∷ Look 2 ∷ DeliverAll (11 ∷ []) ∷ Look 2 ∷ DeliverAll (12 ∷ []) ∷ [])
+    ≡ Replied 0 7 1 1 ∷ IsIn 2 0 Normal 1 1 ∷ IsIn 2 0 Normal 3 1 ∷ Replied 0 7 2 2 ∷ Replied 0 7 3 3 ∷ []
+tail_alone = refl
 
 -- A replica that left a view before it crashed doesn't recover into it: the stored view keeps its promise.
 promise_outlives_crash : printed 3 (start 3) (ask 0 7 1 ∷ Do (Suspect 2) ∷ Do (Crash 2) ∷ Do (Recover 2 5) ∷ DeliverAll (5 ∷ 6 ∷ 7 ∷ 8 ∷ []) ∷ Look 2 ∷ DeliverAll (4 ∷ 9 ∷ 13 ∷ []) ∷ Do (Beat 2) ∷ DeliverAll (14 ∷ 16 ∷ 17 ∷ 19 ∷ 20 ∷ []) ∷ Look 2 ∷ DeliverAll (18 ∷ []) ∷ [])
@@ -96,3 +103,22 @@ committed_before = refl
 
 committed_after : committed 3 (after 3 (Request 0 one ∷ Deliver 1 ∷ [])).messages ≡ one ∷ []
 committed_after = refl
+
+-- The records of the schedule whose tail goes alone.
+abbrev numbered : ℕ → Entry ℕ
+numbered s = record { client = record { home = 0; life = 0; number = 7 }; request_number = s; payload = 5 }
+
+-- what a NEWSTATE holds
+abbrev of_body : PeerMessage ℕ → Option (ℕ × List (Entry ℕ))
+of_body (NewState v x tail) = Some (x, tail.log)
+of_body _ = None
+
+-- What a NEWSTATE that was sent holds: how many records come before the tail, and the tail.
+abbrev tail_in : Option (Message ℕ) → Option (ℕ × List (Entry ℕ))
+tail_in (Some m) = of_body m.body
+tail_in None = None
+
+-- Message 11 has the two records after the first.
+two_records : tail_in (sent_as 11 (after 3 (Request 0 (numbered 1) ∷ Deliver 2 ∷ Deliver 3 ∷ Beat 0 ∷ Deliver 5 ∷ Request 0 (numbered 2) ∷ Request 0 (numbered 3) ∷ Deliver 9 ∷ Deliver 10 ∷ [])).messages)
+    ≡ Some (1, numbered 2 ∷ numbered 3 ∷ [])
+two_records = refl
