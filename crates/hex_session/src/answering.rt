@@ -10,7 +10,7 @@ ghost use Rattle.hex_session.specs.Answered.{HasPut, HasWorked, HasFailed, HasFl
 use crate::fault::LineFault;
 use crate::line::Line;
 use crate::lines::{next_piece, write_lines};
-use ldap_session::{Answered, Config, Gate, Next, Session, SessionEnd};
+use ldap_session::{Answered, Config, Directory, Next, Session, SessionEnd};
 use std::alloc::Global;
 use std::io::{BufRead, Write};
 
@@ -36,7 +36,7 @@ fn put_answered<W: Write>(
 }
 
 /// Answers all whole messages that are there.
-fn answer_ready<W: Write, D: Gate>(
+fn answer_ready<W: Write, D: Directory>(
     alloc: Global,
     session: &mut Session,
     config: &Config,
@@ -74,7 +74,7 @@ fn flushed<W: Write>(output: &mut W, next: Next) -> Result<Next, LineFault>
 }
 
 /// Answers the messages that a piece of the stream completes.
-fn answer_piece<W: Write, D: Gate>(
+fn answer_piece<W: Write, D: Directory>(
     alloc: Global,
     session: &mut Session,
     piece: &[u8],
@@ -97,7 +97,7 @@ fn answer_piece<W: Write, D: Gate>(
 }
 
 /// Answers what the next line is.
-fn answer_line<W: Write, D: Gate>(
+fn answer_line<W: Write, D: Directory>(
     alloc: Global,
     session: &mut Session,
     line: Line,
@@ -125,7 +125,7 @@ fn answer_line<W: Write, D: Gate>(
 
 /// Answers an input line by line, up to its end or what ends the session: each line is a piece of the stream in hex, each response a line;
 /// empty lines are skipped. What is written is flushed before the next line is read. The 18446744073709551615th line counts as one that can't be read.
-pub fn answer_lines<R: BufRead, W: Write, D: Gate>(
+pub fn answer_lines<R: BufRead, W: Write, D: Directory>(
     alloc: Global,
     config: &Config,
     directory: &mut D,

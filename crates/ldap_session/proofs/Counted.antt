@@ -1,27 +1,13 @@
--- Updates that are counted along a talk. Facts on definitions flow in and out; no value of the program is here.
+-- How many updates a session asks for. Facts on definitions flow in and out; no value of the program is here.
 use Rattle.std.proofs.Common.{◌≡◌, ◌≤◌, ℕ, ◌+◌, suc, arith, length, List, [], ◌∷◌, ◌++◌, refl, ap, sym, subst, ◌∙◌}
 use Rattle.session_rules.specs.ldap_msg.Messages.{MessageValue}
-use Rattle.session_rules.specs.session_talk.Talk.{Exchange, Along}
-use Rattle.session_rules.specs.session_talk.Talk as talk
+use Rattle.session_rules.specs.session_talk.Talk.{Exchange}
 use Rattle.session_rules.specs.Session.{ConfigValue, Reaction, Asked}
 use Rattle.session_rules.specs.declared.state.State.{State}
 use Rattle.session_rules.specs.declared.answered.Next.{Next}
 use Rattle.session_rules.specs.Turns.{Outcome, reacts, searches, compares, updates, Inquiry, asks, Turn, answers, inquires, Session, ends, goes_on, stops}
-use Rattle.ldap_session.specs.Counting.{updates_of, updates_in, Counts, UpdatesAreCounted, OneUpdateAMessage}
-
-none_more : (n : ℕ) → n ≡ n + 0
-none_more n = omega arith
-
-and_on : (e f d x xs : ℕ) → f ≡ e + xs → e ≡ d + x → f ≡ d + (x + xs)
-and_on e f d x xs p q = omega (arith, p, q)
-
-counted : {D T : Type 0} (asked : D → ℕ) (allows : D → Exchange T → D → Type 0) (d e : D) (xs : List (Exchange T)) → Counts asked allows → Along allows d xs e → asked e ≡ asked d + updates_in xs
-counted asked allows d e xs counts talk.ends = none_more (asked d)
-counted asked allows d e xs counts (talk.goes {e = m} {x = x} {xs = later} step rest) =
-    and_on (asked m) (asked e) (asked d) (updates_of x) (updates_in later) (counted asked allows m e later counts rest) (counts d m x step)
-
-pub updates_are_counted : {D T : Type 0} (allows : D → Exchange T → D → Type 0) → UpdatesAreCounted allows
-updates_are_counted allows asked d e xs counts along = counted asked allows d e xs counts along
+use Rattle.session_rules.specs.session_talk.Counting.{updates_of, updates_in}
+use Rattle.ldap_session.specs.Counting.{OneUpdateAMessage}
 
 outcome_asks : {T : Type 0} {s : State} {id : ℕ} {answering : _} {named : _} {question : Asked} (xs : List (Exchange T)) (a : Reaction) → Outcome s id answering named question xs a → updates_in xs ≤ 1
 outcome_asks xs a (reacts p) = omega arith

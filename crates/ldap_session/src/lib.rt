@@ -9,10 +9,11 @@ mod session;
 mod writing;
 
 pub use end::SessionEnd;
-pub use laws::{one_update_a_message, updates_are_counted};
+pub use laws::one_update_a_message;
 pub use serving::serve;
 pub use session::Session;
 pub use session_rules::{
-    AnswerError, Answered, Client, Config, Ended, Found, Gate, Look, LookError, Next, Role,
+    AnswerError, Answered, Client, Config, Directory, Ended, Found, Gate, Look, LookError, Next,
+    Role,
 };
 pub use writing::write_octets;

@@ -10,7 +10,7 @@ ghost use Rattle.ldap_session.specs.Steps.{HasPut, HasGot, HasWorked, HasFlushed
 use crate::end::SessionEnd;
 use crate::session::Session;
 use crate::writing::write_responses;
-use session_rules::{AnswerError, Answered, Config, Gate, Next};
+use session_rules::{AnswerError, Answered, Config, Directory, Next};
 use std::alloc::Global;
 use std::io::{ErrorKind, Read, Write};
 
@@ -66,7 +66,7 @@ fn put_answered<W: Write>(writer: &mut W, answered: &Answered) -> Flow
 }
 
 /// Answers all whole messages that are there.
-fn answer_ready<W: Write, D: Gate>(
+fn answer_ready<W: Write, D: Directory>(
     alloc: Global,
     session: &mut Session,
     config: &Config,
@@ -100,7 +100,7 @@ fn flushed<W: Write>(writer: &mut W, flow: Flow) -> Flow
 }
 
 /// Answers the messages that a piece of the stream completes.
-fn answer_piece<W: Write, D: Gate>(
+fn answer_piece<W: Write, D: Directory>(
     alloc: Global,
     session: &mut Session,
     piece: &[u8],
@@ -122,7 +122,7 @@ fn answer_piece<W: Write, D: Gate>(
 
 /// Serves one client: reads its stream, answers its messages one after the other, each as soon as it is whole, and writes the responses, up
 /// to what ends the session. The 18446744073709551616th read counts as one that fails.
-pub fn serve<R: Read, W: Write, D: Gate>(
+pub fn serve<R: Read, W: Write, D: Directory>(
     alloc: Global,
     reader: &mut R,
     writer: &mut W,

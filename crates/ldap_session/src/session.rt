@@ -10,7 +10,7 @@ ghost use Rattle.ldap_session.specs.Progress.{Answers, IsNoMessage, IsAtLast};
 
 use crate::end::SessionEnd;
 use ldap_framer::{FrameFault, Framer};
-use session_rules::{AnswerError, Answered, Config, Gate, State, disconnect, take};
+use session_rules::{AnswerError, Answered, Config, Directory, State, disconnect, take};
 use std::alloc::{AllocError, Global};
 
 /// A session: its stream as far as it is not answered, and who it is bound as. At its beginning it is anonymous.
@@ -49,7 +49,7 @@ impl Session {
     }
 
     /// Answers the next message, if a whole one is there; what is no message is answered by the Notice of Disconnection (RFC 4511 4.4.1).
-    pub fn answer<D: Gate>(
+    pub fn answer<D: Directory>(
         &mut self,
         alloc: Global,
         config: &Config,

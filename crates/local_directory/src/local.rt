@@ -12,7 +12,7 @@ use crate::ending::ended_before;
 use crate::making::make;
 use crate::reading::{compare_at, search_at};
 use session_talk::{
-    Client, CompareRequest, Ended, Found, Gate, Look, LookError, Op, Reply, Role, SearchAnswer,
+    Client, CompareRequest, Directory, Ended, Found, LookError, Op, Reply, Role, SearchAnswer,
     SearchRequest, Store, Update,
 };
 use std::alloc::Global;
@@ -110,7 +110,7 @@ impl LocalDirectory {
     }
 }
 
-impl Look for LocalDirectory {
+impl Directory for LocalDirectory {
     ghost use Rattle.local_directory.specs.Allows.{allows};
 
     type Told = ();
@@ -136,9 +136,7 @@ impl Look for LocalDirectory {
     }
 
     fn learn(&mut self, _told: ()) {}
-}
 
-impl Gate for LocalDirectory {
     fn role(&mut self, _alloc: Global) -> (Role, ()) {
         (Role::Primary, ())
     }

@@ -17,6 +17,6 @@ pub use config::Config;
 pub use laws::{role_is_first, sessions_join};
 pub use message_rules::AnswerError;
 pub use responses::disconnect;
-pub use session_talk::{Client, Ended, Found, Gate, Look, LookError, Role};
+pub use session_talk::{Client, Directory, Ended, Found, Gate, Look, LookError, Role};
 pub use state::State;
 pub use taking::take;

@@ -22,7 +22,7 @@ use message_rules::{
     AnswerError, Answering, BindRequest, CompareRequest, Identity, Message, Request, ResultCode,
     SearchRequest, bind, update_in,
 };
-use session_talk::{Gate, Look, Role};
+use session_talk::{Directory, Role};
 use std::alloc::Global;
 
 /// Binds, and answers. The session is anonymous while the bind is judged.
@@ -49,7 +49,7 @@ fn take_bind(
 }
 
 /// Asks for a search, and answers it.
-fn take_search<D: Look>(
+fn take_search<D: Directory>(
     alloc: Global,
     state: &State,
     directory: &mut D,
@@ -65,7 +65,7 @@ fn take_search<D: Look>(
 }
 
 /// Asks for a compare, and answers it.
-fn take_compare<D: Look>(
+fn take_compare<D: Directory>(
     alloc: Global,
     state: &State,
     directory: &mut D,
@@ -81,7 +81,7 @@ fn take_compare<D: Look>(
 }
 
 /// Answers a request that is no update, at a replica that has a state.
-fn take_other<D: Gate>(
+fn take_other<D: Directory>(
     alloc: Global,
     config: &Config,
     state: &mut State,
@@ -113,7 +113,7 @@ fn take_other<D: Gate>(
 }
 
 /// Answers a request at a replica that has a state.
-fn take_served<D: Gate>(
+fn take_served<D: Directory>(
     alloc: Global,
     config: &Config,
     state: &mut State,
@@ -143,7 +143,7 @@ fn is_recovering(role: &Role) -> bool
 }
 
 /// Answers a request where the role of the replica is known.
-fn take_at<D: Gate>(
+fn take_at<D: Directory>(
     alloc: Global,
     config: &Config,
     state: &mut State,
@@ -170,7 +170,7 @@ fn take_at<D: Gate>(
 }
 
 /// Asks for the role of the replica, and learns what is told with it.
-fn ask_role<D: Gate>(alloc: Global, directory: &mut D) -> Role
+fn ask_role<D: Directory>(alloc: Global, directory: &mut D) -> Role
     ensures { (told : D.Told) × Along D.allows directory.old (asked_role (role_view result) told ∷ learned told ∷ []) directory.new }
 {
     let (role, told) = directory.role(alloc);
@@ -179,7 +179,7 @@ fn ask_role<D: Gate>(alloc: Global, directory: &mut D) -> Role
 }
 
 /// Asks about a request that has passed its controls, and answers it.
-fn take_request<D: Gate>(
+fn take_request<D: Directory>(
     alloc: Global,
     config: &Config,
     state: &mut State,
@@ -197,7 +197,7 @@ fn take_request<D: Gate>(
 
 /// What a session makes of one message: the octets of the responses, and whether the session goes on. A message that is no request gets the
 /// Notice of Disconnection (RFC 4511 4.4.1).
-pub fn take<D: Gate>(
+pub fn take<D: Directory>(
     alloc: Global,
     config: &Config,
     state: &mut State,

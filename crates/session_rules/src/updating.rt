@@ -19,7 +19,7 @@ use crate::state::State;
 use message_rules::{
     AnswerError, Answering, GREATEST, Identity, ResultCode, referral_to, response_to, value_for,
 };
-use session_talk::{Client, Ended, Gate, Reply, Role, Update};
+use session_talk::{Client, Directory, Ended, Reply, Role, Update};
 use std::alloc::Global;
 
 /// Who a session is bound as once a request of this kind was refused.
@@ -109,7 +109,7 @@ fn end_update(
 }
 
 /// Asks for an update as a client's request of this number, after which the session's own client has made so many requests.
-fn ask_gate<D: Gate>(
+fn ask_gate<D: Directory>(
     alloc: Global,
     state: &mut State,
     directory: &mut D,
@@ -129,7 +129,7 @@ fn ask_gate<D: Gate>(
 }
 
 /// Asks for an update as the next request of the session's own client, while it has numbers.
-fn ask_as_own<D: Gate>(
+fn ask_as_own<D: Directory>(
     alloc: Global,
     config: &Config,
     state: &mut State,
@@ -165,7 +165,7 @@ fn ask_as_own<D: Gate>(
 }
 
 /// Asks for an update as the client that its control names, or as the session's own.
-fn ask_as<D: Gate>(
+fn ask_as<D: Directory>(
     alloc: Global,
     config: &Config,
     state: &mut State,
@@ -195,7 +195,7 @@ fn ask_as<D: Gate>(
 }
 
 /// Asks for the manager's update where updates are made, and refuses it elsewhere.
-fn ask_at<D: Gate>(
+fn ask_at<D: Directory>(
     alloc: Global,
     config: &Config,
     state: &mut State,
@@ -218,7 +218,7 @@ fn ask_at<D: Gate>(
 }
 
 /// Asks for an update, if it is the manager who wants it.
-pub fn ask_update<D: Gate>(
+pub fn ask_update<D: Directory>(
     alloc: Global,
     config: &Config,
     state: &mut State,

@@ -1,6 +1,8 @@
 pub mod Clients
 pub mod Talk
 pub mod View
+pub mod Pairs
+pub mod Counting
 -- what layers above name of the crates below
 pub use Rattle.dir_search.specs.ldap_msg.ldap_requests as ldap_requests
 pub use Rattle.dir_search.specs.ldap_op as ldap_op

@@ -1,11 +1,12 @@
-// Updates of a directory, as a session asks for them. An update flows in, with who asks for it; how it ended flows out.
-// What must not be here: messages, how replicas agree.
+// A gate: the way that updates take into a directory. An update flows in, with who asks for it; how it ended flows out, and what a reader
+// is told. What must not be here: reads, messages, how replicas agree.
+ghost use Rattle.std.specs.Prelude.{◌≡◌, ℕ};
 ghost use Rattle.dir_search.specs.ldap_op.View.{update_view};
-ghost use Rattle.session_talk.specs.Talk.{asked_role, updated};
+ghost use Rattle.session_talk.specs.Counting.{Counts};
+ghost use Rattle.session_talk.specs.Talk.{Exchange, asked_role, updated};
 ghost use Rattle.session_talk.specs.View.{role_view, ended_view};
 
 use crate::client::Client;
-use crate::look::Look;
 use dir_search::{Reply, Update};
 use std::alloc::Global;
 
@@ -34,14 +35,27 @@ pub enum Ended {
     NoMemory,
 }
 
-/// A directory that is also updated.
-pub trait Gate: Look {
+/// What is asked for updates. It tells what a reader may be told, a T.
+pub trait Gate<T> {
+    // Which exchanges there may be, and what the gate is after each.
+    ghost allows: { Self → Exchange T → Self → Type 0 };
+
+    // The count of updates that were asked of it, as it is stored.
+    ghost count: { Self → ℕ };
+
     /// What the replica is to an update now, and what a reader is told then. It may wait.
-    fn role(&mut self, alloc: Global) -> (Role, Self::Told)
-        ensures { Self.allows self.old (asked_role (role_view result.0) result.1) self.new };
+    fn role(&mut self, alloc: Global) -> (Role, T)
+        ensures { allows self.old (asked_role (role_view result.0) result.1) self.new };
 
     /// An update (RFC 4511 4.6 to 4.9) as a client's request of this number. A request whose number was answered before is answered the
     /// same again. It may wait.
     fn update(&mut self, alloc: Global, client: Client, number: u64, update: Update) -> Ended
-        ensures { Self.allows self.old (updated client number (update_view update) (ended_view result)) self.new };
+        ensures { allows self.old (updated client number (update_view update) (ended_view result)) self.new };
+
+    /// How many updates were asked of it; 18446744073709551615 stands for any greater number too.
+    fn asked(&self) -> u64
+        ensures { result ≡ count self.now };
+
+    // The count rises by the updates of each exchange.
+    ghost counts: { Counts count allows };
 }

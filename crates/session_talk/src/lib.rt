@@ -3,9 +3,11 @@
 #![tactic(auto)]
 
 mod client;
+mod directory;
 mod gate;
 mod look;
 mod outcomes;
+mod pair;
 
 pub use client::Client;
 pub use dir_search::{
@@ -13,6 +15,8 @@ pub use dir_search::{
     Reply, ResultCode, Schema, Scope, SearchAnswer, SearchRequest, Store, Update, are_same,
     compare, search,
 };
+pub use directory::Directory;
 pub use gate::{Ended, Gate, Role};
 pub use look::Look;
 pub use outcomes::{Found, LookError};
+pub use pair::{pair_counts, pair_goes_along};

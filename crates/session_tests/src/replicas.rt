@@ -40,25 +40,31 @@ enum Reading {
     NoMemory,
 }
 
-/// A directory that answers so. It tells the number 41 with its role.
+/// Reads that end so.
 #[derive(Clone, Copy)]
-struct Replica {
-    answering: Answering,
+struct Reads {
+    read: Reading,
     learned: u64,
 }
 
+/// Updates that end so. It tells the number 41 with its role.
+#[derive(Clone, Copy)]
+struct Updates {
+    role: Standing,
+    update: Ending,
+    asked: u64,
+}
+
 /// Why a read has no answer.
-fn failed(replica: &Replica) -> LookError {
-    match replica.answering.read {
-        Reading::NotYet => LookError::NotYet {
-            at: replica.learned,
-        },
+fn failed(reads: &Reads) -> LookError {
+    match reads.read {
+        Reading::NotYet => LookError::NotYet { at: reads.learned },
         Reading::Gone => LookError::Gone,
         Reading::NoMemory => LookError::NoMemory,
     }
 }
 
-impl Look for Replica {
+impl Look for Reads {
     type Told = u64;
 
     ghost allows = { λ _ _ _. Unit {0} };
@@ -86,9 +92,16 @@ impl Look for Replica {
     }
 }
 
-impl Gate for Replica {
+impl Gate<u64> for Updates {
+    ghost use Rattle.std.specs.Prelude.{◌≡◌, ◌+◌, min};
+    ghost use Rattle.ldap_session.specs.session_talk.Counting.{updates_of, greatest_count};
+
+    ghost allows = { λ d x e. e.asked ≡ min (d.asked + updates_of x) greatest_count };
+
+    ghost count = { λ d. d.asked };
+
     fn role(&mut self, alloc: Global) -> (Role, u64) {
-        let role = match self.answering.role {
+        let role = match self.role {
             Standing::Primary => Role::Primary,
             Standing::Backup => match String::from_str(alloc, "ldap://127.0.0.1:3890") {
                 Ok(uri) => Role::Backup { uri },
@@ -101,12 +114,19 @@ impl Gate for Replica {
     }
 
     fn update(&mut self, _alloc: Global, _client: Client, _number: u64, _update: Update) -> Ended {
-        match self.answering.update {
+        self.asked = self.asked.saturating_add(1);
+        match self.update {
             Ending::Stale => Ended::Stale,
             Ending::Lost => Ended::Lost,
             Ending::NoMemory => Ended::NoMemory,
         }
     }
+
+    fn asked(&self) -> u64 {
+        self.asked
+    }
+
+    ghost counts = { λ _ _ _ p. p };
 }
 
 /// Requests of a session of the manager's at such a directory, and the responses behind that to the bind.
@@ -216,13 +236,24 @@ fn served(
     answering: Answering,
     input: &[u8],
 ) -> Result<String, Fail> {
-    let mut replica = Replica {
-        answering,
+    let reads = Reads {
+        read: answering.read,
         learned: 0,
+    };
+    let updates = Updates {
+        role: answering.role,
+        update: answering.update,
+        asked: 0,
     };
     let mut reader = input;
     let mut written = Vec::new(alloc);
-    serve(alloc, &mut reader, &mut written, &mut replica, config);
+    serve(
+        alloc,
+        &mut reader,
+        &mut written,
+        &mut (reads, updates),
+        config,
+    );
     Ok(hex::encode(alloc, &written)?)
 }
 

@@ -7,7 +7,7 @@ use Rattle.ldap_session.proofs.serving.answer_ready.Given as goal
 -- the messages so far are answered
 abbrev pub invariant-loop-answered : goal.invariant-loop-answered
 invariant-loop-answered g l =
-    SoFar g.D.Look.allows (config_view l.fn.config) l.fn.directory l.directory (session_view l.fn.session) (session_view l.session) (g.W.Write.contents l.fn.writer) (g.W.Write.contents l.writer)
+    SoFar g.D.Directory.allows (config_view l.fn.config) l.fn.directory l.directory (session_view l.fn.session) (session_view l.session) (g.W.Write.contents l.fn.writer) (g.W.Write.contents l.writer)
 
 abbrev pub decreases-loop-answered : goal.decreases-loop-answered
 decreases-loop-answered g l = length (session_view l.session).framed.ready
