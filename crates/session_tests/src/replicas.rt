@@ -101,6 +101,8 @@ impl Gate<u64> for Updates {
     ghost count = { λ d. d.asked };
 
     fn role(&mut self, alloc: Global) -> (Role, u64) {
+        // No update more is asked of it.
+        self.asked = self.asked.saturating_add(0);
         let role = match self.role {
             Standing::Primary => Role::Primary,
             Standing::Backup => match String::from_str(alloc, "ldap://127.0.0.1:3890") {
