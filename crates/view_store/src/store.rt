@@ -149,6 +149,7 @@ impl<D: Device> ViewStore<D> {
         // E21 only where the device failed, and then the store has failed.
         ensures device_failed { IsErrOf result ViewStoreError.DeviceFailed
             → HasRisen (D.failure_count self.old.device) (D.failure_count self.new.device) × (self.new.status ≡ status.Failed) }
+        ensures counted { D.failure_count self.old.device ≤ D.failure_count self.new.device }
 
         // A store that has failed answers so, and calls no device.
         ensures failed { IsErrOf result ViewStoreError.Failed ↔ (self.old.status ≡ status.Failed) }
@@ -201,6 +202,7 @@ impl<D: Device> ViewStore<D> {
         // E21 only where the device failed, and then the store has failed.
         ensures device_failed { IsErrOf result ViewStoreError.DeviceFailed
             → HasRisen (D.failure_count self.old.device) (D.failure_count self.new.device) × (self.new.status ≡ status.Failed) }
+        ensures counted { D.failure_count self.old.device ≤ D.failure_count self.new.device }
 
         // A store that has failed answers so, and calls no device.
         ensures failed { IsErrOf result ViewStoreError.Failed ↔ (self.old.status ≡ status.Failed) }

@@ -17,6 +17,7 @@ returns-in-Some-own_pair g c =
       no_pair = search rules;
       foreign_cluster = search rules;
       device_failed = search rules;
+      counted = search rules;
       failed = search rules;
       failed_same = search rules;
     }
