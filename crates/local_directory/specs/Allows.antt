@@ -1,26 +1,19 @@
 -- What a directory of one server alone answers to each exchange, and what it is after that. A directory and an exchange
 -- flow in; which answers and which directory are allowed flows out. What is asked in an exchange is below, how a
 -- directory is kept is not here.
-use Rattle.std.specs.Prelude.{◌≡◌, ℕ, ◌+◌, ◌<◌, ◌≤◌, cond, nat_lt}
+use Rattle.std.specs.Prelude.{◌≡◌, ℕ, ◌+◌, cond, nat_lt}
 use Rattle.std.specs.FinMap as map
 use Rattle.session_talk.specs.ldap_op.Values.{OpValue}
 use Rattle.session_talk.specs.dir_store.Updates.{applied, reply_to}
 use Rattle.session_talk.specs.dir_search.Answer.{answer}
 use Rattle.session_talk.specs.dir_search.Compared.{compared as compared_reply}
 use Rattle.session_talk.specs.declared.client.Client.{Client}
-use Rattle.session_talk.specs.Talk.{Looked, found, not_yet, gone, no_memory, primary}
+use Rattle.session_talk.specs.Reading.{IsReadAt}
+use Rattle.session_talk.specs.Talk.{primary}
 use Rattle.session_talk.specs.Talk.{EndedValue, done, stale, lost, refused_memory}
 use Rattle.session_talk.specs.Talk.{Exchange, asked_role, learned, searched, compared, updated}
 use Rattle.local_directory.specs.Latest.{kept_as, Standing, older, repeated, newer, standing}
 use Rattle.local_directory.specs.Local.{LocalValue}
-
--- A read, of a directory at one number, that names another: where that is no later, this is the answer, and it is of
--- the directory's own number, or there is no memory for it; else the read is told the directory's number.
-abbrev pub IsReadAt : {A : Type 0} → ℕ → ℕ → A → Looked A → Type 0
-IsReadAt number named answered (found at a) = (named ≤ number) × (at ≡ number) × (a ≡ answered)
-IsReadAt number named answered (not_yet at) = (number < named) × (at ≡ number)
-IsReadAt number named answered gone = ⊥
-IsReadAt number named answered no_memory = named ≤ number
 
 -- the greatest number that an update may have, that of 63 bits
 abbrev pub last_number : ℕ

@@ -8,7 +8,6 @@ mod kept;
 mod laws;
 mod local;
 mod making;
-mod reading;
 
 pub use laws::{directory_is_fold, requests_are_made_once};
 pub use local::LocalDirectory;

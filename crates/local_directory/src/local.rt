@@ -10,10 +10,9 @@ ghost use Rattle.local_directory.specs.Allows.{Ends, made_next};
 use crate::client_table::ClientTable;
 use crate::ending::ended_before;
 use crate::making::make;
-use crate::reading::{compare_at, search_at};
 use session_talk::{
     Client, CompareRequest, Directory, Ended, Found, LookError, Op, Reply, Role, SearchAnswer,
-    SearchRequest, Store, Update,
+    SearchRequest, Store, Update, compare_at, search_at,
 };
 use std::alloc::Global;
 use std::marker::Model;

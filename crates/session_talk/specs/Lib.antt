@@ -3,6 +3,7 @@ pub mod Talk
 pub mod View
 pub mod Pairs
 pub mod Counting
+pub mod Reading
 -- what layers above name of the crates below
 pub use Rattle.dir_search.specs.ldap_msg.ldap_requests as ldap_requests
 pub use Rattle.dir_search.specs.ldap_op as ldap_op

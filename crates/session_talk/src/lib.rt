@@ -8,6 +8,7 @@ mod gate;
 mod look;
 mod outcomes;
 mod pair;
+mod reading;
 
 pub use client::Client;
 pub use dir_search::{
@@ -20,3 +21,4 @@ pub use gate::{Ended, Gate, Role};
 pub use look::Look;
 pub use outcomes::{Found, LookError};
 pub use pair::{pair_counts, pair_goes_along};
+pub use reading::{compare_at, search_at};

@@ -1,16 +1,15 @@
-// Reads of the one state there is. A directory, its number and a request flow in; the answer flows out.
-// What must not be here: updates.
-ghost use Rattle.session_talk.specs.ldap_msg.View.{search_view, compare_view};
-ghost use Rattle.session_talk.specs.dir_store.View.{reply_view};
-ghost use Rattle.session_talk.specs.dir_search.Answer.{answer};
-ghost use Rattle.session_talk.specs.dir_search.Compared.{compared};
-ghost use Rattle.session_talk.specs.dir_search.View.{answer_view};
+// Reads of one state of a directory, as whoever holds a store answers them. A directory, its number and a request flow in; the answer flows
+// out. What must not be here: updates, which state it is.
+ghost use Rattle.dir_search.specs.ldap_msg.View.{search_view, compare_view};
+ghost use Rattle.dir_search.specs.dir_store.View.{reply_view};
+ghost use Rattle.dir_search.specs.Answer.{answer};
+ghost use Rattle.dir_search.specs.Compared.{compared};
+ghost use Rattle.dir_search.specs.View.{answer_view};
 ghost use Rattle.session_talk.specs.Talk.{looked};
-ghost use Rattle.local_directory.specs.Allows.{IsReadAt};
+ghost use Rattle.session_talk.specs.Reading.{IsReadAt};
 
-use session_talk::{
-    CompareRequest, Found, LookError, Reply, SearchAnswer, SearchRequest, Store, compare, search,
-};
+use crate::outcomes::{Found, LookError};
+use dir_search::{CompareRequest, Reply, SearchAnswer, SearchRequest, Store, compare, search};
 use std::alloc::Global;
 
 /// A search of a directory that is at this number, no older than one that is named.
