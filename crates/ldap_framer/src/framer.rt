@@ -2,7 +2,8 @@
 //! In: pieces of a stream. Out: its messages, one after the other, or the fault where it stops.
 //! Not here: sockets, what a message asks for.
 
-ghost use Rattle.std.specs.Prelude.{◌≡◌, ◌⊎◌, ℕ, List, [], ◌∷◌, ◌++◌, OnOk, IfErr, IfSome, IfNone, None, is_some};
+ghost use Rattle.std.specs.Prelude.{◌≡◌, ◌⊎◌, ℕ, List, [], ◌∷◌, ◌++◌, OnOk, IfErr, IfSome, IfNone, None, is_some, slice_get};
+ghost use Rattle.std.specs.Option.{option_map};
 ghost use Rattle.std.specs.Bool.{OnTrue, OnFalse};
 ghost use Rattle.ldap_msg.specs.Messages.{MessageValue};
 ghost use Rattle.ldap_msg.specs.View.{view};
@@ -108,6 +109,13 @@ impl Framer {
             → IfSome result (λ m. HasSeen (framed self.new) stream (handed ++ view m ∷ [])) }
     {
         self.ready.pop_front()
+    }
+
+    /// The next message, left where it waits.
+    pub fn peek(&self) -> Option<&Message>
+        ensures { option_map (λ m. view m.now) result ≡ slice_get (framed self.now).ready 0 }
+    {
+        self.ready.front()
     }
 
     /// Whether a fault has stopped the stream. The messages before it are still handed out.

@@ -12,3 +12,4 @@ mod laws;
 pub use fault::FrameFault;
 pub use framer::Framer;
 pub use laws::{any_pieces, one_reading};
+pub use ldap_msg::{Message, ProtocolOp, Request};

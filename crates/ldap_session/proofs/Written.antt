@@ -114,3 +114,12 @@ stopped_at items list i x octets all a b c lt is whose p q = record {
   };
   whole = λ e. absurd (apart e);
 }
+
+-- all was written, and then the writer was flushed
+pub sent_off : (a b c : Option (List ℕ)) (octets : List ℕ) (done : Bool) → HasWritten a b octets true → Appends b c [] → HasWritten a c octets done
+sent_off a b c octets done p q = record {
+  taken = p.taken;
+  grown = subst (λ (l : List ℕ). Appends a c l) (append-nil p.taken) (Appends-trans a b c p.taken [] p.grown q);
+  front = p.front;
+  whole = λ _. p.whole refl;
+}

@@ -3,6 +3,7 @@ pub mod Octets
 pub mod Progress
 pub mod Serving
 pub mod Steps
+pub mod Waiting
 pub mod View
 -- what layers above name of the crates below
 pub use Rattle.session_rules.specs.ldap_msg as ldap_msg

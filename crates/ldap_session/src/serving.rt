@@ -9,7 +9,7 @@ ghost use Rattle.ldap_session.specs.Steps.{HasPut, HasGot, HasWorked, HasFlushed
 
 use crate::end::SessionEnd;
 use crate::session::Session;
-use crate::writing::write_responses;
+use crate::writing::hand_over;
 use session_rules::{AnswerError, Answered, Config, Directory, Next};
 use std::alloc::Global;
 use std::io::{ErrorKind, Read, Write};
@@ -51,11 +51,11 @@ fn read_some<R: Read>(reader: &mut R, buffer: &mut [u8]) -> Got
     }
 }
 
-/// Writes what a message is answered with.
-fn put_answered<W: Write>(writer: &mut W, answered: &Answered) -> Flow
+/// Writes what a message is answered with; where what comes next may have to wait, the client gets it before.
+fn put_answered<W: Write>(writer: &mut W, answered: &Answered, is_urgent: bool) -> Flow
     ensures { HasPut (W.contents writer.old) (W.contents writer.new) (joined (map (λ v. v.items) answered.now.responses.items)) answered.now.next result }
 {
-    if !write_responses(writer, &answered.responses) {
+    if !hand_over(writer, &answered.responses, is_urgent) {
         return Flow::Ends(SessionEnd::WriteFailed);
     }
     match answered.next {
@@ -79,7 +79,11 @@ fn answer_ready<W: Write, D: Directory>(
     loop {
         match session.answer(alloc, config, directory) {
             Ok(None) => return Flow::Goes,
-            Ok(Some(answered)) => match put_answered(writer, &answered) {
+            Ok(Some(answered)) => match put_answered(
+                writer,
+                &answered,
+                session.is_about_to_wait(),
+            ) {
                 Flow::Goes => {}
                 Flow::Ends(end) => return Flow::Ends(end),
             },

@@ -7,11 +7,23 @@ ghost use Rattle.session_rules.specs.Session.{at_first};
 ghost use Rattle.session_rules.specs.View.{config_view};
 ghost use Rattle.ldap_session.specs.View.{session_view};
 ghost use Rattle.ldap_session.specs.Progress.{Answers, IsNoMessage, IsAtLast};
+ghost use Rattle.ldap_session.specs.Waiting.{is_read, next_may_wait};
+ghost use Rattle.session_rules.specs.ldap_msg.View.{view};
 
 use crate::end::SessionEnd;
-use ldap_framer::{FrameFault, Framer};
+use ldap_framer::{FrameFault, Framer, Message, ProtocolOp, Request};
 use session_rules::{AnswerError, Answered, Config, Directory, State, disconnect, take};
 use std::alloc::{AllocError, Global};
+
+/// Whether a message asks to read.
+fn is_read(message: &Message) -> bool
+    ensures { result ≡ is_read (view message.now).op }
+{
+    matches!(
+        message.op,
+        ProtocolOp::Request(Request::Search(_) | Request::Compare(_))
+    )
+}
 
 /// A session: its stream as far as it is not answered, and who it is bound as. At its beginning it is anonymous.
 #[derive(Drop)]
@@ -63,6 +75,16 @@ impl Session {
                 Ok(Some(answered))
             }
             None => self.answer_no_message(alloc),
+        }
+    }
+
+    /// Whether the message that comes next may have to wait for others: a search and a compare are answered at once from what is there.
+    pub fn is_about_to_wait(&self) -> bool
+        ensures { result ≡ next_may_wait (session_view self.now).framed.ready }
+    {
+        match self.framer.peek() {
+            Some(message) => !is_read(message),
+            None => false,
         }
     }
 

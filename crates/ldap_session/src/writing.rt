@@ -48,13 +48,34 @@ pub fn write_octets<W: Write>(writer: &mut W, octets: &[u8]) -> bool
 }
 
 /// Writes responses, one after the other; whether the writer took them all.
-pub fn write_responses<W: Write>(writer: &mut W, responses: &[Vec<u8>]) -> bool
+fn write_responses<W: Write>(writer: &mut W, responses: &[Vec<u8>]) -> bool
     ensures { HasWritten (W.contents writer.old) (W.contents writer.new) (joined (map (λ v. v.items) responses.now)) result }
 {
     for response in responses {
         if !write_octets(writer, response) {
             return false;
         }
+    }
+    true
+}
+
+/// Sees to it that what is written goes on its way; whether the writer did so.
+fn send_off<W: Write>(writer: &mut W) -> bool
+    ensures { Appends (W.contents writer.old) (W.contents writer.new) [] }
+{
+    writer.flush().is_ok()
+}
+
+/// Writes responses, and where they are urgent sends them off too; whether the writer did all that.
+#[tactic(auto, using(crate::proofs::Written::sent_off))]
+pub fn hand_over<W: Write>(writer: &mut W, responses: &[Vec<u8>], is_urgent: bool) -> bool
+    ensures { HasWritten (W.contents writer.old) (W.contents writer.new) (joined (map (λ v. v.items) responses.now)) result }
+{
+    if !write_responses(writer, responses) {
+        return false;
+    }
+    if is_urgent {
+        return send_off(writer);
     }
     true
 }
