@@ -1,0 +1,102 @@
+-- Frames: octets put one after the other. In: results of parts. Out: the result of the whole.
+use Rattle.std.proofs.Common.{◌≡◌, ℕ, zero, suc, ◌<◌, ◌≤◌, List, [], ◌∷◌, ◌++◌, length, take, drop, slice_set, get_or, refl, sym, ap}
+use Rattle.std.proofs.Common.{subst, ◌∙◌, append_assoc, append-nil, arith, length-append, Result, Ok, Err}
+use Rattle.ldap_op.specs.Values.{OpValue, add, delete, modify, modify_dn, noop}
+use Rattle.ldap_op.specs.Written.{op_content, op_bytes}
+use Rattle.ldap_op.specs.ldap_updates.ldap_ber.Element.{element_bytes, length_octets}
+use Rattle.vr_state.specs.declared.words.Entry.{Entry}
+use Rattle.vr_wire.specs.declared.error.WireError.{WireError}
+use Rattle.vr_wire.specs.declared.error.WireError.TheVariants as error
+use Rattle.vr_wire.specs.Frames.{limit, short, entry_octets, entries_octets}
+use Rattle.vr_wire.specs.Payloads.{written_entry, written_log}
+use Rattle.vr_wire.specs.Putting.{IsTooLong, Puts}
+
+-- what is longer is too long too
+pub longer : (e : WireError) (m n : ℕ) → m ≤ n → IsTooLong e m → IsTooLong e n
+longer error.BadFrame m n h l = omega (arith, h, l)
+longer error.ForeignFrame m n h l = l
+longer error.NoMemory m n h l = tt
+
+-- a part is too long, and so is the whole
+pub longer_by : (e : WireError) (old part rest : List ℕ) → IsTooLong e (length (old ++ part)) → IsTooLong e (length (old ++ (part ++ rest)))
+longer_by e old part rest l = longer e (length (old ++ part)) (length (old ++ (part ++ rest))) (omega (arith, length-append old part, length-append old (part ++ rest), length-append part rest)) l
+
+-- a later part is too long, and so is the whole
+pub longer_after : (e : WireError) (old mid part first : List ℕ) → mid ≡ old ++ first → IsTooLong e (length (mid ++ part)) → IsTooLong e (length (old ++ (first ++ part)))
+longer_after e old mid part first made l = subst (λ (x : List ℕ). IsTooLong e (length x)) (ap (λ (x : List ℕ). x ++ part) made ∙ append_assoc old first part) l
+
+-- parts one after the other
+pub put_both : (old mid new first part : List ℕ) → mid ≡ old ++ first → new ≡ mid ++ part → new ≡ old ++ (first ++ part)
+put_both old mid new first part made put = put ∙ ap (λ (x : List ℕ). x ++ part) made ∙ append_assoc old first part
+
+element_longer : (first : ℕ) (content : List ℕ) → length content ≤ length (element_bytes first content)
+element_longer first content = omega (arith, length-append (length_octets (length content)) content)
+
+-- An update's content is no longer than its octets.
+pub content_shorter : (op : OpValue) → length (op_content op) ≤ length (op_bytes op)
+content_shorter (add x) = element_longer 104 (op_content (add x))
+content_shorter (delete name) = element_longer 74 name
+content_shorter (modify x) = element_longer 102 (op_content (modify x))
+content_shorter (modify_dn x) = element_longer 108 (op_content (modify_dn x))
+content_shorter noop = omega arith
+
+-- ---- logs
+
+entry_there : (x : Entry (List ℕ)) → 1 ≤ length (entry_octets x)
+entry_there x = omega arith
+
+-- a log has at least an octet a record
+pub count_shorter : (es : List (Entry OpValue)) → length es ≤ length (entries_octets (written_log es))
+count_shorter [] = omega arith
+count_shorter (e ∷ es) =
+    omega (arith, length-append (entry_octets (written_entry e)) (entries_octets (written_log es)), entry_there (written_entry e), count_shorter es)
+
+pub log_too_long : (old : List ℕ) (es : List (Entry OpValue)) → limit < length es → limit < length (old ++ (short (length (written_log es)) ++ entries_octets (written_log es)))
+log_too_long old es h =
+    omega (arith, h, count_shorter es, length-append old (short (length (written_log es)) ++ entries_octets (written_log es)), length-append (short (length (written_log es))) (entries_octets (written_log es)))
+
+one_more : (es : List (Entry OpValue)) (i : ℕ) (e d : Entry OpValue) → i < length es → e ≡ get_or es i d → entries_octets (written_log (take (suc i) es)) ≡ entries_octets (written_log (take i es)) ++ entry_octets (written_entry e)
+one_more [] i e d lt is = absurd (omega (arith, lt))
+one_more (x ∷ es) zero e d lt is = append-nil (entry_octets (written_entry x)) ∙ ap (λ (y : Entry OpValue). entry_octets (written_entry y)) (sym is)
+one_more (x ∷ es) (suc i) e d lt is =
+    ap (λ (l : List ℕ). entry_octets (written_entry x) ++ l) (one_more es i e d (omega (arith, lt)) is)
+    ∙ sym (append_assoc (entry_octets (written_entry x)) (entries_octets (written_log (take i es))) (entry_octets (written_entry e)))
+
+parted : (n : ℕ) (es : List (Entry OpValue)) → entries_octets (written_log es) ≡ entries_octets (written_log (take n es)) ++ entries_octets (written_log (drop n es))
+parted zero es = refl
+parted (suc n) [] = refl
+parted (suc n) (x ∷ es) =
+    ap (λ (l : List ℕ). entry_octets (written_entry x) ++ l) (parted n es)
+    ∙ sym (append_assoc (entry_octets (written_entry x)) (entries_octets (written_log (take n es))) (entries_octets (written_log (drop n es))))
+
+pub put_more : (old mid new : List ℕ) (es : List (Entry OpValue)) (i j : ℕ) (e d : Entry OpValue) → j ≡ suc i → i < length es → e ≡ get_or es i d → mid ≡ old ++ entries_octets (written_log (take i es)) → new ≡ mid ++ entry_octets (written_entry e) → new ≡ old ++ entries_octets (written_log (take j es))
+put_more old mid new es i j e d next lt is so_far put =
+    put_both old mid new (entries_octets (written_log (take i es))) (entry_octets (written_entry e)) so_far put
+    ∙ ap (λ (l : List ℕ). old ++ l) (sym (one_more es i e d lt is) ∙ ap (λ (n : ℕ). entries_octets (written_log (take n es))) (sym next))
+
+pub put_refused : (f : WireError) (old mid : List ℕ) (es : List (Entry OpValue)) (i : ℕ) (e d : Entry OpValue) → i < length es → e ≡ get_or es i d → mid ≡ old ++ entries_octets (written_log (take i es)) → IsTooLong f (length (mid ++ entry_octets (written_entry e))) → IsTooLong f (length (old ++ entries_octets (written_log es)))
+put_refused f old mid es i e d lt is so_far long =
+    let first = entries_octets (written_log (take i es)) in
+    let part = entry_octets (written_entry e) in
+    let rest = entries_octets (written_log (drop (suc i) es)) in
+    let whole : entries_octets (written_log es) ≡ (first ++ part) ++ rest = parted (suc i) es ∙ ap (λ (l : List ℕ). l ++ rest) (one_more es i e d lt is) in
+    subst (λ (l : List ℕ). IsTooLong f (length (old ++ l))) (sym whole) (longer_by f old (first ++ part) rest (longer_after f old mid part first so_far long))
+
+-- ---- three parts, the last of which may be refused
+
+pub puts_last : (r : Result (Unit {0}) WireError) (old mid new first part : List ℕ) → mid ≡ old ++ first → Puts r mid new part → Puts r old new (first ++ part)
+puts_last (Ok t) old mid new first part made put = put_both old mid new first part made put
+puts_last (Err e) old mid new first part made long = longer_after e old mid part first made long
+
+pub three_parts : (r : Result (Unit {0}) WireError) (old one two new a b c whole : List ℕ) → one ≡ old ++ a → two ≡ one ++ b → Puts r two new c → a ++ (b ++ c) ≡ whole → Puts r old new whole
+three_parts r old one two new a b c whole first second put is =
+    subst (λ (w : List ℕ). Puts r old new w) (append_assoc a b c ∙ is) (puts_last r old two new (a ++ b) c (put_both old one two a b first second) put)
+
+-- ---- the length, put in the place of four octets
+
+pub four_set : (l : List ℕ) (a b c d : ℕ) → 4 ≤ length l → slice_set (slice_set (slice_set (slice_set l 0 a) 1 b) 2 c) 3 d ≡ a ∷ b ∷ c ∷ d ∷ drop 4 l
+four_set [] a b c d le = absurd (omega (arith, le))
+four_set (w ∷ []) a b c d le = absurd (omega (arith, le))
+four_set (w ∷ x ∷ []) a b c d le = absurd (omega (arith, le))
+four_set (w ∷ x ∷ y ∷ []) a b c d le = absurd (omega (arith, le))
+four_set (w ∷ x ∷ y ∷ z ∷ l) a b c d le = refl

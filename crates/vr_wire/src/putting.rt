@@ -1,0 +1,144 @@
+//! Frames: fields put at the end of octets. Numbers, clusters, clients, records and logs flow in; octets flow out. Messages are not here.
+ghost use Rattle.std.specs.Prelude.{◌≡◌, ◌∷◌, [], ◌^◌, ◌<◌, ◌≤◌, length};
+ghost use Rattle.view_store.specs.Cluster.{cluster_octets};
+ghost use Rattle.vr_wire.specs.Frames.{number, short, client_octets, payload_octets, entry_octets, entries_octets, log_octets, held_octets};
+ghost use Rattle.vr_wire.specs.Frames.{perhaps_octets, limit};
+ghost use Rattle.vr_wire.specs.Payloads.{written_entry, written_log, written_held, written_perhaps};
+ghost use Rattle.vr_wire.specs.Putting.{Puts, Writes};
+ghost use Rattle.ldap_op.specs.Written.{op_bytes};
+
+use crate::error::WireError;
+use ldap_op::{Op, WriteError, write_op};
+use std::alloc::Global;
+use view_store::Cluster;
+use vr_state::message::Snapshot;
+use vr_state::words::{Client, Entry};
+
+/// The greatest length of a frame, its first four octets included.
+pub const LIMIT: usize = 268_435_456;
+
+pub fn put_octet(out: &mut Vec<u8>, octet: u8) -> Result<(), WireError>
+    ensures { Puts result out.old.items out.new.items (octet ∷ []) }
+{
+    out.push(octet)?;
+    Ok(())
+}
+
+pub fn put_number(out: &mut Vec<u8>, value: u64) -> Result<(), WireError>
+    ensures { Puts result out.old.items out.new.items (number value) }
+{
+    out.extend_from_slice(&value.to_be_bytes())?;
+    Ok(())
+}
+
+fn put_short(out: &mut Vec<u8>, number: u32) -> Result<(), WireError>
+    ensures { Puts result out.old.items out.new.items (short number) }
+{
+    out.extend_from_slice(&number.to_be_bytes())?;
+    Ok(())
+}
+
+/// A cluster's number, in six octets.
+pub fn put_cluster(out: &mut Vec<u8>, cluster: Cluster) -> Result<(), WireError>
+    ensures { Puts result out.old.items out.new.items (cluster_octets cluster) }
+{
+    let octets = cluster.number().to_be_bytes();
+    out.extend_from_slice(&octets[2..])?;
+    Ok(())
+}
+
+/// A length or a count, which is within the limit.
+pub fn put_count(out: &mut Vec<u8>, count: usize) -> Result<(), WireError>
+    requires { count ≤ limit }
+    ensures { Puts result out.old.items out.new.items (short count) }
+{
+    put_short(out, count as u32)
+}
+
+#[tactic(auto, using(crate::proofs::PutLaws::longer, crate::proofs::PutLaws::longer_by))]
+fn put_client(out: &mut Vec<u8>, client: Client) -> Result<(), WireError>
+    ensures { Puts result out.old.items out.new.items (client_octets client) }
+{
+    put_octet(out, client.home)?;
+    put_number(out, client.life)?;
+    put_number(out, client.number)
+}
+
+/// A payload, unless it or what stands before it is over the limit.
+fn put_payload(out: &mut Vec<u8>, payload: &[u8]) -> Result<(), WireError>
+    ensures { Puts result out.old.items out.new.items (payload_octets payload.now) }
+{
+    if out.len() > LIMIT || payload.len() > LIMIT {
+        return Err(WireError::BadFrame);
+    }
+    put_count(out, payload.len())?;
+    out.extend_from_slice(payload)?;
+    Ok(())
+}
+
+/// The octets of an update.
+fn op_octets(alloc: Global, op: &Op) -> Result<Vec<u8>, WireError>
+    ensures { Writes (λ v. v.items) result (op_bytes op.now) }
+{
+    match write_op(alloc, op) {
+        Ok(octets) => Ok(octets),
+        Err(WriteError::NoMemory) => Err(WireError::NoMemory),
+        Err(WriteError::TooLong) => Err(WireError::BadFrame),
+    }
+}
+
+/// A record, whose update is written.
+#[tactic(auto, using(crate::proofs::PutLaws::longer, crate::proofs::PutLaws::longer_by))]
+pub fn put_entry(alloc: Global, out: &mut Vec<u8>, entry: &Entry<Op>) -> Result<(), WireError>
+    ensures { Puts result out.old.items out.new.items (entry_octets (written_entry entry.now)) }
+{
+    let payload = op_octets(alloc, &entry.payload)?;
+    put_client(out, entry.client)?;
+    put_number(out, entry.request_number)?;
+    put_payload(out, &payload)
+}
+
+/// Records, one after the other.
+fn put_entries(alloc: Global, out: &mut Vec<u8>, entries: &[Entry<Op>]) -> Result<(), WireError>
+    ensures { Puts result out.old.items out.new.items (entries_octets (written_log entries.now)) }
+{
+    for entry in entries {
+        put_entry(alloc, out, entry)?;
+    }
+    Ok(())
+}
+
+/// A log.
+pub fn put_log(alloc: Global, out: &mut Vec<u8>, entries: &[Entry<Op>]) -> Result<(), WireError>
+    ensures { Puts result out.old.items out.new.items (log_octets (written_log entries.now)) }
+{
+    if entries.len() > LIMIT {
+        return Err(WireError::BadFrame);
+    }
+    put_count(out, entries.len())?;
+    put_entries(alloc, out, entries)
+}
+
+pub fn put_held(alloc: Global, out: &mut Vec<u8>, held: &Snapshot<Op>) -> Result<(), WireError>
+    ensures { Puts result out.old.items out.new.items (held_octets (written_held held.now)) }
+{
+    put_number(out, held.commit_number)?;
+    put_log(alloc, out, held.log.as_slice())
+}
+
+/// A log that may be missing.
+pub fn put_perhaps(
+    alloc: Global,
+    out: &mut Vec<u8>,
+    held: &Option<Snapshot<Op>>,
+) -> Result<(), WireError>
+    ensures { Puts result out.old.items out.new.items (perhaps_octets (written_perhaps held.now)) }
+{
+    match held {
+        None => put_octet(out, 0),
+        Some(held) => {
+            put_octet(out, 1)?;
+            put_held(alloc, out, held)
+        }
+    }
+}
