@@ -1,0 +1,16 @@
+//! What became of a client's request. Nothing flows in; plain data flows out. How it is found is not here.
+
+use dir_executed::Reply;
+
+/// What became of a client's request.
+#[derive(Debug)]
+pub enum Outcome<'a> {
+    /// It was executed as the update of this number, with this reply.
+    Done { number: u64, reply: &'a Reply },
+    /// Its record waits to be committed and executed here.
+    Pending,
+    /// The client has made a later request.
+    Stale,
+    /// Nothing is known of it here, or it can't be told here whether it will be done.
+    Lost,
+}

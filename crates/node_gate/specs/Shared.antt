@@ -1,0 +1,65 @@
+-- What a session is told by a node that threads share. Questions and answers flow in; what they may be flows out. Of which moment the state
+-- is, and that later answers are of later states, is not said here.
+use Rattle.std.specs.Prelude.{◌≡◌, ◌⊎◌, ℕ, length}
+use Rattle.session_talk.specs.ldap_msg.Messages.{SearchRequestValue, CompareRequestValue}
+use Rattle.session_talk.specs.dir_store.Replies.{ReplyModel}
+use Rattle.session_talk.specs.dir_search.Answer.{Answer, answer}
+use Rattle.session_talk.specs.dir_search.Compared.{compared as compared_reply}
+use Rattle.session_talk.specs.declared.client.Client as session
+use Rattle.session_talk.specs.Reading.{IsReadAt}
+use Rattle.session_talk.specs.Talk.{Looked, Exchange, asked_role, learned, searched, compared, updated}
+use Rattle.session_talk.specs.Talk.{EndedValue}
+use Rattle.session_talk.specs.Talk as talk
+use Rattle.dir_node.specs.vr_state.declared.words.Client.{Client}
+use Rattle.dir_node.specs.dir_executed.Executing.{ExecutedValue, directory_at}
+use Rattle.dir_node.specs.NodeState.{NodeValue}
+use Rattle.dir_node.specs.Outcomes.{OutcomeValue, done, pending, stale, lost, outcome_of}
+
+-- a session's client as the replicas know it
+abbrev pub core_client : session.Client → Client
+core_client c = record { home = c.home; life = c.life; number = c.number }
+
+-- A read is answered by the definition, of one list of executed updates; its length is the number that is told, and no less than the one
+-- that was named.
+pub record IsSearched (named : ℕ) (q : SearchRequestValue) (looked : Looked Answer) : Type 0 where
+  pub executed : ExecutedValue
+  pub is : IsReadAt (length executed.records) named (answer (directory_at executed) q) looked
+
+pub record IsCompared (named : ℕ) (q : CompareRequestValue) (looked : Looked ReplyModel) : Type 0 where
+  pub executed : ExecutedValue
+  pub is : IsReadAt (length executed.records) named (compared_reply (directory_at executed) q) looked
+
+-- what a look at a node may be told
+abbrev pub looks : Exchange (Unit {0}) → Type 0
+looks (asked_role role told) = ⊥
+looks (learned told) = Unit {0}
+looks (searched named q looked) = IsSearched named q looked
+looks (compared named q looked) = IsCompared named q looked
+looks (updated client number op ended) = ⊥
+
+-- how an outcome is told: as it is, unless its reply finds no memory; what is still to come is told as lost
+abbrev pub EndsAs : OutcomeValue → EndedValue → Type 0
+EndsAs o (talk.done number reply) = o ≡ done number reply
+EndsAs o talk.stale = o ≡ stale
+EndsAs o talk.lost = (o ≡ lost) ⊎ (o ≡ pending)
+EndsAs o talk.refused_memory = (number : ℕ) × ((reply : ReplyModel) × (o ≡ done number reply))
+
+-- A request ended as its outcome at some state of a node.
+pub record IsEnded (D : Type 0) (client : Client) (number : ℕ) (ended : EndedValue) : Type 0 where
+  pub node : NodeValue D
+  pub is : EndsAs (outcome_of node client number) ended
+
+-- An update is lost where the node doesn't take it, and isn't made where there is no memory for it.
+abbrev pub IsUpdated : (D : Type 0) → Client → ℕ → EndedValue → Type 0
+IsUpdated D client number (talk.done place reply) = IsEnded D client number (talk.done place reply)
+IsUpdated D client number talk.stale = IsEnded D client number talk.stale
+IsUpdated D client number talk.lost = Unit {0}
+IsUpdated D client number talk.refused_memory = Unit {0}
+
+-- what a gate to a node may be told
+abbrev pub gates : (D : Type 0) → Exchange (Unit {0}) → Type 0
+gates D (asked_role role told) = Unit {0}
+gates D (learned told) = ⊥
+gates D (searched named q looked) = ⊥
+gates D (compared named q looked) = ⊥
+gates D (updated client number op ended) = IsUpdated D (core_client client) number ended

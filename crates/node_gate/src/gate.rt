@@ -1,0 +1,109 @@
+// A session's gate to a running node. Updates flow in; how they ended flows out. What must not be here: reads, how replicas agree.
+ghost use Rattle.session_talk.specs.View.{ended_view};
+ghost use Rattle.node_gate.specs.Shared.{IsUpdated, core_client};
+
+use crate::ending::core_client;
+use crate::peers::Peers;
+use crate::running::Running;
+use dir_node::{Device, Entry, Event, NodeError, Op, Standing};
+use session_talk::{Client, Ended, Gate, Role, Update};
+use std::alloc::Global;
+use std::sync::Wait;
+
+/// One session's way to a node for updates. The runtime is a part of it, since an update waits for its outcome.
+#[derive(Drop)]
+pub struct NodeGate<'a, R, D: Device, P> {
+    rt: &'a R,
+    running: &'a Running<D>,
+    peers: &'a P,
+    /// The URI of each replica, by index (RFC 4516).
+    uris: &'a [String],
+    asked: u64,
+}
+
+impl<'a, R, D: Device, P> NodeGate<'a, R, D, P> {
+    pub fn new(
+        rt: &'a R,
+        running: &'a Running<D>,
+        peers: &'a P,
+        uris: &'a [String],
+    ) -> NodeGate<'a, R, D, P> {
+        NodeGate {
+            rt,
+            running,
+            peers,
+            uris,
+            asked: 0,
+        }
+    }
+
+    /// The role of a backup of this primary.
+    fn backup_of(&self, alloc: Global, primary: u64) -> Role {
+        match self.uris.get(primary as usize) {
+            Some(uri) => match String::from_str(alloc, uri.as_str()) {
+                Ok(uri) => Role::Backup { uri },
+                Err(_) => Role::Changing,
+            },
+            None => Role::Changing,
+        }
+    }
+}
+
+impl<'a, R: Wait, D: Device, P: Peers> NodeGate<'a, R, D, P> {
+    /// Hands a request to the node, and waits for its outcome.
+    fn ask(&self, alloc: Global, client: Client, number: u64, payload: Op) -> Ended
+        ensures { IsUpdated D (core_client client) number (ended_view result) }
+    {
+        let client = core_client(client);
+        let entry = Entry {
+            client,
+            request_number: number,
+            payload,
+        };
+        match self
+            .running
+            .handle(self.rt, alloc, self.peers, Event::Request { entry })
+        {
+            Ok(()) => self.running.settled(self.rt, alloc, client, number),
+            Err(NodeError::NoMemory) => Ended::NoMemory,
+            Err(NodeError::Store(_) | NodeError::Halted) => Ended::Lost,
+        }
+    }
+}
+
+impl<'a, R: Wait, D: Device, P: Peers> Gate<()> for NodeGate<'a, R, D, P> {
+    ghost use Rattle.std.specs.Prelude.{◌≡◌, ◌+◌, min};
+    ghost use Rattle.session_talk.specs.Counting.{updates_of, greatest_count};
+    ghost use Rattle.node_gate.specs.Shared.{gates};
+
+    // An update ends as its outcome at some state of the node; the count rises by one with each.
+    ghost allows = { λ d x e. (e.asked ≡ min (d.asked + updates_of x) greatest_count) × gates D x };
+
+    ghost count = { λ d. d.asked };
+
+    fn role(&mut self, alloc: Global) -> (Role, ()) {
+        // No update more is asked of it.
+        self.asked = self.asked.saturating_add(0);
+        let role = match self.running.pulse(self.rt).standing {
+            Standing::Primary => Role::Primary,
+            Standing::Backup { primary } => self.backup_of(alloc, primary),
+            Standing::Changing => Role::Changing,
+            Standing::Recovering => Role::Recovering,
+        };
+        (role, ())
+    }
+
+    fn update(&mut self, alloc: Global, client: Client, number: u64, update: Update) -> Ended {
+        self.asked = self.asked.saturating_add(1);
+        match Op::new(alloc, update) {
+            Ok(payload) => self.ask(alloc, client, number, payload),
+            Err(_) => Ended::NoMemory,
+        }
+    }
+
+    fn asked(&self) -> u64 {
+        self.asked
+    }
+
+    ghost counts = { λ _ _ _ p. p.0 };
+}
