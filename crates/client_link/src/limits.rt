@@ -1,0 +1,42 @@
+//! How much patience a server has with a client. Times flow in and out. Clocks and sockets are not here.
+use std::time::Duration;
+
+/// After how many seconds a client that is silent inside a message is sent off, where nothing else is said.
+const MESSAGE: u64 = 10;
+
+/// After how many seconds without a message a client gives up its place to one that waits, where nothing else is said.
+const IDLE: u64 = 60;
+
+/// How long a read waits at most before the door and the clock are looked at, in milliseconds.
+const TURN: u64 = 200;
+
+/// After how many seconds a client that takes nothing of its answers is sent off, where nothing else is said.
+const WRITE: u64 = 20;
+
+/// How long a server waits for a client, before it closes the connection.
+#[derive(Clone, Copy, Debug)]
+pub struct Limits {
+    /// For the next octet, inside a message.
+    pub message: Duration,
+    /// For the next whole message, where another client waits for the place.
+    pub idle: Duration,
+    /// For the client to take something of what is written.
+    pub write: Duration,
+}
+
+impl Limits {
+    /// 10 seconds inside a message, 60 seconds where others wait, 20 seconds for a write.
+    pub fn usual() -> Limits {
+        Limits {
+            message: Duration::from_secs(MESSAGE),
+            idle: Duration::from_secs(IDLE),
+            write: Duration::from_secs(WRITE),
+        }
+    }
+
+    /// How often whoever waits for a client looks at the clock: every 200 milliseconds, or as often as the limits want it.
+    pub fn turn(&self) -> Duration {
+        let least = self.message.min(self.idle).max(Duration::from_millis(1));
+        Duration::from_millis(TURN).min(least)
+    }
+}

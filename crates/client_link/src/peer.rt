@@ -1,0 +1,40 @@
+//! Another replica's stream, of which frames are read. A socket flows in; a reader of it flows out. What a frame says is not here.
+use crate::accepting::Arrives;
+use crate::door::Door;
+use crate::headings::FrameHeading;
+use crate::pieces::PieceReader;
+use std::alloc::Global;
+use std::io;
+use std::io::BufReader;
+use std::net::TcpStream;
+use std::sync::Wait;
+use std::time::Clock;
+
+/// A stream that another replica, or a stranger, has opened.
+#[derive(Drop)]
+pub struct Peer<'a, R> {
+    reader: PieceReader<'a, R, FrameHeading>,
+}
+
+impl<'a, R: Wait + Clock> Arrives<'a, R> for Peer<'a, R> {
+    fn arrive(
+        rt: &'a R,
+        _alloc: Global,
+        door: &'a Door,
+        socket: TcpStream,
+    ) -> io::Result<Peer<'a, R>> {
+        let reader = PieceReader::new(rt, door, socket)?;
+        Ok(Peer { reader })
+    }
+}
+
+impl<'a, R: Wait + Clock> Peer<'a, R> {
+    /// It is given a place: what frames are read from.
+    pub fn seated(
+        mut self,
+        alloc: Global,
+    ) -> io::Result<BufReader<PieceReader<'a, R, FrameHeading>>> {
+        self.reader.sit();
+        BufReader::new(alloc, self.reader)
+    }
+}

@@ -1,0 +1,100 @@
+//! A socket that is read with a server's patience. Octets flow in from the socket and out to whoever reads. Sessions and links are not here.
+ghost use Rattle.std.specs.Prelude.{◌≤◌};
+
+use crate::door::Door;
+use crate::gauge::{Gauge, Heading};
+use std::io;
+use std::io::{ErrorKind, Read};
+use std::net::TcpStream;
+use std::sync::Wait;
+use std::time::{Clock, Instant};
+
+/// Reads a socket, and fails where the door is closed, where the other end is silent for too long inside a message, and where it sends no
+/// whole message for too long while another waits for the place.
+#[derive(Drop)]
+pub struct PieceReader<'a, R, H> {
+    rt: &'a R,
+    door: &'a Door,
+    stream: TcpStream,
+    gauge: Gauge<H>,
+    /// How many messages were whole at the last look, and since when there was none more.
+    count: u64,
+    since_message: Instant,
+    since_octet: Instant,
+}
+
+/// Whether a read came to nothing only because its time was over.
+fn is_pause(kind: ErrorKind) -> bool {
+    kind == ErrorKind::WouldBlock || kind == ErrorKind::TimedOut
+}
+
+impl<'a, R: Wait + Clock, H: Heading> PieceReader<'a, R, H> {
+    /// A socket of which nothing was read.
+    pub fn new(rt: &'a R, door: &'a Door, stream: TcpStream) -> io::Result<PieceReader<'a, R, H>> {
+        stream.set_read_timeout(Some(door.limits().turn()))?;
+        let now = Instant::now(rt)?;
+        Ok(PieceReader {
+            rt,
+            door,
+            stream,
+            gauge: Gauge::new(),
+            count: 0,
+            since_message: now,
+            since_octet: now,
+        })
+    }
+
+    /// It is given a place.
+    pub fn sit(&mut self) {
+        self.door.sit(self.rt);
+    }
+
+    /// A read begins: what came before is answered by now, and the time that this took is not the other end's.
+    fn begin(&mut self) -> io::Result<()> {
+        let now = Instant::now(self.rt)?;
+        self.since_octet = now;
+        if self.gauge.count() != self.count {
+            self.count = self.gauge.count();
+            self.since_message = now;
+        }
+        Ok(())
+    }
+
+    /// Whether the patience with the other end is at its end.
+    fn is_over(&self) -> io::Result<bool> {
+        let now = Instant::now(self.rt)?;
+        let limits = self.door.limits();
+        if self.door.is_closed() {
+            return Ok(true);
+        }
+        let silent = now.saturating_duration_since(self.since_octet);
+        if self.gauge.is_inside() && silent >= limits.message {
+            return Ok(true);
+        }
+        let idle = now.saturating_duration_since(self.since_message);
+        Ok(idle >= limits.idle && self.door.give_up(self.rt))
+    }
+}
+
+impl<'a, R: Wait + Clock, H: Heading> Read for PieceReader<'a, R, H> {
+    fn read(&mut self, buffer: &mut [u8]) -> io::Result<usize> {
+        self.begin()?;
+        for _ in 0..u64::MAX {
+            if self.is_over()? {
+                break;
+            }
+            match self.stream.read(buffer) {
+                Ok(count) => {
+                    self.gauge.feed(&buffer[..count]);
+                    return Ok(count);
+                }
+                Err(error) => {
+                    if !is_pause(error.kind()) {
+                        return Err(error);
+                    }
+                }
+            }
+        }
+        Err(io::Error::from(ErrorKind::TimedOut))
+    }
+}

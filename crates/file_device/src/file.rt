@@ -1,0 +1,112 @@
+//! A file that is opened as a device. A path flows in, a device flows out. What the calls of a device do is not here.
+ghost use Rattle.std.specs.Prelude.{◌≡◌, ◌≤◌, length, IfOk, IfSome};
+ghost use Rattle.view_store.specs.Device.{HasRisen};
+
+use crate::fault::FileDeviceError;
+use std::alloc::Global;
+use std::fs::{File, Files, OpenOptions, TryLockError};
+use std::io::{Error, ErrorKind, Read};
+use view_store::DeviceFailure;
+
+/// A file with more octets is refused.
+const MAX_OCTETS: usize = 4096;
+
+/// How many octets are read at once, at most.
+const PIECE: usize = 512;
+
+/// A file as a device. Every octet that was read or written is kept beside it, and a read or a length that the file answers otherwise is a
+/// failure. Nothing is claimed of what a crash leaves of a file: as a device it names no outcome of a crash at all, so what the contract of a
+/// device says of crashes holds of it for want of any. A sync hands the octets to the operating system's own sync of the file; the folder of
+/// a file that was made isn't synced.
+#[derive(Drop)]
+pub struct FileDevice {
+    pub(crate) alloc: Global,
+    pub(crate) file: File,
+    /// What the file holds, as far as it is honest.
+    pub(crate) image: Vec<u8>,
+    pub(crate) failures: u64,
+}
+
+impl FileDevice {
+    /// Opens a file, and makes it where there is none. It is locked as long as the device is there, so that a file that another device holds is
+    /// refused, whatever process it is of.
+    pub fn open<R: Files<File = File>>(
+        rt: &R,
+        alloc: Global,
+        path: &str,
+    ) -> Result<FileDevice, FileDeviceError>
+        ensures { IfOk result (λ device. (length device.image.items ≤ 4096) × (device.failures ≡ 0)) }
+    {
+        let mut options = OpenOptions::new();
+        options.read(true).write(true).create(true);
+        let mut file = options.open(rt, path).map_err(failed)?;
+        lock(&file)?;
+        let image = read_image(alloc, &mut file)?;
+        Ok(FileDevice {
+            alloc,
+            file,
+            image,
+            failures: 0,
+        })
+    }
+
+    /// Counts a failure.
+    pub(crate) fn fail(&mut self) -> DeviceFailure
+        ensures image { self.new.image ≡ self.old.image }
+        ensures later { self.old.failures ≤ self.new.failures }
+        ensures risen { HasRisen self.old.failures self.new.failures }
+    {
+        self.failures = self.failures.saturating_add(1);
+        DeviceFailure
+    }
+}
+
+fn failed(error: Error) -> FileDeviceError {
+    FileDeviceError::Failed(error.kind())
+}
+
+/// Takes the file for this process alone.
+fn lock(file: &File) -> Result<(), FileDeviceError> {
+    match file.try_lock() {
+        Ok(()) => Ok(()),
+        Err(TryLockError::WouldBlock) => Err(FileDeviceError::InUse),
+        Err(TryLockError::Error(error)) => Err(failed(error)),
+    }
+}
+
+/// Reads once; a read that was interrupted is one of no octets, and none at all is the end.
+fn read_some(file: &mut File, piece: &mut [u8]) -> Result<Option<usize>, FileDeviceError>
+    ensures { IfOk result (λ got. IfSome got (λ count. count ≤ length piece.new)) }
+{
+    match file.read(piece) {
+        Ok(0) => Ok(None),
+        Ok(count) => Ok(Some(count)),
+        Err(error) => {
+            if error.kind() == ErrorKind::Interrupted {
+                Ok(Some(0))
+            } else {
+                Err(failed(error))
+            }
+        }
+    }
+}
+
+/// Reads all octets of a file.
+fn read_image(alloc: Global, file: &mut File) -> Result<Vec<u8>, FileDeviceError>
+    ensures { IfOk result (λ image. length image.items ≤ 4096) }
+{
+    let mut image = Vec::new(alloc);
+    let mut piece = [0u8; PIECE];
+    for _ in 0..u64::MAX {
+        let Some(count) = read_some(file, &mut piece)? else {
+            return Ok(image);
+        };
+        if count > MAX_OCTETS - image.len() {
+            return Err(FileDeviceError::TooLong);
+        }
+        if image.extend_from_slice(&piece[..count]).is_err() {
+            return Err(FileDeviceError::NoMemory);
+        }
+    }
+    Err(FileDeviceError::TooLong)
+}

@@ -1,0 +1,73 @@
+//! Frames written out by a thread of their own. Frames flow from a queue to streams. What frames say is not here.
+use crate::dialing::Dial;
+use crate::outbox::Outbox;
+use crate::patience::Patience;
+use std::io::Write;
+use std::sync::Wait;
+use std::time::{Clock, Duration, Instant};
+
+/// After so many milliseconds without a frame it is looked whether the other end still holds the stream.
+const IDLE: u64 = 1000;
+
+/// Whether nothing was sent for so long that the stream is to be looked at.
+fn was_idle<R: Clock>(rt: &R, last: &mut Option<Instant>) -> bool {
+    let now = Instant::now(rt).ok();
+    let was_idle = match (*last, now) {
+        (Some(before), Some(now)) => {
+            now.saturating_duration_since(before) >= Duration::from_millis(IDLE)
+        }
+        _ => true,
+    };
+    *last = now;
+    was_idle
+}
+
+/// Makes a stream, as often as it takes; none where it is stopped meanwhile.
+fn dialed<R: Wait + Clock, D: Dial>(rt: &R, outbox: &Outbox, dialer: &mut D) -> Option<D::Stream> {
+    let mut patience = Patience::new();
+    for _ in rt.forever() {
+        if let Some(stream) = dialer.dial() {
+            return Some(stream);
+        }
+        if outbox.rest(rt, Duration::from_millis(patience.rest())) {
+            break;
+        }
+    }
+    None
+}
+
+/// Sees to it that there is a stream; none where it is stopped meanwhile.
+fn connected<R: Wait + Clock, D: Dial>(
+    rt: &R,
+    outbox: &Outbox,
+    dialer: &mut D,
+    held: Option<D::Stream>,
+    was_idle: bool,
+) -> Option<D::Stream> {
+    if let Some(stream) = held {
+        if !was_idle || dialer.is_open(&stream) {
+            return Some(stream);
+        }
+    }
+    dialed(rt, outbox, dialer)
+}
+
+/// Sends the frames of a queue, one after the other, over a stream that is made again whenever it fails or the other end has closed it, until
+/// the queue is stopped. A frame whose stream fails is lost, whole or in part, and so is the stream.
+pub fn send_all<R: Wait + Clock, D: Dial>(rt: &R, outbox: &Outbox, dialer: &mut D) {
+    let mut stream: Option<D::Stream> = None;
+    let mut last: Option<Instant> = None;
+    for _ in rt.forever() {
+        let Some(frame) = outbox.take(rt) else {
+            break;
+        };
+        let was_idle = was_idle(rt, &mut last);
+        let Some(mut open) = connected(rt, outbox, dialer, stream, was_idle) else {
+            return;
+        };
+        stream = match open.write_all(frame.as_slice()) {
+            Ok(()) => Some(open),
+            Err(_) => None,
+        };
+    }
+}

@@ -1,0 +1,11 @@
+use Rattle.ldap_session.specs.session_rules.View.{config_view}
+use Rattle.session_threads.proofs.Turns.{none_served, one_more_served}
+use Rattle.session_threads.proofs.serving.serve_each.Goals as goal
+
+pub loop-init : goal.loop-init
+loop-init g c = none_served g.D.Directory.allows (config_view c.args.config.now) c.args.directory
+
+pub loop-preserved : goal.loop-preserved
+loop-preserved g c =
+    one_more_served g.D.Directory.allows (config_view c.args.config.now) c.args.directory c.loop.directory c.serve_one.new.directory _ c.loop.invariant
+    c.serve_one.ensures

@@ -1,0 +1,12 @@
+//! A client's stream, in both directions. A connection flows in; its two ends are lent out. Sockets and sessions are not here.
+use std::io::{Read, Write};
+
+/// One client's stream, which lends an end to read from and an end to write to, at once.
+pub trait Connection {
+    type Reader: Read + Send;
+
+    type Writer: Write + Send;
+
+    /// Both ends. A connection is asked for them once, as its session begins.
+    fn ends(&mut self) -> (&mut Self::Reader, &mut Self::Writer);
+}

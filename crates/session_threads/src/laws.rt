@@ -1,0 +1,10 @@
+//! Laws of directories that serve one session after the other. Nothing flows in; what holds of all of them flows out. Code that runs is not
+//! here.
+ghost use Rattle.session_threads.specs.Served.{GoesAlong};
+
+use ldap_session::Directory;
+
+/// A directory that served sessions in turn went along one talk with them all: a law on the definitions, so its body is empty.
+pub fn served_along<D: Directory>()
+    ensures { GoesAlong D.allows }
+{}
