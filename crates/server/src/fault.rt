@@ -1,0 +1,65 @@
+//! Why a server doesn't run, or stopped. Nothing flows in; plain data flows out.
+use dir_node::{NodeError, ViewStoreError};
+use file_device::FileDeviceError;
+use std::alloc::{AllocError, AllocFailed};
+use thiserror::Error;
+
+/// Why a server doesn't run, or stopped.
+#[derive(Clone, Copy, Debug, PartialEq, Eq, Error)]
+pub enum ServerError {
+    /// The file of the stored view can't be opened, or is another process's.
+    #[error("cannot open the stored view")]
+    CannotOpen,
+    /// An address is another's, or not of this machine.
+    #[error("cannot listen")]
+    CannotListen,
+    /// The file holds no stored view, or one that can't be counted on.
+    #[error("no stored view")]
+    NoStoredView,
+    /// The stored view is another cluster's.
+    #[error("foreign cluster")]
+    ForeignCluster,
+    /// The file failed.
+    #[error("E21")]
+    DeviceFailed,
+    /// The system gave fewer threads than the server needs.
+    #[error("no thread")]
+    NoThread,
+    /// `listening` couldn't be written.
+    #[error("cannot write")]
+    CannotWrite,
+    #[error("out of memory")]
+    NoMemory,
+}
+
+impl From<AllocError> for ServerError {
+    fn from(_: AllocError) -> ServerError {
+        ServerError::NoMemory
+    }
+}
+
+impl<T: Drop> From<AllocFailed<T>> for ServerError {
+    fn from(_: AllocFailed<T>) -> ServerError {
+        ServerError::NoMemory
+    }
+}
+
+impl From<FileDeviceError> for ServerError {
+    fn from(error: FileDeviceError) -> ServerError {
+        match error {
+            FileDeviceError::NoMemory => ServerError::NoMemory,
+            _ => ServerError::CannotOpen,
+        }
+    }
+}
+
+impl From<NodeError> for ServerError {
+    fn from(error: NodeError) -> ServerError {
+        match error {
+            NodeError::NoMemory => ServerError::NoMemory,
+            NodeError::Store(ViewStoreError::NoPair) => ServerError::NoStoredView,
+            NodeError::Store(ViewStoreError::ForeignCluster) => ServerError::ForeignCluster,
+            NodeError::Store(_) | NodeError::Halted => ServerError::DeviceFailed,
+        }
+    }
+}

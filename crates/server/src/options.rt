@@ -1,0 +1,45 @@
+//! What a server is told. Plain data flows in and out. What is done with it is not here.
+use client_link::Limits;
+use dir_node::{Name, NodeConfig};
+use std::net::SocketAddr;
+use std::time::Duration;
+
+/// Where one replica is found.
+#[derive(Clone, Copy, Debug, PartialEq, Eq)]
+pub struct Place {
+    /// Where the other replicas find it.
+    pub peer_address: SocketAddr,
+    /// Where clients find it.
+    pub ldap_address: SocketAddr,
+}
+
+/// When a replica moves by itself.
+#[derive(Clone, Copy, Debug, PartialEq, Eq)]
+pub struct Times {
+    /// How often it sends again what others may have missed.
+    pub beat: Duration,
+    /// How long a backup hears nothing of its primary before it suspects it.
+    pub suspect: Duration,
+}
+
+/// What a server is told.
+#[derive(Drop)]
+pub struct Options<'a> {
+    /// The replica.
+    pub node: NodeConfig,
+    /// The name that may bind and update.
+    pub manager: Name,
+    pub password: &'a str,
+    /// The name of the file of the stored view.
+    pub store: &'a str,
+    /// Whether this is the first start of the replica's life.
+    pub is_fresh: bool,
+    /// How many sessions are served at once.
+    pub seats: usize,
+    /// How many connections wait for a seat, at most.
+    pub waiting: usize,
+    pub times: Times,
+    pub limits: Limits,
+    /// All replicas, by index.
+    pub places: &'a [Place],
+}

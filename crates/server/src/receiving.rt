@@ -1,0 +1,105 @@
+//! What other replicas send. Connections and the frames on them flow in; events flow to the node. What an event makes is not here.
+use crate::posts::Posts;
+use crate::telling::{tell_peer_came, tell_peer_went};
+use client_link::Peer;
+use crossbeam_channel::Receiver;
+use dir_node::{Event, NodeError};
+use file_device::FileDevice;
+use node_gate::Running;
+use peer_link::{FrameEnd, read_head, read_rest};
+use std::alloc::Global;
+use std::io::{Eprint, Read};
+use std::sync::Wait;
+use std::time::Clock;
+use vr_wire::{WireError, read, rest};
+
+/// What all readers of peers share.
+#[derive(Drop)]
+pub struct Hall<'a, R> {
+    pub rt: &'a R,
+    pub alloc: Global,
+    pub running: &'a Running<FileDevice>,
+    pub posts: &'a Posts<'a, R>,
+}
+
+/// Why a connection ended, as it is told.
+fn reason_of(end: FrameEnd) -> &'static str {
+    match end {
+        FrameEnd::Closed => "it closed",
+        FrameEnd::Cut => "it closed in the midst of a frame",
+        FrameEnd::Failed => "it failed",
+        FrameEnd::NoMemory => "out of memory",
+    }
+}
+
+/// Why a connection ended, as it is told.
+fn refusal_of(error: WireError) -> &'static str {
+    match error {
+        WireError::BadFrame => "E20",
+        WireError::ForeignFrame => "E24",
+        WireError::NoMemory => "out of memory",
+    }
+}
+
+/// Reads one frame whole, or why there is none.
+fn next_frame<S: Read>(alloc: Global, reader: &mut S) -> Result<Vec<u8>, &'static str> {
+    let head = read_head(reader).map_err(reason_of)?;
+    let count = rest(head).map_err(refusal_of)?;
+    read_rest(alloc, reader, head, count).map_err(reason_of)
+}
+
+impl<'a, R: Wait + Clock + Eprint> Hall<'a, R> {
+    /// Hands the message of a frame to the node, and gives its sender; else why the connection ends.
+    fn take_frame(&self, frame: &[u8]) -> Result<u64, &'static str> {
+        let (sender, message) = read(self.alloc, frame, self.posts.cluster).map_err(refusal_of)?;
+        let from = u64::from(sender);
+        let event = Event::Message { from, message };
+        match self.running.handle(self.rt, self.alloc, self.posts, event) {
+            // Without memory the message is lost, as the network may lose one.
+            Ok(()) | Err(NodeError::NoMemory) => Ok(from),
+            Err(NodeError::Store(_) | NodeError::Halted) => Err("the node has stopped"),
+        }
+    }
+
+    /// Reads one frame, and hands its message to the node.
+    fn take_next<S: Read>(&self, reader: &mut S) -> Result<u64, &'static str> {
+        let frame = next_frame(self.alloc, reader)?;
+        self.take_frame(&frame)
+    }
+
+    /// Reads the frames of one connection, to its end.
+    fn read_all<S: Read>(&self, reader: &mut S, peer: &mut Option<u64>) -> &'static str {
+        for _ in self.rt.forever() {
+            match self.take_next(reader) {
+                Ok(sender) => {
+                    if *peer != Some(sender) {
+                        *peer = Some(sender);
+                        tell_peer_came(self.rt, sender);
+                    }
+                }
+                Err(reason) => return reason,
+            }
+        }
+        "it ended"
+    }
+
+    /// Hears one connection, to its end.
+    fn hear(&self, peer: Peer<'a, R>) {
+        let mut sender = None;
+        let reason = match peer.seated(self.alloc) {
+            Ok(mut reader) => self.read_all(&mut reader, &mut sender),
+            Err(_) => "out of memory",
+        };
+        tell_peer_went(self.rt, sender, reason);
+    }
+
+    /// Hears connections one after the other, until the channel is closed and empty.
+    pub fn hear_each(&self, connections: &Receiver<(u64, Peer<'a, R>)>) {
+        for _ in self.rt.forever() {
+            let Ok((_, peer)) = connections.recv(self.rt) else {
+                break;
+            };
+            self.hear(peer);
+        }
+    }
+}

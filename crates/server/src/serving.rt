@@ -1,0 +1,462 @@
+//! A replica put together: its listeners, its threads, and how they end. Settings flow in; clients and replicas are served until the node has
+//! stopped for good.
+use crate::crew::Crew;
+use crate::fault::ServerError;
+use crate::opening::open_node;
+use crate::options::{Options, Place, Times};
+use crate::posts::Posts;
+use crate::receiving::Hall;
+use crate::ticking::Clockwork;
+use client_link::{Client, Door, Limits, Peer, accept_all, close};
+use crossbeam_channel::{Receiver, Sender, bounded};
+use file_device::FileDevice;
+use node_gate::{NodeGate, NodeLook, Peers, Running};
+use peer_link::{Outbox, SocketDialer, send_all};
+use session_threads::{Config, serve_all};
+use std::alloc::{AllocError, Global};
+use std::fs::{File, Files};
+use std::io::{Eprint, Write};
+use std::net::{Net, SocketAddr, TcpListener, TcpStream};
+use std::sync::{Arc, Wait};
+use std::thread::{self, Threads};
+use std::time::{Clock, Duration};
+
+/// How many frames wait for a replica, at most.
+const FRAMES: usize = 1024;
+
+/// How many octets they have, at most, but for the newest.
+const OCTETS: usize = 67_108_864;
+
+/// How long a connection to a replica may take to be made, in milliseconds.
+const DIAL_LIMIT: u64 = 2_000;
+
+/// One session's way to the node.
+type Seat<'a, R> = (
+    NodeLook<'a, R, FileDevice>,
+    NodeGate<'a, R, FileDevice, Posts<'a, R>>,
+);
+
+/// A server: what its threads share.
+#[derive(Drop)]
+struct Server<'a, R> {
+    rt: &'a R,
+    alloc: Global,
+    clients: &'a TcpListener,
+    peers: &'a TcpListener,
+    client_door: &'a Door,
+    peer_door: &'a Door,
+    running: &'a Running<FileDevice>,
+    posts: &'a Posts<'a, R>,
+    places: &'a [Place],
+    uris: &'a [String],
+    crew: &'a Crew,
+    index: usize,
+}
+
+/// The queues to all replicas.
+fn outboxes(alloc: Global, count: usize) -> Result<Vec<Outbox>, AllocError> {
+    let mut boxes = Vec::new(alloc);
+    for _ in 0..count {
+        boxes.push(Outbox::new(alloc, FRAMES, OCTETS)?)?;
+    }
+    Ok(boxes)
+}
+
+/// The URI of each replica (RFC 4516), by index.
+fn uris(alloc: Global, places: &[Place]) -> Result<Vec<String>, AllocError> {
+    let mut uris = Vec::new(alloc);
+    for place in places {
+        uris.push(format!(in alloc; "ldap://{}", place.ldap_address)?)?;
+    }
+    Ok(uris)
+}
+
+impl<'a, R> Server<'a, R>
+where
+    R: Net<Listener = TcpListener, Stream = TcpStream> + Threads + Wait + Clock + Eprint + Sync,
+{
+    /// A look and a gate for each seat.
+    fn seats(&self, count: usize) -> Result<Vec<Seat<'a, R>>, AllocError> {
+        let mut seats = Vec::new(self.alloc);
+        for _ in 0..count {
+            let look = NodeLook::new(self.rt, self.running);
+            let gate = NodeGate::new(self.rt, self.running, self.posts, self.uris);
+            seats.push((look, gate))?;
+        }
+        Ok(seats)
+    }
+
+    /// Sends frames to one replica, until its queue is stopped.
+    fn send_to(&self, to: usize) {
+        if let (Some(outbox), Some(place)) = (self.posts.boxes.get(to), self.places.get(to)) {
+            let limit = Duration::from_millis(DIAL_LIMIT);
+            let mut dialer = SocketDialer::new(self.rt, place.peer_address, limit);
+            send_all(self.rt, outbox, &mut dialer);
+        }
+    }
+
+    /// The indices of the other replicas, each so many times.
+    fn others(&self, times: usize) -> Result<Vec<usize>, AllocError> {
+        let mut others = Vec::new(self.alloc);
+        for _ in 0..times {
+            for index in 0..self.places.len() {
+                if index != self.index {
+                    others.push(index)?;
+                }
+            }
+        }
+        Ok(others)
+    }
+
+    /// Takes the connections of other replicas, until the server closes.
+    fn take_peers(&self, to: Sender<(u64, Peer<'a, R>)>) {
+        self.crew.begin();
+        accept_all(self.rt, self.alloc, self.peers, self.peer_door, to);
+    }
+
+    /// Takes the connections of clients, until the server closes.
+    fn take_clients(&self, to: Sender<(u64, Client<'a, R>)>) {
+        self.crew.begin();
+        accept_all(self.rt, self.alloc, self.clients, self.client_door, to);
+    }
+
+    /// The clock of the node.
+    fn clock(&self, times: Times) -> Clockwork<'a, R> {
+        Clockwork {
+            rt: self.rt,
+            alloc: self.alloc,
+            running: self.running,
+            posts: self.posts,
+            crew: self.crew,
+            times,
+            index: self.index as u64,
+            count: self.places.len() as u64,
+        }
+    }
+
+    /// What all readers of other replicas share.
+    fn hall(&self) -> Hall<'a, R> {
+        Hall {
+            rt: self.rt,
+            alloc: self.alloc,
+            running: self.running,
+            posts: self.posts,
+        }
+    }
+
+    /// Hears other replicas, a connection in each thread.
+    fn hear_peers(
+        &self,
+        readers: Vec<usize>,
+        waiting: Receiver<(u64, Peer<'a, R>)>,
+    ) -> Result<(), AllocError> {
+        let hall = self.hall();
+        let crew = self.crew;
+        let shared = &waiting;
+        let hears = |_index: usize| {
+            crew.begin();
+            hall.hear_each(shared);
+        };
+        let _heard = thread::map_vec(self.rt, readers, &hears)?;
+        Ok(())
+    }
+
+    /// Sends to other replicas, to one in each thread.
+    fn send_frames(&self, writers: Vec<usize>) -> Result<(), AllocError> {
+        let sends = |to: usize| {
+            self.crew.begin();
+            self.send_to(to);
+        };
+        let _sent = thread::map_vec(self.rt, writers, &sends)?;
+        Ok(())
+    }
+
+    /// Hears and sends, side by side.
+    fn pass_frames(
+        &self,
+        readers: Vec<usize>,
+        writers: Vec<usize>,
+        waiting: Receiver<(u64, Peer<'a, R>)>,
+    ) -> Result<(), AllocError> {
+        let (heard, sent) = thread::join(
+            self.rt,
+            || self.hear_peers(readers, waiting),
+            || self.send_frames(writers),
+        );
+        heard?;
+        sent
+    }
+
+    /// Sends to the other replicas and hears them, until the server closes.
+    fn link(&self) -> Result<(), AllocError> {
+        self.crew.begin();
+        let writers = self.others(1)?;
+        let readers = self.others(2)?;
+        let (to_readers, waiting) = bounded(self.alloc, readers.len().max(1))?;
+        let ((), passed) = thread::join(
+            self.rt,
+            || self.take_peers(to_readers),
+            || self.pass_frames(readers, writers, waiting),
+        );
+        passed
+    }
+
+    /// Serves the clients that were taken, each in a seat.
+    fn seat_clients(
+        &self,
+        connections: Receiver<(u64, Client<'a, R>)>,
+        seats: Vec<Seat<'a, R>>,
+        config: &Config<'_>,
+    ) -> Result<(), AllocError> {
+        let _seats = serve_all(self.rt, self.alloc, connections, seats, config)?;
+        Ok(())
+    }
+
+    /// Serves clients, until the server closes.
+    fn serve_clients(
+        &self,
+        seats: Vec<Seat<'a, R>>,
+        waiting: usize,
+        config: &Config<'_>,
+    ) -> Result<(), AllocError> {
+        self.crew.begin();
+        let (to_seats, connections) = bounded(self.alloc, waiting)?;
+        let ((), served) = thread::join(
+            self.rt,
+            || {
+                self.take_clients(to_seats);
+            },
+            || self.seat_clients(connections, seats, config),
+        );
+        served?;
+        Ok(())
+    }
+
+    /// Whatever ended badly ends the server.
+    fn end_with(&self, ended: Result<(), AllocError>) -> Result<(), AllocError> {
+        if ended.is_err() {
+            self.running.stop(self.rt);
+        }
+        ended
+    }
+
+    /// Lets nobody in at this door any more, and wakes who waits for a connection.
+    fn shut(&self, door: &Door, listener: &TcpListener) {
+        match listener.local_addr() {
+            Ok(address) => close(self.rt, door, address),
+            Err(_) => door.shut(),
+        }
+    }
+
+    /// Ends all threads.
+    fn stop(&self) {
+        self.running.stop(self.rt);
+        for outbox in self.posts.boxes {
+            outbox.stop(self.rt);
+        }
+        self.shut(self.client_door, self.clients);
+        self.shut(self.peer_door, self.peers);
+    }
+}
+
+/// A listener at this address.
+fn listen<R: Net<Listener = TcpListener, Stream = TcpStream>>(
+    rt: &R,
+    address: SocketAddr,
+) -> Result<TcpListener, ServerError> {
+    TcpListener::bind(rt, address).map_err(|_| ServerError::CannotListen)
+}
+
+/// Says where clients are heard.
+fn announce<W: Write>(output: &mut W, listener: &TcpListener) -> Result<(), ServerError> {
+    let Ok(address) = listener.local_addr() else {
+        return Err(ServerError::CannotListen);
+    };
+    match writeln!(output, "listening {address}").and_then(|()| output.flush()) {
+        Ok(()) => Ok(()),
+        Err(_) => Err(ServerError::CannotWrite),
+    }
+}
+
+impl<'a, R> Server<'a, R>
+where
+    R: Net<Listener = TcpListener, Stream = TcpStream> + Threads + Wait + Clock + Eprint + Sync,
+{
+    /// All threads, to the end of the last: clients, replicas, and the clock, in the thread that calls.
+    fn run(
+        &self,
+        clock: &Clockwork<'a, R>,
+        seats: Vec<Seat<'a, R>>,
+        waiting: usize,
+        config: &Config<'_>,
+    ) -> Result<(), ServerError> {
+        let (linked, (served, ticked)) = thread::join(
+            self.rt,
+            || self.end_with(self.link()),
+            || {
+                thread::join(
+                    self.rt,
+                    || self.end_with(self.serve_clients(seats, waiting, config)),
+                    || {
+                        let ticked = clock.tick_all();
+                        self.stop();
+                        ticked
+                    },
+                )
+            },
+        );
+        ticked?;
+        linked?;
+        served?;
+        Ok(())
+    }
+}
+
+/// What a server's threads share, as it is made before they begin.
+#[derive(Drop)]
+struct Rooms {
+    clients: TcpListener,
+    peers: TcpListener,
+    client_door: Door,
+    peer_door: Door,
+    boxes: Vec<Outbox>,
+    uris: Vec<String>,
+    crew: Crew,
+}
+
+/// The listeners of the replica of this index, and all that its threads share.
+fn make_rooms<R: Net<Listener = TcpListener, Stream = TcpStream>>(
+    rt: &R,
+    alloc: Global,
+    places: &[Place],
+    index: u64,
+    limits: Limits,
+) -> Result<Rooms, ServerError> {
+    let Some(place) = places.get(index as usize) else {
+        return Err(ServerError::CannotListen);
+    };
+    let boxes = outboxes(alloc, places.len())?;
+    let uris = uris(alloc, places)?;
+    let clients = listen(rt, place.ldap_address)?;
+    let peers = listen(rt, place.peer_address)?;
+    Ok(Rooms {
+        clients,
+        peers,
+        client_door: Door::new(limits),
+        peer_door: Door::new(limits),
+        boxes,
+        uris,
+        crew: Crew::new(places.len()),
+    })
+}
+
+/// What the sessions of a server share.
+#[derive(Clone, Copy)]
+struct Terms<'a> {
+    config: Config<'a>,
+    seats: usize,
+    waiting: usize,
+    times: Times,
+}
+
+/// Runs all threads over what they share.
+fn run_in<'a, R>(
+    rt: &'a R,
+    alloc: Global,
+    rooms: &'a Rooms,
+    running: &'a Running<FileDevice>,
+    posts: &'a Posts<'a, R>,
+    places: &'a [Place],
+    terms: Terms<'_>,
+) -> Result<(), ServerError>
+where
+    R: Net<Listener = TcpListener, Stream = TcpStream> + Threads + Wait + Clock + Eprint + Sync,
+{
+    let server = Server {
+        rt,
+        alloc,
+        clients: &rooms.clients,
+        peers: &rooms.peers,
+        client_door: &rooms.client_door,
+        peer_door: &rooms.peer_door,
+        running,
+        posts,
+        places,
+        uris: &rooms.uris,
+        crew: &rooms.crew,
+        index: usize::from(posts.sender),
+    };
+    let clock = server.clock(terms.times);
+    let seats = server.seats(terms.seats)?;
+    server.run(&clock, seats, terms.waiting.max(1), &terms.config)
+}
+
+/// Serves as a replica: listens, opens its node, says so, and serves clients and the other replicas until the node has stopped for good. It
+/// ends only with an error; where the process is ended from outside, its replica has crashed in the protocol's sense.
+pub fn serve<R, W: Write>(
+    rt: &R,
+    alloc: Global,
+    options: Options<'_>,
+    output: &mut W,
+) -> Result<(), ServerError>
+where
+    R: Net<Listener = TcpListener, Stream = TcpStream>
+        + Files<File = File>
+        + Threads
+        + Wait
+        + Clock
+        + Eprint
+        + Sync,
+{
+    let Options {
+        node,
+        manager,
+        password,
+        store,
+        is_fresh,
+        seats,
+        waiting,
+        times,
+        limits,
+        places,
+    } = options;
+    if node.index >= node.count {
+        return Err(ServerError::CannotListen);
+    }
+    let Ok(sender) = u8::try_from(node.index) else {
+        return Err(ServerError::CannotListen);
+    };
+    let schema = Arc::try_clone(&node.schema)?;
+    let places = places.to_vec(alloc)?;
+    let (index, cluster) = (node.index, node.cluster);
+    let rooms = make_rooms(rt, alloc, &places, index, limits)?;
+    let (node, outputs) = open_node(rt, alloc, store, node, is_fresh)?;
+    let restarts = node.restarts();
+    let running = Running::new(node);
+    let posts = Posts {
+        rt,
+        alloc,
+        cluster,
+        sender,
+        boxes: &rooms.boxes,
+    };
+    for send in outputs.sends {
+        posts.send(send.to, send.message);
+    }
+    announce(output, &rooms.clients)?;
+    let config = Config {
+        schema: &schema,
+        manager: &manager,
+        password: password.as_bytes(),
+        replica: sender,
+        restarts,
+        session: 0,
+    };
+    let terms = Terms {
+        config,
+        seats,
+        waiting,
+        times,
+    };
+    run_in(rt, alloc, &rooms, &running, &posts, &places, terms)
+}

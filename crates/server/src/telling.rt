@@ -1,0 +1,27 @@
+//! What a server says of itself on standard error, a line an event. Events flow in. That nobody reads it stops nothing.
+use node_gate::{Pulse, Standing};
+use std::io::Eprint;
+
+/// A view that is entered, or another standing in it.
+pub fn tell_pulse<R: Eprint>(rt: &R, pulse: &Pulse) {
+    let view = pulse.view_number;
+    let _ = match pulse.standing {
+        Standing::Primary => eprintln!(rt; "view {view}: primary"),
+        Standing::Backup { primary } => eprintln!(rt; "view {view}: backup of {primary}"),
+        Standing::Changing => eprintln!(rt; "view {view}: beginning"),
+        Standing::Recovering => eprintln!(rt; "view {view}: recovering"),
+    };
+}
+
+/// A peer that was heard on a connection for the first time.
+pub fn tell_peer_came<R: Eprint>(rt: &R, sender: u64) {
+    let _ = eprintln!(rt; "replica {sender} came");
+}
+
+/// A connection to a peer that ended.
+pub fn tell_peer_went<R: Eprint>(rt: &R, sender: Option<u64>, why: &str) {
+    let _ = match sender {
+        Some(sender) => eprintln!(rt; "replica {sender} went: {why}"),
+        None => eprintln!(rt; "a stranger went: {why}"),
+    };
+}
