@@ -11,6 +11,9 @@ mod peers;
 mod reading;
 mod running;
 
+pub use dir_node::{
+    Cluster, Event, Name, Node, NodeConfig, NodeError, Op, Outputs, PeerMessage, ViewStoreError,
+};
 pub use gate::NodeGate;
 pub use held::{Pulse, Standing};
 pub use look::NodeLook;

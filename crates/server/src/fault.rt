@@ -1,6 +1,6 @@
 //! Why a server doesn't run, or stopped. Nothing flows in; plain data flows out.
-use dir_node::{NodeError, ViewStoreError};
 use file_device::FileDeviceError;
+use node_gate::{NodeError, ViewStoreError};
 use std::alloc::{AllocError, AllocFailed};
 use thiserror::Error;
 

@@ -4,6 +4,7 @@
 
 mod crew;
 mod fault;
+mod guests;
 mod opening;
 mod options;
 mod posts;
@@ -13,7 +14,7 @@ mod telling;
 mod ticking;
 
 pub use client_link::Limits;
-pub use dir_node::{Cluster, NodeConfig};
 pub use fault::ServerError;
+pub use node_gate::{Cluster, NodeConfig};
 pub use options::{Options, Place, Times};
 pub use serving::serve;

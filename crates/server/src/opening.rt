@@ -2,8 +2,8 @@
 ghost use Rattle.std.specs.Prelude.{◌<◌};
 
 use crate::fault::ServerError;
-use dir_node::{Node, NodeConfig, Op, Outputs};
 use file_device::FileDevice;
+use node_gate::{Node, NodeConfig, Op, Outputs};
 use std::alloc::Global;
 use std::fs::{File, Files};
 

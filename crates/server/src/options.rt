@@ -1,6 +1,6 @@
 //! What a server is told. Plain data flows in and out. What is done with it is not here.
 use client_link::Limits;
-use dir_node::{Name, NodeConfig};
+use node_gate::{Name, NodeConfig};
 use std::net::SocketAddr;
 use std::time::Duration;
 

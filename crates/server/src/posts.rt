@@ -1,6 +1,5 @@
 //! Messages on their way to other replicas. Messages flow in; frames flow into the queue of each replica. What must not be here: streams.
-use dir_node::{Cluster, Op, PeerMessage};
-use node_gate::Peers;
+use node_gate::{Cluster, Op, PeerMessage, Peers};
 use peer_link::{Bytes, Outbox};
 use std::alloc::Global;
 use std::sync::Wait;

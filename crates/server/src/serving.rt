@@ -2,17 +2,17 @@
 //! stopped for good.
 use crate::crew::Crew;
 use crate::fault::ServerError;
+use crate::guests::Guest;
 use crate::opening::open_node;
 use crate::options::{Options, Place, Times};
 use crate::posts::Posts;
 use crate::receiving::Hall;
 use crate::ticking::Clockwork;
-use client_link::{Client, Door, Limits, Peer, accept_all, close};
+use client_link::{Config, Door, Limits, Peer, accept_all, close, serve_all};
 use crossbeam_channel::{Receiver, Sender, bounded};
 use file_device::FileDevice;
 use node_gate::{NodeGate, NodeLook, Peers, Running};
 use peer_link::{Outbox, SocketDialer, send_all};
-use session_threads::{Config, serve_all};
 use std::alloc::{AllocError, Global};
 use std::fs::{File, Files};
 use std::io::{Eprint, Write};
@@ -115,7 +115,7 @@ where
     }
 
     /// Takes the connections of clients, until the server closes.
-    fn take_clients(&self, to: Sender<(u64, Client<'a, R>)>) {
+    fn take_clients(&self, to: Sender<(u64, Guest<'a, R>)>) {
         self.crew.begin();
         accept_all(self.rt, self.alloc, self.clients, self.client_door, to);
     }
@@ -204,7 +204,7 @@ where
     /// Serves the clients that were taken, each in a seat.
     fn seat_clients(
         &self,
-        connections: Receiver<(u64, Client<'a, R>)>,
+        connections: Receiver<(u64, Guest<'a, R>)>,
         seats: Vec<Seat<'a, R>>,
         config: &Config<'_>,
     ) -> Result<(), AllocError> {

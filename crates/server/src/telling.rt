@@ -1,4 +1,5 @@
 //! What a server says of itself on standard error, a line an event. Events flow in. That nobody reads it stops nothing.
+use client_link::SessionEnd;
 use node_gate::{Pulse, Standing};
 use std::io::Eprint;
 
@@ -24,4 +25,17 @@ pub fn tell_peer_went<R: Eprint>(rt: &R, sender: Option<u64>, why: &str) {
         Some(sender) => eprintln!(rt; "replica {sender} went: {why}"),
         None => eprintln!(rt; "a stranger went: {why}"),
     };
+}
+
+/// A session that ended badly.
+pub fn tell_session<R: Eprint>(rt: &R, session: u64, end: SessionEnd) {
+    let why = match end {
+        SessionEnd::Unbound | SessionEnd::EndOfInput => return,
+        SessionEnd::Truncated => "its stream ended inside a message",
+        SessionEnd::Disconnected => "it sent what is no request",
+        SessionEnd::ReadFailed => "its stream failed, or it was silent for too long",
+        SessionEnd::WriteFailed => "its answers couldn't be written",
+        SessionEnd::NoMemory => "out of memory",
+    };
+    let _ = eprintln!(rt; "session {session} ended: {why}");
 }

@@ -1,4 +1,6 @@
-//! A client's stream, in both directions. A connection flows in; its two ends are lent out. Sockets and sessions are not here.
+//! A client's stream, in both directions. A connection flows in; its two ends are lent out, and it is told how its session ended. Sockets and
+//! sessions are not here.
+use ldap_session::SessionEnd;
 use std::io::{Read, Write};
 
 /// One client's stream, which lends an end to read from and an end to write to, at once.
@@ -9,4 +11,7 @@ pub trait Connection {
 
     /// Both ends. A connection is asked for them once, as its session begins.
     fn ends(&mut self) -> (&mut Self::Reader, &mut Self::Writer);
+
+    /// Is told, once, how the session of this number ended, which was its own.
+    fn ended(&mut self, _session: u64, _end: SessionEnd) {}
 }

@@ -25,7 +25,8 @@ fn serve_one<C: Connection + Drop, D: Directory>(
 {
     let own = Config { session, ..*config };
     let (reader, writer) = connection.ends();
-    let _end = serve(alloc, reader, writer, directory, &own);
+    let end = serve(alloc, reader, writer, directory, &own);
+    connection.ended(session, end);
 }
 
 /// Serves connections one after the other, until the channel is closed and empty.
