@@ -6,5 +6,5 @@ mod coming;
 mod executed;
 
 pub use coming::due;
-pub use dir_store::{Op, Reply, Store};
+pub use dir_store::{Indexes, Name, Op, Reply, Schema, Store};
 pub use executed::Executed;

@@ -2,7 +2,7 @@ pub mod NodeState
 pub mod Outcomes
 -- what layers above name of the crates below
 pub use Rattle.dir_executed.specs as dir_executed
-pub use Rattle.dir_store.specs as dir_store
+pub use Rattle.dir_executed.specs.dir_store as dir_store
 pub use Rattle.view_store.specs as view_store
 pub use Rattle.vr_recover.specs as vr_recover
 pub use Rattle.vr_state.specs as vr_state

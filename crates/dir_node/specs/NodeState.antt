@@ -2,7 +2,7 @@
 -- leaves and what is handed out flow out. Steps are defined in vr_state, pairs on a device in view_store, what is executed in dir_executed.
 use Rattle.std.specs.Prelude.{◌≡◌, ◌⊎◌, ℕ, ◌+◌, ◌≤◌, ◌^◌, ◌++◌, List, [], Bool, true, false}
 use Rattle.std.specs.Arc.{arc_value}
-use Rattle.dir_store.specs.ldap_op.Values.{OpValue}
+use Rattle.dir_executed.specs.dir_store.ldap_op.Values.{OpValue}
 use Rattle.dir_executed.specs.Executing.{ExecutedValue, IsFront}
 use Rattle.view_store.specs.declared.slot.Pair.{Pair}
 use Rattle.view_store.specs.declared.state.Status.TheVariants as status

@@ -1,8 +1,7 @@
 //! What a node is made with, and what its calls give out. Plain data flows in and out. What a node does is not here.
 
 use crate::error::NodeError;
-use dir_executed::Op;
-use dir_store::{Indexes, Name, Schema};
+use dir_executed::{Indexes, Name, Op, Schema};
 use std::sync::Arc;
 use view_store::{Cluster, Device};
 use vr_state::message::Outputs;

@@ -11,8 +11,7 @@ mod standing;
 mod starting;
 
 pub use config::{Handled, NodeConfig, Refused};
-pub use dir_executed::{Executed, Op, Reply, Store};
-pub use dir_store::{Indexes, Name, Schema};
+pub use dir_executed::{Executed, Indexes, Name, Op, Reply, Schema, Store};
 pub use error::NodeError;
 pub use node::Node;
 pub use outcome::Outcome;

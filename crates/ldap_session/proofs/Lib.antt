@@ -4,3 +4,5 @@ pub mod Worked
 pub mod Served
 pub mod Fewer
 pub mod Counted
+-- what layers above name of the crates below
+pub use Rattle.session_rules.proofs.session_talk as session_talk

@@ -13,7 +13,7 @@ pub use laws::one_update_a_message;
 pub use serving::serve;
 pub use session::Session;
 pub use session_rules::{
-    AnswerError, Answered, Client, Config, Directory, Ended, Found, Gate, Look, LookError, Next,
-    Role,
+    AnswerError, Answered, Client, CompareRequest, Config, Directory, Ended, Found, Gate, Look,
+    LookError, Name, Next, Reply, Role, SearchAnswer, SearchRequest, Update,
 };
 pub use writing::write_octets;

@@ -1,3 +1,5 @@
 pub mod Turning
 pub mod Joining
 pub mod EntryLists
+-- what layers above name of the crates below
+pub use Rattle.session_talk.proofs as session_talk

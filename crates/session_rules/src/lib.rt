@@ -17,6 +17,9 @@ pub use config::Config;
 pub use laws::{role_is_first, sessions_join};
 pub use message_rules::AnswerError;
 pub use responses::disconnect;
-pub use session_talk::{Client, Directory, Ended, Found, Gate, Look, LookError, Role};
+pub use session_talk::{
+    Client, CompareRequest, Directory, Ended, Found, Gate, Look, LookError, Name, Reply, Role,
+    SearchAnswer, SearchRequest, Update,
+};
 pub use state::State;
 pub use taking::take;

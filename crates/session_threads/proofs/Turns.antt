@@ -1,7 +1,7 @@
 -- Sessions in turn, and the one talk that they are.
 use Rattle.std.specs.Prelude.{ℕ, [], ◌++◌}
-use Rattle.session_talk.specs.Talk.{Exchange, ends}
-use Rattle.session_talk.proofs.Talks.{talks_join}
+use Rattle.ldap_session.specs.session_talk.Talk.{Exchange, ends}
+use Rattle.ldap_session.proofs.session_talk.Talks.{talks_join}
 use Rattle.ldap_session.specs.session_rules.Session.{ConfigValue}
 use Rattle.session_threads.specs.Served.{HasServed, none, one_more, HasServedSome, GoesAlong, config_of}
 

@@ -1,7 +1,7 @@
 -- Sessions that one directory served, one after the other. The directory before and after and what the sessions share flow in; whose sessions
 -- they were flows out. Threads and channels are not here.
 use Rattle.std.specs.Prelude.{ℕ, List, [], ◌∷◌, ◌++◌}
-use Rattle.session_talk.specs.Talk.{Exchange, Along}
+use Rattle.ldap_session.specs.session_talk.Talk.{Exchange, Along}
 use Rattle.ldap_session.specs.session_rules.ldap_msg.Messages.{MessageValue}
 use Rattle.ldap_session.specs.session_rules.Session.{ConfigValue, at_first}
 use Rattle.ldap_session.specs.session_rules.Turns.{Session}

@@ -10,6 +10,7 @@ pub use connection::Connection;
 pub use crossbeam_channel::Receiver;
 pub use laws::served_along;
 pub use ldap_session::{
-    Client, Config, Directory, Ended, Found, Gate, Look, LookError, Role, SessionEnd,
+    Client, CompareRequest, Config, Directory, Ended, Found, Gate, Look, LookError, Name, Reply,
+    Role, SearchAnswer, SearchRequest, SessionEnd, Update,
 };
 pub use serving::serve_all;

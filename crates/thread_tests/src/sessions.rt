@@ -3,9 +3,9 @@
 
 use crate::signal::Signal;
 use schema_reader::built_in_schema;
-use session_talk::{CompareRequest, Name, Reply, SearchAnswer, SearchRequest, Update};
 use session_threads::{
-    Client, Config, Connection, Ended, Found, Gate, Look, LookError, Role, serve_all,
+    Client, CompareRequest, Config, Connection, Ended, Found, Gate, Look, LookError, Name, Reply,
+    Role, SearchAnswer, SearchRequest, Update, serve_all,
 };
 use std::alloc::Global;
 use std::io;
@@ -65,7 +65,7 @@ pub struct Holding<'a, R> {
 
 impl<'a, R: Wait + Clock> Gate<()> for Holding<'a, R> {
     ghost use Rattle.std.specs.Prelude.{◌≡◌, ◌+◌, min};
-    ghost use Rattle.session_talk.specs.Counting.{updates_of, greatest_count};
+    ghost use Rattle.session_threads.specs.session_talk.Counting.{updates_of, greatest_count};
 
     ghost allows = { λ d x e. e.asked ≡ min (d.asked + updates_of x) greatest_count };
 
