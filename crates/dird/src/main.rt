@@ -1,8 +1,11 @@
-//! The program's door: words, files, input and output come from the system, and the exit status goes back. No rule of the
+//! The program's door: words, files, input, output and sockets come from the system, and the exit status goes back. No rule of the
 //! directory is here.
 #![tactic(auto)]
 
-use dird_commands::{Status, SystemFiles, run};
+mod serving;
+
+use dird_commands::{Ran, Status, SystemFiles, run};
+use serving::serve_as_replica;
 use std::io::{self, BufReader, BufWriter, ErrorKind, Write};
 use std::process::ExitCode;
 
@@ -19,7 +22,7 @@ fn main(rt: HostRuntime) -> io::Result<ExitCode> {
     let mut input = BufReader::new(alloc, rt.reader())?;
     let mut output = BufWriter::new(alloc, io::writer(&rt))?;
     let mut faults = Vec::new(alloc);
-    let status = run(
+    let ran = run(
         &SystemFiles(&rt),
         alloc,
         &words,
@@ -27,6 +30,16 @@ fn main(rt: HostRuntime) -> io::Result<ExitCode> {
         &mut output,
         &mut faults,
     );
+    let status = match ran {
+        Ran::Ended(status) => status,
+        Ran::Serves(service) => match serve_as_replica(&rt, alloc, service, &mut output) {
+            Ok(()) => Status::Done,
+            Err(fault) => {
+                let _ = writeln!(faults, "{fault}");
+                Status::Refused
+            }
+        },
+    };
     // The run has flushed it and told of it; what an early end left is handed on where it can be.
     let _ = output.flush();
     if let Ok(text) = str::from_utf8(&faults) {

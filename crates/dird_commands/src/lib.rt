@@ -1,8 +1,7 @@
-//! The program's commands: words, named files, an input and two outputs flow in, an exit status flows out. The system's words, files and
-//! streams are not here: who calls this brings them.
+//! The program's commands: words, named files, an input and two outputs flow in, an exit status flows out, or what a replica is to serve.
+//! The system's words, files, streams, sockets and threads are not here: who calls this brings them.
 #![tactic(auto)]
 
-mod command;
 mod fault;
 mod files;
 mod lab;
@@ -10,10 +9,14 @@ mod local;
 mod opening;
 mod running;
 mod sample;
+mod service;
 mod status;
 mod texts;
 
+pub use command_line::{Peer, Serving};
 pub use fault::Fault;
 pub use files::{ReadFiles, SystemFiles};
-pub use running::run;
+pub use local_directory::{Indexes, Name, Schema};
+pub use running::{Ran, run};
+pub use service::Service;
 pub use status::Status;

@@ -33,7 +33,7 @@ pub struct Options {
 }
 
 /// The name of a text.
-fn name_of_text(alloc: Global, schema: &Schema, text: &str) -> Result<Name, Fault>
+pub fn name_of_text(alloc: Global, schema: &Schema, text: &str) -> Result<Name, Fault>
     ensures { IfOk result (λ name. name ≡ name_of schema.now text.now) }
 {
     match Name::read(alloc, schema, text) {

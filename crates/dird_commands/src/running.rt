@@ -1,49 +1,64 @@
-//! One run: words, named files, an input and two outputs come in, the exit status goes out. Nothing here touches the system.
-use crate::command::{Job, Opening, read_words};
+//! One run: words, a system of named files, an input and two outputs come in, the exit status goes out, or what is to be served. Nothing else here
+//! touches the system.
 use crate::fault::Fault;
 use crate::files::ReadFiles;
 use crate::lab::play_script;
 use crate::local::{Options, answer_session};
 use crate::opening::{indexes_of, schema_of};
+use crate::service::{Service, service_of};
 use crate::status::Status;
 use crate::texts::{export_input, import_input, search_input};
-use clap::Error;
+use command_line::{Error, Job, Opening, read_words};
 use hex_session::SessionEnd;
 use std::alloc::Global;
 use std::io::{BufRead, Write};
 
+/// What became of a run.
+#[derive(Drop)]
+pub enum Ran<'a> {
+    /// It has ended.
+    Ended(Status),
+    /// It asks for a replica that serves this, until it is stopped. `listening ADDR` goes to the output once clients are heard.
+    Serves(Service<'a>),
+}
+
 /// Runs the job that the words ask for. Responses go to `output`, which is flushed at the end, and faults to `faults`.
-pub fn run<S: ReadFiles, R: BufRead, W: Write, F: Write>(
-    files: &S,
+pub fn run<'a, S: ReadFiles, R: BufRead, W: Write, F: Write>(
+    system: &S,
     alloc: Global,
-    words: &[String],
+    words: &'a [String],
     input: &mut R,
     output: &mut W,
     faults: &mut F,
-) -> Status {
+) -> Ran<'a> {
     let job = match read_words(alloc, words) {
         Ok(job) => job,
         Err(error) => {
             if error.use_stderr() {
                 let _ = write!(faults, "{error}");
-                return Status::BadCommandLine;
+                return Ran::Ended(Status::BadCommandLine);
             }
-            return tell(output, faults, &error);
+            return Ran::Ended(tell(output, faults, &error));
         }
     };
-    match perform_whole(files, alloc, job, input, output) {
-        Ok(SessionEnd::EndOfInput | SessionEnd::Unbound) => Status::Done,
-        Ok(
-            SessionEnd::Truncated
-            | SessionEnd::Disconnected
-            | SessionEnd::ReadFailed
-            | SessionEnd::WriteFailed
-            | SessionEnd::NoMemory,
-        ) => Status::Refused,
+    match perform_whole(system, alloc, job, input, output) {
+        Ok(ran) => ran,
         Err(fault) => {
             let _ = writeln!(faults, "{fault}");
-            Status::Refused
+            Ran::Ended(Status::Refused)
         }
+    }
+}
+
+/// The exit status of a session that ended so.
+fn status_of(end: SessionEnd) -> Status {
+    match end {
+        SessionEnd::EndOfInput | SessionEnd::Unbound => Status::Done,
+        SessionEnd::Truncated
+        | SessionEnd::Disconnected
+        | SessionEnd::ReadFailed
+        | SessionEnd::WriteFailed
+        | SessionEnd::NoMemory => Status::Refused,
     }
 }
 
@@ -57,48 +72,52 @@ fn tell<W: Write, F: Write>(output: &mut W, faults: &mut F, text: &Error) -> Sta
 }
 
 /// Does the job, and hands on all that it wrote.
-fn perform_whole<S: ReadFiles, R: BufRead, W: Write>(
-    files: &S,
+fn perform_whole<'a, S: ReadFiles, R: BufRead, W: Write>(
+    system: &S,
     alloc: Global,
-    job: Job<'_>,
+    job: Job<'a>,
     input: &mut R,
     output: &mut W,
-) -> Result<SessionEnd, Fault> {
-    let end = perform(files, alloc, job, input, output)?;
+) -> Result<Ran<'a>, Fault> {
+    let ran = perform(system, alloc, job, input, output)?;
     match output.flush() {
-        Ok(()) => Ok(end),
+        Ok(()) => Ok(ran),
         Err(_) => Err(Fault::CannotWrite),
     }
 }
 
 /// Does the job.
-fn perform<S: ReadFiles, R: BufRead, W: Write>(
-    files: &S,
+fn perform<'a, S: ReadFiles, R: BufRead, W: Write>(
+    system: &S,
     alloc: Global,
-    job: Job<'_>,
+    job: Job<'a>,
     input: &mut R,
     output: &mut W,
-) -> Result<SessionEnd, Fault> {
+) -> Result<Ran<'a>, Fault> {
     match job {
-        Job::Answer(opening) => return answer(files, alloc, opening, input, output),
+        Job::Answer(opening) => {
+            let end = answer(system, alloc, opening, input, output)?;
+            return Ok(Ran::Ended(status_of(end)));
+        }
         Job::Search(question) => search_input(alloc, &question, input, output)?,
         Job::Import => import_input(alloc, input, output)?,
         Job::Export => export_input(alloc, input, output)?,
-        Job::Lab(index) => lab(files, alloc, index, input, output)?,
+        Job::Lab(index) => lab(system, alloc, index, input, output)?,
+        Job::Serve(words) => return Ok(Ran::Serves(service_of(system, alloc, words)?)),
     }
-    Ok(SessionEnd::EndOfInput)
+    Ok(Ran::Ended(Status::Done))
 }
 
 /// One session, once the schema and the index choice are read.
 fn answer<S: ReadFiles, R: BufRead, W: Write>(
-    files: &S,
+    system: &S,
     alloc: Global,
     opening: Opening<'_>,
     input: &mut R,
     output: &mut W,
 ) -> Result<SessionEnd, Fault> {
-    let schema = schema_of(files, alloc, opening.schema)?;
-    let indexes = indexes_of(files, alloc, &schema, opening.index)?;
+    let schema = schema_of(system, alloc, opening.schema)?;
+    let indexes = indexes_of(system, alloc, &schema, opening.index)?;
     let options = Options {
         schema,
         indexes,
@@ -109,13 +128,13 @@ fn answer<S: ReadFiles, R: BufRead, W: Write>(
 
 /// One script, once the index choice is read, under the built-in schema.
 fn lab<S: ReadFiles, R: BufRead, W: Write>(
-    files: &S,
+    system: &S,
     alloc: Global,
     index: Option<&str>,
     input: &mut R,
     output: &mut W,
 ) -> Result<(), Fault> {
-    let schema = schema_of(files, alloc, None)?;
-    let indexes = indexes_of(files, alloc, &schema, index)?;
+    let schema = schema_of(system, alloc, None)?;
+    let indexes = indexes_of(system, alloc, &schema, index)?;
     play_script(alloc, schema, indexes, input, output)
 }

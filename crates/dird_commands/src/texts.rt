@@ -6,10 +6,10 @@ ghost use Rattle.ldif_search.specs.ldif_messages.Imports.{IsImport};
 ghost use Rattle.ldif_search.specs.ldif_messages.Exports.{IsExport};
 ghost use Rattle.dird_commands.specs.Texts.{Turns, IsRequestOf, IsAnswerTo};
 
-use crate::command::Question;
 use crate::fault::Fault;
 use crate::files::read_fault;
 use crate::local::empty;
+use command_line::Question;
 use filter_text_reader::read_text;
 use ldif_search::{export_text, import_text, search_text};
 use local_directory::{DerefAliases, Indexes, SearchRequest};

@@ -1,7 +1,7 @@
 //! A row's run: its words, files and input flow into the program's commands; what they write flows out. What a row wants is not here.
 use crate::files::RowFiles;
 use crate::row::Row;
-use dird_commands::{ReadFiles, run};
+use dird_commands::{Ran, ReadFiles, Service, Status, run};
 use std::alloc::Global;
 use std::io::{self, BufReader, ErrorKind, Read, Write};
 
@@ -58,6 +58,16 @@ impl Write for Output {
     }
 }
 
+/// A row's system has no sockets: it tells which replica of how many it was to serve, and no more.
+fn tell_of<W: Write>(service: &Service<'_>, output: &mut W) -> Status {
+    let words = &service.words;
+    let count = words.peers.len();
+    match writeln!(output, "replica {} of {count}", words.index) {
+        Ok(()) => Status::Done,
+        Err(_) => Status::Refused,
+    }
+}
+
 /// Plays a row.
 pub fn play<S: ReadFiles>(files: &S, alloc: Global, row: &Row) -> io::Result<Played> {
     let files = RowFiles {
@@ -78,7 +88,7 @@ pub fn play<S: ReadFiles>(files: &S, alloc: Global, row: &Row) -> io::Result<Pla
         },
     };
     let mut faults = Vec::new(alloc);
-    let status = run(
+    let ran = run(
         &files,
         alloc,
         &row.words,
@@ -86,6 +96,10 @@ pub fn play<S: ReadFiles>(files: &S, alloc: Global, row: &Row) -> io::Result<Pla
         &mut output,
         &mut faults,
     );
+    let status = match ran {
+        Ran::Ended(status) => status,
+        Ran::Serves(service) => tell_of(&service, &mut output),
+    };
     Ok(Played {
         output: output.written,
         faults,

@@ -1,7 +1,7 @@
-//! The command line: words become a job, or a text for the user. What a job does is not here.
-
+//! The words of the command line: they flow in, a job flows out, or a text for the user. What a job does is not here.
+use crate::serving::{Serving, serve_command, serving_in};
 use clap::{Arg, ArgAction, ArgMatches, Command, Error};
-use local_directory::Scope;
+use ldap_msg::Scope;
 use std::alloc::{AllocError, Global};
 
 /// What the words ask for.
@@ -17,6 +17,8 @@ pub enum Job<'a> {
     Export,
     /// A lab script over replicas in memory, with the index choice of a file's name; none for no index.
     Lab(Option<&'a str>),
+    /// One replica of a cluster, over the network.
+    Serve(Serving<'a>),
 }
 
 /// What a session's directory begins with.
@@ -42,79 +44,115 @@ pub struct Question<'a> {
 /// The words for scopes.
 const SCOPES: &[&str] = &["base", "one", "sub"];
 
+/// The word for a schema.
+pub fn schema_word<'a>(alloc: Global) -> Arg<'a> {
+    Arg::new(alloc, "schema")
+        .long("schema")
+        .value_name("FILE")
+        .help("Read the schema from this file, in place of the built-in one")
+}
+
 /// The word for an index choice.
-fn index_word<'a>(alloc: Global) -> Arg<'a> {
+pub fn index_word<'a>(alloc: Global) -> Arg<'a> {
     Arg::new(alloc, "index")
         .long("index")
         .value_name("FILE")
         .help("Read from this file which indexes each attribute type has, in place of none")
 }
 
-/// The words of `answer`.
-fn answer_command<'a>(alloc: Global) -> Result<Command<'a>, AllocError> {
-    let sample = Arg::new(alloc, "sample")
+/// The word for the sample.
+fn sample_word<'a>(alloc: Global) -> Arg<'a> {
+    Arg::new(alloc, "sample")
         .long("sample")
         .action(ArgAction::SetTrue)
-        .help("Answer over the built-in sample of six entries");
-    let schema = Arg::new(alloc, "schema")
-        .long("schema")
-        .value_name("FILE")
-        .help("Read the schema from this file, in place of the built-in one");
-    Command::new(alloc, "answer")
-        .about(
-            "Answer one client: the input is its stream of LDAP messages, lines of hex cut anywhere; each response is a line of hex",
-        )
-        .arg(sample)?
-        .arg(schema)?
-        .arg(index_word(alloc))
+        .help("Answer over the built-in sample of six entries")
+}
+
+/// The words of `answer`.
+fn answer_command<'a>(alloc: Global) -> Result<Command<'a>, AllocError> {
+    let command = Command::new(alloc, "answer").about(
+        "Answer one client: the input is its stream of LDAP messages, lines of hex cut anywhere; each response is a line of hex",
+    );
+    let command = command.arg(sample_word(alloc))?;
+    let command = command.arg(schema_word(alloc))?;
+    command.arg(index_word(alloc))
+}
+
+/// A word that stands by itself and can't be left out.
+fn place_word<'a>(alloc: Global, name: &'a str, help: &'a str) -> Arg<'a> {
+    Arg::new(alloc, name).required(true).help(help)
+}
+
+/// The word for a scope.
+fn scope_word<'a>(alloc: Global) -> Arg<'a> {
+    place_word(
+        alloc,
+        "SCOPE",
+        "The base alone, the entries right under it, or all at or below it",
+    )
+    .value_parser(SCOPES)
+}
+
+/// The words for the attributes that are shown.
+fn attributes_word<'a>(alloc: Global) -> Arg<'a> {
+    Arg::new(alloc, "ATTR").num_args(0..).help(
+        "Which attributes are shown: all for none or *, no attribute for 1.1 alone",
+    )
 }
 
 /// The words of `search`.
 fn search_command<'a>(alloc: Global) -> Result<Command<'a>, AllocError> {
-    let base = Arg::new(alloc, "BASE")
-        .required(true)
-        .help("The name of the entry where the search begins");
-    let scope = Arg::new(alloc, "SCOPE")
-        .required(true)
-        .value_parser(SCOPES)
-        .help("The base alone, the entries right under it, or all at or below it");
-    let filter = Arg::new(alloc, "FILTER")
-        .required(true)
-        .help("Which entries are shown, as in (cn=Ana)");
-    let attributes = Arg::new(alloc, "ATTR").num_args(0..).help(
-        "Which attributes are shown: all for none or *, no attribute for 1.1 alone",
+    let command = Command::new(alloc, "search").about(
+        "Search the entries of an LDIF text: the input is LDIF, the answer is LDIF",
     );
-    Command::new(alloc, "search")
-        .about("Search the entries of an LDIF text: the input is LDIF, the answer is LDIF")
-        .arg(base)?
-        .arg(scope)?
-        .arg(filter)?
-        .arg(attributes)
+    let base = place_word(
+        alloc,
+        "BASE",
+        "The name of the entry where the search begins",
+    );
+    let command = command.arg(base)?;
+    let command = command.arg(scope_word(alloc))?;
+    let filter = place_word(alloc, "FILTER", "Which entries are shown, as in (cn=Ana)");
+    let command = command.arg(filter)?;
+    command.arg(attributes_word(alloc))
 }
 
-/// All words.
-fn command<'a>(alloc: Global) -> Result<Command<'a>, AllocError> {
+/// The words of `import` and `export`, which have none of their own.
+fn with_texts<'a>(alloc: Global, command: Command<'a>) -> Result<Command<'a>, AllocError> {
     let import = Command::new(alloc, "import").about(
         "Turn LDIF into messages: each record becomes an AddRequest, a line of hex, with ids from 1",
     );
+    let command = command.subcommand(import)?;
     let export = Command::new(alloc, "export").about(
         "Turn the responses to a search, lines of hex, into LDIF of the entries",
     );
-    let lab = Command::new(alloc, "lab")
-        .about(
-            "Play a script of updates, searches, deliveries, view changes, crashes and recoveries with real replicas",
-        )
-        .arg(index_word(alloc))?;
+    command.subcommand(export)
+}
+
+/// The words of `lab`.
+fn lab_command<'a>(alloc: Global) -> Result<Command<'a>, AllocError> {
+    let command = Command::new(alloc, "lab").about(
+        "Play a script of updates, searches, deliveries, view changes, crashes and recoveries with real replicas",
+    );
+    command.arg(index_word(alloc))
+}
+
+/// The program's own words.
+fn program<'a>(alloc: Global) -> Command<'a> {
     Command::new(alloc, "dird")
         .version("0.1.0")
         .about("An LDAPv3 directory server whose answers are proved")
         .subcommand_required(true)
         .arg_required_else_help(true)
-        .subcommand(answer_command(alloc)?)?
-        .subcommand(search_command(alloc)?)?
-        .subcommand(import)?
-        .subcommand(export)?
-        .subcommand(lab)
+}
+
+/// All words.
+fn command<'a>(alloc: Global) -> Result<Command<'a>, AllocError> {
+    let command = program(alloc).subcommand(answer_command(alloc)?)?;
+    let command = command.subcommand(search_command(alloc)?)?;
+    let command = with_texts(alloc, command)?;
+    let command = command.subcommand(lab_command(alloc)?)?;
+    command.subcommand(serve_command(alloc)?)
 }
 
 /// What `answer` is told.
@@ -157,6 +195,7 @@ pub fn read_words<'a>(alloc: Global, words: &'a [String]) -> Result<Job<'a>, Err
         Some(("import", _)) => Ok(Job::Import),
         Some(("export", _)) => Ok(Job::Export),
         Some(("lab", inner)) => Ok(Job::Lab(inner.get_str("index"))),
+        Some(("serve", inner)) => Ok(Job::Serve(serving_in(alloc, inner)?)),
         Some((_, inner)) => Ok(Job::Answer(opening_in(inner))),
         None => Ok(Job::Answer(opening_in(&matches))),
     }

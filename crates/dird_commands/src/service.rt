@@ -1,0 +1,49 @@
+//! What a replica is to serve: the words of `serve` and named files flow in; a schema, an index choice and names flow out beside them, to who
+//! called the program. Sockets, threads and the stored view are not here.
+
+use crate::fault::Fault;
+use crate::files::ReadFiles;
+use crate::local::name_of_text;
+use crate::opening::{indexes_of, schema_of};
+use command_line::Serving;
+use local_directory::{Indexes, Name, Schema};
+use std::alloc::Global;
+use std::sync::Arc;
+
+/// What a replica serves. The names are of the schema, and neither is empty.
+#[derive(Drop)]
+pub struct Service<'a> {
+    pub schema: Arc<Schema>,
+    pub indexes: Indexes,
+    pub suffix: Name,
+    pub manager: Name,
+    pub words: Serving<'a>,
+}
+
+/// The name of a text that names an entry: `bad name` for the empty name too.
+fn entry_name(alloc: Global, schema: &Schema, text: &str) -> Result<Name, Fault> {
+    let name = name_of_text(alloc, schema, text)?;
+    if name.is_empty() {
+        return Err(Fault::BadName);
+    }
+    Ok(name)
+}
+
+/// What these words ask to be served. The schema is read first, then the index choice, the suffix and the manager's name.
+pub fn service_of<'a, S: ReadFiles>(
+    files: &S,
+    alloc: Global,
+    words: Serving<'a>,
+) -> Result<Service<'a>, Fault> {
+    let schema = schema_of(files, alloc, words.schema)?;
+    let indexes = indexes_of(files, alloc, &schema, words.indexes)?;
+    let suffix = entry_name(alloc, &schema, words.suffix)?;
+    let manager = entry_name(alloc, &schema, words.manager)?;
+    Ok(Service {
+        schema,
+        indexes,
+        suffix,
+        manager,
+        words,
+    })
+}
