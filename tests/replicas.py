@@ -1,0 +1,94 @@
+"""Replicas of one cluster as processes of this machine: started, ended by kill -9, started again. Ports, folders and words flow in; processes flow out."""
+from __future__ import annotations
+
+import os
+import socket
+import subprocess
+import threading
+import time
+
+TOP = os.path.dirname(os.path.dirname(os.path.abspath(__file__)))
+SUFFIX = "dc=example,dc=com"
+MANAGER = "cn=admin,dc=example,dc=com"
+PASSWORD = "secret"
+
+
+def program() -> str:
+    """The program, built where it is not."""
+    subprocess.run([os.path.join(TOP, "dird"), "--version"], check=True, stdout=subprocess.DEVNULL)
+    return os.path.join(TOP, "crates", "dird", "out", "dird")
+
+
+def free_ports(count: int) -> list[int]:
+    """Ports of the loopback interface that nobody has now."""
+    held = []
+    for _ in range(count):
+        one = socket.socket()
+        one.bind(("127.0.0.1", 0))
+        held.append(one)
+    ports = [one.getsockname()[1] for one in held]
+    for one in held:
+        one.close()
+    return ports
+
+
+class Replica:
+    """One replica, which may be down."""
+
+    def __init__(self, cluster: "Cluster", index: int):
+        self.cluster = cluster
+        self.index = index
+        self.process: subprocess.Popen | None = None
+        self.lines: list[str] = []
+
+    def start(self, fresh: bool) -> None:
+        """Starts it, and waits until it listens."""
+        words = [self.cluster.program, "serve", "--cluster", str(self.cluster.number), "--id", str(self.index),
+                 "--store", os.path.join(self.cluster.folder, f"view-{self.index}"), "--suffix", SUFFIX, "--manager", MANAGER,
+                 "--password", PASSWORD, *self.cluster.words, *(["--fresh"] if fresh else []), *self.cluster.places()]
+        # In a session of its own, so that Ctrl-C ends only who started it.
+        self.process = subprocess.Popen(words, stdin=subprocess.DEVNULL, stdout=subprocess.PIPE, stderr=subprocess.PIPE, text=True, start_new_session=True)
+        threading.Thread(target=self._keep, args=(self.process.stderr,), daemon=True).start()
+        first = self.process.stdout.readline()
+        if not first.startswith("listening "):
+            time.sleep(0.2)
+            raise RuntimeError(f"replica {self.index} doesn't listen: {first!r} {self.lines}")
+
+    def _keep(self, stream) -> None:
+        for line in stream:
+            self.lines.append(line.rstrip("\n"))
+
+    def kill(self) -> None:
+        """Ends it at once, as a crash does."""
+        if self.process is not None:
+            self.process.kill()
+            self.process.wait()
+            self.process = None
+
+
+class Cluster:
+    """Replicas, by index."""
+
+    def __init__(self, folder: str, number: int = 1, count: int = 3, words: list[str] = [], ports: list[int] | None = None):
+        self.program = program()
+        self.folder = folder
+        self.number = number
+        self.words = words
+        self.ports = ports or free_ports(2 * count)
+        self.replicas = [Replica(self, index) for index in range(count)]
+
+    def places(self) -> list[str]:
+        """The words for all replicas: where replicas find each, and where clients do."""
+        pairs = zip(self.ports[0::2], self.ports[1::2])
+        return [f"127.0.0.1:{peer},127.0.0.1:{ldap}" for peer, ldap in pairs]
+
+    def ldap_port(self, index: int) -> int:
+        return self.ports[2 * index + 1]
+
+    def start(self, fresh: bool = True) -> None:
+        for replica in self.replicas:
+            replica.start(fresh)
+
+    def kill(self) -> None:
+        for replica in self.replicas:
+            replica.kill()
