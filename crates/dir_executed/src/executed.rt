@@ -49,6 +49,13 @@ impl Executed {
         self.records.len()
     }
 
+    /// The records, in the order in which they were executed.
+    pub fn records(&self) -> &[Entry<Op>]
+        ensures { result.now ≡ self.now.records }
+    {
+        self.records.as_slice()
+    }
+
     /// The directory after them.
     pub fn store(&self) -> &Store
         ensures directory { result.now.directory ≡ directory_at self.now }

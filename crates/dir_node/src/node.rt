@@ -30,7 +30,7 @@ use vr_state::message::Outputs;
 use vr_state::replica::Replica;
 use vr_state::sending::sending;
 use vr_state::standing::leads;
-use vr_state::words::{Client, Status};
+use vr_state::words::{Client, Entry, Status};
 
 /// A running replica. It is `Drop` where its device is; whoever shares it puts it into a lock.
 #[derive(Drop)]
@@ -318,6 +318,13 @@ impl<D: Device> Node<D> {
         ensures indexes { result.now.indexes ≡ self.now.executed.indexes }
     {
         self.executed.store()
+    }
+
+    /// The records that it has executed, in their order.
+    pub fn executed_records(&self) -> &[Entry<Op>]
+        ensures { result.now ≡ self.now.executed.records }
+    {
+        self.executed.records()
     }
 
     /// How many records are executed: the number of the last.
