@@ -1,0 +1,99 @@
+//! Looks: the one step of a reader, and what is read in it. A reader and a question flow in; the answer of what is published at that step flows
+//! out, with the reader. Floors are kept above.
+ghost use Rattle.std.specs.Prelude.{◌≡◌, length, IfSome, IfNone};
+ghost use Rattle.session_talk.specs.ldap_msg.View.{search_view, compare_view};
+ghost use Rattle.session_talk.specs.dir_store.View.{reply_view};
+ghost use Rattle.session_talk.specs.dir_search.Answer.{answer};
+ghost use Rattle.session_talk.specs.dir_search.Compared.{compared};
+ghost use Rattle.session_talk.specs.dir_search.View.{answer_view};
+ghost use Rattle.session_talk.specs.Reading.{IsReadAt};
+ghost use Rattle.session_talk.specs.Talk.{looked};
+ghost use Rattle.dir_executed.specs.Executing.{directory_at};
+ghost use Rattle.left_right.specs.Sides.{view};
+ghost use Rattle.dir_seats.specs.Rule.{Reaches};
+ghost use Rattle.std.specs.Prelude.{true};
+
+use crate::rule::{ShownReader, Sight};
+use crate::shown::Shown;
+use session_talk::{
+    CompareRequest, Found, LookError, Reply, SearchAnswer, SearchRequest, compare_at, search_at,
+};
+use std::alloc::Global;
+
+/// What was read of a published list, and how many records the list has.
+#[derive(Drop)]
+pub struct Seen<A> {
+    pub at: u64,
+    pub read: Result<Found<A>, LookError>,
+}
+
+/// A search of what is shown.
+fn search_shown(
+    alloc: Global,
+    shown: &Shown,
+    named: u64,
+    request: &SearchRequest,
+) -> Seen<SearchAnswer>
+    ensures at { result.at ≡ length shown.now.records }
+    ensures read { IsReadAt (length shown.now.records) named (answer (directory_at shown.now) (search_view request.now)) (looked answer_view result.read) }
+{
+    let at = shown.len() as u64;
+    let read = search_at(alloc, shown.store(), at, named, request);
+    Seen { at, read }
+}
+
+/// A compare in what is shown.
+fn compare_shown(alloc: Global, shown: &Shown, named: u64, request: &CompareRequest) -> Seen<Reply>
+    ensures at { result.at ≡ length shown.now.records }
+    ensures read { IsReadAt (length shown.now.records) named (compared (directory_at shown.now) (compare_view request.now)) (looked reply_view result.read) }
+{
+    let at = shown.len() as u64;
+    let read = compare_at(alloc, shown.store(), at, named, request);
+    Seen { at, read }
+}
+
+/// A search of what is then published; none, where the publisher is gone.
+pub fn look_search(
+    reader: ShownReader,
+    alloc: Global,
+    named: u64,
+    request: &SearchRequest,
+) -> (ShownReader, Option<Seen<SearchAnswer>>)
+    ensures floor { IfSome result.1 (λ seen. Reaches (view reader.place) (view result.0.place).1) }
+    ensures known { IfSome result.1 (λ seen. (view result.0.place).0 ≡ true) }
+    ensures at { IfSome result.1 (λ seen. seen.at ≡ length (view result.0.place).1.records) }
+    ensures read { IfSome result.1 (λ seen. IsReadAt (length (view result.0.place).1.records) named
+        (answer (directory_at (view result.0.place).1) (search_view request.now)) (looked answer_view seen.read)) }
+    ensures gone { IfNone result.1 (view result.0.place ≡ view reader.place) }
+{
+    match reader.enter_as::<Sight>() {
+        Ok(reading) => {
+            let seen = search_shown(alloc, reading.get(), named, request);
+            (reading.leave(), Some(seen))
+        }
+        Err(reader) => (reader, None),
+    }
+}
+
+/// A compare in what is then published; none, where the publisher is gone.
+pub fn look_compare(
+    reader: ShownReader,
+    alloc: Global,
+    named: u64,
+    request: &CompareRequest,
+) -> (ShownReader, Option<Seen<Reply>>)
+    ensures floor { IfSome result.1 (λ seen. Reaches (view reader.place) (view result.0.place).1) }
+    ensures known { IfSome result.1 (λ seen. (view result.0.place).0 ≡ true) }
+    ensures at { IfSome result.1 (λ seen. seen.at ≡ length (view result.0.place).1.records) }
+    ensures read { IfSome result.1 (λ seen. IsReadAt (length (view result.0.place).1.records) named
+        (compared (directory_at (view result.0.place).1) (compare_view request.now)) (looked reply_view seen.read)) }
+    ensures gone { IfNone result.1 (view result.0.place ≡ view reader.place) }
+{
+    match reader.enter_as::<Sight>() {
+        Ok(reading) => {
+            let seen = compare_shown(alloc, reading.get(), named, request);
+            (reading.leave(), Some(seen))
+        }
+        Err(reader) => (reader, None),
+    }
+}
