@@ -1,1 +1,4 @@
 pub mod Shared
+pub mod Given
+-- what layers above name of the crates below
+pub use Rattle.dir_seats.specs as dir_seats

@@ -1,41 +1,19 @@
--- What a session is told by a node that threads share. Questions and answers flow in; what they may be flows out. Of which moment the state
--- is, and that later answers are of later states, is not said here.
-use Rattle.std.specs.Prelude.{◌≡◌, ◌⊎◌, ℕ, length}
-use Rattle.session_talk.specs.ldap_msg.Messages.{SearchRequestValue, CompareRequestValue}
+-- What a session is told by a node that threads share. Updates and how they ended flow in; what that may be flows out. Reads are the seats', and are
+-- not here; nor is of which moment the state is.
+use Rattle.std.specs.Prelude.{◌≡◌, ◌⊎◌, ℕ, Option}
 use Rattle.session_talk.specs.dir_store.Replies.{ReplyModel}
-use Rattle.session_talk.specs.dir_search.Answer.{Answer, answer}
-use Rattle.session_talk.specs.dir_search.Compared.{compared as compared_reply}
 use Rattle.session_talk.specs.declared.client.Client as session
-use Rattle.session_talk.specs.Reading.{IsReadAt}
-use Rattle.session_talk.specs.Talk.{Looked, Exchange, asked_role, learned, searched, compared, updated}
+use Rattle.session_talk.specs.Talk.{Exchange, asked_role, learned, searched, compared, updated}
 use Rattle.session_talk.specs.Talk.{EndedValue}
 use Rattle.session_talk.specs.Talk as talk
 use Rattle.dir_node.specs.vr_state.declared.words.Client.{Client}
-use Rattle.dir_node.specs.dir_executed.Executing.{ExecutedValue, directory_at}
+use Rattle.dir_node.specs.dir_executed.Executing.{ExecutedValue}
 use Rattle.dir_node.specs.NodeState.{NodeValue}
 use Rattle.dir_node.specs.Outcomes.{OutcomeValue, done, pending, stale, lost, outcome_of}
 
 -- a session's client as the replicas know it
 abbrev pub core_client : session.Client → Client
 core_client c = record { home = c.home; life = c.life; number = c.number }
-
--- A read is answered by the definition, of one list of executed updates; its length is the number that is told, and no less than the one
--- that was named.
-pub record IsSearched (named : ℕ) (q : SearchRequestValue) (looked : Looked Answer) : Type 0 where
-  pub executed : ExecutedValue
-  pub is : IsReadAt (length executed.records) named (answer (directory_at executed) q) looked
-
-pub record IsCompared (named : ℕ) (q : CompareRequestValue) (looked : Looked ReplyModel) : Type 0 where
-  pub executed : ExecutedValue
-  pub is : IsReadAt (length executed.records) named (compared_reply (directory_at executed) q) looked
-
--- what a look at a node may be told
-abbrev pub looks : Exchange (Unit {0}) → Type 0
-looks (asked_role role told) = ⊥
-looks (learned told) = Unit {0}
-looks (searched named q looked) = IsSearched named q looked
-looks (compared named q looked) = IsCompared named q looked
-looks (updated client number op ended) = ⊥
 
 -- how an outcome is told: as it is, unless its reply finds no memory; what is still to come is told as lost
 abbrev pub EndsAs : OutcomeValue → EndedValue → Type 0
@@ -57,7 +35,7 @@ IsUpdated D client number talk.lost = Unit {0}
 IsUpdated D client number talk.refused_memory = Unit {0}
 
 -- what a gate to a node may be told
-abbrev pub gates : (D : Type 0) → Exchange (Unit {0}) → Type 0
+abbrev pub gates : (D : Type 0) → Exchange (Option ExecutedValue) → Type 0
 gates D (asked_role role told) = Unit {0}
 gates D (learned told) = ⊥
 gates D (searched named q looked) = ⊥

@@ -3,31 +3,33 @@ ghost use Rattle.session_talk.specs.View.{ended_view};
 ghost use Rattle.node_gate.specs.Shared.{IsUpdated, core_client};
 
 use crate::ending::core_client;
+use crate::held::Here;
 use crate::peers::Peers;
 use crate::running::Running;
 use dir_node::{Device, Entry, Event, NodeError, Op, Standing};
+use dir_seats::Told;
 use session_talk::{Client, Ended, Gate, Role, Update};
 use std::alloc::Global;
 use std::sync::Wait;
 
 /// One session's way to a node for updates. The runtime is a part of it, since an update waits for its outcome.
 #[derive(Drop)]
-pub struct NodeGate<'a, R, D: Device, P> {
+pub struct NodeGate<'a, 'r, R: Wait, D: Device, P> {
     rt: &'a R,
-    running: &'a Running<D>,
+    running: &'a Running<'r, R, D>,
     peers: &'a P,
     /// The URI of each replica, by index (RFC 4516).
     uris: &'a [String],
     asked: u64,
 }
 
-impl<'a, R, D: Device, P> NodeGate<'a, R, D, P> {
+impl<'a, 'r, R: Wait, D: Device, P> NodeGate<'a, 'r, R, D, P> {
     pub fn new(
         rt: &'a R,
-        running: &'a Running<D>,
+        running: &'a Running<'r, R, D>,
         peers: &'a P,
         uris: &'a [String],
-    ) -> NodeGate<'a, R, D, P> {
+    ) -> NodeGate<'a, 'r, R, D, P> {
         NodeGate {
             rt,
             running,
@@ -49,7 +51,7 @@ impl<'a, R, D: Device, P> NodeGate<'a, R, D, P> {
     }
 }
 
-impl<'a, R: Wait, D: Device, P: Peers> NodeGate<'a, R, D, P> {
+impl<'a, 'r, R: Wait, D: Device, P: Peers> NodeGate<'a, 'r, R, D, P> {
     /// Hands a request to the node, and waits for its outcome.
     fn ask(&self, alloc: Global, client: Client, number: u64, payload: Op) -> Ended
         ensures { IsUpdated D (core_client client) number (ended_view result) }
@@ -71,7 +73,7 @@ impl<'a, R: Wait, D: Device, P: Peers> NodeGate<'a, R, D, P> {
     }
 }
 
-impl<'a, R: Wait, D: Device, P: Peers> Gate<()> for NodeGate<'a, R, D, P> {
+impl<'a, 'r, R: Wait, D: Device, P: Peers> Gate<Option<Told<Here>>> for NodeGate<'a, 'r, R, D, P> {
     ghost use Rattle.std.specs.Prelude.{◌≡◌, ◌+◌, min};
     ghost use Rattle.session_talk.specs.Counting.{updates_of, greatest_count};
     ghost use Rattle.node_gate.specs.Shared.{gates};
@@ -81,16 +83,17 @@ impl<'a, R: Wait, D: Device, P: Peers> Gate<()> for NodeGate<'a, R, D, P> {
 
     ghost count = { λ d. d.asked };
 
-    fn role(&mut self, alloc: Global) -> (Role, ()) {
+    /// Neither the role nor what is told is waited for.
+    fn role(&mut self, alloc: Global) -> (Role, Option<Told<Here>>) {
         // No update more is asked of it.
         self.asked = self.asked.saturating_add(0);
-        let role = match self.running.pulse(self.rt).standing {
+        let role = match self.running.standing() {
             Standing::Primary => Role::Primary,
             Standing::Backup { primary } => self.backup_of(alloc, primary),
             Standing::Changing => Role::Changing,
             Standing::Recovering => Role::Recovering,
         };
-        (role, ())
+        (role, self.running.told())
     }
 
     fn update(&mut self, alloc: Global, client: Client, number: u64, update: Update) -> Ended {

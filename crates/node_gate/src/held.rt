@@ -1,7 +1,17 @@
-// What the lock holds. Events flow in, one at a time; what they give out flows out. What must not be here: locks, threads.
+// What the lock holds. Events flow in, one at a time; what they give out flows out, and the seats see what was executed. What must not be
+// here: locks, threads.
+ghost use Rattle.std.specs.Prelude.{◌≡◌, IsTrue, IfSome};
+ghost use Rattle.node_gate.specs.Given.{IsGiven, HasAll};
+
+use crate::events::handle_node;
 pub use dir_node::Standing;
 use dir_node::{Client, Device, Event, Handled, Node, NodeError, Op, Outcome};
+use dir_seats::{Publisher, Told};
 use std::alloc::Global;
+use std::sync::Wait;
+
+/// Which node a seat is of: there is one in a process.
+pub struct Here;
 
 /// What a node does at a moment.
 #[derive(Clone, Copy, Debug, PartialEq, Eq)]
@@ -21,12 +31,17 @@ impl Pulse {
     }
 }
 
-/// The node, what it heard, and whether those who wait are to go on.
+/// The node, what its seats see of it, what it heard, and whether those who wait are to go on. What its seats see, and what they are to see next, is
+/// a beginning of what it has executed.
 #[derive(Drop)]
-pub struct Held<D: Device> {
-    pub node: Node<D>,
+pub struct Held<'a, R: Wait, D: Device> {
+    node: Node<D>,
+    publisher: Publisher<Here, &'a R>,
+    /// How many records the publisher was given.
+    given: usize,
     heard: u64,
     pub is_stopping: bool,
+    ghost shows: { IsGiven node.executed publisher given },
 }
 
 /// Who sent the message of an event; none, where it is another event.
@@ -37,42 +52,119 @@ fn sender_of(event: &Event<Op>) -> Option<u64> {
     }
 }
 
-impl<D: Device> Held<D> {
-    pub fn new(node: Node<D>) -> Held<D> {
+/// What a node does now that has heard so much.
+fn pulse_of<D: Device>(node: &Node<D>, heard: u64) -> Pulse {
+    Pulse {
+        standing: node.standing(),
+        view_number: node.view_number(),
+        heard,
+        is_halted: node.is_halted(),
+    }
+}
+
+/// Whether a message of this sender is one of the primary that a node follows.
+fn is_of_primary<D: Device>(node: &Node<D>, from: Option<u64>) -> bool {
+    match (node.standing(), from) {
+        (Standing::Backup { primary }, Some(from)) => from == primary,
+        _ => false,
+    }
+}
+
+/// How much was heard, after an event of this sender.
+fn heard_after<D: Device>(node: &Node<D>, before: &Pulse, from: Option<u64>) -> u64 {
+    if is_of_primary(node, from) || pulse_of(node, before.heard) != *before {
+        before.heard.wrapping_add(1)
+    } else {
+        before.heard
+    }
+}
+
+impl<'a, R: Wait, D: Device> Held<'a, R, D> {
+    /// A node, and the publisher to its seats, which was given nothing yet.
+    pub fn new(node: Node<D>, publisher: Publisher<Here, &'a R>) -> Held<'a, R, D>
+        requires shows { IsGiven node.executed publisher 0 }
+    {
         Held {
             node,
+            publisher,
+            given: 0,
             heard: 0,
             is_stopping: false,
         }
     }
 
+    pub fn node(&self) -> &Node<D>
+        ensures { result.now ≡ self.now.node }
+    {
+        &self.node
+    }
+
     /// What the node does now.
     pub fn pulse(&self) -> Pulse {
-        Pulse {
-            standing: self.node.standing(),
-            view_number: self.node.view_number(),
-            heard: self.heard,
-            is_halted: self.node.is_halted(),
-        }
+        pulse_of(&self.node, self.heard)
     }
 
-    /// Whether a message of this sender is one of the primary that the node follows.
-    fn is_of_primary(&self, from: Option<u64>) -> bool {
-        match (self.node.standing(), from) {
-            (Standing::Backup { primary }, Some(from)) => from == primary,
-            _ => false,
-        }
-    }
-
-    /// Hands an event to the node.
+    /// Hands an event to the node, and shows its seats what it then has executed.
     pub fn handle(&mut self, alloc: Global, event: Event<Op>) -> Result<Handled, NodeError> {
         let from = sender_of(&event);
         let before = self.pulse();
-        let handled = self.node.handle(alloc, event);
-        if self.is_of_primary(from) || self.pulse() != before {
-            self.heard = self.heard.wrapping_add(1);
-        }
+        let handled = handle_node(alloc, &mut self.node, event);
+        self.heard = heard_after(&self.node, &before, from);
+        let _shown = self.show(alloc);
         handled
+    }
+
+    /// Gives the publisher the next record; whether there was one, and memory for it.
+    fn give_next(&mut self, alloc: Global) -> bool
+        ensures node { self.new.node ≡ self.old.node }
+    {
+        let Some(entry) = self.node.executed_records().get(self.given) else {
+            return false;
+        };
+        let Ok(entry) = entry.copy(alloc) else {
+            return false;
+        };
+        if self.publisher.append(entry).is_err() {
+            return false;
+        }
+        self.given += 1;
+        true
+    }
+
+    /// Gives the publisher the records that it doesn't have, as far as there is memory.
+    fn give(&mut self, alloc: Global)
+        ensures node { self.new.node ≡ self.old.node }
+    {
+        'each: for _ in self.given..self.node.executed_len() {
+            if !self.give_next(alloc) {
+                break;
+            }
+        }
+    }
+
+    /// Shows the seats what the node has executed and they don't see yet; whether they see all of it. What finds no memory is shown after the
+    /// next event.
+    fn show(&mut self, alloc: Global) -> bool
+        ensures node { self.new.node ≡ self.old.node }
+        ensures all { IsTrue result → HasAll self.new.node.executed self.new.publisher }
+    {
+        if self.given < self.node.executed_len() {
+            self.give(alloc);
+        }
+        if self.publisher.is_behind() && self.publisher.publish().is_err() {
+            return false;
+        }
+        self.given == self.node.executed_len()
+    }
+
+    /// The whole of what the seats see; none, where there is no place to tell it by.
+    pub fn tell(&mut self) -> Option<Told<Here>>
+        ensures told { IfSome result (λ told. told ≡ self.old.publisher.published) }
+    {
+        match self.publisher.tell() {
+            Ok(told) => Some(told),
+            Err(_) => None,
+        }
     }
 
     /// Whether somebody waits for what becomes of a request.

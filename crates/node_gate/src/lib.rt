@@ -1,21 +1,23 @@
-//! A node that threads share: the lock round it, a condition on which sessions wait for an outcome, and a session's look and gate over them.
-//! Questions of sessions and events of replicas flow in; answers, outcomes and messages to other replicas flow out. Sockets, clocks and how
-//! a message becomes octets are not here.
+//! A node that threads share: the lock round it, a condition on which sessions wait for an outcome, and a session's gate over them; and the seats by
+//! which sessions read what the node has shown, without its lock. Questions of sessions and events of replicas flow in; answers, outcomes and messages
+//! to other replicas flow out. Sockets, clocks and how a message becomes octets are not here.
 #![tactic(auto)]
 
 mod ending;
+mod events;
 mod gate;
 mod held;
-mod look;
+mod opening;
 mod peers;
-mod reading;
 mod running;
+mod standing;
 
 pub use dir_node::{
     Cluster, Event, Name, Node, NodeConfig, NodeError, Op, Outputs, PeerMessage, ViewStoreError,
 };
+pub use dir_seats::{Seat, Told};
 pub use gate::NodeGate;
-pub use held::{Pulse, Standing};
-pub use look::NodeLook;
+pub use held::{Here, Pulse, Standing};
+pub use opening::{Opened, open};
 pub use peers::Peers;
 pub use running::Running;

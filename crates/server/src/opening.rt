@@ -1,30 +1,25 @@
-//! A node opened over its file. Settings flow in; a node with its first outputs flows out, or why there is none.
-ghost use Rattle.std.specs.Prelude.{◌<◌};
+//! A node opened over its file. Settings flow in; a node in its lock, with its seats and its first outputs, flows out, or why there is none.
+ghost use Rattle.std.specs.Prelude.{◌<◌, ◌≤◌};
 
 use crate::fault::ServerError;
 use file_device::FileDevice;
-use node_gate::{Node, NodeConfig, Op, Outputs};
+use node_gate::{NodeConfig, Opened, open};
 use std::alloc::Global;
 use std::fs::{File, Files};
+use std::sync::Wait;
 
-/// The node of a first or a later start, over the file of this name.
-pub fn open_node<R: Files<File = File>>(
-    rt: &R,
+/// The node of a first or a later start, over the file of this name, and so many seats.
+pub fn open_node<'a, R: Files<File = File> + Wait>(
+    rt: &'a R,
     alloc: Global,
     store: &str,
     config: NodeConfig,
     is_fresh: bool,
-) -> Result<(Node<FileDevice>, Outputs<Op>), ServerError>
+    seats: usize,
+) -> Result<Opened<'a, R, FileDevice>, ServerError>
     requires within { config.index < config.count }
+    requires seats { (0 < seats) × (seats ≤ 32) }
 {
     let device = FileDevice::open(rt, alloc, store)?;
-    let opened = if is_fresh {
-        Node::fresh(alloc, device, config)
-    } else {
-        Node::reopen(alloc, device, config)
-    };
-    match opened {
-        Ok(opened) => Ok(opened),
-        Err(refused) => Err(ServerError::from(refused.error)),
-    }
+    Ok(open(rt, alloc, device, config, is_fresh, seats)?)
 }

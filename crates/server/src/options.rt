@@ -34,7 +34,7 @@ pub struct Options<'a> {
     pub store: &'a str,
     /// Whether this is the first start of the replica's life.
     pub is_fresh: bool,
-    /// How many sessions are served at once.
+    /// How many sessions are served at once; 1 to 32, and what is outside counts as the nearer of the two.
     pub seats: usize,
     /// How many connections wait for a seat, at most.
     pub waiting: usize,

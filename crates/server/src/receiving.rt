@@ -14,10 +14,10 @@ use vr_wire::{WireError, read, rest};
 
 /// What all readers of peers share.
 #[derive(Drop)]
-pub struct Hall<'a, R> {
+pub struct Hall<'a, 'r, R: Wait> {
     pub rt: &'a R,
     pub alloc: Global,
-    pub running: &'a Running<FileDevice>,
+    pub running: &'a Running<'r, R, FileDevice>,
     pub posts: &'a Posts<'a, R>,
 }
 
@@ -47,7 +47,7 @@ fn next_frame<S: Read>(alloc: Global, reader: &mut S) -> Result<Vec<u8>, &'stati
     read_rest(alloc, reader, head, count).map_err(reason_of)
 }
 
-impl<'a, R: Wait + Clock + Eprint> Hall<'a, R> {
+impl<'a, 'r, R: Wait + Clock + Eprint> Hall<'a, 'r, R> {
     /// Hands the message of a frame to the node, and gives its sender; else why the connection ends.
     fn take_frame(&self, frame: &[u8]) -> Result<u64, &'static str> {
         let (sender, message) = read(self.alloc, frame, self.posts.cluster).map_err(refusal_of)?;

@@ -11,7 +11,7 @@ use crate::ticking::Clockwork;
 use client_link::{Config, Door, Limits, Peer, accept_all, close, serve_all};
 use crossbeam_channel::{Receiver, Sender, bounded};
 use file_device::FileDevice;
-use node_gate::{NodeGate, NodeLook, Peers, Running};
+use node_gate::{Here, NodeGate, Opened, Peers, Running, Seat};
 use peer_link::{Outbox, SocketDialer, send_all};
 use std::alloc::{AllocError, Global};
 use std::fs::{File, Files};
@@ -30,22 +30,22 @@ const OCTETS: usize = 67_108_864;
 /// How long a connection to a replica may take to be made, in milliseconds.
 const DIAL_LIMIT: u64 = 2_000;
 
-/// One session's way to the node.
-type Seat<'a, R> = (
-    NodeLook<'a, R, FileDevice>,
-    NodeGate<'a, R, FileDevice, Posts<'a, R>>,
-);
+/// The greatest number of seats.
+const SEATS: usize = 32;
+
+/// One session's way to the node: a seat for its reads, a gate for its updates.
+type Way<'a, 'r, R> = (Seat<Here>, NodeGate<'a, 'r, R, FileDevice, Posts<'a, R>>);
 
 /// A server: what its threads share.
 #[derive(Drop)]
-struct Server<'a, R> {
+struct Server<'a, 'r, R: Wait> {
     rt: &'a R,
     alloc: Global,
     clients: &'a TcpListener,
     peers: &'a TcpListener,
     client_door: &'a Door,
     peer_door: &'a Door,
-    running: &'a Running<FileDevice>,
+    running: &'a Running<'r, R, FileDevice>,
     posts: &'a Posts<'a, R>,
     places: &'a [Place],
     uris: &'a [String],
@@ -71,19 +71,18 @@ fn uris(alloc: Global, places: &[Place]) -> Result<Vec<String>, AllocError> {
     Ok(uris)
 }
 
-impl<'a, R> Server<'a, R>
+impl<'a, 'r, R> Server<'a, 'r, R>
 where
     R: Net<Listener = TcpListener, Stream = TcpStream> + Threads + Wait + Clock + Eprint + Sync,
 {
-    /// A look and a gate for each seat.
-    fn seats(&self, count: usize) -> Result<Vec<Seat<'a, R>>, AllocError> {
-        let mut seats = Vec::new(self.alloc);
-        for _ in 0..count {
-            let look = NodeLook::new(self.rt, self.running);
+    /// A gate beside each seat.
+    fn ways(&self, seats: Vec<Seat<Here>>) -> Result<Vec<Way<'a, 'r, R>>, AllocError> {
+        let mut ways = Vec::new(self.alloc);
+        for seat in seats {
             let gate = NodeGate::new(self.rt, self.running, self.posts, self.uris);
-            seats.push((look, gate))?;
+            ways.push((seat, gate))?;
         }
-        Ok(seats)
+        Ok(ways)
     }
 
     /// Sends frames to one replica, until its queue is stopped.
@@ -121,7 +120,7 @@ where
     }
 
     /// The clock of the node.
-    fn clock(&self, times: Times) -> Clockwork<'a, R> {
+    fn clock(&self, times: Times) -> Clockwork<'a, 'r, R> {
         Clockwork {
             rt: self.rt,
             alloc: self.alloc,
@@ -135,7 +134,7 @@ where
     }
 
     /// What all readers of other replicas share.
-    fn hall(&self) -> Hall<'a, R> {
+    fn hall(&self) -> Hall<'a, 'r, R> {
         Hall {
             rt: self.rt,
             alloc: self.alloc,
@@ -205,17 +204,17 @@ where
     fn seat_clients(
         &self,
         connections: Receiver<(u64, Guest<'a, R>)>,
-        seats: Vec<Seat<'a, R>>,
+        ways: Vec<Way<'a, 'r, R>>,
         config: &Config<'_>,
     ) -> Result<(), AllocError> {
-        let _seats = serve_all(self.rt, self.alloc, connections, seats, config)?;
+        let _ways = serve_all(self.rt, self.alloc, connections, ways, config)?;
         Ok(())
     }
 
     /// Serves clients, until the server closes.
     fn serve_clients(
         &self,
-        seats: Vec<Seat<'a, R>>,
+        ways: Vec<Way<'a, 'r, R>>,
         waiting: usize,
         config: &Config<'_>,
     ) -> Result<(), AllocError> {
@@ -226,7 +225,7 @@ where
             || {
                 self.take_clients(to_seats);
             },
-            || self.seat_clients(connections, seats, config),
+            || self.seat_clients(connections, ways, config),
         );
         served?;
         Ok(())
@@ -278,15 +277,15 @@ fn announce<W: Write>(output: &mut W, listener: &TcpListener) -> Result<(), Serv
     }
 }
 
-impl<'a, R> Server<'a, R>
+impl<'a, 'r, R> Server<'a, 'r, R>
 where
     R: Net<Listener = TcpListener, Stream = TcpStream> + Threads + Wait + Clock + Eprint + Sync,
 {
     /// All threads, to the end of the last: clients, replicas, and the clock, in the thread that calls.
     fn run(
         &self,
-        clock: &Clockwork<'a, R>,
-        seats: Vec<Seat<'a, R>>,
+        clock: &Clockwork<'a, 'r, R>,
+        ways: Vec<Way<'a, 'r, R>>,
         waiting: usize,
         config: &Config<'_>,
     ) -> Result<(), ServerError> {
@@ -296,7 +295,7 @@ where
             || {
                 thread::join(
                     self.rt,
-                    || self.end_with(self.serve_clients(seats, waiting, config)),
+                    || self.end_with(self.serve_clients(ways, waiting, config)),
                     || {
                         let ticked = clock.tick_all();
                         self.stop();
@@ -354,17 +353,17 @@ fn make_rooms<R: Net<Listener = TcpListener, Stream = TcpStream>>(
 #[derive(Clone, Copy)]
 struct Terms<'a> {
     config: Config<'a>,
-    seats: usize,
     waiting: usize,
     times: Times,
 }
 
 /// Runs all threads over what they share.
-fn run_in<'a, R>(
+fn run_in<'a, 'r, R>(
     rt: &'a R,
     alloc: Global,
     rooms: &'a Rooms,
-    running: &'a Running<FileDevice>,
+    seats: Vec<Seat<Here>>,
+    running: &'a Running<'r, R, FileDevice>,
     posts: &'a Posts<'a, R>,
     places: &'a [Place],
     terms: Terms<'_>,
@@ -387,8 +386,8 @@ where
         index: usize::from(posts.sender),
     };
     let clock = server.clock(terms.times);
-    let seats = server.seats(terms.seats)?;
-    server.run(&clock, seats, terms.waiting.max(1), &terms.config)
+    let ways = server.ways(seats)?;
+    server.run(&clock, ways, terms.waiting.max(1), &terms.config)
 }
 
 /// Serves as a replica: listens, opens its node, says so, and serves clients and the other replicas until the node has stopped for good. It
@@ -430,9 +429,12 @@ where
     let places = places.to_vec(alloc)?;
     let (index, cluster) = (node.index, node.cluster);
     let rooms = make_rooms(rt, alloc, &places, index, limits)?;
-    let (node, outputs) = open_node(rt, alloc, store, node, is_fresh)?;
-    let restarts = node.restarts();
-    let running = Running::new(node);
+    let Opened {
+        running,
+        seats,
+        outputs,
+        restarts,
+    } = open_node(rt, alloc, store, node, is_fresh, seats.clamp(1, SEATS))?;
     let posts = Posts {
         rt,
         alloc,
@@ -454,9 +456,8 @@ where
     };
     let terms = Terms {
         config,
-        seats,
         waiting,
         times,
     };
-    run_in(rt, alloc, &rooms, &running, &posts, &places, terms)
+    run_in(rt, alloc, &rooms, seats, &running, &posts, &places, terms)
 }

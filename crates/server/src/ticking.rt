@@ -89,10 +89,10 @@ impl Watch {
 
 /// The clock of a node.
 #[derive(Drop)]
-pub struct Clockwork<'a, R> {
+pub struct Clockwork<'a, 'r, R: Wait> {
     pub rt: &'a R,
     pub alloc: Global,
-    pub running: &'a Running<FileDevice>,
+    pub running: &'a Running<'r, R, FileDevice>,
     pub posts: &'a Posts<'a, R>,
     pub crew: &'a Crew,
     pub times: Times,
@@ -100,7 +100,7 @@ pub struct Clockwork<'a, R> {
     pub count: u64,
 }
 
-impl<'a, R: Wait + Clock + Eprint> Clockwork<'a, R> {
+impl<'a, 'r, R: Wait + Clock + Eprint> Clockwork<'a, 'r, R> {
     /// Does what is due at one moment.
     fn tick(&self, watch: &mut Watch) {
         let Ok(now) = Instant::now(self.rt) else {
