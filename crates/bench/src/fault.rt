@@ -7,12 +7,14 @@ use thiserror::Error;
 /// Why nothing, or no more, is measured.
 #[derive(Clone, Copy, Debug, PartialEq, Eq, Error)]
 pub enum Fault {
-    #[error("usage: bench ITEMS")]
+    #[error("usage: bench ITEMS, or: bench events RECORDS")]
     BadCommandLine,
     #[error("the add of number {number} was refused")]
     AddRefused { number: u64 },
     #[error("a name, a filter or the index choice is no such text")]
     BadText,
+    #[error("a node was refused, or gave other replies than it should")]
+    NoNode,
     #[error("cannot print or tell the time")]
     NoSystem,
     #[error("out of memory")]

@@ -1,14 +1,16 @@
-//! How many entries searches evaluate, and how long they take, over a directory of as many items as the command line says. Words flow
-//! in; counts flow out, and times beside them. Rules of the directory are not here.
+//! How many entries searches evaluate, and how long they take, over a directory of as many items as the command line says; or how long events at a
+//! node take, over logs of up to as many records. Words flow in; counts flow out, and times beside them. Rules of the directory are not here.
 #![tactic(auto)]
 
 mod fault;
 mod filling;
+mod handling;
 mod measuring;
 mod printing;
 
 use crate::fault::Fault;
 use crate::filling::filled;
+use crate::handling::measure_events;
 use crate::measuring::{FILTERS, measure, narrow, range};
 use crate::printing::{print_adds, print_search};
 use dir_search::Store;
@@ -17,9 +19,17 @@ use std::io::{Eprint, Print};
 use std::process::ExitCode;
 use std::time::{Clock, Instant};
 
-/// The number of items that the command line says.
-fn count_of(words: &[String]) -> Result<u32, Fault> {
-    let Some(word) = words.get(1) else {
+/// What the command line asks for.
+enum Measurement {
+    /// Searches of a directory of so many items.
+    Searches(u32),
+    /// Events at a node whose log grows to so many records.
+    Events(u32),
+}
+
+/// The number that a word of the command line says.
+fn count_of(words: &[String], place: usize) -> Result<u32, Fault> {
+    let Some(word) = words.get(place) else {
         return Err(Fault::BadCommandLine);
     };
     match word.parse::<u32>() {
@@ -84,11 +94,26 @@ fn show_all(
     show_narrow(rt, alloc, store, count)
 }
 
-/// Measures over a directory of as many items as the words say.
-fn run(rt: &(impl Clock + Print + Eprint), alloc: Global, words: &[String]) -> Result<(), Fault> {
-    let count = count_of(words)?;
+/// What the words ask for.
+fn asked(words: &[String]) -> Result<Measurement, Fault> {
+    match words.get(1) {
+        Some(word) if word.as_str() == "events" => Ok(Measurement::Events(count_of(words, 2)?)),
+        _ => Ok(Measurement::Searches(count_of(words, 1)?)),
+    }
+}
+
+/// Measures searches of a directory of so many items.
+fn search_all(rt: &(impl Clock + Print + Eprint), alloc: Global, count: u32) -> Result<(), Fault> {
     let store = fill(rt, alloc, count)?;
     show_all(rt, alloc, &store, count)
+}
+
+/// Measures what the words ask for.
+fn run(rt: &(impl Clock + Print + Eprint), alloc: Global, words: &[String]) -> Result<(), Fault> {
+    match asked(words)? {
+        Measurement::Searches(count) => search_all(rt, alloc, count),
+        Measurement::Events(count) => measure_events(rt, alloc, count as u64),
+    }
 }
 
 fn main(rt: HostRuntime) -> std::io::Result<ExitCode> {

@@ -35,3 +35,21 @@ pub fn print_search(
     print_counts(rt, filter, measured.found, measured.evaluated)?;
     print_time(rt, measured.microseconds)
 }
+
+/// Prints how long an event took over a log of so many records, in the middle window, the shortest and the longest.
+pub fn print_events(
+    rt: &impl Eprint,
+    records: u64,
+    middle: u64,
+    least: u64,
+    most: u64,
+) -> Result<(), Fault> {
+    eprintln!(rt; "{records} records: {middle} ns an event ({least} to {most})")?;
+    Ok(())
+}
+
+/// Prints how many records were executed.
+pub fn print_executed(rt: &impl Print, executed: usize) -> Result<(), Fault> {
+    println!(rt; "executed={executed}")?;
+    Ok(())
+}
