@@ -63,7 +63,7 @@ def modify(name: str, changes: list[tuple[int, str, list[str]]]) -> bytes:
 
 
 def modify_dn(name: str, relative: str, keeps_old: bool = False) -> bytes:
-    return element(0x6C, text(name) + text(relative) + element(0x01, b"\0" if not keeps_old else b"\xff"))
+    return element(0x6C, text(name) + text(relative) + element(0x01, b"\0" if keeps_old else b"\xff"))
 
 
 def extended(oid: str) -> bytes:
