@@ -1,6 +1,7 @@
 """Replicas of one cluster as processes of this machine: started, ended by kill -9, started again. Ports, folders and words flow in; processes flow out."""
 from __future__ import annotations
 
+import functools
 import os
 import socket
 import subprocess
@@ -13,8 +14,11 @@ MANAGER = "cn=admin,dc=example,dc=com"
 PASSWORD = "secret"
 
 
+@functools.cache
 def program() -> str:
-    """The program, built where it is not."""
+    """The program: that of the environment's DIRD, or the repository's, built where it is not."""
+    if "DIRD" in os.environ:
+        return os.environ["DIRD"]
     subprocess.run([os.path.join(TOP, "dird"), "--version"], check=True, stdout=subprocess.DEVNULL)
     return os.path.join(TOP, "crates", "dird", "out", "dird")
 
@@ -40,14 +44,24 @@ class Replica:
         self.index = index
         self.process: subprocess.Popen | None = None
         self.lines: list[str] = []
+        # Further words for how the process is made.
+        self.options: dict = {}
+
+    def store(self) -> str:
+        """The file of its stored view."""
+        return os.path.join(self.cluster.folder, f"view-{self.index}")
+
+    def command(self, fresh: bool) -> list[str]:
+        """The command line that starts it."""
+        return [self.cluster.program, "serve", "--cluster", str(self.cluster.number), "--id", str(self.index),
+                "--store", self.store(), "--suffix", SUFFIX, "--manager", MANAGER,
+                "--password", PASSWORD, *self.cluster.words, *(["--fresh"] if fresh else []), *self.cluster.places()]
 
     def start(self, fresh: bool) -> None:
         """Starts it, and waits until it listens."""
-        words = [self.cluster.program, "serve", "--cluster", str(self.cluster.number), "--id", str(self.index),
-                 "--store", os.path.join(self.cluster.folder, f"view-{self.index}"), "--suffix", SUFFIX, "--manager", MANAGER,
-                 "--password", PASSWORD, *self.cluster.words, *(["--fresh"] if fresh else []), *self.cluster.places()]
         # In a session of its own, so that Ctrl-C ends only who started it.
-        self.process = subprocess.Popen(words, stdin=subprocess.DEVNULL, stdout=subprocess.PIPE, stderr=subprocess.PIPE, text=True, start_new_session=True)
+        self.process = subprocess.Popen(self.command(fresh), stdin=subprocess.DEVNULL, stdout=subprocess.PIPE, stderr=subprocess.PIPE, text=True,
+                                        start_new_session=True, **self.options)
         threading.Thread(target=self._keep, args=(self.process.stderr,), daemon=True).start()
         first = self.process.stdout.readline()
         if not first.startswith("listening "):

@@ -1,0 +1,103 @@
+"""Tests of three running replicas: how their manager is asked, what each shows, and how a script of such tests is run. Clusters flow in, codes, names and a
+line a test flow out. What is tested stands in tests/serve and tests/streams."""
+from __future__ import annotations
+
+import tempfile
+import time
+import traceback
+from collections.abc import Callable
+
+import ldap_client as ldap
+from replicas import MANAGER, PASSWORD, SUFFIX, Cluster
+
+HOST = "127.0.0.1"
+WORDS = ["--beat", "100", "--suspect", "600"]
+
+
+def item(number: int) -> tuple[str, list[tuple[str, list[str]]]]:
+    """An entry under the suffix."""
+    return f"cn=item{number},{SUFFIX}", [("objectClass", ["item"]), ("cn", [f"item{number}"]), ("rank", [str(number)])]
+
+
+def manager(cluster: Cluster, index: int, timeout: float = 20.0) -> ldap.Client:
+    """The manager's session at a replica."""
+    client = ldap.Client(HOST, cluster.ldap_port(index), timeout)
+    code = client.bind(MANAGER, PASSWORD)
+    assert code == 0, f"bind at {index}: {code}"
+    return client
+
+
+def is_primary(cluster: Cluster, index: int) -> bool:
+    """Whether a replica takes updates now."""
+    try:
+        client = manager(cluster, index, 2.0)
+        code, _, _, _ = client.ask(ldap.noop())
+        client.close()
+        return code == 0
+    except (OSError, ldap.Closed, AssertionError):
+        return False
+
+
+def primary(cluster: Cluster, seconds: float = 30.0) -> int:
+    """The index of the replica that takes updates, once there is one."""
+    end = time.time() + seconds
+    while time.time() < end:
+        for replica in cluster.replicas:
+            if replica.process is not None and is_primary(cluster, replica.index):
+                return replica.index
+        time.sleep(0.1)
+    raise AssertionError("no primary")
+
+
+def names_at(cluster: Cluster, index: int, number: int, seconds: float = 20.0) -> set[str]:
+    """The names of all entries at a replica, from a state no older than the update of this number."""
+    end = time.time() + seconds
+    client = ldap.Client(HOST, cluster.ldap_port(index))
+    while True:
+        code, _, entries, _ = client.ask(ldap.search(SUFFIX, 2, ldap.present("objectClass"), ["1.1"]), [ldap.control(ldap.READ, str(number))])
+        if code == 0:
+            client.close()
+            return {name for name, _ in entries}
+        assert code in (51, 52), f"search at {index}: {code}"
+        assert time.time() < end, f"replica {index} is not at {number} in time"
+        time.sleep(0.05)
+
+
+def add_at(client: ldap.Client, name: str, pairs: list[tuple[str, list[str]]]) -> int:
+    """Adds an entry, and gives the number of the update."""
+    code, controls, _, _ = client.ask(ldap.add(name, pairs), [ldap.control(ldap.READ, "0")])
+    assert code == 0, f"add of {name}: {code}"
+    return int(controls[ldap.READ])
+
+
+def begin(cluster: Cluster) -> int:
+    """The suffix's entry, added."""
+    client = manager(cluster, primary(cluster))
+    number = add_at(client, SUFFIX, [("objectClass", ["domain"]), ("dc", ["example"])])
+    client.unbind()
+    return number
+
+
+def play(tests: list[Callable[[Cluster], None]], words: list[str]) -> int:
+    """Plays the tests one after the other with one cluster, tells of each, and gives the status to end with."""
+    passed = failed = 0
+    with tempfile.TemporaryDirectory() as folder:
+        cluster = Cluster(folder, 9, 3, WORDS + words)
+        try:
+            cluster.start()
+            for test in tests:
+                began = time.time()
+                try:
+                    test(cluster)
+                    passed += 1
+                    print(f"ok {test.__name__} {time.time() - began:.1f} s", flush=True)
+                except Exception:
+                    failed += 1
+                    print(f"FAILED {test.__name__}", flush=True)
+                    traceback.print_exc()
+                    for replica in cluster.replicas:
+                        print(replica.index, replica.process and replica.process.poll(), replica.lines[-8:], flush=True)
+        finally:
+            cluster.kill()
+    print(f"{passed} passed, {failed} failed")
+    return 1 if failed else 0
