@@ -1,5 +1,6 @@
 pub mod Scopes
 pub mod Selection
+pub mod Resolved
 pub mod RootDse
 pub mod Answer
 pub mod Exact

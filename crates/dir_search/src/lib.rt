@@ -5,6 +5,7 @@
 mod comparing;
 mod found;
 mod laws;
+mod resolving;
 mod root_dse;
 mod scoping;
 mod searching;

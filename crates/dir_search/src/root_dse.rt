@@ -10,6 +10,7 @@ ghost use Rattle.dir_search.specs.RootDse.{class_top, dse_attributes, dse_select
 ghost use Rattle.dir_search.specs.View.{Finds};
 
 use crate::found::SearchAnswer;
+use crate::resolving::Selection;
 use crate::searching::matches;
 use crate::selecting::show_selected;
 use dir_store::{Entry, EntryError, Schema, Store, TypeId};
@@ -130,13 +131,9 @@ fn shown_root(
     requires attributes { attributes_of entry.now ≡ dse_attributes store.now.directory.schema }
     ensures { IfOk result (λ e. entry_view e ≡ dse_selected store.now.directory (map string_bytes request.now.attributes.items) request.now.types_only) }
 {
-    let mut attributes = show_selected(
-        alloc,
-        store.schema(),
-        &request.attributes,
-        request.types_only,
-        entry.attributes(),
-    )?;
+    let schema = store.schema();
+    let selection = Selection::of(alloc, schema, &request.attributes)?;
+    let mut attributes = show_selected(alloc, schema, request, &selection, entry.attributes())?;
     let suffix = store.printed_suffix(alloc)?;
     add_asked(
         alloc,

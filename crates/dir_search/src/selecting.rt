@@ -1,53 +1,16 @@
 //! What is shown of an entry: the selected attributes in its order, each by its type's first name, each octet copied once.
-//! A schema, selectors and an entry flow in. Filters are not here.
-ghost use Rattle.std.specs.Prelude.{◌≡◌, ◌&&◌, ◌||◌, ℕ, List, [], map, IfOk, codes, string_bytes, filter, if◌then◌else◌};
-ghost use Rattle.std.specs.List.{list_any};
+//! A schema, a request and an entry flow in. Filters are not here.
+ghost use Rattle.std.specs.Prelude.{◌≡◌, map, IfOk, string_bytes};
 ghost use Rattle.ldap_msg.specs.View.{attribute_view, entry_view};
 ghost use Rattle.dir_store.specs.ldap_dn.Printed.{printed_name};
 ghost use Rattle.dir_store.specs.dir_entry.Entry.{shown as without_keys, attributes_of};
-ghost use Rattle.dir_search.specs.Selection.{is_selected, is_selected_by, first_name, shown, attributes_selected};
+ghost use Rattle.dir_search.specs.Resolved.{Resolves};
+ghost use Rattle.dir_search.specs.Selection.{is_selected, first_name, shown, attributes_selected};
 
+use crate::resolving::Selection;
 use dir_store::{Attribute, NamedEntry, Schema, TypeId};
-use ldap_msg::{PartialAttribute, SearchResultEntry};
+use ldap_msg::{PartialAttribute, SearchRequest, SearchResultEntry};
 use std::alloc::{AllocError, Global};
-
-/// Whether a selector selects a type.
-fn is_selected_by_one(schema: &Schema, type_id: TypeId, selector: &str) -> bool
-    ensures { result ≡ is_selected_by schema.now type_id selector.now }
-{
-    if selector == "*" {
-        return true;
-    }
-    if selector == "1.1" {
-        return false;
-    }
-    match schema.find(selector) {
-        Some(named) => schema.is_under(type_id, named),
-        None => false,
-    }
-}
-
-/// Whether some of the selectors selects a type.
-fn is_selected_by_some(schema: &Schema, type_id: TypeId, selectors: &[String]) -> bool
-    ensures { result ≡ list_any (is_selected_by schema.now type_id) (map string_bytes selectors.now) }
-{
-    for selector in selectors {
-        if is_selected_by_one(schema, type_id, selector) {
-            return true;
-        }
-    }
-    false
-}
-
-/// Whether the selectors select a type.
-fn is_type_selected(schema: &Schema, type_id: TypeId, selectors: &[String]) -> bool
-    ensures { result ≡ is_selected schema.now (map string_bytes selectors.now) type_id }
-{
-    match selectors {
-        [] => true,
-        [_, ..] => is_selected_by_some(schema, type_id, selectors),
-    }
-}
 
 /// The name that a type goes by.
 fn type_name(schema: &Schema, type_id: TypeId) -> &str
@@ -94,21 +57,35 @@ fn show(
     })
 }
 
+/// Whether an attribute is selected.
+fn is_shown(
+    schema: &Schema,
+    request: &SearchRequest,
+    selection: &Selection,
+    attribute: &Attribute,
+) -> bool
+    requires { Resolves schema.now (map string_bytes request.now.attributes.items) selection.now }
+    ensures { result ≡ is_selected schema.now (map string_bytes request.now.attributes.items) attribute.now.kind }
+{
+    selection.has(schema, attribute.type_id())
+}
+
 /// What is shown of attributes.
 pub fn show_selected(
     alloc: Global,
     schema: &Schema,
-    selectors: &[String],
-    types_only: bool,
+    request: &SearchRequest,
+    selection: &Selection,
     attributes: &[Attribute],
 ) -> Result<Vec<PartialAttribute>, AllocError>
+    requires { Resolves schema.now (map string_bytes request.now.attributes.items) selection.now }
     ensures { IfOk result (λ r. map attribute_view r.items
-        ≡ attributes_selected schema.now (map string_bytes selectors.now) types_only (attributes_of attributes.now)) }
+        ≡ attributes_selected schema.now (map string_bytes request.now.attributes.items) request.now.types_only (attributes_of attributes.now)) }
 {
     let mut shown = Vec::new(alloc);
     for attribute in attributes {
-        if is_type_selected(schema, attribute.type_id(), selectors) {
-            shown.push(show(alloc, schema, types_only, attribute)?)?;
+        if is_shown(schema, request, selection, attribute) {
+            shown.push(show(alloc, schema, request.types_only, attribute)?)?;
         }
     }
     Ok(shown)
@@ -118,22 +95,17 @@ pub fn show_selected(
 pub fn select(
     alloc: Global,
     schema: &Schema,
-    selectors: &[String],
-    types_only: bool,
+    request: &SearchRequest,
+    selection: &Selection,
     held: &NamedEntry,
 ) -> Result<SearchResultEntry, AllocError>
+    requires { Resolves schema.now (map string_bytes request.now.attributes.items) selection.now }
     ensures { IfOk result (λ e. entry_view e ≡ record {
       object_name = printed_name schema.now held.now.name;
-      attributes = attributes_selected schema.now (map string_bytes selectors.now) types_only (attributes_of held.now.entry);
+      attributes = attributes_selected schema.now (map string_bytes request.now.attributes.items) request.now.types_only (attributes_of held.now.entry);
     }) }
 {
-    let attributes = show_selected(
-        alloc,
-        schema,
-        selectors,
-        types_only,
-        held.entry.attributes(),
-    )?;
+    let attributes = show_selected(alloc, schema, request, selection, held.entry.attributes())?;
     let object_name = held.name.print(alloc, schema)?;
     Ok(SearchResultEntry {
         object_name,

@@ -6,10 +6,12 @@ ghost use Rattle.ldap_msg.specs.View.{entry_view};
 ghost use Rattle.dir_store.specs.Stored.{named};
 ghost use Rattle.dir_search.specs.Looks.{AreHere};
 ghost use Rattle.dir_search.specs.Numbered.{entries_of};
+ghost use Rattle.dir_search.specs.Resolved.{Resolves};
 ghost use Rattle.dir_search.specs.Selection.{selected};
 ghost use Rattle.dir_search.specs.View.{answer_view, Shows};
 
 use crate::found::SearchAnswer;
+use crate::resolving::Selection;
 use crate::selecting::select;
 use crate::values::Evaluated;
 use dir_store::{Postings, Schema, Tree};
@@ -31,16 +33,18 @@ fn show_next(
     schema: &Schema,
     tree: &Tree,
     request: &SearchRequest,
+    selection: &Selection,
     number: u64,
     entries: &mut Vec<SearchResultEntry>,
 ) -> Result<(), AllocError>
+    requires { Resolves schema.now (map string_bytes request.now.attributes.items) selection.now }
     ensures { OnOk result (map entry_view entries.new.items ≡ map entry_view entries.old.items
         ++ map (selected schema.now (map string_bytes request.now.attributes.items) request.now.types_only)
         (map named (entries_of (number ∷ []) tree.now.entries))) }
 {
     match tree.entry(number) {
         Some(held) => {
-            let entry = select(alloc, schema, &request.attributes, request.types_only, held)?;
+            let entry = select(alloc, schema, request, selection, held)?;
             entries.push(entry)?;
             Ok(())
         }
@@ -79,6 +83,7 @@ pub fn show_found(
         (selected schema.now (map string_bytes request.now.attributes.items) request.now.types_only)
         request.now.size_limit tree.now.entries running.entry.to_come running.entry.open_numbers) }
 {
+    let selection = Selection::of(alloc, schema, &request.attributes)?;
     let limit = request.size_limit as usize;
     let mut entries = Vec::new(alloc);
     while let Some(number) = running.next() {
@@ -86,7 +91,15 @@ pub fn show_found(
             let code = ResultCode::SIZE_LIMIT_EXCEEDED;
             return Ok(ended(alloc, code, entries, running.tests()));
         }
-        show_next(alloc, schema, tree, request, number, &mut entries)?;
+        show_next(
+            alloc,
+            schema,
+            tree,
+            request,
+            &selection,
+            number,
+            &mut entries,
+        )?;
     }
     let code = ResultCode::SUCCESS;
     Ok(ended(alloc, code, entries, running.tests()))

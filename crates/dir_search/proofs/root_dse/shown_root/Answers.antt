@@ -15,8 +15,7 @@ returns c =
     let types_only = c.args.request.now.types_only in
     let user =
     c.in_ok-attributes.ensures
-    ∙ ap (λ (s : SchemaModel). attributes_selected s (map string_bytes c.deref.result.now) types_only (attributes_of c.attributes.result.now)) c.schema.ensures
-    ∙ ap (λ (xs : List (String _)). attributes_selected d.schema (map string_bytes xs) types_only (attributes_of c.attributes.result.now)) c.deref.ensures.value
+    ∙ ap (λ (s : SchemaModel). attributes_selected s selectors types_only (attributes_of c.attributes.result.now)) c.schema-schema.ensures
     ∙ ap (λ (e : List KeyedAttribute). attributes_selected d.schema selectors types_only (attributes_of e)) c.attributes.ensures
     ∙ ap (attributes_selected d.schema selectors types_only) c.requires.attributes in
     let naming =

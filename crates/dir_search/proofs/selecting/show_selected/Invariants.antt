@@ -8,4 +8,4 @@ use Rattle.dir_search.proofs.selecting.show_selected.Given as goal
 abbrev pub invariant-loop-attribute : goal.invariant-loop-attribute
 invariant-loop-attribute l =
     map attribute_view l.shown.items
-    ≡ map (shown l.schema l.types_only) (filter (λ a. is_selected l.schema (map string_bytes l.selectors) a.kind) (map without_keys (take l.attribute-index l.attributes)))
+    ≡ map (shown l.schema l.request.types_only) (filter (λ a. is_selected l.schema (map string_bytes l.request.attributes.items) a.kind) (map without_keys (take l.attribute-index l.attributes)))
