@@ -7,8 +7,9 @@ ghost use Rattle.schema_text.specs.Descriptions.{first_text_at};
 ghost use Rattle.schema_meaning.specs.Rules as rules;
 ghost use Rattle.schema_meaning.specs.Naming as naming;
 ghost use Rattle.schema_meaning.specs.Faults as faults;
+ghost use Rattle.schema_meaning.specs.Inheriting as inheriting;
 
-use crate::inheriting::is_unfit;
+use crate::inheriting::{Way, is_unfit, ways_of};
 use crate::naming::{find, is_repeated};
 use crate::rules::{equality_family, ordering_family, substrings_family, syntax_of};
 use schema_text::{Description, Keyword, SchemaText};
@@ -18,15 +19,17 @@ use std::alloc::{AllocError, Global};
 fn is_bad_type(
     alloc: Global,
     text: &SchemaText,
+    ways: &[Way],
     number: usize,
     description: &Description,
 ) -> Result<bool, AllocError>
+    requires { ways.now ≡ inheriting.ways_of text.now.types }
     ensures { IfOk result (λ b. b ≡ faults.is_bad_type text.now number description.now) }
 {
     if is_repeated(text.types(), text.classes(), description) {
         return Ok(true);
     }
-    is_unfit(alloc, text.types(), number)
+    is_unfit(alloc, text.types(), ways, number)
 }
 
 /// The line of the first type that is bad together with the others.
@@ -34,8 +37,9 @@ fn bad_type(alloc: Global, text: &SchemaText) -> Result<Option<usize>, AllocErro
     ensures { IfOk result (λ o. o ≡ faults.first_of_types (faults.is_bad_type text.now) 0 text.now.types) }
 {
     let types = text.types();
+    let ways = ways_of(alloc, types)?;
     for (number, description) in types.iter().enumerate() {
-        if is_bad_type(alloc, text, number, description)? {
+        if is_bad_type(alloc, text, &ways, number, description)? {
             return Ok(Some(description.line()));
         }
     }

@@ -55,12 +55,25 @@ fn way_of(types: &[Description], description: &Description) -> Way
     }
 }
 
+/// Where the SUP of each type leads: each is looked up once, whatever leads to it.
+pub fn ways_of(alloc: Global, types: &[Description]) -> Result<Vec<Way>, AllocError>
+    ensures { IfOk result (λ v. v.items ≡ inheriting.ways_of types.now) }
+{
+    let mut ways = Vec::with_capacity(alloc, types.len())?;
+    for description in types {
+        ways.push(way_of(types, description))?;
+    }
+    Ok(ways)
+}
+
 /// Where the SUP of the type of a number leads.
-fn way_from(types: &[Description], number: usize) -> Way
+#[tactic(auto, using(crate::proofs::Ways::way_at))]
+fn way_from(types: &[Description], ways: &[Way], number: usize) -> Way
+    requires { ways.now ≡ inheriting.ways_of types.now }
     ensures { result ≡ inheriting.way_from types.now number }
 {
-    match types.get(number) {
-        Some(description) => way_of(types, description),
+    match ways.get(number) {
+        Some(way) => *way,
         None => Way::IsLost,
     }
 }
@@ -69,15 +82,17 @@ fn way_from(types: &[Description], number: usize) -> Way
 fn lineage(
     alloc: Global,
     types: &[Description],
+    ways: &[Way],
     number: usize,
 ) -> Result<Option<Vec<usize>>, AllocError>
+    requires { ways.now ≡ inheriting.ways_of types.now }
     ensures { IfOk result (λ o. option_map (λ v. v.items) o ≡ inheriting.lineage types.now number) }
 {
     let mut found = Vec::new(alloc);
     found.push(number)?;
     let mut current = number;
     for step in types {
-        match way_from(types, current) {
+        match way_from(types, ways, current) {
             Way::Ends => return Ok(Some(found)),
             Way::IsLost => return Ok(None),
             Way::GoesTo(above) => {
@@ -250,20 +265,32 @@ fn effect_along(types: &[Description], chain: Vec<usize>) -> Effect
 }
 
 /// The rules and the syntax in effect for the type of a number.
-pub fn effect_of(alloc: Global, types: &[Description], number: usize) -> Result<Effect, AllocError>
+pub fn effect_of(
+    alloc: Global,
+    types: &[Description],
+    ways: &[Way],
+    number: usize,
+) -> Result<Effect, AllocError>
+    requires { ways.now ≡ inheriting.ways_of types.now }
     ensures { IfOk result (λ e. e ≡ inheriting.effect_of types.now number) }
 {
-    match lineage(alloc, types, number)? {
+    match lineage(alloc, types, ways, number)? {
         Some(chain) => Ok(effect_along(types, chain)),
         None => Ok(own_at(types, number)),
     }
 }
 
 /// Whether the chain of SUPs of a type comes to an end.
-fn has_lineage(alloc: Global, types: &[Description], number: usize) -> Result<bool, AllocError>
+fn has_lineage(
+    alloc: Global,
+    types: &[Description],
+    ways: &[Way],
+    number: usize,
+) -> Result<bool, AllocError>
+    requires { ways.now ≡ inheriting.ways_of types.now }
     ensures { IfOk result (λ b. b ≡ inheriting.has_lineage types.now number) }
 {
-    match lineage(alloc, types, number)? {
+    match lineage(alloc, types, ways, number)? {
         Some(_) => Ok(true),
         None => Ok(false),
     }
@@ -305,10 +332,16 @@ fn lacks_syntax(effect: Effect) -> bool
 }
 
 /// Whether the type of a number is mixed, or has no syntax that its rules are used on though its chain of SUPs ends.
-pub fn is_unfit(alloc: Global, types: &[Description], number: usize) -> Result<bool, AllocError>
+pub fn is_unfit(
+    alloc: Global,
+    types: &[Description],
+    ways: &[Way],
+    number: usize,
+) -> Result<bool, AllocError>
+    requires { ways.now ≡ inheriting.ways_of types.now }
     ensures { IfOk result (λ b. b ≡ inheriting.is_unfit types.now number) }
 {
-    let effect = effect_of(alloc, types, number)?;
-    let ends = has_lineage(alloc, types, number)?;
+    let effect = effect_of(alloc, types, ways, number)?;
+    let ends = has_lineage(alloc, types, ways, number)?;
     Ok(is_mixed(effect) || (ends && lacks_syntax(effect)))
 }

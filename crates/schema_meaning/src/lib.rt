@@ -8,7 +8,7 @@ mod naming;
 mod rules;
 
 pub use faults::{bad_line, earlier, unknown_line};
-pub use inheriting::{Effect, Given, effect_of};
+pub use inheriting::{Effect, Given, Way, effect_of, ways_of};
 pub use ldap_syntax::{
     Family, Key, Part, Rule, Syntax, ValueError, has_meaning, has_ordering, has_substrings,
     is_in_syntax, is_numericoid, key_of, keys_compare, part_key_of, parts_compare,

@@ -8,7 +8,7 @@ ghost use Rattle.schema_reader.specs.Described as described;
 use ldap_schema::{AttributeType, ClassId, ClassKind, ObjectClass, TypeId};
 use schema_meaning::{
     Description, Effect, Family, Field, Given, Keyword, Rule, SchemaText, Syntax, effect_of, find,
-    names, superior_of,
+    names, superior_of, ways_of,
 };
 use std::alloc::{AllocError, Global};
 
@@ -98,9 +98,10 @@ fn type_with(
 pub fn types_of(alloc: Global, types: &[Description]) -> Result<Vec<AttributeType>, AllocError>
     ensures { IfOk result (λ v. v.items ≡ described.types_from types.now 0 types.now) }
 {
+    let ways = ways_of(alloc, types)?;
     let mut found = Vec::new(alloc);
     for (number, description) in types.iter().enumerate() {
-        let effect = effect_of(alloc, types, number)?;
+        let effect = effect_of(alloc, types, &ways, number)?;
         found.push(type_with(alloc, types, description, effect)?)?;
     }
     Ok(found)
