@@ -1,6 +1,5 @@
 -- Attributes by their place. Facts on lists flow in and out; no value of the program is here.
-use Rattle.std.proofs.Common.{ℕ, ◌+◌, zero, suc, List, [], ◌∷◌, ◌++◌, Bool, true, false, cond, not, ◌||◌, nat_eq, is_some, Option, None, Some, ◌≡◌, refl, ap, ap₂, sym, subst, ◌∙◌, map, take, drop, slice_get, length, arith}
-use Rattle.std.specs.Bool.{◌==◌}
+use Rattle.std.proofs.Common.{ℕ, ◌+◌, zero, suc, List, [], ◌∷◌, ◌++◌, Bool, true, false, cond, not, ◌||◌, nat_eq, is_some, Option, None, Some, ◌≡◌, refl, ap, ap₂, sym, subst, ◌∙◌, map, take, drop, slice_get, arith}
 use Rattle.std.specs.List.{prefix_len, list_any}
 use Rattle.dir_entry.specs.Adding.{has_type}
 use Rattle.entry_changes.specs.Compared.{values_held}
@@ -11,7 +10,7 @@ use Rattle.std.specs.Option.{option_map}
 use Rattle.dir_entry.specs.ldap_schema.Schema.{SchemaModel}
 use Rattle.dir_entry.specs.ldap_match.Keyed.{AreKeysOf}
 use Rattle.dir_entry.specs.Entry.{AttributeModel, KeyedAttribute, shown, attributes_of, IsKeyedBy}
-use Rattle.entry_changes.specs.Editing.{place, values_in, values_of, attribute_with, with_values_of}
+use Rattle.entry_changes.specs.Editing.{place, values_in, values_of, attribute_with, with_values_of, is_empty}
 
 pub place_shown : (t : ℕ) (e : List KeyedAttribute) → prefix_len (λ a. not (nat_eq a.kind t)) e ≡ place t (attributes_of e)
 place_shown t [] = refl
@@ -117,12 +116,24 @@ one_between : {A : Type 0} (f : List A) (x : A) (b : List A) → f ++ x ∷ b �
 one_between [] x b = refl
 one_between (y ∷ f) x b = ap (λ (ys : List _). y ∷ ys) (one_between f x b)
 
-pub put_shown : {A : Type 0} (items : A → List ℕ) (i : ℕ) (o : List KeyedAttribute) (a : KeyedAttribute) (vs : List A) → map items vs ≡ a.values → false ≡ (length vs == 0)
+pub put_shown : (i : ℕ) (o : List KeyedAttribute) (a : KeyedAttribute) → is_empty a.values ≡ false
     → attributes_of (take i o ++ a ∷ drop i o) ≡ take i (attributes_of o) ++ attribute_with a.kind a.values ++ drop i (attributes_of o)
-put_shown items i o a [] e h = absurd (cc)
-put_shown items i o a (v ∷ vs) e h =
-    inserted_shown i o a ∙ one_between (take i (attributes_of o)) (shown a) (drop i (attributes_of o))
-    ∙ ap (λ (m : List AttributeModel). take i (attributes_of o) ++ m ++ drop i (attributes_of o)) (sym (attribute_back a (items v) (map items vs) (sym e)))
+put_shown i o a h = by a.values refl h
+  where
+    by : (vs : List (List ℕ)) → a.values ≡ vs → is_empty vs ≡ false → attributes_of (take i o ++ a ∷ drop i o) ≡ take i (attributes_of o) ++ attribute_with a.kind a.values ++ drop i (attributes_of o)
+    by [] e k = absurd (cc)
+    by (v ∷ vs) e k =
+        inserted_shown i o a ∙ one_between (take i (attributes_of o)) (shown a) (drop i (attributes_of o))
+        ∙ ap (λ (m : List AttributeModel). take i (attributes_of o) ++ m ++ drop i (attributes_of o)) (sym (attribute_back a v vs e))
+
+-- nothing is put back of an attribute that is gone
+pub gone_shown : (i : ℕ) (o : List AttributeModel) (t : ℕ) (vs : List (List ℕ)) → is_empty vs ≡ true → o ≡ take i o ++ attribute_with t vs ++ drop i o
+gone_shown i o t [] h = sym (take_none (take i o) (drop i o) ∙ none_back i o)
+  where
+    take_none : (f b : List AttributeModel) → (f ++ []) ++ b ≡ f ++ b
+    take_none [] b = refl
+    take_none (x ∷ f) b = ap (λ (z : List AttributeModel). x ∷ z) (take_none f b)
+gone_shown i o t (v ∷ vs) h = absurd (cc)
 
 pub values_at : (t : ℕ) (e : List KeyedAttribute) (i : ℕ) (o : Option KeyedAttribute) → i ≡ place t (attributes_of e) → o ≡ slice_get e i → values_held o ≡ values_of t (attributes_of e)
 values_at t e i o h k =

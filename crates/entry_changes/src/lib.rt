@@ -2,12 +2,15 @@
 //! classes demand, and what a request says, are not here.
 #![tactic(auto)]
 
-mod among;
 mod changing;
-mod comparing;
+mod index;
 mod naming;
+mod opened;
 mod placing;
+mod since;
+mod working;
 
 pub use changing::{add_values, delete_values, replace_values};
 pub use dir_entry::{Entry, EntryError, Schema, TypeAndValue, TypeId};
 pub use naming::{add_rdn, delete_rdn, holds_rdn};
+pub use working::Working;

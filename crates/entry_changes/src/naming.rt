@@ -1,8 +1,8 @@
 // The values of an entry's relative name (RFC 4512 2.3.2). A schema, types and values flow in with the entry; the changed entry, or a
 // refusal, flows out. What must not be here: whole names, what classes demand.
 
-ghost use Rattle.std.specs.Prelude.{◌≡◌, ◌∷◌, [], ℕ, List, option_map, slice_get, false, map, Some, None, Ok, IfOk, IfErr};
-ghost use Rattle.std.specs.List.{list_any, list_all};
+ghost use Rattle.std.specs.Prelude.{◌≡◌, ◌∷◌, [], ℕ, List, option_map, slice_get, false, not, nat_eq, map, Some, None, Ok, IfOk, IfErr};
+ghost use Rattle.std.specs.List.{list_any, list_all, prefix_len};
 ghost use Rattle.std.specs.Str.{bytes_eq};
 ghost use Rattle.dir_entry.specs.ldap_schema.Schema.{SchemaModel};
 ghost use Rattle.dir_entry.specs.ldap_schema.Rules.{equality_of};
@@ -12,16 +12,37 @@ ghost use Rattle.dir_entry.specs.Entry.{KeyedAttribute, attributes_of, IsKeyedBy
 ghost use Rattle.dir_entry.specs.Values.{is_equivalent};
 ghost use Rattle.dir_entry.specs.Adding.{Refuses};
 ghost use Rattle.entry_changes.specs.Compared.{values_held};
-ghost use Rattle.entry_changes.specs.Editing.{holds, values_of};
+ghost use Rattle.entry_changes.specs.Editing.{holds, values_of, with_added, with_deleted, place as place_of};
 ghost use Rattle.entry_changes.specs.Naming.{has_value, with_value, with_rdn, has_rdn, is_same_value, without_value, without_rdn};
 
 use crate::changing::{add_values, delete_values};
-use crate::placing::place;
+use crate::working::Working;
 use dir_entry::{
     Attribute, Entry, EntryError, Key, Rule, Schema, TypeAndValue, TypeId, ValueError,
     equality_rule, key, tests_are_items,
 };
 use std::alloc::{AllocError, Global};
+
+/// How many attributes stand before that of the type.
+fn count_before(attributes: &[Attribute], type_id: TypeId) -> usize
+    ensures { result ≡ prefix_len (λ a. not (nat_eq a.kind type_id)) attributes.now }
+{
+    let mut count = 0;
+    for attribute in attributes {
+        if attribute.type_id() == type_id {
+            return count;
+        }
+        count += 1;
+    }
+    count
+}
+
+/// Where the attribute of the type stands; the end, where there is none.
+fn place(attributes: &[Attribute], type_id: TypeId) -> usize
+    ensures { result ≡ place_of type_id (attributes_of attributes.now) }
+{
+    count_before(attributes, type_id)
+}
 
 /// The attribute in a place; none, past the end.
 fn attribute_at(attributes: &[Attribute], place: usize) -> Option<&Attribute>
@@ -224,6 +245,42 @@ pub fn holds_rdn(
     Ok(true)
 }
 
+/// The entry with the values added to those of the type.
+fn add_to_entry(
+    alloc: Global,
+    schema: &Schema,
+    entry: Entry,
+    type_id: TypeId,
+    values: Vec<Vec<u8>>,
+) -> Result<Entry, EntryError>
+    requires { IsKeyedBy schema.now entry }
+    ensures ok { IfOk result (λ e. with_added schema.now type_id (map (λ v. v.items) values.items) (attributes_of entry) ≡ Ok (attributes_of e)) }
+    ensures keyed { IfOk result (λ e. IsKeyedBy schema.now e) }
+    ensures refused { IfErr result (λ e. Refuses e (with_added schema.now type_id (map (λ v. v.items) values.items) (attributes_of entry))) }
+{
+    let working = Working::of(alloc, entry)?;
+    let changed = add_values(alloc, schema, working, type_id, values)?;
+    Ok(changed.into_entry(alloc)?)
+}
+
+/// The entry without the values, or without the attribute where no value is given or all are deleted.
+fn delete_from_entry(
+    alloc: Global,
+    schema: &Schema,
+    entry: Entry,
+    type_id: TypeId,
+    values: Vec<Vec<u8>>,
+) -> Result<Entry, EntryError>
+    requires { IsKeyedBy schema.now entry }
+    ensures ok { IfOk result (λ e. with_deleted schema.now type_id (map (λ v. v.items) values.items) (attributes_of entry) ≡ Ok (attributes_of e)) }
+    ensures keyed { IfOk result (λ e. IsKeyedBy schema.now e) }
+    ensures refused { IfErr result (λ e. Refuses e (with_deleted schema.now type_id (map (λ v. v.items) values.items) (attributes_of entry))) }
+{
+    let working = Working::of(alloc, entry)?;
+    let changed = delete_values(alloc, schema, working, type_id, values)?;
+    Ok(changed.into_entry(alloc)?)
+}
+
 /// The entry with a value of its relative name, unless it has it.
 fn add_pair(
     alloc: Global,
@@ -240,7 +297,7 @@ fn add_pair(
         return Ok(entry);
     }
     let values = one_value(alloc, pair.value())?;
-    add_values(alloc, schema, entry, pair.type_id(), values)
+    add_to_entry(alloc, schema, entry, pair.type_id(), values)
 }
 
 /// The entry with the values of a relative name that it lacks (RFC 4511 4.7, 4.9): 21 where one is not in its type's syntax.
@@ -282,7 +339,7 @@ fn delete_pair(
         return Ok(entry);
     }
     let values = one_value(alloc, pair.value())?;
-    delete_values(alloc, schema, entry, pair.type_id(), values)
+    delete_from_entry(alloc, schema, entry, pair.type_id(), values)
 }
 
 /// The entry without the values of its former relative name that are not in the new one (RFC 4511 4.9, deleteoldrdn).

@@ -11,7 +11,8 @@ ghost use Rattle.dir_entry.specs.Entry.{KeyedAttribute};
 ghost use Rattle.entry_changes.specs.Compared.{values_held};
 ghost use Rattle.dir_entry.specs.Adding.{has_type};
 
-use dir_entry::{Attribute, TypeId};
+use crate::opened::Opened;
+use dir_entry::TypeId;
 use std::alloc::AllocError;
 
 /// An attribute that was taken out of its place among others.
@@ -19,12 +20,12 @@ use std::alloc::AllocError;
 pub struct Taken {
     /// Where it stood; the end, where there was none.
     pub place: usize,
-    pub attribute: Option<Attribute>,
-    pub others: Vec<Attribute>,
+    pub attribute: Option<Opened>,
+    pub others: Vec<Opened>,
 }
 
 /// How many attributes stand before that of the type.
-fn count_before(attributes: &[Attribute], type_id: TypeId) -> usize
+fn count_before(attributes: &[Opened], type_id: TypeId) -> usize
     ensures { result ≡ prefix_len (λ a. not (nat_eq a.kind type_id)) attributes.now }
 {
     let mut count = 0;
@@ -38,14 +39,14 @@ fn count_before(attributes: &[Attribute], type_id: TypeId) -> usize
 }
 
 /// Where the attribute of the type stands; the end, where there is none.
-pub fn place(attributes: &[Attribute], type_id: TypeId) -> usize
+fn place(attributes: &[Opened], type_id: TypeId) -> usize
     ensures { result ≡ place_of type_id (attributes_of attributes.now) }
 {
     count_before(attributes, type_id)
 }
 
 /// Takes the attribute of the type out of its place, if it is there.
-fn take_at_place(attributes: Vec<Attribute>, type_id: TypeId) -> Taken
+fn take_at_place(attributes: Vec<Opened>, type_id: TypeId) -> Taken
     ensures place { result.place ≡ place_of type_id (attributes_of attributes.items) }
     ensures attribute { result.attribute ≡ slice_get attributes.items result.place }
     ensures others { result.others.items ≡ take result.place attributes.items ++ drop (result.place + 1) attributes.items }
@@ -68,7 +69,7 @@ fn take_at_place(attributes: Vec<Attribute>, type_id: TypeId) -> Taken
 }
 
 /// Takes the attribute of the type out of its place, if it is there. What is left is keyed as before.
-pub fn take_attribute(attributes: Vec<Attribute>, type_id: TypeId) -> Taken
+pub fn take_attribute(attributes: Vec<Opened>, type_id: TypeId) -> Taken
     ensures place { result.place ≡ place_of type_id (attributes_of attributes.items) }
     ensures others { attributes_of result.others.items ≡ take result.place (attributes_of attributes.items) ++ drop (result.place + 1) (attributes_of attributes.items) }
     ensures keyed { (s : SchemaModel) → IsKeyedBy s attributes.items → IsKeyedBy s result.others.items }
@@ -82,10 +83,10 @@ pub fn take_attribute(attributes: Vec<Attribute>, type_id: TypeId) -> Taken
 
 /// Puts an attribute in a place among others, or at their end.
 fn insert_attribute(
-    others: Vec<Attribute>,
+    others: Vec<Opened>,
     place: usize,
-    attribute: Attribute,
-) -> Result<Vec<Attribute>, AllocError>
+    attribute: Opened,
+) -> Result<Vec<Opened>, AllocError>
     ensures { IfOk result (λ v. v.items ≡ take place others.items ++ attribute ∷ drop place others.items) }
 {
     let mut all = others;
@@ -99,14 +100,14 @@ fn insert_attribute(
 
 /// Puts the attribute that was taken out back with other values; without a value it is gone.
 pub fn put_back(
-    attributes: Vec<Attribute>,
+    attributes: Vec<Opened>,
     place: usize,
-    attribute: Attribute,
-) -> Result<Vec<Attribute>, AllocError>
+    attribute: Opened,
+) -> Result<Vec<Opened>, AllocError>
     ensures shown { IfOk result (λ v. attributes_of v.items ≡ take place (attributes_of attributes.items) ++ attribute_with attribute.kind attribute.values ++ drop place (attributes_of attributes.items)) }
     ensures keyed { (s : SchemaModel) → IfOk result (λ v. IsKeyedBy s attributes.items → AreKeysOf s attribute.kind attribute.values attribute.keys → IsKeyedBy s v.items) }
 {
-    if attribute.values().is_empty() {
+    if attribute.is_empty() {
         return Ok(attributes);
     }
     insert_attribute(attributes, place, attribute)

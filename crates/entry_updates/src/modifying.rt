@@ -10,7 +10,7 @@ use crate::copying::copy_values;
 use crate::fault::UpdateError;
 use crate::finishing::finish;
 use entry_changes::{
-    Entry, Schema, TypeAndValue, TypeId, add_values, delete_values, replace_values,
+    Entry, Schema, TypeAndValue, TypeId, Working, add_values, delete_values, replace_values,
 };
 use ldap_op::{Change, ModifyOperation, ResultCode};
 use std::alloc::Global;
@@ -32,8 +32,8 @@ fn change_type(
     operation: ModifyOperation,
     type_id: TypeId,
     values: Vec<Vec<u8>>,
-    entry: Entry,
-) -> Result<Entry, UpdateError>
+    entry: Working,
+) -> Result<Working, UpdateError>
     requires { IsKeyedBy schema.now entry }
     ensures ok { IfOk result (λ e. with_change schema.now operation type_id (map (λ v. v.items) values.items) (attributes_of entry) ≡ Ok (attributes_of e)) }
     ensures keyed { IfOk result (λ e. IsKeyedBy schema.now e) }
@@ -55,8 +55,8 @@ fn change(
     alloc: Global,
     schema: &Schema,
     asked: &Change,
-    entry: Entry,
-) -> Result<Entry, UpdateError>
+    entry: Working,
+) -> Result<Working, UpdateError>
     requires { IsKeyedBy schema.now entry }
     ensures ok { IfOk result (λ e. changed schema.now (change_view asked.now) (attributes_of entry) ≡ Ok (attributes_of e)) }
     ensures keyed { IfOk result (λ e. IsKeyedBy schema.now e) }
@@ -77,8 +77,8 @@ fn change_all(
     alloc: Global,
     schema: &Schema,
     changes: &[Change],
-    entry: Entry,
-) -> Result<Entry, UpdateError>
+    entry: Working,
+) -> Result<Working, UpdateError>
     requires { IsKeyedBy schema.now entry }
     ensures ok { IfOk result (λ e. all_changed schema.now (map change_view changes.now) (attributes_of entry) ≡ Ok (attributes_of e)) }
     ensures keyed { IfOk result (λ e. IsKeyedBy schema.now e) }
@@ -89,6 +89,23 @@ fn change_all(
         so_far = change(alloc, schema, asked, so_far)?;
     }
     Ok(so_far)
+}
+
+/// A copy of the entry after the changes.
+fn copy_changed(
+    alloc: Global,
+    schema: &Schema,
+    changes: &[Change],
+    entry: &Entry,
+) -> Result<Entry, UpdateError>
+    requires { IsKeyedBy schema.now entry.now }
+    ensures ok { IfOk result (λ e. all_changed schema.now (map change_view changes.now) (attributes_of entry.now) ≡ Ok (attributes_of e)) }
+    ensures keyed { IfOk result (λ e. IsKeyedBy schema.now e) }
+    ensures refused { IfErr result (λ e. RefusedAs e (all_changed schema.now (map change_view changes.now) (attributes_of entry.now))) }
+{
+    let copy = Working::of(alloc, entry.copy(alloc)?)?;
+    let changed = change_all(alloc, schema, changes, copy)?;
+    Ok(changed.into_entry(alloc)?)
 }
 
 /// The entry after a modify (RFC 4511 4.6), of which the relative name is given: for each change in order 2, 17, 19, 21 and 20 or 16; at
@@ -105,8 +122,7 @@ pub fn entry_changed(
     ensures keyed { IfOk result (λ e. IsKeyedBy schema.now e) }
     ensures refused { IfErr result (λ e. RefusedAs e (attributes_changed schema.now rdn.now (map change_view changes.now) (attributes_of entry.now))) }
 {
-    let copy = entry.copy(alloc)?;
-    let changed = change_all(alloc, schema, changes, copy)?;
+    let changed = copy_changed(alloc, schema, changes, entry)?;
     let kept = finish(alloc, schema, changed, rdn, entry)?;
     Ok(kept)
 }

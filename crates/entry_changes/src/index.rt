@@ -1,0 +1,106 @@
+// Which values of an attribute are held, found by what they are compared by. Attributes and places flow in; marks flow out.
+// What must not be here: schemas, entries.
+
+ghost use Rattle.std.specs.Prelude.{◌≡◌, ℕ, List, Some, None, cond, map, is_some, IfOk, OnOk};
+ghost use Rattle.std.specs.List.{list_any, list_all};
+ghost use Rattle.std.specs.Str.{bytes_eq};
+ghost use Rattle.entry_changes.specs.Opening.{since, octets_by as compared_by, marks_in};
+
+use crate::since::{Since, are_all_held, is_some_held, marks, put_all, take_all};
+use dir_entry::{Attribute, octets_of_keys, octets_of_values};
+use std::alloc::{AllocError, Global};
+use std::collections::BTreeMap;
+
+/// Which values of an attribute are held.
+#[derive(Drop)]
+pub struct Index {
+    /// Whether values are compared by their keys, else by their octets.
+    pub by_keys: bool,
+    /// Since which place values of some octets are held.
+    pub held: Since,
+}
+
+/// An attribute with every value that was ever there, and an index of those that are held.
+#[derive(Drop)]
+pub struct Indexed {
+    pub attribute: Attribute,
+    pub index: Index,
+}
+
+/// What the values are compared by.
+fn octets_by<'a>(
+    alloc: Global,
+    by_keys: bool,
+    attribute: &'a Attribute,
+) -> Result<Vec<&'a [u8]>, AllocError>
+    ensures { IfOk result (λ v. map (λ octets. octets.now) v.items ≡ compared_by by_keys attribute.now) }
+{
+    if by_keys {
+        octets_of_keys(alloc, attribute.keys())
+    } else {
+        octets_of_values(alloc, attribute.values())
+    }
+}
+
+/// An index of an attribute that holds all its values.
+pub fn index_of(alloc: Global, by_keys: bool, attribute: &Attribute) -> Result<Index, AllocError>
+    ensures by_keys { IfOk result (λ i. i.by_keys ≡ by_keys) }
+    ensures held { IfOk result (λ i. (q : List ℕ) → since i.held.entries q ≡ cond (list_any (bytes_eq q) (compared_by by_keys attribute.now)) (Some 0) None) }
+{
+    let octets = octets_by(alloc, by_keys, attribute)?;
+    let mut held = BTreeMap::new(alloc);
+    put_all(alloc, &mut held, octets.as_slice(), 0)?;
+    Ok(Index { by_keys, held })
+}
+
+/// Of each value of the attribute whether it is held.
+pub fn marks_of(
+    alloc: Global,
+    index: &Index,
+    attribute: &Attribute,
+) -> Result<Vec<bool>, AllocError>
+    ensures { IfOk result (λ v. v.items ≡ marks_in index.now.by_keys (since index.now.held.entries) attribute.now) }
+{
+    let octets = octets_by(alloc, index.by_keys, attribute)?;
+    marks(alloc, &index.held, octets.as_slice())
+}
+
+/// Whether some of the given values are held.
+pub fn holds_some_of(alloc: Global, index: &Index, given: &Attribute) -> Result<bool, AllocError>
+    ensures { IfOk result (λ b. b ≡ list_any (λ x. is_some (since index.now.held.entries x)) (compared_by index.now.by_keys given.now)) }
+{
+    let octets = octets_by(alloc, index.by_keys, given)?;
+    Ok(is_some_held(&index.held, octets.as_slice()))
+}
+
+/// Whether all of the given values are held.
+pub fn holds_all_of(alloc: Global, index: &Index, given: &Attribute) -> Result<bool, AllocError>
+    ensures { IfOk result (λ b. b ≡ list_all (λ x. is_some (since index.now.held.entries x)) (compared_by index.now.by_keys given.now)) }
+{
+    let octets = octets_by(alloc, index.by_keys, given)?;
+    Ok(are_all_held(&index.held, octets.as_slice()))
+}
+
+/// The given values are held since this place.
+pub fn hold(
+    alloc: Global,
+    index: &mut Index,
+    given: &Attribute,
+    place: usize,
+) -> Result<(), AllocError>
+    ensures by_keys { OnOk result (index.new.by_keys ≡ index.old.by_keys) }
+    ensures held { OnOk result ((q : List ℕ) → since index.new.held.entries q ≡ cond (list_any (bytes_eq q) (compared_by index.old.by_keys given.now)) (Some place) (since index.old.held.entries q)) }
+{
+    let octets = octets_by(alloc, index.by_keys, given)?;
+    put_all(alloc, &mut index.held, octets.as_slice(), place)
+}
+
+/// The given values are held no more.
+pub fn let_go(alloc: Global, index: &mut Index, given: &Attribute) -> Result<(), AllocError>
+    ensures by_keys { OnOk result (index.new.by_keys ≡ index.old.by_keys) }
+    ensures held { OnOk result ((q : List ℕ) → since index.new.held.entries q ≡ cond (list_any (bytes_eq q) (compared_by index.old.by_keys given.now)) None (since index.old.held.entries q)) }
+{
+    let octets = octets_by(alloc, index.by_keys, given)?;
+    take_all(&mut index.held, octets.as_slice());
+    Ok(())
+}
