@@ -35,7 +35,7 @@ struck-listed child k p h =
     either true a = dropped-push k p.children a
     either false a = ap (dropped k) (append-nil p.children) ∙ a
 
-struck-enlisted : (q n : NameKey) (k : ℕ) (p : Option Shown) → option_map (struck k) p ≡ p → option_map (struck k) (option_map (enlisted n q k) p) ≡ p
+pub struck-enlisted : (q n : NameKey) (k : ℕ) (p : Option Shown) → option_map (struck k) p ≡ p → option_map (struck k) (option_map (enlisted n q k) p) ≡ p
 struck-enlisted q n k None h = refl
 struck-enlisted q n k (Some p) h = let e : struck k p ≡ p = cc h in ap Some (struck-listed (is_child q n) k p e)
 

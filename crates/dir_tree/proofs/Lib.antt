@@ -1,4 +1,8 @@
 pub mod KeptLemmas
+pub mod HeldLemmas
+pub mod Walks
+pub mod Links
+pub mod Placing
 pub mod Above
 pub mod Changes
 pub mod ReadPlaces
@@ -15,4 +19,5 @@ pub mod Scoped
 pub mod RisingLists
 pub mod Relabelled
 pub mod Putting
+pub mod Resetting
 pub mod MovedPlaces

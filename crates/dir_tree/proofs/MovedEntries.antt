@@ -7,7 +7,8 @@ use Rattle.dir_entry.specs.ldap_dn.Names.{RdnModel, rdns}
 use Rattle.dir_entry.specs.Entry.{KeyedAttribute}
 use Rattle.dir_tree.specs.Directory.{NameKey, Entered, AllAbove, NumbersRise, NamesDiffer, name_eq, begins, above, is_at_or_below, find, name_after, moved, replaced}
 use Rattle.dir_tree.specs.Labelled.{Label, Labels, IsLabelled, label_of, labels}
-use Rattle.dir_tree.specs.Kept.{IsTree, PlaceEntries}
+use Rattle.dir_tree.specs.Kept.{IsTree}
+use Rattle.dir_tree.specs.declared.place.Places.{Places}
 use Rattle.dir_tree.specs.Renamed.{names_after, with_name, with_names, key_after, moved_label, moved_labels}
 use Rattle.dir_tree.proofs.KeptLemmas.{name_decides}
 use Rattle.dir_tree.proofs.Labelling.{some_label, rise-labels, differ-labels}
@@ -132,7 +133,7 @@ can_move s old new k d t m = record {
     found None h = absurd (cc h)
     found (Some e) h = refl
 
-pub moved-entries : (s : List RdnModel) (old : NameKey) (new : List RdnModel) (v : List KeyedAttribute) (k : ℕ) (d : List Entered) (es : PlaceEntries) → IsTree s d es → MayMove (rdns s) old new k d
+pub moved-entries : (s : List RdnModel) (old : NameKey) (new : List RdnModel) (v : List KeyedAttribute) (k : ℕ) (d : List Entered) (es : Places) → IsTree s d es → MayMove (rdns s) old new k d
     → (named e : List Entered) → named ≡ with_names (names_after old new (filter (is_at_or_below old) d)) d → e ≡ replaced k v named → e ≡ moved old new v d
 moved-entries s old new v k d es t m named e h g =
     let rise : NumbersRise d = rise-labels d t.whole.rise in

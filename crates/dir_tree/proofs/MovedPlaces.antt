@@ -7,7 +7,8 @@ use Rattle.dir_entry.specs.Entry.{KeyedAttribute}
 use Rattle.dir_tree.specs.Directory.{NameKey, Entered, AllAbove, NumbersRise, name_eq, begins, is_child, is_at_or_below, entry_at, numbers, name_after, moved}
 use Rattle.dir_tree.specs.Labelled.{Label, Labels, IsLabelled, label_of, labels, label_at, numbers_in}
 use Rattle.dir_tree.specs.Places.{Shown, place_of, is_above, within_of}
-use Rattle.dir_tree.specs.Kept.{IsTree, PlaceEntries, place_at}
+use Rattle.dir_tree.specs.Kept.{IsTree, place_at, number_of, link_at, up, AreApart, AreLinked}
+use Rattle.dir_tree.specs.declared.place.Places.{Places}
 use Rattle.dir_tree.specs.Renamed.{entries_of, put_some, key_after, moved_labels, over, put_seen, places_after, names_after, is_name_of, is_named, is_changed, place_after, replaced_by, taken_out, set_above, places_moved}
 use Rattle.dir_tree.proofs.KeptLemmas.{name_decides, name_eq-refl, both}
 use Rattle.dir_tree.proofs.Labelling.{numbers_found, number_found}
@@ -16,6 +17,9 @@ use Rattle.dir_tree.proofs.Moves.{CanMove, split, begins-joined, key-on, key-off
 use Rattle.dir_tree.proofs.MovedEntries.{MayMove, can_move, labels-moved, key-moved}
 use Rattle.dir_tree.proofs.Relabelled.{false-of, not-both, above-is, eq-both, old-off, never-both, moved-below, moved-gone, moved-else, moved-same}
 use Rattle.dir_tree.proofs.Putting.{over-same}
+use Rattle.dir_tree.proofs.Resetting.{taken-map}
+use Rattle.dir_tree.proofs.Links.{numbering, numbers-kept, numbers-same, numbering-apart, apart-same, linked-same, linked-moved, tree-hung}
+use Rattle.dir_tree.proofs.Labelling.{rise-apart}
 
 -- ---- the entries of a subtree's numbers
 
@@ -148,6 +152,14 @@ there o l (e ∷ d) h = by (begins o (rdns e.name)) refl (there o l d (λ q f. h
     by true f r = ((f, place-some (rdns e.name) l (h (rdns e.name) own)), r)
     by false f r = r
 
+-- what has moved depends on what was there alone
+taken-same : {A : Type 0} (f g : NameKey → Option A) → ((q : NameKey) → f q ≡ g q) → (o n : NameKey) (es : List Entered) (q : NameKey) → taken_out f o n es q ≡ taken_out g o n es q
+taken-same {A} f g h o n es q = ap (λ (v : Option A). cond (is_name_of q es) None v) (ap (λ (xs : List (NameKey × A)). over xs f q) (list es) ∙ over-same (places_after g o n es) f g h q)
+  where
+    list : (es : List Entered) → places_after f o n es ≡ places_after g o n es
+    list [] = refl
+    list (e ∷ es) = ap (λ (v : Option A). put_seen (key_after o n (rdns e.name)) v (places_after f o n es)) (h (rdns e.name)) ∙ ap (put_seen (key_after o n (rdns e.name)) (g (rdns e.name))) (list es)
+
 module _ (s o n : NameKey) (d : List Entered) (t : CanMove s o n (labels d)) (apart : name_eq o n ≡ false) (k : ℕ) (has : option_map (λ (e : Label). e.number) (label_at o (labels d)) ≡ Some k) where
   abbrev es : List Entered
   es = filter (is_at_or_below o) d
@@ -275,6 +287,44 @@ module _ (s o n : NameKey) (d : List Entered) (t : CanMove s o n (labels d)) (ap
       by false true g h = left g h
       by false false g h = else g h
 
+  placed-number : (q : NameKey) (l : Labels) → option_map (λ (p : Shown). p.number) (place_of q l) ≡ numbering l q
+  placed-number q l = by (label_at q l)
+    where
+      by : (v : Option Label) → option_map (λ (p : Shown). p.number) (option_map (λ (e : Label). record { number = e.number; children = numbers_in (is_child q) l; within = numbers_in (begins q) l }) v) ≡ option_map (λ (e : Label). e.number) v
+      by None = refl
+      by (Some e) = refl
+
+  -- other lists leave a number as it is
+  set-number : (a : Bool) (r v : Option Shown) → option_map (λ (p : Shown). p.number) (cond a (replaced_by r v) v) ≡ option_map (λ (p : Shown). p.number) v
+  set-number true None v = refl
+  set-number true (Some p) None = refl
+  set-number true (Some p) (Some w) = refl
+  set-number false r v = refl
+
+  -- the numbers of names, once those that move have gone to their new names
+  taken-numbers : (q : NameKey) → taken_out (numbering (labels d)) o n es q ≡ numbering (moved_labels o n (labels d)) q
+  taken-numbers q =
+      taken-same (numbering (labels d)) (λ m. option_map (λ (p : Shown). p.number) (f m)) (λ m. sym (placed-number m (labels d))) o n es q
+      ∙ taken-map (λ (p : Shown). p.number) f o n es q
+      ∙ sym (set-number (is_above (length n) n q && is_changed o n q) (option_map (place_after k moving n q) (f q)) (set_above k moving o n o f q (taken_out f o n es q))
+      ∙ set-number (is_above (length o) o q && is_changed o n q) (option_map (place_after k moving n q) (f q)) (taken_out f o n es q))
+      ∙ ap (λ (v : Option Shown). option_map (λ (p : Shown). p.number) v) (after q) ∙ placed-number q (moved_labels o n (labels d))
+
+  at-new : (q : NameKey) → begins n q ≡ true → numbering (moved_labels o n (labels d)) q ≡ numbering (labels d) (o ++ drop (length n) q)
+  at-new q g = sym (placed-number q (moved_labels o n (labels d))) ∙ ap (λ (v : Option Shown). option_map (λ (p : Shown). p.number) v) (moved-below s o n (labels d) t apart q g) ∙ placed-number (o ++ drop (length n) q) (labels d)
+
+  at-old : (q : NameKey) → begins o q ≡ true → numbering (moved_labels o n (labels d)) q ≡ None
+  at-old q g = sym (placed-number q (moved_labels o n (labels d))) ∙ ap (λ (v : Option Shown). option_map (λ (p : Shown). p.number) v) (moved-gone s o n (labels d) t apart q g)
+
+  at-else : (q : NameKey) → begins n q ≡ false → begins o q ≡ false → numbering (moved_labels o n (labels d)) q ≡ numbering (labels d) q
+  at-else q g h =
+      sym (placed-number q (moved_labels o n (labels d))) ∙ ap (λ (v : Option Shown). option_map (λ (p : Shown). p.number) v) (moved-else s o n (labels d) t apart q h g k has)
+      ∙ by (f q) ∙ placed-number q (labels d)
+    where
+      by : (v : Option Shown) → option_map (λ (p : Shown). p.number) (option_map (place_after k moving n q) v) ≡ option_map (λ (p : Shown). p.number) v
+      by None = refl
+      by (Some p) = refl
+
 -- each of the entries stands at or below a name
 abbrev AllIn : NameKey → List Entered → Type 0
 AllIn o [] = Unit {0}
@@ -297,7 +347,7 @@ places-same k ks o n es f g h q =
     inner = ap (λ (xs : List (NameKey × Shown)). over xs f q) (list es) ∙ over-same (places_after g o n es) f g h q
 
 -- the numbers that are kept at or below a name that has an entry
-pub numbers-are : (s : List RdnModel) (o : NameKey) (d : List Entered) (es : PlaceEntries) (k : ℕ) → IsTree s d es → option_map (λ (e : Label). e.number) (label_at o (labels d)) ≡ Some k → within_of (place_at es o) ≡ numbers_in (begins o) (labels d)
+pub numbers-are : (s : List RdnModel) (o : NameKey) (d : List Entered) (es : Places) (k : ℕ) → IsTree s d es → option_map (λ (e : Label). e.number) (label_at o (labels d)) ≡ Some k → within_of (place_at es o) ≡ numbers_in (begins o) (labels d)
 numbers-are s o d es k t h = ap (λ (v : Option Shown). within_of v) (t.kept o) ∙ by (label_at o (labels d)) h
   where
     by : (v : Option Label) → option_map (λ (e : Label). e.number) v ≡ Some k
@@ -308,7 +358,7 @@ numbers-are s o d es k t h = ap (λ (v : Option Shown). within_of v) (t.kept o) 
 pub subtree-are : (o : NameKey) (d : List Entered) (ks : List ℕ) → NumbersRise d → ks ≡ numbers_in (begins o) (labels d) → entries_of ks d ≡ filter (is_at_or_below o) d
 subtree-are o d ks h g = ap (λ (l : List ℕ). entries_of l d) (g ∙ numbers_found (begins o) d) ∙ entries-passed (is_at_or_below o) d h
 
-module _ (s : List RdnModel) (old : NameKey) (new : List RdnModel) (v : List KeyedAttribute) (k : ℕ) (d e : List Entered) (es fs : PlaceEntries) (t : IsTree s d es) (m : MayMove (rdns s) old new k d) (h : e ≡ moved old new v d) where
+module _ (s : List RdnModel) (old : NameKey) (new : List RdnModel) (v : List KeyedAttribute) (k : ℕ) (d e : List Entered) (es fs : Places) (t : IsTree s d es) (m : MayMove (rdns s) old new k d) (h : e ≡ moved old new v d) where
   all-labels : labels e ≡ moved_labels old (rdns new) (labels d)
   all-labels = ap (λ (l : List Entered). labels l) h ∙ labels-moved old new v d
 
@@ -321,20 +371,47 @@ module _ (s : List RdnModel) (old : NameKey) (new : List RdnModel) (v : List Key
   pub number-is : option_map (λ (e : Label). e.number) (label_at old (labels d)) ≡ Some k
   number-is = number_found old d ∙ m.here
 
+  now-kept : name_eq old (rdns new) ≡ false → (ks : List ℕ) → ks ≡ numbers_in (begins old) (labels d) → (sub : List Entered) → sub ≡ filter (is_at_or_below old) d
+      → ((q : NameKey) → place_at fs q ≡ places_moved k ks old (rdns new) sub (place_at es) q) → (q : NameKey) → place_at fs q ≡ place_of q (labels e)
+  now-kept apart ks isk sub iss g q =
+      g q ∙ ap (λ (l : List ℕ). places_moved k l old (rdns new) sub (place_at es) q) isk
+      ∙ ap (λ (l : List Entered). places_moved k (numbers_in (begins old) (labels d)) old (rdns new) l (place_at es) q) iss
+      ∙ places-same k (numbers_in (begins old) (labels d)) old (rdns new) (filter (is_at_or_below old) d) (place_at es) (λ q. place_of q (labels d)) t.kept q
+      ∙ after (rdns s) old (rdns new) d may apart k number-is q ∙ ap (λ (l : Labels). place_of q l) (sym all-labels)
+
+  was : (q : NameKey) → number_of es.names.entries q ≡ numbering (labels d) q
+  was q = numbers-kept d es t.kept q
+
+  now-linked : name_eq old (rdns new) ≡ false → ((q : NameKey) → place_at fs q ≡ place_of q (labels e))
+      → ((j : ℕ) → link_at fs.lists.entries j ≡ cond (nat_eq j k) (option_map (λ (a : Option ℕ). up (number_of es.names.entries) (rdns new)) (link_at es.lists.entries j)) (link_at es.lists.entries j)) → AreLinked (number_of fs.names.entries) fs.lists.entries
+  now-linked apart kept' links =
+      linked-moved (number_of es.names.entries) (number_of fs.names.entries) old (rdns new) k es.lists.entries fs.lists.entries t.linked (tree-hung s d es t).apart (was old ∙ number-is) may.apart
+      (λ q i. now q ∙ at-new (rdns s) old (rdns new) d may apart k number-is q i ∙ sym (was (old ++ drop (length (rdns new)) q)))
+      (λ q i. now q ∙ at-old (rdns s) old (rdns new) d may apart k number-is q i)
+      (λ q i j. now q ∙ at-else (rdns s) old (rdns new) d may apart k number-is q i j ∙ sym (was q)) links
+    where
+      now : (q : NameKey) → number_of fs.names.entries q ≡ numbering (moved_labels old (rdns new) (labels d)) q
+      now q = numbers-kept e fs kept' q ∙ ap (λ (l : Labels). numbering l q) all-labels
+
+  -- the numbers tell the names apart once those that move have gone to their new names
+  pub apart-names : name_eq old (rdns new) ≡ false → (sub : List Entered) → sub ≡ filter (is_at_or_below old) d → AreApart (taken_out (number_of es.names.entries) old (rdns new) sub)
+  apart-names apart sub iss =
+      apart-same (numbering (moved_labels old (rdns new) (labels d))) (taken_out (number_of es.names.entries) old (rdns new) sub)
+      (λ q. ap (λ (l : List Entered). taken_out (number_of es.names.entries) old (rdns new) l q) iss
+      ∙ taken-same (number_of es.names.entries) (numbering (labels d)) was old (rdns new) (filter (is_at_or_below old) d) q ∙ taken-numbers (rdns s) old (rdns new) d may apart k number-is q)
+      (numbering-apart (moved_labels old (rdns new) (labels d)) (rise-apart (moved_labels old (rdns new) (labels d)) (directory-moved (rdns s) old (rdns new) (labels d) may).rise))
+
   -- the tree, where the name is another one
   pub moved_tree : name_eq old (rdns new) ≡ false → (ks : List ℕ) → ks ≡ numbers_in (begins old) (labels d) → (sub : List Entered) → sub ≡ filter (is_at_or_below old) d
-      → ((q : NameKey) → place_at fs q ≡ places_moved k ks old (rdns new) sub (place_at es) q) → IsTree s e fs
-  moved_tree apart ks isk sub iss g = record {
-    kept = λ q. g q ∙ ap (λ (l : List ℕ). places_moved k l old (rdns new) sub (place_at es) q) isk
-        ∙ ap (λ (l : List Entered). places_moved k (numbers_in (begins old) (labels d)) old (rdns new) l (place_at es) q) iss
-        ∙ places-same k (numbers_in (begins old) (labels d)) old (rdns new) (filter (is_at_or_below old) d) (place_at es) (λ q. place_of q (labels d)) t.kept q
-        ∙ after (rdns s) old (rdns new) d may apart k number-is q ∙ ap (λ (l : Labels). place_of q l) (sym all-labels);
-    whole = whole;
-  }
+      → ((q : NameKey) → place_at fs q ≡ places_moved k ks old (rdns new) sub (place_at es) q)
+      → ((j : ℕ) → link_at fs.lists.entries j ≡ cond (nat_eq j k) (option_map (λ (a : Option ℕ). up (number_of es.names.entries) (rdns new)) (link_at es.lists.entries j)) (link_at es.lists.entries j)) → IsTree s e fs
+  moved_tree apart ks isk sub iss g links =
+      let kept' = now-kept apart ks isk sub iss g in
+      record { kept = kept'; linked = now-linked apart kept' links; whole = whole }
 
   -- the tree, where the name is spelled anew
-  pub spelled_tree : name_eq old (rdns new) ≡ true → ((q : NameKey) → place_at fs q ≡ place_at es q) → IsTree s e fs
-  spelled_tree same g = record { kept = λ q. g q ∙ t.kept q ∙ ap (λ (l : Labels). place_of q l) (sym (all-labels ∙ stay (labels d))); whole = whole }
+  pub spelled_tree : name_eq old (rdns new) ≡ true → ((q : NameKey) → place_at fs q ≡ place_at es q) → ((j : ℕ) → link_at fs.lists.entries j ≡ link_at es.lists.entries j) → IsTree s e fs
+  spelled_tree same g links = record { linked = linked-same (number_of es.names.entries) (number_of fs.names.entries) es.lists.entries fs.lists.entries (numbers-same es fs g) (λ q j h. links j) t.linked; kept = λ q. g q ∙ t.kept q ∙ ap (λ (l : Labels). place_of q l) (sym (all-labels ∙ stay (labels d))); whole = whole }
     where
       one : old ≡ rdns new
       one = (name_decides old (rdns new)).0 same
@@ -373,9 +450,12 @@ module _ (s : List RdnModel) (old : NameKey) (new : List RdnModel) (v : List Key
 
   -- the tree, whichever it is
   pub renamed_tree : (ks : List ℕ) → ks ≡ numbers_in (begins old) (labels d) → (sub : List Entered) → sub ≡ filter (is_at_or_below old) d
-      → ((q : NameKey) → place_at fs q ≡ cond (name_eq old (rdns new)) (place_at es q) (places_moved k ks old (rdns new) sub (place_at es) q)) → IsTree s e fs
-  renamed_tree ks isk sub iss g = by (name_eq old (rdns new)) refl g
+      → ((q : NameKey) → place_at fs q ≡ cond (name_eq old (rdns new)) (place_at es q) (places_moved k ks old (rdns new) sub (place_at es) q))
+      → ((j : ℕ) → link_at fs.lists.entries j
+      ≡ cond (not (name_eq old (rdns new)) && nat_eq j k) (option_map (λ (a : Option ℕ). up (number_of es.names.entries) (rdns new)) (link_at es.lists.entries j)) (link_at es.lists.entries j)) → IsTree s e fs
+  renamed_tree ks isk sub iss g links = by (name_eq old (rdns new)) refl g links
     where
-      by : (b : Bool) → name_eq old (rdns new) ≡ b → ((q : NameKey) → place_at fs q ≡ cond b (place_at es q) (places_moved k ks old (rdns new) sub (place_at es) q)) → IsTree s e fs
-      by true i j = spelled_tree i j
-      by false i j = moved_tree i ks isk sub iss j
+      by : (b : Bool) → name_eq old (rdns new) ≡ b → ((q : NameKey) → place_at fs q ≡ cond b (place_at es q) (places_moved k ks old (rdns new) sub (place_at es) q))
+          → ((j : ℕ) → link_at fs.lists.entries j ≡ cond (not b && nat_eq j k) (option_map (λ (a : Option ℕ). up (number_of es.names.entries) (rdns new)) (link_at es.lists.entries j)) (link_at es.lists.entries j)) → IsTree s e fs
+      by true i j l = spelled_tree i j l
+      by false i j l = moved_tree i ks isk sub iss j l

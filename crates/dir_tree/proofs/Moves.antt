@@ -38,7 +38,7 @@ above-cons x y ys =
     ap (λ (k : ℕ). take k (x ∷ y ∷ ys)) (less_one (suc (length ys)))
     ∙ ap (λ (k : ℕ). x ∷ take k (y ∷ ys)) (sym (less_one (length ys)))
 
-above-joined : (n : NameKey) (x : List TypeAndKey) (r : NameKey) → above (n ++ x ∷ r) ≡ n ++ above (x ∷ r)
+pub above-joined : (n : NameKey) (x : List TypeAndKey) (r : NameKey) → above (n ++ x ∷ r) ≡ n ++ above (x ∷ r)
 above-joined [] x r = refl
 above-joined (y ∷ []) x r = above-cons y x r
 above-joined (y ∷ z ∷ ns) x r = above-cons y z (ns ++ x ∷ r) ∙ ap (λ (l : NameKey). y ∷ l) (above-joined (z ∷ ns) x r)
@@ -158,7 +158,7 @@ pub moved-differ : (s o n : NameKey) (d : Labels) → CanMove s o n d → Labels
 moved-differ s o n d t = differ-moved o n d t.whole.differ (tells s o n d t)
 
 -- a name that does not begin with the old one has nothing above it that does
-above-off : (o q : NameKey) → begins o q ≡ false → begins o (above q) ≡ false
+pub above-off : (o q : NameKey) → begins o q ≡ false → begins o (above q) ≡ false
 above-off o q h = by (begins o (above q)) refl
   where
     by : (b : Bool) → begins o (above q) ≡ b → b ≡ false

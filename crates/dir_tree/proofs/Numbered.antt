@@ -20,7 +20,7 @@ directory-insert k v (e ∷ es) h =
     ap (λ (o : Ordering). directory_of (match_ordering o ((k, v) ∷ e ∷ es) ((e.0, v) ∷ es) (e ∷ insert_entry nat_cmp es k v))) (sym above)
     ∙ ap (λ (d : List Entered). entered_of e.0 e.1 ∷ d) (directory-insert k v es h.1)
 
-is_eq-nat : (k n : ℕ) → is_eq (nat_cmp k n) ≡ nat_eq k n
+pub is_eq-nat : (k n : ℕ) → is_eq (nat_cmp k n) ≡ nat_eq k n
 is_eq-nat k n = by (nat_lt k n) (nat_eq k n) refl refl
   where
     by : (a b : Bool) → nat_lt k n ≡ a → nat_eq k n ≡ b → is_eq (cond a Ordering.Less (cond b Ordering.Equal Ordering.Greater)) ≡ b
@@ -51,7 +51,7 @@ unnumbered-push k (x ∷ d) e h b =
     let apart : nat_eq k x.number ≡ false = grind arith in
     ap (λ (c : Bool). cond c (d ++ e ∷ []) (x ∷ unnumbered k (d ++ e ∷ []))) apart ∙ ap (λ (l : List Entered). x ∷ l) (unnumbered-push k d e h b.1)
 
-same_number : (k n : ℕ) → nat_eq k n ≡ true → k ≡ n
+pub same_number : (k n : ℕ) → nat_eq k n ≡ true → k ≡ n
 same_number k n h = grind (arith, h)
 
 -- a look-up by number

@@ -25,6 +25,10 @@ listed child k p = record { number = p.number; children = p.children ++ cond chi
 abbrev pub enlisted : NameKey → NameKey → ℕ → Shown → Shown
 enlisted n q k p = listed (is_child q n) k p
 
+-- the place with other lists
+abbrev pub relist : List ℕ → List ℕ → Shown → Shown
+relist children within p = record { number = p.number; children = children; within = within }
+
 abbrev pub dropped : ℕ → List ℕ → List ℕ
 dropped k xs = filter (λ x. not (nat_eq x k)) xs
 

@@ -1,11 +1,13 @@
 -- The entries once those at or below a name stand at or below another, as they are kept. What a rename means is in `Directory`.
-use Rattle.std.specs.Prelude.{ℕ, ◌+◌, Bool, false, cond, not, ◌&&◌, List, [], ◌∷◌, ◌++◌, map, length, drop, nat_eq, nat_lt, Option, Some, None}
+use Rattle.std.specs.Prelude.{ℕ, ◌+◌, Bool, false, cond, not, ◌&&◌, List, [], ◌∷◌, ◌++◌, map, length, drop, nat_eq, nat_lt, Option, Some, None, Vec}
 use Rattle.std.specs.Option.{option_map}
 use Rattle.std.specs.List.{list_any}
+use Rattle.std.specs.declared.alloc.Global.{Global}
 use Rattle.dir_entry.specs.ldap_dn.Names.{RdnModel, rdns}
 use Rattle.dir_tree.specs.Directory.{NameKey, Entered, name_eq, begins, entry_at, name_after}
 use Rattle.dir_tree.specs.Labelled.{Label, Labels}
-use Rattle.dir_tree.specs.Places.{Shown, is_above}
+use Rattle.dir_tree.specs.Places.{Shown, is_above, relist}
+use Rattle.dir_tree.specs.declared.relisted.Relisted.{Relisted}
 
 abbrev pub put_some : Option Entered → List Entered → List Entered
 put_some None es = es
@@ -87,22 +89,30 @@ is_over new q = nat_eq (length new) (length q + 1) && begins q new
 abbrev pub place_after : ℕ → List ℕ → NameKey → NameKey → Shown → Shown
 place_after k ks new q p = relisted_place k ks (is_over new q) (begins q new) p
 
--- what is kept of names once places are put in
-abbrev pub over : List (NameKey × Shown) → (NameKey → Option Shown) → NameKey → Option Shown
+abbrev pub shown_new : Relisted → Shown
+shown_new p = record { number = p.number; children = p.children.items; within = p.within.items }
+
+-- names with the lists that they are to have, without their memory
+abbrev pub seen : List (Vec RdnModel Global × Relisted) → List (NameKey × Shown)
+seen [] = []
+seen (e ∷ es) = (rdns e.0.items, shown_new e.1) ∷ seen es
+
+-- what is kept of names once more is put in
+abbrev pub over : {A : Type 0} → List (NameKey × A) → (NameKey → Option A) → NameKey → Option A
 over [] f q = f q
 over (x ∷ xs) f q = over xs (λ m. cond (name_eq m x.0) (Some x.1) (f m)) q
 
--- what is kept of names once places that are there are other ones
+-- what is kept of names once places that are there have other lists
 abbrev pub set_over : List (NameKey × Shown) → (NameKey → Option Shown) → NameKey → Option Shown
 set_over [] f q = f q
-set_over (x ∷ xs) f q = set_over xs (λ m. cond (name_eq m x.0) (option_map (λ s. x.1) (f m)) (f m)) q
+set_over (x ∷ xs) f q = set_over xs (λ m. cond (name_eq m x.0) (option_map (relist x.1.children x.1.within) (f m)) (f m)) q
 
-abbrev pub put_seen : NameKey → Option Shown → List (NameKey × Shown) → List (NameKey × Shown)
+abbrev pub put_seen : {A : Type 0} → NameKey → Option A → List (NameKey × A) → List (NameKey × A)
 put_seen n None l = l
 put_seen n (Some s) l = (n, s) ∷ l
 
--- the places of entries under their new names
-abbrev pub places_after : (NameKey → Option Shown) → NameKey → NameKey → List Entered → List (NameKey × Shown)
+-- what is kept of entries under their new names
+abbrev pub places_after : {A : Type 0} → (NameKey → Option A) → NameKey → NameKey → List Entered → List (NameKey × A)
 places_after f old new [] = []
 places_after f old new (e ∷ es) = put_seen (key_after old new (rdns e.name)) (f (rdns e.name)) (places_after f old new es)
 
@@ -115,20 +125,20 @@ abbrev pub is_name_of : NameKey → List Entered → Bool
 is_name_of q es = list_any (λ e. name_eq q (rdns e.name)) es
 
 -- whether a name has one of these places
-abbrev pub has_place : NameKey → List (NameKey × Shown) → Bool
+abbrev pub has_place : {A : Type 0} → NameKey → List (NameKey × A) → Bool
 has_place q xs = list_any (λ x. name_eq q x.0) xs
 
--- another place, where there is one
+-- other lists, where there are any
 abbrev pub replaced_by : Option Shown → Option Shown → Option Shown
 replaced_by None o = o
-replaced_by (Some s) o = option_map (λ t. s) o
+replaced_by (Some s) o = option_map (relist s.children s.within) o
 
 -- What is kept of each name once k and the entries below it have moved: their places under the new names, none under the old ones, and
 -- other lists in the places of the names above.
-abbrev pub put_first : (NameKey → Option Shown) → NameKey → NameKey → List Entered → NameKey → Option Shown
+abbrev pub put_first : {A : Type 0} → (NameKey → Option A) → NameKey → NameKey → List Entered → NameKey → Option A
 put_first f old new es = over (places_after f old new es) f
 
-abbrev pub taken_out : (NameKey → Option Shown) → NameKey → NameKey → List Entered → NameKey → Option Shown
+abbrev pub taken_out : {A : Type 0} → (NameKey → Option A) → NameKey → NameKey → List Entered → NameKey → Option A
 taken_out f old new es q = cond (is_name_of q es) None (put_first f old new es q)
 
 abbrev pub set_above : ℕ → List ℕ → NameKey → NameKey → NameKey → (NameKey → Option Shown) → NameKey → Option Shown → Option Shown

@@ -4,10 +4,13 @@
 
 mod comparing;
 mod entries;
+mod keys;
+mod lists;
 mod moving;
 mod named;
 mod place;
 mod places;
+mod relisted;
 mod renaming;
 mod rising;
 mod tree;

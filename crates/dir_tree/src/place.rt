@@ -1,16 +1,32 @@
-// What is kept of a name. Numbers flow in and out.
-// What must not be here: names, entries.
+// What is kept of a name. Names and numbers flow in and out.
+// What must not be here: entries, how what is kept changes.
 
 ghost use Rattle.std.specs.Prelude.{◌≡◌};
 ghost use Rattle.dir_tree.specs.Places.{dropped};
 
-/// The number of a name's entry, those of the entries right under it, and those of the entries at or below it, each list in
-/// rising order.
+use dir_entry::Rdn;
+use std::collections::BTreeMap;
+
+/// What is kept under the number of a name's entry: the number of the entry right above it, those of the entries right under it, and
+/// those of the entries at or below it, each list in rising order.
 #[derive(Drop)]
 pub struct Place {
-    pub number: u64,
+    pub above: Option<u64>,
     pub children: Vec<u64>,
     pub within: Vec<u64>,
+}
+
+/// The number of each name that an entry has.
+pub type Names = BTreeMap<Vec<Rdn>, u64>;
+
+/// What is kept under each number.
+pub type Lists = BTreeMap<u64, Place>;
+
+/// The number of each name, and what is kept under each number.
+#[derive(Drop)]
+pub struct Places {
+    pub names: Names,
+    pub lists: Lists,
 }
 
 /// Takes a number out of a list.

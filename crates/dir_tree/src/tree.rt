@@ -9,12 +9,12 @@ ghost use Rattle.dir_tree.specs.Stored.{directory_of, entered_of};
 
 use crate::comparing::are_same;
 use crate::entries::{Entries, entry_numbered, put_entry, set_entry, set_names, take_entry};
+use crate::keys::{front_at, has_parent_at, number_above, number_at};
 use crate::moving::rename_places;
 use crate::named::NamedEntry;
-use crate::place::Place;
+use crate::place::{Place, Places};
 use crate::places::{
-    Places, children_at, enlist_above, front_at, has_parent_at, number_at, numbers_within,
-    put_place, strike_above, within_at,
+    children_at, drop_place, enlist_above, numbers_within, put_place, strike_above, within_at,
 };
 use crate::renaming::names_moved;
 use dir_entry::{Entry, Name, Rdn};
@@ -41,7 +41,7 @@ impl Model for Tree {
 
     ghost view = { λ t. record { suffix = t.suffix; entries = directory_of t.entries.entries } };
 
-    ghost invariant = { λ t. IsTree t.suffix (directory_of t.entries.entries) t.places.entries };
+    ghost invariant = { λ t. IsTree t.suffix (directory_of t.entries.entries) t.places };
 }
 
 impl Tree {
@@ -53,7 +53,10 @@ impl Tree {
             alloc,
             suffix,
             entries: BTreeMap::new(alloc),
-            places: BTreeMap::new(alloc),
+            places: Places {
+                names: BTreeMap::new(alloc),
+                lists: BTreeMap::new(alloc),
+            },
         }
     }
 
@@ -75,7 +78,7 @@ impl Tree {
     pub fn find(&self, name: &[Rdn]) -> Option<u64>
         ensures { result ≡ option_map (λ e. e.number) (find (rdns name.now) self.now.entries) }
     {
-        number_at(&self.places, name)
+        number_at(&self.places.names, name)
     }
 
     /// Whether a name has an entry.
@@ -89,7 +92,7 @@ impl Tree {
     pub fn has_parent(&self, name: &[Rdn]) -> bool
         ensures { result ≡ is_some (find (above (rdns name.now)) self.now.entries) }
     {
-        has_parent_at(&self.places, name)
+        has_parent_at(&self.places.names, name)
     }
 
     /// Whether a name is the root's.
@@ -121,7 +124,7 @@ impl Tree {
     pub fn front(&self, name: &[Rdn]) -> usize
         ensures { result ≡ front (rdns name.now) self.now.entries }
     {
-        front_at(&self.places, name)
+        front_at(&self.places.names, name)
     }
 
     /// The numbers of the entries right under a name, in rising order; none, if the name has no entry.
@@ -149,8 +152,8 @@ impl Tree {
         }
     }
 
-    /// Adds an entry whose name is new, under a number above all. An `Err` changes nothing. It takes a look-up for each relative
-    /// name.
+    /// Adds an entry whose name is new, under a number above all. An `Err` changes nothing. It takes a few look-ups
+    /// by name, and one step for each entry above it.
     pub fn add(&mut self, number: u64, name: Name, entry: Entry) -> Result<(), AllocError>
         requires above { AllBelow number self.old.entries }
         requires absent { is_some (find (rdns name) self.old.entries) ≡ false }
@@ -161,6 +164,7 @@ impl Tree {
         let mut within = Vec::new(self.alloc);
         within.push(number)?;
         let key = name.copy(self.alloc)?.into_rdns();
+        let above = number_above(&self.places.names, key.as_slice());
         put_entry(&mut self.entries, number, NamedEntry { name, entry })?;
         match enlist_above(&mut self.places, &key, number) {
             Ok(()) => {}
@@ -170,11 +174,11 @@ impl Tree {
             }
         }
         let place = Place {
-            number,
+            above,
             children: Vec::new(self.alloc),
             within,
         };
-        match put_place(&mut self.places, key, place) {
+        match put_place(&mut self.places, key, number, place) {
             Ok(()) => Ok(()),
             Err(key) => {
                 strike_above(&mut self.places, &key, number);
@@ -190,8 +194,7 @@ impl Tree {
         requires leaf { has_below (rdns name.now) self.old.entries ≡ false }
         ensures { self.new ≡ record { suffix = self.old.suffix; entries = unnumbered number self.old.entries } }
     {
-        self.places.remove(name);
-        strike_above(&mut self.places, name, number);
+        drop_place(&mut self.places, name, number);
         take_entry(&mut self.entries, number);
     }
 

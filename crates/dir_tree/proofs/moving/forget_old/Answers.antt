@@ -1,6 +1,6 @@
 use Rattle.std.proofs.Common.{slice_index_or}
 use Rattle.std.proofs.lemmas.List.{get_or_default}
-use Rattle.dir_tree.specs.Kept.{place_at}
+use Rattle.dir_tree.specs.Kept.{number_of}
 use Rattle.dir_tree.specs.Stored.{directory_of}
 use Rattle.dir_tree.proofs.Putting.{forgotten-step}
 use Rattle.dir_tree.proofs.moving.forget_old.Goals as goal
@@ -8,4 +8,4 @@ use Rattle.dir_tree.proofs.moving.forget_old.Goals as goal
 pub loop-number-preserved : goal.loop-number-preserved
 loop-number-preserved c = λ q.
     forgotten-step (directory_of c.args.entries.now.entries) c.args.numbers.now c.loop-number.number-index (slice_index_or c.args.numbers.now c.loop-number.number-index 0) c.loop-number-test.true (get_or_default c.args.numbers.now c.loop-number.number-index 0 (slice_index_or c.args.numbers.now c.loop-number.number-index 0) c.loop-number-test.true) q
-    (place_at c.loop-number.places.entries q) (place_at c.forget_entry.new.places.entries q) (place_at c.args.places.now.entries q) (c.loop-number.invariant q) (c.forget_entry.ensures q)
+    (number_of c.loop-number.names.entries q) (number_of c.forget_entry.new.names.entries q) (number_of c.args.names.now.entries q) (c.loop-number.invariant q) (c.forget_entry.ensures q)

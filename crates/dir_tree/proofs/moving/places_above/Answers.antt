@@ -5,8 +5,8 @@ use Rattle.std.proofs.lemmas.List.{take-map, length-map}
 use Rattle.dir_entry.specs.ldap_dn.Names.{RdnModel, rdns}
 use Rattle.dir_tree.specs.Directory.{NameKey, name_eq}
 use Rattle.dir_tree.specs.Places.{Shown}
-use Rattle.dir_tree.specs.Kept.{place_at, seen}
-use Rattle.dir_tree.specs.Renamed.{set_over, is_changed, place_after, replaced_by}
+use Rattle.dir_tree.specs.Kept.{place_at}
+use Rattle.dir_tree.specs.Renamed.{seen, set_over, is_changed, place_after, replaced_by}
 use Rattle.dir_tree.proofs.Putting.{above-changed}
 use Rattle.dir_tree.proofs.moving.places_above.Goals as goal
 
@@ -16,6 +16,6 @@ loop-i-preserved c = λ g q.
     let i : ℕ = c.loop-i.i in
     let fits : i ≤ length n = omega (arith, length-map c.args.path.now (λ (v : RdnModel). v.keys)) in
     let x : Option Shown = set_over (seen c.loop-i.placed.items) g q in
-    let r : NameKey → Option Shown = λ m. option_map (place_after c.args.number c.args.numbers.now (rdns c.args.new.now) m) (place_at c.args.places.now.entries m) in
+    let r : NameKey → Option Shown = λ m. option_map (place_after c.args.number c.args.numbers.now (rdns c.args.new.now) m) (place_at c.args.places.now m) in
     above-changed q n i (is_changed (rdns c.args.old.now) (rdns c.args.new.now)) r (g q) x (set_over (seen c.push_changed.new.placed.items) g q) fits (c.loop-i.invariant g q)
     (c.in_ok-push_changed.ensures g q ∙ ap (λ (m : NameKey). cond (name_eq q m && is_changed (rdns c.args.old.now) (rdns c.args.new.now) q) (replaced_by (r q) x) x) (sym (take-map (λ (v : RdnModel). v.keys) i c.args.path.now)))

@@ -4,10 +4,10 @@ use Rattle.std.specs.Option.{option_map}
 use Rattle.dir_entry.specs.ldap_dn.Names.{rdns}
 use Rattle.dir_tree.specs.Directory.{NameKey}
 use Rattle.dir_tree.specs.Places.{Shown, is_above}
-use Rattle.dir_tree.specs.Kept.{place_at, seen}
-use Rattle.dir_tree.specs.Renamed.{set_over, is_changed, place_after, replaced_by}
+use Rattle.dir_tree.specs.Kept.{place_at}
+use Rattle.dir_tree.specs.Renamed.{seen, set_over, is_changed, place_after, replaced_by}
 use Rattle.dir_tree.proofs.moving.places_above.Given as goal
 
 abbrev pub invariant-loop-i : goal.invariant-loop-i
 invariant-loop-i l = (g : NameKey → Option Shown) (q : NameKey) → set_over (seen l.placed.items) g q
-    ≡ cond (is_above l.i (rdns l.path) q && is_changed (rdns l.old) (rdns l.new) q) (replaced_by (option_map (place_after l.number l.numbers (rdns l.new) q) (place_at l.places.entries q)) (g q)) (g q)
+    ≡ cond (is_above l.i (rdns l.path) q && is_changed (rdns l.old) (rdns l.new) q) (replaced_by (option_map (place_after l.number l.numbers (rdns l.new) q) (place_at l.places q)) (g q)) (g q)

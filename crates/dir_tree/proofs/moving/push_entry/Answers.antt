@@ -1,6 +1,6 @@
 use Rattle.dir_entry.specs.ldap_dn.Names.{rdns}
 use Rattle.dir_tree.specs.Directory.{entry_at}
-use Rattle.dir_tree.specs.Kept.{place_at, seen}
+use Rattle.dir_tree.specs.Kept.{number_of, named}
 use Rattle.dir_tree.specs.Stored.{directory_of, entered_of}
 use Rattle.dir_tree.proofs.KeptLemmas.{on_ok}
 use Rattle.dir_tree.proofs.Putting.{placed-one, placed-nothing}
@@ -9,9 +9,9 @@ use Rattle.dir_tree.proofs.moving.push_entry.Goals as goal
 pub returns-in-Some : goal.returns-in-Some
 returns-in-Some c =
     on_ok c.push_moved.result
-    (λ h. placed-one (place_at c.args.places.now.entries) (rdns c.args.old.now) (rdns c.args.new.now) (entered_of c.args.number c.in-Some.named.now) (entry_at c.args.number (directory_of c.args.entries.now.entries)) c.rdns.result.now
-    (seen c.args.placed.now.items) (seen c.push_moved.new.placed.items) c.in-Some.ensures c.rdns.ensures h)
+    (λ h. placed-one (number_of c.args.names.now.entries) (rdns c.args.old.now) (rdns c.args.new.now) (entered_of c.args.number c.in-Some.entry.now) (entry_at c.args.number (directory_of c.args.entries.now.entries)) c.rdns.result.now
+    (named c.args.keys.now.items) (named c.push_moved.new.keys.items) c.in-Some.ensures c.rdns.ensures h)
     c.push_moved.ensures
 
 pub returns-in-None : goal.returns-in-None
-returns-in-None c = placed-nothing (place_at c.args.places.now.entries) (rdns c.args.old.now) (rdns c.args.new.now) (entry_at c.args.number (directory_of c.args.entries.now.entries)) (seen c.args.placed.now.items) c.in-None.ensures
+returns-in-None c = placed-nothing (number_of c.args.names.now.entries) (rdns c.args.old.now) (rdns c.args.new.now) (entry_at c.args.number (directory_of c.args.entries.now.entries)) (named c.args.keys.now.items) c.in-None.ensures

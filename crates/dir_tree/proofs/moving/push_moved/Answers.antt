@@ -1,17 +1,17 @@
 use Rattle.std.proofs.Common.{ap, ◌∙◌, List}
 use Rattle.dir_entry.specs.ldap_dn.Names.{RdnModel, rdns}
-use Rattle.dir_tree.specs.Kept.{place_at, shown}
+use Rattle.dir_tree.specs.Kept.{number_of}
 use Rattle.dir_tree.specs.Renamed.{key_after}
 use Rattle.dir_tree.proofs.MovedEntries.{key-moved}
-use Rattle.dir_tree.proofs.Putting.{seen-one, seen-nothing}
+use Rattle.dir_tree.proofs.Putting.{key-one, key-nothing}
 use Rattle.dir_tree.proofs.moving.push_moved.Goals as goal
 
 pub returns-in_ok-push-in-Some : goal.returns-in_ok-push-in-Some
 returns-in_ok-push-in-Some c =
-    seen-one c.args.placed.now.items c.push.new.self.items c.into_rdns-key.result c.in_ok-place_copy-in-Some.field-0 (key_after (rdns c.args.old.now) (rdns c.args.new.now) (rdns c.args.name.now)) (shown c.in-Some.place.now) (place_at c.args.places.now.entries (rdns c.args.name.now))
+    key-one c.args.keys.now.items c.push.new.self.items c.into_rdns-key.result c.in-Some.number (key_after (rdns c.args.old.now) (rdns c.args.new.now) (rdns c.args.name.now)) (number_of c.args.names.now.entries (rdns c.args.name.now))
     c.in-Some.ensures
     (ap (λ (n : List RdnModel). rdns n) (c.into_rdns-key.ensures ∙ c.in_ok-name_moved-in-Some.ensures) ∙ key-moved (rdns c.args.old.now) c.args.new.now c.args.name.now)
-    c.in_ok-place_copy-in-Some.ensures c.in_ok-push-in-Some.ensures.items
+    c.in_ok-push-in-Some.ensures.items
 
 pub returns-in-None : goal.returns-in-None
-returns-in-None c = seen-nothing c.args.placed.now.items (key_after (rdns c.args.old.now) (rdns c.args.new.now) (rdns c.args.name.now)) (place_at c.args.places.now.entries (rdns c.args.name.now)) c.in-None.ensures
+returns-in-None c = key-nothing c.args.keys.now.items (key_after (rdns c.args.old.now) (rdns c.args.new.now) (rdns c.args.name.now)) (number_of c.args.names.now.entries (rdns c.args.name.now)) c.in-None.ensures

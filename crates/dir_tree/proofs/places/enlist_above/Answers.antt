@@ -1,33 +1,54 @@
+use Rattle.std.proofs.Common.{◌≡◌, ℕ, suc, ◌+◌, ◌-◌, ◌<◌, ◌≤◌, Bool, true, cond, length, take, zero, refl, sym, ap, nat_eq, ◌∙◌, arith}
+use Rattle.std.specs.Prelude.{◌&&◌, is_some}
+use Rattle.std.proofs.lemmas.List.{length-map}
 use Rattle.dir_entry.specs.ldap_dn.Names.{RdnModel, rdns}
-use Rattle.std.proofs.Common.{◌≡◌, ◌≤◌, ◌+◌, ℕ, Bool, Option, cond, length, sym, ap, ◌∙◌, arith, nat_eq}
-use Rattle.std.specs.Option.{option_map}
-use Rattle.std.proofs.lemmas.List.{take-map, length-map}
-use Rattle.dir_tree.specs.Directory.{NameKey, name_eq}
-use Rattle.dir_tree.specs.Places.{Shown, listed, enlisted, struck, is_above}
-use Rattle.dir_tree.specs.Kept.{place_at}
-use Rattle.dir_tree.proofs.Above.{above_more}
-use Rattle.dir_tree.proofs.Changes.{undone, last_above}
+use Rattle.dir_tree.specs.Directory.{NameKey, is_child}
+use Rattle.dir_tree.specs.Places.{Shown, listed, enlisted}
+use Rattle.dir_tree.specs.Kept.{lists_at, is_at, held, place_at}
+use Rattle.dir_tree.specs.declared.place.Places.{Places}
+use Rattle.dir_tree.proofs.Walks.{walking-begins, walking-step, walking-held, walking-ends, done-undone, flag-child, mid-same, hung-on, foot-on}
 use Rattle.dir_tree.proofs.places.enlist_above.Goals as goal
 
+pub loop-i-init : goal.loop-i-init
+loop-i-init c =
+    let n : NameKey = rdns c.args.name.now in
+    walking-begins n (λ m. enlisted n m c.args.number) c.args.places.now (length n - 0) c.number_above-at.result c.number_above-at.ensures (omega arith)
+
 pub loop-i-preserved : goal.loop-i-preserved
-loop-i-preserved c = λ q.
+loop-i-preserved c =
     let n : NameKey = rdns c.args.name.now in
     let i : ℕ = c.loop-i.i in
-    let k : ℕ = c.args.number in
-    let now : Option Shown = place_at c.loop-i.places.entries q in
     let long : length n ≡ length c.args.name.now = length-map c.args.name.now (λ (v : RdnModel). v.keys) in
-    let fits : i ≤ length n = omega arith in
-    let flag : Bool = nat_eq (i + 1) (length c.args.name.now) in
-    c.in-Ok.ensures.ok q
-    ∙ ap (λ (m : NameKey). cond (name_eq q m) (option_map (listed flag k) now) now) (sym (take-map (λ (v : RdnModel). v.keys) i c.args.name.now))
-    ∙ last_above (λ (b : Bool). listed b k) q n i flag (omega arith) (ap (λ (m : ℕ). nat_eq (i + 1) m) (sym long)) now
-    ∙ above_more (enlisted n q k) q n i fits (place_at c.args.places.now.entries q) now (c.loop-i.invariant q)
+    let lt : i < length n = omega arith in
+    let j : ℕ = length n - (i + 1) in
+    let old : Places = c.args.places.now in
+    let now : Places = c.loop-i.places in
+    let new : Places = record { names = now.names; lists = c.enlist_next.new.lists } in
+    walking-step n (λ m. enlisted n m c.args.number) old now new (length n - i) j c.loop-i.at c.in-Ok.next c.loop-i.invariant (omega arith) (omega arith)
+    c.requires.hung c.requires.footed refl c.enlist_next.ensures.links c.in-Ok.ensures.next (λ k. is_some (held now.lists.entries k))
+    (walking-held n (λ m. enlisted n m c.args.number) old now new (length n - i) j c.loop-i.at c.in-Ok.next c.loop-i.invariant (omega arith) (omega arith) c.requires.hung c.requires.footed)
+    (λ k. c.in-Ok.ensures.ok k
+    ∙ ap (λ (b : Bool). cond (is_at c.loop-i.at k && is_some (held now.lists.entries k)) (listed b c.args.number (lists_at now.lists.entries k)) (lists_at now.lists.entries k)) (flag-child n i j lt (omega arith)))
+
+pub returns-clause-ok : goal.returns-clause-ok
+returns-clause-ok c =
+    let n : NameKey = rdns c.args.name.now in
+    let long : length n ≡ length c.args.name.now = length-map c.args.name.now (λ (v : RdnModel). v.keys) in
+    walking-ends n (λ m. enlisted n m c.args.number) c.args.places.now c.loop-i.places (length n - c.loop-i.i) c.loop-i.at c.loop-i.invariant (omega (arith, long, c.loop-i-test.false))
 
 pub returns-in-Err-clause-err : goal.returns-in-Err-clause-err
 returns-in-Err-clause-err c = λ q.
     let n : NameKey = rdns c.args.name.now in
-    let long : length n ≡ length c.args.name.now = length-map c.args.name.now (λ (v : RdnModel). v.keys) in
-    let y : Option Shown = place_at c.enlist_at.new.places.entries q in
-    undone q n c.loop-i.i c.args.number (omega arith) (place_at c.loop-i.places.entries q) y (place_at c.args.places.now.entries q) (place_at c.strike_above.new.places.entries q)
-    (c.requires q) (c.loop-i.invariant q) (c.in-Err.ensures.err q)
-    (c.strike_above.ensures q ∙ ap (λ (m : ℕ). cond (is_above m n q) (option_map (struck c.args.number) y) y) (sym long))
+    let mid : Places = record { names = c.loop-i.places.names; lists = c.enlist_next.new.lists } in
+    done-undone n c.args.number (length n - c.loop-i.i) q (place_at c.args.places.now q) (place_at mid q) (place_at c.strike_above.new.places q) (c.requires.fresh q)
+    (mid-same c.loop-i.places mid c.in-Err.ensures.err refl q ∙ c.loop-i.invariant.places q) (c.strike_above.ensures.struck q)
+
+pub strike_above-requires-clause-hung : goal.strike_above-requires-clause-hung
+strike_above-requires-clause-hung c =
+    let mid : Places = record { names = c.loop-i.places.names; lists = c.enlist_next.new.lists } in
+    hung-on c.args.places.now mid c.loop-i.invariant.names (λ k. c.enlist_next.ensures.links k ∙ c.loop-i.invariant.links k) c.requires.hung
+
+pub strike_above-requires-clause-footed : goal.strike_above-requires-clause-footed
+strike_above-requires-clause-footed c =
+    let mid : Places = record { names = c.loop-i.places.names; lists = c.enlist_next.new.lists } in
+    foot-on c.args.places.now mid (rdns c.args.name.now) c.loop-i.invariant.names c.requires.footed

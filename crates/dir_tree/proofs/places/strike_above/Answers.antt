@@ -1,17 +1,32 @@
+use Rattle.std.proofs.Common.{◌≡◌, ℕ, suc, ◌+◌, ◌-◌, ◌<◌, ◌≤◌, Bool, true, cond, length, zero, refl, sym, ap, ◌∙◌, arith}
+use Rattle.std.proofs.lemmas.List.{length-map}
 use Rattle.dir_entry.specs.ldap_dn.Names.{RdnModel, rdns}
-use Rattle.std.proofs.Common.{◌≤◌, Option, cond, length, sym, ap, ◌∙◌, arith}
-use Rattle.std.specs.Option.{option_map}
-use Rattle.std.proofs.lemmas.List.{take-map, length-map}
+use Rattle.dir_tree.specs.Directory.{NameKey}
 use Rattle.dir_tree.specs.Places.{Shown, struck}
-use Rattle.dir_tree.specs.Directory.{NameKey, name_eq}
-use Rattle.dir_tree.specs.Kept.{place_at}
-use Rattle.dir_tree.proofs.Above.{above_more}
+use Rattle.dir_tree.specs.Kept.{lists_at, is_at}
+use Rattle.dir_tree.specs.declared.place.Places.{Places}
+use Rattle.dir_tree.proofs.Walks.{walking-begins, walking-step, walking-ends, and-on}
 use Rattle.dir_tree.proofs.places.strike_above.Goals as goal
 
+pub loop-i-init : goal.loop-i-init
+loop-i-init c =
+    let n : NameKey = rdns c.args.name.now in
+    walking-begins n (λ m. struck c.args.number) c.args.places.now (length n - 0) c.number_above-at.result c.number_above-at.ensures (omega arith)
+
 pub loop-i-preserved : goal.loop-i-preserved
-loop-i-preserved c = λ q.
-    let now : Option Shown = place_at c.loop-i.places.entries q in
-    let fits : c.loop-i.i ≤ length (rdns c.args.name.now) = omega (arith, length-map c.args.name.now (λ (v : RdnModel). v.keys)) in
-    c.strike_at.ensures q
-    ∙ ap (λ (n : NameKey). cond (name_eq q n) (option_map (struck c.args.number) now) now) (sym (take-map (λ (v : RdnModel). v.keys) c.loop-i.i c.args.name.now))
-    ∙ above_more (struck c.args.number) q (rdns c.args.name.now) c.loop-i.i fits (place_at c.args.places.now.entries q) now (c.loop-i.invariant q)
+loop-i-preserved c =
+    let n : NameKey = rdns c.args.name.now in
+    let i : ℕ = c.loop-i.i in
+    let long : length n ≡ length c.args.name.now = length-map c.args.name.now (λ (v : RdnModel). v.keys) in
+    let lt : i < length n = omega arith in
+    let new : Places = record { names = c.loop-i.places.names; lists = c.strike_next-at.new.lists } in
+    walking-step n (λ m. struck c.args.number) c.args.places.now c.loop-i.places new (length n - i) (length n - (i + 1)) c.loop-i.at c.strike_next-at.result c.loop-i.invariant (omega arith) (omega arith)
+    c.requires.hung c.requires.footed refl c.strike_next-at.ensures.links c.strike_next-at.ensures.next (λ k. true) (λ k e. refl)
+    (λ k. c.strike_next-at.ensures.struck k
+    ∙ and-on (is_at c.loop-i.at k) (struck c.args.number (lists_at c.loop-i.places.lists.entries k)) (lists_at c.loop-i.places.lists.entries k))
+
+pub returns-clause-struck : goal.returns-clause-struck
+returns-clause-struck c =
+    let n : NameKey = rdns c.args.name.now in
+    let long : length n ≡ length c.args.name.now = length-map c.args.name.now (λ (v : RdnModel). v.keys) in
+    walking-ends n (λ m. struck c.args.number) c.args.places.now c.loop-i.places (length n - c.loop-i.i) c.loop-i.at c.loop-i.invariant (omega (arith, long, c.loop-i-test.false))

@@ -8,5 +8,5 @@ use Rattle.dir_tree.proofs.tree.Tree.children.Goals as goal
 
 pub returns : goal.returns
 returns c =
-    c.children_at.ensures ∙ children_kept (rdns c.args.name.now) (directory_of c.self.inside.entries.entries) c.self.inside.places.entries c.self.invariant.kept
+    c.children_at.ensures ∙ children_kept (rdns c.args.name.now) (directory_of c.self.inside.entries.entries) c.self.inside.places c.self.invariant.kept
     ∙ ap (λ (t : TreeModel). option_map (λ (e : Entered). numbers (is_right_under (rdns c.args.name.now)) t.entries) (find (rdns c.args.name.now) t.entries)) c.self.view_is

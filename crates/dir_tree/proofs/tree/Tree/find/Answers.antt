@@ -8,5 +8,5 @@ use Rattle.dir_tree.proofs.tree.Tree.find.Goals as goal
 
 pub returns : goal.returns
 returns c =
-    c.number_at.ensures ∙ number_kept (rdns c.args.name.now) (directory_of c.self.inside.entries.entries) c.self.inside.places.entries c.self.invariant.kept
+    c.number_at.ensures ∙ number_kept (rdns c.args.name.now) (directory_of c.self.inside.entries.entries) c.self.inside.places c.self.invariant.kept
     ∙ ap (λ (t : TreeModel). option_map (λ (e : Entered). e.number) (find (rdns c.args.name.now) t.entries)) c.self.view_is

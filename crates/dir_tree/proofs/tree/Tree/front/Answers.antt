@@ -8,6 +8,6 @@ use Rattle.dir_tree.proofs.tree.Tree.front.Goals as goal
 
 pub returns : goal.returns
 returns c =
-    c.front_at.ensures ∙ front_kept (length c.args.name.now) (rdns c.args.name.now) (directory_of c.self.inside.entries.entries) c.self.inside.places.entries c.self.invariant.kept
+    c.front_at.ensures ∙ front_kept (length c.args.name.now) (rdns c.args.name.now) (directory_of c.self.inside.entries.entries) c.self.inside.places c.self.invariant.kept
     ∙ ap (λ (i : ℕ). front_from i (rdns c.args.name.now) (directory_of c.self.inside.entries.entries)) (sym (length-map c.args.name.now (λ (r : RdnModel). r.keys)))
     ∙ ap (λ (t : TreeModel). front (rdns c.args.name.now) t.entries) c.self.view_is

@@ -8,5 +8,5 @@ use Rattle.dir_tree.proofs.tree.Tree.has_parent.Goals as goal
 
 pub returns : goal.returns
 returns c =
-    c.has_parent_at.ensures ∙ some_kept (above (rdns c.args.name.now)) (directory_of c.self.inside.entries.entries) c.self.inside.places.entries c.self.invariant.kept
+    c.has_parent_at.ensures ∙ some_kept (above (rdns c.args.name.now)) (directory_of c.self.inside.entries.entries) c.self.inside.places c.self.invariant.kept
     ∙ ap (λ (t : TreeModel). is_some (find (above (rdns c.args.name.now)) t.entries)) c.self.view_is

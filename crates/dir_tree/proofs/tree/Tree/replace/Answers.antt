@@ -11,4 +11,4 @@ pub invariant_of-self : goal.invariant_of-self
 invariant_of-self c =
     let d : List Entered = directory_of c.self.inside.entries.entries in
     let same : labels d ≡ labels (directory_of c.set_entry.new.entries.entries) = sym (ap (λ (l : List Entered). labels l) c.set_entry.ensures ∙ labels-replaced c.args.number c.args.entry d) in
-    record { kept = λ q. c.self.invariant.kept q ∙ ap (λ (l : Labels). place_of q l) same; whole = subst (IsLabelled (rdns c.self.inside.suffix)) same c.self.invariant.whole }
+    record { kept = λ q. c.self.invariant.kept q ∙ ap (λ (l : Labels). place_of q l) same; linked = c.self.invariant.linked; whole = subst (IsLabelled (rdns c.self.inside.suffix)) same c.self.invariant.whole }
