@@ -1,9 +1,9 @@
--- The table of superior types against the chain of SUPs. Facts on lists flow in and out; no value of the program is here.
+-- The walk up the superior types against the chain of SUPs. Facts on lists flow in and out; no value of the program is here.
 use Rattle.std.proofs.Common.{IsTrue, ◌↔◌, ℕ, ◌+◌, ◌≤◌, zero, suc, List, [], ◌∷◌, Bool, true, false, ◌&&◌, ◌||◌, Option, None, Some, ◌≡◌, refl, ap, sym, subst, ◌∙◌, length, nat_eq, arith}
 use Rattle.std.specs.List.{list_any, slice_get}
 use Rattle.std.proofs.lemmas.Option.{slice_get_past}
 use Rattle.std.proofs.lemmas.Bool.Decides.{nat_tests}
-use Rattle.ldap_schema.specs.Schema.{TypeModel, SchemaModel, led, if_led, superior_in, superior_of, superiors, superiors_from, all_superiors, found_row, row_at, ends_within, are_loopless, is_under, IsUnder, is_itself, goes_up}
+use Rattle.ldap_schema.specs.Schema.{TypeModel, SchemaModel, led, if_led, superior_in, superior_of, superiors, ends_within, are_loopless, is_under, IsUnder, is_itself, goes_up}
 
 pub none_past : (ts : List TypeModel) (t : ℕ) → length ts ≤ t → superior_of ts t ≡ None
 none_past ts t h = ap superior_in (slice_get_past ts t h)
@@ -15,18 +15,6 @@ empty_past (suc k) ts t h = ap (λ (o : Option ℕ). led o (λ u. superiors k ts
 pub ended_past : (k : ℕ) (ts : List TypeModel) (t : ℕ) → length ts ≤ t → ends_within k ts t ≡ true
 ended_past zero ts t h = ap (λ (o : Option ℕ). if_led o (λ u. false)) (none_past ts t h)
 ended_past (suc k) ts t h = ap (λ (o : Option ℕ). if_led o (λ u. ends_within k ts u)) (none_past ts t h)
-
-rows_from : (ts xs : List TypeModel) (i t : ℕ) → ((u : ℕ) → length xs ≤ u → superiors (length ts) ts (i + u) ≡ []) → found_row (slice_get (superiors_from ts xs i) t) ≡ superiors (length ts) ts (i + t)
-rows_from ts [] i t past = sym (past t (omega arith))
-rows_from ts (x ∷ xs) i zero past = ap (superiors (length ts) ts) (omega arith)
-rows_from ts (x ∷ xs) i (suc t) past =
-    rows_from ts xs (i + 1) t (λ u h. ap (superiors (length ts) ts) (omega arith) ∙ past (suc u) (omega (arith, h)))
-    ∙ ap (superiors (length ts) ts) (omega arith)
-
-pub row_is : (ts : List TypeModel) (t : ℕ) → row_at (all_superiors ts) t ≡ superiors (length ts) ts t
-row_is ts t =
-    rows_from ts ts 0 t (λ u h. empty_past (length ts) ts (0 + u) (omega (arith, h)))
-    ∙ ap (superiors (length ts) ts) (omega arith)
 
 and_one : (a b : Bool) → (a && b) ≡ true → a ≡ true
 and_one true b h = refl
@@ -75,8 +63,8 @@ along_chain : (s : SchemaModel) (k a b : ℕ) → list_any (λ u. nat_eq u b) (s
 along_chain s zero a b h = absurd (false_true h)
 along_chain s (suc k) a b h = along_step s k a b (λ u g. along_chain s k u b g) (superior_of s.types a) refl h
 
-pub chain_from_table : (s : SchemaModel) (a b : ℕ) → is_under s a b ≡ true → IsUnder s a b
-chain_from_table s a b h =
+pub chain_from_walk : (s : SchemaModel) (a b : ℕ) → is_under s a b ≡ true → IsUnder s a b
+chain_from_walk s a b h =
     or_cases (nat_eq a b) (list_any (λ u. nat_eq u b) (superiors (length s.types) s.types a)) h (itself_or s a b) (along_chain s (length s.types) a b)
 
 no_step : (o : Option ℕ) (u : ℕ) → o ≡ Some u → if_led o (λ u. false) ≡ true → ⊥
@@ -92,18 +80,16 @@ climbed s a b (suc k) (goes_up u e rest) h =
     or_second (nat_eq a b) _ (ap (λ (o : Option ℕ). list_any (λ u. nat_eq u b) (led o (λ u. superiors k s.types u))) e
     ∙ climbed s u b k rest (sym (ap (λ (o : Option ℕ). if_led o (λ u. ends_within k s.types u)) e) ∙ h))
 
-pub table_from_chain : (s : SchemaModel) (a b : ℕ) → are_loopless s.types s.types 0 ≡ true → IsUnder s a b → is_under s a b ≡ true
-table_from_chain s a b h u = climbed s a b (length s.types) u (all_end s.types a h)
+pub walk_from_chain : (s : SchemaModel) (a b : ℕ) → are_loopless s.types s.types 0 ≡ true → IsUnder s a b → is_under s a b ≡ true
+walk_from_chain s a b h u = climbed s a b (length s.types) u (all_end s.types a h)
 
 pub under_same : (s : SchemaModel) (a b : ℕ) → true ≡ nat_eq a b → is_under s a b ≡ true
 under_same s a b h = rw (sym h) refl
 
-pub under_table : (types : List TypeModel) (table : List (List ℕ)) (a b : ℕ) (r : Bool) (row : List ℕ) → false ≡ nat_eq a b → r ≡ list_any (λ t. nat_eq t b) row → row ≡ row_at table a → table ≡ all_superiors types
+pub under_other : (types : List TypeModel) (a b : ℕ) (r : Bool) → false ≡ nat_eq a b → r ≡ list_any (λ t. nat_eq t b) (superiors (length types) types a)
     → r ≡ (nat_eq a b || list_any (λ u. nat_eq u b) (superiors (length types) types a))
-under_table types table a b r row e rs rows all =
-    rs ∙ ap (list_any (λ t. nat_eq t b)) (rows ∙ ap (λ (x : List (List ℕ)). row_at x a) all ∙ row_is types a)
-    ∙ ap (λ (x : Bool). x || list_any (λ u. nat_eq u b) (superiors (length types) types a)) e
+under_other types a b r e rs = rs ∙ ap (λ (x : Bool). x || list_any (λ (u : ℕ). nat_eq u b) (superiors (length types) types a)) e
 
--- a test that says what the table says, as the chain
+-- a test that says what the walk finds, as the chain
 pub as_chain : (s : SchemaModel) (a b : ℕ) (r : Bool) → are_loopless s.types s.types 0 ≡ true → r ≡ is_under s a b → IsTrue r ↔ IsUnder s a b
-as_chain s a b r h e = (λ t. chain_from_table s a b (sym e ∙ t), λ u. e ∙ table_from_chain s a b h u)
+as_chain s a b r h e = (λ t. chain_from_walk s a b (sym e ∙ t), λ u. e ∙ walk_from_chain s a b h u)

@@ -1,7 +1,7 @@
 -- Loops over tables, a step at a time. Facts on lists flow in and out; no value of the program is here.
-use Rattle.std.proofs.Common.{ℕ, ◌+◌, ◌-◌, ◌<◌, zero, suc, List, [], ◌∷◌, ◌++◌, Bool, true, false, ◌||◌, None, Some, ◌≡◌, refl, ap, sym, ◌∙◌, map, length, drop, get_or, append_assoc, add-one, drop-cons, arith}
+use Rattle.std.proofs.Common.{ℕ, ◌+◌, ◌-◌, ◌<◌, zero, suc, List, [], ◌∷◌, ◌++◌, Bool, true, false, ◌||◌, None, Some, ◌≡◌, refl, ap, sym, ◌∙◌, map, length, nat_eq, drop, get_or, append_assoc, add-one, drop-cons, arith}
 use Rattle.std.specs.List.{list_any, position_from}
-use Rattle.ldap_schema.specs.Schema.{TypeModel, superior_of, superiors, superiors_from, all_superiors}
+use Rattle.ldap_schema.specs.Schema.{TypeModel, superior_of, superiors}
 
 -- the element at a place and what stands behind it
 pub opened : {A : Type 0} (xs : List A) (i : ℕ) (x : A) → i < length xs → x ≡ get_or xs i x → drop i xs ≡ x ∷ drop (i + 1) xs
@@ -30,20 +30,6 @@ copied_more f g old new x ys i d lt pushed same so_far =
     ∙ ap (λ (z : List _). map f old ++ map g z) (sym (drop-cons ys i d lt))
     ∙ so_far
 
-row_at_front : (ts xs : List TypeModel) (i j : ℕ) → j < length xs → superiors_from ts (drop j xs) i ≡ superiors (length ts) ts i ∷ superiors_from ts (drop (suc j) xs) (i + 1)
-row_at_front ts [] i j lt = absurd (omega (arith, lt))
-row_at_front ts (x ∷ xs) i zero lt = refl
-row_at_front ts (x ∷ xs) i (suc j) lt = row_at_front ts xs i j (omega (arith, lt))
-
-pub row_more : {A : Type 0} (items : A → List ℕ) (ts : List TypeModel) (old new : List A) (x : A) (i : ℕ) → i < length ts → new ≡ old ++ x ∷ [] → items x ≡ superiors (length ts) ts i
-    → map items old ++ superiors_from ts (drop i ts) i ≡ all_superiors ts → map items new ++ superiors_from ts (drop (i + 1) ts) (i + 1) ≡ all_superiors ts
-row_more items ts old new x i lt pushed is so_far =
-    ap (λ (z : List _). map items z ++ superiors_from ts (drop (i + 1) ts) (i + 1)) pushed
-    ∙ pushed_out items old x (superiors_from ts (drop (i + 1) ts) (i + 1))
-    ∙ ap (λ (z : List ℕ). map items old ++ z ∷ superiors_from ts (drop (i + 1) ts) (i + 1)) is
-    ∙ ap (λ (z : List (List ℕ)). map items old ++ z) (sym (row_at_front ts ts i i lt ∙ ap (λ (n : ℕ). superiors (length ts) ts i ∷ superiors_from ts (drop n ts) (i + 1)) (sym (add-one i))))
-    ∙ so_far
-
 pub one_up : (m k : ℕ) (ts : List TypeModel) (t u : ℕ) → m ≡ suc k → superior_of ts t ≡ Some u → superiors m ts t ≡ u ∷ superiors k ts u
 one_up m k ts t u e is = rw (e, is) refl
 
@@ -52,6 +38,14 @@ step_up n i ts t u old new all lt is pushed so_far =
     ap (λ (z : List ℕ). z ++ superiors (n - (i + 1)) ts u) pushed
     ∙ append_assoc old (u ∷ []) (superiors (n - (i + 1)) ts u)
     ∙ ap (λ (z : List ℕ). old ++ z) (sym (one_up (n - i) (n - (i + 1)) ts t u (omega arith) is))
+    ∙ so_far
+
+-- what is sought is not the type one step up: it is sought from there on
+pub sought_up : (n i : ℕ) (ts : List TypeModel) (t u b : ℕ) (whole : Bool) → i < n → superior_of ts t ≡ Some u → nat_eq u b ≡ false → list_any (λ x. nat_eq x b) (superiors (n - i) ts t) ≡ whole
+    → list_any (λ x. nat_eq x b) (superiors (n - (i + 1)) ts u) ≡ whole
+sought_up n i ts t u b whole lt is other so_far =
+    sym (ap (λ (z : Bool). z || list_any (λ (x : ℕ). nat_eq x b) (superiors (n - (i + 1)) ts u)) other)
+    ∙ sym (ap (list_any (λ (x : ℕ). nat_eq x b)) (one_up (n - i) (n - (i + 1)) ts t u (omega arith) is))
     ∙ so_far
 
 pub no_way_up : (m : ℕ) (ts : List TypeModel) (t : ℕ) → superior_of ts t ≡ None → superiors m ts t ≡ []

@@ -2,6 +2,7 @@ pub mod Schema
 pub mod Superclasses
 pub mod NameOrder
 pub mod ObjectClassType
+pub mod Marks
 pub mod Tables
 pub mod Meaning
 pub mod Keyed

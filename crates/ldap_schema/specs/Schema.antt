@@ -91,14 +91,6 @@ found_row (Some row) = row
 abbrev pub row_at : List (List ℕ) → ℕ → List ℕ
 row_at table t = found_row (slice_get table t)
 
--- of each type, from a number on, the types that its SUP leads to
-abbrev pub superiors_from : List TypeModel → List TypeModel → ℕ → List (List ℕ)
-superiors_from ts [] t = []
-superiors_from ts (x ∷ xs) t = superiors (length ts) ts t ∷ superiors_from ts xs (t + 1)
-
-abbrev pub all_superiors : List TypeModel → List (List ℕ)
-all_superiors ts = superiors_from ts ts 0
-
 -- A type under another: it is the type, or its SUP leads there (RFC 4512 2.5.1).
 abbrev pub is_under : SchemaModel → ℕ → ℕ → Bool
 is_under s a b = nat_eq a b || list_any (λ u. nat_eq u b) (superiors (length s.types) s.types a)

@@ -1,13 +1,12 @@
 -- What a schema keeps beside its types and classes, so that questions to it are look-ups. No contract above names it.
 use Rattle.std.specs.Prelude.{ℕ, List, ◌≡◌}
-use Rattle.ldap_schema.specs.Schema.{SchemaModel, find, class_named, all_superiors, IsLoopless}
+use Rattle.ldap_schema.specs.Schema.{SchemaModel, find, class_named, IsLoopless}
 use Rattle.ldap_schema.specs.NameOrder.{IndexModel, find_in}
 use Rattle.ldap_schema.specs.Superclasses.{all_superclasses, AreSuperclassesKnown}
 use Rattle.ldap_schema.specs.ObjectClassType.{IsObjectClassType}
 
 -- the tables of a schema, and what is checked of it once
-pub record AreTablesOf (s : SchemaModel) (superiors superclasses : List (List ℕ)) (object_class : ℕ) (type_index class_index : IndexModel) : Type 0 where
-  pub superiors_are : superiors ≡ all_superiors s.types
+pub record AreTablesOf (s : SchemaModel) (superclasses : List (List ℕ)) (object_class : ℕ) (type_index class_index : IndexModel) : Type 0 where
   pub loopless : IsLoopless s.types
   pub superclasses_are : superclasses ≡ all_superclasses s.classes
   pub superclasses_known : AreSuperclassesKnown s.classes

@@ -6,6 +6,7 @@
 mod attribute_type;
 mod class;
 mod comparing;
+mod gathered;
 mod keying;
 mod name_index;
 mod name_table;
@@ -16,11 +17,12 @@ mod tables;
 
 pub use attribute_type::{AttributeType, TypeId};
 pub use class::{ClassId, ClassKind, ObjectClass};
+pub use gathered::is_class_among;
 pub use keying::{equality_rule, is_identifier, is_meaningful, key, named_oid};
 pub use ldap_syntax::{
     Family, Key, Part, Rule, Syntax, ValueError, has_ordering, has_substrings, is_in_syntax,
     keys_compare, part_key_of, parts_compare,
 };
 pub use schema::Schema;
-pub use superclasses::{is_class_among, superclasses_of, with_superclasses};
+pub use superclasses::{superclasses_of, with_superclasses};
 pub use tables::{class_called, is_type_among, superiors, type_called};

@@ -1,4 +1,4 @@
-// The schema: a table of types and one of classes, and which type and class is under which, computed once. Names and numbers flow
+// The schema: a table of types and one of classes, and which class is under which, computed once. Names and numbers flow
 // in; types, classes and numbers flow out. What must not be here: reading a schema from text, values.
 
 ghost use Rattle.std.specs.Prelude.{◌≡◌, IfOk, IfSome, IsSome, option_map, slice_get, length, ◌↔◌, IsTrue};
@@ -11,11 +11,10 @@ ghost use Rattle.ldap_schema.specs.Superclasses.{AreSuperclassesKnown};
 
 use crate::attribute_type::{AttributeType, TypeId};
 use crate::class::{ClassId, ObjectClass};
+use crate::gathered::is_class_among;
 use crate::name_index::NameIndex;
-use crate::superclasses::{
-    is_class_among, superclasses_at, superclasses_of_all, with_superclasses,
-};
-use crate::tables::{is_type_among, superiors_at, superiors_of_all};
+use crate::superclasses::{superclasses_at, superclasses_of_all, with_superclasses};
+use crate::tables::leads_to;
 use std::alloc::{AllocError, Global};
 use std::marker::Model;
 
@@ -24,8 +23,6 @@ use std::marker::Model;
 pub struct Schema {
     types: Vec<AttributeType>,
     classes: Vec<ObjectClass>,
-    /// Of each type the types that its SUP leads to.
-    superiors: Vec<Vec<TypeId>>,
     /// Of each class it and its superclasses.
     superclasses: Vec<Vec<ClassId>>,
     /// The type objectClass.
@@ -46,7 +43,7 @@ impl Model for Schema {
     ghost view = { λ s. record { types = s.types.items; classes = s.classes.items } };
 
     ghost invariant = { λ s. AreTablesOf (record { types = s.types.items; classes = s.classes.items })
-        (map (λ v. v.items) s.superiors.items) (map (λ v. v.items) s.superclasses.items) s.object_class s.type_index s.class_index };
+        (map (λ v. v.items) s.superclasses.items) s.object_class s.type_index s.class_index };
 }
 
 impl Schema {
@@ -63,14 +60,12 @@ impl Schema {
         requires object_class { IsObjectClassType (record { types = types.items; classes = classes.items }) object_class }
         ensures { IfOk result (λ s. s ≡ record { types = types.items; classes = classes.items }) }
     {
-        let superiors = superiors_of_all(alloc, types.as_slice())?;
         let superclasses = superclasses_of_all(alloc, classes.as_slice())?;
         let type_index = NameIndex::of_types(alloc, types.as_slice())?;
         let class_index = NameIndex::of_classes(alloc, classes.as_slice())?;
         Ok(Schema {
             types,
             classes,
-            superiors,
             superclasses,
             object_class,
             type_index,
@@ -173,13 +168,13 @@ impl Schema {
         self.types.len()
     }
 
-    /// Whether the first type is the second one, or its SUP leads there (RFC 4512 2.5.1).
+    /// Whether the first type is the second one, or its SUP leads there (RFC 4512 2.5.1). Takes no memory.
     pub fn is_under(&self, below: TypeId, above: TypeId) -> bool
         ensures table { result ≡ is_under_type self.now below above }
 
         // It is the chain of SUPs.
         ensures chain { IsTrue result ↔ IsUnder self.now below above }
     {
-        below == above || is_type_among(superiors_at(self.superiors.as_slice(), below), above)
+        below == above || leads_to(self.types.as_slice(), below, above)
     }
 }

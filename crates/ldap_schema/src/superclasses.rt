@@ -1,19 +1,13 @@
 // Classes and their superclasses. A table of classes flows in; lists of classes flow out.
 // What must not be here: the schema that holds the table, entries.
 
-ghost use Rattle.std.specs.Prelude.{◌≡◌, IfOk, OnOk, map, slice_get};
-ghost use Rattle.ldap_schema.specs.Superclasses.{is_among as is_one_of, direct_superclasses, with_missing, filled, all_superclasses};
+ghost use Rattle.std.specs.Prelude.{◌≡◌, IfOk, OnOk, map};
+ghost use Rattle.ldap_schema.specs.Superclasses.{direct_superclasses, with_missing, filled, all_superclasses};
 ghost use Rattle.ldap_schema.specs.Schema.{row_at};
 
 use crate::class::{ClassId, ObjectClass};
+use crate::gathered::Gathered;
 use std::alloc::{AllocError, Global};
-
-/// Whether the class is in the list.
-pub fn is_class_among(classes: &[ClassId], class: ClassId) -> bool
-    ensures { result ≡ is_one_of classes.now class }
-{
-    classes.iter().any(|other| class == *other)
-}
 
 /// The direct superclasses of a class; none, where there is no such class.
 pub fn superclasses_of(classes: &[ObjectClass], class: ClassId) -> &[ClassId]
@@ -25,21 +19,12 @@ pub fn superclasses_of(classes: &[ObjectClass], class: ClassId) -> &[ClassId]
     }
 }
 
-/// The class at a place in a list.
-fn class_at(classes: &[ClassId], place: usize) -> Option<ClassId>
-    ensures { result ≡ slice_get classes.now place }
-{
-    classes.get(place).copied()
-}
-
 /// Adds those of the classes that are missing at the end.
-fn add_missing(have: &mut Vec<ClassId>, classes: &[ClassId]) -> Result<(), AllocError>
-    ensures { OnOk result (have.new.items ≡ with_missing have.old.items classes.now) }
+fn add_missing(have: &mut Gathered, classes: &[ClassId]) -> Result<(), AllocError>
+    ensures { OnOk result (have.new ≡ with_missing have.old classes.now) }
 {
     for class in classes {
-        if !is_class_among(have.as_slice(), *class) {
-            have.push(*class)?;
-        }
+        have.add(*class)?;
     }
     Ok(())
 }
@@ -52,14 +37,14 @@ pub fn with_superclasses(
 ) -> Result<Vec<ClassId>, AllocError>
     ensures { IfOk result (λ v. v.items ≡ filled classes.now named.now) }
 {
-    let mut have = Vec::from_slice(alloc, named)?;
+    let mut have = Gathered::of(alloc, classes.len(), named)?;
     for place in 0..named.len() + classes.len() {
-        let Some(class) = class_at(have.as_slice(), place) else {
-            return Ok(have);
+        let Some(class) = have.at(place) else {
+            return Ok(have.into_classes());
         };
         add_missing(&mut have, superclasses_of(classes, class))?;
     }
-    Ok(have)
+    Ok(have.into_classes())
 }
 
 /// Of each class it and its superclasses.

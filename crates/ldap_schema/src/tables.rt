@@ -1,9 +1,9 @@
 // Questions to the tables of a schema. Slices of types and classes flow in; numbers and yes or no flow out.
 // What must not be here: the schema that holds the tables.
 
-ghost use Rattle.std.specs.Prelude.{◌≡◌, IfOk, map, nat_eq, length};
+ghost use Rattle.std.specs.Prelude.{◌≡◌, IfOk, nat_eq, length};
 ghost use Rattle.std.specs.List.{list_any, position_from};
-ghost use Rattle.ldap_schema.specs.Schema.{is_called as is_called_by, all_superiors, superiors as superiors_of, superior_of, row_at};
+ghost use Rattle.ldap_schema.specs.Schema.{is_called as is_called_by, superiors as superiors_of, superior_of};
 
 use crate::attribute_type::{AttributeType, TypeId};
 use crate::class::{ClassId, ObjectClass};
@@ -41,28 +41,19 @@ pub fn is_type_among(types: &[TypeId], type_id: TypeId) -> bool
     types.iter().any(|other| *other == type_id)
 }
 
-/// The row of a type in the table of superior types; empty, where there is none.
-pub fn superiors_at(table: &[Vec<TypeId>], type_id: TypeId) -> &[TypeId]
-    ensures { result.now ≡ row_at (map (λ v. v.items) table.now) type_id }
+/// Whether the type's SUP leads to the other one. It goes up in as many steps as there are types at most, and takes no memory.
+pub fn leads_to(types: &[AttributeType], type_id: TypeId, above: TypeId) -> bool
+    ensures { result ≡ list_any (λ t. nat_eq t above) (superiors_of (length types.now) types.now type_id) }
 {
-    match table.get(type_id.number()) {
-        Some(row) => row.as_slice(),
-        None => &[],
+    let mut current = type_id;
+    for _ in 0..types.len() {
+        match superior(types, current) {
+            Some(next) if next == above => return true,
+            Some(next) => current = next,
+            None => return false,
+        }
     }
-}
-
-/// Of each type the types that its SUP leads to.
-pub fn superiors_of_all(
-    alloc: Global,
-    types: &[AttributeType],
-) -> Result<Vec<Vec<TypeId>>, AllocError>
-    ensures { IfOk result (λ table. map (λ v. v.items) table.items ≡ all_superiors types.now) }
-{
-    let mut table = Vec::new(alloc);
-    for number in 0..types.len() {
-        table.push(superiors(alloc, types, TypeId::new(number))?)?;
-    }
-    Ok(table)
+    false
 }
 
 /// The types that the type's SUP leads to, nearest first, in as many steps as there are types at most.

@@ -1,6 +1,8 @@
-use Rattle.std.proofs.Common.{ℕ, Vec, Global, map, ap, sym, ◌∙◌, ◌≡◌, true, subst}
-use Rattle.ldap_schema.specs.Schema.{SchemaModel, is_under, are_loopless}
-use Rattle.ldap_schema.proofs.Chains.{as_chain, under_same, under_table}
+use Rattle.std.proofs.Common.{List, ap, sym, ◌∙◌, ◌≡◌, true, subst, length}
+use Rattle.std.specs.List.{list_any}
+use Rattle.std.specs.Prelude.{nat_eq}
+use Rattle.ldap_schema.specs.Schema.{TypeModel, SchemaModel, is_under, superiors, are_loopless}
+use Rattle.ldap_schema.proofs.Chains.{as_chain, under_same, under_other}
 use Rattle.ldap_schema.proofs.schema.Schema.is_under.Goals as goal
 
 loopless : (s t : SchemaModel) → s ≡ t → are_loopless s.types s.types 0 ≡ true → are_loopless t.types t.types 0 ≡ true
@@ -13,13 +15,13 @@ returns-then-eq-clause-chain c =
 
 pub returns-else-eq-clause-table : goal.returns-else-eq-clause-table
 returns-else-eq-clause-table c =
-    under_table c.self.inside.types.items (map (λ (v : Vec ℕ Global). v.items) c.as_slice.result.now) c.args.below c.args.above c.is_type_among.result c.superiors_at.result.now
-    c.if-eq.ensures c.is_type_among.ensures c.superiors_at.ensures (ap (map (λ (v : Vec ℕ Global). v.items)) c.as_slice.ensures.value ∙ c.self.invariant.superiors_are)
+    under_other c.self.inside.types.items c.args.below c.args.above c.leads_to.result c.if-eq.ensures
+    (c.leads_to.ensures ∙ ap (λ (ts : List TypeModel). list_any (λ t. nat_eq t c.args.above) (superiors (length ts) ts c.args.below)) c.as_slice.ensures.value)
     ∙ ap (λ (s : SchemaModel). is_under s c.args.below c.args.above) c.self.view_is
 
 pub returns-else-eq-clause-chain : goal.returns-else-eq-clause-chain
 returns-else-eq-clause-chain c =
-    as_chain c.args.self.now c.args.below c.args.above c.is_type_among.result (loopless _ _ c.self.view_is c.self.invariant.loopless)
-    (under_table c.self.inside.types.items (map (λ (v : Vec ℕ Global). v.items) c.as_slice.result.now) c.args.below c.args.above c.is_type_among.result c.superiors_at.result.now
-    c.if-eq.ensures c.is_type_among.ensures c.superiors_at.ensures (ap (map (λ (v : Vec ℕ Global). v.items)) c.as_slice.ensures.value ∙ c.self.invariant.superiors_are)
+    as_chain c.args.self.now c.args.below c.args.above c.leads_to.result (loopless _ _ c.self.view_is c.self.invariant.loopless)
+    (under_other c.self.inside.types.items c.args.below c.args.above c.leads_to.result c.if-eq.ensures
+    (c.leads_to.ensures ∙ ap (λ (ts : List TypeModel). list_any (λ t. nat_eq t c.args.above) (superiors (length ts) ts c.args.below)) c.as_slice.ensures.value)
     ∙ ap (λ (s : SchemaModel). is_under s c.args.below c.args.above) c.self.view_is)
