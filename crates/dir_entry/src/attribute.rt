@@ -6,6 +6,8 @@ ghost use Rattle.std.specs.List.{list_all};
 ghost use Rattle.ldap_match.specs.Meaning.{meaning};
 ghost use Rattle.ldap_match.specs.Item.{is_of_syntax as is_of_type_syntax};
 ghost use Rattle.ldap_match.specs.Keyed.{key_at, AreKeysOf};
+ghost use Rattle.ldap_match.specs.Matched.{match_value};
+ghost use Rattle.ldap_match.specs.ldap_forms.Forms.{form_of};
 ghost use Rattle.std.specs.Str.{bytes_eq};
 ghost use Rattle.dir_entry.specs.Picked.{picked};
 ghost use Rattle.dir_entry.specs.Entry.{are_in_syntax};
@@ -13,7 +15,8 @@ ghost use Rattle.dir_entry.specs.Values.{has_repeats, has_twice as has_some_twic
 
 use crate::repeats::has_twice;
 use ldap_match::{
-    Key, Rule, Schema, TypeId, ValueError, equality_rule, is_of_syntax, key, tests_are_items,
+    Form, Key, MatchTest, Rule, Schema, Truth, TypeId, ValueError, equality_rule, is_of_syntax,
+    key, match_on_values, tests_are_items,
 };
 use std::alloc::{AllocError, Global};
 use std::marker::Model;
@@ -25,6 +28,8 @@ pub struct Attribute {
     values: Vec<Vec<u8>>,
     /// Of each value its key under the type's EQUALITY rule; none, where the type lacks the rule.
     keys: Vec<Key>,
+    /// Of each value its texts.
+    forms: Vec<Form>,
 }
 
 impl Model for Attribute {
@@ -34,6 +39,11 @@ impl Model for Attribute {
     ghost Value = { KeyedAttribute };
 
     ghost view = { λ a. record { kind = a.type_id; values = map (λ v. v.items) a.values.items; keys = a.keys.items } };
+
+    ghost use Rattle.std.specs.Prelude.{◌≡◌};
+    ghost use Rattle.ldap_match.specs.ldap_forms.Forms.{form_of};
+
+    ghost invariant = { λ a. a.forms.items ≡ map (λ v. form_of v.items) a.values.items };
 }
 
 impl Attribute {
@@ -57,10 +67,12 @@ impl Attribute {
             return Err(ValueError::NotInSyntax);
         }
         let keys = keys_of(alloc, schema, type_id, values.as_slice())?;
+        let forms = forms_of(alloc, values.as_slice())?;
         Ok(Attribute {
             type_id,
             values,
             keys,
+            forms,
         })
     }
 
@@ -82,15 +94,19 @@ impl Attribute {
             type_id,
             mut values,
             mut keys,
+            mut forms,
         } = self;
         let mut more_keys = keys_of(alloc, schema, type_id, more.as_slice())?;
+        let mut more_forms = forms_of(alloc, more.as_slice())?;
         let mut more = more;
         values.append(&mut more)?;
         keys.append(&mut more_keys)?;
+        forms.append(&mut more_forms)?;
         Ok(Attribute {
             type_id,
             values,
             keys,
+            forms,
         })
     }
 
@@ -104,18 +120,22 @@ impl Attribute {
             type_id,
             mut values,
             mut keys,
+            mut forms,
         } = self;
         let Attribute {
             values: mut more,
             keys: mut more_keys,
+            forms: mut more_forms,
             ..
         } = other;
         values.append(&mut more)?;
         keys.append(&mut more_keys)?;
+        forms.append(&mut more_forms)?;
         Ok(Attribute {
             type_id,
             values,
             keys,
+            forms,
         })
     }
 
@@ -129,13 +149,16 @@ impl Attribute {
             type_id,
             values,
             keys,
+            forms,
         } = self;
         let values = pick(alloc, marks, values)?;
         let keys = pick(alloc, marks, keys)?;
+        let forms = pick(alloc, marks, forms)?;
         Ok(Attribute {
             type_id,
             values,
             keys,
+            forms,
         })
     }
 
@@ -147,6 +170,7 @@ impl Attribute {
             type_id: self.type_id,
             values: copy_values(alloc, self.values.as_slice())?,
             keys: copy_keys(alloc, self.keys.as_slice())?,
+            forms: copy_forms(alloc, self.forms.as_slice())?,
         })
     }
 
@@ -182,6 +206,18 @@ impl Attribute {
         ensures { result.now ≡ self.now.keys }
     {
         self.keys.as_slice()
+    }
+
+    /// A test that names a rule, on the values. Takes no memory.
+    pub fn matched(&self, test: &MatchTest) -> Truth
+        ensures { result ≡ match_value test.now self.now.values self.now.keys }
+    {
+        match_on_values(
+            test,
+            self.values.as_slice(),
+            self.forms.as_slice(),
+            self.keys.as_slice(),
+        )
     }
 }
 
@@ -225,6 +261,28 @@ fn copy_keys(alloc: Global, keys: &[Key]) -> Result<Vec<Key>, AllocError>
         copy.push(Key::new(key.as_octets().to_vec(alloc)?))?;
     }
     Ok(copy)
+}
+
+/// A copy of a list of texts.
+fn copy_forms(alloc: Global, forms: &[Form]) -> Result<Vec<Form>, AllocError>
+    ensures { IfOk result (λ r. r.items ≡ forms.now) }
+{
+    let mut copy = Vec::with_capacity(alloc, forms.len())?;
+    for form in forms {
+        copy.push(form.copy(alloc)?)?;
+    }
+    Ok(copy)
+}
+
+/// The texts of each value.
+fn forms_of(alloc: Global, values: &[Vec<u8>]) -> Result<Vec<Form>, AllocError>
+    ensures { IfOk result (λ r. r.items ≡ map (λ v. form_of v.items) values.now) }
+{
+    let mut forms = Vec::with_capacity(alloc, values.len())?;
+    for value in values {
+        forms.push(Form::new(alloc, value.as_slice())?)?;
+    }
+    Ok(forms)
 }
 
 /// Whether two of the keys are the same.

@@ -11,8 +11,9 @@ pub use attribute::{Attribute, octets_of_keys, octets_of_values};
 pub use entry::{Entry, has_type, valid_attribute};
 pub use fault::EntryError;
 pub use ldap_match::{
-    ClassId, ClassKind, Key, Name, NameError, PartKeys, Rdn, Rule, Schema, Test, Truth,
-    TypeAndValue, TypeId, ValueError, at_least_test, at_most_test, equality_rule, equality_test,
-    has_parts_of, is_comparable, is_front, is_of_syntax, is_ordered, item_on_attribute, key,
-    substrings_test, tests_are_items,
+    ClassId, ClassKind, How, Key, MatchTest, Name, NameError, NamedRule, PartKeys, Rdn, Rule,
+    Schema, Test, Truth, TypeAndValue, TypeId, ValueError, at_least_test, at_most_test,
+    equality_rule, equality_test, has_parts_of, is_comparable, is_front, is_matchable,
+    is_of_syntax, is_ordered, item_on_attribute, key, match_on_pair, match_test, matches_are_items,
+    named_rule, rule_for, substrings_test, tests_are_items,
 };

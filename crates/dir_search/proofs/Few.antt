@@ -124,7 +124,7 @@ true_here b d (k ∷ ks) = by (entry_at k d) refl (true_here b d ks)
   where
     by : (o : Option Entered) → entry_at k d ≡ o → AreHere d (true_numbers b d ks) → AreHere d (cond (is_true_value (value_on b o)) (k ∷ true_numbers b d ks) (true_numbers b d ks))
     by None e ih = ih
-    by (Some x) e ih = elim (is_true_value (bound_value x.entry b)) as (λ v. AreHere d (cond v (k ∷ true_numbers b d ks) (true_numbers b d ks))) [ true ↦ (ap is_some e, ih) | false ↦ ih ]
+    by (Some x) e ih = elim (is_true_value (bound_value x.name x.entry b)) as (λ v. AreHere d (cond v (k ∷ true_numbers b d ks) (true_numbers b d ks))) [ true ↦ (ap is_some e, ih) | false ↦ ih ]
 
 -- numbers of some of the entries rise, as those of all do
 all_numbers : (P : ℕ → Type 0) (p : Entered → Bool) (d : List Entered) → AllByRecursion P (map (λ e. e.number) (listed_of d)) → AllByRecursion P (numbers p d)
@@ -163,9 +163,9 @@ found_true s t b d keyed stands (k ∷ ks) = by (entry_at k d) refl (found_true 
         → map named (entries_of (cond (is_true_value (value_on b o)) (k ∷ true_numbers b d ks) (true_numbers b d ks)) d) ≡ filter (is_match s t) (map named (put_some o (entries_of ks d)))
     by None e ih = ih
     by (Some x) e ih =
-        told x e ih (bound_value x.entry b)
+        told x e ih (bound_value x.name x.entry b)
         ∙ ap (λ (v : Truth). cond (is_true v) (named x ∷ filter (is_match s t) (map named (entries_of ks d))) (filter (is_match s t) (map named (entries_of ks d))))
-        (stands x.entry (keyed_at s d k x keyed e))
+        (stands x.name x.entry (keyed_at s d k x keyed e))
 
 -- What is shown of the numbers that are found is what a search finds among the entries.
 pub among : (a : SearchAnswer) (s : SchemaModel) (q : SearchRequestValue) (ix : List Kinds) (b : BoundFilter) (d : List Entered) (ks : List ℕ) (open_at : ℕ → Bool) → AreKeyedBy s d → IsBoundTo s q.filter b

@@ -5,6 +5,7 @@ use mathlib.Core.Path.{fun_ext}
 use Rattle.std.specs.List.{AllByRecursion}
 use Rattle.dir_store.specs.ldap_match.declared.truth.Truth.TheVariants.{True}
 use Rattle.dir_store.specs.dir_entry.Entry.{KeyedAttribute}
+use Rattle.dir_store.specs.ldap_dn.Names.{RdnModel}
 use Rattle.ldap_eval.specs.Bound.{bound_value}
 use Rattle.ldap_eval.specs.declared.bound.BoundFilter.{BoundFilter}
 use Rattle.ldap_eval.specs.declared.bound.BoundFilter.TheVariants as bound
@@ -15,9 +16,9 @@ use Rattle.dir_store.specs.dir_index.declared.posting.Posting.{Posting}
 use Rattle.dir_store.specs.dir_index.declared.posting.Range.{Range}
 use Rattle.dir_store.specs.dir_tree.Directory.{Entered, entry_at, numbers}
 use Rattle.dir_store.specs.Listed.{listed_of}
-use Rattle.plan_compile.specs.plan_sets.Sets.{is_in, holds, AreNumbered, HasEntry, Guides, IsValued, SetsAreOfEntries}
+use Rattle.plan_compile.specs.plan_sets.Sets.{is_in, holds, AreNumbered, HasEntry, Guides, SetsAreOfEntries}
 use Rattle.plan_compile.specs.plan_sets.declared.plan.Plan.{Plan}
-use Rattle.plan_compile.specs.Bounds.{is_decided, BoundsSets, DecidedAreTrue, GuidesRuns}
+use Rattle.plan_compile.specs.Bounds.{is_decided, BoundsSets, DecidedAreTrue}
 use Rattle.plan_compile.specs.Runs.{has_runs_for}
 use Rattle.plan_run.specs.Runs.{is_open}
 use Rattle.dir_search.specs.Looks.{value_on, value_in, has_runs_on, AreNumbersOf, LeavesFew}
@@ -70,17 +71,20 @@ entry_of n p (e ∷ es) h =
 entry_here : (ks : List ℕ) (d : List Entered) → AreNumbersOf ks d → (n : ℕ) → has_number n ks ≡ true → IsEntryOf d n
 entry_here ks d sel n h = entry_of n sel.0 d (subst (λ (l : List ℕ). has_number n l ≡ true) sel.1 h)
 
-are_valued : (b : BoundFilter) (d : List Entered) (ks : List ℕ) → AreNumbersOf ks d → IsValued (listed_of d) (λ e. bound_value e b) ks (value_in b d)
-are_valued b d ks sel n h =
-    let x : IsEntryOf d n = entry_here ks d sel n h in
-    (x.entry.entry, (x.listed, ap (value_on b) x.found))
-
 -- the plans guide a run
-pub guided : (x : Lists) (ix : List Kinds) (b : BoundFilter) (d : List Entered) (must may : Plan) → ArePostingsOf x ix (listed_of d) → GuidesRuns ix (λ e. bound_value e b) must may
+pub guided : (x : Lists) (ix : List Kinds) (b : BoundFilter) (d : List Entered) (must may : Plan) → ArePostingsOf x ix (listed_of d) → ((m : List RdnModel) → BoundsSets ix (λ e. bound_value m e b) True (is_decided ix b) must may)
     → (ks : List ℕ) → AreNumbersOf ks d → Guides (is_in x ks must) (value_in b d) (is_in x ks may) ks
-guided x ix b d must may are guides ks sel =
+guided x ix b d must may are sets ks sel =
+    let num : AreNumbered (listed_of d) = are_numbered (listed_of d) are.numbered in
     subst (λ (l : Lists). Guides (is_in l ks must) (value_in b d) (is_in l ks may) ks) (same_lists x ix (listed_of d) are)
-    (guides (listed_of d) ks (value_in b d) (are_numbered (listed_of d) are.numbered) (are_valued b d ks sel))
+    (record {
+      sound = λ n s h.
+          let e : IsEntryOf d n = entry_here ks d sel n s in
+          ap (value_on b) e.found ∙ (sets e.entry.name (listed_of d) ks n e.entry.entry num e.listed s).sound h;
+      complete = λ n s h.
+          let e : IsEntryOf d n = entry_here ks d sel n s in
+          (sets e.entry.name (listed_of d) ks n e.entry.entry num e.listed s).complete (sym (ap (value_on b) e.found) ∙ h);
+    })
 
 closed : (must may : Bool) → (may ≡ true → must ≡ true) → (may && not must) ≡ false
 closed must false h = refl
@@ -90,15 +94,15 @@ may_of : (must may : Bool) → (may && not must) ≡ true → may ≡ true
 may_of must true h = refl
 may_of must false h = h
 
-parts_at : (ix : List Kinds) (d : List Entered) (n : ℕ) (e : List KeyedAttribute) → ((f : BoundFilter) → value_in f d n ≡ bound_value e f) → (fs : List BoundFilter) → DecidedAreTrue ix e fs
+parts_at : (ix : List Kinds) (d : List Entered) (n : ℕ) (m : List RdnModel) (e : List KeyedAttribute) → ((f : BoundFilter) → value_in f d n ≡ bound_value m e f) → (fs : List BoundFilter) → DecidedAreTrue ix m e fs
     → AllByRecursion (λ f. is_decided ix f ≡ true → value_in f d n ≡ True) fs
-parts_at ix d n e same [] h = tt
-parts_at ix d n e same (f ∷ fs) h = (λ decided. same f ∙ h.0 decided, parts_at ix d n e same fs h.1)
+parts_at ix d n m e same [] h = tt
+parts_at ix d n m e same (f ∷ fs) h = (λ decided. same f ∙ h.0 decided, parts_at ix d n m e same fs h.1)
 
 -- they leave few open
 leaves : (ix : List Kinds) (b : BoundFilter) (d : List Entered) (must may : Plan) → SetsAreOfEntries → AreNumbered (listed_of d)
-    → BoundsSets ix (λ e. bound_value e b) True (is_decided ix b) must may
-    → ((v : Vec BoundFilter Global) → b ≡ bound.And v → (e : List KeyedAttribute) → holds ix e may ≡ true → DecidedAreTrue ix e v.items)
+    → ((m : List RdnModel) → BoundsSets ix (λ e. bound_value m e b) True (is_decided ix b) must may)
+    → ((v : Vec BoundFilter Global) → b ≡ bound.And v → (m : List RdnModel) (e : List KeyedAttribute) → holds ix e may ≡ true → DecidedAreTrue ix m e v.items)
     → ((e : List KeyedAttribute) → holds ix e may ≡ true → has_runs_for ix e b ≡ true)
     → (ks : List ℕ) → AreNumbersOf ks d
     → LeavesFew (is_open (is_in (postings_of ix (listed_of d)) ks must) (is_in (postings_of ix (listed_of d)) ks may)) ix b d ks
@@ -110,18 +114,18 @@ leaves ix b d must may agree num sets parts runs ks sel =
     record {
       decided = λ yes_it_is n h.
           let x : IsEntryOf d n = entry_here ks d sel n h in
-          closed (is_in lists ks must n) (is_in lists ks may n) ((sets es ks n x.entry.entry num x.listed h).exact yes_it_is);
+          closed (is_in lists ks must n) (is_in lists ks may n) ((sets x.entry.name es ks n x.entry.entry num x.listed h).exact yes_it_is);
       parts = λ v is n h o.
           let x : IsEntryOf d n = entry_here ks d sel n h in
-          parts_at ix d n x.entry.entry (λ f. ap (value_on f) x.found) v.items (parts v is x.entry.entry (held n x h o));
+          parts_at ix d n x.entry.name x.entry.entry (λ f. ap (value_on f) x.found) v.items (parts v is x.entry.name x.entry.entry (held n x h o));
       runs = λ n h o.
           let x : IsEntryOf d n = entry_here ks d sel n h in
           ap (has_runs_on ix b) x.found ∙ runs x.entry.entry (held n x h o);
     }
 
 pub leaves_few : (x : Lists) (ix : List Kinds) (b : BoundFilter) (d : List Entered) (must may : Plan) → SetsAreOfEntries → ArePostingsOf x ix (listed_of d)
-    → BoundsSets ix (λ e. bound_value e b) True (is_decided ix b) must may
-    → ((v : Vec BoundFilter Global) → b ≡ bound.And v → (e : List KeyedAttribute) → holds ix e may ≡ true → DecidedAreTrue ix e v.items)
+    → ((m : List RdnModel) → BoundsSets ix (λ e. bound_value m e b) True (is_decided ix b) must may)
+    → ((v : Vec BoundFilter Global) → b ≡ bound.And v → (m : List RdnModel) (e : List KeyedAttribute) → holds ix e may ≡ true → DecidedAreTrue ix m e v.items)
     → ((e : List KeyedAttribute) → holds ix e may ≡ true → has_runs_for ix e b ≡ true)
     → (ks : List ℕ) → AreNumbersOf ks d → LeavesFew (is_open (is_in x ks must) (is_in x ks may)) ix b d ks
 leaves_few x ix b d must may agree are sets parts runs ks sel =

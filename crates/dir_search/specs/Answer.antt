@@ -31,7 +31,7 @@ is_true Undefined = false
 
 -- whether a filter's value on an entry is True (RFC 4511 4.5.1.7)
 abbrev pub is_match : SchemaModel → Tree → NamedEntry → Bool
-is_match s f e = is_true (filter_value s f e.attributes)
+is_match s f e = is_true (filter_value s f e.name e.attributes)
 
 -- the entries in scope, in order of number
 abbrev pub in_scope : Directory → Scope → List RdnModel → List NamedEntry
@@ -52,7 +52,7 @@ refused r = record { code = r.code; matched = r.matched; entries = [] }
 
 -- the root DSE, where the filter's value on it is True (RFC 4512 5.1)
 abbrev pub dse_matching : Directory → SearchRequestValue → List SearchResultEntryValue
-dse_matching d q = cond (is_true (filter_value d.schema q.filter (dse_attributes d.schema))) (dse_selected d q.attributes q.types_only ∷ []) []
+dse_matching d q = cond (is_true (filter_value d.schema q.filter [] (dse_attributes d.schema))) (dse_selected d q.attributes q.types_only ∷ []) []
 
 abbrev pub is_empty : List RdnModel → Bool
 is_empty [] = true

@@ -22,7 +22,7 @@ use Rattle.dir_search.specs.Scopes.{is_in_scope}
 -- the value of a bound filter on an entry; Undefined, where there is none
 abbrev pub value_on : BoundFilter → Option Entered → Truth
 value_on b None = Undefined
-value_on b (Some e) = bound_value e.entry b
+value_on b (Some e) = bound_value e.name e.entry b
 
 -- the value of a bound filter on the entry of a number
 abbrev pub value_in : BoundFilter → List Entered → ℕ → Truth

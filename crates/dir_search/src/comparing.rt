@@ -86,7 +86,8 @@ fn compare_type(
         return Ok(ResultCode::NO_SUCH_ATTRIBUTE);
     }
     let bound = bind(alloc, schema, &equality(alloc, ava)?)?;
-    Ok(code_of(value(&bound, entry)))
+    let unnamed = Name::from_rdns(Vec::new(alloc));
+    Ok(code_of(value(&bound, entry, &unnamed)))
 }
 
 /// The code of an assertion on an entry.

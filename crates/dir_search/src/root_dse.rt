@@ -13,7 +13,7 @@ use crate::found::SearchAnswer;
 use crate::resolving::Selection;
 use crate::searching::matches;
 use crate::selecting::show_selected;
-use dir_store::{Entry, EntryError, Schema, Store, TypeId};
+use dir_store::{Entry, EntryError, Name, Schema, Store, TypeId};
 use ldap_eval::bind;
 use ldap_msg::{PartialAttribute, ResultCode, SearchRequest, SearchResultEntry};
 use std::alloc::{AllocError, Global};
@@ -180,7 +180,8 @@ pub fn show_root(
     let entry = root_entry(alloc, store.schema())?;
     let bound = bind(alloc, store.schema(), &request.filter)?;
     let mut entries = Vec::new(alloc);
-    if matches(&bound, &entry) {
+    let unnamed = Name::from_rdns(Vec::new(alloc));
+    if matches(&bound, &entry, &unnamed) {
         entries.push(shown_root(alloc, store, &entry, request)?)?;
     }
     Ok(SearchAnswer {

@@ -37,12 +37,12 @@ use plan_compile::{Sided, compile, sets_are_of_entries};
 use plan_run::start;
 use std::alloc::{AllocError, Global};
 
-/// Whether a filter is True on an entry.
-pub fn matches(bound: &BoundFilter, entry: &Entry) -> bool
+/// Whether a filter is True on an entry of a name.
+pub fn matches(bound: &BoundFilter, entry: &Entry, name: &Name) -> bool
     ensures { (s : SchemaModel) (t : FilterTree) → IsBoundTo s t bound.now → IsKeyedBy s entry.now
-        → result ≡ is_true (filter_value s t (attributes_of entry.now)) }
+        → result ≡ is_true (filter_value s t name.now (attributes_of entry.now)) }
 {
-    match value(bound, entry) {
+    match value(bound, entry, name) {
         Truth::True => true,
         Truth::False | Truth::Undefined => false,
     }

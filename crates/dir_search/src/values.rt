@@ -23,7 +23,7 @@ impl Values for Evaluated<'_> {
     fn value(&mut self, number: u64) -> Truth {
         self.looks += 1;
         match self.tree.entry(number) {
-            Some(held) => value(self.bound, &held.entry),
+            Some(held) => value(self.bound, &held.entry, &held.name),
             None => Truth::Undefined,
         }
     }

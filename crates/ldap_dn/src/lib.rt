@@ -18,6 +18,7 @@ pub use comparing::is_front;
 pub use cutting::pieces_are_parted;
 pub use fault::NameError;
 pub use keying::name_keys_are_of_names;
+pub use ldap_forms::{Form, equality_family, is_used_on, meets, ordering_family, texts_tell};
 pub use ldap_schema::{
     ClassId, ClassKind, Family, Key, Part, Rule, Schema, Syntax, TypeId, ValueError, equality_rule,
     has_ordering, has_substrings, is_identifier, is_in_syntax, is_meaningful, key, keys_compare,

@@ -1,9 +1,13 @@
 // Relative names. Types, values and keys flow in; they, and a comparison, flow out.
 // What must not be here: texts, whole names.
 
-ghost use Rattle.std.specs.Prelude.{◌≡◌, IfOk};
+ghost use Rattle.std.specs.Prelude.{◌≡◌, IfOk, string_bytes};
+ghost use Rattle.std.specs.Option.{option_copied};
+ghost use Rattle.ldap_forms.specs.Forms.{form_of};
+ghost use Rattle.ldap_dn.specs.Pairs.{key_for};
 ghost use Rattle.ldap_dn.specs.Rising.{KeysAreRising};
 
+use ldap_forms::Form;
 use ldap_schema::{Key, TypeId};
 use std::alloc::{AllocError, Global};
 use std::marker::Model;
@@ -13,6 +17,8 @@ use std::marker::Model;
 pub struct TypeAndValue {
     pub(crate) type_id: TypeId,
     pub(crate) value: String,
+    /// The value's texts.
+    pub(crate) form: Form,
 }
 
 impl Model for TypeAndValue {
@@ -22,6 +28,11 @@ impl Model for TypeAndValue {
     ghost Value = { names.TypeAndValue };
 
     ghost view = { λ t. record { kind = t.type_id; value = string_bytes t.value } };
+
+    ghost use Rattle.std.specs.Prelude.{◌≡◌};
+    ghost use Rattle.ldap_forms.specs.Forms.{form_of};
+
+    ghost invariant = { λ t. t.form ≡ form_of (string_bytes t.value) };
 }
 
 impl TypeAndValue {
@@ -38,6 +49,25 @@ impl TypeAndValue {
     {
         self.value.as_str()
     }
+
+    /// The texts of the value, by which it is compared under rules that its type may lack.
+    pub fn form(&self) -> &Form
+        ensures { result.now ≡ form_of self.now.value }
+    {
+        &self.form
+    }
+}
+
+/// A type with its value, and the value's texts.
+pub fn written_of(alloc: Global, type_id: TypeId, value: String) -> Result<TypeAndValue, AllocError>
+    ensures { IfOk result (λ v. v ≡ record { kind = type_id; value = string_bytes value }) }
+{
+    let form = Form::new(alloc, value.as_bytes())?;
+    Ok(TypeAndValue {
+        type_id,
+        value,
+        form,
+    })
 }
 
 /// A type, and the key of a value of it under the type's EQUALITY rule.
@@ -72,16 +102,24 @@ impl Model for Rdn {
     ghost view = { λ r. record { keys = r.keys.items; spelling = r.spelling.items } };
 }
 
+/// A copy of a type with a value.
+fn copy_written(alloc: Global, written: &TypeAndValue) -> Result<TypeAndValue, AllocError>
+    ensures { IfOk result (λ v. v ≡ written.now) }
+{
+    Ok(TypeAndValue {
+        type_id: written.type_id,
+        value: written.value.clone()?,
+        form: written.form.copy(alloc)?,
+    })
+}
+
 /// A copy of types with values.
 fn copy_spelling(alloc: Global, spelling: &[TypeAndValue]) -> Result<Vec<TypeAndValue>, AllocError>
     ensures { IfOk result (λ v. v.items ≡ spelling.now) }
 {
     let mut copy = Vec::with_capacity(alloc, spelling.len())?;
     for written in spelling {
-        copy.push(TypeAndValue {
-            type_id: written.type_id,
-            value: written.value.clone()?,
-        })?;
+        copy.push(copy_written(alloc, written)?)?;
     }
     Ok(copy)
 }
@@ -135,6 +173,25 @@ impl Rdn {
     {
         self.spelling.as_slice()
     }
+
+    /// The key of the value of a type under the type's EQUALITY rule; none, where it has none of the type.
+    pub fn key_for(&self, type_id: TypeId) -> Option<&Key>
+        ensures { option_copied result ≡ key_for type_id self.now.keys }
+    {
+        key_among(type_id, self.keys.as_slice())
+    }
+}
+
+/// The key beside a type.
+fn key_among(type_id: TypeId, keys: &[TypeAndKey]) -> Option<&Key>
+    ensures { option_copied result ≡ key_for type_id keys.now }
+{
+    for key in keys {
+        if key.type_id.number() == type_id.number() {
+            return Some(&key.key);
+        }
+    }
+    None
 }
 
 /// The types with their keys of a relative name that is read stand in rising order, each type once: they are a set.

@@ -8,7 +8,7 @@ ghost use Rattle.ldap_dn.specs.Texts as texts;
 
 use crate::cutting::{is_plain, is_space, is_unescaped, octet_of, pieces, trimmed};
 use crate::fault::NameError;
-use crate::rdn::{Rdn, TypeAndKey, TypeAndValue};
+use crate::rdn::{Rdn, TypeAndKey, TypeAndValue, written_of};
 use crate::token::Token;
 use ldap_schema::{Family, Key, Rule, Schema, TypeId, ValueError, equality_rule, key};
 use std::alloc::{AllocError, Global};
@@ -115,7 +115,7 @@ fn type_and_value(
     };
     let type_id = type_of(alloc, schema, trimmed(&tokens[..at]))?;
     let value = value_of(alloc, trimmed(&tokens[at + 1..]))?;
-    Ok(TypeAndValue { type_id, value })
+    Ok(written_of(alloc, type_id, value)?)
 }
 
 /// The types and values that the pieces spell, in their order.

@@ -9,43 +9,47 @@ use Rattle.dir_entry.specs.ldap_match.Truth.{truth_or, disjunction}
 use Rattle.dir_entry.specs.ldap_match.Item.{Item, item_on_attribute}
 use Rattle.dir_entry.specs.ldap_match.Keyed.{test_for, test_value, AreKeysOf}
 use Rattle.dir_entry.specs.ldap_match.declared.truth.Truth.{Truth}
-use Rattle.dir_entry.specs.ldap_match.declared.truth.Truth.TheVariants.{False}
+use Rattle.dir_entry.specs.ldap_match.declared.truth.Truth.TheVariants.{False, Undefined}
+use Rattle.dir_entry.specs.ldap_dn.Names.{RdnModel}
 use Rattle.dir_entry.specs.Entry.{AttributeModel, KeyedAttribute, shown, attributes_of, IsKeyedBy}
 use Rattle.ldap_eval.specs.Value.{attributes_under}
 use Rattle.ldap_eval.specs.Bound.{leaf_on, leaf_value, value_step, bound_value, leaf_if, leaves_from}
 use Rattle.ldap_eval.specs.declared.bound.Leaf.{Leaf}
 use Rattle.ldap_eval.specs.declared.bound.BoundFilter.{BoundFilter}
 use Rattle.ldap_eval.specs.declared.bound.BoundFilter.TheVariants as bound
-use Rattle.ldap_eval.specs.declared.bound.BoundFilter.TheVariants.{rolls-Leaf, rolls-Or}
+use Rattle.ldap_eval.specs.declared.bound.BoundFilter.TheVariants.{rolls-Leaf, rolls-Or, rolls-Undefined}
 use Rattle.ldap_eval.specs.declared.bound.BoundFilter.TheOpen.{BoundFilter-F}
 use Rattle.ldap_eval.specs.declared.bound.BoundFilter.TheFolds.{fold-roll-BoundFilter}
 use Rattle.ldap_eval.proofs.Truths.{or_false, or_swap}
 
-pub value-Leaf : (e : List KeyedAttribute) (leaf : Leaf) → bound_value e (bound.Leaf leaf) ≡ leaf_value e leaf
-value-Leaf e leaf = ap (bound_value e) (sym (rolls-Leaf leaf)) ∙ fold-roll-BoundFilter Truth (value_step e) (BoundFilter-F.Leaf leaf)
+pub value-Leaf : (n : List RdnModel) (e : List KeyedAttribute) (leaf : Leaf) → bound_value n e (bound.Leaf leaf) ≡ leaf_value e leaf
+value-Leaf n e leaf = ap (bound_value n e) (sym (rolls-Leaf leaf)) ∙ fold-roll-BoundFilter Truth (value_step n e) (BoundFilter-F.Leaf leaf)
 
-pub value-Or : (e : List KeyedAttribute) (v : Vec BoundFilter Global) → bound_value e (bound.Or v) ≡ disjunction (map (bound_value e) v.items)
-value-Or e v = ap (bound_value e) (sym (rolls-Or v)) ∙ fold-roll-BoundFilter Truth (value_step e) (BoundFilter-F.Or v)
+pub value-Or : (n : List RdnModel) (e : List KeyedAttribute) (v : Vec BoundFilter Global) → bound_value n e (bound.Or v) ≡ disjunction (map (bound_value n e) v.items)
+value-Or n e v = ap (bound_value n e) (sym (rolls-Or v)) ∙ fold-roll-BoundFilter Truth (value_step n e) (BoundFilter-F.Or v)
 
-same_number : (n : ℕ) → nat_eq n n ≡ true
+pub value-Undefined : (n : List RdnModel) (e : List KeyedAttribute) → bound_value n e bound.Undefined ≡ Undefined
+value-Undefined n e = ap (bound_value n e) (sym rolls-Undefined) ∙ fold-roll-BoundFilter Truth (value_step n e) BoundFilter-F.Undefined
+
+pub same_number : (n : ℕ) → nat_eq n n ≡ true
 same_number n = grind (arith, nat_tests)
 
-is_number : (m n : ℕ) → nat_eq m n ≡ true → m ≡ n
+pub is_number : (m n : ℕ) → nat_eq m n ≡ true → m ≡ n
 is_number m n h = grind (arith, nat_tests, h)
 
-is_other : (m n : ℕ) → nat_eq m n ≡ false → m ≢ n
+pub is_other : (m n : ℕ) → nat_eq m n ≡ false → m ≢ n
 is_other m n h = grind (arith, nat_tests, h)
 
-less_is_other : (m n : ℕ) → m < n → nat_eq m n ≡ false
+pub less_is_other : (m n : ℕ) → m < n → nat_eq m n ≡ false
 less_is_other m n h = grind (arith, nat_tests, h)
 
-more_is_other : (m n : ℕ) → n < m → nat_eq m n ≡ false
+pub more_is_other : (m n : ℕ) → n < m → nat_eq m n ≡ false
 more_is_other m n h = grind (arith, nat_tests, h)
 
-is_less : (m n : ℕ) → nat_lt m n ≡ true → m < n
+pub is_less : (m n : ℕ) → nat_lt m n ≡ true → m < n
 is_less m n h = grind (arith, nat_tests, h)
 
-is_not_less : (m n : ℕ) → nat_lt m n ≡ false → n ≤ m
+pub is_not_less : (m n : ℕ) → nat_lt m n ≡ false → n ≤ m
 is_not_less m n h = grind (arith, nat_tests, h)
 
 no_superiors : (k : ℕ) (ts : List TypeModel) (u : ℕ) → length ts ≤ u → superiors k ts u ≡ []
@@ -53,7 +57,7 @@ no_superiors zero ts u h = refl
 no_superiors (suc k) ts u h = ap (λ (o : Option ℕ). led o (λ v. superiors k ts v)) (ap superior_in (slice_get_past ts u h))
 
 -- a number that is no type's is under no type
-strange_is_not_under : (s : SchemaModel) (u t : ℕ) → t < length s.types → length s.types ≤ u → is_under s u t ≡ false
+pub strange_is_not_under : (s : SchemaModel) (u t : ℕ) → t < length s.types → length s.types ≤ u → is_under s u t ≡ false
 strange_is_not_under s u t lt h =
     ap₂ (λ (x : Bool) (us : List ℕ). x || list_any (λ v. nat_eq v t) us) (more_is_other u t (omega (arith, lt, h))) (no_superiors (length s.types) s.types u h)
 
@@ -89,13 +93,13 @@ module _ (s : SchemaModel) (item : Item) (t : ℕ) where
   leaves_on a [] i = False
   leaves_on a (x ∷ xs) i = or_if (is_under s i t) (leaf_on (leaf_at i) a) (leaves_on a xs (i + 1))
 
-  valued_if : (e : List KeyedAttribute) (b : Bool) (i : ℕ) (rest : List BoundFilter) → disjunction (map (bound_value e) (leaf_if b (bound.Leaf (leaf_at i)) rest)) ≡ or_if b (leaf_value e (leaf_at i)) (disjunction (map (bound_value e) rest))
-  valued_if e true i rest = ap (λ (x : Truth). truth_or x (disjunction (map (bound_value e) rest))) (value-Leaf e (leaf_at i))
-  valued_if e false i rest = refl
+  valued_if : (n : List RdnModel) (e : List KeyedAttribute) (b : Bool) (i : ℕ) (rest : List BoundFilter) → disjunction (map (bound_value n e) (leaf_if b (bound.Leaf (leaf_at i)) rest)) ≡ or_if b (leaf_value e (leaf_at i)) (disjunction (map (bound_value n e) rest))
+  valued_if n e true i rest = ap (λ (x : Truth). truth_or x (disjunction (map (bound_value n e) rest))) (value-Leaf n e (leaf_at i))
+  valued_if n e false i rest = refl
 
-  pub leaves_valued : (e : List KeyedAttribute) (xs : List TypeModel) (i : ℕ) → disjunction (map (bound_value e) (leaves_from s item t xs i)) ≡ leaves_value e xs i
-  leaves_valued e [] i = refl
-  leaves_valued e (x ∷ xs) i = valued_if e (is_under s i t) i (leaves_from s item t xs (i + 1)) ∙ ap (or_if (is_under s i t) (leaf_value e (leaf_at i))) (leaves_valued e xs (i + 1))
+  pub leaves_valued : (n : List RdnModel) (e : List KeyedAttribute) (xs : List TypeModel) (i : ℕ) → disjunction (map (bound_value n e) (leaves_from s item t xs i)) ≡ leaves_value e xs i
+  leaves_valued n e [] i = refl
+  leaves_valued n e (x ∷ xs) i = valued_if n e (is_under s i t) i (leaves_from s item t xs (i + 1)) ∙ ap (or_if (is_under s i t) (leaf_value e (leaf_at i))) (leaves_valued n e xs (i + 1))
 
   none_if : (b : Bool) (r : Truth) → r ≡ False → or_if b False r ≡ False
   none_if true r h = h

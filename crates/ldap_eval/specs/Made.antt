@@ -1,13 +1,17 @@
 -- What a bound filter is made of. A schema and a filter's tree flow in, a statement flows out. Only the plans that are made of bound filters,
 -- and those who count what they leave open, look at it.
-use Rattle.std.specs.Prelude.{◌≡◌, ℕ, List, [], ◌∷◌, true, false, Option, None, Some, Vec, Box}
+use Rattle.std.specs.Prelude.{◌≡◌, ℕ, List, [], ◌∷◌, Bool, true, false, not, cond, ◌&&◌, Option, None, Some, is_some, Vec, Box}
 use Rattle.std.specs.Global.{Global}
 use Rattle.dir_entry.specs.ldap_schema.Schema.{SchemaModel, find}
-use Rattle.dir_entry.specs.ldap_match.Item.{Item, present, substrings, is_answerable}
+use Rattle.dir_entry.specs.ldap_match.Item.{Item, present, equal, substrings, is_answerable}
+use Rattle.dir_entry.specs.ldap_match.declared.naming_rules.How.{How}
+use Rattle.dir_entry.specs.ldap_match.declared.naming_rules.How.TheVariants as how
+use Rattle.dir_entry.specs.ldap_schema.Rules.{equality_of}
 use Rattle.ldap_filter.specs.Item as filter_item
+use Rattle.ldap_filter.specs.Item.{ExtensibleValue}
 use Rattle.ldap_filter.specs.Tree.{Tree, conj, disj, negation, item, Trees, no_trees, tree}
-use Rattle.ldap_eval.specs.Value.{asked_by, parts_of}
-use Rattle.ldap_eval.specs.Bound.{leaves_for, IsBoundTo}
+use Rattle.ldap_eval.specs.Value.{asked_by, parts_of, how_of, type_of, is_matched}
+use Rattle.ldap_eval.specs.Bound.{leaves_for, matches_with, IsBoundTo}
 use Rattle.ldap_eval.specs.declared.bound.BoundFilter.{BoundFilter}
 use Rattle.ldap_eval.specs.declared.bound.BoundFilter.TheVariants as bound
 
@@ -39,12 +43,41 @@ abbrev pub IsItemFor : SchemaModel → Item → Option ℕ → BoundFilter → T
 IsItemFor s asked None b = b ≡ bound.Undefined
 IsItemFor s asked (Some t) b = IsItemOn s asked t b
 
--- an item of a filter; an extensible one is Undefined
+-- a type with an EQUALITY rule, where the name is not asked for
+abbrev pub type_with_equality : SchemaModel → Bool → Option ℕ → Option ℕ
+type_with_equality s in_name None = None
+type_with_equality s in_name (Some t) = cond (not in_name && is_some (equality_of s t)) (Some t) None
+
+-- Whether an extensible item is an equality item: it names a type and no rule, does not ask for the name's pairs, and the type has an EQUALITY rule.
+abbrev pub is_equality_item : SchemaModel → ExtensibleValue → Option How → Option (Option ℕ) → Bool
+is_equality_item s x (Some how.Own) (Some t) = is_some (type_with_equality s x.dn_attributes t)
+is_equality_item s x h t = false
+
+-- an extensible item that can be matched is the `or` of its matches, one for each type that it looks at; Undefined, where it can't
+pub record IsMatchOn (s : SchemaModel) (h : How) (t : Option ℕ) (a : List ℕ) (dn : Bool) (b : BoundFilter) : Type 0 where
+  pub matched : is_matched s h t a ≡ true → IsOrOf (λ bs. bs ≡ matches_with s h t a dn) b
+  pub unmatched : is_matched s h t a ≡ false → b ≡ bound.Undefined
+
+abbrev pub own_type : Option (Option ℕ) → Option ℕ
+own_type None = None
+own_type (Some t) = t
+
+abbrev pub IsMatchFor : SchemaModel → ExtensibleValue → Option How → Option (Option ℕ) → BoundFilter → Type 0
+IsMatchFor s x None t b = b ≡ bound.Undefined
+IsMatchFor s x (Some h) None b = b ≡ bound.Undefined
+IsMatchFor s x (Some h) (Some t) b = IsMatchOn s h t x.match_value x.dn_attributes b
+
+-- an extensible item: the equality item that it is, else its matches
+pub record IsExtensible (s : SchemaModel) (x : ExtensibleValue) (h : Option How) (t : Option (Option ℕ)) (b : BoundFilter) : Type 0 where
+  pub equality : is_equality_item s x h t ≡ true → IsItemFor s (equal x.match_value) (own_type t) b
+  pub residual : is_equality_item s x h t ≡ false → IsMatchFor s x h t b
+
+-- an item of a filter
 abbrev pub IsMadeOfItem : SchemaModel → filter_item.Item → BoundFilter → Type 0
 IsMadeOfItem s (filter_item.comparison k d a) b = IsItemFor s (asked_by k a) (find s d) b
 IsMadeOfItem s (filter_item.substrings x) b = IsItemFor s (substrings (parts_of x)) (find s x.description) b
 IsMadeOfItem s (filter_item.presence d) b = IsItemFor s present (find s d) b
-IsMadeOfItem s (filter_item.extensible x) b = b ≡ bound.Undefined
+IsMadeOfItem s (filter_item.extensible x) b = IsExtensible s x (how_of x.matching_rule) (type_of s x.description) b
 
 abbrev mutual
   -- A bound filter is made of a filter, part by part: an `and`, an `or` and a negation of what their parts make, and items.

@@ -1,15 +1,22 @@
--- The three-valued value of a filter on an entry: RFC 4511 4.5.1.7. A schema, a filter's tree and an entry's attributes
--- flow in, a truth flows out; keys, indexes and memory are not here.
-use Rattle.std.specs.Prelude.{ℕ, List, cond, Option, None, Some, filter, map}
+-- The three-valued value of a filter on an entry: RFC 4511 4.5.1.7. A schema, a filter's tree, an entry's name and its
+-- attributes flow in, a truth flows out; indexes and memory are not here.
+use Rattle.std.specs.Prelude.{ℕ, List, Bool, false, cond, Option, None, Some, is_some, filter, map}
+use Rattle.std.specs.List.{list_any}
 use Rattle.dir_entry.specs.ldap_schema.Schema.{SchemaModel, find, is_under}
 use Rattle.dir_entry.specs.ldap_match.Truth.{truth_and, truth_or, truth_not, disjunction}
 use Rattle.dir_entry.specs.ldap_match.Parts.{PartsModel}
-use Rattle.dir_entry.specs.ldap_match.Item.{Item, present, equal, at_least, at_most, substrings, is_answerable, item_on_attribute}
+use Rattle.dir_entry.specs.ldap_match.Item.{Item, present, equal, at_least, at_most, substrings, is_answerable, item_on_attribute, is_of_syntax, is_valid_by}
+use Rattle.dir_entry.specs.ldap_match.Matching.{named_rule, supported_in, rule_for, match_on_values, match_on_pair}
+use Rattle.dir_entry.specs.ldap_match.declared.naming_rules.How.{How}
+use Rattle.dir_entry.specs.ldap_match.declared.naming_rules.How.TheVariants as how
+use Rattle.dir_entry.specs.ldap_match.declared.naming_rules.NamedRule.{NamedRule}
+use Rattle.dir_entry.specs.ldap_dn.Names.{RdnModel}
+use Rattle.dir_entry.specs.ldap_dn.Pairs.{PairModel, pairs_of}
 use Rattle.dir_entry.specs.ldap_match.declared.truth.Truth.{Truth}
 use Rattle.dir_entry.specs.ldap_match.declared.truth.Truth.TheVariants.{True, False, Undefined}
 use Rattle.dir_entry.specs.Entry.{AttributeModel}
 use Rattle.ldap_filter.specs.Item as filter_item
-use Rattle.ldap_filter.specs.Item.{Comparison, SubstringsValue}
+use Rattle.ldap_filter.specs.Item.{Comparison, SubstringsValue, ExtensibleValue}
 use Rattle.ldap_filter.specs.Tree.{Tree, conj, disj, negation, item, Trees, no_trees, tree}
 
 -- the attributes of a type and of its subtypes (RFC 4512 2.5.1)
@@ -40,27 +47,84 @@ asked_by filter_item.at_least a = at_least a
 asked_by filter_item.at_most a = at_most a
 asked_by filter_item.approximate a = equal a
 
--- An item of a filter on an entry; an extensible one is Undefined, since no rule by name is recognised (RFC 4511 4.5.1.7.7).
-abbrev pub wire_item_value : SchemaModel → filter_item.Item → List AttributeModel → Truth
-wire_item_value s (filter_item.comparison k d a) e = item_value s d (asked_by k a) e
-wire_item_value s (filter_item.substrings x) e = item_value s x.description (substrings (parts_of x)) e
-wire_item_value s (filter_item.presence d) e = item_value s d present e
-wire_item_value s (filter_item.extensible x) e = Undefined
+-- ---- extensible items (RFC 4511 4.5.1.7.7)
+
+abbrev pub named_how : Option NamedRule → Option How
+named_how None = None
+named_how (Some r) = Some (how.Named r)
+
+-- how an item compares values: by the type's own rule, where it names none; nothing, where what it names is no equality or ordering rule
+abbrev pub how_of : Option (List ℕ) → Option How
+how_of None = Some how.Own
+how_of (Some word) = named_how (named_rule word)
+
+abbrev pub some_type : Option ℕ → Option (Option ℕ)
+some_type None = None
+some_type (Some t) = Some (Some t)
+
+-- the type that an item names, or that it names none; nothing, where the description is not recognised
+abbrev pub type_of : SchemaModel → Option (List ℕ) → Option (Option ℕ)
+type_of s None = Some None
+type_of s (Some d) = some_type (find s d)
+
+-- Whether an item can be matched: with a type, the type supports the rule, and the assertion is in its syntax; with a rule alone, some type of the
+-- schema supports it that has the assertion in its syntax; with neither, it can not.
+abbrev pub is_matched : SchemaModel → How → Option ℕ → List ℕ → Bool
+is_matched s how.Own None a = false
+is_matched s how.Own (Some t) a = is_of_syntax s t a
+is_matched s (how.Named r) None a = list_any (λ t. is_valid_by s (supported_in (Some t) r.family) a) s.types
+is_matched s (how.Named r) (Some t) a = is_valid_by s (rule_for s (how.Named r) t) a
+
+-- whether an item looks at attributes of this type: those of its type and of the subtypes; without a type, those whose type supports the rule
+abbrev pub is_looked_at : SchemaModel → How → Option ℕ → ℕ → Bool
+is_looked_at s h None u = is_some (rule_for s h u)
+is_looked_at s h (Some t) u = is_under s u t
+
+-- the `or` of an item over the attributes that it looks at
+abbrev pub match_on_entry : SchemaModel → How → Option ℕ → List ℕ → List AttributeModel → Truth
+match_on_entry s h t a e = disjunction (map (λ x. match_on_values s h a x.kind x.values) (filter (λ x. is_looked_at s h t x.kind) e))
+
+-- the same over the pairs of a name, each as one more attribute
+abbrev pub match_on_name : SchemaModel → How → Option ℕ → List ℕ → List RdnModel → Truth
+match_on_name s h t a n = disjunction (map (match_on_pair s h a) (filter (λ p. is_looked_at s h t p.kind) (pairs_of n)))
+
+abbrev pub match_with : SchemaModel → How → Option ℕ → List ℕ → Bool → List RdnModel → List AttributeModel → Truth
+match_with s h t a dn n e = cond (is_matched s h t a) (truth_or (match_on_entry s h t a e) (cond dn (match_on_name s h t a n) False)) Undefined
+
+abbrev pub match_of_type : SchemaModel → How → Option (Option ℕ) → ExtensibleValue → List RdnModel → List AttributeModel → Truth
+match_of_type s h None x n e = Undefined
+match_of_type s h (Some t) x n e = match_with s h t x.match_value x.dn_attributes n e
+
+abbrev pub match_by : SchemaModel → Option How → ExtensibleValue → List RdnModel → List AttributeModel → Truth
+match_by s None x n e = Undefined
+match_by s (Some h) x n e = match_of_type s h (type_of s x.description) x n e
+
+-- An extensible item on an entry: Undefined, where it can't be matched; else the `or` of the item on each attribute that it looks at and, if it asks
+-- for the name too, on each pair of the entry's name (RFC 4511 4.5.1.7.7).
+abbrev pub extensible_value : SchemaModel → ExtensibleValue → List RdnModel → List AttributeModel → Truth
+extensible_value s x n e = match_by s (how_of x.matching_rule) x n e
+
+-- an item of a filter on an entry
+abbrev pub wire_item_value : SchemaModel → filter_item.Item → List RdnModel → List AttributeModel → Truth
+wire_item_value s (filter_item.comparison k d a) n e = item_value s d (asked_by k a) e
+wire_item_value s (filter_item.substrings x) n e = item_value s x.description (substrings (parts_of x)) e
+wire_item_value s (filter_item.presence d) n e = item_value s d present e
+wire_item_value s (filter_item.extensible x) n e = extensible_value s x n e
 
 abbrev mutual
-  -- The value of a filter on an entry (RFC 4511 4.5.1.7).
-  pub filter_value : SchemaModel → Tree → List AttributeModel → Truth
-  filter_value s (conj ts) e = all_value s ts e
-  filter_value s (disj ts) e = any_value s ts e
-  filter_value s (negation t) e = truth_not (filter_value s t e)
-  filter_value s (item i) e = wire_item_value s i e
+  -- The value of a filter on an entry, by its name and its attributes (RFC 4511 4.5.1.7).
+  pub filter_value : SchemaModel → Tree → List RdnModel → List AttributeModel → Truth
+  filter_value s (conj ts) n e = all_value s ts n e
+  filter_value s (disj ts) n e = any_value s ts n e
+  filter_value s (negation t) n e = truth_not (filter_value s t n e)
+  filter_value s (item i) n e = wire_item_value s i n e
 
   -- the `and` of filters
-  pub all_value : SchemaModel → Trees → List AttributeModel → Truth
-  all_value s no_trees e = True
-  all_value s (tree t ts) e = truth_and (filter_value s t e) (all_value s ts e)
+  pub all_value : SchemaModel → Trees → List RdnModel → List AttributeModel → Truth
+  all_value s no_trees n e = True
+  all_value s (tree t ts) n e = truth_and (filter_value s t n e) (all_value s ts n e)
 
   -- the `or` of filters
-  pub any_value : SchemaModel → Trees → List AttributeModel → Truth
-  any_value s no_trees e = False
-  any_value s (tree t ts) e = truth_or (filter_value s t e) (any_value s ts e)
+  pub any_value : SchemaModel → Trees → List RdnModel → List AttributeModel → Truth
+  any_value s no_trees n e = False
+  any_value s (tree t ts) n e = truth_or (filter_value s t n e) (any_value s ts n e)

@@ -1,22 +1,29 @@
 // Binding a filter to a schema. A schema and a filter flow in; a bound filter, with the keys of its assertions made once,
 // flows out. What must not be here: entries.
 
-ghost use Rattle.std.specs.Prelude.{◌≡◌, IfOk};
+ghost use Rattle.std.specs.Prelude.{◌≡◌, ◌<◌, ◌++◌, ℕ, true, false, IfOk, OnOk, List, length, None, Some, string_bytes};
 ghost use Rattle.ldap_filter.specs.View.{view, views};
 ghost use Rattle.dir_entry.specs.ldap_match.Item.{is_answerable as is_answerable_item};
 ghost use Rattle.dir_entry.specs.ldap_match.Keyed.{test_for};
 ghost use Rattle.ldap_eval.specs.Asked.{item_of};
 ghost use Rattle.dir_entry.specs.ldap_schema.Schema.{find};
 ghost use Rattle.ldap_eval.specs.Bound.{IsBoundTo, AreBoundTo, IsBoundItem, leaves_for};
-ghost use Rattle.ldap_eval.specs.Made.{IsMadeOf, AreMadeOf, IsItemFor};
+ghost use Rattle.ldap_eval.specs.Made.{IsMadeOf, AreMadeOf, IsItemFor, IsItemOn, IsExtensible, IsMatchOn, is_equality_item, type_with_equality};
+ghost use Rattle.ldap_filter.specs.ItemView.{extensible_view};
+ghost use Rattle.ldap_eval.specs.Value.{how_of as how_of_name, type_of as type_of_name, is_matched as can_be_matched, is_looked_at as looks_at, item_on, match_with};
+ghost use Rattle.ldap_eval.specs.Bound.{IsBoundMatch, bound_value, matches_for, matches_with};
+ghost use Rattle.std.specs.Option.{option_map};
+ghost use Rattle.dir_entry.specs.ldap_dn.Names.{RdnModel};
+ghost use Rattle.dir_entry.specs.Entry.{KeyedAttribute, IsKeyedBy, attributes_of};
 
 use crate::asking::Asked;
-use crate::bound::{BoundFilter, Leaf};
+use crate::bound::{BoundFilter, Leaf, Match};
 use dir_entry::{
-    Schema, Test, TypeId, at_least_test, at_most_test, equality_test, has_parts_of, is_comparable,
-    is_ordered, substrings_test, tests_are_items,
+    How, NamedRule, Schema, Test, TypeId, at_least_test, at_most_test, equality_rule,
+    equality_test, has_parts_of, is_comparable, is_matchable, is_of_syntax, is_ordered, match_test,
+    matches_are_items, named_rule, rule_for, substrings_test, tests_are_items,
 };
-use ldap_filter::Filter;
+use ldap_filter::{Filter, MatchingRuleAssertion};
 use std::alloc::{AllocError, Global};
 
 /// The filter bound under the schema: `value` of it, on an entry that is keyed by the schema, is the filter's value.
@@ -71,7 +78,7 @@ pub fn bind(alloc: Global, schema: &Schema, filter: &Filter) -> Result<BoundFilt
         Filter::Present(description) => {
             bind_item(alloc, schema, description.as_str(), Asked::Presence)
         }
-        Filter::Extensible(_) => Ok(BoundFilter::Undefined),
+        Filter::Extensible(asked) => bind_extensible(alloc, schema, asked),
     }
 }
 
@@ -101,10 +108,24 @@ fn bind_item(
     ensures value { IfOk result (λ b. IsBoundItem schema.now description.now (item_of asked.entry) b) }
     ensures parts { IfOk result (λ b. IsItemFor schema.now (item_of asked.entry) (find schema.now description.now) b) }
 {
-    tests_are_items();
     let Some(type_id) = schema.find(description) else {
         return Ok(BoundFilter::Undefined);
     };
+    bind_on_type(alloc, schema, asked, type_id)
+}
+
+/// An item on a type, as an `or` of leaves; Undefined, where the type can't answer it.
+fn bind_on_type(
+    alloc: Global,
+    schema: &Schema,
+    asked: Asked,
+    type_id: TypeId,
+) -> Result<BoundFilter, AllocError>
+    ensures value { IfOk result (λ b. type_id < length schema.now.types → (n : List RdnModel) (e : List KeyedAttribute) → IsKeyedBy schema.now e
+        → bound_value n e b ≡ item_on schema.now (item_of asked.entry) (Some type_id) (attributes_of e)) }
+    ensures parts { IfOk result (λ b. IsItemOn schema.now (item_of asked.entry) type_id b) }
+{
+    tests_are_items();
     if !is_answerable(alloc, schema, asked, type_id)? {
         return Ok(BoundFilter::Undefined);
     }
@@ -182,5 +203,284 @@ fn item_test(
             &parts.any,
             &parts.last,
         ),
+    }
+}
+
+/// How an extensible item compares values; none, where it names what is no equality or ordering rule.
+fn how_of(rule: &Option<String>) -> Option<How>
+    ensures { result ≡ how_of_name (option_map string_bytes rule.now) }
+{
+    match rule {
+        Some(word) => match named_rule(word.as_bytes()) {
+            Some(named) => Some(How::Named(named)),
+            None => None,
+        },
+        None => Some(How::Own),
+    }
+}
+
+/// The type that an extensible item names, or that it names none; nothing, where the description is not recognised.
+fn type_of(schema: &Schema, description: &Option<String>) -> Option<Option<TypeId>>
+    ensures { result ≡ type_of_name schema.now (option_map string_bytes description.now) }
+{
+    match description {
+        Some(text) => match schema.find(text) {
+            Some(type_id) => Some(Some(type_id)),
+            None => None,
+        },
+        None => Some(None),
+    }
+}
+
+/// The type of an item that is an equality item: it names a type with an EQUALITY rule and no rule, and does not ask for the name.
+fn equality_type(
+    schema: &Schema,
+    asked: &MatchingRuleAssertion,
+    how: How,
+    asked_type: &Option<TypeId>,
+) -> Option<TypeId>
+    ensures some { (t : ℕ) → result ≡ Some t → (how ≡ How.Own) × (asked_type.now ≡ Some t)
+        × (is_equality_item schema.now (extensible_view asked.now) (Some how) (Some asked_type.now) ≡ true) }
+    ensures none { result ≡ None → is_equality_item schema.now (extensible_view asked.now) (Some how) (Some asked_type.now) ≡ false }
+{
+    match how {
+        How::Own => own_type(schema, asked.dn_attributes, asked_type),
+        How::Named(_) => None,
+    }
+}
+
+/// The type that is asked for, if it has an EQUALITY rule, and the name is not asked for.
+fn own_type(schema: &Schema, in_name: bool, asked_type: &Option<TypeId>) -> Option<TypeId>
+    ensures { result ≡ type_with_equality schema.now in_name asked_type.now }
+{
+    match asked_type {
+        Some(above) => {
+            if !in_name && equality_rule(schema, *above).is_some() {
+                Some(*above)
+            } else {
+                None
+            }
+        }
+        None => None,
+    }
+}
+
+/// Whether some type supports the rule, and has the assertion in its syntax.
+fn is_matched_somewhere(
+    alloc: Global,
+    schema: &Schema,
+    rule: NamedRule,
+    assertion: &[u8],
+) -> Result<bool, AllocError>
+    ensures { IfOk result (λ b. b ≡ can_be_matched schema.now (How.Named rule) None assertion.now) }
+{
+    for number in 0..schema.count_of_types() {
+        let type_id = TypeId::new(number);
+        if is_matchable(alloc, schema, How::Named(rule), type_id, assertion)? {
+            return Ok(true);
+        }
+    }
+    Ok(false)
+}
+
+/// Whether the item can be matched.
+fn is_matched(
+    alloc: Global,
+    schema: &Schema,
+    how: How,
+    asked_type: &Option<TypeId>,
+    assertion: &[u8],
+) -> Result<bool, AllocError>
+    ensures { IfOk result (λ b. b ≡ can_be_matched schema.now how asked_type.now assertion.now) }
+{
+    match asked_type {
+        Some(above) => is_matched_on(alloc, schema, how, *above, assertion),
+        None => is_matched_alone(alloc, schema, how, assertion),
+    }
+}
+
+/// Whether the item can be matched on a type.
+fn is_matched_on(
+    alloc: Global,
+    schema: &Schema,
+    how: How,
+    type_id: TypeId,
+    assertion: &[u8],
+) -> Result<bool, AllocError>
+    ensures { IfOk result (λ b. b ≡ can_be_matched schema.now how (Some type_id) assertion.now) }
+{
+    match how {
+        How::Own => is_of_syntax(alloc, schema, type_id, assertion),
+        How::Named(_) => is_matchable(alloc, schema, how, type_id, assertion),
+    }
+}
+
+/// Whether the item can be matched without a type.
+fn is_matched_alone(
+    alloc: Global,
+    schema: &Schema,
+    how: How,
+    assertion: &[u8],
+) -> Result<bool, AllocError>
+    ensures { IfOk result (λ b. b ≡ can_be_matched schema.now how None assertion.now) }
+{
+    match how {
+        How::Own => Ok(false),
+        How::Named(rule) => is_matched_somewhere(alloc, schema, rule, assertion),
+    }
+}
+
+/// Whether the item looks at attributes of a type.
+fn is_looked_at(schema: &Schema, how: How, asked_type: &Option<TypeId>, type_id: TypeId) -> bool
+    ensures { result ≡ looks_at schema.now how asked_type.now type_id }
+{
+    match asked_type {
+        Some(above) => schema.is_under(type_id, *above),
+        None => rule_for(schema, how, type_id).is_some(),
+    }
+}
+
+/// Puts a match for each type that the item looks at, on the attributes, or on the pairs of the name.
+fn push_matches(
+    alloc: Global,
+    schema: &Schema,
+    how: How,
+    asked_type: &Option<TypeId>,
+    assertion: &[u8],
+    in_name: bool,
+    matches: &mut Vec<BoundFilter>,
+) -> Result<(), AllocError>
+    ensures { OnOk result (matches.new.items ≡ matches.old.items ++ matches_for schema.now how asked_type.now assertion.now in_name) }
+{
+    for number in 0..schema.count_of_types() {
+        let type_id = TypeId::new(number);
+        if is_looked_at(schema, how, asked_type, type_id) {
+            let test = match_test(alloc, schema, how, type_id, assertion)?;
+            matches.push(BoundFilter::Match(Match {
+                type_id,
+                test,
+                in_name,
+            }))?;
+        }
+    }
+    Ok(())
+}
+
+/// A match for each type that the item looks at, on the attributes, and if the item asks for it on the pairs of the name too.
+fn matches(
+    alloc: Global,
+    schema: &Schema,
+    how: How,
+    asked_type: &Option<TypeId>,
+    assertion: &[u8],
+    dn_attributes: bool,
+) -> Result<Vec<BoundFilter>, AllocError>
+    ensures { IfOk result (λ v. v.items ≡ matches_with schema.now how asked_type.now assertion.now dn_attributes) }
+{
+    let mut matches = Vec::new(alloc);
+    push_matches(
+        alloc,
+        schema,
+        how,
+        asked_type,
+        assertion,
+        false,
+        &mut matches,
+    )?;
+    if dn_attributes {
+        push_matches(
+            alloc,
+            schema,
+            how,
+            asked_type,
+            assertion,
+            true,
+            &mut matches,
+        )?;
+    }
+    Ok(matches)
+}
+
+/// An extensible item that is no equality item, as an `or` of matches; Undefined, where it can't be matched.
+fn bind_match(
+    alloc: Global,
+    schema: &Schema,
+    how: How,
+    asked_type: &Option<TypeId>,
+    assertion: &[u8],
+    dn_attributes: bool,
+) -> Result<BoundFilter, AllocError>
+    ensures value { IfOk result (λ b. ((t : ℕ) → asked_type.now ≡ Some t → t < length schema.now.types) → (n : List RdnModel) (e : List KeyedAttribute)
+        → IsKeyedBy schema.now e → bound_value n e b ≡ match_with schema.now how asked_type.now assertion.now dn_attributes n (attributes_of e)) }
+    ensures parts { IfOk result (λ b. IsMatchOn schema.now how asked_type.now assertion.now dn_attributes b) }
+{
+    matches_are_items();
+    if !is_matched(alloc, schema, how, asked_type, assertion)? {
+        return Ok(BoundFilter::Undefined);
+    }
+    Ok(BoundFilter::Or(matches(alloc, schema, how, asked_type, assertion, dn_attributes)?))
+}
+
+/// An extensible item whose rule and type are known.
+fn bind_known(
+    alloc: Global,
+    schema: &Schema,
+    asked: &MatchingRuleAssertion,
+    how: How,
+    asked_type: &Option<TypeId>,
+) -> Result<BoundFilter, AllocError>
+    ensures value { IfOk result (λ b. how_of_name (extensible_view asked.now).matching_rule ≡ Some how
+        → type_of_name schema.now (extensible_view asked.now).description ≡ Some asked_type.now → IsBoundMatch schema.now (extensible_view asked.now) b) }
+    ensures parts { IfOk result (λ b. IsExtensible schema.now (extensible_view asked.now) (Some how) (Some asked_type.now) b) }
+{
+    match equality_type(schema, asked, how, asked_type) {
+        Some(above) => bind_on_type(
+            alloc,
+            schema,
+            Asked::Equality(asked.match_value.as_slice()),
+            above,
+        ),
+        None => bind_match(
+            alloc,
+            schema,
+            how,
+            asked_type,
+            asked.match_value.as_slice(),
+            asked.dn_attributes,
+        ),
+    }
+}
+
+/// An extensible item whose rule is known; Undefined, where its description is not recognised.
+fn bind_named(
+    alloc: Global,
+    schema: &Schema,
+    asked: &MatchingRuleAssertion,
+    how: How,
+) -> Result<BoundFilter, AllocError>
+    ensures value { IfOk result (λ b. how_of_name (extensible_view asked.now).matching_rule ≡ Some how
+        → IsBoundMatch schema.now (extensible_view asked.now) b) }
+    ensures parts { IfOk result (λ b. IsExtensible schema.now (extensible_view asked.now) (Some how)
+        (type_of_name schema.now (extensible_view asked.now).description) b) }
+{
+    match type_of(schema, &asked.description) {
+        Some(asked_type) => bind_known(alloc, schema, asked, how, &asked_type),
+        None => Ok(BoundFilter::Undefined),
+    }
+}
+
+/// An extensible item (RFC 4511 4.5.1.7.7): an `or` of matches, or the equality item that it is; Undefined, where it can't be matched.
+fn bind_extensible(
+    alloc: Global,
+    schema: &Schema,
+    asked: &MatchingRuleAssertion,
+) -> Result<BoundFilter, AllocError>
+    ensures value { IfOk result (λ b. IsBoundMatch schema.now (extensible_view asked.now) b) }
+    ensures parts { IfOk result (λ b. IsExtensible schema.now (extensible_view asked.now) (how_of_name (extensible_view asked.now).matching_rule)
+        (type_of_name schema.now (extensible_view asked.now).description) b) }
+{
+    match how_of(&asked.matching_rule) {
+        Some(how) => bind_named(alloc, schema, asked, how),
+        None => Ok(BoundFilter::Undefined),
     }
 }

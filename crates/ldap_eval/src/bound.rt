@@ -1,7 +1,7 @@
 // Bound filters. Plain data, for evaluation and for plans.
 // What must not be here: how a filter is bound, and what it says of an entry.
 
-use dir_entry::{Test, TypeId};
+use dir_entry::{MatchTest, Test, TypeId};
 
 /// A test on the attributes of one type, and not of its subtypes.
 #[derive(Drop)]
@@ -10,8 +10,16 @@ pub struct Leaf {
     pub test: Test,
 }
 
+/// A test that names a rule, on the attributes of one type, or on the pairs of that type in the entry's name. No index tells where it is true.
+#[derive(Drop)]
+pub struct Match {
+    pub type_id: TypeId,
+    pub test: MatchTest,
+    pub in_name: bool,
+}
+
 /// A filter with its assertions made ready under one schema: an item is an `or` of leaves, one for each type under its type,
-/// each with the test that the item makes of that type.
+/// each with the test that the item makes of that type; an item that names a rule is an `or` of matches.
 #[derive(Drop)]
 pub enum BoundFilter {
     And(Vec<BoundFilter>),
@@ -20,4 +28,5 @@ pub enum BoundFilter {
     /// An item that is Undefined on every entry.
     Undefined,
     Leaf(Leaf),
+    Match(Match),
 }

@@ -1,62 +1,148 @@
-// The value of a bound filter. A bound filter and an entry flow in, a truth flows out; no memory is taken.
+// The value of a bound filter. A bound filter, an entry and its name flow in, a truth flows out; no memory is taken.
 // What must not be here: schemas, descriptions, syntaxes.
 
-ghost use Rattle.std.specs.Prelude.{◌≡◌, map};
+ghost use Rattle.std.specs.Prelude.{◌≡◌, map, Some, slice_get};
 ghost use Rattle.dir_entry.specs.ldap_schema.Schema.{SchemaModel};
 ghost use Rattle.dir_entry.specs.ldap_match.Truth.{conjunction, disjunction};
 ghost use Rattle.ldap_filter.specs.Tree.{Tree};
 ghost use Rattle.dir_entry.specs.Entry.{attributes_of, IsKeyedBy};
 ghost use Rattle.ldap_eval.specs.Value.{filter_value};
-ghost use Rattle.ldap_eval.specs.Bound.{bound_value, leaf_value as value_of_leaf, leaf_on as leaf_on_attribute, IsBoundTo};
+ghost use Rattle.ldap_eval.specs.Bound.{bound_value, leaf_value as value_of_leaf, leaf_on as leaf_on_attribute, match_on as match_on_attribute, match_on_name_pair, match_of_entry, IsBoundTo};
+ghost use Rattle.dir_entry.specs.ldap_dn.Names.{RdnModel};
+ghost use Rattle.dir_entry.specs.ldap_dn.Pairs.{pair_in, pairs_in, pairs_of};
 
-use crate::bound::{BoundFilter, Leaf};
-use dir_entry::{Attribute, Entry, Truth, item_on_attribute};
+use crate::bound::{BoundFilter, Leaf, Match};
+use crate::name_pairs::NamePairs;
+use dir_entry::{Attribute, Entry, Rdn, Truth, TypeAndValue, item_on_attribute, match_on_pair};
 
-/// The value of a bound filter on an entry (RFC 4511 4.5.1.7). Takes no memory.
-pub fn value(bound: &BoundFilter, entry: &Entry) -> Truth
-    // What a bound filter says of an entry's keys.
-    ensures keys { result ≡ bound_value entry.now bound.now }
+/// The value of a bound filter on an entry, by its name and its attributes (RFC 4511 4.5.1.7). Takes no memory.
+pub fn value<N: NamePairs>(bound: &BoundFilter, entry: &Entry, name: &N) -> Truth
+    // What a bound filter says of an entry's name and keys.
+    ensures keys { result ≡ bound_value (N.name name.now) entry.now bound.now }
 
     // On an entry that is keyed by the schema that the filter is bound under, it is the filter's value.
     ensures value { (s : SchemaModel) (t : Tree) → IsBoundTo s t bound.now → IsKeyedBy s entry.now
-        → result ≡ filter_value s t (attributes_of entry.now) }
+        → result ≡ filter_value s t (N.name name.now) (attributes_of entry.now) }
 {
-    bound_truth(bound, entry)
+    bound_truth(bound, entry, name)
 }
 
 #[cycle(value)]
-fn bound_truth(bound: &BoundFilter, entry: &Entry) -> Truth
-    ensures { result ≡ bound_value entry.now bound.now }
+fn bound_truth<N: NamePairs>(bound: &BoundFilter, entry: &Entry, name: &N) -> Truth
+    ensures { result ≡ bound_value (N.name name.now) entry.now bound.now }
 {
     match bound {
-        BoundFilter::And(parts) => all(parts, entry),
-        BoundFilter::Or(parts) => any(parts, entry),
-        BoundFilter::Not(part) => bound_truth(part, entry).not(),
+        BoundFilter::And(parts) => all(parts, entry, name),
+        BoundFilter::Or(parts) => any(parts, entry, name),
+        BoundFilter::Not(part) => bound_truth(part, entry, name).not(),
         BoundFilter::Undefined => Truth::Undefined,
         BoundFilter::Leaf(leaf) => leaf_truth(leaf, entry),
+        BoundFilter::Match(matching) => match_truth(matching, entry, name),
     }
 }
 
 #[cycle(value)]
-fn all(parts: &[BoundFilter], entry: &Entry) -> Truth
-    ensures { result ≡ conjunction (map (bound_value entry.now) parts.now) }
+fn all<N: NamePairs>(parts: &[BoundFilter], entry: &Entry, name: &N) -> Truth
+    ensures { result ≡ conjunction (map (bound_value (N.name name.now) entry.now) parts.now) }
 {
     let mut truth = Truth::True;
     for part in parts {
-        truth = truth.and(bound_truth(part, entry));
+        truth = truth.and(bound_truth(part, entry, name));
     }
     truth
 }
 
 #[cycle(value)]
-fn any(parts: &[BoundFilter], entry: &Entry) -> Truth
-    ensures { result ≡ disjunction (map (bound_value entry.now) parts.now) }
+fn any<N: NamePairs>(parts: &[BoundFilter], entry: &Entry, name: &N) -> Truth
+    ensures { result ≡ disjunction (map (bound_value (N.name name.now) entry.now) parts.now) }
 {
     let mut truth = Truth::False;
     for part in parts {
-        truth = truth.or(bound_truth(part, entry));
+        truth = truth.or(bound_truth(part, entry, name));
     }
     truth
+}
+
+/// A match on an entry: on the pairs of its name, or on its attributes.
+fn match_truth<N: NamePairs>(matching: &Match, entry: &Entry, name: &N) -> Truth
+    ensures { result ≡ match_of_entry (N.name name.now) entry.now matching.now }
+{
+    if matching.in_name {
+        any_in_name(matching, name)
+    } else {
+        any_match(matching, entry.attributes())
+    }
+}
+
+/// The `or` of the match over the attributes.
+fn any_match(matching: &Match, attributes: &[Attribute]) -> Truth
+    ensures { result ≡ disjunction (map (match_on_attribute matching.now) attributes.now) }
+{
+    let mut truth = Truth::False;
+    for attribute in attributes {
+        truth = truth.or(match_on(matching, attribute));
+    }
+    truth
+}
+
+/// The match on one attribute: its test, where the attribute is of its type.
+fn match_on(matching: &Match, attribute: &Attribute) -> Truth
+    ensures { result ≡ match_on_attribute matching.now attribute.now }
+{
+    if attribute.type_id() != matching.type_id {
+        return Truth::False;
+    }
+    attribute.matched(&matching.test)
+}
+
+/// The `or` of the match over the pairs of the name.
+fn any_in_name<N: NamePairs>(matching: &Match, name: &N) -> Truth
+    ensures { result ≡ disjunction (map (match_on_name_pair matching.now) (pairs_of (N.name name.now))) }
+{
+    let mut truth = Truth::False;
+    for at in 0..name.count() {
+        truth = truth.or(in_name_at(matching, name, at));
+    }
+    truth
+}
+
+/// The `or` of the match over the pairs of the relative name at a place.
+fn in_name_at<N: NamePairs>(matching: &Match, name: &N, at: usize) -> Truth
+    ensures { (r : RdnModel) → slice_get (N.name name.now) at ≡ Some r
+        → result ≡ disjunction (map (match_on_name_pair matching.now) (pairs_in r)) }
+{
+    match name.pairs(at) {
+        Some(rdn) => any_in_rdn(matching, rdn),
+        None => Truth::False,
+    }
+}
+
+/// The `or` of the match over the pairs of a relative name.
+fn any_in_rdn(matching: &Match, rdn: &Rdn) -> Truth
+    ensures { result ≡ disjunction (map (match_on_name_pair matching.now) (pairs_in rdn.now)) }
+{
+    any_written(matching, rdn, rdn.types_and_values())
+}
+
+/// The `or` of the match over some of the pairs of a relative name.
+fn any_written(matching: &Match, rdn: &Rdn, written: &[TypeAndValue]) -> Truth
+    ensures { result ≡ disjunction (map (λ v. match_on_name_pair matching.now (pair_in rdn.now.keys v)) written.now) }
+{
+    let mut truth = Truth::False;
+    for one in written {
+        truth = truth.or(match_on_written(matching, rdn, one));
+    }
+    truth
+}
+
+/// The match on one pair: its test, where the pair is of its type.
+fn match_on_written(matching: &Match, rdn: &Rdn, written: &TypeAndValue) -> Truth
+    ensures { result ≡ match_on_name_pair matching.now (pair_in rdn.now.keys written.now) }
+{
+    if written.type_id() != matching.type_id {
+        return Truth::False;
+    }
+    match_on_pair(&matching.test, written, rdn.key_for(written.type_id()))
 }
 
 /// The `or` of the leaf over the attributes.

@@ -6,9 +6,11 @@ mod asking;
 mod binding;
 mod bound;
 mod evaluating;
+mod name_pairs;
 
 pub use binding::bind;
-pub use bound::{BoundFilter, Leaf};
+pub use bound::{BoundFilter, Leaf, Match};
 pub use dir_entry::{Key, PartKeys, Test, Truth, TypeId};
 pub use evaluating::value;
 pub use ldap_filter::Filter;
+pub use name_pairs::NamePairs;

@@ -73,7 +73,7 @@ equal_decides (truth a) (name b) = (λ h. cc, λ e. cc)
 equal_decides (octets a) (name b) = (λ h. cc, λ e. cc)
 equal_decides (identifier a) (name b) = (λ h. cc, λ e. cc)
 
-same_test : (k l : List ℕ) (m n : Meaning) → (l ≡ k) ↔ (n ≡ m) → bytes_eq l k ≡ is_equal_meaning n m
+pub same_test : (k l : List ℕ) (m n : Meaning) → (l ≡ k) ↔ (n ≡ m) → bytes_eq l k ≡ is_equal_meaning n m
 same_test k l m n h =
     same_from_decides {P = l ≡ k} (bytes_eq l k) (is_equal_meaning n m) (bytes_eq-Decides l k)
     (λ t. h.1 ((equal_decides n m).0 t), λ e. (equal_decides n m).1 (h.0 e))
@@ -262,7 +262,7 @@ any_passes s r kp mp (v ∷ values) (l ∷ keys) h asks e =
 asks_equal : (s : SchemaModel) (r : Rule) (a k : List ℕ) (m : Meaning) → KeysMean s r → meaning s r a ≡ Some m → key_at s r a ≡ Some k → AsksSame s r (is_same_key k) (is_meant m)
 asks_equal s r a k m h ma ka = λ v l n kv mv. same_test k l m n (h.is_equal v a n m l k mv ma kv ka)
 
-same_order : (s : SchemaModel) (r : Rule) (a k : List ℕ) (m : Meaning) → KeysMean s r → is_ordering r.family ≡ true → meaning s r a ≡ Some m → key_at s r a ≡ Some k → (v l : List ℕ) (n : Meaning) → key_at s r v ≡ Some l → meaning s r v ≡ Some n → is_before l k ≡ is_less_meaning n m
+pub same_order : (s : SchemaModel) (r : Rule) (a k : List ℕ) (m : Meaning) → KeysMean s r → is_ordering r.family ≡ true → meaning s r a ≡ Some m → key_at s r a ≡ Some k → (v l : List ℕ) (n : Meaning) → key_at s r v ≡ Some l → meaning s r v ≡ Some n → is_before l k ≡ is_less_meaning n m
 same_order s r a k m h o ma ka v l n kv mv = same_from_decides {P = IsLessMeaning n m} (is_before l k) (is_less_meaning n m) (h.is_ordered o v a n m l k mv ma kv ka) (less_decides n m)
 
 asks_at_least : (s : SchemaModel) (r : Rule) (a k : List ℕ) (m : Meaning) → KeysMean s r → is_ordering r.family ≡ true → meaning s r a ≡ Some m → key_at s r a ≡ Some k → AsksSame s r (is_key_at_least k) (is_at_least m)

@@ -81,8 +81,8 @@ pub fn is_comparable(
     }
 }
 
-/// Whether the value means something under the rule.
-fn is_meaningful(
+/// Whether the value means something under the rule. Its only error is want of memory.
+pub fn is_meaningful(
     alloc: Global,
     schema: &Schema,
     rule: Rule,

@@ -3,7 +3,9 @@
 #![tactic(auto)]
 
 mod keying;
+mod matching;
 mod naming;
+mod naming_rules;
 mod parts;
 mod ruling;
 mod testing;
@@ -11,10 +13,15 @@ mod truth;
 
 pub use keying::{is_comparable, is_of_syntax, is_ordered, key};
 pub use ldap_dn::{
-    ClassId, ClassKind, Key, Name, NameError, Rdn, Rule, Schema, TypeAndValue, TypeId, ValueError,
-    equality_rule, is_front,
+    ClassId, ClassKind, Form, Key, Name, NameError, Rdn, Rule, Schema, TypeAndValue, TypeId,
+    ValueError, equality_rule, is_front,
+};
+pub use matching::{
+    Asserted, MatchTest, is_matchable, match_on_pair, match_on_values, match_test,
+    matches_are_items,
 };
 pub use naming::equal_values_are_one_name;
+pub use naming_rules::{How, NamedRule, named_rule, rule_for};
 pub use parts::{PartKeys, part_keys};
 pub use ruling::{ordering_rule, substrings_rule};
 pub use testing::{

@@ -39,7 +39,7 @@ pub enum Test {
 }
 
 /// The value's key under the rule; none, where it means nothing under it.
-fn key_or_none(
+pub fn key_or_none(
     alloc: Global,
     schema: &Schema,
     rule: Rule,

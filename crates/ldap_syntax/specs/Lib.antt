@@ -7,3 +7,4 @@ pub mod Families
 pub mod Meaning
 pub mod Parts
 pub mod Keys
+pub mod RulesByName

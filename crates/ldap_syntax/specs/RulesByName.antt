@@ -1,8 +1,8 @@
 -- The matching rules and syntaxes by name and object identifier: RFC 4517 3.3 and 4.2. A word of a description flows in, a family
 -- or a syntax flows out; descriptions are not here.
-use Rattle.std.specs.Prelude.{ℕ, List, Bool, cond, ◌||◌, Option, None, Some, codes}
+use Rattle.std.specs.Prelude.{ℕ, List, map, Bool, cond, ◌||◌, Option, None, Some, codes}
+use Rattle.std.specs.Char.{to_ascii_lowercase}
 use Rattle.std.specs.Str.{bytes_eq}
-use Rattle.schema_text.specs.Words.{is_same_word}
 use Rattle.ldap_syntax.specs.declared.rule.Family.{Family}
 use Rattle.ldap_syntax.specs.declared.rule.Family.TheVariants as family
 use Rattle.ldap_syntax.specs.declared.rule.Syntax.{Syntax}
@@ -10,7 +10,7 @@ use Rattle.ldap_syntax.specs.declared.rule.Syntax.TheVariants as syntax
 
 -- a rule's name in any case, or its object identifier
 abbrev pub is_rule : List ℕ → List ℕ → List ℕ → Bool
-is_rule name oid w = is_same_word name w || bytes_eq oid w
+is_rule name oid w = bytes_eq (map to_ascii_lowercase name) (map to_ascii_lowercase w) || bytes_eq oid w
 
 abbrev pub other_equality : List ℕ → Option Family
 other_equality w =

@@ -13,6 +13,7 @@ mod numbering;
 mod offering;
 mod preparing;
 mod rule;
+mod rules_by_name;
 mod searching;
 mod spacing;
 mod timing;
@@ -25,3 +26,6 @@ pub use keying::{has_meaning, key_of, keys_compare, part_key_of, parts_compare, 
 pub use offering::{has_ordering, has_substrings, is_used_on};
 pub use preparing::{Part, prepare};
 pub use rule::{Family, Rule, Syntax};
+pub use rules_by_name::{
+    equality_family, family_number, ordering_family, substrings_family, syntax_of,
+};

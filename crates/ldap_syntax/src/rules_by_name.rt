@@ -1,18 +1,17 @@
 // Matching rules and syntaxes by name and object identifier. Words flow in, families and syntaxes flow out.
-// What must not be here: descriptions, values.
+// Descriptions and values are not here.
 
 ghost use Rattle.std.specs.Prelude.{◌≡◌};
 ghost use Rattle.std.specs.Str.{bytes_eq};
-ghost use Rattle.schema_meaning.specs.Rules as rules;
+ghost use Rattle.ldap_syntax.specs.RulesByName as rules;
 
-use ldap_syntax::{Family, Syntax};
-use schema_text::is_same_word;
+use crate::rule::{Family, Syntax};
 
 /// Whether the word is the rule's name in any case, or its object identifier.
 fn is_rule(name: &[u8], oid: &[u8], word: &[u8]) -> bool
     ensures { result ≡ rules.is_rule name.now oid.now word.now }
 {
-    is_same_word(name, word) || oid == word
+    name.eq_ignore_ascii_case(word) || oid == word
 }
 
 /// Whether the word is the object identifier.

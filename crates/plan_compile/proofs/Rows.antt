@@ -6,6 +6,7 @@ use Rattle.ldap_eval.specs.ldap_match.Truth.{truth_and, truth_or, truth_not, tru
 use Rattle.ldap_eval.specs.ldap_match.declared.truth.Truth.{Truth}
 use Rattle.ldap_eval.specs.ldap_match.declared.truth.Truth.TheVariants.{True, False, Undefined}
 use Rattle.ldap_eval.specs.dir_entry.Entry.{KeyedAttribute}
+use Rattle.ldap_eval.specs.dir_entry.ldap_dn.Names.{RdnModel}
 use Rattle.plan_sets.specs.index_choice.declared.kinds.Kinds.{Kinds}
 use Rattle.plan_sets.specs.Sets.{holds}
 use Rattle.plan_sets.specs.declared.plan.Plan.{Plan}
@@ -110,24 +111,24 @@ abbrev pub any : List Bool → Bool
 any bs = list_any (λ b. b) bs
 
 pub and_of_true : {ix : List Kinds} {fs : List BoundFilter} {ms ys : List Plan} → EachSide ix true fs ms ys
-    → (e : List KeyedAttribute) → IsBetween (all (map (holds ix e) ms)) (conjunction (map (bound_value e) fs)) True (all (map (holds ix e) ys)) (all (map (is_decided ix) fs))
-and_of_true none e = record { sound = λ h. refl; complete = λ h. refl; exact = λ h g. refl }
-and_of_true (one_more b rest) e = both_true _ _ _ _ _ _ _ _ (b.bounds e) (and_of_true rest e)
+    → (n : List RdnModel) (e : List KeyedAttribute) → IsBetween (all (map (holds ix e) ms)) (conjunction (map (bound_value n e) fs)) True (all (map (holds ix e) ys)) (all (map (is_decided ix) fs))
+and_of_true none n e = record { sound = λ h. refl; complete = λ h. refl; exact = λ h g. refl }
+and_of_true (one_more b rest) n e = both_true _ _ _ _ _ _ _ _ (b.bounds n e) (and_of_true rest n e)
 
 pub or_of_false : {ix : List Kinds} {fs : List BoundFilter} {ms ys : List Plan} → EachSide ix false fs ms ys
-    → (e : List KeyedAttribute) → IsBetween (all (map (holds ix e) ms)) (disjunction (map (bound_value e) fs)) False (all (map (holds ix e) ys)) (all (map (is_decided ix) fs))
-or_of_false none e = record { sound = λ h. refl; complete = λ h. refl; exact = λ h g. refl }
-or_of_false (one_more b rest) e = both_false _ _ _ _ _ _ _ _ (b.bounds e) (or_of_false rest e)
+    → (n : List RdnModel) (e : List KeyedAttribute) → IsBetween (all (map (holds ix e) ms)) (disjunction (map (bound_value n e) fs)) False (all (map (holds ix e) ys)) (all (map (is_decided ix) fs))
+or_of_false none n e = record { sound = λ h. refl; complete = λ h. refl; exact = λ h g. refl }
+or_of_false (one_more b rest) n e = both_false _ _ _ _ _ _ _ _ (b.bounds n e) (or_of_false rest n e)
 
 pub and_of_false : {ix : List Kinds} {fs : List BoundFilter} {ms ys : List Plan} → EachSide ix false fs ms ys
-    → (e : List KeyedAttribute) → IsBetween (any (map (holds ix e) ms)) (conjunction (map (bound_value e) fs)) False (any (map (holds ix e) ys)) (all (map (is_decided ix) fs))
-and_of_false none e = record { sound = λ h. cc; complete = λ h. cc; exact = λ h g. g }
-and_of_false (one_more b rest) e = one_false _ _ _ _ _ _ _ _ (b.bounds e) (and_of_false rest e)
+    → (n : List RdnModel) (e : List KeyedAttribute) → IsBetween (any (map (holds ix e) ms)) (conjunction (map (bound_value n e) fs)) False (any (map (holds ix e) ys)) (all (map (is_decided ix) fs))
+and_of_false none n e = record { sound = λ h. cc; complete = λ h. cc; exact = λ h g. g }
+and_of_false (one_more b rest) n e = one_false _ _ _ _ _ _ _ _ (b.bounds n e) (and_of_false rest n e)
 
 pub or_of_true : {ix : List Kinds} {fs : List BoundFilter} {ms ys : List Plan} → EachSide ix true fs ms ys
-    → (e : List KeyedAttribute) → IsBetween (any (map (holds ix e) ms)) (disjunction (map (bound_value e) fs)) True (any (map (holds ix e) ys)) (all (map (is_decided ix) fs))
-or_of_true none e = record { sound = λ h. cc; complete = λ h. cc; exact = λ h g. g }
-or_of_true (one_more b rest) e = one_true _ _ _ _ _ _ _ _ (b.bounds e) (or_of_true rest e)
+    → (n : List RdnModel) (e : List KeyedAttribute) → IsBetween (any (map (holds ix e) ms)) (disjunction (map (bound_value n e) fs)) True (any (map (holds ix e) ys)) (all (map (is_decided ix) fs))
+or_of_true none n e = record { sound = λ h. cc; complete = λ h. cc; exact = λ h g. g }
+or_of_true (one_more b rest) n e = one_true _ _ _ _ _ _ _ _ (b.bounds n e) (or_of_true rest n e)
 
 -- what may be true of each part has each part's runs
 pub runs_of_every : {ix : List Kinds} {fs : List BoundFilter} {ms ys : List Plan} → EachSide ix true fs ms ys
@@ -174,6 +175,6 @@ each_step ix wanted all_fs i f ms ys ms' ys' m y each lt is b em ey =
 
 -- What may be true of an `and` is true of each decided part.
 pub decided_parts : {ix : List Kinds} {fs : List BoundFilter} {ms ys : List Plan} → EachSide ix true fs ms ys
-    → (e : List KeyedAttribute) → all (map (holds ix e) ys) ≡ true → DecidedAreTrue ix e fs
-decided_parts none e h = tt
-decided_parts (one_more b rest) e h = let u = and_parts _ _ h in ((λ d. (b.bounds e).sound ((b.bounds e).exact d u.0)), decided_parts rest e u.1)
+    → (n : List RdnModel) (e : List KeyedAttribute) → all (map (holds ix e) ys) ≡ true → DecidedAreTrue ix n e fs
+decided_parts none n e h = tt
+decided_parts (one_more b rest) n e h = let u = and_parts _ _ h in ((λ d. (b.bounds n e).sound ((b.bounds n e).exact d u.0)), decided_parts rest n e u.1)

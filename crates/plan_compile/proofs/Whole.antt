@@ -4,13 +4,15 @@ use Rattle.ldap_eval.specs.ldap_match.Truth.{truth_of}
 use Rattle.ldap_eval.specs.ldap_match.declared.truth.Truth.{Truth}
 use Rattle.ldap_eval.specs.ldap_match.declared.truth.Truth.TheVariants.{True, Undefined}
 use Rattle.ldap_eval.specs.dir_entry.Entry.{KeyedAttribute}
+use Rattle.ldap_eval.specs.dir_entry.ldap_dn.Names.{RdnModel}
 use Rattle.plan_sets.specs.index_choice.declared.kinds.Kinds.{Kinds}
 use Rattle.plan_sets.specs.Sets.{holds, SetsAreOfEntries}
 use Rattle.plan_sets.specs.declared.plan.Plan.{Plan}
 use Rattle.plan_sets.specs.declared.plan.Plan.TheVariants as plan
-use Rattle.plan_compile.proofs.PlanEquations.{in_plan-Inter, in_plan-Union, in_plan-Empty}
+use Rattle.plan_compile.proofs.PlanEquations.{in_plan-Inter, in_plan-Union, in_plan-Empty, in_plan-Scope}
 use Rattle.ldap_eval.specs.Bound.{leaf_value}
 use Rattle.ldap_eval.specs.declared.bound.Leaf.{Leaf}
+use Rattle.ldap_eval.specs.declared.bound.Match.{Match}
 use Rattle.ldap_eval.specs.declared.bound.BoundFilter.{BoundFilter, out-BoundFilter, out-roll-BoundFilter}
 use Rattle.ldap_eval.specs.declared.bound.BoundFilter.TheVariants.{rolls-And}
 use Rattle.ldap_eval.specs.declared.bound.BoundFilter.TheOpen.{BoundFilter-F}
@@ -18,30 +20,30 @@ use Rattle.ldap_eval.specs.declared.bound.BoundFilter.TheVariants as bound
 use Rattle.plan_compile.specs.Bounds.{is_test_decided, Bounds, BoundsSets, DecidedAreTrue, GuidesRuns}
 use Rattle.plan_compile.specs.Runs.{has_runs_of_test}
 use Rattle.plan_compile.specs.Sides.{IsSide, IsEvery, IsAny, EachSide}
-use Rattle.plan_compile.proofs.Equations.{value-And, value-Or, value-Not, value-Undefined, value-Leaf, decided-And, decided-Or, decided-Not, decided-Leaf, runs-And, runs-Or, runs-Not, runs-Leaf}
+use Rattle.plan_compile.proofs.Equations.{value-And, value-Or, value-Not, value-Undefined, value-Leaf, decided-And, decided-Or, decided-Not, decided-Leaf, decided-Match, runs-And, runs-Or, runs-Not, runs-Leaf, runs-Match}
 use Rattle.plan_compile.proofs.Rows.{and_of_true, and_of_false, or_of_true, or_of_false, runs_of_every, runs_of_some, negated, decided_parts}
 
 every_true : (ix : List Kinds) (v : Vec BoundFilter Global) (ms ys : Vec Plan Global) → EachSide ix true v.items ms.items ys.items → IsSide ix true (bound.And v) (plan.Inter ms) (plan.Inter ys)
 every_true ix v ms ys each = record {
-  bounds = λ e. simp (value-And, decided-And, in_plan-Inter) (and_of_true each e);
+  bounds = λ n e. simp (value-And, decided-And, in_plan-Inter) (and_of_true each n e);
   runs = λ w e h. runs-And ix e v ∙ runs_of_every each e (sym (in_plan-Inter _ _ _ ys) ∙ h);
 }
 
 some_false : (ix : List Kinds) (v : Vec BoundFilter Global) (ms ys : Vec Plan Global) → EachSide ix false v.items ms.items ys.items → IsSide ix false (bound.And v) (plan.Union ms) (plan.Union ys)
 some_false ix v ms ys each = record {
-  bounds = λ e. simp (value-And, decided-And, in_plan-Union) (and_of_false each e);
+  bounds = λ n e. simp (value-And, decided-And, in_plan-Union) (and_of_false each n e);
   runs = λ w e h. cc;
 }
 
 some_true : (ix : List Kinds) (v : Vec BoundFilter Global) (ms ys : Vec Plan Global) → EachSide ix true v.items ms.items ys.items → IsSide ix true (bound.Or v) (plan.Union ms) (plan.Union ys)
 some_true ix v ms ys each = record {
-  bounds = λ e. simp (value-Or, decided-Or, in_plan-Union) (or_of_true each e);
+  bounds = λ n e. simp (value-Or, decided-Or, in_plan-Union) (or_of_true each n e);
   runs = λ w e h. runs-Or ix e v ∙ runs_of_some each e (sym (in_plan-Union _ _ _ ys) ∙ h);
 }
 
 every_false : (ix : List Kinds) (v : Vec BoundFilter Global) (ms ys : Vec Plan Global) → EachSide ix false v.items ms.items ys.items → IsSide ix false (bound.Or v) (plan.Inter ms) (plan.Inter ys)
 every_false ix v ms ys each = record {
-  bounds = λ e. simp (value-Or, decided-Or, in_plan-Inter) (or_of_false each e);
+  bounds = λ n e. simp (value-Or, decided-Or, in_plan-Inter) (or_of_false each n e);
   runs = λ w e h. cc;
 }
 
@@ -64,7 +66,7 @@ side_of_or_false ix wanted f v m y is w s =
 pub side_of_not : (ix : List Kinds) (wanted : Bool) (f : BoundFilter) (b : Box BoundFilter Global) (m y : Plan) → f ≡ bound.Not b → IsSide ix (not wanted) b.value m y → IsSide ix wanted f m y
 side_of_not ix wanted f b m y is s =
     rw is (record {
-      bounds = λ e. simp (value-Not, decided-Not) (negated _ _ _ _ wanted (s.bounds e));
+      bounds = λ n e. simp (value-Not, decided-Not) (negated _ _ _ _ wanted (s.bounds n e));
       runs = λ w e h. runs-Not ix e b;
     })
 
@@ -75,9 +77,9 @@ undefined_is_not false h = cc
 pub side_of_undefined : (ix : List Kinds) (wanted : Bool) (f : BoundFilter) → f ≡ bound.Undefined → IsSide ix wanted f plan.Empty plan.Empty
 side_of_undefined ix wanted f is =
     rw is (record {
-      bounds = λ e. record {
+      bounds = λ n e. record {
         sound = λ h. let k : true ≡ false = sym h ∙ in_plan-Empty _ _ _ in cc;
-        complete = λ h. absurd (undefined_is_not wanted (sym (value-Undefined e) ∙ h));
+        complete = λ h. absurd (undefined_is_not wanted (sym (value-Undefined n e) ∙ h));
         exact = λ d h. h;
       };
       runs = λ w e h. let k : true ≡ false = sym h ∙ in_plan-Empty _ _ _ in cc;
@@ -88,13 +90,25 @@ pub side_of_leaf : (ix : List Kinds) (wanted : Bool) (f : BoundFilter) (leaf : L
     → (wanted ≡ true → (e : List KeyedAttribute) → holds ix e y ≡ true → has_runs_of_test ix leaf.type_id leaf.test e ≡ true) → IsSide ix wanted f m y
 side_of_leaf ix wanted f leaf m y is bounds runs =
     rw is (record {
-      bounds = λ e. simp (value-Leaf, decided-Leaf) (bounds e);
+      bounds = λ n e. simp (value-Leaf, decided-Leaf) (bounds e);
       runs = λ w e h. runs-Leaf ix e leaf ∙ runs w e h;
     })
 
+-- a match may have any value on any entry
+pub side_of_match : (ix : List Kinds) (wanted : Bool) (f : BoundFilter) (m : Match) → f ≡ bound.Match m → IsSide ix wanted f plan.Empty plan.Scope
+side_of_match ix wanted f m is =
+    rw is (record {
+      bounds = λ n e. record {
+        sound = λ h. let k : true ≡ false = sym h ∙ in_plan-Empty _ _ _ in cc;
+        complete = λ h. in_plan-Scope _ _ _;
+        exact = λ d h. let k : true ≡ false = sym d ∙ decided-Match ix m in cc;
+      };
+      runs = λ w e h. runs-Match ix e m;
+    })
+
 -- what may be true of an `and` is true of each decided part
-pub parts_of_every : (ix : List Kinds) (fs : List BoundFilter) (m y : Plan) → IsEvery ix true fs m y → (e : List KeyedAttribute) → holds ix e y ≡ true → DecidedAreTrue ix e fs
-parts_of_every ix fs m y s e h = decided_parts s.each e (sym (in_plan-Inter _ _ _ s.mays) ∙ sym (ap (holds ix e) s.may_is) ∙ h)
+pub parts_of_every : (ix : List Kinds) (fs : List BoundFilter) (m y : Plan) → IsEvery ix true fs m y → (n : List RdnModel) (e : List KeyedAttribute) → holds ix e y ≡ true → DecidedAreTrue ix n e fs
+parts_of_every ix fs m y s n e h = decided_parts s.each n e (sym (in_plan-Inter _ _ _ s.mays) ∙ sym (ap (holds ix e) s.may_is) ∙ h)
 
 -- bounds of each entry bound the sets
 pub bounds_sets : (ix : List Kinds) (value : List KeyedAttribute → Truth) (wanted : Truth) (decided : Bool) (m y : Plan) → SetsAreOfEntries → Bounds ix value wanted decided m y → BoundsSets ix value wanted decided m y
@@ -112,6 +126,7 @@ row_of (BoundFilter-F.Or v) d = d
 row_of (BoundFilter-F.Not b) d = d
 row_of BoundFilter-F.Undefined d = d
 row_of (BoundFilter-F.Leaf leaf) d = d
+row_of (BoundFilter-F.Match m) d = d
 
 -- an `and` has one row of parts
 pub and_parts_same : (v w : Vec BoundFilter Global) → bound.And v ≡ bound.And w → v ≡ w

@@ -7,6 +7,7 @@ use Rattle.ldap_eval.specs.ldap_match.declared.truth.Truth.TheVariants.{True}
 use Rattle.ldap_eval.specs.ldap_match.declared.testing.Test.{Test}
 use Rattle.ldap_eval.specs.ldap_match.declared.testing.Test.TheVariants as test
 use Rattle.ldap_eval.specs.dir_entry.Entry.{KeyedAttribute}
+use Rattle.ldap_eval.specs.dir_entry.ldap_dn.Names.{RdnModel}
 use Rattle.plan_sets.specs.index_choice.declared.kinds.Kinds.{Kinds}
 use Rattle.plan_sets.specs.index_choice.Choice.{kinds_of}
 use Rattle.plan_sets.specs.dir_index.Postings.{Indexed, has_number, postings_of}
@@ -32,8 +33,9 @@ decided_step ix (BoundFilter-F.Or v) = list_all (λ b. b) v.items
 decided_step ix (BoundFilter-F.Not b) = b.value
 decided_step ix BoundFilter-F.Undefined = true
 decided_step ix (BoundFilter-F.Leaf leaf) = is_test_decided ix leaf.type_id leaf.test
+decided_step ix (BoundFilter-F.Match m) = false
 
--- whether the indexes decide all of a filter's leaves
+-- whether the indexes decide all of a filter's leaves; a match they never decide
 abbrev pub is_decided : List Kinds → BoundFilter → Bool
 is_decided ix = fold-BoundFilter Bool (decided_step ix)
 
@@ -63,5 +65,5 @@ GuidesRuns ix told must may = (es : List Indexed) (scope : List ℕ) (value : �
     → Guides (is_in (postings_of ix es) scope must) value (is_in (postings_of ix es) scope may) scope
 
 -- each filter that the indexes decide is True on an entry
-abbrev pub DecidedAreTrue : List Kinds → List KeyedAttribute → List BoundFilter → Type 0
-DecidedAreTrue ix e fs = AllByRecursion (λ f. is_decided ix f ≡ true → bound_value e f ≡ True) fs
+abbrev pub DecidedAreTrue : List Kinds → List RdnModel → List KeyedAttribute → List BoundFilter → Type 0
+DecidedAreTrue ix n e fs = AllByRecursion (λ f. is_decided ix f ≡ true → bound_value n e f ≡ True) fs

@@ -57,6 +57,7 @@ runs_step ix e (BoundFilter-F.Or v) = list_any (λ b. b) v.items
 runs_step ix e (BoundFilter-F.Not b) = true
 runs_step ix e BoundFilter-F.Undefined = false
 runs_step ix e (BoundFilter-F.Leaf leaf) = has_runs_of_test ix leaf.type_id leaf.test e
+runs_step ix e (BoundFilter-F.Match m) = true
 
 -- Whether an entry holds the runs that a filter asks for: of an `and` those of each part, of an `or` those of some
 -- part.

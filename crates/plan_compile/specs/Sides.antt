@@ -4,6 +4,7 @@ use Rattle.std.specs.Prelude.{◌≡◌, Bool, true, List, [], ◌∷◌, Vec}
 use Rattle.std.specs.Global.{Global}
 use Rattle.ldap_eval.specs.ldap_match.Truth.{truth_of}
 use Rattle.ldap_eval.specs.dir_entry.Entry.{KeyedAttribute}
+use Rattle.ldap_eval.specs.dir_entry.ldap_dn.Names.{RdnModel}
 use Rattle.plan_sets.specs.index_choice.declared.kinds.Kinds.{Kinds}
 use Rattle.plan_sets.specs.Sets.{holds}
 use Rattle.plan_sets.specs.declared.plan.Plan.{Plan}
@@ -13,10 +14,10 @@ use Rattle.ldap_eval.specs.declared.bound.BoundFilter.{BoundFilter}
 use Rattle.plan_compile.specs.Bounds.{Bounds, is_decided}
 use Rattle.plan_compile.specs.Runs.{has_runs_for}
 
--- Two plans bound where a filter has the wanted value; and where that is True, what may be holds the runs that the
+-- Two plans bound where a filter has the wanted value, whatever the entry's name; and where that is True, what may be holds the runs that the
 -- filter asks for.
 pub record IsSide (ix : List Kinds) (wanted : Bool) (f : BoundFilter) (must may : Plan) : Type 0 where
-  pub bounds : Bounds ix (λ e. bound_value e f) (truth_of wanted) (is_decided ix f) must may
+  pub bounds : (n : List RdnModel) → Bounds ix (λ e. bound_value n e f) (truth_of wanted) (is_decided ix f) must may
   pub runs : wanted ≡ true → (e : List KeyedAttribute) → holds ix e may ≡ true → has_runs_for ix e f ≡ true
 
 -- the same of each filter of a row

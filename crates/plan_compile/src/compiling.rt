@@ -5,6 +5,7 @@ ghost use Rattle.std.specs.Prelude.{◌≡◌, true, List, IfOk, Vec};
 ghost use Rattle.std.specs.Global.{Global};
 ghost use Rattle.ldap_eval.specs.ldap_match.declared.truth.Truth.TheVariants.{True};
 ghost use Rattle.ldap_eval.specs.dir_entry.Entry.{KeyedAttribute};
+ghost use Rattle.ldap_eval.specs.dir_entry.ldap_dn.Names.{RdnModel};
 ghost use Rattle.ldap_eval.specs.Bound.{bound_value};
 ghost use Rattle.ldap_eval.specs.declared.bound.BoundFilter.{BoundFilter};
 ghost use Rattle.plan_sets.specs.Sets.{holds};
@@ -48,6 +49,10 @@ fn side(
             may: Plan::Empty,
         }),
         BoundFilter::Leaf(leaf) => leaf_side(alloc, leaf, wanted, indexes),
+        BoundFilter::Match(_) => Ok(Sided {
+            must: Plan::Empty,
+            may: Plan::Scope,
+        }),
     }
 }
 
@@ -110,16 +115,16 @@ fn sides(
 pub fn compile(alloc: Global, filter: &BoundFilter, indexes: &Indexes) -> Result<Sided, AllocError>
     // Over the posting lists of any entries, and any scope: must lies in the true set, and the true set lies in may.
     // Where the indexes decide the filter, they are the same.
-    ensures sets { IfOk result (λ s. BoundsSets indexes.now (λ e. bound_value e filter.now) True
+    ensures sets { IfOk result (λ s. (n : List RdnModel) → BoundsSets indexes.now (λ e. bound_value n e filter.now) True
         (is_decided indexes.now filter.now) s.must s.may) }
     // So the plans guide a run for the filter's value.
-    ensures guides { IfOk result (λ s. GuidesRuns indexes.now (λ e. bound_value e filter.now) s.must s.may) }
-    // The same of each entry by itself.
-    ensures entries { IfOk result (λ s. Bounds indexes.now (λ e. bound_value e filter.now) True
+    ensures guides { IfOk result (λ s. (n : List RdnModel) → GuidesRuns indexes.now (λ e. bound_value n e filter.now) s.must s.may) }
+    // The same of each entry by itself, whatever its name.
+    ensures entries { IfOk result (λ s. (n : List RdnModel) → Bounds indexes.now (λ e. bound_value n e filter.now) True
         (is_decided indexes.now filter.now) s.must s.may) }
     // What may be true of an `and` is true of each part that the indexes decide.
     ensures parts { IfOk result (λ s. (v : Vec BoundFilter Global) → filter.now ≡ BoundFilter.And v
-        → (e : List KeyedAttribute) → holds indexes.now e s.may ≡ true → DecidedAreTrue indexes.now e v.items) }
+        → (n : List RdnModel) (e : List KeyedAttribute) → holds indexes.now e s.may ≡ true → DecidedAreTrue indexes.now n e v.items) }
     // What may be true holds each run of three octets that the filter's substrings items ask for.
     ensures runs { IfOk result (λ s. (e : List KeyedAttribute) → holds indexes.now e s.may ≡ true
         → has_runs_for indexes.now e filter.now ≡ true) }

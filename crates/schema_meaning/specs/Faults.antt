@@ -4,7 +4,7 @@ use Rattle.std.specs.Prelude.{ℕ, ◌+◌, List, [], ◌∷◌, Bool, true, not
 use Rattle.std.specs.List.{list_all}
 use Rattle.schema_text.specs.Descriptions.{DescriptionModel, first_text_at, texts_at}
 use Rattle.schema_text.specs.Texts.{SchemaTextModel}
-use Rattle.schema_meaning.specs.Rules.{equality_family, ordering_family, substrings_family, syntax_of}
+use Rattle.ldap_syntax.specs.RulesByName.{equality_family, ordering_family, substrings_family, syntax_of}
 use Rattle.schema_meaning.specs.Naming.{superior_text, superior_texts, find, is_repeated}
 use Rattle.schema_meaning.specs.Inheriting.{is_unfit}
 

@@ -2,7 +2,7 @@
 -- rules flow out; faults are not here.
 use Rattle.std.specs.Prelude.{ℕ, List, [], ◌∷◌, ◌++◌, map, reverse, slice_get, Bool, true, false, not, ◌&&◌, ◌||◌, Option, None, Some, is_some, nat_eq}
 use Rattle.schema_text.specs.Descriptions.{DescriptionModel, first_text_at}
-use Rattle.schema_meaning.specs.Rules.{equality_family, ordering_family, substrings_family, syntax_of, family_number}
+use Rattle.ldap_syntax.specs.RulesByName.{equality_family, ordering_family, substrings_family, syntax_of, family_number}
 use Rattle.schema_meaning.specs.Naming.{superior_text, find}
 use Rattle.schema_meaning.specs.declared.inheriting.Way.{Way}
 use Rattle.schema_meaning.specs.declared.inheriting.Way.TheVariants.{Ends, IsLost, GoesTo}

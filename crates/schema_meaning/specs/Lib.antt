@@ -1,4 +1,3 @@
-pub mod Rules
 pub mod Naming
 pub mod Inheriting
 pub mod Faults

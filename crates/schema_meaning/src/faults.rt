@@ -4,14 +4,14 @@
 ghost use Rattle.std.specs.Prelude.{◌≡◌, not, map, is_some, IfOk};
 ghost use Rattle.std.specs.List.{list_all};
 ghost use Rattle.schema_text.specs.Descriptions.{first_text_at};
-ghost use Rattle.schema_meaning.specs.Rules as rules;
+ghost use Rattle.ldap_syntax.specs.RulesByName as rules;
 ghost use Rattle.schema_meaning.specs.Naming as naming;
 ghost use Rattle.schema_meaning.specs.Faults as faults;
 ghost use Rattle.schema_meaning.specs.Inheriting as inheriting;
 
 use crate::inheriting::{Way, is_unfit, ways_of};
 use crate::naming::{find, is_repeated};
-use crate::rules::{equality_family, ordering_family, substrings_family, syntax_of};
+use ldap_syntax::{equality_family, ordering_family, substrings_family, syntax_of};
 use schema_text::{Description, Keyword, SchemaText};
 use std::alloc::{AllocError, Global};
 

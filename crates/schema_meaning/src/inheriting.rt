@@ -3,13 +3,15 @@
 
 ghost use Rattle.std.specs.Prelude.{◌≡◌, [], ◌∷◌, map, option_map, reverse, slice_get, IfOk};
 ghost use Rattle.schema_text.specs.Descriptions.{first_text_at};
-ghost use Rattle.schema_meaning.specs.Rules as rules;
+ghost use Rattle.ldap_syntax.specs.RulesByName as rules;
 ghost use Rattle.schema_meaning.specs.Naming.{superior_text};
 ghost use Rattle.schema_meaning.specs.Inheriting as inheriting;
 
 use crate::naming::find;
-use crate::rules::{equality_family, family_number, ordering_family, substrings_family, syntax_of};
-use ldap_syntax::{Family, Syntax, is_used_on};
+use ldap_syntax::{
+    Family, Syntax, equality_family, family_number, is_used_on, ordering_family, substrings_family,
+    syntax_of,
+};
 use schema_text::{Description, Keyword};
 use std::alloc::{AllocError, Global};
 

@@ -5,7 +5,6 @@
 mod faults;
 mod inheriting;
 mod naming;
-mod rules;
 
 pub use faults::{bad_line, earlier, unknown_line};
 pub use inheriting::{Effect, Given, Way, effect_of, ways_of};

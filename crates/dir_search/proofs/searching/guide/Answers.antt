@@ -4,7 +4,7 @@ use Rattle.dir_search.proofs.searching.guide.Goals as goal
 
 pub returns-clause-guides : goal.returns-clause-guides
 returns-clause-guides c =
-    let h = rw c.indexes.ensures at c.in_ok-sided.ensures.guides in
+    let h = rw c.indexes.ensures at c.in_ok-sided.ensures.sets in
     guided (lists_of c.args.postings.now) c.args.postings.now.indexes c.args.bound.now c.args.tree.now.entries c.in_ok-sided.sided.must c.in_ok-sided.sided.may c.requires h
 
 pub returns-clause-few : goal.returns-clause-few

@@ -1,4 +1,5 @@
-use Rattle.std.proofs.Common.{ℕ, Vec, Global, map, ap, ◌∙◌}
+use Rattle.std.proofs.Common.{ℕ, Vec, Global, map, ap, sym, ◌∙◌}
+use Rattle.ldap_match.specs.ldap_forms.Forms.{form_of}
 use Rattle.dir_entry.specs.Entry.{KeyedAttribute}
 use Rattle.dir_entry.specs.Picked.{picked}
 use Rattle.dir_entry.proofs.Picked.{map_picked}
@@ -9,3 +10,10 @@ returns-clause-values c =
     ap (map (λ (v : Vec ℕ Global). v.items)) c.in_ok-values.ensures
     ∙ map_picked (λ (v : Vec ℕ Global). v.items) c.args.marks.now c.self.inside.values.items
     ∙ ap (λ (a : KeyedAttribute). picked c.args.marks.now a.values) c.self.view_is
+
+pub invariant_of-result : goal.invariant_of-result
+invariant_of-result c =
+    c.in_ok-forms.ensures
+    ∙ ap (picked c.args.marks.now) c.self.invariant
+    ∙ sym (map_picked (λ (v : Vec ℕ Global). form_of v.items) c.args.marks.now c.self.inside.values.items)
+    ∙ sym (ap (map (λ (v : Vec ℕ Global). form_of v.items)) c.in_ok-values.ensures)

@@ -1,0 +1,12 @@
+use Rattle.std.proofs.Common.{ℕ, List, Vec, Global, map, ap, sym, ◌∙◌}
+use Rattle.ldap_match.specs.ldap_forms.Forms.{form_of}
+use Rattle.dir_entry.proofs.Keyed.{map-map}
+use Rattle.dir_entry.proofs.attribute.Attribute.copy.Goals as goal
+
+pub invariant_of-result : goal.invariant_of-result
+invariant_of-result c =
+    c.in_ok-copy_forms.ensures ∙ c.as_slice-3.ensures.value
+    ∙ c.self.invariant
+    ∙ sym (map-map form_of (λ (v : Vec ℕ Global). v.items) c.self.inside.values.items)
+    ∙ sym (ap (map form_of) (c.in_ok-copy_values.ensures ∙ ap (map (λ (v : Vec ℕ Global). v.items)) c.as_slice.ensures.value))
+    ∙ map-map form_of (λ (v : Vec ℕ Global). v.items) c.in_ok-copy_values.field-0.items

@@ -1,0 +1,13 @@
+use Rattle.std.proofs.Common.{ℕ, List, Vec, Global, map, ap, sym, ◌∙◌}
+use Rattle.ldap_dn.specs.ldap_forms.Forms.{is_text_met}
+use Rattle.ldap_match.specs.Truth.{truth_of}
+use Rattle.ldap_match.specs.Matched.{match_value}
+use Rattle.ldap_match.specs.declared.matching.MatchTest.{MatchTest}
+use Rattle.ldap_match.proofs.Matches.{any_map}
+use Rattle.ldap_match.proofs.matching.match_on_values.Goals as goal
+
+pub returns-in-Text : goal.returns-in-Text
+returns-in-Text c =
+    c.truth-in-Text.ensures
+    ∙ ap truth_of (c.has_text.ensures ∙ sym (any_map (is_text_met c.in-Text.rule c.in-Text.asserted.less c.in-Text.asserted.key) (λ (v : Vec ℕ Global). v.items) c.args.values.now))
+    ∙ sym (ap (λ (t : MatchTest). match_value t (map (λ (v : Vec ℕ Global). v.items) c.args.values.now) c.args.keys.now) c.in-Text.is)
