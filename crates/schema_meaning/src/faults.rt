@@ -9,37 +9,43 @@ ghost use Rattle.schema_meaning.specs.Naming as naming;
 ghost use Rattle.schema_meaning.specs.Faults as faults;
 ghost use Rattle.schema_meaning.specs.Inheriting as inheriting;
 
-use crate::inheriting::{Way, is_unfit, ways_of};
-use crate::naming::{find, is_repeated};
+use crate::called::Called;
+use crate::effects::Effects;
+use crate::first_lines::FirstLines;
+use crate::indexed::IndexedText;
 use ldap_syntax::{equality_family, ordering_family, substrings_family, syntax_of};
-use schema_text::{Description, Keyword, SchemaText};
+use schema_text::{Description, Keyword};
 use std::alloc::{AllocError, Global};
 
 /// Whether the description of a type is bad together with the others.
 fn is_bad_type(
     alloc: Global,
-    text: &SchemaText,
-    ways: &[Way],
+    text: &FirstLines,
+    effects: &Effects,
     number: usize,
     description: &Description,
 ) -> Result<bool, AllocError>
-    requires { ways.now ≡ inheriting.ways_of text.now.types }
+    requires { effects.now ≡ text.now.types }
     ensures { IfOk result (λ b. b ≡ faults.is_bad_type text.now number description.now) }
 {
-    if is_repeated(text.types(), text.classes(), description) {
+    if text.is_repeated(alloc, description)? {
         return Ok(true);
     }
-    is_unfit(alloc, text.types(), ways, number)
+    Ok(effects.is_unfit(number))
 }
 
 /// The line of the first type that is bad together with the others.
-fn bad_type(alloc: Global, text: &SchemaText) -> Result<Option<usize>, AllocError>
+fn bad_type(
+    alloc: Global,
+    text: &FirstLines,
+    effects: &Effects,
+) -> Result<Option<usize>, AllocError>
+    requires { effects.now ≡ text.now.types }
     ensures { IfOk result (λ o. o ≡ faults.first_of_types (faults.is_bad_type text.now) 0 text.now.types) }
 {
-    let types = text.types();
-    let ways = ways_of(alloc, types)?;
+    let types = text.text().types();
     for (number, description) in types.iter().enumerate() {
-        if is_bad_type(alloc, text, &ways, number, description)? {
+        if is_bad_type(alloc, text, effects, number, description)? {
             return Ok(Some(description.line()));
         }
     }
@@ -47,16 +53,16 @@ fn bad_type(alloc: Global, text: &SchemaText) -> Result<Option<usize>, AllocErro
 }
 
 /// The line of the first class that has a name or an object identifier of an earlier description.
-fn bad_class(text: &SchemaText) -> Option<usize>
-    ensures { result ≡ faults.first_of_all (naming.is_repeated text.now.types text.now.classes) text.now.classes }
+fn bad_class(alloc: Global, text: &FirstLines) -> Result<Option<usize>, AllocError>
+    ensures { IfOk result (λ o. o ≡ faults.first_of_all (naming.is_repeated text.now.types text.now.classes) text.now.classes) }
 {
-    let classes = text.classes();
+    let classes = text.text().classes();
     for description in classes {
-        if is_repeated(text.types(), text.classes(), description) {
-            return Some(description.line());
+        if text.is_repeated(alloc, description)? {
+            return Ok(Some(description.line()));
         }
     }
-    None
+    Ok(None)
 }
 
 /// The lower one of two lines.
@@ -73,20 +79,24 @@ pub fn earlier(first: Option<usize>, second: Option<usize>) -> Option<usize>
 }
 
 /// The first line that is no description, or one that is bad together with the others.
-pub fn bad_line(alloc: Global, text: &SchemaText) -> Result<Option<usize>, AllocError>
-    ensures { IfOk result (λ o. o ≡ faults.bad_line text.now) }
+pub fn bad_line(alloc: Global, indexed: &IndexedText) -> Result<Option<usize>, AllocError>
+    ensures { IfOk result (λ o. o ≡ faults.bad_line indexed.now) }
 {
-    let bad_type = bad_type(alloc, text)?;
-    Ok(earlier(text.bad(), earlier(bad_type, bad_class(text))))
+    let text = indexed.text();
+    let effects = Effects::of(alloc, indexed.types())?;
+    let first = FirstLines::of(alloc, text)?;
+    let bad_type = bad_type(alloc, &first, &effects)?;
+    let bad_class = bad_class(alloc, &first)?;
+    Ok(earlier(text.bad(), earlier(bad_type, bad_class)))
 }
 
 /// Whether the superior type, if one is given, is known.
-fn knows_superior(types: &[Description], description: &Description) -> bool
+fn knows_superior(types: &Called, description: &Description) -> bool
     ensures { result ≡ faults.is_known_by (naming.find types.now) (naming.superior_text description.now) }
 {
     match description.text(Keyword::Sup) {
         None => true,
-        Some(word) => find(types, word).is_some(),
+        Some(word) => types.find(word).is_some(),
     }
 }
 
@@ -131,7 +141,7 @@ fn knows_syntax(description: &Description) -> bool
 }
 
 /// Whether all that the description of a type names is known.
-fn names_known_type(types: &[Description], description: &Description) -> bool
+fn names_known_type(types: &Called, description: &Description) -> bool
     ensures { result ≡ faults.names_known_type types.now description.now }
 {
     knows_superior(types, description)
@@ -142,11 +152,11 @@ fn names_known_type(types: &[Description], description: &Description) -> bool
 }
 
 /// Whether each of the words calls one of the descriptions.
-fn are_known(descriptions: &[Description], words: &[Vec<u8>]) -> bool
+fn are_known(descriptions: &Called, words: &[Vec<u8>]) -> bool
     ensures { result ≡ faults.are_known descriptions.now (map (λ v. v.items) words.now) }
 {
     for word in words {
-        if find(descriptions, word.as_slice()).is_none() {
+        if descriptions.find(word.as_slice()).is_none() {
             return false;
         }
     }
@@ -154,7 +164,7 @@ fn are_known(descriptions: &[Description], words: &[Vec<u8>]) -> bool
 }
 
 /// Whether all that the description of a class names is known.
-fn names_known_class(text: &SchemaText, description: &Description) -> bool
+fn names_known_class(text: &IndexedText, description: &Description) -> bool
     ensures { result ≡ faults.names_known_class text.now description.now }
 {
     are_known(text.classes(), description.texts(Keyword::Sup))
@@ -163,10 +173,10 @@ fn names_known_class(text: &SchemaText, description: &Description) -> bool
 }
 
 /// The line of the first type that names what is not known.
-fn unknown_in_type(types: &[Description]) -> Option<usize>
+fn unknown_in_type(types: &Called) -> Option<usize>
     ensures { result ≡ faults.first_of_all (λ d. not (faults.names_known_type types.now d)) types.now }
 {
-    for description in types {
+    for description in types.all() {
         if !names_known_type(types, description) {
             return Some(description.line());
         }
@@ -175,10 +185,10 @@ fn unknown_in_type(types: &[Description]) -> Option<usize>
 }
 
 /// The line of the first class that names what is not known.
-fn unknown_in_class(text: &SchemaText) -> Option<usize>
+fn unknown_in_class(text: &IndexedText) -> Option<usize>
     ensures { result ≡ faults.first_of_all (λ d. not (faults.names_known_class text.now d)) text.now.classes }
 {
-    let classes = text.classes();
+    let classes = text.classes().all();
     for description in classes {
         if !names_known_class(text, description) {
             return Some(description.line());
@@ -188,7 +198,7 @@ fn unknown_in_class(text: &SchemaText) -> Option<usize>
 }
 
 /// The first line that names a rule, a syntax, a type or a class that is not known.
-pub fn unknown_line(text: &SchemaText) -> Option<usize>
+pub fn unknown_line(text: &IndexedText) -> Option<usize>
     ensures { result ≡ faults.unknown_line text.now }
 {
     earlier(unknown_in_type(text.types()), unknown_in_class(text))

@@ -1,13 +1,13 @@
-// The chain of SUPs, and what is in effect for a type. Descriptions flow in; chains, rules and syntaxes flow out.
-// What must not be here: lines, schemas.
+// Where SUPs lead, and what a type inherits. Descriptions flow in; numbers of types, rules and syntaxes flow out.
+// What must not be here: the effects of all types, lines, schemas.
 
-ghost use Rattle.std.specs.Prelude.{◌≡◌, [], ◌∷◌, map, option_map, reverse, slice_get, IfOk};
+ghost use Rattle.std.specs.Prelude.{◌≡◌, IfOk};
 ghost use Rattle.schema_text.specs.Descriptions.{first_text_at};
 ghost use Rattle.ldap_syntax.specs.RulesByName as rules;
 ghost use Rattle.schema_meaning.specs.Naming.{superior_text};
 ghost use Rattle.schema_meaning.specs.Inheriting as inheriting;
 
-use crate::naming::find;
+use crate::called::Called;
 use ldap_syntax::{
     Family, Syntax, equality_family, family_number, is_used_on, ordering_family, substrings_family,
     syntax_of,
@@ -45,12 +45,12 @@ pub struct Effect {
 }
 
 /// Where the SUP of a description leads.
-fn way_of(types: &[Description], description: &Description) -> Way
+fn way_of(types: &Called, description: &Description) -> Way
     ensures { result ≡ inheriting.way_by types.now (superior_text description.now) }
 {
     match description.text(Keyword::Sup) {
         None => Way::Ends,
-        Some(word) => match find(types, word) {
+        Some(word) => match types.find(word) {
             None => Way::IsLost,
             Some(above) => Way::GoesTo(above),
         },
@@ -58,11 +58,12 @@ fn way_of(types: &[Description], description: &Description) -> Way
 }
 
 /// Where the SUP of each type leads: each is looked up once, whatever leads to it.
-pub fn ways_of(alloc: Global, types: &[Description]) -> Result<Vec<Way>, AllocError>
+pub fn ways_of(alloc: Global, types: &Called) -> Result<Vec<Way>, AllocError>
     ensures { IfOk result (λ v. v.items ≡ inheriting.ways_of types.now) }
 {
-    let mut ways = Vec::with_capacity(alloc, types.len())?;
-    for description in types {
+    let descriptions = types.all();
+    let mut ways = Vec::with_capacity(alloc, descriptions.len())?;
+    for description in descriptions {
         ways.push(way_of(types, description))?;
     }
     Ok(ways)
@@ -70,7 +71,7 @@ pub fn ways_of(alloc: Global, types: &[Description]) -> Result<Vec<Way>, AllocEr
 
 /// Where the SUP of the type of a number leads.
 #[tactic(auto, using(crate::proofs::Ways::way_at))]
-fn way_from(types: &[Description], ways: &[Way], number: usize) -> Way
+pub fn way_from(types: &[Description], ways: &[Way], number: usize) -> Way
     requires { ways.now ≡ inheriting.ways_of types.now }
     ensures { result ≡ inheriting.way_from types.now number }
 {
@@ -78,32 +79,6 @@ fn way_from(types: &[Description], ways: &[Way], number: usize) -> Way
         Some(way) => *way,
         None => Way::IsLost,
     }
-}
-
-/// The chain of SUPs of a type, itself first; none, where the chain leads to no type or does not end.
-fn lineage(
-    alloc: Global,
-    types: &[Description],
-    ways: &[Way],
-    number: usize,
-) -> Result<Option<Vec<usize>>, AllocError>
-    requires { ways.now ≡ inheriting.ways_of types.now }
-    ensures { IfOk result (λ o. option_map (λ v. v.items) o ≡ inheriting.lineage types.now number) }
-{
-    let mut found = Vec::new(alloc);
-    found.push(number)?;
-    let mut current = number;
-    for step in types {
-        match way_from(types, ways, current) {
-            Way::Ends => return Ok(Some(found)),
-            Way::IsLost => return Ok(None),
-            Way::GoesTo(above) => {
-                found.push(above)?;
-                current = above;
-            }
-        }
-    }
-    Ok(None)
 }
 
 /// The family of the equality rule that a description gives.
@@ -153,7 +128,7 @@ fn own(description: &Description) -> Effect
 }
 
 /// What the type of a number says of rules and syntax itself.
-fn own_at(types: &[Description], number: usize) -> Effect
+pub fn own_at(types: &[Description], number: usize) -> Effect
     ensures { result ≡ inheriting.own_at types.now number }
 {
     match types.get(number) {
@@ -229,7 +204,7 @@ fn kept(keeps: bool, rule: Option<Family>) -> Option<Family>
 }
 
 /// What is in effect for a type with rules of its own under one with these.
-fn inherited(above: Effect, own: Effect) -> Effect
+pub fn inherited(above: Effect, own: Effect) -> Effect
     ensures { result ≡ inheriting.inherited above own }
 {
     let keeps = agree(own.equality, family_of(above));
@@ -241,65 +216,8 @@ fn inherited(above: Effect, own: Effect) -> Effect
     }
 }
 
-/// What is in effect down the types of these numbers.
-fn effect_down(types: &[Description], chain: &[usize]) -> Effect
-    ensures { result ≡ inheriting.effect_down types.now inheriting.nothing chain.now }
-{
-    let mut effect = Effect {
-        equality: None,
-        ordering: None,
-        substrings: None,
-        syntax: Given::Missing,
-    };
-    for number in chain {
-        effect = inherited(effect, own_at(types, *number));
-    }
-    effect
-}
-
-/// What is in effect down a chain of SUPs.
-fn effect_along(types: &[Description], chain: Vec<usize>) -> Effect
-    ensures { result ≡ inheriting.effect_down types.now inheriting.nothing (reverse chain.items) }
-{
-    let mut chain = chain;
-    chain.as_mut_slice().reverse();
-    effect_down(types, chain.as_slice())
-}
-
-/// The rules and the syntax in effect for the type of a number.
-pub fn effect_of(
-    alloc: Global,
-    types: &[Description],
-    ways: &[Way],
-    number: usize,
-) -> Result<Effect, AllocError>
-    requires { ways.now ≡ inheriting.ways_of types.now }
-    ensures { IfOk result (λ e. e ≡ inheriting.effect_of types.now number) }
-{
-    match lineage(alloc, types, ways, number)? {
-        Some(chain) => Ok(effect_along(types, chain)),
-        None => Ok(own_at(types, number)),
-    }
-}
-
-/// Whether the chain of SUPs of a type comes to an end.
-fn has_lineage(
-    alloc: Global,
-    types: &[Description],
-    ways: &[Way],
-    number: usize,
-) -> Result<bool, AllocError>
-    requires { ways.now ≡ inheriting.ways_of types.now }
-    ensures { IfOk result (λ b. b ≡ inheriting.has_lineage types.now number) }
-{
-    match lineage(alloc, types, ways, number)? {
-        Some(_) => Ok(true),
-        None => Ok(false),
-    }
-}
-
 /// Whether there are rules of more than one family.
-fn is_mixed(effect: Effect) -> bool
+pub fn is_mixed(effect: Effect) -> bool
     ensures { result ≡ inheriting.is_mixed effect }
 {
     match family_of(effect) {
@@ -323,7 +241,7 @@ fn is_not_used_on(family: Option<Family>, syntax: Syntax) -> bool
 }
 
 /// Whether there is no syntax, or one that the rules are not used on.
-fn lacks_syntax(effect: Effect) -> bool
+pub fn lacks_syntax(effect: Effect) -> bool
     ensures { result ≡ inheriting.lacks_syntax effect }
 {
     match effect.syntax {
@@ -331,19 +249,4 @@ fn lacks_syntax(effect: Effect) -> bool
         Given::Unknown => false,
         Given::Known(syntax) => is_not_used_on(family_of(effect), syntax),
     }
-}
-
-/// Whether the type of a number is mixed, or has no syntax that its rules are used on though its chain of SUPs ends.
-pub fn is_unfit(
-    alloc: Global,
-    types: &[Description],
-    ways: &[Way],
-    number: usize,
-) -> Result<bool, AllocError>
-    requires { ways.now ≡ inheriting.ways_of types.now }
-    ensures { IfOk result (λ b. b ≡ inheriting.is_unfit types.now number) }
-{
-    let effect = effect_of(alloc, types, ways, number)?;
-    let ends = has_lineage(alloc, types, ways, number)?;
-    Ok(is_mixed(effect) || (ends && lacks_syntax(effect)))
 }

@@ -2,15 +2,24 @@
 //! in effect and the first faulty lines flow out. Reading text, and schemas, are not here.
 #![tactic(auto)]
 
+mod called;
+mod effects;
 mod faults;
+mod first_lines;
+mod indexed;
 mod inheriting;
 mod naming;
+mod octets;
+mod ordered;
 
+pub use called::Called;
+pub use effects::Effects;
 pub use faults::{bad_line, earlier, unknown_line};
-pub use inheriting::{Effect, Given, Way, effect_of, ways_of};
+pub use indexed::IndexedText;
+pub use inheriting::{Effect, Given};
 pub use ldap_syntax::{
     Family, Key, Part, Rule, Syntax, ValueError, has_meaning, has_ordering, has_substrings,
     is_in_syntax, is_numericoid, key_of, keys_compare, part_key_of, parts_compare,
 };
-pub use naming::{find, names, superior_of};
+pub use naming::{names, superior_of};
 pub use schema_text::{Description, Field, Keyword, SchemaText, read_text};

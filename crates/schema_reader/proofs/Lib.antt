@@ -1,4 +1,5 @@
 pub mod AsText
 pub mod Loops
+pub mod LoopingTypes
 pub mod Judged
 pub mod BuiltInText

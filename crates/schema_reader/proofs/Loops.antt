@@ -9,25 +9,25 @@ use Rattle.ldap_schema.specs.Schema.{TypeModel, led, if_led, superior_of, superi
 use Rattle.schema_reader.specs.Reading.{is_type_looping}
 use Rattle.ldap_schema.proofs.Chains.{none_past, empty_past}
 
-false_true : false ≡ true → ⊥
+pub false_true : false ≡ true → ⊥
 false_true h = cc
 
-none_some : {A : Type 0} {x : A} → None ≡ Some x → ⊥
+pub none_some : {A : Type 0} {x : A} → None ≡ Some x → ⊥
 none_some h = cc
 
-or_left : (a b : Bool) → (a || b) ≡ false → a ≡ false
+pub or_left : (a b : Bool) → (a || b) ≡ false → a ≡ false
 or_left true b h = absurd (cc)
 or_left false b h = refl
 
-or_right : (a b : Bool) → (a || b) ≡ false → b ≡ false
+pub or_right : (a b : Bool) → (a || b) ≡ false → b ≡ false
 or_right true b h = absurd (cc)
 or_right false b h = h
 
-or_cases : {P : Type 0} (a b : Bool) → (a || b) ≡ true → (a ≡ true → P) → (b ≡ true → P) → P
+pub or_cases : {P : Type 0} (a b : Bool) → (a || b) ≡ true → (a ≡ true → P) → (b ≡ true → P) → P
 or_cases true b h f g = f refl
 or_cases false b h f g = g h
 
-same_number : (a b : ℕ) → nat_eq a b ≡ true → a ≡ b
+pub same_number : (a b : ℕ) → nat_eq a b ≡ true → a ≡ b
 same_number a b h = grind (arith, nat_tests, h)
 
 turned : (a b : ℕ) → nat_eq a b ≡ false → nat_eq b a ≡ false
@@ -38,7 +38,7 @@ within_by : (ts : List TypeModel) (t u : ℕ) → superior_of ts t ≡ Some u �
 within_by ts t u e (inl lt) = lt
 within_by ts t u e (inr le) = absurd (none_some (sym (none_past ts t le) ∙ e))
 
-within : (ts : List TypeModel) (t u : ℕ) → superior_of ts t ≡ Some u → t < length ts
+pub within : (ts : List TypeModel) (t u : ℕ) → superior_of ts t ≡ Some u → t < length ts
 within ts t u e = within_by ts t u e (cases_lt t (length ts))
 
 -- a chain that goes on has a number for each step
@@ -46,7 +46,7 @@ len_by : (ts : List TypeModel) (k : ℕ) (o : Option ℕ) → ((u : ℕ) → end
 len_by ts k None f h = absurd (cc)
 len_by ts k (Some u) f h = ap suc (f u h)
 
-len : (ts : List TypeModel) (k t : ℕ) → ends_within k ts t ≡ false → length (superiors k ts t) ≡ k
+pub len : (ts : List TypeModel) (k t : ℕ) → ends_within k ts t ≡ false → length (superiors k ts t) ≡ k
 len ts zero t h = refl
 len ts (suc k) t h = len_by ts k (superior_of ts t) (λ u. len ts k u) h
 
@@ -62,7 +62,7 @@ further_by : (ts : List TypeModel) (k q : ℕ) (o : Option ℕ) → ((u : ℕ) �
 further_by ts k q None f h m = absurd (false_true m)
 further_by ts k q (Some u) f h m = f u h m
 
-below : (ts : List TypeModel) (k t : ℕ) → ends_within k ts t ≡ false → (q : ℕ) → list_any (nat_eq q) (t ∷ superiors k ts t) ≡ true → q < length ts
+pub below : (ts : List TypeModel) (k t : ℕ) → ends_within k ts t ≡ false → (q : ℕ) → list_any (nat_eq q) (t ∷ superiors k ts t) ≡ true → q < length ts
 below ts zero t h q m = or_cases (nat_eq q t) false m (λ e. at_low ts t q e (low_by ts t (λ u. false) (superior_of ts t) refl h)) (λ z. absurd (false_true z))
 below ts (suc k) t h q m =
     or_cases (nat_eq q t) (list_any (nat_eq q) (superiors (suc k) ts t)) m
@@ -74,17 +74,17 @@ begun_by : (ts : List TypeModel) (p : ℕ → Bool) (k n : ℕ) (o : Option ℕ)
 begun_by ts p k n None f h = refl
 begun_by ts p k n (Some u) f h = ap (λ (b : Bool). b || list_any p (superiors k ts u)) (or_left (p u) _ h) ∙ f u (or_right (p u) _ h)
 
-begun : (ts : List TypeModel) (p : ℕ → Bool) (k n t : ℕ) → k ≤ n → list_any p (superiors n ts t) ≡ false → list_any p (superiors k ts t) ≡ false
+pub begun : (ts : List TypeModel) (p : ℕ → Bool) (k n t : ℕ) → k ≤ n → list_any p (superiors n ts t) ≡ false → list_any p (superiors k ts t) ≡ false
 begun ts p zero n t le h = refl
 begun ts p (suc k) zero t le h = absurd (omega (arith, le))
 begun ts p (suc k) (suc n) t le h = begun_by ts p k n (superior_of ts t) (λ u. begun ts p k n u (omega (arith, le))) h
 
 -- a chain that never comes back has no number twice
-apart : (t : ℕ) (us : List ℕ) → list_any (λ u. nat_eq u t) us ≡ false → AllByRecursion (λ y. nat_eq t y ≡ false) us
+pub apart : (t : ℕ) (us : List ℕ) → list_any (λ u. nat_eq u t) us ≡ false → AllByRecursion (λ y. nat_eq t y ≡ false) us
 apart t [] h = tt
 apart t (u ∷ us) h = (turned u t (or_left (nat_eq u t) _ h), apart t us (or_right (nat_eq u t) _ h))
 
-one_distinct : (t : ℕ) → IsDistinct nat_eq (t ∷ [])
+pub one_distinct : (t : ℕ) → IsDistinct nat_eq (t ∷ [])
 unfolding IsDistinct
 one_distinct t = (tt, tt)
 

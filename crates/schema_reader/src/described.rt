@@ -7,8 +7,8 @@ ghost use Rattle.schema_reader.specs.Described as described;
 
 use ldap_schema::{AttributeType, ClassId, ClassKind, ObjectClass, TypeId};
 use schema_meaning::{
-    Description, Effect, Family, Field, Given, Keyword, Rule, SchemaText, Syntax, effect_of, find,
-    names, superior_of, ways_of,
+    Called, Description, Effect, Effects, Family, Field, Given, IndexedText, Keyword, Rule, Syntax,
+    names, superior_of,
 };
 use std::alloc::{AllocError, Global};
 
@@ -64,7 +64,7 @@ fn rule_on(given: Given, family: Option<Family>) -> Option<Rule>
 }
 
 /// The superior type of a description.
-fn superior(types: &[Description], description: &Description) -> Option<TypeId>
+fn superior(types: &Called, description: &Description) -> Option<TypeId>
     ensures { result ≡ naming.superior_of types.now description.now }
 {
     match superior_of(types, description) {
@@ -76,7 +76,7 @@ fn superior(types: &[Description], description: &Description) -> Option<TypeId>
 /// The type of a description with what is in effect for it.
 fn type_with(
     alloc: Global,
-    types: &[Description],
+    types: &Called,
     description: &Description,
     effect: Effect,
 ) -> Result<AttributeType, AllocError>
@@ -95,29 +95,26 @@ fn type_with(
 }
 
 /// The types of descriptions, in their order.
-pub fn types_of(alloc: Global, types: &[Description]) -> Result<Vec<AttributeType>, AllocError>
+pub fn types_of(alloc: Global, types: &Called) -> Result<Vec<AttributeType>, AllocError>
     ensures { IfOk result (λ v. v.items ≡ described.types_from types.now 0 types.now) }
 {
-    let ways = ways_of(alloc, types)?;
+    let effects = Effects::of(alloc, types)?;
+    let descriptions = types.all();
     let mut found = Vec::new(alloc);
-    for (number, description) in types.iter().enumerate() {
-        let effect = effect_of(alloc, types, &ways, number)?;
+    for (number, description) in descriptions.iter().enumerate() {
+        let effect = effects.of_type(number);
         found.push(type_with(alloc, types, description, effect)?)?;
     }
     Ok(found)
 }
 
 /// The types that the words call.
-fn type_numbers(
-    alloc: Global,
-    types: &[Description],
-    words: &[Vec<u8>],
-) -> Result<Vec<TypeId>, AllocError>
+fn type_numbers(alloc: Global, types: &Called, words: &[Vec<u8>]) -> Result<Vec<TypeId>, AllocError>
     ensures { IfOk result (λ v. v.items ≡ described.numbers_of types.now (map (λ w. w.items) words.now)) }
 {
     let mut numbers = Vec::new(alloc);
     for word in words {
-        match find(types, word.as_slice()) {
+        match types.find(word.as_slice()) {
             Some(number) => numbers.push(TypeId::new(number))?,
             None => {}
         }
@@ -128,14 +125,14 @@ fn type_numbers(
 /// The classes that the words call.
 fn class_numbers(
     alloc: Global,
-    classes: &[Description],
+    classes: &Called,
     words: &[Vec<u8>],
 ) -> Result<Vec<ClassId>, AllocError>
     ensures { IfOk result (λ v. v.items ≡ described.numbers_of classes.now (map (λ w. w.items) words.now)) }
 {
     let mut numbers = Vec::new(alloc);
     for word in words {
-        match find(classes, word.as_slice()) {
+        match classes.find(word.as_slice()) {
             Some(number) => numbers.push(ClassId::new(number))?,
             None => {}
         }
@@ -173,7 +170,7 @@ fn kind_of(fields: &[Field]) -> ClassKind
 /// The class of a description.
 fn class_of(
     alloc: Global,
-    text: &SchemaText,
+    text: &IndexedText,
     description: &Description,
 ) -> Result<ObjectClass, AllocError>
     ensures { IfOk result (λ c. c ≡ described.class_of text.now description.now) }
@@ -189,11 +186,11 @@ fn class_of(
 }
 
 /// The classes of descriptions, in their order.
-pub fn classes_of(alloc: Global, text: &SchemaText) -> Result<Vec<ObjectClass>, AllocError>
+pub fn classes_of(alloc: Global, text: &IndexedText) -> Result<Vec<ObjectClass>, AllocError>
     ensures { IfOk result (λ v. v.items ≡ map (described.class_of text.now) text.now.classes) }
 {
     let mut found = Vec::new(alloc);
-    let classes = text.classes();
+    let classes = text.classes().all();
     for description in classes {
         found.push(class_of(alloc, text, description)?)?;
     }

@@ -6,9 +6,10 @@ ghost use Rattle.schema_meaning.specs.Faults as faults;
 ghost use Rattle.schema_reader.specs.Reading as reading;
 
 use crate::error::SchemaError;
-use crate::looping::{class_loop, no_equality, required, type_loop};
+use crate::looping::{class_loop, no_equality, required};
+use crate::type_loops::type_loop;
 use ldap_schema::{AttributeType, ObjectClass, TypeId};
-use schema_meaning::{SchemaText, bad_line, earlier, unknown_line};
+use schema_meaning::{IndexedText, bad_line, earlier, unknown_line};
 use std::alloc::{AllocError, Global};
 
 /// The lower one of two lines.
@@ -24,21 +25,21 @@ fn lower(first: Option<usize>, second: usize) -> usize
 /// The first line of a type or a class whose SUP leads back to it.
 fn loop_line(
     alloc: Global,
-    text: &SchemaText,
+    text: &IndexedText,
     types: &[AttributeType],
     classes: &[ObjectClass],
 ) -> Result<Option<usize>, AllocError>
     ensures { IfOk result (λ o. o ≡ reading.loop_line text.now (record { types = types.now; classes = classes.now })) }
 {
-    let type_line = type_loop(alloc, types, text.types())?;
-    let class_line = class_loop(alloc, classes, text.classes())?;
+    let type_line = type_loop(alloc, types, text.types().all())?;
+    let class_line = class_loop(alloc, classes, text.classes().all())?;
     Ok(earlier(type_line, class_line))
 }
 
 /// Nothing wrong with loops and EQUALITY rules.
 fn without_loops(
     alloc: Global,
-    text: &SchemaText,
+    text: &IndexedText,
     types: &[AttributeType],
     classes: &[ObjectClass],
 ) -> Result<(), SchemaError>
@@ -49,7 +50,7 @@ fn without_loops(
         Some(line) => return Err(SchemaError::LoopInSup { line }),
         None => {}
     }
-    match no_equality(types, text.types()) {
+    match no_equality(types, text.types().all()) {
         Some(line) => Err(SchemaError::NoEquality { line }),
         None => Ok(()),
     }
@@ -57,7 +58,7 @@ fn without_loops(
 
 /// The type objectClass, if all names are known.
 fn without_unknown(
-    text: &SchemaText,
+    text: &IndexedText,
     types: &[AttributeType],
     classes: &[ObjectClass],
 ) -> Result<TypeId, SchemaError>
@@ -66,7 +67,7 @@ fn without_unknown(
 {
     let unknown = unknown_line(text);
     let Some(object_class) = required(types, classes) else {
-        let line = lower(unknown, text.behind());
+        let line = lower(unknown, text.text().behind());
         return Err(SchemaError::UnknownName { line });
     };
     match unknown {
@@ -78,7 +79,7 @@ fn without_unknown(
 /// The type objectClass, if nothing is wrong.
 pub fn judged(
     alloc: Global,
-    text: &SchemaText,
+    text: &IndexedText,
     types: &[AttributeType],
     classes: &[ObjectClass],
 ) -> Result<TypeId, SchemaError>

@@ -9,6 +9,7 @@ mod error;
 mod judging;
 mod looping;
 mod reading;
+mod type_loops;
 
 pub use error::SchemaError;
 pub use reading::{built_in_is_its_text, built_in_schema, read_schema};

@@ -1,13 +1,13 @@
 // What is wrong with the types and classes of a text. Types, classes and descriptions flow in, numbers of lines flow out.
-// What must not be here: the reading of descriptions.
+// What must not be here: the reading of descriptions, loops of types.
 
 ghost use Rattle.std.specs.Prelude.{◌≡◌, IfOk, slice_get};
 ghost use Rattle.schema_meaning.specs.Faults.{first_of_types};
 ghost use Rattle.schema_reader.specs.Reading as reading;
 
 use ldap_schema::{
-    AttributeType, ClassId, ObjectClass, TypeId, class_called, is_class_among, is_type_among,
-    superclasses_of, superiors, type_called, with_superclasses,
+    AttributeType, ClassId, ObjectClass, TypeId, class_called, is_class_among, superclasses_of,
+    type_called, with_superclasses,
 };
 use schema_meaning::{Description, Family, Rule, SchemaText, Syntax};
 use std::alloc::{AllocError, Global};
@@ -55,18 +55,6 @@ pub fn object_class_type(types: &[AttributeType]) -> Option<TypeId>
     }
 }
 
-/// Whether the SUP of a type leads back to it.
-fn is_type_looping(
-    alloc: Global,
-    types: &[AttributeType],
-    type_id: TypeId,
-) -> Result<bool, AllocError>
-    ensures { IfOk result (λ b. b ≡ reading.is_type_looping types.now type_id) }
-{
-    let above = superiors(alloc, types, type_id)?;
-    Ok(is_type_among(above.as_slice(), type_id))
-}
-
 /// Whether the superclasses of a class lead back to it.
 fn is_class_looping(
     alloc: Global,
@@ -77,22 +65,6 @@ fn is_class_looping(
 {
     let above = with_superclasses(alloc, classes, superclasses_of(classes, class))?;
     Ok(is_class_among(above.as_slice(), class))
-}
-
-/// The line of the first type whose SUP leads back to it.
-pub fn type_loop(
-    alloc: Global,
-    types: &[AttributeType],
-    descriptions: &[Description],
-) -> Result<Option<usize>, AllocError>
-    ensures { IfOk result (λ o. o ≡ first_of_types (λ t d. reading.is_type_looping types.now t) 0 descriptions.now) }
-{
-    for (number, description) in descriptions.iter().enumerate() {
-        if is_type_looping(alloc, types, TypeId::new(number))? {
-            return Ok(Some(description.line()));
-        }
-    }
-    Ok(None)
 }
 
 /// The line of the first class whose superclasses lead back to it.

@@ -10,7 +10,7 @@ use crate::described::{classes_of, types_of};
 use crate::error::SchemaError;
 use crate::judging::judged;
 use ldap_schema::Schema;
-use schema_meaning::{SchemaText, read_text};
+use schema_meaning::{IndexedText, SchemaText, read_text};
 use std::alloc::{AllocError, Global};
 
 /// The built-in schema, read from its text. The text is a schema's, so its only error is want of memory.
@@ -42,9 +42,10 @@ fn schema_of_descriptions(alloc: Global, text: &SchemaText) -> Result<Schema, Sc
     ensures found { IfOk result (λ s. schema_of_lines text.now ≡ Ok s) }
     ensures refused { IfErr result (λ e. IsRefusalOf (schema_of_lines text.now) e) }
 {
+    let text = IndexedText::of(alloc, text)?;
     let types = types_of(alloc, text.types())?;
-    let classes = classes_of(alloc, text)?;
-    let object_class = judged(alloc, text, types.as_slice(), classes.as_slice())?;
+    let classes = classes_of(alloc, &text)?;
+    let object_class = judged(alloc, &text, types.as_slice(), classes.as_slice())?;
     let schema = Schema::of_parts(alloc, types, classes, object_class)?;
     Ok(schema)
 }

@@ -1,0 +1,5 @@
+use Rattle.schema_meaning.specs.Settling.{Knows}
+use Rattle.schema_meaning.proofs.effects.table_of.Given as goal
+
+abbrev pub invariant-loop-number : goal.invariant-loop-number
+invariant-loop-number l = Knows l.types l.table.items

@@ -1,0 +1,12 @@
+use Rattle.std.proofs.Common.{ℕ, List, ◌≡◌, drop, map}
+use Rattle.std.specs.List.{list_any}
+use Rattle.std.specs.Char.{to_ascii_lowercase}
+use Rattle.std.specs.Str.{bytes_eq}
+use Rattle.schema_meaning.specs.Octets.{number_at}
+use Rattle.schema_meaning.specs.FirstLines.{noted}
+use Rattle.schema_meaning.proofs.first_lines.note_names.Given as goal
+
+abbrev pub invariant-loop-name : goal.invariant-loop-name
+invariant-loop-name l =
+    (q : List ℕ) → noted (list_any (λ n. bytes_eq q (map to_ascii_lowercase n.items)) (drop l.name-index l.names)) l.line (number_at l.lines.entries q)
+    ≡ noted (list_any (λ n. bytes_eq q (map to_ascii_lowercase n.items)) l.names) l.line (number_at l.initial.lines.entries q)

@@ -1,0 +1,51 @@
+// Numbers that are kept at octets. Octets and numbers flow in, numbers flow out, in as many steps as a logarithm of their count.
+// What must not be here: descriptions, what a number stands for.
+
+ghost use Rattle.std.specs.Prelude.{◌≡◌, ℕ, List, Some, cond, map, IfOk, OnOk};
+ghost use Rattle.std.specs.Char.{to_ascii_lowercase};
+ghost use Rattle.std.specs.Str.{bytes_eq};
+ghost use Rattle.schema_meaning.specs.Octets.{number_at, kept_or};
+
+use std::alloc::{AllocError, Global};
+use std::collections::BTreeMap;
+
+/// Numbers by octets.
+pub type Numbers = BTreeMap<Vec<u8>, usize>;
+
+/// The octets with letters in lower case.
+pub fn lower_case(alloc: Global, name: &[u8]) -> Result<Vec<u8>, AllocError>
+    ensures { IfOk result (λ v. v.items ≡ map to_ascii_lowercase name.now) }
+{
+    name.iter()
+        .map(|octet| octet.to_ascii_lowercase())
+        .collect(alloc)
+}
+
+/// The number of these octets.
+pub fn number_of(numbers: &Numbers, octets: &[u8]) -> Option<usize>
+    ensures { result ≡ number_at numbers.now.entries octets.now }
+{
+    match numbers.get(octets) {
+        Some(number) => Some(*number),
+        None => None,
+    }
+}
+
+/// The number becomes that of these octets.
+pub fn put(numbers: &mut Numbers, octets: Vec<u8>, number: usize) -> Result<(), AllocError>
+    ensures { OnOk result ((q : List ℕ) → number_at numbers.new.entries q ≡ cond (bytes_eq q octets.items) (Some number) (number_at numbers.old.entries q)) }
+{
+    numbers.insert(octets, number)?;
+    Ok(())
+}
+
+/// The number becomes that of these octets, unless they have one.
+#[tactic(auto, using(crate::proofs::Kept::stays, crate::proofs::Kept::comes))]
+pub fn keep(numbers: &mut Numbers, octets: Vec<u8>, number: usize) -> Result<(), AllocError>
+    ensures { OnOk result ((q : List ℕ) → number_at numbers.new.entries q ≡ kept_or (number_at numbers.old.entries q) (bytes_eq q octets.items) number) }
+{
+    match number_of(numbers, octets.as_slice()) {
+        Some(_) => Ok(()),
+        None => put(numbers, octets, number),
+    }
+}
