@@ -1,3 +1,4 @@
 pub mod Shown
 pub mod Named
 pub mod Completed
+pub mod Lined

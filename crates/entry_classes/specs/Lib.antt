@@ -1,2 +1,3 @@
 pub mod Classes
+pub mod Lines
 pub mod Structural

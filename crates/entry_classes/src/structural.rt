@@ -6,10 +6,11 @@ ghost use Rattle.std.specs.List.{list_all};
 ghost use Rattle.dir_entry.specs.ldap_schema.Superclasses.{is_subclass as is_class_under};
 ghost use Rattle.dir_entry.specs.Entry.{attributes_of};
 ghost use Rattle.entry_classes.specs.Classes.{class_values as values_of_object_class, classes_named as classes_that_values_name};
+ghost use Rattle.entry_classes.specs.Lines.{rises_whole};
 ghost use Rattle.entry_classes.specs.Structural.{first_of, structural_class as structural_class_of, is_other_than, changes_class};
 
 use crate::classes::classes_named;
-use crate::obeying::{class_values, is_one_chain, structural_of};
+use crate::obeying::{class_values, goes_up, is_one_chain, structural_of};
 use dir_entry::{Attribute, ClassId, Entry, Schema};
 use std::alloc::{AllocError, Global};
 
@@ -32,6 +33,37 @@ fn lowest_among(schema: &Schema, classes: &[ClassId], others: &[ClassId]) -> Opt
     None
 }
 
+/// Whether each of the classes is under the one behind it.
+fn go_up(schema: &Schema, classes: &[ClassId]) -> bool
+    ensures { result ≡ rises_whole schema.now classes.now }
+{
+    match classes {
+        [] => true,
+        [first, others @ ..] => goes_up(schema, *first, others),
+    }
+}
+
+/// The first of the classes.
+fn first_class(classes: &[ClassId]) -> Option<ClassId>
+    ensures { result ≡ first_of classes.now }
+{
+    match classes {
+        [] => None,
+        [first, ..] => Some(*first),
+    }
+}
+
+/// The first of the classes that is under all of them. Where they go up as they are written, it is the first one.
+fn lowest(schema: &Schema, classes: &[ClassId]) -> Option<ClassId>
+    ensures { result ≡ first_of (filter (λ c. list_all (is_class_under schema.now c) classes.now) classes.now) }
+{
+    schema.subclass_law();
+    if go_up(schema, classes) {
+        return first_class(classes);
+    }
+    lowest_among(schema, classes, classes)
+}
+
 /// The structural object class: the lowest class of the one chain; none, where there is no one chain.
 fn structural_class(
     alloc: Global,
@@ -44,7 +76,7 @@ fn structural_class(
         return Ok(None);
     }
     let structural = structural_of(alloc, schema, classes)?;
-    Ok(lowest_among(schema, structural.as_slice(), structural.as_slice()))
+    Ok(lowest(schema, structural.as_slice()))
 }
 
 /// The structural object class of attributes.

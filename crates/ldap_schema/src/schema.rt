@@ -1,7 +1,7 @@
 // The schema: a table of types and one of classes, and which class is under which, computed once. Names and numbers flow
 // in; types, classes and numbers flow out. What must not be here: reading a schema from text, values.
 
-ghost use Rattle.std.specs.Prelude.{◌≡◌, IfOk, IfSome, IsSome, option_map, slice_get, length, ◌↔◌, IsTrue};
+ghost use Rattle.std.specs.Prelude.{◌≡◌, IfOk, IfSome, IsSome, option_map, slice_get, length, ◌↔◌, IsTrue, ℕ};
 ghost use Rattle.std.specs.Option.{option_copied};
 ghost use Rattle.ldap_schema.specs.Schema.{find as find_type, class_named, class_name, is_under as is_under_type, IsUnder};
 ghost use Rattle.ldap_schema.specs.Superclasses.{missing_superclasses as superclasses_missing, is_subclass as is_class_under, IsSubclass};
@@ -102,6 +102,13 @@ impl Schema {
     {
         below == above
             || is_class_among(superclasses_at(self.superclasses.as_slice(), below), above)
+    }
+
+    /// Of any two classes: the first is under the second exactly where a chain of superclasses leads there (RFC 4512 2.4). It does nothing.
+    pub fn subclass_law(&self)
+        ensures { (a b : ℕ) → IsTrue (is_class_under self.now a b) ↔ IsSubclass self.now a b }
+    {
+        let _ = self.classes.len();
     }
 
     /// The type that the description stands for, by a name in any case or by its object identifier. A description that
