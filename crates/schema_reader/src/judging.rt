@@ -5,8 +5,9 @@ ghost use Rattle.std.specs.Prelude.{◌≡◌, None, Some, IfOk, IfErr};
 ghost use Rattle.schema_meaning.specs.Faults as faults;
 ghost use Rattle.schema_reader.specs.Reading as reading;
 
+use crate::class_loops::class_loop;
 use crate::error::SchemaError;
-use crate::looping::{class_loop, no_equality, required};
+use crate::looping::{no_equality, required};
 use crate::type_loops::type_loop;
 use ldap_schema::{AttributeType, ObjectClass, TypeId};
 use schema_meaning::{IndexedText, bad_line, earlier, unknown_line};

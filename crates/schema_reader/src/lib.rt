@@ -4,6 +4,7 @@
 #![tactic(auto)]
 
 mod built_in;
+mod class_loops;
 mod described;
 mod error;
 mod judging;

@@ -1,16 +1,12 @@
 // What is wrong with the types and classes of a text. Types, classes and descriptions flow in, numbers of lines flow out.
-// What must not be here: the reading of descriptions, loops of types.
+// What must not be here: the reading of descriptions, loops of types and of classes.
 
-ghost use Rattle.std.specs.Prelude.{◌≡◌, IfOk, slice_get};
+ghost use Rattle.std.specs.Prelude.{◌≡◌, slice_get};
 ghost use Rattle.schema_meaning.specs.Faults.{first_of_types};
 ghost use Rattle.schema_reader.specs.Reading as reading;
 
-use ldap_schema::{
-    AttributeType, ClassId, ObjectClass, TypeId, class_called, is_class_among, superclasses_of,
-    type_called, with_superclasses,
-};
+use ldap_schema::{AttributeType, ObjectClass, TypeId, class_called, type_called};
 use schema_meaning::{Description, Family, Rule, SchemaText, Syntax};
-use std::alloc::{AllocError, Global};
 
 /// Whether the rule is objectIdentifierMatch on its syntax.
 fn is_identifier_rule(rule: Option<Rule>) -> bool
@@ -53,34 +49,6 @@ pub fn object_class_type(types: &[AttributeType]) -> Option<TypeId>
     } else {
         None
     }
-}
-
-/// Whether the superclasses of a class lead back to it.
-fn is_class_looping(
-    alloc: Global,
-    classes: &[ObjectClass],
-    class: ClassId,
-) -> Result<bool, AllocError>
-    ensures { IfOk result (λ b. b ≡ reading.is_class_looping classes.now class) }
-{
-    let above = with_superclasses(alloc, classes, superclasses_of(classes, class))?;
-    Ok(is_class_among(above.as_slice(), class))
-}
-
-/// The line of the first class whose superclasses lead back to it.
-pub fn class_loop(
-    alloc: Global,
-    classes: &[ObjectClass],
-    descriptions: &[Description],
-) -> Result<Option<usize>, AllocError>
-    ensures { IfOk result (λ o. o ≡ first_of_types (λ c d. reading.is_class_looping classes.now c) 0 descriptions.now) }
-{
-    for (number, description) in descriptions.iter().enumerate() {
-        if is_class_looping(alloc, classes, ClassId::new(number))? {
-            return Ok(Some(description.line()));
-        }
-    }
-    Ok(None)
 }
 
 /// Whether the type of a number has no EQUALITY rule.

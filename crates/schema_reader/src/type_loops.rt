@@ -103,7 +103,7 @@ fn looping_types(alloc: Global, types: &[AttributeType]) -> Result<Vec<bool>, Al
 }
 
 /// Whether a type has a mark.
-fn has_mark(marks: &[bool], number: usize) -> bool
+pub fn has_mark(marks: &[bool], number: usize) -> bool
     ensures { result ≡ looping.has_mark marks.now number }
 {
     match marks.get(number) {
