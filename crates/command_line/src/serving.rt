@@ -1,6 +1,6 @@
 //! The words of `serve`: what a replica is told. Matched words flow in, and a replica's settings flow out, or why they are none. What a
 //! replica does with them is not here.
-use crate::words::{index_word, schema_word};
+use crate::words::{as_text, index_word, schema_word};
 use clap::builder::ValueParser;
 use clap::error::ErrorKind;
 use clap::{Arg, ArgAction, ArgMatches, Command, Error, value_parser};
@@ -307,9 +307,9 @@ pub fn serving_in<'a>(alloc: Global, matches: &ArgMatches<'a>) -> Result<Serving
         cluster: number_in(matches, "cluster"),
         index,
         store: text_in(matches, "store"),
-        suffix: text_in(matches, "suffix"),
-        manager: text_in(matches, "manager"),
-        password: text_in(matches, "password"),
+        suffix: as_text(alloc, text_in(matches, "suffix"))?,
+        manager: as_text(alloc, text_in(matches, "manager"))?,
+        password: as_text(alloc, text_in(matches, "password"))?,
         schema: matches.get_str("schema"),
         indexes: matches.get_str("index"),
         seats: number_in(matches, "seats"),

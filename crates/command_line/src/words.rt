@@ -1,5 +1,6 @@
 //! The words of the command line: they flow in, a job flows out, or a text for the user. What a job does is not here.
 use crate::serving::{Serving, serve_command, serving_in};
+use clap::error::ErrorKind;
 use clap::{Arg, ArgAction, ArgMatches, Command, Error};
 use ldap_msg::Scope;
 use std::alloc::{AllocError, Global};
@@ -173,21 +174,53 @@ fn scope_of(word: &str) -> Scope {
     }
 }
 
-/// What `search` is told.
-fn question_in<'a>(alloc: Global, matches: &ArgMatches<'a>) -> Result<Question<'a>, AllocError> {
-    let attributes = match matches.get_strs("ATTR") {
-        Some(words) => words.to_vec(alloc)?,
-        None => Vec::new(alloc),
+/// The error of a word that is no text.
+fn not_text(alloc: Global) -> Error {
+    let made = match command(alloc) {
+        Ok(mut command) => {
+            command.error(
+                ErrorKind::ValueValidation,
+                "a word of the command line is not UTF-8",
+            )
+        }
+        Err(error) => Err(error),
     };
+    match made {
+        Ok(error) => error,
+        Err(error) => Error::from(error),
+    }
+}
+
+/// A word that has to be a text, as the system's words that are none have a NUL; only the name of a file may be none.
+pub fn as_text<'a>(alloc: Global, word: &'a str) -> Result<&'a str, Error> {
+    if word.as_bytes().contains(&0) {
+        return Err(not_text(alloc));
+    }
+    Ok(word)
+}
+
+/// The words for what is shown of each entry.
+fn attributes_in<'a>(alloc: Global, matches: &ArgMatches<'a>) -> Result<Vec<&'a str>, Error> {
+    let mut attributes = Vec::new(alloc);
+    for word in matches.get_strs("ATTR").unwrap_or(&[]) {
+        attributes.push(as_text(alloc, *word)?)?;
+    }
+    Ok(attributes)
+}
+
+/// What `search` is told.
+fn question_in<'a>(alloc: Global, matches: &ArgMatches<'a>) -> Result<Question<'a>, Error> {
+    let attributes = attributes_in(alloc, matches)?;
     Ok(Question {
-        base: matches.get_str("BASE").unwrap_or(""),
+        base: as_text(alloc, matches.get_str("BASE").unwrap_or(""))?,
         scope: scope_of(matches.get_str("SCOPE").unwrap_or("")),
-        filter: matches.get_str("FILTER").unwrap_or(""),
+        filter: as_text(alloc, matches.get_str("FILTER").unwrap_or(""))?,
         attributes,
     })
 }
 
-/// Reads the words of the command line, the program's name first.
+/// Reads the words of the command line, the program's name first. One that isn't UTF-8 comes with a NUL in it, and is refused anywhere but as the
+/// name of a file, which then can't be read.
 pub fn read_words<'a>(alloc: Global, words: &'a [String]) -> Result<Job<'a>, Error> {
     let matches = command(alloc)?.try_get_matches_from(words)?;
     match matches.subcommand() {

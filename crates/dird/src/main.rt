@@ -3,22 +3,17 @@
 #![tactic(auto)]
 
 mod serving;
+mod words;
 
 use dird_commands::{Ran, Status, SystemFiles, run};
 use serving::serve_as_replica;
-use std::io::{self, BufReader, BufWriter, ErrorKind, Write};
+use std::io::{self, BufReader, BufWriter, Write};
 use std::process::ExitCode;
+use words::system_words;
 
 fn main(rt: HostRuntime) -> io::Result<ExitCode> {
     let alloc = rt.alloc();
-    let words: Vec<String> = match std::env::args(&rt) {
-        Ok(words) => words.collect(alloc)?,
-        Err(error) if error.kind() == ErrorKind::InvalidData => {
-            rt.eprint("error: a word of the command line is not UTF-8\n")?;
-            return Ok(ExitCode::from(Status::BadCommandLine.code()));
-        }
-        Err(error) => return Err(error),
-    };
+    let words = system_words(alloc, &rt)?;
     let mut input = BufReader::new(alloc, rt.reader())?;
     let mut output = BufWriter::new(alloc, io::writer(&rt))?;
     let mut faults = Vec::new(alloc);

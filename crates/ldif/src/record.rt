@@ -1,7 +1,7 @@
 //! LDIF: records of entries.
 //! In: names, descriptions, octets. Out: records, and their parts. Not here: their text.
 
-ghost use Rattle.std.specs.Prelude.{◌≡◌, ◌++◌, ◌∷◌, [], string_bytes, OnOk};
+ghost use Rattle.std.specs.Prelude.{◌≡◌, ◌++◌, ◌∷◌, [], string_bytes, OnOk, OnErr};
 
 use std::alloc::AllocError;
 use std::marker::Model;
@@ -86,9 +86,10 @@ impl Record {
         self.values.as_slice()
     }
 
-    /// The record with one more value at its end.
+    /// The record with one more value at its end. An `Err` leaves it as it was, and the value is gone.
     pub fn push(&mut self, value: AttributeValue) -> Result<(), AllocError>
-        ensures { OnOk result (self.new ≡ record { name = self.old.name; values = self.old.values ++ value ∷ [] }) }
+        ensures ok { OnOk result (self.new ≡ record { name = self.old.name; values = self.old.values ++ value ∷ [] }) }
+        ensures err { OnErr result (self.new ≡ self.old) }
     {
         self.values.push(value)?;
         Ok(())

@@ -1,7 +1,7 @@
 //! LDIF and messages: lines of hex.
 //! In: octets, or a text. Out: their line, or the octets that lines spell. Not here: what messages mean.
 
-ghost use Rattle.std.specs.Prelude.{◌≡◌, ◌++◌, ℕ, List, Result, map, nat_eq, IfOk, IfErr, OnOk};
+ghost use Rattle.std.specs.Prelude.{◌≡◌, ◌++◌, ℕ, List, Result, map, nat_eq, string_bytes, IfOk, IfErr, OnOk, OnErr};
 ghost use Rattle.std.specs.Option.{option_map};
 ghost use Rattle.std.specs.Result.{result_ok};
 ghost use Rattle.std.specs.List.{slice_split};
@@ -13,13 +13,22 @@ ghost use Rattle.ldif_messages.specs.HexFaults.{IsHexFault, IsLineFault};
 use crate::fault::ExportError;
 use std::alloc::{AllocError, Global};
 
-/// Puts octets as a line of lower-case hex.
-pub fn put_hex_line(alloc: Global, octets: &[u8], out: &mut Vec<u8>) -> Result<(), AllocError>
-    ensures { OnOk result (out.new.items ≡ out.old.items ++ specs.hex_line octets.now) }
+/// Octets as a line of lower-case hex.
+fn line_of(alloc: Global, octets: &[u8]) -> Result<String, AllocError>
+    ensures { IfOk result (λ line. string_bytes line ≡ specs.hex_line octets.now) }
 {
-    let text = hex::encode(alloc, octets)?;
-    out.extend_from_slice(text.as_bytes())?;
-    out.push(b'\n')?;
+    let mut line = hex::encode(alloc, octets)?;
+    line.push('\n')?;
+    Ok(line)
+}
+
+/// Puts octets as a line of lower-case hex. An `Err` puts nothing.
+pub fn put_hex_line(alloc: Global, octets: &[u8], out: &mut Vec<u8>) -> Result<(), AllocError>
+    ensures ok { OnOk result (out.new.items ≡ out.old.items ++ specs.hex_line octets.now) }
+    ensures err { OnErr result (out.new.items ≡ out.old.items) }
+{
+    let line = line_of(alloc, octets)?;
+    out.extend_from_slice(line.as_bytes())?;
     Ok(())
 }
 
