@@ -6,5 +6,5 @@ mod coming;
 mod executed;
 
 pub use coming::due;
-pub use dir_store::{Indexes, Name, Op, Reply, Schema, Store};
+pub use dir_store::{Beside, Indexes, Name, Op, Reply, Schema, SharedEntry, Store};
 pub use executed::Executed;

@@ -4,11 +4,12 @@ ghost use Rattle.std.specs.Prelude.{◌≡◌, ◌↔◌, ◌<◌, [], ◌∷◌
 ghost use Rattle.left_right.specs.Sides.{view as known};
 ghost use Rattle.dir_seats.specs.Lists.{with_records};
 
+use crate::given::Given;
 use crate::rule::ShownWriter;
 use crate::seat::{Seat, Told};
 use crate::steps::{show, tell};
 use core::mem::replace_with;
-use dir_executed::Op;
+use dir_executed::{Op, SharedEntry};
 use std::alloc::AllocError;
 use std::marker::{Model, PhantomData};
 use std::sync::Wait;
@@ -60,7 +61,22 @@ impl<N, R: Wait + Drop> Publisher<N, R> {
         ensures published { self.new.published ≡ self.old.published }
         ensures waiting { MatchResult result (λ _. self.new.waiting ≡ self.old.waiting ++ entry ∷ []) (λ back. (back ≡ entry) × (self.new.waiting ≡ self.old.waiting)) }
     {
-        self.writer.append(entry)
+        self.append_made(entry, None)
+    }
+
+    /// The same, with the entry that the record's update made where it was executed before: what is published shares its memory.
+    pub fn append_made(
+        &mut self,
+        entry: Entry<Op>,
+        made: Option<SharedEntry>,
+    ) -> Result<(), Entry<Op>>
+        ensures published { self.new.published ≡ self.old.published }
+        ensures waiting { MatchResult result (λ _. self.new.waiting ≡ self.old.waiting ++ entry ∷ []) (λ back. (back ≡ entry) × (self.new.waiting ≡ self.old.waiting)) }
+    {
+        match self.writer.append(Given::new(entry, made)) {
+            Ok(()) => Ok(()),
+            Err(given) => Err(given.into_entry()),
+        }
     }
 
     /// Shows all that was appended. It waits for the seats that still read an older list. Want of memory, its only error, changes nothing.

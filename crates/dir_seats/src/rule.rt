@@ -1,13 +1,13 @@
 //! The rule over what is published, and what its steps tell. Nothing flows in; types that clauses name flow out. Code is not here.
 ghost use Rattle.dir_seats.specs.Rule.{Keeps, Sees, newcomer};
 
+use crate::given::Given;
 use crate::shown::Shown;
 use atomic_table::{Join, Split};
 use crossbeam_utils::rule::{Outcome, Protocol};
-use dir_executed::{Executed, Op};
+use dir_executed::Executed;
 use left_right::reader::Reader;
 use left_right::writer::Writer;
-use vr_state::words::Entry;
 
 /// Whether a reader knows anything, and the longest that it saw or was told of. No value of it is made.
 pub type Floor = (bool, Executed);
@@ -48,4 +48,4 @@ impl Join<Floor> for Learned {
 
 pub(crate) type ShownReader = Reader<Shown, Floor, Published>;
 
-pub(crate) type ShownWriter = Writer<Shown, Entry<Op>, Floor, Published>;
+pub(crate) type ShownWriter = Writer<Shown, Given, Floor, Published>;

@@ -4,6 +4,7 @@ ghost use Rattle.std.specs.Prelude.{◌≡◌, ◌++◌, ◌∷◌, [], length, 
 ghost use Rattle.dir_executed.specs.Executing.{directory_at};
 ghost use Rattle.dir_seats.specs.Lists.{with_record};
 
+use crate::given::Given;
 use dir_executed::{Executed, Op, Store};
 use left_right::Absorb;
 use std::alloc::{AllocError, Global};
@@ -58,25 +59,28 @@ impl Shown {
         &self.store
     }
 
-    /// Executes one more record. The room is made first, the update comes after, and what then is left can't be refused: at an error, which is
-    /// want of memory, nothing has changed.
-    fn next(&mut self, entry: &Entry<Op>) -> Result<(), AllocError>
-        ensures records { OnOk result (self.new.records ≡ self.old.records ++ entry.now ∷ []) }
+    /// Executes one more record, and shares with another what its update makes, where that has the same. The room is made first, the update comes
+    /// after, and what then is left can't be refused: at an error, which is want of memory, nothing has changed.
+    fn next(&mut self, given: &Given, other: &Shown) -> Result<(), AllocError>
+        ensures records { OnOk result (self.new.records ≡ self.old.records ++ given.now ∷ []) }
         ensures schema { OnOk result (self.new.schema ≡ self.old.schema) }
         ensures suffix { OnOk result (self.new.suffix ≡ self.old.suffix) }
         ensures indexes { OnOk result (self.new.indexes ≡ self.old.indexes) }
         ensures err { OnErr result (self.new ≡ self.old) }
     {
+        let entry = given.entry();
         let kept = entry.copy(self.alloc)?;
         self.records.reserve(1)?;
         let number = self.records.len() as u64 + 1;
-        self.store.apply(self.alloc, number, &entry.payload)?;
+        let beside = given.beside(other.store());
+        self.store
+            .apply_beside(self.alloc, number, &entry.payload, beside)?;
         self.records.push_reserved(kept);
         Ok(())
     }
 }
 
-impl Absorb<Entry<Op>> for Shown {
+impl Absorb<Given> for Shown {
     // The records and what they are executed over; no value of it is made.
     type State = Executed;
 
@@ -84,7 +88,7 @@ impl Absorb<Entry<Op>> for Shown {
 
     ghost applied = { with_record };
 
-    fn absorb_first(&mut self, operation: &Entry<Op>, _other: &Shown) -> Result<(), AllocError> {
-        self.next(operation)
+    fn absorb_first(&mut self, operation: &Given, other: &Shown) -> Result<(), AllocError> {
+        self.next(operation, other)
     }
 }

@@ -4,4 +4,5 @@ pub mod Moves
 pub mod Shown
 pub mod Below
 pub mod Joins
+pub mod Placed
 pub mod Rises

@@ -5,6 +5,7 @@ pub mod Replies
 pub mod Updates
 pub mod Joins
 pub mod Order
+pub mod Placed
 pub mod Stored
 pub mod View
 -- what layers above name of the crates below

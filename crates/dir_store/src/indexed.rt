@@ -9,7 +9,7 @@ ghost use Rattle.dir_store.specs.Listed.{listed_of};
 
 use crate::listing::{add_listed, relist, rename_listed, unlist};
 use dir_index::{Indexes, Postings};
-use dir_tree::{Entry, Name, Rdn, Tree};
+use dir_tree::{Name, Rdn, SharedEntry, Tree};
 use std::alloc::{AllocError, Global};
 use std::marker::Model;
 use std::mem::replace;
@@ -65,7 +65,7 @@ impl IndexedTree {
         alloc: Global,
         number: u64,
         name: Name,
-        entry: Entry,
+        entry: SharedEntry,
     ) -> Result<(), AllocError>
         requires above { AllBelow number self.old.tree.entries }
         requires absent { is_some (find (rdns name) self.old.tree.entries) ≡ false }
@@ -95,7 +95,7 @@ impl IndexedTree {
     }
 
     /// Gives the entry of a number other attributes; its name stays. An `Err` changes nothing.
-    pub fn replace(&mut self, number: u64, entry: Entry) -> Result<(), AllocError>
+    pub fn replace(&mut self, number: u64, entry: SharedEntry) -> Result<(), AllocError>
         ensures ok { OnOk result (self.new ≡ record { indexes = self.old.indexes; tree = record { suffix = self.old.tree.suffix; entries = replaced number entry self.old.tree.entries } }) }
         ensures err { OnErr result (self.new ≡ self.old) }
     {
@@ -112,7 +112,7 @@ impl IndexedTree {
         name: &[Rdn],
         number: u64,
         new_name: Name,
-        new_entry: Entry,
+        new_entry: SharedEntry,
     ) -> Result<(), AllocError>
         requires here { option_map (λ e. e.number) (find (rdns name.now) self.old.tree.entries) ≡ Some number }
         requires root { name_eq (rdns name.now) (rdns self.old.tree.suffix) ≡ false }

@@ -13,15 +13,17 @@ mod modifying;
 mod names;
 mod renaming;
 mod reply;
+mod sharing;
 mod store;
 
 pub use dir_index::{IndexError, Indexes, Postings};
 pub use dir_tree::{
-    Attribute, Entry, EntryError, Name, NameError, NamedEntry, Rdn, Schema, Tree, Truth, TypeId,
-    are_same, is_of_syntax,
+    Attribute, Entry, EntryError, Name, NameError, NamedEntry, Rdn, Schema, SharedEntry, Tree,
+    Truth, TypeId, are_same, is_of_syntax,
 };
 pub use entry_updates::{Op, Update};
 pub use indexed::IndexedTree;
 pub use laws::{entries_rise, updates_join};
 pub use reply::Reply;
+pub use sharing::Beside;
 pub use store::Store;

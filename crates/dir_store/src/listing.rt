@@ -10,7 +10,7 @@ ghost use Rattle.dir_store.specs.Listed.{listed_of};
 
 use crate::finding::standing;
 use dir_index::{Begun, Postings};
-use dir_tree::{Entry, Name, Rdn, Tree};
+use dir_tree::{Entry, Name, Rdn, SharedEntry, Tree};
 use std::alloc::AllocError;
 
 /// Takes the entry of a number out of the lists. An `Err` leaves them.
@@ -52,7 +52,7 @@ pub fn add_listed(
     postings: Postings,
     number: u64,
     name: Name,
-    entry: Entry,
+    entry: SharedEntry,
 ) -> (Postings, Result<(), AllocError>)
     requires listed { ArePostingsOf (lists_of postings) postings.indexes (listed_of tree.old.entries) }
     requires above { AllBelow number tree.old.entries }
@@ -101,7 +101,7 @@ pub fn rename_listed(
     name: &[Rdn],
     number: u64,
     new_name: Name,
-    new_entry: Entry,
+    new_entry: SharedEntry,
 ) -> (Postings, Result<(), AllocError>)
     requires listed { ArePostingsOf (lists_of postings) postings.indexes (listed_of tree.old.entries) }
     requires here { option_map (λ e. e.number) (find (rdns name.now) tree.old.entries) ≡ Some number }

@@ -24,6 +24,7 @@ use crate::modifying::{Kept, asked_change};
 use crate::names::asked_name;
 use crate::renaming::{Moved, asked_move};
 use crate::reply::Reply;
+use crate::sharing::{Beside, shared};
 use dir_index::Indexes;
 use dir_tree::{Name, NamedEntry, Rdn, Schema, Tree};
 use entry_updates::{AddRequest, ModifyDnRequest, ModifyRequest, Op, ResultCode, Update};
@@ -125,14 +126,39 @@ impl Store {
         ensures below { IfOk result (λ reply. NumbersBelow (number + 1) self.new.directory.entries) }
         ensures err { OnErr result (self.new ≡ self.old) }
     {
-        match self.update(alloc, number, op.update()) {
+        self.apply_beside(alloc, number, op, Beside::Nothing)
+    }
+
+    /// The same, where the entry that the update makes may be there already: then it is shared. It is made first all the same, and compared, so that
+    /// nothing hangs on what is there.
+    pub fn apply_beside(
+        &mut self,
+        alloc: Global,
+        number: u64,
+        op: &Op,
+        beside: Beside<'_>,
+    ) -> Result<Reply, AllocError>
+        requires above { NumbersBelow number self.old.directory.entries }
+        ensures directory { IfOk result (λ reply. self.new.directory ≡ applied self.old.directory number op.now) }
+        ensures reply { IfOk result (λ reply. reply_view reply ≡ reply_to self.old.directory number op.now) }
+        ensures indexes { self.new.indexes ≡ self.old.indexes }
+        ensures below { IfOk result (λ reply. NumbersBelow (number + 1) self.new.directory.entries) }
+        ensures err { OnErr result (self.new ≡ self.old) }
+    {
+        match self.update(alloc, number, op.update(), beside) {
             Ok(()) => Ok(Reply::only(alloc, ResultCode::SUCCESS)),
             Err(error) => reply_of_refusal(error),
         }
     }
 
     /// Makes an update, or refuses it and changes nothing.
-    fn update(&mut self, alloc: Global, number: u64, update: &Update) -> Result<(), StoreError>
+    fn update(
+        &mut self,
+        alloc: Global,
+        number: u64,
+        update: &Update,
+        beside: Beside<'_>,
+    ) -> Result<(), StoreError>
         requires above { NumbersBelow number self.old.directory.entries }
         ensures ok { OnOk result (updated self.old.directory number (update_view update.now) ≡ Ok self.new.directory.entries) }
         ensures schema { self.new.directory.schema ≡ self.old.directory.schema }
@@ -142,17 +168,23 @@ impl Store {
         ensures err { OnErr result (self.new ≡ self.old) }
     {
         match update {
-            Update::Add(request) => self.add(alloc, number, request),
+            Update::Add(request) => self.add(alloc, number, request, beside),
             Update::Delete(name) => self.delete(alloc, name),
-            Update::Modify(request) => self.modify(alloc, request),
-            Update::ModifyDn(request) => self.rename(alloc, request),
+            Update::Modify(request) => self.modify(alloc, request, beside),
+            Update::ModifyDn(request) => self.rename(alloc, request, beside),
             Update::Noop => Ok(()),
         }
     }
 
     /// Adds an entry at the end, or refuses it and changes nothing.
     #[tactic(auto, using(crate::proofs::Shown::numbers_shown, crate::proofs::Shown::pushed_shown, crate::proofs::Shown::keyed_push))]
-    fn add(&mut self, alloc: Global, number: u64, request: &AddRequest) -> Result<(), StoreError>
+    fn add(
+        &mut self,
+        alloc: Global,
+        number: u64,
+        request: &AddRequest,
+        beside: Beside<'_>,
+    ) -> Result<(), StoreError>
         requires above { NumbersBelow number self.old.directory.entries }
         ensures ok { OnOk result (added self.old.directory number (add_view request.now) ≡ Ok self.new.directory.entries) }
         ensures schema { self.new.directory.schema ≡ self.old.directory.schema }
@@ -162,6 +194,7 @@ impl Store {
         ensures err { OnErr result (self.new ≡ self.old) }
     {
         let Placed { name, entry } = addition(alloc, &self.schema, self.held.tree(), request)?;
+        let entry = shared(alloc, beside, number, entry)?;
         self.held.add(alloc, number, name, entry)?;
         Ok(())
     }
@@ -184,7 +217,12 @@ impl Store {
 
     /// Changes an entry's attributes, or refuses it and changes nothing.
     #[tactic(auto, using(crate::proofs::Shown::replaced_shown, crate::proofs::Shown::keyed_replaced))]
-    fn modify(&mut self, alloc: Global, request: &ModifyRequest) -> Result<(), StoreError>
+    fn modify(
+        &mut self,
+        alloc: Global,
+        request: &ModifyRequest,
+        beside: Beside<'_>,
+    ) -> Result<(), StoreError>
         ensures ok { OnOk result (modified self.old.directory (modify_view request.now) ≡ Ok self.new.directory.entries) }
         ensures schema { self.new.directory.schema ≡ self.old.directory.schema }
         ensures suffix { self.new.directory.suffix ≡ self.old.directory.suffix }
@@ -193,13 +231,19 @@ impl Store {
         ensures err { OnErr result (self.new ≡ self.old) }
     {
         let Kept { number, entry } = asked_change(alloc, &self.schema, self.held.tree(), request)?;
+        let entry = shared(alloc, beside, number, entry)?;
         self.held.replace(number, entry)?;
         Ok(())
     }
 
     /// Gives an entry, and those below it, other names, or refuses it and changes nothing.
     #[tactic(auto, using(crate::proofs::Shown::moved_shown, crate::proofs::Shown::keyed_moved))]
-    fn rename(&mut self, alloc: Global, request: &ModifyDnRequest) -> Result<(), StoreError>
+    fn rename(
+        &mut self,
+        alloc: Global,
+        request: &ModifyDnRequest,
+        beside: Beside<'_>,
+    ) -> Result<(), StoreError>
         ensures ok { OnOk result (renamed_all self.old.directory (modify_dn_view request.now) ≡ Ok self.new.directory.entries) }
         ensures schema { self.new.directory.schema ≡ self.old.directory.schema }
         ensures suffix { self.new.directory.suffix ≡ self.old.directory.suffix }
@@ -213,6 +257,7 @@ impl Store {
             after,
             entry,
         } = asked_move(alloc, &self.schema, self.held.tree(), request)?;
+        let entry = shared(alloc, beside, number, entry)?;
         self.held
             .rename(alloc, before.rdns(), number, after, entry)?;
         Ok(())

@@ -8,7 +8,8 @@ ghost use Rattle.dir_tree.specs.Renamed.{with_name, with_names};
 ghost use Rattle.dir_tree.specs.Stored.{directory_of, entered_of};
 
 use crate::named::NamedEntry;
-use dir_entry::{Entry, Name};
+use crate::shared::SharedEntry;
+use dir_entry::Name;
 use std::alloc::AllocError;
 use std::collections::BTreeMap;
 
@@ -42,7 +43,7 @@ pub fn take_entry(entries: &mut Entries, number: u64)
 }
 
 /// Gives the entry of a number other attributes.
-pub fn set_entry(entries: &mut Entries, number: u64, entry: Entry)
+pub fn set_entry(entries: &mut Entries, number: u64, entry: SharedEntry)
     ensures { directory_of entries.new.entries ≡ replaced number entry (directory_of entries.old.entries) }
 {
     if let Some(named) = entries.get_mut(&number) {

@@ -5,6 +5,7 @@
 mod comparing;
 mod entries;
 mod keys;
+mod likeness;
 mod lists;
 mod moving;
 mod named;
@@ -13,6 +14,7 @@ mod places;
 mod relisted;
 mod renaming;
 mod rising;
+mod shared;
 mod tree;
 
 pub use comparing::{are_same, is_over_parent};
@@ -21,4 +23,5 @@ pub use dir_entry::{
     is_of_syntax,
 };
 pub use named::NamedEntry;
+pub use shared::SharedEntry;
 pub use tree::Tree;

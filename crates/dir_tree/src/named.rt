@@ -1,13 +1,14 @@
 // An entry with its name. Both flow in and out.
 // What must not be here: its number, and where it stands.
 
-use dir_entry::{Entry, Name};
+use crate::shared::SharedEntry;
+use dir_entry::Name;
 
 /// An entry and its name (RFC 4512 2.3.2).
 #[derive(Drop)]
 pub struct NamedEntry {
     /// The name as it is spelled.
     pub name: Name,
-    /// The attributes.
-    pub entry: Entry,
+    /// The attributes; other directories may share them.
+    pub entry: SharedEntry,
 }

@@ -17,7 +17,8 @@ use crate::places::{
     children_at, drop_place, enlist_above, numbers_within, put_place, strike_above, within_at,
 };
 use crate::renaming::names_moved;
-use dir_entry::{Entry, Name, Rdn};
+use crate::shared::SharedEntry;
+use dir_entry::{Name, Rdn};
 use std::alloc::{AllocError, Global};
 use std::collections::BTreeMap;
 use std::marker::Model;
@@ -154,7 +155,7 @@ impl Tree {
 
     /// Adds an entry whose name is new, under a number above all. An `Err` changes nothing. It takes a few look-ups
     /// by name, and one step for each entry above it.
-    pub fn add(&mut self, number: u64, name: Name, entry: Entry) -> Result<(), AllocError>
+    pub fn add(&mut self, number: u64, name: Name, entry: SharedEntry) -> Result<(), AllocError>
         requires above { AllBelow number self.old.entries }
         requires absent { is_some (find (rdns name) self.old.entries) ≡ false }
         requires footing { has_footing (rdns self.old.suffix) (rdns name) self.old.entries ≡ true }
@@ -199,7 +200,7 @@ impl Tree {
     }
 
     /// Gives the entry of a number other attributes; its name stays.
-    pub fn replace(&mut self, number: u64, entry: Entry)
+    pub fn replace(&mut self, number: u64, entry: SharedEntry)
         ensures { self.new ≡ record { suffix = self.old.suffix; entries = replaced number entry self.old.entries } }
     {
         set_entry(&mut self.entries, number, entry);
@@ -215,7 +216,7 @@ impl Tree {
         name: &[Rdn],
         number: u64,
         new_name: Name,
-        new_entry: Entry,
+        new_entry: SharedEntry,
     ) -> Result<(), AllocError>
         requires here { option_map (λ e. e.number) (find (rdns name.now) self.old.entries) ≡ Some number }
         requires root { name_eq (rdns name.now) (rdns self.old.suffix) ≡ false }

@@ -6,7 +6,7 @@ ghost use Rattle.node_gate.specs.Given.{IsGiven, HasAll};
 use crate::events::handle_node;
 pub use dir_node::Standing;
 use dir_node::{Client, Device, Event, Handled, Node, NodeError, Op, Outcome};
-use dir_seats::{Publisher, Told};
+use dir_seats::{Publisher, SharedEntry, Store, Told};
 use std::alloc::Global;
 use std::sync::Wait;
 
@@ -79,6 +79,15 @@ fn heard_after<D: Device>(node: &Node<D>, before: &Pulse, from: Option<u64>) -> 
     }
 }
 
+/// The entry that the record of this place added, as it now stands; none, where it added none. Who shows it shares it.
+fn made_by(store: &Store, place: usize) -> Option<SharedEntry> {
+    let number = (place as u64).saturating_add(1);
+    match store.tree().entry(number)?.entry.share() {
+        Ok(entry) => Some(entry),
+        Err(_) => None,
+    }
+}
+
 impl<'a, R: Wait, D: Device> Held<'a, R, D> {
     /// A node, and the publisher to its seats, which was given nothing yet.
     pub fn new(node: Node<D>, publisher: Publisher<Here, &'a R>) -> Held<'a, R, D>
@@ -124,7 +133,8 @@ impl<'a, R: Wait, D: Device> Held<'a, R, D> {
         let Ok(entry) = entry.copy(alloc) else {
             return false;
         };
-        if self.publisher.append(entry).is_err() {
+        let made = made_by(self.node.store(), self.given);
+        if self.publisher.append_made(entry, made).is_err() {
             return false;
         }
         self.given += 1;

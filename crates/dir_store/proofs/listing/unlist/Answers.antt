@@ -1,6 +1,7 @@
-use Rattle.std.proofs.Common.{refl, sym, ap, List}
+use Rattle.std.proofs.Common.{refl, sym, ap, subst, List}
+use Rattle.dir_tree.specs.dir_entry.Entry.{KeyedAttribute}
 use Rattle.dir_index.specs.Postings.{Indexed}
-use Rattle.dir_index.specs.Whole.{PostingsModel, lists_of, AreSameLists, ArePostingsOf, without}
+use Rattle.dir_index.specs.Whole.{PostingsModel, lists_of, AreSameLists, ArePostingsOf, HasEntry, without}
 use Rattle.dir_tree.specs.Directory.{Entered, unnumbered}
 use Rattle.dir_tree.specs.Stored.{entered_of}
 use Rattle.dir_store.specs.Listed.{listed_of}
@@ -8,7 +9,12 @@ use Rattle.dir_store.proofs.Listed.{kept_postings, of_entries, listed_held, list
 use Rattle.dir_store.proofs.listing.unlist.Goals as goal
 
 pub remove-requires : goal.remove-requires
-remove-requires c = (listed_of c.args.tree.now.entries, c.requires, listed_held c.args.number c.args.tree.now.entries (entered_of c.args.number c.in-Some.held.now) (sym c.in-Some.ensures))
+remove-requires c = (
+  listed_of c.args.tree.now.entries,
+  c.requires,
+  subst (λ (e : List KeyedAttribute). HasEntry (listed_of c.args.tree.now.entries) c.args.number e) (sym c.deref.ensures)
+      (listed_held c.args.number c.args.tree.now.entries (entered_of c.args.number c.in-Some.held.now) (sym c.in-Some.ensures)),
+)
 
 pub returns-in-Some-clause-ok : goal.returns-in-Some-clause-ok
 returns-in-Some-clause-ok c =

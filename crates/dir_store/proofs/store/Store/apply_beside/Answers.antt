@@ -2,7 +2,7 @@ use Rattle.std.proofs.Common.{ap}
 use Rattle.entry_updates.specs.ldap_op.View.{update_view}
 use Rattle.dir_store.specs.Listed.{StoreModel}
 use Rattle.dir_store.proofs.Below.{below_updated, below_kept, whatever_reply}
-use Rattle.dir_store.proofs.store.Store.apply.Goals as goal
+use Rattle.dir_store.proofs.store.Store.apply_beside.Goals as goal
 
 pub returns-in-Ok-clause-below : goal.returns-in-Ok-clause-below
 returns-in-Ok-clause-below c = below_updated c.args.self.now.directory c.args.number (update_view c.update.result.now) c.update-2.new.self.directory.entries c.requires.above c.in-Ok.ensures.ok

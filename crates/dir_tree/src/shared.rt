@@ -1,0 +1,81 @@
+// An entry's attributes in memory that is shared. Attributes flow in and out.
+// What must not be here: names, numbers, who shares them.
+
+ghost use Rattle.std.specs.Prelude.{◌≡◌, IfOk};
+
+use crate::likeness::is_same_entry;
+use dir_entry::Entry;
+use std::alloc::{AllocError, Global};
+use std::marker::Model;
+use std::ops::Deref;
+use std::sync::Arc;
+
+/// The attributes of an entry; a contract sees what they are, not where they lie in memory, nor who else has them.
+#[derive(Drop)]
+pub struct SharedEntry {
+    entry: Arc<Entry>,
+}
+
+impl Model for SharedEntry {
+    ghost use Rattle.std.specs.Prelude.{List};
+    ghost use Rattle.std.specs.Arc.{arc_value};
+    ghost use Rattle.dir_entry.specs.Entry.{KeyedAttribute};
+
+    ghost Value = { List KeyedAttribute };
+
+    ghost view = { λ s. arc_value s.entry };
+}
+
+impl SharedEntry {
+    /// These attributes, which nobody else has yet. Its only error is want of memory.
+    pub fn new(alloc: Global, entry: Entry) -> Result<SharedEntry, AllocError>
+        ensures { IfOk result (λ s. s ≡ entry) }
+    {
+        let entry = Arc::new(alloc, entry)?;
+        Ok(SharedEntry { entry })
+    }
+
+    /// These attributes, in the memory of the other where that has the very same ones. Its only error is want of memory.
+    pub fn beside(
+        alloc: Global,
+        entry: Entry,
+        other: Option<&SharedEntry>,
+    ) -> Result<SharedEntry, AllocError>
+        ensures { IfOk result (λ s. s ≡ entry) }
+    {
+        match other {
+            Some(other) => SharedEntry::joined(alloc, entry, other),
+            None => SharedEntry::new(alloc, entry),
+        }
+    }
+
+    /// The same, beside another.
+    fn joined(alloc: Global, entry: Entry, other: &SharedEntry) -> Result<SharedEntry, AllocError>
+        ensures { IfOk result (λ s. s ≡ entry) }
+    {
+        if is_same_entry(&entry, other) {
+            return other.share();
+        }
+        SharedEntry::new(alloc, entry)
+    }
+
+    /// The same attributes, in the same memory. It takes none; the only error is that it is shared too often.
+    pub fn share(&self) -> Result<SharedEntry, AllocError>
+        ensures { IfOk result (λ s. s ≡ self.now) }
+    {
+        let entry = Arc::try_clone(&self.entry)?;
+        Ok(SharedEntry { entry })
+    }
+}
+
+impl Deref for SharedEntry {
+    type Target = Entry;
+
+    ghost deref_gives = { λ s e. e ≡ s };
+
+    fn deref(&self) -> &Entry
+        ensures { result.now ≡ self.now }
+    {
+        &self.entry
+    }
+}
