@@ -12,8 +12,7 @@ use crate::postings::Postings;
 use crate::shifting::widen;
 use crate::sides::{Side, Sides};
 use crate::tables::Table;
-use dir_entry::Entry;
-use index_choice::Indexes;
+use index_choice::{Entry, Indexes};
 use std::alloc::{AllocError, Global};
 use std::marker::Model;
 

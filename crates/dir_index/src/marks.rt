@@ -8,8 +8,7 @@ ghost use Rattle.dir_index.specs.Ordered.{is_same_posting};
 ghost use Rattle.dir_index.specs.Marked.{is_marked, lists_entry, is_of_key, is_first_run, is_run_of, is_from_key, is_from_presence, is_from_attribute};
 
 use crate::posting::Posting;
-use dir_entry::Attribute;
-use index_choice::{Indexes, Key, Kinds, TypeId};
+use index_choice::{Attribute, Indexes, Key, Kinds, TypeId};
 use std::alloc::{AllocError, Global};
 use std::collections::BTreeSet;
 

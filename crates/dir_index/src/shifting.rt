@@ -15,8 +15,7 @@ use crate::marks::{Marks, apart, marks_of, marks_of_both};
 use crate::posting::Posting;
 use crate::sides::{Sides, sides_of};
 use crate::tables::Table;
-use dir_entry::Attribute;
-use index_choice::Indexes;
+use index_choice::{Attribute, Indexes};
 use std::alloc::{AllocError, Global};
 
 /// Puts a number into the lists that it gains, gives it its column, and takes it out of the lists that it loses. An `Err` changes

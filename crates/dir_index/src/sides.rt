@@ -9,8 +9,7 @@ ghost use Rattle.dir_index.specs.Columns.{is_ordered};
 use crate::columns::column_of;
 use crate::marks::{Marks, marks_of};
 use crate::posting::Posting;
-use dir_entry::Attribute;
-use index_choice::Indexes;
+use index_choice::{Attribute, Indexes};
 use std::alloc::{AllocError, Global};
 
 /// The postings that list an entry, and those of them that are kept in order.

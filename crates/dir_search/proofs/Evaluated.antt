@@ -1,12 +1,12 @@
 -- Few evaluations over the numbers of entries are few over the entries. Numbers and entries flow in and out; no value of the program is here.
-use Rattle.std.proofs.Common.{◌≡◌, ◌≤◌, ℕ, suc, Bool, true, false, cond, List, [], ◌∷◌, Option, Some, None, length, map, filter, nat_eq, refl, sym, ap, ◌∙◌, subst, eqb-true, eq-eqb}
+use Rattle.std.proofs.Common.{◌≡◌, ◌≤◌, ℕ, suc, Bool, true, false, cond, List, [], ◌∷◌, Option, Some, None, length, map, filter, nat_eq, nat_lt, refl, sym, ap, ◌∙◌, subst, eqb-true, eq-eqb}
 use Rattle.std.specs.Prelude.{is_some, nat_le}
 use Rattle.std.specs.Option.{option_map}
 use Rattle.std.specs.List.{AllByRecursion, slice_get}
 use Rattle.std.proofs.lemmas.List.{length-map}
 use Rattle.std.proofs.lemmas.Option.{slice_get-map}
-use mathlib.Core.Path.{fun_ext}
 use Rattle.dir_store.specs.ldap_schema.Schema.{SchemaModel}
+use Rattle.dir_store.specs.dir_entry.Entry.{attributes_of}
 use Rattle.dir_store.specs.ldap_dn.Names.{RdnModel, rdns}
 use Rattle.ldap_filter.specs.Tree.{Tree, Trees, no_trees, tree}
 use Rattle.ldap_msg.specs.Messages.{SearchRequestValue}
@@ -18,15 +18,19 @@ use Rattle.dir_store.specs.dir_tree.Directory.{Entered, TreeModel, NumbersRise, 
 use Rattle.dir_store.specs.Directory.{NamedEntry}
 use Rattle.dir_store.specs.Stored.{named, directory, AreKeyedBy}
 use Rattle.plan_compile.specs.Bounds.{is_decided as is_bound_decided}
-use Rattle.dir_search.specs.Answer.{is_match, matching}
-use Rattle.dir_search.specs.Evaluated.{IsFewOf, IsWithinParts, IsFewAtBase, those_in_scope}
-use Rattle.dir_search.specs.Looks.{true_numbers, has_runs_on, AreHere, IsFew, numbers_in_scope}
+use Rattle.plan_compile.specs.Held.{has_runs}
+use Rattle.plan_compile.proofs.Decided.{decided_same, runs_same}
+use Rattle.plan_compile.proofs.HeldRuns.{TestsAreItems}
+use Rattle.dir_search.specs.Answer.{is_match, in_scope, matching}
+use Rattle.dir_search.specs.Counted.{leaves_open, first_past, keyed_in_scope, up_to_entry, IsCountAtBase}
+use Rattle.dir_search.specs.Evaluated.{IsFewOf, IsWithinParts, IsFewAtBase}
+use Rattle.dir_search.specs.Looks.{true_numbers, has_runs_on, leaves_open_on, up_to, AreHere, IsFew, numbers_in_scope}
 use Rattle.dir_search.specs.Numbered.{put_some, entries_of}
 use Rattle.dir_search.specs.Scopes.{is_in_scope}
 use Rattle.dir_search.specs.View.{FindsAmong}
 use Rattle.dir_search.specs.declared.found.SearchAnswer.{SearchAnswer}
-use Rattle.dir_search.proofs.Decided.{decided_same, runs_same}
 use Rattle.dir_search.proofs.Few.{true_here, found_true}
+use Rattle.dir_search.proofs.Limits.{keyed_at}
 use Rattle.dir_search.proofs.Numbers.{numbers_are}
 use Rattle.dir_search.proofs.Scoped.{shown_filter}
 
@@ -58,29 +62,48 @@ true_counted : (s : SchemaModel) (t : Tree) (b : BoundFilter) (d : List Entered)
 true_counted s t b d ks keyed stands =
     sym (here_counted d (true_numbers b d ks) (true_here b d ks)) ∙ sym (length-map (entries_of (true_numbers b d ks) d) named) ∙ ap length (found_true s t b d keyed stands ks)
 
-module _ (s : SchemaModel) (ix : List Kinds) (d : List Entered) (ks : List ℕ) (tests : ℕ) where
+-- as many numbers' entries hold the runs that a bound filter asks for as hold those that its filter asks for
+module _ (law : TestsAreItems) (s : SchemaModel) (ix : List Kinds) (d : List Entered) (t : Tree) (b : BoundFilter) where
+  runs_counted : AreKeyedBy s d → IsMadeOf s t b → (ks : List ℕ) → length (filter (λ n. has_runs_on ix b (entry_at n d)) ks) ≡ length (filter (λ (e : NamedEntry). has_runs s ix e.attributes t) (map named (entries_of ks d)))
+  runs_counted keyed made [] = refl
+  runs_counted keyed made (k ∷ ks) = by (entry_at k d) refl (runs_counted keyed made ks)
+    where
+      xs : List ℕ
+      xs = filter (λ n. has_runs_on ix b (entry_at n d)) ks
+
+      ys : List NamedEntry
+      ys = filter (λ (e : NamedEntry). has_runs s ix e.attributes t) (map named (entries_of ks d))
+
+      either : (v : Bool) (e : NamedEntry) → length xs ≡ length ys → length (cond v (k ∷ xs) xs) ≡ length (cond v (e ∷ ys) ys)
+      either true e ih = ap (λ (n : ℕ). suc n) ih
+      either false e ih = ih
+
+      by : (o : Option Entered) → entry_at k d ≡ o → length xs ≡ length ys
+          → length (cond (has_runs_on ix b o) (k ∷ xs) xs) ≡ length (filter (λ (e : NamedEntry). has_runs s ix e.attributes t) (map named (put_some o (entries_of ks d))))
+      by None is ih = ih
+      by (Some e) is ih =
+          ap (λ (v : Bool). length (cond v (k ∷ xs) xs)) (runs_same law s ix e.entry (keyed_at s d k e keyed is) t b made) ∙ either (has_runs s ix (attributes_of e.entry) t) (named e) ih
+
+module _ (law : TestsAreItems) (s : SchemaModel) (ix : List Kinds) (d : List Entered) (ks : List ℕ) (tests : ℕ) where
   parts_of : (ts : Trees) (bs : List BoundFilter) → AreKeyedBy s d → AreMadeOf s ts bs → AllByRecursion (λ f. is_bound_decided ix f ≡ true → tests ≤ length (true_numbers f d ks)) bs
       → IsWithinParts s ix ts (map named (entries_of ks d)) tests
   parts_of no_trees [] keyed h g = tt
   parts_of no_trees (b ∷ bs) keyed h g = absurd h
   parts_of (tree t ts) [] keyed h g = absurd h
   parts_of (tree t ts) (b ∷ bs) keyed h g = (
-    λ is. subst (λ (n : ℕ). tests ≤ n) (true_counted s t b d ks keyed h.0) (g.0 (decided_same s ix t b h.1 ∙ is)),
+    λ is. subst (λ (n : ℕ). tests ≤ n) (true_counted s t b d ks keyed h.0) (g.0 (decided_same law s ix t b h.1 ∙ is)),
     parts_of ts bs keyed h.2 g.1,
   )
 
   -- few of the numbers are few of the entries
-  few_of : (t : Tree) (b : BoundFilter) → AreKeyedBy s d → IsMadeOf s t b → AreHere d ks → IsFew ix b d ks tests → IsFewOf s ix t (entries_of ks d) tests
+  few_of : (t : Tree) (b : BoundFilter) → AreKeyedBy s d → IsMadeOf s t b → AreHere d ks → IsFew ix b d ks tests → IsFewOf s ix t (map named (entries_of ks d)) tests
   few_of t b keyed made here h = record {
-    within = subst (λ (n : ℕ). tests ≤ n) (sym (here_counted d ks here)) h.within;
-    decided = λ is. h.decided (decided_same s ix t b made ∙ is);
+    within = subst (λ (n : ℕ). tests ≤ n) (sym (length-map (entries_of ks d) named ∙ here_counted d ks here)) h.within;
+    decided = λ is. h.decided (decided_same law s ix t b made ∙ is);
     parts = λ ts is.
         let o = subst (λ (x : Tree). IsMadeOf s x b) is made in
         parts_of ts o.parts.items keyed o.hold (h.parts o.parts o.is);
-    runs =
-        subst (λ (n : ℕ). tests ≤ n)
-        (tested (has_runs_on ix b) refl d ks ∙ ap (λ (p : Entered → Bool). length (filter p (entries_of ks d))) (fun_ext (λ e. runs_same s ix e.entry t b made)))
-        h.runs;
+    runs = subst (λ (n : ℕ). tests ≤ n) (runs_counted law s ix d t b keyed made ks) h.runs;
   }
 
 -- ---- the numbers in scope
@@ -147,39 +170,79 @@ numbers_of d (k ∷ ks) h = by (entry_at k d) refl h.0 (numbers_of d ks h.1)
     by None is here ih = absurd (cc here)
     by (Some e) is here ih = ap (λ (n : ℕ). n ∷ map (λ (e : NamedEntry). e.number) (map named (entries_of ks d))) (number_at k d e is) ∙ ap (λ (l : List ℕ). k ∷ l) ih
 
+-- where a search ends, by number and by entry
+past_mapped : (limit : ℕ) (es : List NamedEntry) → first_past limit (map (λ (x : NamedEntry). x.number) es) ≡ option_map (λ (x : NamedEntry). x.number) (first_past limit es)
+past_mapped limit es = by (nat_lt 0 limit)
+  where
+    by : (v : Bool) → cond v (slice_get (map (λ (x : NamedEntry). x.number) es) limit) None ≡ option_map (λ (x : NamedEntry). x.number) (cond v (slice_get es limit) None)
+    by true = slice_get-map (λ (x : NamedEntry). x.number) es limit
+    by false = refl
+
+up_to_same : (d : List Entered) (ks : List ℕ) → AreHere d ks → (o : Option NamedEntry) → entries_of (up_to (option_map (λ (x : NamedEntry). x.number) o) ks) d ≡ up_to_entry o (entries_of ks d)
+up_to_same d ks here None = refl
+up_to_same d ks here (Some m) = number_tested (λ n. nat_le n m.number) d ks here
+
 module _ (s : SchemaModel) (tr : TreeModel) (q : SearchRequestValue) (ix : List Kinds) (b : BoundFilter) (base : List RdnModel) where
-  scope_are : NumbersRise tr.entries → entries_of (numbers_in_scope (directory s tr) q base tr.entries) tr.entries ≡ those_in_scope (directory s tr) q base tr.entries
+  scope_are : NumbersRise tr.entries → entries_of (numbers_in_scope (directory s tr) q base tr.entries) tr.entries ≡ keyed_in_scope (directory s tr) q base tr.entries
   scope_are rise = numbers_are (λ e. is_in_scope (rdns tr.suffix) q.scope (rdns base) (rdns e.name)) tr.entries rise
+
+  named_scope : NumbersRise tr.entries → map named (entries_of (numbers_in_scope (directory s tr) q base tr.entries) tr.entries) ≡ in_scope (directory s tr) q.scope base
+  named_scope rise = ap (map named) (scope_are rise) ∙ shown_filter (λ e. is_in_scope (rdns tr.suffix) q.scope (rdns base) (rdns e.name)) tr.entries
 
   -- the entries that match have the numbers that are found
   matching_are : NumbersRise tr.entries → AreKeyedBy s tr.entries → IsBoundTo s q.filter b
       → map named (entries_of (true_numbers b tr.entries (numbers_in_scope (directory s tr) q base tr.entries)) tr.entries) ≡ matching (directory s tr) q base
   matching_are rise keyed stands =
-      found_true s q.filter b tr.entries keyed stands (numbers_in_scope (directory s tr) q base tr.entries)
-      ∙ ap (λ (l : List Entered). filter (is_match s q.filter) (map named l)) (scope_are rise)
-      ∙ ap (filter (is_match s q.filter)) (shown_filter (λ e. is_in_scope (rdns tr.suffix) q.scope (rdns base) (rdns e.name)) tr.entries)
+      found_true s q.filter b tr.entries keyed stands (numbers_in_scope (directory s tr) q base tr.entries) ∙ ap (filter (is_match s q.filter)) (named_scope rise)
+
+  numbers_found : NumbersRise tr.entries → AreKeyedBy s tr.entries → IsBoundTo s q.filter b
+      → true_numbers b tr.entries (numbers_in_scope (directory s tr) q base tr.entries) ≡ map (λ (x : NamedEntry). x.number) (matching (directory s tr) q base)
+  numbers_found rise keyed stands =
+      let ks = numbers_in_scope (directory s tr) q base tr.entries in
+      sym (numbers_of tr.entries (true_numbers b tr.entries ks) (true_here b tr.entries ks)) ∙ ap (map (λ (x : NamedEntry). x.number)) (matching_are rise keyed stands)
 
   number_past : NumbersRise tr.entries → AreKeyedBy s tr.entries → IsBoundTo s q.filter b → (e : NamedEntry) → slice_get (matching (directory s tr) q base) q.size_limit ≡ Some e
       → slice_get (true_numbers b tr.entries (numbers_in_scope (directory s tr) q base tr.entries)) q.size_limit ≡ Some e.number
   number_past rise keyed stands e is =
-      let ks = numbers_in_scope (directory s tr) q base tr.entries in
-      ap (λ (l : List ℕ). slice_get l q.size_limit) (sym (numbers_of tr.entries (true_numbers b tr.entries ks) (true_here b tr.entries ks)) ∙ ap (map (λ (x : NamedEntry). x.number)) (matching_are rise keyed stands))
+      ap (λ (l : List ℕ). slice_get l q.size_limit) (numbers_found rise keyed stands)
       ∙ slice_get-map (λ (x : NamedEntry). x.number) (matching (directory s tr) q base) q.size_limit
       ∙ ap (option_map (λ (x : NamedEntry). x.number)) is
 
+  scope_here : AreHere tr.entries (numbers_in_scope (directory s tr) q base tr.entries)
+  scope_here = numbers_here (λ e. is_in_scope (rdns tr.suffix) q.scope (rdns base) (rdns e.name)) tr.entries
+
   -- few of the numbers in scope are few of the entries in scope
-  pub few_at : (a : SearchAnswer) → NumbersRise tr.entries → AreKeyedBy s tr.entries → IsBoundTo s q.filter b → IsMadeOf s q.filter b
+  pub few_at : (a : SearchAnswer) → TestsAreItems → NumbersRise tr.entries → AreKeyedBy s tr.entries → IsBoundTo s q.filter b → IsMadeOf s q.filter b
       → FindsAmong a s q ix b tr.entries (numbers_in_scope (directory s tr) q base tr.entries) → IsFewAtBase ix (directory s tr) q base a.tests
-  few_at a rise keyed stands made h =
+  few_at a law rise keyed stands made h =
       let ks = numbers_in_scope (directory s tr) q base tr.entries in
-      let here : AreHere tr.entries ks = numbers_here (λ e. is_in_scope (rdns tr.suffix) q.scope (rdns base) (rdns e.name)) tr.entries in
+      record {
+        few = subst (λ (l : List NamedEntry). IsFewOf s ix q.filter l a.tests) (named_scope rise) (few_of law s ix tr.entries ks a.tests q.filter b keyed made scope_here h.few);
+        few_up_to = λ e pos is.
+            subst (λ (l : List NamedEntry). IsFewOf s ix q.filter l a.tests)
+            (ap (map named) (number_tested (λ n. nat_le n e.number) tr.entries ks scope_here) ∙ shown_filter (λ x. nat_le x.number e.number) (entries_of ks tr.entries) ∙ ap (filter (λ (x : NamedEntry). nat_le x.number e.number)) (named_scope rise))
+            (few_of law s ix tr.entries (filter (λ n. nat_le n e.number) ks) a.tests q.filter b keyed made (filter_here (λ n. nat_le n e.number) tr.entries ks scope_here) (h.few_up_to e.number pos (number_past rise keyed stands e is)));
+      }
+
+  -- as many of the numbers in scope are left open as of the entries in scope
+  pub count_at : (a : SearchAnswer) → NumbersRise tr.entries → AreKeyedBy s tr.entries → IsBoundTo s q.filter b → IsMadeOf s q.filter b
+      → FindsAmong a s q ix b tr.entries (numbers_in_scope (directory s tr) q base tr.entries) → IsCountAtBase ix (directory s tr) q base a.tests
+  count_at a rise keyed stands made h =
+      let ks = numbers_in_scope (directory s tr) q base tr.entries in
+      let must = h.counted.must in
+      let may = h.counted.may in
+      let past : Option NamedEntry = first_past q.size_limit (matching (directory s tr) q base) in
+      let same : first_past q.size_limit (true_numbers b tr.entries ks) ≡ option_map (λ (x : NamedEntry). x.number) past =
+      ap (first_past q.size_limit) (numbers_found rise keyed stands) ∙ past_mapped q.size_limit (matching (directory s tr) q base) in
       record {
         keyed_entries = tr.entries;
         are = refl;
         keyed = keyed;
-        few = subst (λ (l : List Entered). IsFewOf s ix q.filter l a.tests) (scope_are rise) (few_of s ix tr.entries ks a.tests q.filter b keyed made here h.few);
-        few_up_to = λ e pos is.
-            subst (λ (l : List Entered). IsFewOf s ix q.filter l a.tests)
-            (number_tested (λ n. nat_le n e.number) tr.entries ks here ∙ ap (filter (λ x. nat_le x.number e.number)) (scope_are rise))
-            (few_of s ix tr.entries (filter (λ n. nat_le n e.number) ks) a.tests q.filter b keyed made (filter_here (λ n. nat_le n e.number) tr.entries ks here) (h.few_up_to e.number pos (number_past rise keyed stands e is)));
+        must = must;
+        may = may;
+        plans = h.counted.plans s q.filter stands made;
+        counted =
+            h.counted.counted ∙ ap (λ (o : Option ℕ). length (filter (λ n. leaves_open_on ix must may (entry_at n tr.entries)) (up_to o ks))) same
+            ∙ tested (leaves_open_on ix must may) refl tr.entries (up_to (option_map (λ (x : NamedEntry). x.number) past) ks)
+            ∙ ap (λ (es : List Entered). length (filter (λ e. leaves_open ix must may e.entry) es)) (up_to_same tr.entries ks scope_here past ∙ ap (up_to_entry past) (scope_are rise));
       }

@@ -1,13 +1,15 @@
 -- From what plans leave open to how few evaluations there are. Numbers and tests of them flow in and out; no value of the program is here.
-use Rattle.std.proofs.Common.{◌≡◌, ◌<◌, ◌≤◌, ℕ, length, Bool, true, false, cond, ◌||◌, List, [], ◌∷◌, Option, Some, None, map, nat_eq, refl, sym, ap, ◌∙◌, subst, eq-eqb, arith}
+use Rattle.std.proofs.Common.{◌≡◌, ◌<◌, ◌≤◌, ℕ, length, Bool, true, false, cond, ◌||◌, List, [], ◌∷◌, Option, Some, None, map, nat_eq, nat_lt, refl, sym, ap, ◌∙◌, subst, eq-eqb, arith}
 use Rattle.std.specs.Prelude.{is_some, filter, nat_le}
-use Rattle.std.specs.List.{AllByRecursion}
+use Rattle.std.specs.List.{AllByRecursion, slice_get}
+use Rattle.std.proofs.lemmas.Bool.Decides.{nat_tests}
 use Rattle.dir_store.specs.ldap_match.declared.truth.Truth.{Truth}
 use Rattle.dir_store.specs.ldap_match.declared.truth.Truth.TheVariants.{True, False, Undefined}
 use Rattle.dir_store.specs.ldap_schema.Schema.{SchemaModel}
 use Rattle.ldap_filter.specs.Tree.{Tree}
 use Rattle.ldap_msg.specs.Messages.{SearchRequestValue}
 use Rattle.ldap_eval.specs.Bound.{bound_value, IsBoundTo}
+use Rattle.ldap_eval.specs.Made.{IsMadeOf}
 use Rattle.ldap_eval.specs.declared.bound.BoundFilter.{BoundFilter}
 use Rattle.dir_store.specs.index_choice.declared.kinds.Kinds.{Kinds}
 use Rattle.dir_store.specs.dir_index.Postings.{has_number, IsRising}
@@ -15,10 +17,13 @@ use Rattle.dir_store.specs.dir_tree.Directory.{Entered, entry_at, numbers}
 use Rattle.dir_store.specs.Directory.{NamedEntry}
 use Rattle.dir_store.specs.Stored.{named, AreKeyedBy}
 use Rattle.plan_compile.specs.Bounds.{is_decided}
-use Rattle.plan_run.specs.Runs.{is_true as is_true_value}
+use Rattle.plan_compile.specs.Planned.{ArePlansFor}
+use Rattle.plan_compile.specs.plan_sets.declared.plan.Plan.{Plan}
+use Rattle.plan_compile.specs.plan_sets.Runs.{is_true as is_true_value}
 use Rattle.dir_store.specs.Listed.{listed_of}
 use Rattle.dir_search.specs.Answer.{is_true, is_match, limited}
-use Rattle.dir_search.specs.Looks.{value_on, value_in, true_numbers, has_runs_on, AreNumbersOf, AreHere, IsFew, LeavesFew}
+use Rattle.dir_search.specs.Counted.{first_past}
+use Rattle.dir_search.specs.Looks.{value_on, value_in, true_numbers, has_runs_on, leaves_open_on, up_to, AreNumbersOf, AreHere, IsFew, LeavesFew}
 use Rattle.dir_search.specs.Numbered.{put_some, entries_of}
 use Rattle.dir_search.specs.Selection.{selected}
 use Rattle.dir_search.specs.View.{Shows, FindsAmong}
@@ -110,8 +115,8 @@ module _ (open_at : ℕ → Bool) (ix : List Kinds) (b : BoundFilter) (d : List 
       }
 
 -- the same of those numbers that pass a test
-up_to : (q open_at : ℕ → Bool) (ix : List Kinds) (b : BoundFilter) (d : List Entered) (ks : List ℕ) → LeavesFew open_at ix b d ks → LeavesFew open_at ix b d (filter q ks)
-up_to q open_at ix b d ks leaves = record {
+up_to_open : (q open_at : ℕ → Bool) (ix : List Kinds) (b : BoundFilter) (d : List Entered) (ks : List ℕ) → LeavesFew open_at ix b d ks → LeavesFew open_at ix b d (filter q ks)
+up_to_open q open_at ix b d ks leaves = record {
   decided = λ is n i. leaves.decided is n (filter_less q ks n i);
   parts = λ v is n i o. leaves.parts v is n (filter_less q ks n i) o;
   runs = λ n i o. leaves.runs n (filter_less q ks n i) o;
@@ -167,13 +172,54 @@ found_true s t b d keyed stands (k ∷ ks) = by (entry_at k d) refl (found_true 
         ∙ ap (λ (v : Truth). cond (is_true v) (named x ∷ filter (is_match s t) (map named (entries_of ks d))) (filter (is_match s t) (map named (entries_of ks d))))
         (stands x.name x.entry (keyed_at s d k x keyed e))
 
+-- two tests that are alike on these numbers
+alike_here : (p q : ℕ → Bool) (ks : List ℕ) → ((n : ℕ) → has_number n ks ≡ true → p n ≡ q n) → filter p ks ≡ filter q ks
+alike_here p q [] h = refl
+alike_here p q (k ∷ ks) h =
+    let own : (nat_eq k k || has_number k ks) ≡ true = ap (λ (b : Bool). b || has_number k ks) (eq-eqb k k refl) in
+    ap (λ (b : Bool). cond b (k ∷ filter p ks) (filter p ks)) (h k own)
+    ∙ ap (λ (l : List ℕ). cond (q k) (k ∷ l) l) (alike_here p q ks (λ n i. h n (or_right (nat_eq n k) (has_number n ks) i)))
+
+up_to_short : (o : Option ℕ) (ks : List ℕ) → length (up_to o ks) ≤ length ks
+up_to_short None ks = omega arith
+up_to_short (Some m) ks = filter_short (λ n. nat_le n m) ks
+
+up_to_order : (p : ℕ → Bool) (o : Option ℕ) (ks : List ℕ) → up_to o (filter p ks) ≡ filter p (up_to o ks)
+up_to_order p None ks = refl
+up_to_order p (Some m) ks = either_order p (λ n. nat_le n m) ks
+
+up_to_less : (o : Option ℕ) (ks : List ℕ) (n : ℕ) → has_number n (up_to o ks) ≡ true → has_number n ks ≡ true
+up_to_less None ks n h = h
+up_to_less (Some m) ks n h = filter_less (λ k. nat_le k m) ks n h
+
+-- the first past the limit that is set
+past_is : (limit : ℕ) (ks : List ℕ) (m : ℕ) → 0 < limit → slice_get ks limit ≡ Some m → first_past limit ks ≡ Some m
+past_is limit ks m pos past =
+    let set : nat_lt 0 limit ≡ true = grind (arith, nat_tests) in
+    ap (λ (b : Bool). cond b (slice_get ks limit) None) set ∙ past
+
 -- What is shown of the numbers that are found is what a search finds among the entries.
-pub among : (a : SearchAnswer) (s : SchemaModel) (q : SearchRequestValue) (ix : List Kinds) (b : BoundFilter) (d : List Entered) (ks : List ℕ) (open_at : ℕ → Bool) → AreKeyedBy s d → IsBoundTo s q.filter b
-    → LeavesFew open_at ix b d ks → Shows a (selected s q.attributes q.types_only) q.size_limit d (true_numbers b d ks) (filter open_at ks) → FindsAmong a s q ix b d ks
-among a s q ix b d ks open_at keyed stands leaves shows = record {
-  shown = shows.shown ∙ ap (λ (l : List NamedEntry). limited q.size_limit (map (selected s q.attributes q.types_only) l)) (found_true s q.filter b d keyed stands ks);
-  few = is_few open_at ix b d ks a.tests leaves shows.few;
-  few_up_to = λ m pos past.
-      is_few open_at ix b d (filter (λ n. nat_le n m) ks) a.tests (up_to (λ n. nat_le n m) open_at ix b d ks leaves)
-      (subst (λ (l : List ℕ). a.tests ≤ length l) (either_order open_at (λ n. nat_le n m) ks) (shows.few_up_to m pos past));
-}
+module _ (a : SearchAnswer) (s : SchemaModel) (q : SearchRequestValue) (ix : List Kinds) (b : BoundFilter) (d : List Entered) (ks : List ℕ) (open_at : ℕ → Bool) (must may : Plan) where
+  pub among : AreKeyedBy s d → IsBoundTo s q.filter b → LeavesFew open_at ix b d ks → ((m : SchemaModel) (t : Tree) → IsBoundTo m t b → IsMadeOf m t b → ArePlansFor m ix t must may)
+      → ((n : ℕ) → has_number n ks ≡ true → open_at n ≡ leaves_open_on ix must may (entry_at n d))
+      → Shows a (selected s q.attributes q.types_only) q.size_limit d (true_numbers b d ks) (filter open_at ks) → FindsAmong a s q ix b d ks
+  among keyed stands leaves plans told shows =
+      let o : Option ℕ = first_past q.size_limit (true_numbers b d ks) in
+      let short : length (up_to o (filter open_at ks)) ≤ length (filter open_at ks) = up_to_short o (filter open_at ks) in
+      let same : a.tests ≡ length (up_to o (filter open_at ks)) = shows.counted in
+      record {
+        shown = shows.shown ∙ ap (λ (l : List NamedEntry). limited q.size_limit (map (selected s q.attributes q.types_only) l)) (found_true s q.filter b d keyed stands ks);
+        few = is_few open_at ix b d ks a.tests leaves (omega arith);
+        few_up_to = λ m pos past.
+            let up : a.tests ≡ length (filter open_at (filter (λ n. nat_le n m) ks)) =
+            same ∙ ap (λ (x : Option ℕ). length (up_to x (filter open_at ks))) (past_is q.size_limit (true_numbers b d ks) m pos past) ∙ ap length (either_order open_at (λ n. nat_le n m) ks) in
+            is_few open_at ix b d (filter (λ n. nat_le n m) ks) a.tests (up_to_open (λ n. nat_le n m) open_at ix b d ks leaves) (omega arith);
+        counted = record {
+          must = must;
+          may = may;
+          plans = plans;
+          counted =
+              same ∙ ap length (up_to_order open_at o ks)
+              ∙ ap length (alike_here open_at (λ n. leaves_open_on ix must may (entry_at n d)) (up_to o ks) (λ n i. told n (up_to_less o ks n i)));
+        };
+      }

@@ -20,8 +20,8 @@ use Rattle.plan_compile.specs.plan_sets.Sets.{is_in, holds, AreNumbered, HasEntr
 use Rattle.plan_compile.specs.plan_sets.declared.plan.Plan.{Plan}
 use Rattle.plan_compile.specs.Bounds.{is_decided, BoundsSets, DecidedAreTrue}
 use Rattle.plan_compile.specs.Runs.{has_runs_for}
-use Rattle.plan_run.specs.Runs.{is_open}
-use Rattle.dir_search.specs.Looks.{value_on, value_in, has_runs_on, AreNumbersOf, LeavesFew}
+use Rattle.plan_compile.specs.plan_sets.Runs.{is_open}
+use Rattle.dir_search.specs.Looks.{value_on, value_in, has_runs_on, leaves_open_on, AreNumbersOf, LeavesFew}
 
 -- lists that answer alike are the same
 same_lists : (x : Lists) (ix : List Kinds) (es : List Indexed) → ArePostingsOf x ix es → postings_of ix es ≡ x
@@ -131,3 +131,13 @@ pub leaves_few : (x : Lists) (ix : List Kinds) (b : BoundFilter) (d : List Enter
 leaves_few x ix b d must may agree are sets parts runs ks sel =
     subst (λ (l : Lists). LeavesFew (is_open (is_in l ks must) (is_in l ks may)) ix b d ks) (same_lists x ix (listed_of d) are)
     (leaves ix b d must may agree (are_numbered (listed_of d) are.numbered) sets parts runs ks sel)
+
+-- a number is left open, just where its entry is
+pub told_open : (x : Lists) (ix : List Kinds) (d : List Entered) (must may : Plan) → SetsAreOfEntries → ArePostingsOf x ix (listed_of d) → (ks : List ℕ) → AreNumbersOf ks d
+    → (n : ℕ) → has_number n ks ≡ true → is_open (is_in x ks must) (is_in x ks may) n ≡ leaves_open_on ix must may (entry_at n d)
+told_open x ix d must may agree are ks sel n h =
+    let num : AreNumbered (listed_of d) = are_numbered (listed_of d) are.numbered in
+    let e : IsEntryOf d n = entry_here ks d sel n h in
+    subst (λ (l : Lists). is_open (is_in l ks must) (is_in l ks may) n ≡ leaves_open_on ix must may (entry_at n d)) (same_lists x ix (listed_of d) are)
+    (ap₂ (λ (a b : Bool). a && not b) (agree ix (listed_of d) ks n e.entry.entry may num e.listed h) (agree ix (listed_of d) ks n e.entry.entry must num e.listed h)
+    ∙ sym (ap (leaves_open_on ix must may) e.found))

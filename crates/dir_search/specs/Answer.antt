@@ -5,8 +5,6 @@ use Rattle.dir_store.specs.ldap_schema.Schema.{SchemaModel}
 use Rattle.ldap_filter.specs.Tree.{Tree}
 use Rattle.dir_store.specs.ldap_dn.Names.{RdnModel, rdns}
 use Rattle.dir_store.specs.ldap_dn.Texts.{name_of_text}
-use Rattle.dir_store.specs.ldap_match.declared.truth.Truth.{Truth}
-use Rattle.dir_store.specs.ldap_match.declared.truth.Truth.TheVariants.{True, False, Undefined}
 use Rattle.ldap_msg.specs.ldap_requests.declared.search.Scope.{Scope}
 use Rattle.ldap_msg.specs.ldap_requests.declared.search.Scope.TheVariants.{BaseObject, SingleLevel, WholeSubtree, SubordinateSubtree}
 use Rattle.ldap_msg.specs.Messages.{SearchRequestValue, SearchResultEntryValue}
@@ -17,17 +15,13 @@ use Rattle.dir_store.specs.Replies.{ReplyModel, only, not_found}
 use Rattle.dir_search.specs.Scopes.{is_in_scope}
 use Rattle.dir_search.specs.Selection.{selected}
 use Rattle.dir_search.specs.RootDse.{dse_attributes, dse_selected}
+pub use Rattle.plan_compile.specs.plan_sets.Runs.{is_true}
 
 -- a result code, matchedDN, and the entries that are shown
 pub record Answer : Type 0 where
   pub code : ℕ
   pub matched : List ℕ
   pub entries : List SearchResultEntryValue
-
-abbrev pub is_true : Truth → Bool
-is_true True = true
-is_true False = false
-is_true Undefined = false
 
 -- whether a filter's value on an entry is True (RFC 4511 4.5.1.7)
 abbrev pub is_match : SchemaModel → Tree → NamedEntry → Bool

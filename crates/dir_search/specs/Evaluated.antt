@@ -1,20 +1,18 @@
 -- On how many entries a search evaluates its filter. What a store has, a request and a count flow in; a statement flows out. Bound filters,
 -- plans and numbers in posting lists are not here.
-use Rattle.std.specs.Prelude.{◌≡◌, ◌<◌, ◌≤◌, ℕ, true, ◌&&◌, not, Bool, List, length, map, filter, nat_le, Option, None, Some}
+use Rattle.std.specs.Prelude.{◌≡◌, ◌<◌, ◌≤◌, ℕ, true, ◌&&◌, not, Bool, List, length, filter, nat_le, Option, None, Some}
 use Rattle.std.specs.List.{slice_get}
 use Rattle.dir_store.specs.ldap_schema.Schema.{SchemaModel}
-use Rattle.dir_store.specs.ldap_dn.Names.{RdnModel, rdns}
+use Rattle.dir_store.specs.ldap_dn.Names.{RdnModel}
 use Rattle.dir_store.specs.ldap_dn.Texts.{name_of_text}
 use Rattle.ldap_filter.specs.Tree.{Tree, conj, Trees, no_trees, tree}
 use Rattle.ldap_msg.specs.Messages.{SearchRequestValue}
 use Rattle.dir_store.specs.index_choice.declared.kinds.Kinds.{Kinds}
-use Rattle.dir_store.specs.dir_tree.Directory.{Entered}
 use Rattle.dir_store.specs.Directory.{Directory, NamedEntry}
 use Rattle.dir_store.specs.Listed.{StoreModel}
-use Rattle.dir_store.specs.Stored.{named, AreKeyedBy}
-use Rattle.dir_search.specs.Answer.{is_match, matching, is_empty, is_base, is_subordinate, stands}
-use Rattle.dir_search.specs.Decided.{is_decided, has_runs}
-use Rattle.dir_search.specs.Scopes.{is_in_scope}
+use Rattle.plan_compile.specs.Decided.{is_decided}
+use Rattle.plan_compile.specs.Held.{has_runs}
+use Rattle.dir_search.specs.Answer.{is_match, in_scope, matching, is_empty, is_base, is_subordinate, stands}
 
 -- no more than each of these filters that the indexes decide is True on, among these entries
 abbrev pub IsWithinParts : SchemaModel → List Kinds → Trees → List NamedEntry → ℕ → Type 0
@@ -23,29 +21,22 @@ IsWithinParts s ix (tree t ts) es tests = (is_decided s ix t ≡ true → tests 
 
 -- A filter was evaluated on few of these entries: on none, where the indexes decide it; for an `and`, on at most as many as each part that they
 -- decide is True on; and on at most as many as hold each run of three octets that it asks for.
-pub record IsFewOf (s : SchemaModel) (ix : List Kinds) (f : Tree) (es : List Entered) (tests : ℕ) : Type 0 where
+pub record IsFewOf (s : SchemaModel) (ix : List Kinds) (f : Tree) (es : List NamedEntry) (tests : ℕ) : Type 0 where
   pub within : tests ≤ length es
   pub decided : is_decided s ix f ≡ true → tests ≡ 0
-  pub parts : (ts : Trees) → f ≡ conj ts → IsWithinParts s ix ts (map named es) tests
-  pub runs : tests ≤ length (filter (λ e. has_runs s ix e.entry f) es)
-
--- those of these entries that are in scope
-abbrev pub those_in_scope : Directory → SearchRequestValue → List RdnModel → List Entered → List Entered
-those_in_scope d q base es = filter (λ e. is_in_scope (rdns d.suffix) q.scope (rdns base) (rdns e.name)) es
+  pub parts : (ts : Trees) → f ≡ conj ts → IsWithinParts s ix ts es tests
+  pub runs : tests ≤ length (filter (λ e. has_runs s ix e.attributes f) es)
 
 -- those of these entries up to a number
-abbrev pub those_up_to : ℕ → List Entered → List Entered
+abbrev pub those_up_to : ℕ → List NamedEntry → List NamedEntry
 those_up_to m es = filter (λ e. nat_le e.number m) es
 
--- A search at a base evaluated its filter on few of the entries in scope, seen with their keys; and where more of them match than the size
--- limit, on few of those up to the first past it.
+-- A search at a base evaluated its filter on few of the entries in scope; and where more of them match than the size limit, on few of those up to
+-- the first past it.
 pub record IsFewAtBase (ix : List Kinds) (d : Directory) (q : SearchRequestValue) (base : List RdnModel) (tests : ℕ) : Type 0 where
-  pub keyed_entries : List Entered
-  pub are : map named keyed_entries ≡ d.entries
-  pub keyed : AreKeyedBy d.schema keyed_entries
-  pub few : IsFewOf d.schema ix q.filter (those_in_scope d q base keyed_entries) tests
+  pub few : IsFewOf d.schema ix q.filter (in_scope d q.scope base) tests
   pub few_up_to : (e : NamedEntry) → 0 < q.size_limit → slice_get (matching d q base) q.size_limit ≡ Some e
-      → IsFewOf d.schema ix q.filter (those_up_to e.number (those_in_scope d q base keyed_entries)) tests
+      → IsFewOf d.schema ix q.filter (those_up_to e.number (in_scope d q.scope base)) tests
 
 -- whether a search goes over entries at a base: the base stands, and it is not the root DSE alone that is asked for
 abbrev pub goes_over : Directory → SearchRequestValue → List RdnModel → Bool

@@ -7,7 +7,7 @@ pub mod Exact
 pub mod Compared
 pub mod Numbered
 pub mod Looks
-pub mod Decided
+pub mod Counted
 pub mod Evaluated
 pub mod View
 -- what layers above name of the crates below

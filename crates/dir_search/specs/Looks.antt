@@ -1,13 +1,16 @@
 -- How many entries a search evaluates its bound filter on, by their numbers. Numbers, entries, an index choice and a bound filter flow in; bounds
 -- on a count flow out. Requests, and how plans are made, are not here.
-use Rattle.std.specs.Prelude.{◌≡◌, ◌≤◌, ℕ, Bool, true, false, List, length, filter, Option, None, Some, is_some, Vec}
+use Rattle.std.specs.Prelude.{◌≡◌, ◌≤◌, ℕ, Bool, true, false, List, length, filter, nat_le, Option, None, Some, is_some, Vec}
 use Rattle.std.specs.Global.{Global}
 use Rattle.std.specs.List.{AllByRecursion}
 use Rattle.dir_store.specs.ldap_match.declared.truth.Truth.{Truth}
 use Rattle.dir_store.specs.ldap_match.declared.truth.Truth.TheVariants.{True, Undefined}
 use Rattle.dir_store.specs.ldap_dn.Names.{RdnModel, rdns}
 use Rattle.ldap_msg.specs.Messages.{SearchRequestValue}
-use Rattle.ldap_eval.specs.Bound.{bound_value}
+use Rattle.dir_store.specs.ldap_schema.Schema.{SchemaModel}
+use Rattle.ldap_filter.specs.Tree.{Tree}
+use Rattle.ldap_eval.specs.Bound.{bound_value, IsBoundTo}
+use Rattle.ldap_eval.specs.Made.{IsMadeOf}
 use Rattle.ldap_eval.specs.declared.bound.BoundFilter.{BoundFilter}
 use Rattle.ldap_eval.specs.declared.bound.BoundFilter.TheVariants as bound
 use Rattle.dir_store.specs.index_choice.declared.kinds.Kinds.{Kinds}
@@ -16,7 +19,10 @@ use Rattle.dir_store.specs.dir_tree.Directory.{Entered, entry_at, numbers}
 use Rattle.dir_store.specs.Directory.{Directory}
 use Rattle.plan_compile.specs.Bounds.{is_decided}
 use Rattle.plan_compile.specs.Runs.{has_runs_for}
-use Rattle.plan_run.specs.Runs.{true_set}
+use Rattle.plan_compile.specs.Planned.{ArePlansFor}
+use Rattle.plan_compile.specs.plan_sets.declared.plan.Plan.{Plan}
+use Rattle.plan_compile.specs.plan_sets.Runs.{true_set}
+use Rattle.dir_search.specs.Counted.{leaves_open, first_past}
 use Rattle.dir_search.specs.Scopes.{is_in_scope}
 
 -- the value of a bound filter on an entry; Undefined, where there is none
@@ -60,6 +66,24 @@ pub record LeavesFew (open_at : ℕ → Bool) (ix : List Kinds) (b : BoundFilter
   pub parts : (v : Vec BoundFilter Global) → b ≡ bound.And v → (n : ℕ) → has_number n ks ≡ true → open_at n ≡ true
       → AllByRecursion (λ f. is_decided ix f ≡ true → value_in f d n ≡ True) v.items
   pub runs : (n : ℕ) → has_number n ks ≡ true → open_at n ≡ true → has_runs_on ix b (entry_at n d) ≡ true
+
+-- whether two plans leave the entry of a number open
+abbrev pub leaves_open_on : List Kinds → Plan → Plan → Option Entered → Bool
+leaves_open_on ix must may None = false
+leaves_open_on ix must may (Some e) = leaves_open ix must may e.entry
+
+-- the numbers up to one; all, where there is none
+abbrev pub up_to : Option ℕ → List ℕ → List ℕ
+up_to None ns = ns
+up_to (Some m) ns = filter (λ n. nat_le n m) ns
+
+-- A bound filter was evaluated on just the entries of these numbers that plans of it leave open, up to where a search ends that shows at most so
+-- many.
+pub record IsCountAmong (ix : List Kinds) (b : BoundFilter) (d : List Entered) (ks : List ℕ) (limit tests : ℕ) : Type 0 where
+  pub must : Plan
+  pub may : Plan
+  pub plans : (s : SchemaModel) (t : Tree) → IsBoundTo s t b → IsMadeOf s t b → ArePlansFor s ix t must may
+  pub counted : tests ≡ length (filter (λ n. leaves_open_on ix must may (entry_at n d)) (up_to (first_past limit (true_numbers b d ks)) ks))
 
 -- the numbers of the entries in scope
 abbrev pub numbers_in_scope : Directory → SearchRequestValue → List RdnModel → List Entered → List ℕ

@@ -3,11 +3,12 @@
 use Rattle.std.specs.Prelude.{ℕ, List, [], ◌∷◌, Bool, true, false, not, ◌&&◌, ◌||◌, if◌then◌else◌, map, filter, codes, Option, Some, None}
 use Rattle.std.specs.List.{list_any}
 use Rattle.std.specs.Str.{bytes_eq}
-use Rattle.dir_store.specs.ldap_schema.Schema.{SchemaModel, TypeModel, find, is_under, type_at}
+use Rattle.dir_store.specs.ldap_schema.Schema.{SchemaModel, find, is_under, type_at}
 use Rattle.dir_store.specs.dir_entry.Entry.{AttributeModel}
 use Rattle.ldap_msg.specs.Messages.{PartialAttributeValue, SearchResultEntryValue}
 use Rattle.dir_store.specs.ldap_dn.Printed.{printed_name}
 use Rattle.dir_store.specs.Directory.{NamedEntry}
+pub use Rattle.dir_store.specs.ldap_dn.Printed.{name_of_type}
 
 -- a recognised description selects its type and the subtypes (RFC 4512 2.5.1); another one selects nothing
 abbrev pub is_named_by : SchemaModel → ℕ → Option ℕ → Bool
@@ -23,17 +24,8 @@ abbrev pub is_selected : SchemaModel → List (List ℕ) → ℕ → Bool
 is_selected s [] t = true
 is_selected s (selector ∷ selectors) t = list_any (is_selected_by s t) (selector ∷ selectors)
 
--- a type goes by its first name, and by its object identifier if it has none
-abbrev pub first_of : List ℕ → List (List ℕ) → List ℕ
-first_of oid [] = oid
-first_of oid (name ∷ names) = name
-
-abbrev pub name_in : Option TypeModel → List ℕ
-name_in None = []
-name_in (Some t) = first_of t.oid t.names
-
 abbrev pub first_name : SchemaModel → ℕ → List ℕ
-first_name s t = name_in (type_at s t)
+first_name s t = name_of_type (type_at s t)
 
 -- typesOnly leaves the values out (RFC 4511 4.5.1.6)
 abbrev pub shown : SchemaModel → Bool → AttributeModel → PartialAttributeValue

@@ -10,7 +10,8 @@ use Rattle.dir_store.specs.dir_tree.Directory.{Entered}
 use Rattle.dir_store.specs.Directory.{NamedEntry}
 use Rattle.dir_store.specs.Stored.{named}
 use Rattle.dir_search.specs.Answer.{Answer, limited}
-use Rattle.dir_search.specs.Looks.{true_numbers, IsFew}
+use Rattle.dir_search.specs.Counted.{first_past}
+use Rattle.dir_search.specs.Looks.{true_numbers, up_to, IsFew, IsCountAmong}
 use Rattle.dir_search.specs.Numbered.{entries_of, found_of}
 use Rattle.dir_search.specs.declared.found.SearchAnswer.{SearchAnswer}
 
@@ -22,18 +23,18 @@ pub record Finds (a : SearchAnswer) (x : Answer) (most : ℕ) : Type 0 where
   pub shown : answer_view a ≡ x
   pub tests : a.tests ≤ most
 
--- An answer in memory shows the entries of the numbers that were found, up to a limit. It tells of no more evaluations than there were numbers
--- left open; where there are more entries than the limit, up to the first past it.
+-- An answer in memory shows the entries of the numbers that were found, up to a limit. It tells of as many evaluations as there were numbers left
+-- open; where there are more entries than the limit, up to the first past it.
 pub record Shows (a : SearchAnswer) (show : NamedEntry → SearchResultEntryValue) (limit : ℕ) (d : List Entered) (found left_open : List ℕ) : Type 0 where
   pub shown : answer_view a ≡ limited limit (map show (map named (entries_of found d)))
-  pub few : a.tests ≤ length left_open
-  pub few_up_to : (m : ℕ) → 0 < limit → slice_get found limit ≡ Some m → a.tests ≤ length (filter (λ n. nat_le n m) left_open)
+  pub counted : a.tests ≡ length (up_to (first_past limit found) left_open)
 
 -- An answer in memory is what a search finds among the entries of these numbers. It evaluated the filter on few of them; where there are more
--- entries than the size limit, on few of those up to the first past it.
+-- entries than the size limit, on few of those up to the first past it; and it tells on how many.
 pub record FindsAmong (a : SearchAnswer) (s : SchemaModel) (q : SearchRequestValue) (ix : List Kinds) (b : BoundFilter) (d : List Entered) (ks : List ℕ)
     : Type 0 where
   pub shown : answer_view a ≡ found_of s q ks d
   pub few : IsFew ix b d ks a.tests
   pub few_up_to : (m : ℕ) → 0 < q.size_limit → slice_get (true_numbers b d ks) q.size_limit ≡ Some m
       → IsFew ix b d (filter (λ n. nat_le n m) ks) a.tests
+  pub counted : IsCountAmong ix b d ks q.size_limit a.tests

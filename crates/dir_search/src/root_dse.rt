@@ -175,7 +175,8 @@ pub fn show_root(
     store: &Store,
     request: &SearchRequest,
 ) -> Result<SearchAnswer, AllocError>
-    ensures { IfOk result (λ a. Finds a (record { code = 0; matched = []; entries = dse_matching store.now.directory (search_view request.now) }) 1) }
+    ensures found { IfOk result (λ a. Finds a (record { code = 0; matched = []; entries = dse_matching store.now.directory (search_view request.now) }) 1) }
+    ensures counted { IfOk result (λ a. a.tests ≡ 1) }
 {
     let entry = root_entry(alloc, store.schema())?;
     let bound = bind(alloc, store.schema(), &request.filter)?;

@@ -7,19 +7,23 @@ ghost use Rattle.ldap_filter.specs.View.{view as filter_view};
 ghost use Rattle.dir_store.specs.ldap_dn.Names.{RdnModel, rdns};
 ghost use Rattle.dir_store.specs.ldap_dn.Texts.{name_of_text};
 ghost use Rattle.ldap_eval.specs.Bound.{IsBoundTo};
+ghost use Rattle.ldap_eval.specs.Made.{IsMadeOf};
 ghost use Rattle.ldap_eval.specs.Value.{filter_value};
 ghost use Rattle.ldap_msg.specs.View.{search_view};
 ghost use Rattle.dir_store.specs.dir_entry.Entry.{attributes_of, IsKeyedBy};
 ghost use Rattle.dir_store.specs.dir_index.Whole.{lists_of, ArePostingsOf};
-ghost use Rattle.dir_store.specs.dir_tree.Directory.{name_eq, begins, numbers};
+ghost use Rattle.dir_store.specs.dir_index.Postings.{has_number};
+ghost use Rattle.dir_store.specs.dir_tree.Directory.{name_eq, begins, entry_at, numbers};
 ghost use Rattle.dir_store.specs.Listed.{listed_of};
 ghost use Rattle.dir_store.specs.Replies.{only};
 ghost use Rattle.dir_store.specs.Stored.{directory, AreKeyedBy};
 ghost use Rattle.plan_compile.specs.plan_sets.Sets.{is_in};
-ghost use Rattle.plan_run.specs.Runs.{AreGuides, is_open};
+ghost use Rattle.plan_compile.specs.Planned.{ArePlansFor};
+ghost use Rattle.plan_compile.specs.plan_sets.Runs.{AreGuides, is_open};
 ghost use Rattle.dir_search.specs.Answer.{answer, answer_of, answer_at, found_at, in_scope, tried, tried_of, tried_at, refused as refused_answer, is_true, is_base, stands, is_empty};
+ghost use Rattle.dir_search.specs.Counted.{IsCountAtBase, IsCountFrom, IsCountOf};
 ghost use Rattle.dir_search.specs.Evaluated.{IsFewAtBase, LooksAtFew, goes_over};
-ghost use Rattle.dir_search.specs.Looks.{AreNumbersOf, LeavesFew, value_in};
+ghost use Rattle.dir_search.specs.Looks.{AreNumbersOf, LeavesFew, leaves_open_on, value_in};
 ghost use Rattle.dir_search.specs.Scopes.{is_right_under, is_in_scope};
 ghost use Rattle.dir_search.specs.View.{answer_view, Finds, FindsAmong};
 
@@ -33,8 +37,7 @@ use dir_store::{
 };
 use ldap_eval::{BoundFilter, bind, value};
 use ldap_msg::{ResultCode, Scope, SearchRequest};
-use plan_compile::{Sided, compile, sets_are_of_entries};
-use plan_run::start;
+use plan_compile::{Sided, compile, sets_are_of_entries, start, tests_are_items};
 use std::alloc::{AllocError, Global};
 
 /// Whether a filter is True on an entry of a name.
@@ -61,6 +64,11 @@ fn guide(
     ensures few { IfOk result (λ s. (ks : List ℕ) → AreNumbersOf ks tree.now.entries
         → LeavesFew (is_open (is_in (lists_of postings.now) ks s.must) (is_in (lists_of postings.now) ks s.may))
         postings.now.indexes bound.now tree.now.entries ks) }
+    ensures plans { IfOk result (λ s. (m : SchemaModel) (t : FilterTree) → IsBoundTo m t bound.now → IsMadeOf m t bound.now
+        → ArePlansFor m postings.now.indexes t s.must s.may) }
+    ensures told { IfOk result (λ s. (ks : List ℕ) → AreNumbersOf ks tree.now.entries → (n : ℕ) → has_number n ks ≡ true
+        → is_open (is_in (lists_of postings.now) ks s.must) (is_in (lists_of postings.now) ks s.may) n
+        ≡ leaves_open_on postings.now.indexes s.must s.may (entry_at n tree.now.entries)) }
 {
     sets_are_of_entries();
     let sided = compile(alloc, bound, postings.indexes())?;
@@ -253,8 +261,10 @@ fn search_scope(
     ensures found { IfOk result (λ a. Finds a (found_at (directory schema.now indexed.now.tree) (search_view request.now) base.now)
         (length (in_scope (directory schema.now indexed.now.tree) request.now.scope base.now))) }
     ensures few { IfOk result (λ a. IsFewAtBase indexed.now.indexes (directory schema.now indexed.now.tree) (search_view request.now) base.now a.tests) }
+    ensures counted { IfOk result (λ a. IsCountAtBase indexed.now.indexes (directory schema.now indexed.now.tree) (search_view request.now) base.now a.tests) }
 {
     indexed.tree().is_directory();
+    tests_are_items();
     let bound = bind(alloc, schema, &request.filter)?;
     search_bound(alloc, schema, indexed, &bound, request.scope, base, request)
 }
@@ -286,6 +296,7 @@ fn search_at(
     ensures found { IfOk result (λ a. Finds a (answer_at store.now.directory (search_view request.now) base.now) (tried_at store.now.directory (search_view request.now) base.now)) }
     ensures few { IfOk result (λ a. goes_over store.now.directory (search_view request.now) base.now ≡ true
         → IsFewAtBase store.now.indexes store.now.directory (search_view request.now) base.now a.tests) }
+    ensures counted { IfOk result (λ a. IsCountFrom store.now (search_view request.now) base.now a.tests) }
 {
     if asks_for_root(request.scope, base) {
         return show_root(alloc, store, request);
@@ -313,6 +324,7 @@ fn search_text(
     ensures found { IfOk result (λ a. Finds a (answer_of store.now.directory (search_view request.now) (name_of_text store.now.directory.schema (search_view request.now).base))
         (tried_of store.now.directory (search_view request.now) (name_of_text store.now.directory.schema (search_view request.now).base))) }
     ensures few { IfOk result (λ a. LooksAtFew store.now (search_view request.now) a.tests) }
+    ensures counted { IfOk result (λ a. IsCountOf store.now (search_view request.now) a.tests) }
 {
     match Name::read(alloc, store.schema(), &request.base) {
         Ok(base) => search_at(alloc, store, base.rdns(), request),
@@ -337,6 +349,10 @@ pub fn search(
     // It is 0, where the indexes decide the filter; of an `and` at most as many as each decided part is True on; and with a size limit no entry
     // behind the first past it is counted.
     ensures few { IfOk result (λ a. LooksAtFew store.now (search_view request.now) a.tests) }
+
+    // It is just that of the entries in scope that plans of the filter leave open, up to the first past the size limit; plans are what the indexes
+    // tell of it, and where the indexes decide the filter nothing is left open.
+    ensures counted { IfOk result (λ a. IsCountOf store.now (search_view request.now) a.tests) }
 {
     match request.scope {
         Scope::SubordinateSubtree => Ok(refused_with(alloc, ResultCode::PROTOCOL_ERROR)),

@@ -2,7 +2,7 @@
 //! out, and each look is counted. Plans are not here.
 use dir_store::{Tree, Truth};
 use ldap_eval::{BoundFilter, value};
-use plan_run::Values;
+use plan_compile::Values;
 
 /// The values of a bound filter on the entries of a tree.
 #[derive(Drop)]

@@ -7,7 +7,7 @@ use Rattle.local_directory.specs.ldap_requests.declared.search.Scope.{Scope}
 use Rattle.local_directory.specs.ldap_requests.declared.search.DerefAliases.TheVariants.{NeverDerefAliases}
 use Rattle.local_directory.specs.ldap_msg.Messages.{SearchRequestValue}
 use Rattle.schema_reader.specs.BuiltIn.{built_in}
-use Rattle.ldif_search.specs.Searched.{IsSearched}
+use Rattle.local_directory.specs.Searched.{IsSearched}
 use Rattle.dird_commands.specs.Begun.{empty_directory}
 
 -- where the octets of an input and an output are known, the output has grown by what is made of the input

@@ -6,8 +6,7 @@ ghost use Rattle.dird_commands.specs.declared.fault.Fault.TheVariants.{NoMemory}
 use filter_text_reader::FilterTextError;
 use hex_session::LineFault;
 use lab_script::ScriptError;
-use ldif_search::{ExportError, ImportError, SearchError};
-use local_directory::IndexError;
+use local_directory::{ExportError, ImportError, IndexError, SearchError};
 use schema_reader::SchemaError;
 use std::alloc::{AllocError, AllocFailed};
 use thiserror::Error;

@@ -2,8 +2,8 @@
 ghost use Rattle.std.specs.Prelude.{◌≡◌, map, string_bytes, IfOk, IfSome, OnOk};
 ghost use Rattle.std.specs.Io.KnownBytes.{Appends};
 ghost use Rattle.local_directory.specs.ldap_msg.View.{search_view};
-ghost use Rattle.ldif_search.specs.ldif_messages.Imports.{IsImport};
-ghost use Rattle.ldif_search.specs.ldif_messages.Exports.{IsExport};
+ghost use Rattle.local_directory.specs.ldif_messages.Imports.{IsImport};
+ghost use Rattle.local_directory.specs.ldif_messages.Exports.{IsExport};
 ghost use Rattle.dird_commands.specs.Texts.{Turns, IsRequestOf, IsAnswerTo};
 
 use crate::fault::Fault;
@@ -11,8 +11,9 @@ use crate::files::read_fault;
 use crate::local::empty;
 use command_line::Question;
 use filter_text_reader::read_text;
-use ldif_search::{export_text, import_text, search_text};
-use local_directory::{DerefAliases, Indexes, SearchRequest};
+use local_directory::{
+    DerefAliases, Indexes, SearchRequest, export_text, import_text, search_text,
+};
 use schema_reader::built_in_schema;
 use std::alloc::{AllocError, Global};
 use std::io::{BufRead, Write};

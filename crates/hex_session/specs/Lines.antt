@@ -1,16 +1,13 @@
 -- Lines of hex: the octets of an input and of an output flow in; the pieces that lines spell, and the lines of responses, flow out.
 -- What a message means is not here.
-use Rattle.std.specs.Prelude.{◌≡◌, ℕ, zero, suc, List, [], ◌∷◌, ◌++◌, Bool, true, false, Ok, Option, None, Some}
+use Rattle.std.specs.Prelude.{◌≡◌, ℕ, zero, suc, List, [], ◌∷◌, ◌++◌, true, false, Ok, Option, None, Some}
 use Rattle.std.specs.Io.BufRead.{take_through, drop_through, strip_last}
 use Rattle.hex.specs.Hex.{decode_of, encode_lower}
 use Rattle.ldap_session.specs.ldap_msg.Messages.{MessageValue}
 use Rattle.ldap_session.specs.ldap_msg.Written.{message_bytes}
 use Rattle.hex_session.specs.declared.line.Line.{Line}
 use Rattle.hex_session.specs.declared.line.Line.TheVariants.{End, Blank, Piece}
-
-abbrev pub is_empty : List ℕ → Bool
-is_empty [] = true
-is_empty (x ∷ xs) = false
+pub use Rattle.ldap_session.specs.Octets.{is_empty}
 
 -- the first line, without its end of LF or CRLF
 abbrev pub first_line : List ℕ → List ℕ

@@ -10,7 +10,7 @@ mod name_pairs;
 
 pub use binding::bind;
 pub use bound::{BoundFilter, Leaf, Match};
-pub use dir_entry::{Key, PartKeys, Test, Truth, TypeId};
+pub use dir_entry::{Key, PartKeys, Test, Truth, TypeId, tests_are_items};
 pub use evaluating::value;
 pub use ldap_filter::Filter;
 pub use name_pairs::NamePairs;

@@ -1,13 +1,10 @@
 -- Octets that are written. Lists of octets and a writer's contents flow in; how far they were taken flows out. Messages are here only as
 -- their octets.
-use Rattle.std.specs.Prelude.{◌≡◌, ℕ, List, [], ◌∷◌, ◌++◌, Bool, true, false, Option}
+use Rattle.std.specs.Prelude.{◌≡◌, ℕ, List, [], ◌∷◌, ◌++◌, Bool, true, Option}
 use Rattle.std.specs.Io.KnownBytes.{Appends}
 use Rattle.session_rules.specs.ldap_msg.Messages.{MessageValue}
 use Rattle.session_rules.specs.ldap_msg.Written.{message_bytes}
-
-abbrev pub is_empty : List ℕ → Bool
-is_empty [] = true
-is_empty (o ∷ os) = false
+pub use Rattle.session_rules.specs.message_rules.Binding.{is_empty}
 
 -- octets, one after the other
 abbrev pub joined : List (List ℕ) → List ℕ

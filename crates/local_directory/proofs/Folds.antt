@@ -1,5 +1,6 @@
 -- A directory of one server alone is the fold of what was made along a talk. Facts on definitions flow in and out; no value of the program is here.
 use Rattle.std.proofs.Common.{◌≡◌, ℕ, suc, ◌+◌, ◌≤◌, Bool, true, false, cond, nat_eq, nat_lt, List, [], ◌∷◌, ◌++◌, map, length, Option, Some, None, is_some, refl, sym, ap, ◌∙◌, subst, arith, true≢false}
+use Rattle.std.specs.List.{slice_get}
 use Rattle.std.specs.FinMap as fin
 use Rattle.std.specs.Ordering.{eq_by_cmp}
 use Rattle.std.proofs.lemmas.List.{map-append}
@@ -16,6 +17,8 @@ use Rattle.local_directory.specs.Local.{LocalValue}
 use Rattle.local_directory.specs.Allows.{allows, Ends, outcome_by, made_as, unchanged, last_number}
 use Rattle.local_directory.specs.Made.{MadeUpdate, made_if, made_in, made_along, ops_of, IsFold, IsKept, DirectoryIsFold}
 use Rattle.session_talk.proofs.dir_search.dir_store.Joins.{after_join, replies_join}
+use Rattle.session_talk.proofs.dir_search.dir_store.Placed.{placed}
+use Rattle.session_talk.specs.dir_store.Placed.{reply_at}
 use Rattle.local_directory.proofs.Clients.{clients_total}
 use Rattle.local_directory.proofs.Ends.{same_number, same_reply, not_stale, not_lost}
 
@@ -46,9 +49,21 @@ reply_in m = m.reply
 abbrev op_in : MadeUpdate → OpValue
 op_in m = m.op
 
+-- replies that are those of their definitions are so place by place
+by_place : (d : LocalValue) (ms : List MadeUpdate) → map reply_in ms ≡ replies_after d.directory d.number (ops_of ms) → (p : ℕ) → slice_get (map reply_in ms) p ≡ reply_at d.directory d.number (ops_of ms) p
+by_place d ms h p = ap (λ (rs : List ReplyModel). slice_get rs p) h ∙ placed d.directory d.number (ops_of ms) p
+
 folds_join : (d e f : LocalValue) (ms ns : List MadeUpdate) → IsFold d ms e → IsFold e ns f → IsFold d (ms ++ ns) f
 folds_join d e f ms ns first second =
     let at : e.number ≡ d.number + length (ops_of ms) = first.number ∙ ap (λ (k : ℕ). d.number + k) (sym (ops_length ms)) in
+    let replies : map reply_in (ms ++ ns) ≡ replies_after d.directory d.number (ops_of (ms ++ ns)) =
+    map-append reply_in ms ns
+    ∙ ap (λ (rs : List ReplyModel). rs ++ map reply_in ns) first.replies
+    ∙ ap (λ (rs : List ReplyModel). replies_after d.directory d.number (ops_of ms) ++ rs) second.replies
+    ∙ ap (λ (x : Directory). replies_after d.directory d.number (ops_of ms) ++ replies_after x e.number (ops_of ns)) first.directory
+    ∙ ap (λ (k : ℕ). replies_after d.directory d.number (ops_of ms) ++ replies_after (directory_after d.directory d.number (ops_of ms)) k (ops_of ns)) at
+    ∙ sym (replies_join d.directory d.number (ops_of ms) (ops_of ns))
+    ∙ ap (λ (ops : List OpValue). replies_after d.directory d.number ops) (sym (map-append op_in ms ns)) in
     record {
       directory =
           second.directory
@@ -57,14 +72,8 @@ folds_join d e f ms ns first second =
           ∙ sym (after_join d.directory d.number (ops_of ms) (ops_of ns))
           ∙ ap (λ (ops : List OpValue). directory_after d.directory d.number ops) (sym (map-append op_in ms ns));
       number = through f.number e.number d.number (length ms) (length ns) (length (ms ++ ns)) second.number first.number (length_join ms ns);
-      replies =
-          map-append reply_in ms ns
-          ∙ ap (λ (rs : List ReplyModel). rs ++ map reply_in ns) first.replies
-          ∙ ap (λ (rs : List ReplyModel). replies_after d.directory d.number (ops_of ms) ++ rs) second.replies
-          ∙ ap (λ (x : Directory). replies_after d.directory d.number (ops_of ms) ++ replies_after x e.number (ops_of ns)) first.directory
-          ∙ ap (λ (k : ℕ). replies_after d.directory d.number (ops_of ms) ++ replies_after (directory_after d.directory d.number (ops_of ms)) k (ops_of ns)) at
-          ∙ sym (replies_join d.directory d.number (ops_of ms) (ops_of ns))
-          ∙ ap (λ (ops : List OpValue). replies_after d.directory d.number ops) (sym (map-append op_in ms ns));
+      replies = replies;
+      placed = by_place d (ms ++ ns) replies;
     }
 
 -- one exchange: what it made leads on, and what is kept stays so
@@ -73,7 +82,7 @@ Leads d ms e = IsFold d ms e × IsKept e
 
 leads_same : (d e : LocalValue) → e ≡ d → IsKept d → Leads d [] e
 leads_same d e h kept =
-    (record { directory = ap (λ (x : LocalValue). x.directory) h; number = ap (λ (x : LocalValue). x.number) h ∙ plus_none d.number; replies = refl }, subst IsKept (sym h) kept)
+    (record { directory = ap (λ (x : LocalValue). x.directory) h; number = ap (λ (x : LocalValue). x.number) h ∙ plus_none d.number; replies = refl; placed = by_place d [] refl }, subst IsKept (sym h) kept)
 
 -- a reply of an earlier number makes nothing
 test_earlier : (n k : ℕ) → n ≤ k → nat_eq n (k + 1) ≡ false
@@ -123,6 +132,7 @@ made_leads d e client request op n r h same kept =
         directory = ap (λ (x : LocalValue). x.directory) same;
         number = ap (λ (x : LocalValue). x.number) same;
         replies = ap (λ (x : ReplyModel). x ∷ []) (sym (same_reply (d.number + 1) n (reply_to d.directory (d.number + 1) op) r h));
+        placed = by_place d (record { op = op; reply = r } ∷ []) (ap (λ (x : ReplyModel). x ∷ []) (sym (same_reply (d.number + 1) n (reply_to d.directory (d.number + 1) op) r h)));
       },
       subst IsKept (sym same) (made_kept d client request op kept),
     )

@@ -5,6 +5,8 @@ pub mod View
 pub mod Local
 pub mod Allows
 pub mod Made
+pub mod Added
+pub mod Searched
 -- what layers above name of the crates below
 pub use Rattle.session_talk.specs.ldap_requests as ldap_requests
 pub use Rattle.session_talk.specs.ldap_op as ldap_op
@@ -14,3 +16,4 @@ pub use Rattle.session_talk.specs.ldap_dn as ldap_dn
 pub use Rattle.session_talk.specs.index_choice as index_choice
 pub use Rattle.session_talk.specs.dir_store as dir_store
 pub use Rattle.session_talk.specs as session_talk
+pub use Rattle.ldif_messages.specs as ldif_messages

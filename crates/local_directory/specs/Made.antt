@@ -1,10 +1,12 @@
 -- What a talk with a directory of one server alone comes to. Exchanges flow in; the updates that they made flow out,
 -- and the directory after them is the fold of those. How each exchange is answered is below.
 use Rattle.std.specs.Prelude.{◌≡◌, ℕ, ◌+◌, ◌≤◌, List, [], ◌∷◌, ◌++◌, map, length, cond, nat_eq, Some}
+use Rattle.std.specs.List.{slice_get}
 use Rattle.std.specs.FinMap as fin
 use Rattle.session_talk.specs.ldap_op.Values.{OpValue}
 use Rattle.session_talk.specs.dir_store.Replies.{ReplyModel}
 use Rattle.session_talk.specs.dir_store.Updates.{directory_after, replies_after}
+use Rattle.session_talk.specs.dir_store.Placed.{reply_at}
 use Rattle.session_talk.specs.declared.client.Client.{Client}
 use Rattle.session_talk.specs.Talk.{EndedValue, done, stale, lost, refused_memory}
 use Rattle.session_talk.specs.Talk.{Exchange, asked_role, learned, searched, compared, updated, Along}
@@ -42,11 +44,12 @@ abbrev pub ops_of : List MadeUpdate → List OpValue
 ops_of made = map (λ (m : MadeUpdate). m.op) made
 
 -- Updates lead from one directory to another: that is their fold, each under its own number, and each was replied to as
--- its definition says.
+-- its definition says: at each place stands the reply to the update of that place.
 pub record IsFold (d : LocalValue) (made : List MadeUpdate) (e : LocalValue) : Type 0 where
   pub directory : e.directory ≡ directory_after d.directory d.number (ops_of made)
   pub number : e.number ≡ d.number + length made
   pub replies : map (λ (m : MadeUpdate). m.reply) made ≡ replies_after d.directory d.number (ops_of made)
+  pub placed : (p : ℕ) → slice_get (map (λ (m : MadeUpdate). m.reply) made) p ≡ reply_at d.directory d.number (ops_of made) p
 
 -- No kept reply is of an update that is not made yet.
 abbrev pub IsKept : LocalValue → Type 0

@@ -1,16 +1,23 @@
-//! The directory of one server alone: one store in memory that sessions read and update. Requests of sessions flow in;
-//! answers flow out, and the directory after them stays. Messages, sessions and replicas are not here.
+//! A directory by itself, in memory. Requests of sessions flow in, answers flow out, and the directory after them stays; or a text of
+//! LDIF (RFC 2849) and a search request flow in, and a text of LDIF, or why there is none, flows out.
+//! Messages, sessions, replicas, texts of filters and files are not here.
 #![tactic(auto)]
 
+mod adding;
 mod client_table;
 mod ending;
+mod fault;
 mod kept;
 mod laws;
 mod local;
 mod making;
+mod searching;
 
+pub use fault::SearchError;
 pub use laws::{directory_is_fold, requests_are_made_once};
+pub use ldif_messages::{ExportError, ImportError, export_text, import_text};
 pub use local::LocalDirectory;
+pub use searching::search_text;
 pub use session_talk::{
     AddRequest, Attribute, CompareRequest, DerefAliases, IndexError, Indexes, Name, NameError, Op,
     Reply, Schema, Scope, SearchAnswer, SearchRequest, Store, Update,

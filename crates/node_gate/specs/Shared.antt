@@ -1,11 +1,11 @@
 -- What a session is told by a node that threads share. Updates and how they ended flow in; what that may be flows out. Reads are the seats', and are
 -- not here; nor is of which moment the state is.
 use Rattle.std.specs.Prelude.{◌≡◌, ◌⊎◌, ℕ, Option}
-use Rattle.session_talk.specs.dir_store.Replies.{ReplyModel}
-use Rattle.session_talk.specs.declared.client.Client as session
-use Rattle.session_talk.specs.Talk.{Exchange, asked_role, learned, searched, compared, updated}
-use Rattle.session_talk.specs.Talk.{EndedValue}
-use Rattle.session_talk.specs.Talk as talk
+use Rattle.dir_seats.specs.session_talk.dir_store.Replies.{ReplyModel}
+use Rattle.dir_seats.specs.session_talk.declared.client.Client as session
+use Rattle.dir_seats.specs.session_talk.Talk.{Exchange, asked_role, learned, searched, compared, updated}
+use Rattle.dir_seats.specs.session_talk.Talk.{EndedValue}
+use Rattle.dir_seats.specs.session_talk.Talk as talk
 use Rattle.dir_node.specs.vr_state.declared.words.Client.{Client}
 use Rattle.dir_node.specs.dir_executed.Executing.{ExecutedValue}
 use Rattle.dir_node.specs.NodeState.{NodeValue}

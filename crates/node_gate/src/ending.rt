@@ -1,16 +1,16 @@
 // How a request for an update ended at a node. A node, a client and a request's number flow in; the end flows out. What must not be here:
 // locks, how long somebody waits.
 ghost use Rattle.std.specs.Prelude.{◌≡◌};
-ghost use Rattle.session_talk.specs.View.{ended_view};
+ghost use Rattle.dir_seats.specs.session_talk.View.{ended_view};
 ghost use Rattle.dir_node.specs.Outcomes.{outcome_of};
 ghost use Rattle.node_gate.specs.Shared.{EndsAs, core_client};
 
 use dir_node::{Client as CoreClient, Device, Node, Outcome};
-use session_talk::{Client, Ended};
+use dir_seats::{Ended, SessionClient};
 use std::alloc::Global;
 
 /// A session's client as the replicas know it.
-pub fn core_client(client: Client) -> CoreClient
+pub fn core_client(client: SessionClient) -> CoreClient
     ensures { result ≡ core_client client }
 {
     CoreClient {

@@ -1,6 +1,6 @@
 // A node that threads share. Events flow in, one at a time; messages to other replicas flow out, and who waits is told of each change. What
 // must not be here: sessions, sockets, reads.
-ghost use Rattle.session_talk.specs.View.{ended_view};
+ghost use Rattle.dir_seats.specs.session_talk.View.{ended_view};
 ghost use Rattle.node_gate.specs.Given.{IsGiven};
 ghost use Rattle.node_gate.specs.Shared.{IsEnded};
 
@@ -9,8 +9,7 @@ use crate::held::{Held, Here, Pulse};
 use crate::peers::Peers;
 use crate::standing::LastStanding;
 use dir_node::{Client, Device, Event, Handled, Node, NodeError, Op, Outputs, Standing};
-use dir_seats::{Publisher, Told};
-use session_talk::Ended;
+use dir_seats::{Ended, Publisher, Told};
 use std::alloc::Global;
 use std::sync::{Condvar, CondvarTimeouts, Mutex, Wait};
 use std::time::{Clock, Duration};

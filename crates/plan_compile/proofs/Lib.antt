@@ -1,8 +1,11 @@
+pub mod Decided
 pub mod Equations
+pub mod HeldRuns
 pub mod LeafPlans
 pub mod LeafValues
 pub mod PartRuns
 pub mod PlanEquations
+pub mod Planned
 pub mod Rows
 pub mod RunLists
 pub mod Standing

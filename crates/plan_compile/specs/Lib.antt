@@ -1,4 +1,7 @@
 pub mod Bounds
+pub mod Decided
+pub mod Held
+pub mod Planned
 pub mod Runs
 pub mod Sides
 -- what layers above name of the crates below

@@ -9,12 +9,17 @@ ghost use Rattle.ldap_eval.specs.dir_entry.ldap_dn.Names.{RdnModel};
 ghost use Rattle.ldap_eval.specs.Bound.{bound_value};
 ghost use Rattle.ldap_eval.specs.declared.bound.BoundFilter.{BoundFilter};
 ghost use Rattle.plan_sets.specs.Sets.{holds};
+ghost use Rattle.ldap_eval.specs.dir_entry.ldap_schema.Schema.{SchemaModel};
+ghost use Rattle.ldap_eval.specs.ldap_filter.Tree.{Tree};
+ghost use Rattle.ldap_eval.specs.Bound.{IsBoundTo};
+ghost use Rattle.ldap_eval.specs.Made.{IsMadeOf};
 ghost use Rattle.plan_compile.specs.Bounds.{is_decided, Bounds, BoundsSets, DecidedAreTrue, GuidesRuns};
+ghost use Rattle.plan_compile.specs.Planned.{ArePlansFor};
 ghost use Rattle.plan_compile.specs.Runs.{has_runs_for};
 ghost use Rattle.plan_compile.specs.Sides.{IsSide, IsEvery, IsAny, EachSide};
 
 use crate::leaves::leaf_side;
-use ldap_eval::BoundFilter;
+use ldap_eval::{BoundFilter, tests_are_items};
 use plan_sets::{Indexes, Plan, Sided, sets_are_of_entries};
 use std::alloc::{AllocError, Global};
 
@@ -128,8 +133,13 @@ pub fn compile(alloc: Global, filter: &BoundFilter, indexes: &Indexes) -> Result
     // What may be true holds each run of three octets that the filter's substrings items ask for.
     ensures runs { IfOk result (λ s. (e : List KeyedAttribute) → holds indexes.now e s.may ≡ true
         → has_runs_for indexes.now e filter.now ≡ true) }
+    // By the filter that it is made of, and its value on entries: must lies in the true set, and the true set in may; where the schema and the index
+    // choice decide the filter, both are its true set; and what may be has values that hold each run that its substrings items ask for.
+    ensures filters { IfOk result (λ s. (m : SchemaModel) (t : Tree) → IsBoundTo m t filter.now → IsMadeOf m t filter.now
+        → ArePlansFor m indexes.now t s.must s.may) }
 {
     sets_are_of_entries();
+    tests_are_items();
     match filter {
         BoundFilter::And(filters) => every(alloc, filters, true, indexes),
         _ => side(alloc, filter, true, indexes),

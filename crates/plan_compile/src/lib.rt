@@ -7,5 +7,7 @@ mod leaves;
 mod runs;
 
 pub use compiling::compile;
-pub use ldap_eval::{BoundFilter, Filter, Key, Leaf, Test, Truth, TypeId, bind, value};
-pub use plan_sets::{Sided, sets_are_of_entries};
+pub use ldap_eval::{
+    BoundFilter, Filter, Key, Leaf, Test, Truth, TypeId, bind, tests_are_items, value,
+};
+pub use plan_sets::{Running, Sided, Values, sets_are_of_entries, start};

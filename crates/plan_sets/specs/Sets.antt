@@ -1,6 +1,6 @@
 -- The sets that plans mean. A plan flows in, with what is kept and a scope, or with one entry; a set, or a yes or
 -- no, flows out. Filters are not here.
-use Rattle.std.specs.Prelude.{◌≡◌, ℕ, ◌<◌, ◌⊎◌, Bool, true, false, ◌&&◌, not, List, [], ◌∷◌, filter}
+use Rattle.std.specs.Prelude.{◌≡◌, ℕ, ◌<◌, Bool, true, false, ◌&&◌, not, List, [], ◌∷◌, filter}
 use Rattle.std.specs.List.{list_any, list_all, AllByRecursion}
 use Rattle.dir_index.specs.ldap_match.declared.truth.Truth.{Truth}
 use Rattle.dir_index.specs.ldap_match.declared.truth.Truth.TheVariants.{True}
@@ -12,6 +12,7 @@ use Rattle.dir_index.specs.declared.posting.Posting.{Posting}
 use Rattle.dir_index.specs.declared.posting.Range.{Range}
 use Rattle.plan_sets.specs.declared.plan.Plan.{Plan, fold-Plan}
 use Rattle.plan_sets.specs.declared.plan.Plan.TheOpen.{Plan-F}
+pub use Rattle.dir_index.specs.Whole.{HasEntry}
 
 -- One level of a plan: whether a number is in it, from whether it is in scope, in a posting list and in a range.
 abbrev pub in_step : Bool → (Posting → Bool) → (Range → Bool) → Plan-F Bool → Bool
@@ -45,11 +46,6 @@ plan_set kept scope p = filter (is_in kept scope p) scope
 abbrev pub AreNumbered : List Indexed → Type 0
 AreNumbered [] = Unit {0}
 AreNumbered (x ∷ xs) = AllByRecursion (λ y. x.number < y.number) xs × AreNumbered xs
-
--- the entry of this number
-abbrev pub HasEntry : List Indexed → ℕ → List KeyedAttribute → Type 0
-HasEntry [] n e = ⊥
-HasEntry (x ∷ xs) n e = ((x.number ≡ n) × (x.entry ≡ e)) ⊎ HasEntry xs n e
 
 -- Of each entry whose number is in scope a plan's set over the posting lists says what the plan says of the entry.
 abbrev pub SetsAreOfEntries : Type 0

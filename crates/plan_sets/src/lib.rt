@@ -1,5 +1,6 @@
-//! Plans as sets: posting lists, what they keep and a scope flow in; whether a number is in a plan's set, and its
-//! candidates one by one, flow out. No set is made as a list. Filters, and the values of entries, are not here.
+//! Plans as sets, and their runs: posting lists, what they keep and a scope flow in; whether a number is in a plan's set, and its
+//! candidates one by one, flow out; and, with the values of numbered entries, the numbers of the scope whose value is True, one by
+//! one. No set is made as a list. Filters, entries and their attributes are not here.
 #![tactic(auto)]
 
 mod agreeing;
@@ -8,7 +9,10 @@ mod estimating;
 mod gathering;
 mod having;
 mod plan;
+mod running;
 mod stream;
+mod telling;
+mod values;
 
 pub use agreeing::sets_are_of_entries;
 pub use containing::contains;
@@ -16,4 +20,6 @@ pub use dir_index::{Indexes, Kept, Posting, Range, Truth};
 pub use gathering::candidates;
 pub use having::has;
 pub use plan::{Plan, Sided};
+pub use running::{Ran, Running, run, start};
 pub use stream::Stream;
+pub use values::Values;

@@ -3,7 +3,7 @@ use Rattle.std.proofs.lemmas.Result.{IfOk-weaker}
 use Rattle.ldap_msg.specs.View.{search_view}
 use Rattle.dir_store.specs.dir_index.Whole.{lists_of}
 use Rattle.plan_compile.specs.plan_sets.Sets.{is_in}
-use Rattle.plan_run.specs.Runs.{is_open}
+use Rattle.plan_compile.specs.plan_sets.Runs.{is_open}
 use Rattle.dir_search.specs.Looks.{AreHere}
 use Rattle.dir_search.proofs.Few.{among, scope_rises, true_here}
 use Rattle.dir_search.proofs.searching.matching_listed.Goals as goal
@@ -24,5 +24,6 @@ returns c =
     IfOk-weaker c.show_found.result _ _
     (λ a h. among a c.args.schema.now (search_view c.args.request.now) c.args.postings.now.indexes c.args.bound.now c.args.tree.now.entries c.args.numbers.now
     (is_open (is_in (lists_of c.args.postings.now) c.args.numbers.now c.in_ok-sided.sided.must) (is_in (lists_of c.args.postings.now) c.args.numbers.now c.in_ok-sided.sided.may))
-    c.requires.keyed c.requires.bound (c.in_ok-sided.ensures.few c.args.numbers.now c.requires.scope) h)
+    c.in_ok-sided.sided.must c.in_ok-sided.sided.may
+    c.requires.keyed c.requires.bound (c.in_ok-sided.ensures.few c.args.numbers.now c.requires.scope) c.in_ok-sided.ensures.plans (c.in_ok-sided.ensures.told c.args.numbers.now c.requires.scope) h)
     shown

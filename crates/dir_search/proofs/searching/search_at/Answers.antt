@@ -4,8 +4,9 @@ use Rattle.dir_store.specs.ldap_schema.Schema.{SchemaModel}
 use Rattle.ldap_msg.specs.View.{search_view}
 use Rattle.dir_store.specs.Directory.{Directory}
 use Rattle.dir_store.specs.Stored.{directory}
+use Rattle.dir_search.specs.Counted.{IsCountAtBase}
 use Rattle.dir_search.specs.Evaluated.{IsFewAtBase}
-use Rattle.dir_search.proofs.Answered.{always, never, not_root, not_standing}
+use Rattle.dir_search.proofs.Answered.{always, never, not_root, not_standing, count_root, count_over, count_none}
 use Rattle.dir_search.proofs.searching.search_at.Goals as goal
 
 -- the root DSE is no entry
@@ -24,3 +25,18 @@ returns-then-is_standing-clause-few c =
 -- a base without an entry
 pub returns-clause-few : goal.returns-clause-few
 returns-clause-few c = λ h. absurd (not_standing _ _ _ (sym c.is_standing.ensures ∙ c.if-is_standing.false) h)
+
+pub returns-then-asks_for_root-clause-counted : goal.returns-then-asks_for_root-clause-counted
+returns-then-asks_for_root-clause-counted c =
+    count_root c.show_root.result c.args.store.now (search_view c.args.request.now) c.args.base.now (sym c.asks_for_root.ensures ∙ c.if-asks_for_root.true) c.show_root.ensures.counted
+
+pub returns-then-is_standing-clause-counted : goal.returns-then-is_standing-clause-counted
+returns-then-is_standing-clause-counted c =
+    let same = ap (λ (s : SchemaModel). directory s c.indexed.result.now.tree) c.schema.ensures ∙ c.indexed.ensures.shown in
+    let counted = rw c.indexed.ensures.indexes at c.search_scope.ensures.counted in
+    count_over c.search_scope.result c.args.store.now (search_view c.args.request.now) c.args.base.now (sym c.asks_for_root.ensures ∙ c.if-asks_for_root.false)
+    (subst (λ (d : Directory). IfOk c.search_scope.result (λ a. IsCountAtBase c.args.store.now.indexes d (search_view c.args.request.now) c.args.base.now a.tests)) same counted)
+
+pub returns-clause-counted : goal.returns-clause-counted
+returns-clause-counted c =
+    count_none c.args.store.now (search_view c.args.request.now) c.args.base.now _ (sym c.asks_for_root.ensures ∙ c.if-asks_for_root.false) (sym c.is_standing.ensures ∙ c.if-is_standing.false)

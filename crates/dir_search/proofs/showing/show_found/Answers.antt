@@ -40,7 +40,7 @@ returns-then-is_full c =
     let full = c.if-is_full.ensures.full in
     cut_short c.ended.result show c.args.request.now.size_limit c.args.tree.now.entries all shown c.next.new.self.tests c.args.running.open_numbers c.next.new.self.open_numbers
     c.in-Some.number c.next.new.self.to_come here full.0 (length-map c.loop-number.entries.items entry_view ∙ sym (ap length c.as_slice.ensures.value) ∙ full.1)
-    c.ended.ensures.shown (c.ended.ensures.tests ∙ c.tests.ensures) (c.next.ensures.same ∙ c.loop-number.invariant.same) c.next.ensures.few c.in-Some.ensures.few_up_to
+    c.ended.ensures.shown (c.ended.ensures.tests ∙ c.tests.ensures) (c.next.ensures.same ∙ c.loop-number.invariant.same) c.in-Some.ensures.asked
 
 pub returns : goal.returns
 returns c =
@@ -49,4 +49,4 @@ returns c =
     let shown = map entry_view c.loop-number.entries.items in
     let here = subst (λ (l : List ℕ). SoFar show c.args.tree.now.entries c.args.request.now.size_limit all l shown) c.in_default.ensures.gives.0 c.loop-number.invariant.so_far in
     all_shown c.ended-2.result show c.args.request.now.size_limit c.args.tree.now.entries all shown c.next.new.self.tests c.args.running.open_numbers c.next.new.self.open_numbers
-    here c.ended-2.ensures.shown (c.ended-2.ensures.tests ∙ c.tests-2.ensures) (c.next.ensures.same ∙ c.loop-number.invariant.same) c.next.ensures.few
+    here c.ended-2.ensures.shown (c.ended-2.ensures.tests ∙ c.tests-2.ensures) (c.next.ensures.same ∙ c.loop-number.invariant.same) c.in_default.ensures.asked

@@ -7,7 +7,7 @@ use Rattle.local_directory.specs.ldap_msg.View.{search_view}
 use Rattle.local_directory.specs.ldap_schema.Schema.{SchemaModel}
 use Rattle.schema_reader.specs.BuiltIn.{built_in}
 use Rattle.local_directory.specs.dir_store.Directory.{Directory}
-use Rattle.ldif_search.specs.Searched.{IsSearched}
+use Rattle.local_directory.specs.Searched.{IsSearched}
 use Rattle.dird_commands.specs.Begun.{empty_directory}
 use Rattle.dird_commands.specs.Texts.{Turns, IsRequestOf, IsAnswerTo}
 use Rattle.dird_commands.proofs.texts.search_input.Goals as goal

@@ -6,6 +6,7 @@ use Rattle.ldap_eval.specs.declared.bound.BoundFilter.TheVariants as bound
 use Rattle.plan_compile.specs.Bounds.{is_decided, DecidedAreTrue}
 use Rattle.plan_compile.proofs.Rows.{if_ok_weaker}
 use Rattle.plan_compile.proofs.Whole.{side_of_and_true, parts_of_every, bounds_sets, bounds_guide, and_parts_same}
+use Rattle.plan_compile.proofs.Planned.{planned}
 use Rattle.plan_compile.proofs.compiling.compile.Goals as goal
 
 pub returns-in-And-clause-sets : goal.returns-in-And-clause-sets
@@ -44,6 +45,14 @@ returns-in-And-clause-parts c =
     subst (λ (w : Vec BoundFilter Global). DecidedAreTrue c.args.indexes.now n e w.items) same (parts_of_every c.args.indexes.now c.in-And.filters.items s.must s.may h n e k))
     c.every.result found
 
+pub returns-in-And-clause-filters : goal.returns-in-And-clause-filters
+returns-in-And-clause-filters c =
+    let found = rw c.deref.ensures.value at c.every.ensures in
+    if_ok_weaker _ _
+    (λ s h m t stands made. planned c.sets_are_of_entries.ensures c.tests_are_items.ensures m c.args.indexes.now t c.args.filter.now s.must s.may
+    (side_of_and_true c.args.indexes.now _ c.args.filter.now c.in-And.filters s.must s.may c.in-And.is refl h) stands made)
+    c.every.result found
+
 pub returns-in_default : goal.returns-in_default
 returns-in_default c = record {
   sets = if_ok_weaker _ _
@@ -55,4 +64,5 @@ returns-in_default c = record {
   entries = if_ok_weaker _ _ (λ s h. h.bounds) c.side.result c.side.ensures;
   parts = if_ok_weaker _ _ (λ s h v is n e k. absurd (c.in_default.not-And v is)) c.side.result c.side.ensures;
   runs = if_ok_weaker _ _ (λ s h. h.runs refl) c.side.result c.side.ensures;
+  filters = if_ok_weaker _ _ (λ s h m t stands made. planned c.sets_are_of_entries.ensures c.tests_are_items.ensures m c.args.indexes.now t c.args.filter.now s.must s.may h stands made) c.side.result c.side.ensures;
 }

@@ -1,4 +1,0 @@
-pub mod Added
-pub mod Searched
--- what layers above name of the crates below
-pub use Rattle.ldif_messages.specs as ldif_messages

@@ -1,0 +1,61 @@
+//! LDIF and the directory: a search, whole.
+//! In: a directory, a text of LDIF, a search request. Out: a text of LDIF, or why there is none. Not here: where the text comes from.
+
+ghost use Rattle.std.specs.Prelude.{◌≡◌, Ok, IfOk, IfErr};
+ghost use Rattle.ldif_messages.specs.ldif.Reading.{records_of as records_of_text};
+ghost use Rattle.session_talk.specs.ldap_msg.View.{search_view};
+ghost use Rattle.session_talk.specs.dir_store.Stored.{NumbersBelow};
+ghost use Rattle.session_talk.specs.dir_search.Answer.{answer as answer_of};
+ghost use Rattle.local_directory.specs.Searched.{IsShown, IsShowFault, IsReadFault, IsSearched, IsSearchFault};
+
+use crate::adding::add_records;
+use crate::fault::SearchError;
+use ldif_messages::{LdifError, Record, read, records_of, write};
+use session_talk::{SearchRequest, Store, search};
+use std::alloc::Global;
+
+/// The records of a text.
+fn read_records(alloc: Global, text: &[u8]) -> Result<Vec<Record>, SearchError>
+    ensures found { IfOk result (λ v. records_of_text text.now ≡ Ok v.items) }
+    ensures refused { IfErr result (λ e. IsReadFault e text.now) }
+{
+    match read(alloc, text) {
+        Ok(records) => Ok(records),
+        Err(LdifError::BadLdif { line }) => Err(SearchError::BadLdif { line }),
+        Err(LdifError::NoMemory) => Err(SearchError::NoMemory),
+    }
+}
+
+/// The text of what a search shows.
+fn shown(alloc: Global, store: &Store, request: &SearchRequest) -> Result<Vec<u8>, SearchError>
+    ensures written { IfOk result (λ v. IsShown (answer_of store.now.directory (search_view request.now)) v.items) }
+    ensures refused { IfErr result (λ e. IsShowFault e (answer_of store.now.directory (search_view request.now))) }
+{
+    let answer = search(alloc, store, request)?;
+    let number = answer.code.number();
+    if number != 0 {
+        return Err(SearchError::Code { number });
+    }
+    let records = records_of(alloc, &answer.entries)?;
+    Ok(write(alloc, &records)?)
+}
+
+/// What is written of a search (RFC 4511 4.5) of the directory after the adds of a text's records (RFC 2849), which take the numbers
+/// from 1 on: the entries that it shows, as a text of LDIF.
+pub fn search_text(
+    alloc: Global,
+    store: Store,
+    text: &[u8],
+    request: &SearchRequest,
+) -> Result<Vec<u8>, SearchError>
+    requires empty { NumbersBelow 1 store.directory.entries }
+    // What is written is the entries of the answer, over the directory with all records.
+    ensures written { IfOk result (λ v. IsSearched store.directory text.now (search_view request.now) v.items) }
+    // Which refusal it is: of a line, else of the first record that is refused, else of the search.
+    ensures refused { IfErr result (λ e. IsSearchFault e store.directory text.now (search_view request.now)) }
+{
+    let mut store = store;
+    let records = read_records(alloc, text)?;
+    add_records(alloc, &mut store, &records)?;
+    shown(alloc, &store, request)
+}

@@ -1,0 +1,21 @@
+// Where the values of entries come from. A number flows in, the value of its entry flows out.
+// What must not be here: plans.
+
+ghost use Rattle.std.specs.Prelude.{◌≡◌, ℕ, ◌+◌, ◌^◌, ◌<◌};
+ghost use Rattle.dir_index.specs.ldap_match.declared.truth.Truth.{Truth};
+
+use dir_index::Truth;
+
+/// The values of a filter on numbered entries. Each look at an entry is counted.
+pub trait Values {
+    ghost value_at: { Self → ℕ → Truth };
+
+    ghost looks: { Self → ℕ };
+
+    /// The value on the entry of a number. It changes nothing but the count.
+    fn value(&mut self, number: u64) -> Truth
+        requires { looks self.old + 1 < 2 ^ 64 }
+        ensures value { result ≡ value_at self.old number }
+        ensures same { (n : ℕ) → value_at self.new n ≡ value_at self.old n }
+        ensures counted { looks self.new ≡ looks self.old + 1 };
+}
