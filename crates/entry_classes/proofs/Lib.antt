@@ -1,4 +1,4 @@
 pub mod Shown
 pub mod Named
 pub mod Completed
-pub mod Lined
+pub mod Chained

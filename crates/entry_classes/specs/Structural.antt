@@ -1,16 +1,13 @@
 -- The structural object class: RFC 4512 2.4.2. A schema, and an entry before and after changes, flow in; the class, or the code of a refusal,
 -- flows out. Names of entries are not here.
-use Rattle.std.specs.Prelude.{ℕ, List, [], ◌∷◌, Bool, true, false, cond, not, nat_eq, Option, None, Some, Result, Ok, filter}
+use Rattle.std.specs.Prelude.{ℕ, List, Bool, true, false, cond, not, nat_eq, Option, None, Some, Result, Ok, filter}
 use Rattle.std.specs.List.{list_all}
 use Rattle.dir_entry.specs.ldap_schema.Schema.{SchemaModel}
 use Rattle.dir_entry.specs.ldap_schema.Superclasses.{is_subclass}
+use Rattle.dir_entry.specs.ldap_schema.Lines.{first_of}
 use Rattle.dir_entry.specs.Entry.{AttributeModel}
 use Rattle.dir_entry.specs.Adding.{refuse}
 use Rattle.entry_classes.specs.Classes.{class_values, classes_named, structural_of, is_one_chain, has_single_values, obeys_classes}
-
-abbrev pub first_of : List ℕ → Option ℕ
-first_of [] = None
-first_of (c ∷ cs) = Some c
 
 abbrev pub lowest_of : SchemaModel → List ℕ → Option ℕ
 lowest_of s cs = first_of (filter (λ c. list_all (is_subclass s c) (structural_of s cs)) (structural_of s cs))

@@ -3,10 +3,9 @@
 
 ghost use Rattle.std.specs.Prelude.{◌≡◌, IfOk, map, is_some};
 ghost use Rattle.dir_entry.specs.Entry.{attributes_of, shown};
-ghost use Rattle.entry_classes.specs.Classes.{has_single_value as has_a_single_value, has_single_values as has_only_single_values, is_structural as is_structural_class, structural_of as structural_classes, are_in_line as are_classes_in_line, is_one_chain as is_a_chain, has_required as has_all_required, is_allowed_by as is_type_allowed_by, is_allowed as is_type_allowed, are_classes as are_names_of_classes, class_values as values_of_object_class, obeys as obeys_all, obeys_classes as entry_obeys_classes, is_object_class, required as types_required, allowed as types_allowed};
+ghost use Rattle.entry_classes.specs.Classes.{has_single_value as has_a_single_value, has_single_values as has_only_single_values, is_structural as is_structural_class, structural_of as structural_classes, is_one_chain as is_a_chain, has_required as has_all_required, is_allowed_by as is_type_allowed_by, is_allowed as is_type_allowed, are_classes as are_names_of_classes, class_values as values_of_object_class, obeys as obeys_all, obeys_classes as entry_obeys_classes, is_object_class, required as types_required, allowed as types_allowed};
 ghost use Rattle.dir_entry.specs.ldap_schema.Schema.{class_named};
 ghost use Rattle.dir_entry.specs.ldap_schema.Superclasses.{is_among};
-ghost use Rattle.entry_classes.specs.Lines.{rises, falls, stands_in_line};
 ghost use Rattle.std.specs.List.{list_all, list_any};
 
 use crate::classes::classes_named;
@@ -52,13 +51,6 @@ fn is_structural(schema: &Schema, class: ClassId) -> bool
     }
 }
 
-/// Whether one of the classes is the other or a superclass of it.
-fn are_in_line(schema: &Schema, a: ClassId, b: ClassId) -> bool
-    ensures { result ≡ are_classes_in_line schema.now a b }
-{
-    schema.is_subclass(a, b) || schema.is_subclass(b, a)
-}
-
 /// The structural ones of the classes.
 pub fn structural_of(
     alloc: Global,
@@ -72,76 +64,6 @@ pub fn structural_of(
         .copied()
         .filter(|class| is_structural(schema, *class))
         .collect(alloc)
-}
-
-/// Whether the class is in line with all of the others.
-fn is_in_line(schema: &Schema, class: ClassId, others: &[ClassId]) -> bool
-    ensures { result ≡ list_all (are_classes_in_line schema.now class) others.now }
-{
-    others
-        .iter()
-        .all(|other| are_in_line(schema, class, *other))
-}
-
-/// Whether each two of the classes are in line, which looks at each two.
-fn is_each_in_line(schema: &Schema, classes: &[ClassId]) -> bool
-    ensures { result ≡ list_all (λ a. list_all (are_classes_in_line schema.now a) classes.now) classes.now }
-{
-    classes
-        .iter()
-        .all(|class| is_in_line(schema, *class, classes))
-}
-
-/// Whether each of the classes is under the one behind it, the first one before them too.
-pub fn goes_up(schema: &Schema, first: ClassId, others: &[ClassId]) -> bool
-    ensures { result ≡ rises schema.now first others.now }
-{
-    let mut below = first;
-    for class in others {
-        if !schema.is_subclass(below, *class) {
-            return false;
-        }
-        below = *class;
-    }
-    true
-}
-
-/// Whether each of the classes is above the one behind it, the first one before them too.
-fn goes_down(schema: &Schema, first: ClassId, others: &[ClassId]) -> bool
-    ensures { result ≡ falls schema.now first others.now }
-{
-    let mut above = first;
-    for class in others {
-        if !schema.is_subclass(*class, above) {
-            return false;
-        }
-        above = *class;
-    }
-    true
-}
-
-/// Whether the classes stand in line as they are written, the lowest one first or last.
-fn stand_in_line(schema: &Schema, classes: &[ClassId]) -> bool
-    ensures { result ≡ stands_in_line schema.now classes.now }
-{
-    match classes {
-        [] => true,
-        [first, others @ ..] => {
-            goes_up(schema, *first, others) || goes_down(schema, *first, others)
-        }
-    }
-}
-
-/// Whether the classes are in line with each other. Where they stand in line as they are written, which a completed entry's mostly do,
-/// only neighbours are compared: what is under a class is under all above it.
-fn are_all_in_line(schema: &Schema, classes: &[ClassId]) -> bool
-    ensures { result ≡ list_all (λ a. list_all (are_classes_in_line schema.now a) classes.now) classes.now }
-{
-    schema.subclass_law();
-    if stand_in_line(schema, classes) {
-        return true;
-    }
-    is_each_in_line(schema, classes)
 }
 
 /// Whether one of the classes is structural.
@@ -159,7 +81,7 @@ pub fn is_one_chain(alloc: Global, schema: &Schema, classes: &[ClassId]) -> Resu
         return Ok(false);
     }
     let structural = structural_of(alloc, schema, classes)?;
-    Ok(are_all_in_line(schema, structural.as_slice()))
+    schema.are_in_line(alloc, structural.as_slice())
 }
 
 /// The types that the class requires; none, where there is no such class.

@@ -1,68 +1,15 @@
 // The structural object class (RFC 4512 2.4.2). A schema, classes and entries flow in; the lowest class of the one chain, or whether it is
 // another one than before, flows out. What must not be here: what classes demand.
 
-ghost use Rattle.std.specs.Prelude.{◌≡◌, IfOk, filter};
-ghost use Rattle.std.specs.List.{list_all};
-ghost use Rattle.dir_entry.specs.ldap_schema.Superclasses.{is_subclass as is_class_under};
+ghost use Rattle.std.specs.Prelude.{◌≡◌, IfOk};
 ghost use Rattle.dir_entry.specs.Entry.{attributes_of};
 ghost use Rattle.entry_classes.specs.Classes.{class_values as values_of_object_class, classes_named as classes_that_values_name};
-ghost use Rattle.entry_classes.specs.Lines.{rises_whole};
-ghost use Rattle.entry_classes.specs.Structural.{first_of, structural_class as structural_class_of, is_other_than, changes_class};
+ghost use Rattle.entry_classes.specs.Structural.{structural_class as structural_class_of, is_other_than, changes_class};
 
 use crate::classes::classes_named;
-use crate::obeying::{class_values, goes_up, is_one_chain, structural_of};
+use crate::obeying::{class_values, is_one_chain, structural_of};
 use dir_entry::{Attribute, ClassId, Entry, Schema};
 use std::alloc::{AllocError, Global};
-
-/// Whether the class is under each of the others, or is it.
-fn is_under_all(schema: &Schema, class: ClassId, others: &[ClassId]) -> bool
-    ensures { result ≡ list_all (is_class_under schema.now class) others.now }
-{
-    others.iter().all(|other| schema.is_subclass(class, *other))
-}
-
-/// The first of the classes that is under each of the others.
-fn lowest_among(schema: &Schema, classes: &[ClassId], others: &[ClassId]) -> Option<ClassId>
-    ensures { result ≡ first_of (filter (λ c. list_all (is_class_under schema.now c) others.now) classes.now) }
-{
-    for class in classes {
-        if is_under_all(schema, *class, others) {
-            return Some(*class);
-        }
-    }
-    None
-}
-
-/// Whether each of the classes is under the one behind it.
-fn go_up(schema: &Schema, classes: &[ClassId]) -> bool
-    ensures { result ≡ rises_whole schema.now classes.now }
-{
-    match classes {
-        [] => true,
-        [first, others @ ..] => goes_up(schema, *first, others),
-    }
-}
-
-/// The first of the classes.
-fn first_class(classes: &[ClassId]) -> Option<ClassId>
-    ensures { result ≡ first_of classes.now }
-{
-    match classes {
-        [] => None,
-        [first, ..] => Some(*first),
-    }
-}
-
-/// The first of the classes that is under all of them. Where they go up as they are written, it is the first one.
-fn lowest(schema: &Schema, classes: &[ClassId]) -> Option<ClassId>
-    ensures { result ≡ first_of (filter (λ c. list_all (is_class_under schema.now c) classes.now) classes.now) }
-{
-    schema.subclass_law();
-    if go_up(schema, classes) {
-        return first_class(classes);
-    }
-    lowest_among(schema, classes, classes)
-}
 
 /// The structural object class: the lowest class of the one chain; none, where there is no one chain.
 fn structural_class(
@@ -76,7 +23,7 @@ fn structural_class(
         return Ok(None);
     }
     let structural = structural_of(alloc, schema, classes)?;
-    Ok(lowest(schema, structural.as_slice()))
+    schema.lowest(alloc, structural.as_slice())
 }
 
 /// The structural object class of attributes.

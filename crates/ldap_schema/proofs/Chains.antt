@@ -1,6 +1,6 @@
 -- The walk up the superior types against the chain of SUPs. Facts on lists flow in and out; no value of the program is here.
 use Rattle.std.proofs.Common.{IsTrue, ◌↔◌, ℕ, ◌+◌, ◌≤◌, zero, suc, List, [], ◌∷◌, Bool, true, false, ◌&&◌, ◌||◌, Option, None, Some, ◌≡◌, refl, ap, sym, subst, ◌∙◌, length, nat_eq, arith}
-use Rattle.std.specs.List.{list_any, slice_get}
+use Rattle.std.specs.List.{list_any}
 use Rattle.std.proofs.lemmas.Option.{slice_get_past}
 use Rattle.std.proofs.lemmas.Bool.Decides.{nat_tests}
 use Rattle.ldap_schema.specs.Schema.{TypeModel, SchemaModel, led, if_led, superior_in, superior_of, superiors, ends_within, are_loopless, is_under, IsUnder, is_itself, goes_up}

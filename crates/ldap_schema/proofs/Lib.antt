@@ -5,3 +5,5 @@ pub mod Chains
 pub mod Lineage
 pub mod Sought
 pub mod Indexed
+pub mod Ordered
+pub mod Ranked

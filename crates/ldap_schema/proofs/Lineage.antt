@@ -1,18 +1,15 @@
 -- The filled list of a class against the chain of superclasses. Facts on lists flow in and out; no value of the program is here.
-use Rattle.std.proofs.Common.{IsTrue, ◌↔◌, ℕ, ◌+◌, ◌<◌, ◌≤◌, zero, suc, List, [], ◌∷◌, ◌++◌, Bool, true, false, cond, ◌&&◌, ◌||◌, Option, None, Some, ◌≡◌, ◌⊎◌, refl, ap, sym, subst, ◌∙◌, length, take, nat_eq, nat_lt, append_assoc, add-one, inl, inr, arith}
+use Rattle.std.proofs.Common.{IsTrue, ◌↔◌, ℕ, ◌+◌, ◌<◌, ◌≤◌, zero, suc, List, [], ◌∷◌, ◌++◌, Bool, true, false, cond, ◌&&◌, ◌||◌, Option, None, Some, ◌≡◌, refl, ap, sym, subst, ◌∙◌, length, take, nat_eq, nat_lt, append_assoc, add-one, arith}
 use Rattle.std.specs.List.{IsDistinct, list_all, slice_get}
 use Rattle.std.specs.Cmp.{nat_eq_equiv}
-use Rattle.std.proofs.lemmas.Option.{slice_get_past}
 use Rattle.std.proofs.lemmas.List.{take-append-le}
 use Rattle.std.proofs.lemmas.List.Folds.{list_any-append}
 use Rattle.std.proofs.lemmas.Map.Keys.{IsDistinct-push}
 use Rattle.std.proofs.lemmas.Map.Steps.{length-le_from_distinct_below}
-use Rattle.std.proofs.lemmas.Bool.{cases_lt}
 use Rattle.std.proofs.lemmas.Bool.Decides.{nat_tests}
-use Rattle.ldap_schema.specs.Schema.{ClassModel, SchemaModel, found_row, row_at}
-use Rattle.ldap_schema.specs.Superclasses.{is_among, superclasses_in, direct_superclasses, with_missing, gone_on, filled_from, filled, with_superclasses, rows_from, all_superclasses, is_subclass, IsSubclass, is_itself, goes_up, has_known_superclasses, AreSuperclassesKnown}
+use Rattle.ldap_schema.specs.Schema.{ClassModel, SchemaModel}
+use Rattle.ldap_schema.specs.Superclasses.{is_among, superclasses_in, direct_superclasses, with_missing, gone_on, filled_from, with_superclasses, is_subclass, IsSubclass, is_itself, goes_up, has_known_superclasses, AreSuperclassesKnown}
 use Rattle.ldap_schema.proofs.Steps.{append-nil}
-use Rattle.ldap_schema.proofs.Filling.{fill_ends, fill_one}
 
 or_cases : {P : Type 0} (a b : Bool) → (a || b) ≡ true → (a ≡ true → P) → (b ≡ true → P) → P
 or_cases true b h f g = f refl
@@ -160,7 +157,7 @@ direct_of classes c u (Some x) e known h = below_of (length classes) x.superiors
 direct_below : (classes : List ClassModel) (c u : ℕ) → AreSuperclassesKnown classes → is_among (direct_superclasses classes c) u ≡ true → u < length classes
 direct_below classes c u known h = direct_of classes c u (slice_get classes c) refl known h
 
-within_of : (classes : List ClassModel) (c u : ℕ) → is_among (direct_superclasses classes c) u ≡ true → c < length classes
+pub within_of : (classes : List ClassModel) (c u : ℕ) → is_among (direct_superclasses classes c) u ≡ true → c < length classes
 within_of [] zero u h = absurd (false_true h)
 within_of [] (suc c) u h = absurd (false_true h)
 within_of (x ∷ classes) zero u h = omega arith
@@ -236,7 +233,7 @@ chain_of s a (suc k) i have all x h =
     (λ c e. chain_of s a k (i + 1) (with_missing have (direct_superclasses s.classes c))
     (all_hold (IsSubclass s a) have (direct_superclasses s.classes c) all (λ u m. up_further s a c u (all c (at_in have i c e)) m)) x) h
 
-chain_from_list : (s : SchemaModel) (a b : ℕ) → is_subclass s a b ≡ true → IsSubclass s a b
+pub chain_from_list : (s : SchemaModel) (a b : ℕ) → is_subclass s a b ≡ true → IsSubclass s a b
 chain_from_list s a b h =
     or_cases (nat_eq a b) (is_among (with_superclasses s (a ∷ [])) b) h
     (λ e. subst (λ (x : ℕ). IsSubclass s a x) (same_number a b e) is_itself)
@@ -246,7 +243,7 @@ one_distinct : (a : ℕ) → IsDistinct nat_eq (a ∷ [])
 unfolding IsDistinct
 one_distinct a = (tt, tt)
 
-list_from_chain : (s : SchemaModel) (a b : ℕ) → AreSuperclassesKnown s.classes → IsSubclass s a b → is_subclass s a b ≡ true
+pub list_from_chain : (s : SchemaModel) (a b : ℕ) → AreSuperclassesKnown s.classes → IsSubclass s a b → is_subclass s a b ≡ true
 list_from_chain s a b known is_itself = or_first _ _ (number_same a)
 list_from_chain s a b known (goes_up u e rest) =
     or_second (nat_eq a b) _
@@ -257,41 +254,3 @@ list_from_chain s a b known (goes_up u e rest) =
 -- a test that says what the list says, as the chain
 pub as_lineage : (s : SchemaModel) (a b : ℕ) (r : Bool) → AreSuperclassesKnown s.classes → r ≡ is_subclass s a b → IsTrue r ↔ IsSubclass s a b
 as_lineage s a b r known e = (λ t. chain_from_list s a b (sym e ∙ t), λ u. e ∙ list_from_chain s a b known u)
-
--- the table of superclasses
-
-row_of : (classes xs : List ClassModel) (i t : ℕ) → t < length xs → found_row (slice_get (rows_from classes xs i) t) ≡ filled classes ((i + t) ∷ [])
-row_of classes [] i t lt = absurd (omega (arith, lt))
-row_of classes (x ∷ xs) i zero lt = ap (λ (n : ℕ). filled classes (n ∷ [])) (omega arith)
-row_of classes (x ∷ xs) i (suc t) lt = row_of classes xs (i + 1) t (omega (arith, lt)) ∙ ap (λ (n : ℕ). filled classes (n ∷ [])) (omega arith)
-
-no_row : (classes xs : List ClassModel) (i t : ℕ) → length xs ≤ t → found_row (slice_get (rows_from classes xs i) t) ≡ []
-no_row classes [] i zero le = refl
-no_row classes [] i (suc t) le = refl
-no_row classes (x ∷ xs) i zero le = absurd (omega (arith, le))
-no_row classes (x ∷ xs) i (suc t) le = no_row classes xs (i + 1) t (omega (arith, le))
-
-filled_past : (classes : List ClassModel) (a : ℕ) → length classes ≤ a → filled classes (a ∷ []) ≡ a ∷ []
-filled_past classes a le =
-    fill_one (1 + length classes) (length classes) classes 0 a (a ∷ []) (omega arith) refl
-    ∙ ap (λ (o : Option ClassModel). filled_from (length classes) classes 1 (with_missing (a ∷ []) (superclasses_in o))) (slice_get_past classes a le)
-    ∙ fill_ends (length classes) classes 1 (a ∷ []) refl
-
-apart : (a b : ℕ) → false ≡ nat_eq a b → is_among (a ∷ []) b ≡ false
-apart a b h = grind (arith, nat_tests, h)
-
-row_tells : (classes : List ClassModel) (a b : ℕ) → false ≡ nat_eq a b → is_among (row_at (all_superclasses classes) a) b ≡ is_among (filled classes (a ∷ [])) b
-row_tells classes a b h = row_by classes a b h (cases_lt a (length classes))
-  where
-    row_by : (classes : List ClassModel) (a b : ℕ) → false ≡ nat_eq a b → (a < length classes) ⊎ (length classes ≤ a) → is_among (row_at (all_superclasses classes) a) b ≡ is_among (filled classes (a ∷ [])) b
-    row_by classes a b h (inr le) = ap (λ (x : List ℕ). is_among x b) (no_row classes classes 0 a le) ∙ sym (ap (λ (x : List ℕ). is_among x b) (filled_past classes a le) ∙ apart a b h)
-    row_by classes a b h (inl lt) = ap (λ (x : List ℕ). is_among x b) (row_of classes classes 0 a lt ∙ ap (λ (n : ℕ). filled classes (n ∷ [])) (omega arith))
-
-pub under_table : (classes : List ClassModel) (table : List (List ℕ)) (a b : ℕ) (r : Bool) (row : List ℕ) → false ≡ nat_eq a b → r ≡ is_among row b → row ≡ row_at table a → table ≡ all_superclasses classes
-    → r ≡ (nat_eq a b || is_among (filled classes (a ∷ [])) b)
-under_table classes table a b r row e rs rows all =
-    rs ∙ ap (λ (x : List ℕ). is_among x b) (rows ∙ ap (λ (x : List (List ℕ)). row_at x a) all) ∙ row_tells classes a b e
-    ∙ ap (λ (x : Bool). x || is_among (filled classes (a ∷ [])) b) e
-
-pub under_same : (s : SchemaModel) (a b : ℕ) → true ≡ nat_eq a b → is_subclass s a b ≡ true
-under_same s a b h = rw (sym h) refl

@@ -3,6 +3,7 @@ pub mod Superclasses
 pub mod NameOrder
 pub mod ObjectClassType
 pub mod Marks
+pub mod Lines
 pub mod Tables
 pub mod Meaning
 pub mod Keyed

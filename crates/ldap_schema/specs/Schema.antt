@@ -83,14 +83,6 @@ abbrev pub superiors : ℕ → List TypeModel → ℕ → List ℕ
 superiors zero ts t = []
 superiors (suc k) ts t = led (superior_of ts t) (λ u. superiors k ts u)
 
-abbrev pub found_row : Option (List ℕ) → List ℕ
-found_row None = []
-found_row (Some row) = row
-
--- the row of a table
-abbrev pub row_at : List (List ℕ) → ℕ → List ℕ
-row_at table t = found_row (slice_get table t)
-
 -- A type under another: it is the type, or its SUP leads there (RFC 4512 2.5.1).
 abbrev pub is_under : SchemaModel → ℕ → ℕ → Bool
 is_under s a b = nat_eq a b || list_any (λ u. nat_eq u b) (superiors (length s.types) s.types a)

@@ -40,14 +40,6 @@ with_superclasses s cs = filled s.classes cs
 abbrev pub missing_superclasses : SchemaModel → List ℕ → List ℕ
 missing_superclasses s cs = drop (length cs) (with_superclasses s cs)
 
--- of each class, from a number on, it and its superclasses
-abbrev pub rows_from : List ClassModel → List ClassModel → ℕ → List (List ℕ)
-rows_from classes [] c = []
-rows_from classes (x ∷ xs) c = filled classes (c ∷ []) ∷ rows_from classes xs (c + 1)
-
-abbrev pub all_superclasses : List ClassModel → List (List ℕ)
-all_superclasses classes = rows_from classes classes 0
-
 -- A class under another: it is the class, or one of its superclasses is (RFC 4512 2.4).
 abbrev pub is_subclass : SchemaModel → ℕ → ℕ → Bool
 is_subclass s a b = nat_eq a b || is_among (with_superclasses s (a ∷ [])) b

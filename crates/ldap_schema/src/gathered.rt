@@ -1,30 +1,31 @@
-// Classes that are gathered, with a mark for each class of a table that is among them: whether a class is there is one look.
+// Classes that are gathered, with the set of their numbers: whether a class is there is one look.
 // Classes flow in and out. What must not be here: which classes are under which.
 
-ghost use Rattle.std.specs.Prelude.{◌≡◌, ℕ, List, [], ◌∷◌, ◌++◌, cond, IfOk, OnOk, slice_get};
+ghost use Rattle.std.specs.Prelude.{◌≡◌, ◌||◌, [], ◌∷◌, ◌++◌, nat_eq, cond, IfOk, OnOk, OnErr, slice_get};
 ghost use Rattle.ldap_schema.specs.Superclasses.{is_among as is_one_of};
-ghost use Rattle.ldap_schema.specs.Marks.{AreMarksOf};
+ghost use Rattle.ldap_schema.specs.Marks.{AreNumbersOf};
 
 use crate::class::ClassId;
 use std::alloc::{AllocError, Global};
+use std::collections::BTreeSet;
 use std::marker::Model;
 
-/// Classes in order, and of each class of a table whether it is among them.
+/// Classes in order, and the numbers of them.
 #[derive(Drop)]
 pub struct Gathered {
     classes: Vec<ClassId>,
-    marks: Vec<bool>,
+    numbers: BTreeSet<usize>,
 }
 
 impl Model for Gathered {
     ghost use Rattle.std.specs.Prelude.{ℕ, List};
-    ghost use Rattle.ldap_schema.specs.Marks.{AreMarksOf};
+    ghost use Rattle.ldap_schema.specs.Marks.{AreNumbersOf};
 
     ghost Value = { List ℕ };
 
     ghost view = { λ g. g.classes.items };
 
-    ghost invariant = { λ g. AreMarksOf g.classes.items g.marks.items };
+    ghost invariant = { λ g. AreNumbersOf g.classes.items g.numbers };
 }
 
 /// Whether the class is in the list.
@@ -34,58 +35,52 @@ pub fn is_class_among(classes: &[ClassId], class: ClassId) -> bool
     classes.iter().any(|other| class == *other)
 }
 
-/// Marks a class as one more of the classes; a class that has no mark stays without.
-fn mark(marks: &mut Vec<bool>, class: ClassId)
-    ensures { (cs : List ℕ) → AreMarksOf cs marks.old.items → AreMarksOf (cs ++ class ∷ []) marks.new.items }
+/// The numbers of the classes.
+fn numbers_of(alloc: Global, classes: &[ClassId]) -> Result<BTreeSet<usize>, AllocError>
+    ensures { IfOk result (λ numbers. AreNumbersOf classes.now numbers) }
 {
-    let number = class.number();
-    if number < marks.len() {
-        marks[number] = true;
-    }
-}
-
-/// So many marks, for the classes.
-fn marks_of(alloc: Global, count: usize, classes: &[ClassId]) -> Result<Vec<bool>, AllocError>
-    ensures { IfOk result (λ marks. AreMarksOf classes.now marks.items) }
-{
-    let mut marks = vec![in alloc; false; count]?;
+    let mut numbers = BTreeSet::new(alloc);
     for class in classes {
-        mark(&mut marks, *class);
+        numbers.insert(class.number())?;
     }
-    Ok(marks)
+    Ok(numbers)
 }
 
 impl Gathered {
-    /// These classes, with marks for so many.
-    pub fn of(alloc: Global, count: usize, classes: &[ClassId]) -> Result<Gathered, AllocError>
+    /// These classes.
+    pub fn of(alloc: Global, classes: &[ClassId]) -> Result<Gathered, AllocError>
         ensures { IfOk result (λ g. g ≡ classes.now) }
     {
-        let marks = marks_of(alloc, count, classes)?;
+        let numbers = numbers_of(alloc, classes)?;
         let classes = Vec::from_slice(alloc, classes)?;
-        Ok(Gathered { classes, marks })
+        Ok(Gathered { classes, numbers })
     }
 
     /// Whether the class is among them.
-    fn contains(&self, class: ClassId) -> bool
+    pub fn contains(&self, class: ClassId) -> bool
         ensures { result ≡ is_one_of self.now class }
     {
-        let number = class.number();
-        if number < self.marks.len() {
-            self.marks[number]
-        } else {
-            is_class_among(self.classes.as_slice(), class)
-        }
+        self.numbers.contains(&class.number())
+    }
+
+    /// Whether a class is the other, or the other is among them.
+    pub fn is_or_has(&self, class: ClassId, other: ClassId) -> bool
+        ensures { result ≡ (nat_eq class other || is_one_of self.now other) }
+    {
+        class == other || self.contains(other)
     }
 
     /// Adds the class at the end, unless it is there.
     pub fn add(&mut self, class: ClassId) -> Result<(), AllocError>
-        ensures { OnOk result (self.new ≡ cond (is_one_of self.old class) self.old (self.old ++ class ∷ [])) }
+        ensures ok { OnOk result (self.new ≡ cond (is_one_of self.old class) self.old (self.old ++ class ∷ [])) }
+        ensures err { OnErr result (self.new ≡ self.old) }
     {
         if self.contains(class) {
             return Ok(());
         }
-        self.classes.push(class)?;
-        mark(&mut self.marks, class);
+        self.classes.reserve(1)?;
+        self.numbers.insert(class.number())?;
+        self.classes.push_reserved(class);
         Ok(())
     }
 

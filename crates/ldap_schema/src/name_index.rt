@@ -2,7 +2,7 @@
 // numbers flow out, in as many steps as a logarithm of their count, and without memory.
 // What must not be here: how names are ordered.
 
-ghost use Rattle.std.specs.Prelude.{◌≡◌, ℕ, [], List, map, IfOk, OnOk};
+ghost use Rattle.std.specs.Prelude.{◌≡◌, ℕ, [], List, map, IfOk, OnOk, OnErr};
 ghost use Rattle.std.specs.Char.{to_ascii_lowercase};
 ghost use Rattle.std.specs.List.{list_any, position_from};
 ghost use Rattle.std.specs.Str.{bytes_eq};
@@ -48,7 +48,8 @@ fn add_name(
     name: &[u8],
     number: usize,
 ) -> Result<(), AllocError>
-    ensures { OnOk result ((q : List ℕ) → number_at table.new q ≡ kept_or (number_at table.old q) (bytes_eq q (map to_ascii_lowercase name.now)) number) }
+    ensures ok { OnOk result ((q : List ℕ) → number_at table.new q ≡ kept_or (number_at table.old q) (bytes_eq q (map to_ascii_lowercase name.now)) number) }
+    ensures err { OnErr result (table.new ≡ table.old) }
 {
     table.add(lower_case(alloc, name)?, number)
 }

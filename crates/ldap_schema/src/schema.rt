@@ -1,19 +1,22 @@
-// The schema: a table of types and one of classes, and which class is under which, computed once. Names and numbers flow
+// The schema: a table of types and one of classes, and ranks of classes, computed once. Names and numbers flow
 // in; types, classes and numbers flow out. What must not be here: reading a schema from text, values.
 
 ghost use Rattle.std.specs.Prelude.{◌≡◌, IfOk, IfSome, IsSome, option_map, slice_get, length, ◌↔◌, IsTrue, ℕ};
 ghost use Rattle.std.specs.Option.{option_copied};
 ghost use Rattle.ldap_schema.specs.Schema.{find as find_type, class_named, class_name, is_under as is_under_type, IsUnder};
 ghost use Rattle.ldap_schema.specs.Superclasses.{missing_superclasses as superclasses_missing, is_subclass as is_class_under, IsSubclass};
+ghost use Rattle.ldap_schema.specs.Lines.{are_all_in_line, lowest_in};
 ghost use Rattle.ldap_schema.specs.ObjectClassType.{IsObjectClassType};
 ghost use Rattle.ldap_schema.specs.Schema.{IsLoopless};
 ghost use Rattle.ldap_schema.specs.Superclasses.{AreSuperclassesKnown};
 
 use crate::attribute_type::{AttributeType, TypeId};
 use crate::class::{ClassId, ObjectClass};
-use crate::gathered::is_class_among;
+use crate::lines::{are_ranked_in_line, lowest_ranked};
 use crate::name_index::NameIndex;
-use crate::superclasses::{superclasses_at, superclasses_of_all, with_superclasses};
+use crate::pairs::{is_each_in_line, lowest_among};
+use crate::ranking::{are_ranks, ranks_of};
+use crate::superclasses::with_superclasses;
 use crate::tables::leads_to;
 use std::alloc::{AllocError, Global};
 use std::marker::Model;
@@ -23,8 +26,10 @@ use std::marker::Model;
 pub struct Schema {
     types: Vec<AttributeType>,
     classes: Vec<ObjectClass>,
-    /// Of each class it and its superclasses.
-    superclasses: Vec<Vec<ClassId>>,
+    /// Of each class a rank.
+    ranks: Vec<usize>,
+    /// Whether each class has a greater rank than its superclasses: always, but where superclasses lead back to where they began.
+    is_ranked: bool,
     /// The type objectClass.
     object_class: TypeId,
     /// The numbers of the types by what they are called.
@@ -34,7 +39,6 @@ pub struct Schema {
 }
 
 impl Model for Schema {
-    ghost use Rattle.std.specs.Prelude.{map};
     ghost use Rattle.ldap_schema.specs.Schema.{SchemaModel};
     ghost use Rattle.ldap_schema.specs.Tables.{AreTablesOf};
 
@@ -43,7 +47,7 @@ impl Model for Schema {
     ghost view = { λ s. record { types = s.types.items; classes = s.classes.items } };
 
     ghost invariant = { λ s. AreTablesOf (record { types = s.types.items; classes = s.classes.items })
-        (map (λ v. v.items) s.superclasses.items) s.object_class s.type_index s.class_index };
+        s.ranks.items s.is_ranked s.object_class s.type_index s.class_index };
 }
 
 impl Schema {
@@ -60,13 +64,15 @@ impl Schema {
         requires object_class { IsObjectClassType (record { types = types.items; classes = classes.items }) object_class }
         ensures { IfOk result (λ s. s ≡ record { types = types.items; classes = classes.items }) }
     {
-        let superclasses = superclasses_of_all(alloc, classes.as_slice())?;
+        let ranks = ranks_of(alloc, classes.as_slice())?;
+        let is_ranked = are_ranks(classes.as_slice(), ranks.as_slice());
         let type_index = NameIndex::of_types(alloc, types.as_slice())?;
         let class_index = NameIndex::of_classes(alloc, classes.as_slice())?;
         Ok(Schema {
             types,
             classes,
-            superclasses,
+            ranks,
+            is_ranked,
             object_class,
             type_index,
             class_index,
@@ -93,15 +99,36 @@ impl Schema {
         all.iter().skip(classes.len()).copied().collect(alloc)
     }
 
-    /// Whether the first class is the second one, or the second is a superclass of it (RFC 4512 2.4).
-    pub fn is_subclass(&self, below: ClassId, above: ClassId) -> bool
-        ensures table { result ≡ is_class_under self.now below above }
-
-        // It is the chain of superclasses.
-        ensures chain { IsTrue result ↔ IsSubclass self.now below above }
+    /// Whether of each two of the classes one is the other or a superclass of it (RFC 4512 2.4.2). It takes as many steps as the classes have
+    /// superclasses between them, once sorted. Its only error is want of memory.
+    pub fn are_in_line(&self, alloc: Global, classes: &[ClassId]) -> Result<bool, AllocError>
+        ensures { IfOk result (λ b. b ≡ are_all_in_line (is_class_under self.now) classes.now) }
     {
-        below == above
-            || is_class_among(superclasses_at(self.superclasses.as_slice(), below), above)
+        if self.is_ranked {
+            return are_ranked_in_line(
+                alloc,
+                self.classes.as_slice(),
+                self.ranks.as_slice(),
+                classes,
+            );
+        }
+        is_each_in_line(alloc, self.classes.as_slice(), classes)
+    }
+
+    /// The first of the classes that all of them are, or are superclasses of (RFC 4512 2.4.2); none, where there is none. Its only error is want
+    /// of memory.
+    pub fn lowest(&self, alloc: Global, classes: &[ClassId]) -> Result<Option<ClassId>, AllocError>
+        ensures { IfOk result (λ c. c ≡ lowest_in (is_class_under self.now) classes.now classes.now) }
+    {
+        if self.is_ranked {
+            return lowest_ranked(
+                alloc,
+                self.classes.as_slice(),
+                self.ranks.as_slice(),
+                classes,
+            );
+        }
+        lowest_among(alloc, self.classes.as_slice(), classes, classes)
     }
 
     /// Of any two classes: the first is under the second exactly where a chain of superclasses leads there (RFC 4512 2.4). It does nothing.

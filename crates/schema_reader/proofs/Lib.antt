@@ -1,6 +1,6 @@
 pub mod AsText
 pub mod Loops
 pub mod LoopingTypes
-pub mod FreeClasses
+pub mod FallingClasses
 pub mod Judged
 pub mod BuiltInText

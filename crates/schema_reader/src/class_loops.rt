@@ -1,132 +1,90 @@
-// Classes whose superclasses lead back to them. Classes and descriptions flow in, the number of a line flows out. Classes from which each
-// way up ends are marked first, each below its superclasses; only the others are searched one by one.
-// What must not be here: the reading of descriptions, types.
+// Classes whose superclasses lead back to them. Classes and descriptions flow in, the number of a line flows out. Classes get ranks that
+// never rise on a way up; where they fall at once from a class, no way leads back to it. Only other classes are searched one by one, and the
+// first of them mostly is on a loop.
+// What must not be here: the reading of descriptions, types, how ranks are found.
 
-ghost use Rattle.std.specs.Prelude.{◌≡◌, IfOk};
+ghost use Rattle.std.specs.Prelude.{◌≡◌, IfOk, IsTrue, nat_le, nat_lt};
+ghost use Rattle.std.specs.List.{list_all};
+ghost use Rattle.ldap_schema.specs.Lines.{rank_in};
 ghost use Rattle.schema_meaning.specs.Faults.{first_of_types};
 ghost use Rattle.schema_reader.specs.Reading as reading;
-ghost use Rattle.schema_reader.specs.Free.{AreFree, is_free_by};
+ghost use Rattle.schema_reader.specs.Falling.{IsFalling};
 
-use crate::type_loops::has_mark;
+use crate::ranking::ranks_of;
 use ldap_schema::{ClassId, ObjectClass, is_class_among, superclasses_of, with_superclasses};
 use schema_meaning::Description;
 use std::alloc::{AllocError, Global};
 
-/// A visit of a class.
-#[derive(Clone, Copy)]
-enum Visit {
-    /// Its superclasses are to be visited.
-    Enter(usize),
-    /// They were.
-    Leave(usize),
-}
-
-/// As many visits as all classes and all their superclasses are.
-fn count_of_visits(classes: &[ObjectClass]) -> usize {
-    let mut count: usize = 0;
-    for class in classes {
-        count = count
-            .saturating_add(2)
-            .saturating_add(class.superiors().len());
-    }
-    count
-}
-
-/// Takes a class among those that were seen, and tells whether it is new there.
-fn see(seen: &mut Vec<bool>, number: usize) -> bool {
-    if number < seen.len() && !seen[number] {
-        seen[number] = true;
-        true
-    } else {
-        false
-    }
-}
-
-/// Enters a class, if it was not seen before: its superclasses are visited next, and then it is left.
-fn enter(
-    classes: &[ObjectClass],
-    seen: &mut Vec<bool>,
-    visits: &mut Vec<Visit>,
-    number: usize,
-) -> Result<(), AllocError> {
-    if see(seen, number) {
-        visits.push(Visit::Leave(number))?;
-        for above in superclasses_of(classes, ClassId::new(number)) {
-            visits.push(Visit::Enter(above.number()))?;
-        }
-    }
-    Ok(())
-}
-
-/// Visits of all classes.
-fn all_visits(alloc: Global, classes: &[ObjectClass]) -> Result<Vec<Visit>, AllocError> {
-    let mut visits = Vec::new(alloc);
-    for number in 0..classes.len() {
-        visits.push(Visit::Enter(number))?;
-    }
-    Ok(visits)
-}
-
-/// Marks a class, if all its superclasses are marked.
-fn note(classes: &[ObjectClass], marks: &mut Vec<bool>, number: usize)
-    requires { AreFree classes.now marks.old.items }
-    ensures { AreFree classes.now marks.new.items }
+/// The rank of a class; 0, where it has none.
+fn rank_of(ranks: &[usize], class: ClassId) -> usize
+    ensures { result ≡ rank_in ranks.now class }
 {
-    let free = is_free(classes, marks.as_slice(), number);
-    if number < marks.len() {
-        marks[number] = free;
+    match ranks.get(class.number()) {
+        Some(rank) => *rank,
+        None => 0,
     }
 }
 
-/// Whether all superclasses of a class are marked.
-fn is_free(classes: &[ObjectClass], marks: &[bool], number: usize) -> bool
-    ensures { result ≡ is_free_by classes.now marks.now number }
+/// Whether none of these has a greater rank than a class.
+fn is_none_higher(ranks: &[usize], class: ClassId, superclasses: &[ClassId]) -> bool
+    ensures { result ≡ list_all (λ u. nat_le (rank_in ranks.now u) (rank_in ranks.now class)) superclasses.now }
 {
-    superclasses_of(classes, ClassId::new(number))
+    let rank = rank_of(ranks, class);
+    superclasses
         .iter()
-        .all(|above| has_mark(marks, above.number()))
+        .all(|above| rank_of(ranks, *above) <= rank)
 }
 
-/// No marks, for so many classes.
-fn no_marks(alloc: Global, classes: &[ObjectClass]) -> Result<Vec<bool>, AllocError>
-    ensures { IfOk result (λ v. AreFree classes.now v.items) }
+/// Whether each of these has a lesser rank than a class.
+fn is_each_lower(ranks: &[usize], class: ClassId, superclasses: &[ClassId]) -> bool
+    ensures { result ≡ list_all (λ u. nat_lt (rank_in ranks.now u) (rank_in ranks.now class)) superclasses.now }
 {
-    let marks = vec![in alloc; false; classes.len()]?;
-    Ok(marks)
+    let rank = rank_of(ranks, class);
+    superclasses
+        .iter()
+        .all(|above| rank_of(ranks, *above) < rank)
 }
 
-/// Marks of classes from which each way up ends: of all of them, since superclasses are left first.
-fn free_classes(alloc: Global, classes: &[ObjectClass]) -> Result<Vec<bool>, AllocError>
-    ensures { IfOk result (λ v. AreFree classes.now v.items) }
+/// Whether no class has a lesser rank than one of its direct superclasses.
+fn are_falling(classes: &[ObjectClass], ranks: &[usize]) -> bool
+    ensures { IsTrue result → IsFalling classes.now ranks.now }
 {
-    let mut marks = no_marks(alloc, classes)?;
-    let mut seen = vec![in alloc; false; classes.len()]?;
-    let mut visits = all_visits(alloc, classes)?;
-    for step in 0..count_of_visits(classes) {
-        match visits.pop() {
-            Some(Visit::Enter(number)) => enter(classes, &mut seen, &mut visits, number)?,
-            Some(Visit::Leave(number)) => note(classes, &mut marks, number),
-            None => return Ok(marks),
+    for number in 0..classes.len() {
+        let class = ClassId::new(number);
+        if !is_none_higher(ranks, class, superclasses_of(classes, class)) {
+            return false;
         }
     }
-    Ok(marks)
+    true
+}
+
+/// Ranks that never rise on a way up; no ranks, should the walk have found others.
+fn falling_ranks(alloc: Global, classes: &[ObjectClass]) -> Result<Vec<usize>, AllocError>
+    ensures { IfOk result (λ v. IsFalling classes.now v.items) }
+{
+    let ranks = ranks_of(alloc, classes)?;
+    if are_falling(classes, ranks.as_slice()) {
+        return Ok(ranks);
+    }
+    Ok(Vec::new(alloc))
 }
 
 /// Whether the superclasses of a class lead back to it.
 fn is_class_looping(
     alloc: Global,
     classes: &[ObjectClass],
-    free: &[bool],
+    ranks: &[usize],
     number: usize,
 ) -> Result<bool, AllocError>
-    requires { AreFree classes.now free.now }
+    requires { IsFalling classes.now ranks.now }
     ensures { IfOk result (λ b. b ≡ reading.is_class_looping classes.now number) }
 {
-    if has_mark(free, number) {
+    let class = ClassId::new(number);
+    let direct = superclasses_of(classes, class);
+    if is_each_lower(ranks, class, direct) {
         return Ok(false);
     }
-    let class = ClassId::new(number);
-    let above = with_superclasses(alloc, classes, superclasses_of(classes, class))?;
+    let above = with_superclasses(alloc, classes, direct)?;
     Ok(is_class_among(above.as_slice(), class))
 }
 
@@ -138,9 +96,9 @@ pub fn class_loop(
 ) -> Result<Option<usize>, AllocError>
     ensures { IfOk result (λ o. o ≡ first_of_types (λ c d. reading.is_class_looping classes.now c) 0 descriptions.now) }
 {
-    let free = free_classes(alloc, classes)?;
+    let ranks = falling_ranks(alloc, classes)?;
     for (number, description) in descriptions.iter().enumerate() {
-        if is_class_looping(alloc, classes, free.as_slice(), number)? {
+        if is_class_looping(alloc, classes, ranks.as_slice(), number)? {
             return Ok(Some(description.line()));
         }
     }

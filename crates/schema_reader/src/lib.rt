@@ -9,6 +9,7 @@ mod described;
 mod error;
 mod judging;
 mod looping;
+mod ranking;
 mod reading;
 mod type_loops;
 

@@ -1,6 +1,7 @@
-use Rattle.std.proofs.Common.{sym, ◌∙◌}
-use Rattle.schema_reader.proofs.FreeClasses.{not_looping}
+use Rattle.schema_reader.proofs.FallingClasses.{off_loop}
 use Rattle.schema_reader.proofs.class_loops.is_class_looping.Goals as goal
 
-pub returns-then-has_mark : goal.returns-then-has_mark
-returns-then-has_mark c = not_looping c.args.classes.now c.args.free.now c.args.number c.requires (sym c.has_mark.ensures ∙ c.if-has_mark.true)
+pub returns-then-is_each_lower : goal.returns-then-is_each_lower
+returns-then-is_each_lower c =
+    off_loop c.args.classes.now c.args.ranks.now c.args.number c.new-class.result c.superclasses_of-direct.result.now c.is_each_lower.result c.requires c.new-class.ensures c.superclasses_of-direct.ensures c.is_each_lower.ensures
+    c.if-is_each_lower.true

@@ -1,0 +1,6 @@
+use Rattle.std.proofs.Common.{◌≡◌, drop}
+use Rattle.ldap_schema.specs.Lines.{is_under_in, lowest_in}
+use Rattle.ldap_schema.proofs.pairs.lowest_among.Given as goal
+
+abbrev pub invariant-loop-class : goal.invariant-loop-class
+invariant-loop-class l = lowest_in (is_under_in l.classes) (drop l.class-index l.named) l.others ≡ lowest_in (is_under_in l.classes) l.named l.others

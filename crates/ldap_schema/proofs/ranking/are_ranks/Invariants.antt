@@ -1,0 +1,5 @@
+use Rattle.ldap_schema.specs.Lines.{IsRankingBelow}
+use Rattle.ldap_schema.proofs.ranking.are_ranks.Given as goal
+
+abbrev pub invariant-loop-number : goal.invariant-loop-number
+invariant-loop-number l = IsRankingBelow l.classes l.ranks l.number

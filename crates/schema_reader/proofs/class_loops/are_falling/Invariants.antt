@@ -1,0 +1,5 @@
+use Rattle.schema_reader.specs.Falling.{IsFallingBelow}
+use Rattle.schema_reader.proofs.class_loops.are_falling.Given as goal
+
+abbrev pub invariant-loop-number : goal.invariant-loop-number
+invariant-loop-number l = IsFallingBelow l.classes l.ranks l.number
