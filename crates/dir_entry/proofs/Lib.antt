@@ -3,3 +3,4 @@ pub mod Shown
 pub mod Twice
 pub mod Equivalents
 pub mod Picked
+pub use Rattle.ldap_match.proofs.ldap_syntax as ldap_syntax

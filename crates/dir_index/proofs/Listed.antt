@@ -15,7 +15,7 @@ use Rattle.dir_index.specs.declared.posting.Range.{Range}
 use Rattle.dir_index.specs.Postings.{Indexed, has_number, IsRising, HaveTogether, numbers_where, is_of, some_key, in_range, has_in_range, is_kept, is_listed}
 use Rattle.dir_index.specs.Ordered.{is_same_posting}
 use Rattle.dir_index.specs.OrderLaws.{posting_equiv}
-use Rattle.dir_index.specs.Stored.{list_at, is_in, or_nothing}
+use Rattle.dir_index.specs.Stored.{list_at, is_in}
 use Rattle.dir_index.specs.Marked.{is_marked, lists_entry}
 use Rattle.dir_index.specs.Columns.{column_at, is_ordered, is_posting_in, range_at}
 use Rattle.std.specs.Map.{lookup}
@@ -25,6 +25,7 @@ use Rattle.dir_index.proofs.Rising.{none_above}
 use Rattle.dir_index.proofs.Rows.{one_posting}
 use Rattle.dir_index.proofs.Marking.{off, entry_lists}
 use Rattle.dir_index.proofs.Ranged.{in_range_at, range_rises}
+use Rattle.std.specs.Option.{unwrap_or}
 
 -- ---- rising lists with the same numbers
 
@@ -413,7 +414,7 @@ listed_in r [] p n h g = absurd (cc)
 listed_in r (l ∷ ls) p n h g = pick (is_same_posting p l.0) refl (is_posting_in r l.0) refl (λ k. listed_in r ls p n h k) g
   where
     pick : (a : Bool) → is_same_posting p l.0 ≡ a → (b : Bool) → is_posting_in r l.0 ≡ b → (is_in ls p n ≡ true → list_any (has_number n) (lists_in r ls) ≡ true)
-        → has_number n (or_nothing (cond a (Some l.1) (lookup (is_same_posting p) ls))) ≡ true → list_any (has_number n) (map (λ x. x.1) (cond b (l ∷ filter (λ x. is_posting_in r x.0) ls) (filter (λ x. is_posting_in r x.0) ls))) ≡ true
+        → has_number n (unwrap_or (cond a (Some l.1) (lookup (is_same_posting p) ls)) []) ≡ true → list_any (has_number n) (map (λ x. x.1) (cond b (l ∷ filter (λ x. is_posting_in r x.0) ls) (filter (λ x. is_posting_in r x.0) ls))) ≡ true
     pick true e true f ih k = or_left (has_number n l.1) (list_any (has_number n) (lists_in r ls)) k
     pick true e false f ih k = absurd (apart (sym f ∙ ap (is_posting_in r) (sym (one_posting p l.0 e)) ∙ h))
       where

@@ -12,7 +12,8 @@ use Rattle.dir_index.specs.declared.posting.Posting.TheVariants.{Present, Equal,
 use Rattle.dir_index.specs.Ordered.{posting_order, is_same_posting}
 use Rattle.dir_index.specs.OrderLaws.{posting_ties, posting_equiv}
 use Rattle.dir_index.specs.Postings.{has_number, IsRising}
-use Rattle.dir_index.specs.Stored.{Rows, seen, or_nothing, list_at, is_in, AllRise}
+use Rattle.dir_index.specs.Stored.{Rows, seen, list_at, is_in, AllRise}
+use Rattle.std.specs.Option.{unwrap_or}
 
 off : (b : Bool) → (b && false) ≡ true → ⊥
 off true e = cc
@@ -40,9 +41,9 @@ pub rows_at : (rows : Rows) (p : Posting) → list_at (seen rows) p ≡ items_of
 rows_at [] p = refl
 rows_at (r ∷ rs) p = either (is_same_posting p r.0) (is_eq (posting_order p r.0)) (posting_ties p r.0) r.1 (lookup (is_same_posting p) (seen rs)) (lookup (is_at (posting_order p)) rs) (rows_at rs p)
   where
-    either : (a b : Bool) → a ≡ b → (v : Vec ℕ Global) (o : Option (List ℕ)) (q : Option (Vec ℕ Global)) → or_nothing o ≡ items_of q → or_nothing (cond a (Some v.items) o) ≡ items_of (cond b (Some v) q)
+    either : (a b : Bool) → a ≡ b → (v : Vec ℕ Global) (o : Option (List ℕ)) (q : Option (Vec ℕ Global)) → unwrap_or o [] ≡ items_of q → unwrap_or (cond a (Some v.items) o) [] ≡ items_of (cond b (Some v) q)
     either true b e v o q h = subst (λ (x : Bool). v.items ≡ items_of (cond x (Some v) q)) e refl
-    either false b e v o q h = subst (λ (x : Bool). or_nothing o ≡ items_of (cond x (Some v) q)) e h
+    either false b e v o q h = subst (λ (x : Bool). unwrap_or o [] ≡ items_of (cond x (Some v) q)) e h
 
 -- the lists after one was written
 pub written : (old new : Rows) (k : Posting) (v : Vec ℕ Global)

@@ -1,15 +1,13 @@
 -- The laws of the order of postings.
-use Rattle.std.proofs.Common.{List, ℕ, Bool, nat_eq, ◌≡◌, refl, sym, ap, ◌∙◌, Ordering}
+use Rattle.std.proofs.Common.{List, ℕ, Bool, nat_eq, ◌≡◌, sym, ap, ◌∙◌}
 use Rattle.std.specs.Prelude.{◌&&◌}
 use Rattle.std.specs.Str.{bytes_eq}
-use Rattle.std.specs.Ordering.{nat_cmp, is_eq, ordering_then, eq_by_cmp}
-use Rattle.std.specs.Cmp.{IsEquivalence, IsTotalOrder, nat_cmp_total, on_total, then_total, eq_by_cmp_equiv, unsigned_ties}
+use Rattle.std.specs.Ordering.{nat_cmp, is_eq, ordering_then}
+use Rattle.std.specs.Cmp.{IsEquivalence, IsTotalOrder, nat_cmp_total, on_total, then_total, unsigned_ties}
 use Rattle.std.specs.Cmp.Lexicographic.{slice_cmp, nat_list_cmp_total, texts_ties}
 use Rattle.dir_index.specs.declared.posting.Posting.{Posting}
 use Rattle.dir_index.specs.Ordered.{type_of, rank_of, octets_of, posting_order, is_same_posting}
-
-is_eq-then : (a b : Ordering) → is_eq (ordering_then a b) ≡ is_eq a && is_eq b
-is_eq-then a b = elim a as (λ v. is_eq (ordering_then v b) ≡ is_eq v && is_eq b) [ Ordering.Less ↦ refl | Ordering.Equal ↦ refl | Ordering.Greater ↦ refl ]
+use Rattle.index_choice.specs.dir_entry.ldap_dn.OrderLaws.{is_eq-then, tied}
 
 pub posting_total : IsTotalOrder posting_order
 posting_total = then_total (on_total type_of nat_cmp_total) (then_total (on_total rank_of nat_cmp_total) (on_total octets_of nat_list_cmp_total))
@@ -24,12 +22,6 @@ ties_of t u r s k l =
 
 pub posting_ties : (p q : Posting) → is_same_posting p q ≡ is_eq (posting_order p q)
 posting_ties p q = ties_of (type_of p) (type_of q) (rank_of p) (rank_of q) (octets_of p) (octets_of q)
-
--- an equality that is where the order says so is an equivalence
-tied : {K : Type 0} {R : K → K → Ordering} (E : K → K → Bool) → ((x y : K) → E x y ≡ is_eq (R x y)) → IsTotalOrder R → IsEquivalence E
-tied {K} {R} E h t =
-    let e : IsEquivalence (eq_by_cmp R) = eq_by_cmp_equiv t in
-    record { refl = λ x. h x x ∙ e.refl x; symm = λ x y. h x y ∙ e.symm x y ∙ sym (h y x); congr = λ x y z g. h x z ∙ e.congr x y z (sym (h x y) ∙ g) ∙ sym (h y z) }
 
 pub posting_equiv : IsEquivalence is_same_posting
 posting_equiv = tied {K = Posting} {R = posting_order} is_same_posting posting_ties posting_total

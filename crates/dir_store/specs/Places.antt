@@ -1,11 +1,12 @@
 -- Where entries stand: RFC 4512 2.1 to 2.3. Names and entries flow in; entries flow out. Names are one whatever their spelling. What an
 -- update checks is not here.
-use Rattle.std.specs.Prelude.{ℕ, zero, suc, ◌-◌, List, [], ◌∷◌, ◌++◌, length, take, drop, map, Bool, cond, ◌&&◌, nat_eq, nat_lt, Option, None, Some, is_some}
+use Rattle.std.specs.Prelude.{ℕ, zero, suc, ◌-◌, List, [], ◌∷◌, length, take, drop, map, Bool, cond, ◌&&◌, nat_eq, nat_lt, Option, None, Some, is_some}
 use Rattle.std.specs.List.{list_any}
 use Rattle.dir_tree.specs.ldap_dn.Names.{TypeAndValue, RdnModel, rdns}
 use Rattle.dir_tree.specs.dir_entry.Entry.{AttributeModel}
 use Rattle.dir_tree.specs.Directory.{NameKey, name_eq, begins}
 use Rattle.dir_store.specs.Directory.{NamedEntry}
+pub use Rattle.dir_tree.specs.Directory.{name_after}
 
 -- the entry of a name
 abbrev pub entry_named : NameKey → List NamedEntry → Option NamedEntry
@@ -50,10 +51,6 @@ abbrev pub with_attributes : ℕ → List AttributeModel → List NamedEntry →
 with_attributes k attributes [] = []
 with_attributes k attributes (e ∷ es) =
     cond (nat_eq k e.number) (record { number = e.number; name = e.name; attributes = attributes } ∷ es) (e ∷ with_attributes k attributes es)
-
--- a name once the entries at or below a name stand at or below another
-abbrev pub name_after : NameKey → List RdnModel → List RdnModel → List RdnModel
-name_after old new name = cond (begins old (rdns name)) (new ++ drop (length old) name) name
 
 -- The entries once one has another name and other attributes: each name that begins with the old one begins with the new one in its place,
 -- and all else stays (RFC 4511 4.9).

@@ -3,7 +3,7 @@ use Rattle.std.proofs.Common.{◌≡◌, ℕ, ◌<◌, Bool, true, false, cond, 
 use Rattle.std.specs.Prelude.{◌&&◌, ◌||◌}
 use Rattle.dir_tree.specs.Directory.{NameKey}
 use Rattle.dir_tree.specs.Labelled.{Labels, LabelsAbove, LabelsRise, numbers_in}
-use Rattle.dir_tree.specs.Renamed.{below, beyond, starts, without, merged, relisted}
+use Rattle.dir_tree.specs.Renamed.{below, beyond, begins_with, without, merged, relisted}
 
 -- each number is above k
 abbrev AllOver : ℕ → List ℕ → Type 0
@@ -41,13 +41,13 @@ below-over : (x : ℕ) (ys : List ℕ) → AllOver x ys → below x ys ≡ []
 below-over x [] h = refl
 below-over x (y ∷ ys) h = ap (λ (b : Bool). cond b (y ∷ below x ys) []) (not-less x y h.0)
 
-starts-over : (x : ℕ) (ys : List ℕ) → AllOver x ys → starts x ys ≡ false
+starts-over : (x : ℕ) (ys : List ℕ) → AllOver x ys → begins_with x ys ≡ false
 starts-over x [] h = refl
 starts-over x (y ∷ ys) h = not-same x y h.0
 
 -- one step of `without`, by what is left of the numbers
 step : ℕ → List ℕ → List ℕ → List ℕ
-step x xs r = cond (starts x r) (without r xs) (x ∷ without r xs)
+step x xs r = cond (begins_with x r) (without r xs) (x ∷ without r xs)
 
 -- a number below all of a list takes nothing out of it
 smaller-out : (m : ℕ) (ps ts : List ℕ) → AllOver m ts → without (m ∷ ps) ts ≡ without ps ts

@@ -1,13 +1,13 @@
 -- Walks from a name up to the root, by the numbers that are kept.
 use Rattle.std.proofs.Common.{◌≡◌, ℕ, zero, suc, ◌+◌, ◌-◌, ◌<◌, ◌≤◌, Bool, true, false, cond, List, [], ◌∷◌, length, take, Option, Some, None, refl, sym, ap, subst, ◌∙◌, arith, nat_eq, nat_lt, BTreeMap, Vec, Global}
 use Rattle.std.specs.Prelude.{◌&&◌, ◌||◌, is_some}
-use Rattle.std.specs.Option.{option_map}
+use Rattle.std.specs.Option.{option_map, option_flatten, option_eq}
 use Rattle.std.proofs.lemmas.List.{length-take-le}
 use Rattle.dir_entry.specs.ldap_dn.Names.{RdnModel}
 use Rattle.dir_tree.specs.Directory.{NameKey, name_eq, begins, is_child, above}
 use Rattle.dir_tree.specs.Labelled.{Label, Labels, IsLabelled, label_at}
 use Rattle.dir_tree.specs.Places.{Shown, is_above, enlisted, struck, listed}
-use Rattle.dir_tree.specs.Kept.{PlaceEntries, place_at, number_of, lists_at, held, link_at, flat_link, next_of, is_at, up, AreApart, AreHeld, AreLinked, IsHung, IsFooted}
+use Rattle.dir_tree.specs.Kept.{PlaceEntries, place_at, number_of, lists_at, held, link_at, next_of, up, AreApart, AreHeld, AreLinked, IsHung, IsFooted}
 use Rattle.dir_tree.specs.declared.place.Place.{Place}
 use Rattle.dir_tree.specs.declared.place.Places.{Places}
 use Rattle.std.proofs.Math.Seq.{take-length}
@@ -51,7 +51,7 @@ front-above n j h =
 -- the next number is that of the next name above
 pub next-up : (f : Numbering) (ps : PlaceEntries) (n : NameKey) (j : ℕ) → IsHung f ps → IsFooted f n → suc j ≤ length n → (at : Option ℕ) → at ≡ f (take j n) → next_of ps at ≡ up f (take j n)
 next-up f ps n j t foot h None e = sym (up-none f (take j n) (foot (take j n) (front-above n j h) (sym e)))
-next-up f ps n j t foot h (Some k) e = ap (λ (o : Option (Option ℕ)). flat_link o) (t.linked (take j n) k (sym e))
+next-up f ps n j t foot h (Some k) e = ap (λ (o : Option (Option ℕ)). option_flatten o) (t.linked (take j n) k (sym e))
 
 none-flat : (b : Bool) (o : Option Shown) → o ≡ None → o ≡ cond b None None
 none-flat true o h = h
@@ -59,18 +59,18 @@ none-flat false o h = h
 
 -- a change under the number of a name is one of that name alone
 pub walk-one : (f : Numbering) (a b : ℕ → Shown) (m : NameKey) (g : Shown → Shown) (on : ℕ → Bool) (at : Option ℕ) → AreApart f → ((j : ℕ) → f m ≡ Some j → on j ≡ true) → at ≡ f m
-    → ((j : ℕ) → b j ≡ cond (is_at at j && on j) (g (a j)) (a j))
+    → ((j : ℕ) → b j ≡ cond (option_eq nat_eq (Some j) at && on j) (g (a j)) (a j))
     → (q : NameKey) → option_map b (f q) ≡ cond (name_eq q m) (option_map g (option_map a (f q))) (option_map a (f q))
 walk-one f a b m g on at apart here is h q = by (f q) refl
   where
-    hit : (j : ℕ) → f m ≡ Some j → is_at at j ≡ true
-    hit j e = ap (λ (o : Option ℕ). is_at o j) (is ∙ e) ∙ own_number j
+    hit : (j : ℕ) → f m ≡ Some j → option_eq nat_eq (Some j) at ≡ true
+    hit j e = ap (λ (o : Option ℕ). option_eq nat_eq (Some j) o) (is ∙ e) ∙ own_number j
 
-    found : (o : Option ℕ) (j : ℕ) → is_at o j ≡ true → o ≡ Some j
+    found : (o : Option ℕ) (j : ℕ) → option_eq nat_eq (Some j) o ≡ true → o ≡ Some j
     found None j e = absurd (cc e)
     found (Some k) j e = ap (λ (n : ℕ). Some n) (sym (same_number j k e))
 
-    one : (j : ℕ) → f q ≡ Some j → (v : Bool) → name_eq q m ≡ v → (w : Bool) → is_at at j ≡ w → b j ≡ cond v (g (a j)) (a j)
+    one : (j : ℕ) → f q ≡ Some j → (v : Bool) → name_eq q m ≡ v → (w : Bool) → option_eq nat_eq (Some j) at ≡ w → b j ≡ cond v (g (a j)) (a j)
     one j e true s w i =
         let there : f m ≡ Some j = ap f (sym ((name_decides q m).0 s)) ∙ e in
         h j ∙ ap (λ (x : Bool). cond (x && on j) (g (a j)) (a j)) (hit j there) ∙ ap (λ (x : Bool). cond x (g (a j)) (a j)) (here j there)
@@ -86,7 +86,7 @@ walk-one f a b m g on at apart here is h q = by (f q) refl
 
     by : (o : Option ℕ) → f q ≡ o → option_map b o ≡ cond (name_eq q m) (option_map g (option_map a o)) (option_map a o)
     by None e = none-flat (name_eq q m) None refl
-    by (Some j) e = ap (λ (s : Shown). Some s) (one j e (name_eq q m) refl (is_at at j) refl) ∙ pull (name_eq q m) (g (a j)) (a j)
+    by (Some j) e = ap (λ (s : Shown). Some s) (one j e (name_eq q m) refl (option_eq nat_eq (Some j) at) refl) ∙ pull (name_eq q m) (g (a j)) (a j)
 
 -- the names above n of at least j parts are done, the shorter ones are as they were
 abbrev pub done : NameKey → (NameKey → Shown → Shown) → ℕ → NameKey → Option Shown → Option Shown
@@ -188,7 +188,7 @@ module _ (n : NameKey) (g : NameKey → Shown → Shown) (old now new : Places) 
 
   pub walking-step : new.names ≡ now.names → ((k : ℕ) → link_at new.lists.entries k ≡ link_at now.lists.entries k) → next ≡ next_of now.lists.entries at
       → (on : ℕ → Bool) → ((k : ℕ) → f (take j n) ≡ Some k → on k ≡ true)
-      → ((k : ℕ) → lists_at new.lists.entries k ≡ cond (is_at at k && on k) (g (take j n) (lists_at now.lists.entries k)) (lists_at now.lists.entries k))
+      → ((k : ℕ) → lists_at new.lists.entries k ≡ cond (option_eq nat_eq (Some k) at && on k) (g (take j n) (lists_at now.lists.entries k)) (lists_at now.lists.entries k))
       → IsWalking n g old new j next
   walking-step names links h on held-on lists = record {
     names = names ∙ t.names;

@@ -1,6 +1,6 @@
 -- The map of names and that of places, as functions from names and from numbers.
-use Rattle.std.specs.Prelude.{◌≡◌, ℕ, zero, suc, Bool, true, false, length, cond, take, List, [], ◌∷◌, Option, Some, None, is_some, nat_eq, Vec}
-use Rattle.std.specs.Option.{option_map}
+use Rattle.std.specs.Prelude.{◌≡◌, ℕ, zero, suc, true, length, cond, take, List, [], ◌∷◌, Option, Some, None, is_some, nat_eq, Vec}
+use Rattle.std.specs.Option.{option_map, option_flatten}
 use Rattle.std.specs.declared.alloc.Global.{Global}
 use Rattle.std.specs.Map.{lookup}
 use Rattle.dir_entry.specs.ldap_dn.Names.{RdnModel, rdns}
@@ -50,18 +50,9 @@ lists_at ps k = lists_of k (held ps k)
 abbrev pub link_at : PlaceEntries → ℕ → Option (Option ℕ)
 link_at ps k = option_map (λ (p : Place). p.above) (held ps k)
 
-abbrev pub flat_link : Option (Option ℕ) → Option ℕ
-flat_link None = None
-flat_link (Some a) = a
-
 abbrev pub next_of : PlaceEntries → Option ℕ → Option ℕ
 next_of ps None = None
-next_of ps (Some k) = flat_link (link_at ps k)
-
--- whether a number is this one
-abbrev pub is_at : Option ℕ → ℕ → Bool
-is_at None j = false
-is_at (Some k) j = nat_eq j k
+next_of ps (Some k) = option_flatten (link_at ps k)
 
 -- what is kept of a name
 abbrev pub place_at : Places → NameKey → Option Shown

@@ -1,5 +1,5 @@
 -- The entries once those at or below a name stand at or below another, as they are kept. What a rename means is in `Directory`.
-use Rattle.std.specs.Prelude.{ℕ, ◌+◌, Bool, false, cond, not, ◌&&◌, List, [], ◌∷◌, ◌++◌, map, length, drop, nat_eq, nat_lt, Option, Some, None, Vec}
+use Rattle.std.specs.Prelude.{ℕ, ◌+◌, Bool, cond, not, ◌&&◌, List, [], ◌∷◌, ◌++◌, map, length, drop, nat_eq, nat_lt, Option, Some, None, Vec}
 use Rattle.std.specs.Option.{option_map}
 use Rattle.std.specs.List.{list_any}
 use Rattle.std.specs.declared.alloc.Global.{Global}
@@ -8,6 +8,7 @@ use Rattle.dir_tree.specs.Directory.{NameKey, Entered, name_eq, begins, entry_at
 use Rattle.dir_tree.specs.Labelled.{Label, Labels}
 use Rattle.dir_tree.specs.Places.{Shown, is_above, relist}
 use Rattle.dir_tree.specs.declared.relisted.Relisted.{Relisted}
+pub use Rattle.dir_entry.specs.ldap_syntax.Octets.{begins_with}
 
 abbrev pub put_some : Option Entered → List Entered → List Entered
 put_some None es = es
@@ -53,14 +54,10 @@ abbrev pub beyond : ℕ → List ℕ → List ℕ
 beyond x [] = []
 beyond x (y ∷ ys) = cond (nat_lt y x) (beyond x ys) (y ∷ ys)
 
-abbrev pub starts : ℕ → List ℕ → Bool
-starts x [] = false
-starts x (y ∷ ys) = nat_eq y x
-
 -- a rising list without the numbers of another
 abbrev pub without : List ℕ → List ℕ → List ℕ
 without ys [] = []
-without ys (x ∷ xs) = cond (starts x (beyond x ys)) (without (beyond x ys) xs) (x ∷ without (beyond x ys) xs)
+without ys (x ∷ xs) = cond (begins_with x (beyond x ys)) (without (beyond x ys) xs) (x ∷ without (beyond x ys) xs)
 
 -- two rising lists as one
 abbrev pub merged : List ℕ → List ℕ → List ℕ

@@ -2,9 +2,9 @@
 // What must not be here: names, entries.
 
 ghost use Rattle.std.specs.Prelude.{◌≡◌, ℕ, cond, OnOk, OnErr, IfOk, Some, None, true, nat_eq, is_some, ◌&&◌};
-ghost use Rattle.std.specs.Option.{option_map};
+ghost use Rattle.std.specs.Option.{option_eq, option_map};
 ghost use Rattle.dir_tree.specs.Places.{Shown, struck, listed, relist};
-ghost use Rattle.dir_tree.specs.Kept.{held, shown, lists_at, link_at, next_of, is_at};
+ghost use Rattle.dir_tree.specs.Kept.{held, shown, lists_at, link_at, next_of};
 
 use crate::place::{Lists, Place, strike};
 use std::alloc::AllocError;
@@ -33,7 +33,7 @@ pub fn within_of(lists: &Lists, number: u64) -> &[u64]
 pub fn strike_next(lists: &mut Lists, at: Option<u64>, number: u64) -> Option<u64>
     ensures next { result ≡ next_of lists.old.entries at }
     ensures links { (j : ℕ) → link_at lists.new.entries j ≡ link_at lists.old.entries j }
-    ensures struck { (j : ℕ) → lists_at lists.new.entries j ≡ cond (is_at at j) (struck number (lists_at lists.old.entries j)) (lists_at lists.old.entries j) }
+    ensures struck { (j : ℕ) → lists_at lists.new.entries j ≡ cond (option_eq nat_eq (Some j) at) (struck number (lists_at lists.old.entries j)) (lists_at lists.old.entries j) }
 {
     match at {
         Some(key) => strike_one(lists, key, number),
@@ -108,7 +108,7 @@ pub fn enlist_next(
     ensures next { IfOk result (λ a. a ≡ next_of lists.old.entries at) }
     ensures links { (j : ℕ) → link_at lists.new.entries j ≡ link_at lists.old.entries j }
     ensures ok { OnOk result ((j : ℕ) → lists_at lists.new.entries j
-        ≡ cond (is_at at j && is_some (held lists.old.entries j)) (listed child number (lists_at lists.old.entries j)) (lists_at lists.old.entries j)) }
+        ≡ cond (option_eq nat_eq (Some j) at && is_some (held lists.old.entries j)) (listed child number (lists_at lists.old.entries j)) (lists_at lists.old.entries j)) }
     ensures err { OnErr result ((j : ℕ) → lists_at lists.new.entries j ≡ lists_at lists.old.entries j) }
 {
     match at {

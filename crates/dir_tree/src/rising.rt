@@ -22,7 +22,7 @@ fn beyond(numbers: &[u64], number: u64) -> &[u64]
 
 /// Whether a list begins with a number.
 fn starts(numbers: &[u64], number: u64) -> bool
-    ensures { result ≡ lists.starts number numbers.now }
+    ensures { result ≡ lists.begins_with number numbers.now }
 {
     match numbers.first() {
         Some(first) => *first == number,

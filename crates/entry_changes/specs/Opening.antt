@@ -1,19 +1,14 @@
 -- Attributes whose values are changed one by one: every value that was ever there stays in its place, and an index says since which place
 -- values of some octets are held. No contract above names it.
-use Rattle.std.specs.Prelude.{◌≡◌, ℕ, ◌+◌, List, [], ◌∷◌, Bool, true, false, is_some, length, Option, None, Some, Vec}
-use Rattle.std.specs.declared.alloc.Global.{Global}
+use Rattle.std.specs.Prelude.{◌≡◌, ℕ, ◌+◌, List, [], ◌∷◌, Bool, true, false, is_some, length, Option, None, Some}
 use Rattle.std.specs.Bool.{nat_le}
-use Rattle.std.specs.Map.{lookup}
 use Rattle.std.specs.List.{list_any}
 use Rattle.std.specs.Str.{bytes_eq}
 use Rattle.dir_entry.specs.Entry.{KeyedAttribute}
 use Rattle.dir_entry.specs.Picked.{picked}
 use Rattle.entry_changes.specs.declared.index.Index.{Index}
 use Rattle.entry_changes.specs.declared.index.Indexed.{Indexed}
-
--- since which place values of these octets are held; none, where no value is
-abbrev pub since : List (Vec ℕ Global × ℕ) → List ℕ → Option ℕ
-since es q = lookup (λ (k : Vec ℕ Global). bytes_eq q k.items) es
+pub use Rattle.dir_entry.specs.ldap_syntax.NameOrder.{number_at as since}
 
 abbrev pub is_since : Option ℕ → ℕ → Bool
 is_since None place = false

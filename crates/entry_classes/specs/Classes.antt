@@ -9,14 +9,11 @@ use Rattle.dir_entry.specs.ldap_schema.declared.class.ClassKind.{ClassKind}
 use Rattle.dir_entry.specs.ldap_schema.declared.class.ClassKind.TheVariants.{Abstract, Structural, Auxiliary}
 use Rattle.dir_entry.specs.Entry.{AttributeModel}
 use Rattle.dir_entry.specs.Adding.{refuse, has_type}
-
-abbrev pub is_type : Option ℕ → ℕ → Bool
-is_type None t = false
-is_type (Some u) t = nat_eq t u
+use Rattle.std.specs.Option.{option_eq}
 
 -- whether this is the type objectClass
 abbrev pub is_object_class : SchemaModel → ℕ → Bool
-is_object_class s t = is_type (object_class_type s) t
+is_object_class s t = option_eq nat_eq (Some t) (object_class_type s)
 
 abbrev pub with_some : {A : Type 0} → Option A → List A → List A
 with_some None xs = xs

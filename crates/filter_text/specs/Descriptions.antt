@@ -1,32 +1,15 @@
 -- Filter texts: attribute descriptions and rules.
 -- In: octets. Out: whether they are a description, or a rule. Not here: values, filters.
-use Rattle.std.specs.Prelude.{ℕ, ◌+◌, List, [], ◌∷◌, map, take, drop, position, Bool, false, ◌&&◌, ◌||◌, Option, None, Some, nat_eq, nat_le}
+use Rattle.std.specs.Prelude.{ℕ, ◌+◌, List, [], ◌∷◌, map, take, drop, position, Bool, ◌&&◌, ◌||◌, Option, None, Some, nat_eq}
 use Rattle.std.specs.List.{list_all, slice_split}
 use Rattle.std.specs.Char.{to_ascii_lowercase}
 use Rattle.std.specs.Str.{bytes_eq}
 use Rattle.ldap_syntax.specs.Identifiers.{is_numericoid}
-
--- ALPHA (RFC 4512 1.4)
-abbrev pub is_alpha : ℕ → Bool
-is_alpha c = (nat_le 65 c && nat_le c 90) || (nat_le 97 c && nat_le c 122)
-
--- keychar: ALPHA, DIGIT or HYPHEN (RFC 4512 1.4)
-abbrev pub is_key_octet : ℕ → Bool
-is_key_octet c = is_alpha c || (nat_le 48 c && nat_le c 57) || nat_eq c 45
-
--- descr: an ALPHA, then keychars (RFC 4512 1.4)
-abbrev pub is_descr : List ℕ → Bool
-is_descr [] = false
-is_descr (c ∷ cs) = is_alpha c && list_all is_key_octet cs
+pub use Rattle.ldap_syntax.specs.Words.{is_alpha, is_key_octet, is_descr, is_option}
 
 -- oid: a descr or a numericoid (RFC 4512 1.4)
 abbrev pub is_oid : List ℕ → Bool
 is_oid v = is_descr v || is_numericoid v
-
--- option: keychars, one at least (RFC 4512 2.5)
-abbrev pub is_option : List ℕ → Bool
-is_option [] = false
-is_option (c ∷ cs) = is_key_octet c && list_all is_key_octet cs
 
 -- an oid alone, or before the first `;`, behind which options stand with `;` between them
 abbrev pub is_described : List ℕ → Option ℕ → Bool

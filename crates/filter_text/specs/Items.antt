@@ -6,6 +6,7 @@ use Rattle.std.specs.List.{list_all}
 use Rattle.ldap_filter.specs.Item.{Comparison, equal, at_least, at_most, approximate, SubstringsValue, ExtensibleValue, Item, comparison, substrings, presence, extensible}
 use Rattle.filter_text.specs.Descriptions.{is_description, is_oid, is_dn}
 use Rattle.filter_text.specs.Values.{IsValue, are_octets, printed_value}
+pub use Rattle.ldap_syntax.specs.Parts.{part_or_nothing}
 
 -- filtertype: `=`, `>=`, `<=` and `~=`
 abbrev pub operator : Comparison → List ℕ
@@ -64,11 +65,6 @@ pub record IsSubstrings (s : SubstringsValue) (text : List ℕ) : Type 0 where
   pub are_parts : Starred (IsPartOrNone s.initial) (AreParts s.any s.last) value
   pub some : has_part s.initial s.any s.last ≡ true
 
--- the text of a description, or nothing
-abbrev pub description_text : Option (List ℕ) → List ℕ
-description_text None = []
-description_text (Some d) = d
-
 -- matchingrule: a colon and a rule, or nothing
 abbrev pub rule_text : Option (List ℕ) → List ℕ
 rule_text None = []
@@ -91,7 +87,7 @@ is_applicable (Some d) flag (Some r) = is_description d && is_oid r && (flag || 
 pub record IsExtensible (e : ExtensibleValue) (text : List ℕ) : Type 0 where
   pub flag : List ℕ
   pub value : List ℕ
-  pub parts : text ≡ description_text e.description ++ (flag ++ (rule_text e.matching_rule ++ 58 ∷ 61 ∷ value))
+  pub parts : text ≡ part_or_nothing e.description ++ (flag ++ (rule_text e.matching_rule ++ 58 ∷ 61 ∷ value))
   pub is_flag : IsFlag e.dn_attributes flag
   pub applies : is_applicable e.description e.dn_attributes e.matching_rule ≡ true
   pub is_value : IsValue e.match_value value
@@ -123,7 +119,7 @@ abbrev pub printed_item : Item → List ℕ
 printed_item (comparison k d a) = d ++ (operator k ++ printed_value a)
 printed_item (substrings s) = s.description ++ 61 ∷ (printed_part s.initial ++ 42 ∷ (printed_parts s.any ++ printed_part s.last))
 printed_item (presence d) = d ++ 61 ∷ 42 ∷ []
-printed_item (extensible e) = description_text e.description ++ (printed_flag e.dn_attributes ++ (rule_text e.matching_rule ++ 58 ∷ 61 ∷ printed_value e.match_value))
+printed_item (extensible e) = part_or_nothing e.description ++ (printed_flag e.dn_attributes ++ (rule_text e.matching_rule ++ 58 ∷ 61 ∷ printed_value e.match_value))
 
 -- ---- which items have a text
 

@@ -1,31 +1,14 @@
 -- Filter texts: values and the octets that spell them (RFC 4515 3, valueencoding).
 -- In: a value and a text. Out: whether the text spells it, and the one text that is printed. Not here: descriptions, filters.
-use Rattle.std.specs.Prelude.{ℕ, zero, suc, ◌+◌, ◌-◌, ◌*◌, ◌/◌, ◌%◌, List, [], ◌∷◌, ◌++◌, length, take, Bool, true, cond, ◌&&◌, ◌||◌, Option, None, Some, nat_le, nat_lt, ◌≡◌}
+use Rattle.std.specs.Prelude.{ℕ, zero, suc, ◌+◌, ◌-◌, ◌/◌, ◌%◌, List, [], ◌∷◌, ◌++◌, length, take, Bool, true, cond, ◌&&◌, ◌||◌, Some, nat_le, nat_lt, ◌≡◌}
 use Rattle.std.specs.List.{list_all}
 use Rattle.std.specs.Str.{is_utf8}
+pub use Rattle.ldap_syntax.specs.Octets.{are_octets}
+pub use Rattle.ldap_syntax.specs.Hexadecimal.{hex_digit, with_low, with_high, hex_octet}
 
 -- normal: each octet but NUL, `(`, `)`, `*` and backslash (RFC 4515 3)
 abbrev pub is_normal : ℕ → Bool
 is_normal c = (nat_le 1 c && nat_le c 39) || (nat_le 43 c && nat_le c 91) || (nat_le 93 c && nat_le c 255)
-
--- the value of a hexadecimal digit in either case (RFC 4512 1.4, HEX)
-abbrev pub hex_digit : ℕ → Option ℕ
-hex_digit c =
-    cond (nat_le 48 c && nat_le c 57) (Some (c - 48))
-    (cond (nat_le 65 c && nat_le c 70) (Some (c - 55))
-    (cond (nat_le 97 c && nat_le c 102) (Some (c - 87)) None))
-
-abbrev pub with_low : ℕ → Option ℕ → Option ℕ
-with_low h None = None
-with_low h (Some l) = Some (h * 16 + l)
-
-abbrev pub with_high : Option ℕ → Option ℕ → Option ℕ
-with_high None low = None
-with_high (Some h) low = with_low h low
-
--- the octet that two hexadecimal digits spell
-abbrev pub hex_octet : ℕ → ℕ → Option ℕ
-hex_octet h l = with_high (hex_digit h) (hex_digit l)
 
 -- A text spells a value: a normal octet stands for itself, and a backslash and two hexadecimal digits for the octet of that number
 -- (RFC 4515 3, valueencoding).
@@ -33,10 +16,6 @@ pub data IsValue : List ℕ → List ℕ → Type 0 where
   nothing : IsValue [] []
   normal : {v text : List ℕ} (c : ℕ) → is_normal c ≡ true → IsValue v text → IsValue (c ∷ v) (c ∷ text)
   escaped : {v text : List ℕ} (h l c : ℕ) → hex_octet h l ≡ Some c → IsValue v text → IsValue (c ∷ v) (92 ∷ h ∷ l ∷ text)
-
--- octets, which a value is made of
-abbrev pub are_octets : List ℕ → Bool
-are_octets v = list_all (λ c. nat_lt c 256) v
 
 -- ---- what is printed
 

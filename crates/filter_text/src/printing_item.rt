@@ -69,7 +69,7 @@ pub fn put_substrings(out: &mut String, filter: &SubstringFilter) -> Result<(), 
 
 /// Puts a description, where there is one.
 fn put_description(out: &mut String, description: &Option<String>) -> Result<(), AllocError>
-    ensures { OnOk result (string_bytes out.new ≡ string_bytes out.old ++ items.description_text (option_map string_bytes description.now)) }
+    ensures { OnOk result (string_bytes out.new ≡ string_bytes out.old ++ items.part_or_nothing (option_map string_bytes description.now)) }
 {
     match description {
         Some(description) => out.push_str(description.as_str()),

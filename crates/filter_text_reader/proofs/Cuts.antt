@@ -1,14 +1,14 @@
 -- Filter texts, reading: an item's text is cut into what it says.
 use Rattle.std.proofs.Common.{◌≡◌, ℕ, ◌+◌, ◌<◌, List, [], ◌∷◌, ◌++◌, take, drop, suc, Bool, true, false, cond, not, ◌&&◌, ◌||◌, Option, None, Some, nat_eq, nat_le, refl, sym, ap, subst, ◌∙◌, append-nil, length, length-drop, arith}
 use Rattle.std.specs.List.{list_all, prefix_len, slice_split, onto_first}
-use Rattle.std.specs.Option.{option_map}
+use Rattle.std.specs.Option.{option_map, option_and_then}
 use Rattle.std.proofs.lemmas.Bool.{eqb-true}
 use Rattle.filter_text.specs.ldap_syntax.Numbers.{is_digit}
 use Rattle.filter_text.specs.ldap_filter.Item.{Comparison, equal, at_least, at_most, approximate, Item, comparison, substrings, presence, extensible}
 use Rattle.filter_text.specs.Descriptions.{is_alpha, is_key_octet, is_oid, is_description, is_dn}
 use Rattle.filter_text.specs.Values.{is_normal, hex_digit, with_high, IsValue, nothing, normal, escaped}
-use Rattle.filter_text.specs.Items.{IsPart, IsPartOrNone, AreParts, Starred, has_part, operator, description_text, rule_text, IsFlag, is_applicable, IsItemText}
-use Rattle.filter_text_reader.specs.Machine.{then, run, within}
+use Rattle.filter_text.specs.Items.{IsPart, IsPartOrNone, AreParts, Starred, has_part, operator, part_or_nothing, rule_text, IsFlag, is_applicable, IsItemText}
+use Rattle.filter_text_reader.specs.Machine.{run, within}
 use Rattle.filter_text_reader.specs.ItemScan.{oid_first, oid_step, oid_out, oid_ends, name_step}
 use Rattle.filter_text.specs.declared.fault.FilterTextError.{FilterTextError}
 use Rattle.filter_text.specs.declared.fault.FilterTextError.TheVariants.{BadFilterText, TooDeep, TooManyItems, NoMemory}
@@ -16,7 +16,7 @@ use Rattle.filter_text_reader.specs.Reads.{PartFault}
 use Rattle.filter_text_reader.specs.Scanned.{spelled, turned, scanned, value_of}
 use Rattle.filter_text_reader.specs.declared.value_reading.Reading.TheVariants.{Between, Escape}
 use Rattle.filter_text_reader.specs.declared.value_reading.Turn.TheVariants.{Refuses, Reads, Gives}
-use Rattle.filter_text_reader.specs.Cuts.{is_name_octet, is_other, front, behind, tail, begins_with, is_nil, part_of, spread, parts_of, substrings_of, starred, equal_or_starred, equality, Applied, worded, applied, described_by, extensible_with, item_at, item_of}
+use Rattle.filter_text_reader.specs.Cuts.{is_name_octet, is_other, front, behind, tail, begins_with, is_empty, part_of, spread, parts_of, substrings_of, starred, equal_or_starred, equality, Applied, worded, applied, described_by, extensible_with, item_at, item_of}
 use Rattle.filter_text_reader.specs.declared.place.OidPlace.{OidPlace}
 use Rattle.filter_text_reader.specs.declared.place.OidPlace.TheVariants.{Letters, Zero, Number, Dot, DottedZero, DottedNumber}
 use Rattle.filter_text_reader.specs.declared.place.NamePlace.{NamePlace}
@@ -108,7 +108,7 @@ first_name : (t : OidPlace) (c : ℕ) → oid_first c ≡ Some t → is_name_oct
 first_name t c e = first_name_at (is_alpha c) (nat_eq c 48) (is_digit c) c refl refl refl e
 
 oid_octets_at : (r : Option OidPlace) (o p : OidPlace) (c : ℕ) (cs : List ℕ) → oid_step o c ≡ r → ((u : OidPlace) → run oid_step u cs ≡ Some p → list_all is_name_octet cs ≡ true)
-    → then r (λ u. run oid_step u cs) ≡ Some p → list_all is_name_octet (c ∷ cs) ≡ true
+    → option_and_then (λ u. run oid_step u cs) r ≡ Some p → list_all is_name_octet (c ∷ cs) ≡ true
 oid_octets_at None o p c cs e h g = absurd (none_some g)
 oid_octets_at (Some u) o p c cs e h g = both (is_name_octet c) (list_all is_name_octet cs) (oid_step_name o u c e) (h u g)
 
@@ -136,7 +136,7 @@ name_step_name Semicolon m c e = key_name c (tested (is_key_octet c) Keys e)
 name_step_name Keys m c e = keys_name (is_key_octet c) (nat_eq c 59) c refl refl e
 
 name_octets_at : (r : Option NamePlace) (n m : NamePlace) (c : ℕ) (cs : List ℕ) → name_step n c ≡ r → ((u : NamePlace) → run name_step u cs ≡ Some m → list_all is_name_octet cs ≡ true)
-    → then r (λ u. run name_step u cs) ≡ Some m → list_all is_name_octet (c ∷ cs) ≡ true
+    → option_and_then (λ u. run name_step u cs) r ≡ Some m → list_all is_name_octet (c ∷ cs) ≡ true
 name_octets_at None n m c cs e h g = absurd (none_some g)
 name_octets_at (Some u) n m c cs e h g = both (is_name_octet c) (list_all is_name_octet cs) (name_step_name n u c e) (h u g)
 
@@ -241,17 +241,17 @@ split_at (c ∷ cs) x h =
     ap (λ b. cond b ([] ∷ slice_split star (cs ++ 42 ∷ x)) (onto_first c (slice_split star (cs ++ 42 ∷ x)))) (not_star (nat_eq c 42) (left (is_other 42 c) (list_all (is_other 42) cs) h))
     ∙ ap (onto_first c) (split_at cs x (right (is_other 42 c) (list_all (is_other 42) cs) h))
 
-spread_onto : (any : List (List ℕ)) (s : List ℕ) (c : ℕ) (ys : List (List ℕ)) → spread any (s ∷ onto_first c ys) ≡ then (value_of s) (λ v. spread (any ++ v ∷ []) (onto_first c ys))
+spread_onto : (any : List (List ℕ)) (s : List ℕ) (c : ℕ) (ys : List (List ℕ)) → spread any (s ∷ onto_first c ys) ≡ option_and_then (λ v. spread (any ++ v ∷ []) (onto_first c ys)) (value_of s)
 spread_onto any s c [] = refl
 spread_onto any s c (y ∷ ys) = refl
 
 spread_at : (b : Bool) (any : List (List ℕ)) (s : List ℕ) (c : ℕ) (cs : List ℕ)
-    → spread any (s ∷ cond b ([] ∷ slice_split star cs) (onto_first c (slice_split star cs))) ≡ then (value_of s) (λ v. spread (any ++ v ∷ []) (cond b ([] ∷ slice_split star cs) (onto_first c (slice_split star cs))))
+    → spread any (s ∷ cond b ([] ∷ slice_split star cs) (onto_first c (slice_split star cs))) ≡ option_and_then (λ v. spread (any ++ v ∷ []) (cond b ([] ∷ slice_split star cs) (onto_first c (slice_split star cs)))) (value_of s)
 spread_at true any s c cs = refl
 spread_at false any s c cs = spread_onto any s c (slice_split star cs)
 
 -- one part before others
-pub spread_more : (any : List (List ℕ)) (s x : List ℕ) → spread any (s ∷ slice_split star x) ≡ then (value_of s) (λ v. spread (any ++ v ∷ []) (slice_split star x))
+pub spread_more : (any : List (List ℕ)) (s x : List ℕ) → spread any (s ∷ slice_split star x) ≡ option_and_then (λ v. spread (any ++ v ∷ []) (slice_split star x)) (value_of s)
 spread_more any s [] = refl
 spread_more any s (c ∷ cs) = spread_at (nat_eq c 42) any s c cs
 
@@ -279,7 +279,7 @@ parts_spread any (v ∷ vs) o text p =
     ap (λ y. spread any (slice_split star y)) p.parts
     ∙ ap (spread any) (split_at p.before p.behind (value_lacks p.is_before.is_value))
     ∙ spread_more any p.before p.behind
-    ∙ ap (λ r. then r (λ u. spread (any ++ u ∷ []) (slice_split star p.behind))) (value_is p.is_before.is_value)
+    ∙ ap (λ r. option_and_then (λ u. spread (any ++ u ∷ []) (slice_split star p.behind)) r) (value_is p.is_before.is_value)
     ∙ parts_spread (any ++ v ∷ []) vs o p.behind p.is_behind
     ∙ ap (λ xs. Some (record { any = xs; last = o })) (push_onto any v vs)
 
@@ -318,7 +318,7 @@ bare_parts d (c ∷ cs) any last p h = ap (substrings_of d None) (parts_spread [
 initial_parts : (d v before x : List ℕ) (any : List (List ℕ)) (last : Option (List ℕ)) → IsPart v before → AreParts any last x → starred d before x ≡ Some (substrings_item d (Some v) any last)
 initial_parts d v [] x any last i p = absurd (i.is_some (nothing_spelled i.is_value refl))
 initial_parts d v (b ∷ bs) x any last i p =
-    ap (λ r. then (option_map Some r) (λ u. substrings_of d u (parts_of x))) (value_is i.is_value) ∙ ap (substrings_of d (Some v)) (parts_spread [] any last x p)
+    ap (λ r. option_and_then (λ u. substrings_of d u (parts_of x)) (option_map Some r)) (value_is i.is_value) ∙ ap (substrings_of d (Some v)) (parts_spread [] any last x p)
 
 starred_is : (d x : List ℕ) (i : Option (List ℕ)) (any : List (List ℕ)) (last : Option (List ℕ)) → Starred (IsPartOrNone i) (AreParts any last) x → has_part i any last ≡ true
     → equality d x ≡ Some (substrings_item d i any last)
@@ -376,8 +376,8 @@ both_applied k w r v n m = word_is k w (r ++ 58 ∷ 61 ∷ v) n ∙ last_is k w 
 abbrev extensible_item : Option (List ℕ) → Bool → Option (List ℕ) → List ℕ → Item
 extensible_item d b r v = extensible (record { matching_rule = r; description = d; match_value = v; dn_attributes = b })
 
-some_description : (d : List ℕ) → IsNamed d → (described_by d ≡ Some d) × (not (is_nil d) ≡ true)
-some_description d n = (ap described_by n.parts ∙ ap Some (sym n.parts), ap (λ y. not (is_nil y)) n.parts)
+some_description : (d : List ℕ) → IsNamed d → (described_by d ≡ Some d) × (not (is_empty d) ≡ true)
+some_description d n = (ap described_by n.parts ∙ ap Some (sym n.parts), ap (λ y. not (is_empty y)) n.parts)
 
 with_description : (d x v a : List ℕ) (b : Bool) (r : Option (List ℕ)) → is_description d ≡ true → applied true x ≡ says b r v → IsValue a v → item_of (d ++ 58 ∷ x) ≡ Some (extensible_item (Some d) b r a)
 with_description d x v a b r h e s =
@@ -398,7 +398,7 @@ named_dn : (w : List ℕ) → is_dn w ≡ true → IsNamed w
 named_dn w h = named_oid w (dn_oid w h)
 
 extensible_is : (d : Option (List ℕ)) (b : Bool) (r : Option (List ℕ)) (a flag value text : List ℕ)
-    → text ≡ description_text d ++ (flag ++ (rule_text r ++ 58 ∷ 61 ∷ value)) → IsFlag b flag → is_applicable d b r ≡ true → IsValue a value → item_of text ≡ Some (extensible_item d b r a)
+    → text ≡ part_or_nothing d ++ (flag ++ (rule_text r ++ 58 ∷ 61 ∷ value)) → IsFlag b flag → is_applicable d b r ≡ true → IsValue a value → item_of text ≡ Some (extensible_item d b r a)
 extensible_is None b None a flag value text e f h s = absurd (false_true h)
 extensible_is None false (Some r) a flag value text e f h s =
     ap item_of (e ∙ ap (λ x. x ++ 58 ∷ (r ++ 58 ∷ 61 ∷ value)) f) ∙ without_description (r ++ 58 ∷ 61 ∷ value) value a false (Some r) (rule_applied false r value (named_oid r h) refl) s
@@ -464,35 +464,35 @@ is_star : (b : Bool) (c : ℕ) → nat_eq c 42 ≡ b → not b ≡ false → c �
 is_star true c e f = eqb-true c 42 e
 is_star false c e f = absurd (false_true (sym f))
 
-split_front : (f b : List ℕ) → list_all (is_other 42) f ≡ true → Stops (is_other 42) b → is_nil b ≡ false → slice_split star (f ++ b) ≡ f ∷ slice_split star (tail b)
+split_front : (f b : List ℕ) → list_all (is_other 42) f ≡ true → Stops (is_other 42) b → is_empty b ≡ false → slice_split star (f ++ b) ≡ f ∷ slice_split star (tail b)
 split_front f [] h s n = absurd (false_true (sym n))
 split_front f (c ∷ cs) h s n = ap (λ d. slice_split star (f ++ d ∷ cs)) (is_star (nat_eq c 42) c refl s) ∙ split_at f cs h
 
 -- one part more
-pub next_part : (any : List (List ℕ)) (text : List ℕ) → is_nil (behind (is_other 42) text) ≡ false
-    → spread any (slice_split star text) ≡ then (value_of (front (is_other 42) text)) (λ v. spread (any ++ v ∷ []) (slice_split star (tail (behind (is_other 42) text))))
+pub next_part : (any : List (List ℕ)) (text : List ℕ) → is_empty (behind (is_other 42) text) ≡ false
+    → spread any (slice_split star text) ≡ option_and_then (λ v. spread (any ++ v ∷ []) (slice_split star (tail (behind (is_other 42) text)))) (value_of (front (is_other 42) text))
 next_part any text n =
     let k = is_cut text in
     ap (λ y. spread any (slice_split star y)) (sym k.parts)
     ∙ ap (spread any) (split_front (front (is_other 42) text) (behind (is_other 42) text) k.lacks k.stops n)
     ∙ spread_more any (front (is_other 42) text) (tail (behind (is_other 42) text))
 
-nil_is : (b : List ℕ) → is_nil b ≡ true → b ≡ []
+nil_is : (b : List ℕ) → is_empty b ≡ true → b ≡ []
 nil_is [] e = refl
 nil_is (c ∷ cs) e = absurd (false_true e)
 
 -- the part at the end
-pub end_of_parts : (any : List (List ℕ)) (text : List ℕ) → is_nil (behind (is_other 42) text) ≡ true → spread any (slice_split star text) ≡ option_map (λ l. record { any = any; last = l }) (part_of text)
+pub end_of_parts : (any : List (List ℕ)) (text : List ℕ) → is_empty (behind (is_other 42) text) ≡ true → spread any (slice_split star text) ≡ option_map (λ l. record { any = any; last = l }) (part_of text)
 end_of_parts any text n =
     let k = is_cut text in
     let e = sym (append-nil (front (is_other 42) text)) ∙ ap (λ y. front (is_other 42) text ++ y) (sym (nil_is (behind (is_other 42) text) n)) ∙ k.parts in
     ap (spread any) (split_none text (ap (list_all (is_other 42)) (sym e) ∙ k.lacks))
 
-shorter_at : (b : List ℕ) → is_nil b ≡ false → length (tail b) < length b
+shorter_at : (b : List ℕ) → is_empty b ≡ false → length (tail b) < length b
 shorter_at [] e = absurd (false_true (sym e))
 shorter_at (c ∷ cs) e = omega arith
 
-pub shorter : (text : List ℕ) → is_nil (behind (is_other 42) text) ≡ false → length (tail (behind (is_other 42) text)) < length text
+pub shorter : (text : List ℕ) → is_empty (behind (is_other 42) text) ≡ false → length (tail (behind (is_other 42) text)) < length text
 shorter text e = omega (arith, shorter_at (behind (is_other 42) text) e, length-drop (prefix_len (is_other 42) text) text)
 
 -- what the loop over parts has, at its exits
@@ -505,23 +505,23 @@ part_fault NoMemory f h = h
 abbrev pub SoFar : List (List ℕ) → List ℕ → List ℕ → Type 0
 SoFar any rest text = spread any (slice_split star rest) ≡ parts_of text
 
-pub part_missing : (any : List (List ℕ)) (rest text stars before : List ℕ) (b : Bool) → SoFar any rest text → stars ≡ behind (is_other 42) rest → b ≡ is_nil stars → b ≡ false
+pub part_missing : (any : List (List ℕ)) (rest text stars before : List ℕ) (b : Bool) → SoFar any rest text → stars ≡ behind (is_other 42) rest → b ≡ is_empty stars → b ≡ false
     → before ≡ front (is_other 42) rest → value_of before ≡ None → parts_of text ≡ None
 part_missing any rest text stars before b so_far s n f e v =
-    sym so_far ∙ next_part any rest (sym (n ∙ ap is_nil s) ∙ f)
-    ∙ ap (λ r. then r (λ v. spread (any ++ v ∷ []) (slice_split star (tail (behind (is_other 42) rest))))) (ap value_of (sym e) ∙ v)
+    sym so_far ∙ next_part any rest (sym (n ∙ ap is_empty s) ∙ f)
+    ∙ ap (λ r. option_and_then (λ v. spread (any ++ v ∷ []) (slice_split star (tail (behind (is_other 42) rest)))) r) (ap value_of (sym e) ∙ v)
 
-pub part_found : (any : List (List ℕ)) (rest text stars before v : List ℕ) (b : Bool) → SoFar any rest text → stars ≡ behind (is_other 42) rest → b ≡ is_nil stars → b ≡ false
+pub part_found : (any : List (List ℕ)) (rest text stars before v : List ℕ) (b : Bool) → SoFar any rest text → stars ≡ behind (is_other 42) rest → b ≡ is_empty stars → b ≡ false
     → before ≡ front (is_other 42) rest → value_of before ≡ Some v → SoFar (any ++ v ∷ []) (tail (behind (is_other 42) rest)) text
 part_found any rest text stars before v b so_far s n f e g =
-    sym (next_part any rest (sym (n ∙ ap is_nil s) ∙ f)
-    ∙ ap (λ r. then r (λ v. spread (any ++ v ∷ []) (slice_split star (tail (behind (is_other 42) rest))))) (ap value_of (sym e) ∙ g)) ∙ so_far
+    sym (next_part any rest (sym (n ∙ ap is_empty s) ∙ f)
+    ∙ ap (λ r. option_and_then (λ v. spread (any ++ v ∷ []) (slice_split star (tail (behind (is_other 42) rest)))) r) (ap value_of (sym e) ∙ g)) ∙ so_far
 
-pub last_found : (any : List (List ℕ)) (last : Option (List ℕ)) (rest text stars : List ℕ) (b : Bool) → SoFar any rest text → stars ≡ behind (is_other 42) rest → b ≡ is_nil stars → b ≡ true
+pub last_found : (any : List (List ℕ)) (last : Option (List ℕ)) (rest text stars : List ℕ) (b : Bool) → SoFar any rest text → stars ≡ behind (is_other 42) rest → b ≡ is_empty stars → b ≡ true
     → part_of rest ≡ Some last → parts_of text ≡ Some (record { any = any; last = last })
 last_found any last rest text stars b so_far s n f e =
-    sym so_far ∙ end_of_parts any rest (sym (n ∙ ap is_nil s) ∙ f) ∙ ap (option_map (λ l. record { any = any; last = l })) e
+    sym so_far ∙ end_of_parts any rest (sym (n ∙ ap is_empty s) ∙ f) ∙ ap (option_map (λ l. record { any = any; last = l })) e
 
-pub last_missing : (any : List (List ℕ)) (rest text stars : List ℕ) (b : Bool) → SoFar any rest text → stars ≡ behind (is_other 42) rest → b ≡ is_nil stars → b ≡ true
+pub last_missing : (any : List (List ℕ)) (rest text stars : List ℕ) (b : Bool) → SoFar any rest text → stars ≡ behind (is_other 42) rest → b ≡ is_empty stars → b ≡ true
     → part_of rest ≡ None → parts_of text ≡ None
-last_missing any rest text stars b so_far s n f e = sym so_far ∙ end_of_parts any rest (sym (n ∙ ap is_nil s) ∙ f) ∙ ap (option_map (λ l. record { any = any; last = l })) e
+last_missing any rest text stars b so_far s n f e = sym so_far ∙ end_of_parts any rest (sym (n ∙ ap is_empty s) ∙ f) ∙ ap (option_map (λ l. record { any = any; last = l })) e

@@ -1,10 +1,10 @@
 -- Filter texts, scanning: the machine of filters accepts each filter's text, and each text that it accepts is one.
 use Rattle.std.proofs.Common.{◌≡◌, ℕ, List, [], ◌∷◌, ◌++◌, Bool, true, false, cond, ◌||◌, Option, None, Some, nat_eq, refl, sym, ap, subst, ◌∙◌}
-use Rattle.std.specs.Option.{option_map}
+use Rattle.std.specs.Option.{option_map, option_and_then}
 use Rattle.std.proofs.lemmas.Bool.{eqb-true}
 use Rattle.filter_text.specs.ldap_filter.Tree.{Tree, conj, disj, negation, item, Trees, no_trees, tree}
 use Rattle.filter_text.specs.Grammar.{HasFilter, HasFilters, IsFilterText}
-use Rattle.filter_text_reader.specs.Machine.{then, holds, run, accepts, within}
+use Rattle.filter_text_reader.specs.Machine.{holds, run, accepts, within}
 use Rattle.filter_text_reader.specs.ItemScan.{oid_ends, name_ends, name_out, word_step, rule_out, last_out, item_step, item_ends}
 use Rattle.filter_text_reader.specs.FilterScan.{Spot, at, filter_step, filter_ends, is_empty}
 use Rattle.filter_text_reader.specs.declared.place.ValuePlace.TheVariants.{Between, Escape, Half}
@@ -80,7 +80,7 @@ first_at false true d around c s e f g h = absurd (none_some (ap (item_step Star
 first_at false false true around c s e f g h = absurd (none_some (ap (item_step Start) (sym (eqb-true c 33 g)) ∙ h))
 first_at false false false around c s e f g h = ap (option_map (put_item around)) h
 
-inside_item_at : (r : Option ItemPlace) (around : List Around) (c : ℕ) (cs rest : List ℕ) → item_step Start c ≡ r → holds item_ends (then r (λ t. run item_step t cs)) ≡ true
+inside_item_at : (r : Option ItemPlace) (around : List Around) (c : ℕ) (cs rest : List ℕ) → item_step Start c ≡ r → holds item_ends (option_and_then (λ t. run item_step t cs) r) ≡ true
     → run filter_step (at Inside around) (c ∷ cs ++ 41 ∷ rest) ≡ run filter_step (at Behind around) rest
 inside_item_at None around c cs rest e h = absurd (false_true h)
 inside_item_at (Some s) around c cs rest e h =
@@ -171,7 +171,7 @@ abbrev Accepts : Place → List Around → List ℕ → Type 0
 Accepts p around text = accepts filter_step filter_ends (at p around) text ≡ true
 
 abbrev led : Option Spot → List ℕ → Bool
-led o cs = holds filter_ends (then o (λ t. run filter_step t cs))
+led o cs = holds filter_ends (option_and_then (λ t. run filter_step t cs) o)
 
 opening_at : (b : Bool) (around : List Around) (c : ℕ) (cs : List ℕ) → nat_eq c 40 ≡ b → (Accepts Inside around cs → FilterThen (Round around) (40 ∷ cs))
     → led (cond b (Some (at Inside around)) None) cs ≡ true → FilterThen (Round around) (c ∷ cs)
@@ -194,7 +194,7 @@ negation_then around cs r = record {
 
 item_then : (around : List Around) (c : ℕ) (cs : List ℕ) (s : ItemPlace) → item_step Start c ≡ Some s → BodyThen (Round around) s cs → FilterThen (Round around) (40 ∷ c ∷ cs)
 item_then around c cs s e b =
-    let i = item_spelled (c ∷ b.body) (ap (λ o. holds item_ends (then o (λ t. run item_step t b.body))) e ∙ b.accepted) in
+    let i = item_spelled (c ∷ b.body) (ap (λ o. holds item_ends (option_and_then (λ t. run item_step t b.body) o)) e ∙ b.accepted) in
     record {
       is = item i.0;
       after = b.after;
@@ -216,7 +216,7 @@ longer_body around c cs s t e b = record {
   body = c ∷ b.body;
   after = b.after;
   parts = ap (λ x. c ∷ x) b.parts;
-  accepted = ap (λ o. holds item_ends (then o (λ t. run item_step t b.body))) e ∙ b.accepted;
+  accepted = ap (λ o. holds item_ends (option_and_then (λ t. run item_step t b.body) o)) e ∙ b.accepted;
   follows = b.follows;
 }
 

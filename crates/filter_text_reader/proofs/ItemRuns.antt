@@ -6,7 +6,7 @@ use Rattle.filter_text.specs.ldap_syntax.Numbers.{is_digit}
 use Rattle.filter_text.specs.ldap_filter.Item.{Comparison, equal, at_least, at_most, approximate, Item, comparison, substrings, presence, extensible}
 use Rattle.filter_text.specs.Descriptions.{is_key_octet, is_oid, is_description, is_dn}
 use Rattle.filter_text.specs.Values.{IsValue}
-use Rattle.filter_text.specs.Items.{operator, description_text, rule_text, IsFlag, is_applicable, IsItemText}
+use Rattle.filter_text.specs.Items.{operator, part_or_nothing, rule_text, IsFlag, is_applicable, IsItemText}
 use Rattle.filter_text_reader.specs.Machine.{holds, run, accepts, within}
 use Rattle.filter_text_reader.specs.ItemScan.{oid_first, dotted, oid_step, oid_ends, oid_out, name_step, name_ends, word_first, word_step, behind_word, rule_first, rule_out, last_out, name_out, item_step, item_ends}
 use Rattle.filter_text_reader.specs.declared.place.OidPlace.{OidPlace}
@@ -228,7 +228,7 @@ name_colon : (d text x : List ℕ) → is_description d ≡ true → text ≡ d 
 name_colon d text x h e g = ap (accepts item_step item_ends Start) e ∙ (ap (holds item_ends) (to_colon d x h) ∙ g)
 
 extensible_runs : (d : Option (List ℕ)) (b : Bool) (r : Option (List ℕ)) (v flag value text : List ℕ)
-    → text ≡ description_text d ++ (flag ++ (rule_text r ++ 58 ∷ 61 ∷ value)) → IsFlag b flag → is_applicable d b r ≡ true → IsValue v value → Accepted text
+    → text ≡ part_or_nothing d ++ (flag ++ (rule_text r ++ 58 ∷ 61 ∷ value)) → IsFlag b flag → is_applicable d b r ≡ true → IsValue v value → Accepted text
 extensible_runs None b None v flag value text e f h s = absurd (false_true h)
 extensible_runs None false (Some r) v flag value text e f h s =
     bare_to text (r ++ 58 ∷ 61 ∷ value) (e ∙ ap (λ x. x ++ 58 ∷ (r ++ 58 ∷ 61 ∷ value)) f) (rule_value BareColon behind_bare r h s)

@@ -2,7 +2,7 @@
 use Rattle.std.proofs.Common.{◌≡◌, ℕ, ◌+◌, ◌<◌, ◌≤◌, zero, suc, List, [], ◌∷◌, ◌++◌, length, take, Bool, true, false, cond, Option, None, Some, refl, sym, ap, subst, ◌∙◌, arith}
 use Rattle.filter_text.specs.ldap_filter.Tree.{Tree}
 use Rattle.filter_text.specs.Grammar.{IsFilterText}
-use Rattle.filter_text_reader.specs.Machine.{then, holds, run, accepts, goes_on, stops}
+use Rattle.filter_text_reader.specs.Machine.{holds, run, accepts, goes_on, stops}
 use Rattle.filter_text_reader.specs.Longest.{Begins, IsLongestFront}
 use Rattle.filter_text_reader.specs.ItemScan.{item_step, item_ends}
 use Rattle.filter_text_reader.specs.FilterScan.{at, filter_step, filter_ends}
@@ -22,6 +22,7 @@ use Rattle.filter_text_reader.specs.declared.place.Place.{Place}
 use Rattle.filter_text_reader.specs.declared.place.Place.TheVariants.{Opening, Inside, InItem, Behind}
 use Rattle.filter_text_reader.proofs.Machines.{false_true, none_some, some_same, one_step}
 use Rattle.filter_text_reader.proofs.FilterRuns.{item_close, filter_accepted, accepted_filter}
+use Rattle.std.specs.Option.{option_and_then}
 
 -- ---- what goes on to an item's text
 
@@ -169,7 +170,7 @@ end_at step ends goes false s k n e h = record {
 
 stuck : {S : Type 0} (step : S → ℕ → Option S) (ends : S → Bool) (s : S) (c : ℕ) (cs : List ℕ) → step s c ≡ None → (n : ℕ) → 0 < n → (rest : List ℕ) → accepts step ends s (take n (c ∷ cs) ++ rest) ≡ true → ⊥
 stuck step ends s c cs e zero p rest a = omega (arith, p)
-stuck step ends s c cs e (suc n) p rest a = false_true (sym (ap (λ o. holds ends (then o (λ t. run step t (take n cs ++ rest)))) e) ∙ a)
+stuck step ends s c cs e (suc n) p rest a = false_true (sym (ap (λ o. holds ends (option_and_then (λ t. run step t (take n cs ++ rest)) o)) e) ∙ a)
 
 beyond : {S : Type 0} (step : S → ℕ → Option S) (ends : S → Bool) (s t : S) (c : ℕ) (cs : List ℕ) (m : ℕ) → step s c ≡ Some t → IsStop step ends t cs m
     → (n : ℕ) → suc m < n → n ≤ length (c ∷ cs) → (rest : List ℕ) → accepts step ends s (take n (c ∷ cs) ++ rest) ≡ true → ⊥
@@ -187,7 +188,7 @@ step_at step ends goes None s c cs k n e more h = record {
     more = (goes s).0;
     completes = (goes s).1;
     no_more = λ m p q rest a. stuck step ends s c cs e m p rest a;
-    refuses = λ a. false_true (sym (ap (λ o. holds ends (then o (λ t. run step t cs))) e) ∙ a);
+    refuses = λ a. false_true (sym (ap (λ o. holds ends (option_and_then (λ t. run step t cs) o)) e) ∙ a);
   };
 }
 step_at step ends goes (Some t) s c cs k n e more h =

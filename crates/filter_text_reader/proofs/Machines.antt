@@ -1,6 +1,7 @@
 -- Filter texts, scanning: what holds of every machine.
 use Rattle.std.proofs.Common.{◌≡◌, ℕ, List, [], ◌∷◌, ◌++◌, Bool, true, false, Option, None, Some, refl, sym, ap, ◌∙◌}
-use Rattle.filter_text_reader.specs.Machine.{then, holds, run, accepts, within}
+use Rattle.filter_text_reader.specs.Machine.{holds, run, accepts, within}
+use Rattle.std.specs.Option.{option_and_then}
 
 pub false_true : false ≡ true → ⊥
 false_true e = cc
@@ -13,18 +14,18 @@ some_same e = cc
 
 -- ---- texts one after the other
 
-run_then : {S : Type 0} (step : S → ℕ → Option S) (o : Option S) (a b : List ℕ) → ((s : S) → run step s (a ++ b) ≡ then (run step s a) (λ t. run step t b))
-    → then o (λ t. run step t (a ++ b)) ≡ then (then o (λ t. run step t a)) (λ t. run step t b)
+run_then : {S : Type 0} (step : S → ℕ → Option S) (o : Option S) (a b : List ℕ) → ((s : S) → run step s (a ++ b) ≡ option_and_then (λ t. run step t b) (run step s a))
+    → option_and_then (λ t. run step t (a ++ b)) o ≡ option_and_then (λ t. run step t b) (option_and_then (λ t. run step t a) o)
 run_then step None a b h = refl
 run_then step (Some s) a b h = h s
 
-pub run_append : {S : Type 0} (step : S → ℕ → Option S) (s : S) (a b : List ℕ) → run step s (a ++ b) ≡ then (run step s a) (λ t. run step t b)
+pub run_append : {S : Type 0} (step : S → ℕ → Option S) (s : S) (a b : List ℕ) → run step s (a ++ b) ≡ option_and_then (λ t. run step t b) (run step s a)
 run_append step s [] b = refl
 run_append step s (c ∷ cs) b = run_then step (step s c) cs b (λ t. run_append step t cs b)
 
 -- an octet and a text behind it
 pub one_step : {S : Type 0} (step : S → ℕ → Option S) (s t : S) (c : ℕ) (cs : List ℕ) → step s c ≡ Some t → run step s (c ∷ cs) ≡ run step t cs
-one_step step s t c cs e = ap (λ o. then o (λ u. run step u cs)) e
+one_step step s t c cs e = ap (λ o. option_and_then (λ u. run step u cs) o) e
 
 -- ---- a text that is accepted
 
@@ -45,7 +46,7 @@ takes step ends s text h = takes_at step ends s text (run step s text) refl h
 embed_at : {S T : Type 0} (sub : S → ℕ → Option S) (step : T → ℕ → Option T) (put : S → T) (out : S → ℕ → Option T)
     → (o : Option S) (s t : S) (c : ℕ) (cs x : List ℕ) → step (put s) c ≡ within put (out s c) o
     → ((u : S) → run sub u cs ≡ Some t → run step (put u) (cs ++ x) ≡ run step (put t) x)
-    → then o (λ u. run sub u cs) ≡ Some t → run step (put s) (c ∷ cs ++ x) ≡ run step (put t) x
+    → option_and_then (λ u. run sub u cs) o ≡ Some t → run step (put s) (c ∷ cs ++ x) ≡ run step (put t) x
 embed_at sub step put out None s t c cs x e h r = absurd (none_some r)
 embed_at sub step put out (Some u) s t c cs x e h r = one_step step (put s) (put u) c (cs ++ x) e ∙ h u r
 
@@ -68,7 +69,7 @@ pub record Cut {S T : Type 0} (sub : S → ℕ → Option S) (step : T → ℕ �
   pub accepted : accepts step ends after rest ≡ true
 
 cut_here : {S T : Type 0} (sub : S → ℕ → Option S) (step : T → ℕ → Option T) (ends : T → Bool) (out : S → ℕ → Option T)
-    → (o : Option T) (s : S) (c : ℕ) (cs : List ℕ) → out s c ≡ o → holds ends (then o (λ u. run step u cs)) ≡ true → Cut sub step ends out s (c ∷ cs)
+    → (o : Option T) (s : S) (c : ℕ) (cs : List ℕ) → out s c ≡ o → holds ends (option_and_then (λ u. run step u cs) o) ≡ true → Cut sub step ends out s (c ∷ cs)
 cut_here sub step ends out None s c cs e h = absurd (false_true h)
 cut_here sub step ends out (Some t) s c cs e h = record { front = []; next = c; rest = cs; place = s; after = t; parts = refl; ran = refl; left = e; accepted = h }
 
@@ -90,7 +91,7 @@ cut_at : {S T : Type 0} (sub : S → ℕ → Option S) (step : T → ℕ → Opt
     → (o : Option S) (s : S) (c : ℕ) (cs : List ℕ) → sub s c ≡ o → step (put s) c ≡ within put (out s c) o
     → ((u : S) → accepts step ends (put u) cs ≡ true → Cut sub step ends out u cs)
     → accepts step ends (put s) (c ∷ cs) ≡ true → Cut sub step ends out s (c ∷ cs)
-cut_at sub step ends put out None s c cs e f h a = cut_here sub step ends out (out s c) s c cs refl (sym (ap (λ o. holds ends (then o (λ u. run step u cs))) f) ∙ a)
+cut_at sub step ends put out None s c cs e f h a = cut_here sub step ends out (out s c) s c cs refl (sym (ap (λ o. holds ends (option_and_then (λ u. run step u cs) o)) f) ∙ a)
 cut_at sub step ends put out (Some u) s c cs e f h a = longer sub step ends out s u c cs e (h u (sym (ap (holds ends) (one_step step (put s) (put u) c cs f)) ∙ a))
 
 pub cut : {S T : Type 0} (sub : S → ℕ → Option S) (step : T → ℕ → Option T) (ends : T → Bool) (put : S → T) (out : S → ℕ → Option T)

@@ -3,7 +3,7 @@ use Rattle.std.proofs.Common.{◌≡◌, ℕ, List, [], ◌∷◌, Bool, true, f
 use Rattle.std.specs.List.{list_all, slice_split, onto_first}
 use Rattle.std.proofs.lemmas.Bool.{eqb-true}
 use Rattle.filter_text.specs.Descriptions.{is_key_octet, is_oid, is_option, is_description}
-use Rattle.filter_text_reader.specs.Machine.{then, holds, run, accepts, within}
+use Rattle.filter_text_reader.specs.Machine.{holds, run, accepts, within}
 use Rattle.filter_text_reader.specs.ItemScan.{oid_first, oid_step, oid_ends, name_step, name_ends}
 use Rattle.filter_text_reader.specs.declared.place.OidPlace.{OidPlace}
 use Rattle.filter_text_reader.specs.declared.place.OidPlace.TheVariants.{Letters, Zero, Number, Dot, DottedZero, DottedNumber}
@@ -12,9 +12,10 @@ use Rattle.filter_text_reader.specs.declared.place.NamePlace.TheVariants.{Oid, S
 use Rattle.filter_text_reader.proofs.Machines.{false_true, none_some, takes}
 use Rattle.filter_text_reader.proofs.Parts.{parts, onto, onto_never, parts_all, options, described, described_same, described_never, described_is}
 use Rattle.filter_text_reader.proofs.Oids.{ends_well, oid_same}
+use Rattle.std.specs.Option.{option_and_then}
 
 abbrev led : Option NamePlace → List ℕ → Bool
-led o cs = holds name_ends (then o (λ t. run name_step t cs))
+led o cs = holds name_ends (option_and_then (λ t. run name_step t cs) o)
 
 abbrev split : List ℕ → List (List ℕ)
 split cs = slice_split (λ c. nat_eq c 59) cs
@@ -72,7 +73,7 @@ no_out false cs = refl
 name_at : (r : Option OidPlace) (p : Bool) (o : OidPlace) (c : ℕ) (cs : List ℕ) → oid_step o c ≡ r → nat_eq c 59 ≡ p
     → ((u : OidPlace) → accepts name_step name_ends (Oid u) cs ≡ described (ends_well u) cs)
     → led (within Oid (cond (oid_ends o) (cond p (Some Semicolon) None) None) r) cs
-    ≡ cond p (oid_ends o && options cs) (described (λ x. holds oid_ends (then r (λ t. run oid_step t x))) cs)
+    ≡ cond p (oid_ends o && options cs) (described (λ x. holds oid_ends (option_and_then (λ t. run oid_step t x) r)) cs)
 name_at (Some u) true o c cs e p h = absurd (none_some (sym (no_semicolon o) ∙ ap (oid_step o) (sym (eqb-true c 59 p)) ∙ e))
 name_at (Some u) false o c cs e p h = h u
 name_at None true o c cs e p h = out_at (oid_ends o) cs
@@ -86,14 +87,14 @@ behind_oid o (c ∷ cs) = name_at (oid_step o c) (nat_eq c 59) o c cs refl refl 
 
 abbrev name_accepts : List ℕ → Bool
 name_accepts [] = false
-name_accepts (c ∷ cs) = holds name_ends (then (oid_first c) (λ o. run name_step (Oid o) cs))
+name_accepts (c ∷ cs) = holds name_ends (option_and_then (λ o. run name_step (Oid o) cs) (oid_first c))
 
 first_at : (r : Option OidPlace) (p : Bool) (c : ℕ) (cs : List ℕ) → oid_first c ≡ r → nat_eq c 59 ≡ p
-    → holds name_ends (then r (λ o. run name_step (Oid o) cs)) ≡ cond p (is_oid [] && options cs) (described (λ x. is_oid (c ∷ x)) cs)
+    → holds name_ends (option_and_then (λ o. run name_step (Oid o) cs) r) ≡ cond p (is_oid [] && options cs) (described (λ x. is_oid (c ∷ x)) cs)
 first_at (Some o) true c cs e p = absurd (none_some (ap oid_first (sym (eqb-true c 59 p)) ∙ e))
-first_at (Some o) false c cs e p = behind_oid o cs ∙ described_same (ends_well o) (λ x. is_oid (c ∷ x)) (λ x. sym (ap (λ r. holds oid_ends (then r (λ t. run oid_step t x))) e) ∙ oid_same (c ∷ x)) cs
+first_at (Some o) false c cs e p = behind_oid o cs ∙ described_same (ends_well o) (λ x. is_oid (c ∷ x)) (λ x. sym (ap (λ r. holds oid_ends (option_and_then (λ t. run oid_step t x) r)) e) ∙ oid_same (c ∷ x)) cs
 first_at None true c cs e p = refl
-first_at None false c cs e p = sym (described_never (λ x. is_oid (c ∷ x)) (λ x. sym (oid_same (c ∷ x)) ∙ ap (λ r. holds oid_ends (then r (λ t. run oid_step t x))) e) cs)
+first_at None false c cs e p = sym (described_never (λ x. is_oid (c ∷ x)) (λ x. sym (oid_same (c ∷ x)) ∙ ap (λ r. holds oid_ends (option_and_then (λ t. run oid_step t x) r)) e) cs)
 
 name_same : (d : List ℕ) → name_accepts d ≡ described is_oid d
 name_same [] = refl
@@ -111,7 +112,7 @@ pub record IsNameRun (d : List ℕ) : Type 0 where
   pub ran : run name_step (Oid first) tail ≡ Some place
   pub done : name_ends place ≡ true
 
-name_run_at : (o : Option OidPlace) (c : ℕ) (cs : List ℕ) → oid_first c ≡ o → holds name_ends (then o (λ u. run name_step (Oid u) cs)) ≡ true → IsNameRun (c ∷ cs)
+name_run_at : (o : Option OidPlace) (c : ℕ) (cs : List ℕ) → oid_first c ≡ o → holds name_ends (option_and_then (λ u. run name_step (Oid u) cs) o) ≡ true → IsNameRun (c ∷ cs)
 name_run_at None c cs e h = absurd (false_true h)
 name_run_at (Some o) c cs e h =
     let t = takes name_step name_ends (Oid o) cs h in
@@ -126,4 +127,4 @@ name_run d h = name_run_of d (name_same d ∙ described_is d ∙ h)
 
 pub is_name_run : (c : ℕ) (cs : List ℕ) (o : OidPlace) (n : NamePlace) → oid_first c ≡ Some o → run name_step (Oid o) cs ≡ Some n → name_ends n ≡ true → is_description (c ∷ cs) ≡ true
 is_name_run c cs o n e r d =
-    sym (name_same (c ∷ cs) ∙ described_is (c ∷ cs)) ∙ ap (λ x. holds name_ends (then x (λ u. run name_step (Oid u) cs))) e ∙ ap (holds name_ends) r ∙ d
+    sym (name_same (c ∷ cs) ∙ described_is (c ∷ cs)) ∙ ap (λ x. holds name_ends (option_and_then (λ u. run name_step (Oid u) cs) x)) e ∙ ap (holds name_ends) r ∙ d

@@ -5,13 +5,15 @@ use Rattle.std.proofs.lemmas.Bool.{eqb-true, eqb-false, lt-ltb, leb-true, le-leb
 use Rattle.filter_text.specs.ldap_syntax.Numbers.{is_digit, are_digits, is_number}
 use Rattle.filter_text.specs.ldap_syntax.Identifiers.{has_dot}
 use Rattle.filter_text.specs.Descriptions.{is_alpha, is_key_octet, is_oid}
-use Rattle.filter_text_reader.specs.Machine.{then, holds, run, accepts}
+use Rattle.filter_text_reader.specs.Machine.{holds, run, accepts}
 use Rattle.filter_text_reader.specs.ItemScan.{oid_first, oid_step, oid_ends}
 use Rattle.filter_text_reader.specs.declared.place.OidPlace.{OidPlace}
 use Rattle.filter_text_reader.specs.declared.place.OidPlace.TheVariants.{Letters, Zero, Number, Dot, DottedZero, DottedNumber}
 use Rattle.filter_text_reader.proofs.Booleans.{left, right, both, either}
 use Rattle.filter_text_reader.proofs.Machines.{false_true, takes}
 use Rattle.filter_text_reader.proofs.Parts.{parts, onto, onto_never, parts_all}
+use Rattle.filter_text.specs.ldap_syntax.Octets.{is_empty}
+use Rattle.std.specs.Option.{option_and_then}
 
 -- accepted from a place of an oid
 abbrev pub ends_well : OidPlace → List ℕ → Bool
@@ -19,14 +21,10 @@ ends_well o cs = accepts oid_step oid_ends o cs
 
 -- accepted from where an octet led
 abbrev led : Option OidPlace → List ℕ → Bool
-led o cs = holds oid_ends (then o (λ t. run oid_step t cs))
+led o cs = holds oid_ends (option_and_then (λ t. run oid_step t cs) o)
 
 abbrev split : List ℕ → List (List ℕ)
 split cs = slice_split (λ c. nat_eq c 46) cs
-
-abbrev is_nil : List ℕ → Bool
-is_nil [] = true
-is_nil (c ∷ cs) = false
 
 abbrev at_split : Bool → ℕ → List ℕ → List (List ℕ)
 at_split b c cs = cond b ([] ∷ split cs) (onto_first c (split cs))
@@ -54,7 +52,7 @@ above_zero c d e =
 
 -- ---- numbers
 
-zero_number : (x : List ℕ) → is_number (48 ∷ x) ≡ is_nil x
+zero_number : (x : List ℕ) → is_number (48 ∷ x) ≡ is_empty x
 zero_number [] = refl
 zero_number (c ∷ cs) = refl
 
@@ -85,19 +83,19 @@ no_digits c d x = ap (λ b. b && are_digits x) d
 -- ---- behind a dot
 
 dot_at : (z d p : Bool) (c : ℕ) (cs : List ℕ) → nat_eq c 48 ≡ z → is_digit c ≡ d → nat_eq c 46 ≡ p
-    → ends_well DottedZero cs ≡ parts is_nil is_number (split cs) → ends_well DottedNumber cs ≡ parts are_digits is_number (split cs)
+    → ends_well DottedZero cs ≡ parts is_empty is_number (split cs) → ends_well DottedNumber cs ≡ parts are_digits is_number (split cs)
     → led (cond z (Some DottedZero) (cond d (Some DottedNumber) None)) cs ≡ parts is_number is_number (at_split p c cs)
 dot_at true d true c cs z e p h k = absurd (false_true (sym (zero_digit c z) ∙ p))
-dot_at true d false c cs z e p h k = h ∙ sym (onto is_number is_nil is_number c (λ x. ap (λ b. is_number (b ∷ x)) (eqb-true c 48 z) ∙ zero_number x) (split cs))
+dot_at true d false c cs z e p h k = h ∙ sym (onto is_number is_empty is_number c (λ x. ap (λ b. is_number (b ∷ x)) (eqb-true c 48 z) ∙ zero_number x) (split cs))
 dot_at false true true c cs z e p h k = absurd (false_true (sym (no_digit c p) ∙ e))
 dot_at false true false c cs z e p h k = k ∙ sym (onto is_number are_digits is_number c (digits_number c e z) (split cs))
 dot_at false false true c cs z e p h k = refl
 dot_at false false false c cs z e p h k = sym (onto_never is_number is_number c (no_number c e) (split cs))
 
 zero_at : (p : Bool) (c : ℕ) (cs : List ℕ) → nat_eq c 46 ≡ p → ends_well Dot cs ≡ parts is_number is_number (split cs)
-    → led (cond p (Some Dot) None) cs ≡ parts is_nil is_number (at_split p c cs)
+    → led (cond p (Some Dot) None) cs ≡ parts is_empty is_number (at_split p c cs)
 zero_at true c cs p h = h ∙ parts_all is_number 46 cs
-zero_at false c cs p h = sym (onto_never is_nil is_number c (λ x. refl) (split cs))
+zero_at false c cs p h = sym (onto_never is_empty is_number c (λ x. refl) (split cs))
 
 number_at : (d p : Bool) (c : ℕ) (cs : List ℕ) → is_digit c ≡ d → nat_eq c 46 ≡ p → ends_well Dot cs ≡ parts is_number is_number (split cs)
     → ends_well DottedNumber cs ≡ parts are_digits is_number (split cs)
@@ -112,7 +110,7 @@ mutual
   behind_dot [] = refl
   behind_dot (c ∷ cs) = dot_at (nat_eq c 48) (is_digit c) (nat_eq c 46) c cs refl refl refl (behind_zero cs) (behind_digit cs)
 
-  behind_zero : (cs : List ℕ) → ends_well DottedZero cs ≡ parts is_nil is_number (split cs)
+  behind_zero : (cs : List ℕ) → ends_well DottedZero cs ≡ parts is_empty is_number (split cs)
   behind_zero [] = refl
   behind_zero (c ∷ cs) = zero_at (nat_eq c 46) c cs refl (behind_dot cs)
 
@@ -126,11 +124,11 @@ and_false : (b : Bool) → (b && false) ≡ false
 and_false true = refl
 and_false false = refl
 
-first_zero_at : (p : Bool) (c : ℕ) (cs : List ℕ) → nat_eq c 46 ≡ p → led (cond p (Some Dot) None) cs ≡ ((p || has_dot cs) && parts is_nil is_number (at_split p c cs))
+first_zero_at : (p : Bool) (c : ℕ) (cs : List ℕ) → nat_eq c 46 ≡ p → led (cond p (Some Dot) None) cs ≡ ((p || has_dot cs) && parts is_empty is_number (at_split p c cs))
 first_zero_at true c cs p = behind_dot cs ∙ parts_all is_number 46 cs
-first_zero_at false c cs p = sym (ap (λ b. has_dot cs && b) (onto_never is_nil is_number c (λ x. refl) (split cs)) ∙ and_false (has_dot cs))
+first_zero_at false c cs p = sym (ap (λ b. has_dot cs && b) (onto_never is_empty is_number c (λ x. refl) (split cs)) ∙ and_false (has_dot cs))
 
-first_zero : (cs : List ℕ) → ends_well Zero cs ≡ (has_dot cs && parts is_nil is_number (split cs))
+first_zero : (cs : List ℕ) → ends_well Zero cs ≡ (has_dot cs && parts is_empty is_number (split cs))
 first_zero [] = refl
 first_zero (c ∷ cs) = first_zero_at (nat_eq c 46) c cs refl
 

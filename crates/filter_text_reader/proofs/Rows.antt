@@ -1,6 +1,6 @@
 -- Filter texts, reading: filters round filters, and rows of them, as the reader reads them.
 use Rattle.std.proofs.Common.{◌≡◌, ℕ, suc, ◌+◌, ◌<◌, ◌≤◌, max, List, [], ◌∷◌, ◌++◌, map, Bool, true, false, not, Option, None, Some, nat_eq, refl, sym, ap, subst, ◌∙◌, arith}
-use Rattle.std.specs.Option.{option_map}
+use Rattle.std.specs.Option.{option_map, option_and_then}
 use Rattle.std.specs.List.{list_all}
 use Rattle.std.proofs.lemmas.List.{map_push}
 use Rattle.std.proofs.lemmas.Bool.{eqb-true}
@@ -12,7 +12,7 @@ use Rattle.filter_text.specs.Items.{IsItemText}
 use Rattle.filter_text.specs.Grammar.{HasFilter, HasFilters}
 use Rattle.filter_text.specs.declared.fault.FilterTextError.{FilterTextError}
 use Rattle.filter_text.specs.declared.fault.FilterTextError.TheVariants.{BadFilterText, TooDeep, TooManyItems, NoMemory}
-use Rattle.filter_text_reader.specs.Machine.{then, holds, run, accepts}
+use Rattle.filter_text_reader.specs.Machine.{holds, run, accepts}
 use Rattle.filter_text_reader.specs.ItemScan.{item_step, item_ends}
 use Rattle.filter_text_reader.specs.Cuts.{is_other, front, behind, begins_with, item_of}
 use Rattle.filter_text_reader.specs.Reads.{IsItemRead, PartFault, IsFrontRead, IsRowRead, IsFrontFault, IsRowFault}
@@ -33,7 +33,7 @@ tail_same e = cc
 -- ---- items: none begins as an `and`, an `or` or a `not`, and none has a `)`
 
 lacks_at : (b : Bool) (s : ItemPlace) (c : ℕ) (cs : List ℕ) (r : Option ItemPlace) → nat_eq c 41 ≡ b → item_step s c ≡ r
-    → ((t : ItemPlace) → accepts item_step item_ends t cs ≡ true → list_all (is_other 41) cs ≡ true) → holds item_ends (then r (λ t. run item_step t cs)) ≡ true → list_all (is_other 41) (c ∷ cs) ≡ true
+    → ((t : ItemPlace) → accepts item_step item_ends t cs ≡ true → list_all (is_other 41) cs ≡ true) → holds item_ends (option_and_then (λ t. run item_step t cs) r) ≡ true → list_all (is_other 41) (c ∷ cs) ≡ true
 lacks_at b s c cs None e f more h = absurd (false_true h)
 lacks_at true s c cs (Some t) e f more h = absurd (none_some (sym (no_close s) ∙ ap (item_step s) (sym (eqb-true c 41 e)) ∙ f))
 lacks_at false s c cs (Some t) e f more h = both (is_other 41 c) (list_all (is_other 41) cs) (ap not e) (more t h)
@@ -51,7 +51,7 @@ Opens c = item_step Start c ≡ None
 
 opens_at : (c : ℕ) (body x rest : List ℕ) → Opens c → accepts item_step item_ends Start body ≡ true → c ∷ x ≡ body ++ 41 ∷ rest → ⊥
 opens_at c [] x rest o h e = false_true h
-opens_at c (d ∷ ds) x rest o h e = false_true (sym (ap (λ r. holds item_ends (then r (λ t. run item_step t ds))) (ap (item_step Start) (sym (head_same e)) ∙ o)) ∙ h)
+opens_at c (d ∷ ds) x rest o h e = false_true (sym (ap (λ r. holds item_ends (option_and_then (λ t. run item_step t ds) r)) (ap (item_step Start) (sym (head_same e)) ∙ o)) ∙ h)
 
 pub no_item : (i : Item) (c : ℕ) (body x rest : List ℕ) → Opens c → IsItemText i body → c ∷ x ≡ body ++ 41 ∷ rest → ⊥
 no_item i c body x rest o p e = opens_at c body x rest o (item_runs i body p) e

@@ -1,10 +1,10 @@
 -- Filter texts, scanning: the machine of values accepts the texts that spell values, and the one of parts the parts between asterisks.
 use Rattle.std.proofs.Common.{◌≡◌, ◌≢◌, ℕ, List, [], ◌∷◌, ◌++◌, Bool, true, false, cond, Option, None, Some, nat_eq, refl, sym, ap, subst, ◌∙◌, ◌⊎◌, inl, inr, append-nil, append_assoc}
-use Rattle.std.specs.Option.{option_map, is_some}
+use Rattle.std.specs.Option.{option_map, is_some, option_and_then}
 use Rattle.std.proofs.lemmas.Bool.{eqb-true}
 use Rattle.filter_text.specs.Values.{is_normal, hex_digit, with_high, hex_octet, IsValue, nothing, normal, escaped}
 use Rattle.filter_text.specs.Items.{IsPart, IsPartOrNone, AreParts, Starred}
-use Rattle.filter_text_reader.specs.Machine.{then, holds, run, accepts}
+use Rattle.filter_text_reader.specs.Machine.{holds, run, accepts}
 use Rattle.filter_text_reader.specs.ItemScan.{is_hex, value_step, item_step, item_ends}
 use Rattle.filter_text_reader.specs.declared.place.ValuePlace.{ValuePlace}
 use Rattle.filter_text_reader.specs.declared.place.ValuePlace.TheVariants.{Between, Escape, Half}
@@ -117,7 +117,7 @@ three_octets : (h l : ℕ) (cs : List ℕ) → is_hex h ≡ true → is_hex l �
 three_octets h l cs e f s = let o = two_hex h l e f in (o.0 ∷ s.0, escaped h l o.0 o.1 s.1)
 
 abbrev pub taken : Option ItemPlace → List ℕ → Bool
-taken o cs = holds item_ends (then o (λ t. run item_step t cs))
+taken o cs = holds item_ends (option_and_then (λ t. run item_step t cs) o)
 
 plain_at : (b n : Bool) (c : ℕ) (cs : List ℕ) → nat_eq c 92 ≡ b → is_normal c ≡ n → (accepts item_step item_ends (Plain Between) cs ≡ true → Spelled cs)
     → (accepts item_step item_ends (Plain Escape) cs ≡ true → Spelled (92 ∷ cs))
@@ -127,12 +127,12 @@ plain_at false true c cs e f more escape h = one_octet c cs f (more h)
 plain_at false false c cs e f more escape h = absurd (false_true h)
 
 half_at : (b d : Bool) (h l : ℕ) (cs : List ℕ) → is_hex h ≡ b → is_hex l ≡ d → (accepts item_step item_ends (Plain Between) cs ≡ true → Spelled cs)
-    → holds item_ends (then (option_map Plain (cond b (Some Half) None)) (λ t. run item_step t (l ∷ cs))) ≡ true → Spelled (92 ∷ h ∷ l ∷ cs)
+    → holds item_ends (option_and_then (λ t. run item_step t (l ∷ cs)) (option_map Plain (cond b (Some Half) None))) ≡ true → Spelled (92 ∷ h ∷ l ∷ cs)
 half_at false d h l cs e f more a = absurd (false_true a)
 half_at true false h l cs e f more a = absurd (false_true (sym (ap (λ x. taken (option_map Plain (cond x (Some Between) None)) cs) f) ∙ a))
 half_at true true h l cs e f more a = three_octets h l cs e f (more (sym (ap (λ x. taken (option_map Plain (cond x (Some Between) None)) cs) f) ∙ a))
 
-escape_end_at : (b : Bool) → holds item_ends (then (option_map Plain (cond b (Some Half) None)) (λ t. run item_step t [])) ≡ true → ⊥
+escape_end_at : (b : Bool) → holds item_ends (option_and_then (λ t. run item_step t []) (option_map Plain (cond b (Some Half) None))) ≡ true → ⊥
 escape_end_at true h = false_true h
 escape_end_at false h = false_true h
 
@@ -206,12 +206,12 @@ part_at true c cs e star more h = at_star c cs e (star h)
 part_at false c cs e star more h = more h
 
 either_half_at : (b d : Bool) (h l : ℕ) (cs : List ℕ) → is_hex h ≡ b → is_hex l ≡ d → (accepts item_step item_ends (Part Between) cs ≡ true → Either cs)
-    → holds item_ends (then (option_map Part (cond b (Some Half) None)) (λ t. run item_step t (l ∷ cs))) ≡ true → Either (92 ∷ h ∷ l ∷ cs)
+    → holds item_ends (option_and_then (λ t. run item_step t (l ∷ cs)) (option_map Part (cond b (Some Half) None))) ≡ true → Either (92 ∷ h ∷ l ∷ cs)
 either_half_at false d h l cs e f more a = absurd (false_true a)
 either_half_at true false h l cs e f more a = absurd (false_true (sym (ap (λ x. part_taken (cond x (Some Between) None) cs) f) ∙ a))
 either_half_at true true h l cs e f more a = either_escape h l cs e f (more (sym (ap (λ x. part_taken (cond x (Some Between) None) cs) f) ∙ a))
 
-part_end_at : (b : Bool) → holds item_ends (then (option_map Part (cond b (Some Half) None)) (λ t. run item_step t [])) ≡ true → ⊥
+part_end_at : (b : Bool) → holds item_ends (option_and_then (λ t. run item_step t []) (option_map Part (cond b (Some Half) None))) ≡ true → ⊥
 part_end_at true h = false_true h
 part_end_at false h = false_true h
 

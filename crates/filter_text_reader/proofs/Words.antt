@@ -1,10 +1,10 @@
 -- Filter texts, scanning: the words behind colons, of which `dn` is one.
 use Rattle.std.proofs.Common.{◌≡◌, ℕ, ◌+◌, ◌<◌, List, [], ◌∷◌, Bool, true, false, cond, ◌&&◌, Option, None, Some, nat_eq, nat_lt, refl, sym, ap, ◌∙◌, ◌⊎◌, inl, inr, arith}
-use Rattle.std.specs.Option.{option_map}
+use Rattle.std.specs.Option.{option_map, option_and_then}
 use Rattle.std.specs.Char.{to_ascii_lowercase}
 use Rattle.std.proofs.lemmas.Bool.{eqb-true}
 use Rattle.filter_text.specs.Descriptions.{is_oid, is_dn}
-use Rattle.filter_text_reader.specs.Machine.{then, run, within}
+use Rattle.filter_text_reader.specs.Machine.{run, within}
 use Rattle.filter_text_reader.specs.ItemScan.{oid_step, word_first, word_step, rule_out, item_step}
 use Rattle.filter_text_reader.specs.declared.place.OidPlace.{OidPlace}
 use Rattle.filter_text_reader.specs.declared.place.Word.{Word}
@@ -114,7 +114,7 @@ rule_inside s c = within_rule (word_step s.0 c) (rule_out s.0 s.1 c) (oid_step s
 
 worded_at : (r : Option OidPlace) (w : Word) (o p : OidPlace) (c : ℕ) (cs : List ℕ)
     → ((u : OidPlace) → run oid_step u cs ≡ Some p → run word_oid (word_step w c, u) cs ≡ Some (words (word_step w c) cs, p))
-    → then r (λ u. run oid_step u cs) ≡ Some p → then (option_map (λ p. (word_step w c, p)) r) (λ t. run word_oid t cs) ≡ Some (words (word_step w c) cs, p)
+    → option_and_then (λ u. run oid_step u cs) r ≡ Some p → option_and_then (λ t. run word_oid t cs) (option_map (λ p. (word_step w c, p)) r) ≡ Some (words (word_step w c) cs, p)
 worded_at None w o p c cs h e = absurd (none_some e)
 worded_at (Some u) w o p c cs h e = h u e
 
@@ -128,7 +128,7 @@ Unworded w o t cs = (run oid_step o cs ≡ Some t.1) × (t.0 ≡ words w cs)
 
 unworded_at : (r : Option OidPlace) (w : Word) (o : OidPlace) (t : Worded) (c : ℕ) (cs : List ℕ)
     → ((u : OidPlace) → run word_oid (word_step w c, u) cs ≡ Some t → Unworded (word_step w c) u t cs)
-    → then (option_map (λ p. (word_step w c, p)) r) (λ s. run word_oid s cs) ≡ Some t → (then r (λ u. run oid_step u cs) ≡ Some t.1) × (t.0 ≡ words (word_step w c) cs)
+    → option_and_then (λ s. run word_oid s cs) (option_map (λ p. (word_step w c, p)) r) ≡ Some t → (option_and_then (λ u. run oid_step u cs) r ≡ Some t.1) × (t.0 ≡ words (word_step w c) cs)
 unworded_at None w o t c cs h e = absurd (none_some e)
 unworded_at (Some u) w o t c cs h e = h u e
 

@@ -3,11 +3,11 @@
 -- Not here: whether it does, which the scanner finds.
 use Rattle.std.specs.Prelude.{ℕ, List, [], ◌∷◌, ◌++◌, take, drop, Bool, true, false, not, cond, ◌&&◌, ◌||◌, Option, None, Some, nat_eq}
 use Rattle.std.specs.List.{prefix_len, slice_split}
-use Rattle.std.specs.Option.{option_map}
+use Rattle.std.specs.Option.{option_map, option_and_then}
 use Rattle.filter_text.specs.ldap_filter.Item.{Comparison, equal, at_least, at_most, approximate, Item, comparison, substrings, presence, extensible}
 use Rattle.filter_text.specs.Descriptions.{is_key_octet, is_dn}
-use Rattle.filter_text_reader.specs.Machine.{then}
 use Rattle.filter_text_reader.specs.Scanned.{value_of}
+pub use Rattle.filter_text.specs.ldap_syntax.Octets.{begins_with, is_empty}
 
 -- an octet that a description or a rule may have
 abbrev pub is_name_octet : ℕ → Bool
@@ -29,16 +29,6 @@ behind p text = drop (prefix_len p text) text
 abbrev pub tail : List ℕ → List ℕ
 tail [] = []
 tail (c ∷ cs) = cs
-
--- this octet is the first
-abbrev pub begins_with : ℕ → List ℕ → Bool
-begins_with k [] = false
-begins_with k (c ∷ cs) = nat_eq c k
-
--- there are no octets
-abbrev pub is_nil : List ℕ → Bool
-is_nil [] = true
-is_nil (c ∷ cs) = false
 
 -- ---- a description, an operator and a value
 
@@ -66,7 +56,7 @@ pub record Parts : Type 0 where
 abbrev pub spread : List (List ℕ) → List (List ℕ) → Option Parts
 spread any [] = None
 spread any (s ∷ []) = option_map (λ l. record { any = any; last = l }) (part_of s)
-spread any (s ∷ t ∷ ss) = then (value_of s) (λ v. spread (any ++ v ∷ []) (t ∷ ss))
+spread any (s ∷ t ∷ ss) = option_and_then (λ v. spread (any ++ v ∷ []) (t ∷ ss)) (value_of s)
 
 -- the parts behind an asterisk
 abbrev pub parts_of : List ℕ → Option Parts
@@ -79,11 +69,11 @@ substrings_of d i o =
 
 -- an asterisk between two texts
 abbrev pub starred : List ℕ → List ℕ → List ℕ → Option Item
-starred d f b = cond (is_nil f && is_nil b) (Some (presence d)) (then (part_of f) (λ i. substrings_of d i (parts_of b)))
+starred d f b = cond (is_empty f && is_empty b) (Some (presence d)) (option_and_then (λ i. substrings_of d i (parts_of b)) (part_of f))
 
 -- a text up to its first asterisk, and from there
 abbrev pub equal_or_starred : List ℕ → List ℕ → List ℕ → List ℕ → Option Item
-equal_or_starred d x f b = cond (is_nil b) (option_map (comparison equal d) (value_of x)) (starred d f (tail b))
+equal_or_starred d x f b = cond (is_empty b) (option_map (comparison equal d) (value_of x)) (starred d f (tail b))
 
 -- a description, and what stands behind `=`
 abbrev pub equality : List ℕ → List ℕ → Option Item
@@ -125,7 +115,7 @@ extensible_with d a =
 
 -- a description, and what stands behind the colon
 abbrev pub extensible_of : List ℕ → List ℕ → Option Item
-extensible_of d x = extensible_with d (applied (not (is_nil d)) x)
+extensible_of d x = extensible_with d (applied (not (is_empty d)) x)
 
 -- ---- items
 

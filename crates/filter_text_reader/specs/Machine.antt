@@ -1,11 +1,7 @@
 -- Filter texts, scanning: machines that take a text octet by octet.
 -- In: a machine, a place of it and a text. Out: its place behind the text, or where it stops. Not here: which machines.
 use Rattle.std.specs.Prelude.{ℕ, ◌+◌, List, [], ◌∷◌, Bool, false, cond, Option, None, Some}
-
--- one step that may fail, and another behind it
-abbrev pub then : {S T : Type 0} → Option S → (S → Option T) → Option T
-then None f = None
-then (Some s) f = f s
+use Rattle.std.specs.Option.{option_and_then}
 
 -- something is there, and passes
 abbrev pub holds : {S : Type 0} → (S → Bool) → Option S → Bool
@@ -15,7 +11,7 @@ holds p (Some s) = p s
 -- the place behind a text, unless an octet stops the machine
 abbrev pub run : {S : Type 0} → (S → ℕ → Option S) → S → List ℕ → Option S
 run step s [] = Some s
-run step s (c ∷ cs) = then (step s c) (λ t. run step t cs)
+run step s (c ∷ cs) = option_and_then (λ t. run step t cs) (step s c)
 
 -- a text after which the machine may end
 abbrev pub accepts : {S : Type 0} → (S → ℕ → Option S) → (S → Bool) → S → List ℕ → Bool

@@ -93,7 +93,7 @@ pub fn behind(octet: u8, text: &[u8]) -> Option<&[u8]>
 
 /// Whether there are no octets.
 pub fn is_nil(text: &[u8]) -> bool
-    ensures { result ≡ cuts.is_nil text.now }
+    ensures { result ≡ cuts.is_empty text.now }
 {
     match text {
         [] => true,

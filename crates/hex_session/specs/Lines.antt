@@ -2,12 +2,11 @@
 -- What a message means is not here.
 use Rattle.std.specs.Prelude.{◌≡◌, ℕ, zero, suc, List, [], ◌∷◌, ◌++◌, true, false, Ok, Option, None, Some}
 use Rattle.std.specs.Io.BufRead.{take_through, drop_through, strip_last}
-use Rattle.hex.specs.Hex.{decode_of, encode_lower}
-use Rattle.ldap_session.specs.ldap_msg.Messages.{MessageValue}
-use Rattle.ldap_session.specs.ldap_msg.Written.{message_bytes}
+use Rattle.hex.specs.Hex.{decode_of}
 use Rattle.hex_session.specs.declared.line.Line.{Line}
 use Rattle.hex_session.specs.declared.line.Line.TheVariants.{End, Blank, Piece}
 pub use Rattle.ldap_session.specs.Octets.{is_empty}
+pub use Rattle.ldap_session.specs.ldap_msg.HexLines.{hex_line, message_lines}
 
 -- the first line, without its end of LF or CRLF
 abbrev pub first_line : List ℕ → List ℕ
@@ -50,16 +49,7 @@ pub data Spell : List ℕ → List (List ℕ) → List ℕ → Type 0 where
   spells : {xs rest : List ℕ} {ms : List (List ℕ)} (m : List ℕ) → is_empty (first_line xs) ≡ false → decode_of (first_line xs) ≡ Ok m → Spell (after_line xs) ms rest →
       Spell xs (m ∷ ms) rest
 
--- octets as a line of lower-case hex
-abbrev pub hex_line : List ℕ → List ℕ
-hex_line octets = encode_lower octets ++ 10 ∷ []
-
 -- octets, each as a line
 abbrev pub hex_lines : List (List ℕ) → List ℕ
 hex_lines [] = []
 hex_lines (o ∷ os) = hex_line o ++ hex_lines os
-
--- messages written, each as a line
-abbrev pub message_lines : List MessageValue → List ℕ
-message_lines [] = []
-message_lines (m ∷ ms) = hex_line (message_bytes m) ++ message_lines ms

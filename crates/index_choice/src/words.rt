@@ -7,6 +7,7 @@ ghost use Rattle.schema_text.specs.Words as words;
 ghost use Rattle.index_choice.specs.Texts.{is_kind as is_kind_word, has_word as has_some_word, kinds_named, are_kinds as are_kind_words, is_head as is_line_head, without_colon as less_colon};
 
 use crate::kinds::Kinds;
+use schema_text::is_number;
 use std::alloc::{AllocError, Global};
 
 /// Whether the octet is a letter.
@@ -44,25 +45,6 @@ fn is_descr(word: &[u8]) -> bool
     match word {
         [] => false,
         [first, rest @ ..] => is_alpha(*first) && are_key_octets(rest),
-    }
-}
-
-/// Whether the octets are digits.
-fn are_digits(octets: &[u8]) -> bool
-    ensures { result ≡ list_all words.is_digit octets.now }
-{
-    octets.iter().all(|octet| is_digit(*octet))
-}
-
-/// Whether the word is a number without leading zeros.
-fn is_number(word: &[u8]) -> bool
-    ensures { result ≡ words.is_number word.now }
-{
-    match word {
-        [] => false,
-        [first, rest @ ..] => {
-            is_digit(*first) && are_digits(rest) && (rest.len() == 0 || !(*first == b'0'))
-        }
     }
 }
 

@@ -1,33 +1,12 @@
 -- Lab scripts: words of lines. In: the octets of a line, without its end. Out: its words, and the numbers at its front.
 -- Nothing of what a word asks for is here.
-use Rattle.std.specs.Prelude.{ℕ, ◌+◌, ◌*◌, ◌-◌, ◌==◌, ◌&&◌, Bool, cond, nat_le, List, [], ◌∷◌, Option, Some, None, option_map, option_and_then, codes, bytes_eq}
+use Rattle.std.specs.Prelude.{ℕ, ◌==◌, cond, List, Option, Some, None, option_map, codes, bytes_eq}
 use Rattle.std.specs.List.{slice_split}
 use Rattle.script_texts.specs.Cuts.{Cut, cut}
 use Rattle.script_texts.specs.Each.{all_of}
 use Rattle.lab_script.specs.declared.token.Token.{Token}
 use Rattle.lab_script.specs.declared.token.Token.TheVariants.{Replicas, Deliver, Suspect, Beat, Crash, Recover, State, Number}
-
--- The greatest number of a script.
-abbrev pub greatest : ℕ
-greatest = 9223372036854775807
-
--- A decimal digit.
-abbrev pub is_digit : ℕ → Bool
-is_digit b = nat_le 48 b && nat_le b 57
-
--- The number n with one more digit, if that is one and the number isn't above the greatest.
-abbrev pub with_digit : ℕ → ℕ → Option ℕ
-with_digit n b = cond (is_digit b && nat_le (10 * n + (b - 48)) greatest) (Some (10 * n + (b - 48))) None
-
--- The number that these digits write after those of n, if there is one.
-abbrev pub number_after : Option ℕ → List ℕ → Option ℕ
-number_after n [] = n
-number_after n (b ∷ bs) = number_after (option_and_then (λ k. with_digit k b) n) bs
-
--- The number that a word writes: one decimal digit or more.
-abbrev pub number_of : List ℕ → Option ℕ
-number_of [] = None
-number_of (b ∷ bs) = number_after (Some 0) (b ∷ bs)
+pub use Rattle.script_texts.specs.ldap_syntax.Numbers.{greatest, with_digit, number_after, number_of_digits}
 
 -- What a word says: one of these seven, or a number.
 abbrev pub token_of : List ℕ → Option Token
@@ -39,7 +18,7 @@ token_of w =
     (cond (bytes_eq w (codes "crash")) (Some Crash)
     (cond (bytes_eq w (codes "recover")) (Some Recover)
     (cond (bytes_eq w (codes "state")) (Some State)
-    (option_map Number (number_of w))))))))
+    (option_map Number (number_of_digits w))))))))
 
 -- What these words say, if each says something.
 abbrev pub tokens_of : List (List ℕ) → Option (List Token)
@@ -57,7 +36,7 @@ pub record Numbered : Type 0 where
 -- the number of a text that is cut at its first space
 abbrev pub numbered : Option Cut → Option Numbered
 numbered None = None
-numbered (Some k) = option_map (λ n. record { number = n; rest = k.behind }) (number_of k.front)
+numbered (Some k) = option_map (λ n. record { number = n; rest = k.behind }) (number_of_digits k.front)
 
 -- The number that a text's first word writes, and the rest behind one space, where there is a space.
 abbrev pub number_then : List ℕ → Option Numbered

@@ -3,7 +3,7 @@
 // What a line of them means isn't here.
 
 ghost use Rattle.std.specs.Prelude.{◌≡◌, ◌==◌, ◌≤◌, bytes_eq, map, IfOk, IfSome};
-ghost use Rattle.lab_script.specs.Words.{greatest, number_of, token_of, with_digit, words_of};
+ghost use Rattle.lab_script.specs.Words.{greatest, number_of_digits, token_of, with_digit, words_of};
 
 use std::alloc::{AllocError, Global};
 
@@ -63,7 +63,7 @@ pub fn is_text(word: &[u8], text: &[u8]) -> bool
 #[tactic(auto, using(crate::proofs::Numbers::digit_more, crate::proofs::Numbers::number_is))]
 /// The number that a word writes: decimal digits up to 9223372036854775807.
 pub fn number_of(word: &[u8]) -> Option<u64>
-    ensures { result ≡ number_of word.now }
+    ensures { result ≡ number_of_digits word.now }
 {
     if word.is_empty() {
         return None;

@@ -5,3 +5,4 @@ pub mod Parted
 pub mod NameTexts
 pub mod Rising
 pub mod KeysTold
+pub use Rattle.ldap_schema.proofs.ldap_syntax as ldap_syntax

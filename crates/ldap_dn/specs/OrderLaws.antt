@@ -8,7 +8,7 @@ use Rattle.std.specs.Cmp.Lexicographic.{slice_cmp, nat_list_cmp_total, lists_tot
 use Rattle.ldap_dn.specs.Names.{TypeAndKey, RdnModel, are_same_keys}
 use Rattle.ldap_dn.specs.Ordered.{key_order, rdn_order}
 
-is_eq-then : (a b : Ordering) → is_eq (ordering_then a b) ≡ is_eq a && is_eq b
+pub is_eq-then : (a b : Ordering) → is_eq (ordering_then a b) ≡ is_eq a && is_eq b
 is_eq-then a b = elim a as (λ v. is_eq (ordering_then v b) ≡ is_eq v && is_eq b) [ Ordering.Less ↦ refl | Ordering.Equal ↦ refl | Ordering.Greater ↦ refl ]
 
 pub key_total : IsTotalOrder key_order
@@ -33,7 +33,7 @@ pub rdn_ties : (a b : RdnModel) → are_same_keys a.keys b.keys ≡ is_eq (rdn_o
 rdn_ties a b = keys_ties a.keys b.keys
 
 -- an equality that is where the order says so is an equivalence
-tied : {K : Type 0} {R : K → K → Ordering} (E : K → K → Bool) → ((x y : K) → E x y ≡ is_eq (R x y)) → IsTotalOrder R → IsEquivalence E
+pub tied : {K : Type 0} {R : K → K → Ordering} (E : K → K → Bool) → ((x y : K) → E x y ≡ is_eq (R x y)) → IsTotalOrder R → IsEquivalence E
 tied {K} {R} E h t =
     let e : IsEquivalence (eq_by_cmp R) = eq_by_cmp_equiv t in
     record { refl = λ x. h x x ∙ e.refl x; symm = λ x y. h x y ∙ e.symm x y ∙ sym (h y x); congr = λ x y z g. h x z ∙ e.congr x y z (sym (h x y) ∙ g) ∙ sym (h y z) }

@@ -1,34 +1,16 @@
 -- The octets of a name's text, each plain or escaped: RFC 4514 3. Octets flow in, tokens flow out; separators, types and
 -- values are not here.
-use Rattle.std.specs.Prelude.{ℕ, ◌+◌, ◌-◌, ◌*◌, List, length, take, drop, Bool, true, false, cond, ◌&&◌, ◌||◌, Option, None, Some, nat_eq, nat_le}
+use Rattle.std.specs.Prelude.{ℕ, ◌-◌, List, length, take, drop, Bool, true, false, ◌||◌, nat_eq}
 use Rattle.std.specs.List.{prefix_len, suffix_len}
 use Rattle.ldap_dn.specs.declared.token.Token.{Token}
 use Rattle.ldap_dn.specs.declared.token.Token.TheVariants.{Plain, Escaped}
+pub use Rattle.ldap_schema.specs.ldap_syntax.Hexadecimal.{hex_digit, with_low, with_high, hex_octet}
 
 -- the octets that a backslash may stand before: `"`, `+`, `,`, `;`, `<`, `>`, backslash and NUL, and SPACE, `#` and `=`
 abbrev pub is_escapable : ℕ → Bool
 is_escapable c =
     nat_eq c 34 || nat_eq c 43 || nat_eq c 44 || nat_eq c 59 || nat_eq c 60 || nat_eq c 62 || nat_eq c 92 || nat_eq c 0
     || nat_eq c 32 || nat_eq c 35 || nat_eq c 61
-
--- the value of a hexadecimal digit in either case (RFC 4512 1.4, HEX)
-abbrev pub hex_digit : ℕ → Option ℕ
-hex_digit c =
-    cond (nat_le 48 c && nat_le c 57) (Some (c - 48))
-    (cond (nat_le 65 c && nat_le c 70) (Some (c - 55))
-    (cond (nat_le 97 c && nat_le c 102) (Some (c - 87)) None))
-
-abbrev pub with_low : ℕ → Option ℕ → Option ℕ
-with_low h None = None
-with_low h (Some l) = Some (h * 16 + l)
-
-abbrev pub with_high : Option ℕ → Option ℕ → Option ℕ
-with_high None low = None
-with_high (Some h) low = with_low h low
-
--- the octet that two hexadecimal digits spell
-abbrev pub hex_octet : ℕ → ℕ → Option ℕ
-hex_octet h l = with_high (hex_digit h) (hex_digit l)
 
 -- the octet of a token
 abbrev pub octet_of : Token → ℕ

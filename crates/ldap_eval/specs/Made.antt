@@ -14,6 +14,7 @@ use Rattle.ldap_eval.specs.Value.{asked_by, parts_of, how_of, type_of, is_matche
 use Rattle.ldap_eval.specs.Bound.{leaves_for, matches_with, IsBoundTo}
 use Rattle.ldap_eval.specs.declared.bound.BoundFilter.{BoundFilter}
 use Rattle.ldap_eval.specs.declared.bound.BoundFilter.TheVariants as bound
+use Rattle.std.specs.Option.{option_flatten}
 
 -- an `and` of bound filters, of which this holds
 pub record IsAndOf (P : List BoundFilter → Type 0) (b : BoundFilter) : Type 0 where
@@ -58,10 +59,6 @@ pub record IsMatchOn (s : SchemaModel) (h : How) (t : Option ℕ) (a : List ℕ)
   pub matched : is_matched s h t a ≡ true → IsOrOf (λ bs. bs ≡ matches_with s h t a dn) b
   pub unmatched : is_matched s h t a ≡ false → b ≡ bound.Undefined
 
-abbrev pub own_type : Option (Option ℕ) → Option ℕ
-own_type None = None
-own_type (Some t) = t
-
 abbrev pub IsMatchFor : SchemaModel → ExtensibleValue → Option How → Option (Option ℕ) → BoundFilter → Type 0
 IsMatchFor s x None t b = b ≡ bound.Undefined
 IsMatchFor s x (Some h) None b = b ≡ bound.Undefined
@@ -69,7 +66,7 @@ IsMatchFor s x (Some h) (Some t) b = IsMatchOn s h t x.match_value x.dn_attribut
 
 -- an extensible item: the equality item that it is, else its matches
 pub record IsExtensible (s : SchemaModel) (x : ExtensibleValue) (h : Option How) (t : Option (Option ℕ)) (b : BoundFilter) : Type 0 where
-  pub equality : is_equality_item s x h t ≡ true → IsItemFor s (equal x.match_value) (own_type t) b
+  pub equality : is_equality_item s x h t ≡ true → IsItemFor s (equal x.match_value) (option_flatten t) b
   pub residual : is_equality_item s x h t ≡ false → IsMatchFor s x h t b
 
 -- an item of a filter

@@ -12,7 +12,7 @@ use Rattle.ldap_dn.specs.ldap_syntax.Meaning as syntax_meaning
 use Rattle.ldap_dn.specs.ldap_syntax.Meaning.{Meaning, number, text, truth, octets, identifier, name, is_before, part_meaning, IsLessMeaning}
 use Rattle.ldap_dn.specs.ldap_syntax.Parts.{HasParts, MeaningHasParts}
 use Rattle.ldap_dn.specs.ldap_syntax.Keys as syntax_keys
-use Rattle.ldap_dn.specs.ldap_syntax.Keys.{text_key, KeysArePresentAsMeanings, KeysAreEqualAsMeanings, KeysAreOrderedAsMeanings, PartsStandAsMeanings}
+use Rattle.ldap_dn.specs.ldap_syntax.Keys.{KeysArePresentAsMeanings, KeysAreEqualAsMeanings, KeysAreOrderedAsMeanings, PartsStandAsMeanings}
 use Rattle.ldap_dn.specs.ldap_syntax.declared.preparing.Part.TheVariants.{Initial, Any, Final}
 use Rattle.ldap_dn.specs.ldap_syntax.declared.rule.Family.{Family}
 use Rattle.ldap_dn.specs.ldap_syntax.declared.rule.Family.TheVariants as family
@@ -30,6 +30,7 @@ use Rattle.ldap_match.specs.declared.testing.Test.TheVariants as test
 use Rattle.ldap_match.specs.Keyed.{key_at, key_by, part_keys_at, test_of, test_by_rule, test_for, test_value, is_same_key, is_key_at_least, is_key_at_most, AreKeysBy, AreKeysOf}
 use Rattle.ldap_match.proofs.Decided.{parts_decides}
 use Rattle.ldap_match.proofs.Named.{names_decide, named_some, named_equal}
+use Rattle.ldap_dn.specs.ldap_syntax.Octets.{utf8_of}
 
 -- whether meanings are equal, decided
 pub equal_decides : (m n : Meaning) → Decides (is_equal_meaning m n) (m ≡ n)
@@ -146,7 +147,7 @@ pub record KeyLaws : Type 0 where
 
 -- the keys of parts that were prepared
 abbrev pub keyed_parts : PartsModel → PartsModel
-keyed_parts p = record { initial = text_key p.initial; any = map encode_utf8_all p.any; last = text_key p.last }
+keyed_parts p = record { initial = utf8_of p.initial; any = map encode_utf8_all p.any; last = utf8_of p.last }
 
 -- the laws of keys, where a schema is known
 pub record KeysMean (s : SchemaModel) (r : Rule) : Type 0 where
@@ -341,7 +342,7 @@ by_at_most s t (Some r) a values keys h q e =
 -- the keys of parts are the keys of prepared parts
 abbrev pub keyed_end : Option (Option (List ℕ)) → Option (Option (List ℕ))
 keyed_end None = None
-keyed_end (Some i) = Some (text_key i)
+keyed_end (Some i) = Some (utf8_of i)
 
 abbrev pub keyed_each : Option (List (List ℕ)) → Option (List (List ℕ))
 keyed_each None = None
@@ -351,22 +352,22 @@ abbrev pub keyed_all : Option PartsModel → Option PartsModel
 keyed_all None = None
 keyed_all (Some p) = Some (keyed_parts p)
 
-keyed_some : (o : Option (List ℕ)) → some_of (text_key o) ≡ keyed_end (some_of o)
+keyed_some : (o : Option (List ℕ)) → some_of (utf8_of o) ≡ keyed_end (some_of o)
 keyed_some None = refl
 keyed_some (Some t) = refl
 
-ends_keyed : (g : List ℕ → Option (List ℕ)) (o : Option (List ℕ)) → end_by (λ v. text_key (g v)) o ≡ keyed_end (end_by g o)
+ends_keyed : (g : List ℕ → Option (List ℕ)) (o : Option (List ℕ)) → end_by (λ v. utf8_of (g v)) o ≡ keyed_end (end_by g o)
 ends_keyed g None = refl
 ends_keyed g (Some v) = keyed_some (g v)
 
-keyed_before : (o : Option (List ℕ)) (os : Option (List (List ℕ))) → put_before (text_key o) (keyed_each os) ≡ keyed_each (put_before o os)
+keyed_before : (o : Option (List ℕ)) (os : Option (List (List ℕ))) → put_before (utf8_of o) (keyed_each os) ≡ keyed_each (put_before o os)
 keyed_before None os = refl
 keyed_before (Some t) None = refl
 keyed_before (Some t) (Some ts) = refl
 
-each_keyed : (g : List ℕ → Option (List ℕ)) (vs : List (List ℕ)) → each_by (λ v. text_key (g v)) vs ≡ keyed_each (each_by g vs)
+each_keyed : (g : List ℕ → Option (List ℕ)) (vs : List (List ℕ)) → each_by (λ v. utf8_of (g v)) vs ≡ keyed_each (each_by g vs)
 each_keyed g [] = refl
-each_keyed g (v ∷ vs) = ap (put_before (text_key (g v))) (each_keyed g vs) ∙ keyed_before (g v) (each_by g vs)
+each_keyed g (v ∷ vs) = ap (put_before (utf8_of (g v))) (each_keyed g vs) ∙ keyed_before (g v) (each_by g vs)
 
 three_keyed : (i : Option (Option (List ℕ))) (a : Option (List (List ℕ))) (l : Option (Option (List ℕ))) → three_parts (keyed_end i) (keyed_each a) (keyed_end l) ≡ keyed_all (three_parts i a l)
 three_keyed None a l = refl

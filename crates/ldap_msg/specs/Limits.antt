@@ -1,6 +1,6 @@
 -- Wire, messages: where a filter stands in a message, and what each fault says of the octets.
 -- In: octets. Out: what a fault means, and which values are within the limits. Not here: the grammar.
-use Rattle.std.specs.Prelude.{◌^◌, ◌<◌, ◌≤◌, ℕ, List, [], length}
+use Rattle.std.specs.Prelude.{◌^◌, ◌<◌, ◌≤◌, ◌⊎◌, ℕ, List, [], ◌∷◌, length}
 use Rattle.ldap_requests.specs.ldap_fields.declared.fault.MsgFault.{MsgFault}
 use Rattle.ldap_requests.specs.ldap_fields.declared.fault.MsgFault.TheVariants.{TooLarge, NotAMessage, TooDeep, TooManyItems, NoMemory}
 use Rattle.ldap_requests.specs.ldap_fields.Fields.{HasField, HasNumber}
@@ -9,6 +9,7 @@ use Rattle.ldap_requests.specs.ldap_filter.Limits.{Opens}
 use Rattle.ldap_msg.specs.Messages.{search, RequestValue, OperationValue, request, response, MessageValue}
 use Rattle.ldap_msg.specs.Grammar.{IsMessage}
 use Rattle.ldap_requests.specs.Limits.{FilterStandsAt}
+use Rattle.ldap_msg.specs.Written.{message_content}
 
 -- In the place of an operation a search request stands, and its filter's place is this one.
 pub record OperationHasFilterAt (octets place : List ℕ) : Type 0 where
@@ -47,3 +48,8 @@ IsRequestWithin other = Unit {0}
 abbrev pub IsWithin : OperationValue → Type 0
 IsWithin (request r) = IsRequestWithin r
 IsWithin (response r) = Unit {0}
+
+-- some message has a content that no length of at most four octets can say
+abbrev pub HasTooLong : List MessageValue → Type 0
+HasTooLong [] = ⊥
+HasTooLong (m ∷ ms) = (2 ^ 32 ≤ length (message_content m)) ⊎ HasTooLong ms

@@ -1,25 +1,20 @@
 -- What halving finds among names in order, and what is added there.
-use Rattle.std.proofs.Common.{ℕ, zero, suc, ◌+◌, ◌<◌, ◌≤◌, List, [], ◌∷◌, ◌++◌, Bool, true, false, cond, Option, None, Some, ◌≡◌, refl, ap, sym, subst, ◌∙◌, length, get_or, take, drop, map, ◌⊎◌, inl, inr, arith}
+use Rattle.std.proofs.Common.{ℕ, zero, suc, ◌+◌, ◌<◌, ◌≤◌, List, [], ◌∷◌, ◌++◌, Bool, true, false, cond, Option, None, Some, ◌≡◌, refl, ap, sym, subst, ◌∙◌, length, get_or, take, drop, ◌⊎◌, inl, inr, arith}
 use Rattle.std.specs.List.{AllByRecursion, insert}
 use Rattle.std.specs.List.Sorted.{IsNonDecreasingBy, IsPartitionPoint}
-use Rattle.std.specs.Ordering.{ordering_index, is_lt, is_eq, ordering_reverse}
+use Rattle.std.specs.Ordering.{ordering_index, is_lt}
 use Rattle.std.specs.declared.cmp.Ordering.TheVariants.{Less, Equal, Greater}
 use Rattle.std.specs.Str.{bytes_eq}
 use Rattle.std.proofs.lemmas.Slice.Eq.{bytes_eq-Decides}
 use Rattle.std.proofs.lemmas.Bool.{cases_lt}
-use Rattle.std.proofs.lemmas.Cmp.{nat_list_cmp_total, nat_list_eq_equiv, alike_right, tied_back}
+use Rattle.std.proofs.lemmas.Cmp.{nat_list_cmp_total, nat_list_eq_equiv, alike_right}
 use Rattle.std.proofs.lemmas.List.Sorted.{searchable_from_sorted}
 use Rattle.std.proofs.lemmas.Map.{NonePasses, lookup-none, lookup-insert}
-use Rattle.std.proofs.lemmas.Map.Text.{is_eq-slice_cmp}
 use Rattle.ldap_schema.specs.NameOrder.{order, number_at, kept_or, IsBefore, IsInOrder}
+pub use Rattle.ldap_syntax.proofs.OctetOrder.{all_at, turned, turned_back, same_is, other_is, above_is, longer}
 
 abbrev pub Entries : Type 0
 Entries = List (List ℕ × ℕ)
-
-all_at : {X : Type 0} (P : X → Type 0) (xs : List X) (j : ℕ) (d : X) → j < length xs → AllByRecursion P xs → P (get_or xs j d)
-all_at P [] j d lt h = absurd (omega (arith, lt))
-all_at P (x ∷ xs) zero d lt h = h.0
-all_at P (x ∷ xs) (suc j) d lt h = all_at P xs j d (omega (arith, lt)) h.1
 
 far : (es : Entries) → IsInOrder es → (i j : ℕ) (d : List ℕ × ℕ) → i < j → j < length es → IsBefore (get_or es i d) (get_or es j d)
 far [] s i j d lt range = absurd (omega (arith, range))
@@ -27,26 +22,11 @@ far (e ∷ es) s i zero d lt range = absurd (omega (arith, lt))
 far (e ∷ es) s zero (suc j) d lt range = all_at (IsBefore e) es j d (omega (arith, range)) s.0
 far (e ∷ es) s (suc i) (suc j) d lt range = far es s.1 i j d (omega (arith, lt)) (omega (arith, range))
 
-turned : (a b : List ℕ) → order a b ≡ Less → order b a ≡ Greater
-turned a b h = nat_list_cmp_total.antisymm b a ∙ ap ordering_reverse h
-
-turned_back : (a b : List ℕ) → order a b ≡ Greater → order b a ≡ Less
-turned_back a b h = nat_list_cmp_total.antisymm b a ∙ ap ordering_reverse h
-
 -- the comparisons with a name rise along the entries
 pub rise : (es : Entries) (q : List ℕ) → IsInOrder es → IsNonDecreasingBy (λ (y : List ℕ × ℕ). ordering_index (order y.0 q)) es
 rise es q s =
     searchable_from_sorted nat_list_cmp_total (λ (e : List ℕ × ℕ). e.0) es q
     (λ k d low range. ap is_lt (turned (get_or es k d).0 (get_or es (k + 1) d).0 (far es s k (k + 1) d (omega arith) range)))
-
-same_is : (a b : List ℕ) → order a b ≡ Equal → bytes_eq b a ≡ true
-same_is a b h = sym (is_eq-slice_cmp b a) ∙ ap is_eq (tied_back nat_list_cmp_total a b h)
-
-other_is : (a b : List ℕ) → order a b ≡ Less → bytes_eq b a ≡ false
-other_is a b h = sym (is_eq-slice_cmp b a) ∙ ap is_eq (turned a b h)
-
-above_is : (a b : List ℕ) → order a b ≡ Greater → bytes_eq b a ≡ false
-above_is a b h = sym (is_eq-slice_cmp b a) ∙ ap is_eq (turned_back a b h)
 
 -- a name that is equal at a place has the number there
 pub found_at : (es : Entries) → IsInOrder es → (q : List ℕ) (i : ℕ) (d : List ℕ × ℕ) → i < length es → order (get_or es i d).0 q ≡ Equal → number_at es q ≡ Some (get_or es i d).1
@@ -142,16 +122,3 @@ number_found es slice e s q i d range h =
 
 pub number_missing : (es : Entries) (q : List ℕ) (i : ℕ) → IsGap es q i → None ≡ number_at es q
 number_missing es q i g = sym (lookup-none (bytes_eq q) es (none_in_gap es q i g))
-
--- a name that goes on is behind one that has ended
-goes_on : (kept : List ℕ) (i : ℕ) → i < length kept → Greater ≡ order (drop i kept) []
-goes_on [] i lt = absurd (omega (arith, lt))
-goes_on (x ∷ kept) zero lt = refl
-goes_on (x ∷ kept) (suc i) lt = goes_on kept i (omega (arith, lt))
-
-ended : (rest : List ℕ) → length rest ≡ 0 → rest ≡ []
-ended [] h = refl
-ended (x ∷ rest) h = absurd (omega (arith, h))
-
-pub longer : (kept rest : List ℕ) (i : ℕ) (f : ℕ → ℕ) → i < length kept → length rest ≡ 0 → Greater ≡ order (drop i kept) (map f rest)
-longer kept rest i f lt h = goes_on kept i lt ∙ ap (λ (r : List ℕ). order (drop i kept) (map f r)) (sym (ended rest h))

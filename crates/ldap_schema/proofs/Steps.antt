@@ -2,10 +2,7 @@
 use Rattle.std.proofs.Common.{ℕ, ◌+◌, ◌-◌, ◌<◌, zero, suc, List, [], ◌∷◌, ◌++◌, Bool, true, false, ◌||◌, None, Some, ◌≡◌, refl, ap, sym, ◌∙◌, map, length, nat_eq, drop, get_or, append_assoc, add-one, drop-cons, arith}
 use Rattle.std.specs.List.{list_any, position_from}
 use Rattle.ldap_schema.specs.Schema.{TypeModel, superior_of, superiors}
-
--- the element at a place and what stands behind it
-pub opened : {A : Type 0} (xs : List A) (i : ℕ) (x : A) → i < length xs → x ≡ get_or xs i x → drop i xs ≡ x ∷ drop (i + 1) xs
-opened xs i x lt is = drop-cons xs i x lt ∙ ap (λ (y : _). y ∷ drop (suc i) xs) (sym is) ∙ ap (λ (n : ℕ). x ∷ drop n xs) (sym (add-one i))
+pub use Rattle.ldap_syntax.proofs.NumbersKept.{opened}
 
 pub found_here : {A : Type 0} (p : A → Bool) (xs : List A) (i : ℕ) (x : A) → i < length xs → x ≡ get_or xs i x → p x ≡ true → position_from p i (drop i xs) ≡ Some i
 found_here p xs i x lt is h = rw (opened xs i x lt is, h) refl

@@ -1,12 +1,12 @@
 -- A schema: types and classes by number, and what a name stands for. RFC 4512 2.4, 2.5, 4.1. Plain data and questions
 -- to it; where it comes from and what values mean is not here.
-use Rattle.std.specs.Prelude.{ℕ, zero, suc, ◌+◌, List, [], ◌∷◌, Bool, true, false, ◌&&◌, ◌||◌, Option, None, Some, ◌≡◌, nat_eq, length, map, slice_get}
+use Rattle.std.specs.Prelude.{ℕ, zero, suc, ◌+◌, List, [], ◌∷◌, Bool, true, false, ◌&&◌, ◌||◌, Option, None, Some, ◌≡◌, nat_eq, length, slice_get}
 use Rattle.std.specs.List.{list_any, position_from}
-use Rattle.std.specs.Char.{to_ascii_lowercase}
 use Rattle.std.specs.Str.{bytes_eq}
 use Rattle.ldap_syntax.specs.declared.rule.Rule.{Rule}
 use Rattle.ldap_syntax.specs.declared.rule.Syntax.{Syntax}
 use Rattle.ldap_schema.specs.declared.class.ClassKind.{ClassKind}
+pub use Rattle.ldap_syntax.specs.Words.{is_same_word as is_same_name}
 
 -- An attribute type: its names with the first one first, the number of its superior type, and what is in effect for it,
 -- own or inherited (RFC 4512 4.1.2).
@@ -32,10 +32,6 @@ pub record ClassModel : Type 0 where
 pub record SchemaModel : Type 0 where
   pub types : List TypeModel
   pub classes : List ClassModel
-
--- names are the same without regard to case (RFC 4512 1.4, descr)
-abbrev pub is_same_name : List ℕ → List ℕ → Bool
-is_same_name a b = bytes_eq (map to_ascii_lowercase a) (map to_ascii_lowercase b)
 
 -- a name or the object identifier of what has these names (RFC 4512 1.4, oid)
 abbrev pub is_called : List ℕ → List ℕ → List (List ℕ) → Bool

@@ -14,13 +14,14 @@ use Rattle.ldap_syntax.specs.Syntaxes.{is_in_syntax, is_boolean, true_octets, fa
 use Rattle.ldap_syntax.specs.Families.{is_ordering, has_substrings}
 use Rattle.ldap_syntax.specs.Meaning.{Meaning, number, text, truth, octets, identifier, as_text, spelled, meaning_in, is_before, IsLessMeaning}
 use Rattle.ldap_syntax.specs.Parts.{HasParts, MeaningHasParts}
-use Rattle.ldap_syntax.specs.Keys.{counted, turned, number_key, text_key, key_in, KeysArePresentAsMeanings, KeysAreEqualAsMeanings, KeysAreOrderedAsMeanings, PartsStandAsMeanings}
+use Rattle.ldap_syntax.specs.Keys.{counted, turned, number_key, key_in, KeysArePresentAsMeanings, KeysAreEqualAsMeanings, KeysAreOrderedAsMeanings, PartsStandAsMeanings}
 use Rattle.ldap_syntax.specs.declared.preparing.Part.TheVariants.{Whole}
 use Rattle.ldap_syntax.specs.declared.rule.Family.{Family}
 use Rattle.ldap_syntax.specs.declared.rule.Family.TheVariants as family
 use Rattle.ldap_syntax.proofs.Digits.{Numbers, less, same, more, numbers, whole_is_written, number_is_written, not_before_itself, not_both_before, and_left, head_same}
 use Rattle.ldap_syntax.proofs.Utf8.{octets_in_order}
 use Rattle.ldap_syntax.proofs.Seams.{parts}
+use Rattle.ldap_syntax.specs.Octets.{utf8_of}
 
 -- what stands behind a test that passed
 pub passed : {A : Type 0} (b : Bool) (o : Option A) (x : A) → cond b o None ≡ Some x → o ≡ Some x
@@ -125,11 +126,11 @@ text_means : (o : Option (List ℕ)) (m : Meaning) → as_text o ≡ Some m → 
 text_means None m e = absurd (cc)
 text_means (Some t) m e = (t, refl, cc)
 
-text_keyed : (o : Option (List ℕ)) (t k : List ℕ) → o ≡ Some t → text_key o ≡ Some k → k ≡ encode_utf8_all t
+text_keyed : (o : Option (List ℕ)) (t k : List ℕ) → o ≡ Some t → utf8_of o ≡ Some k → k ≡ encode_utf8_all t
 text_keyed None t k e h = absurd (cc)
 text_keyed (Some u) t k e h = some_is k (encode_utf8_all u) (sym h) ∙ ap encode_utf8_all (some_is u t e)
 
-equal_texts : (o p : Option (List ℕ)) (m n : Meaning) (k l : List ℕ) → as_text o ≡ Some m → as_text p ≡ Some n → text_key o ≡ Some k → text_key p ≡ Some l → (k ≡ l) ↔ (m ≡ n)
+equal_texts : (o p : Option (List ℕ)) (m n : Meaning) (k l : List ℕ) → as_text o ≡ Some m → as_text p ≡ Some n → utf8_of o ≡ Some k → utf8_of p ≡ Some l → (k ≡ l) ↔ (m ≡ n)
 equal_texts o p m n k l hm hn hk hl =
     let a = text_means o m hm in
     let b = text_means p n hn in
@@ -187,7 +188,7 @@ ordered_along m n m' n' k l k' l' em en ek el h = (
   λ e. sym (ap₂ is_before ek el) ∙ h.1 (subst (λ (x : Meaning). IsLessMeaning m' x) (sym en) (subst (λ (x : Meaning). IsLessMeaning x n) (sym em) e)),
 )
 
-ordered_texts : (o p : Option (List ℕ)) (m n : Meaning) (k l : List ℕ) → as_text o ≡ Some m → as_text p ≡ Some n → text_key o ≡ Some k → text_key p ≡ Some l → (is_before k l ≡ true) ↔ IsLessMeaning m n
+ordered_texts : (o p : Option (List ℕ)) (m n : Meaning) (k l : List ℕ) → as_text o ≡ Some m → as_text p ≡ Some n → utf8_of o ≡ Some k → utf8_of p ≡ Some l → (is_before k l ≡ true) ↔ IsLessMeaning m n
 ordered_texts o p m n k l hm hn hk hl =
     let a = text_means o m hm in
     let b = text_means p n hn in
@@ -226,7 +227,7 @@ some_inside : {A B : Type 0} (b : Bool) (o : Option A) (p : Option B) → is_som
 some_inside true o p h = h
 some_inside false o p h = refl
 
-some_text : (o : Option (List ℕ)) → is_some (text_key o) ≡ is_some (as_text o)
+some_text : (o : Option (List ℕ)) → is_some (utf8_of o) ≡ is_some (as_text o)
 some_text None = refl
 some_text (Some t) = refl
 
@@ -248,16 +249,16 @@ pub keys_are_present : KeysArePresentAsMeanings
 keys_are_present r v = some_inside (is_in_syntax r.syntax v) (key_in r.family v) (meaning_in r.family v) (present_in r.family v)
 
 -- parts of keys and of meanings
-parts_of_text : (o : Option (List ℕ)) (m : Meaning) (k : List ℕ) (i f : Option (List ℕ)) (any : List (List ℕ)) → as_text o ≡ Some m → text_key o ≡ Some k → HasParts (text_key i) (map encode_utf8_all any) (text_key f) k ↔ MeaningHasParts i any f m
+parts_of_text : (o : Option (List ℕ)) (m : Meaning) (k : List ℕ) (i f : Option (List ℕ)) (any : List (List ℕ)) → as_text o ≡ Some m → utf8_of o ≡ Some k → HasParts (utf8_of i) (map encode_utf8_all any) (utf8_of f) k ↔ MeaningHasParts i any f m
 parts_of_text o m k i f any hm hk =
     let a = text_means o m hm in
     let e : k ≡ encode_utf8_all a.0 = text_keyed o a.0 k a.1 hk in
     let p = parts i f any a.0 in (
-      λ d. subst (MeaningHasParts i any f) (sym a.2) (p.0 (subst (HasParts (text_key i) (map encode_utf8_all any) (text_key f)) e d)),
-      λ d. subst (HasParts (text_key i) (map encode_utf8_all any) (text_key f)) (sym e) (p.1 (subst (MeaningHasParts i any f) a.2 d)),
+      λ d. subst (MeaningHasParts i any f) (sym a.2) (p.0 (subst (HasParts (utf8_of i) (map encode_utf8_all any) (utf8_of f)) e d)),
+      λ d. subst (HasParts (utf8_of i) (map encode_utf8_all any) (utf8_of f)) (sym e) (p.1 (subst (MeaningHasParts i any f) a.2 d)),
     )
 
-parts_in : (f : Family) (v : List ℕ) (m : Meaning) (k : List ℕ) (i l : Option (List ℕ)) (any : List (List ℕ)) → has_substrings f ≡ true → meaning_in f v ≡ Some m → key_in f v ≡ Some k → HasParts (text_key i) (map encode_utf8_all any) (text_key l) k ↔ MeaningHasParts i any l m
+parts_in : (f : Family) (v : List ℕ) (m : Meaning) (k : List ℕ) (i l : Option (List ℕ)) (any : List (List ℕ)) → has_substrings f ≡ true → meaning_in f v ≡ Some m → key_in f v ≡ Some k → HasParts (utf8_of i) (map encode_utf8_all any) (utf8_of l) k ↔ MeaningHasParts i any l m
 parts_in family.Ignore v m k i l any o hm hk = parts_of_text _ m k i l any hm hk
 parts_in family.Exact v m k i l any o hm hk = parts_of_text _ m k i l any hm hk
 parts_in family.Numeric v m k i l any o hm hk = parts_of_text _ m k i l any hm hk

@@ -144,6 +144,11 @@ number_is_written [] h = cc
 number_is_written (c ∷ []) h = record { digits = rw h refl; some = omega arith; leads = λ x y rest e. absurd (cc) }
 number_is_written (c ∷ d ∷ cs) h = whole_is_written (c ∷ d ∷ cs) h
 
+-- a number is made of digits
+pub number_digits : (cs : List ℕ) → is_number cs ≡ true → are_digits cs ≡ true
+number_digits [] h = refl
+number_digits (c ∷ cs) h = (number_is_written (c ∷ cs) h).digits
+
 shorter_is_less : (cs ds : List ℕ) → IsWritten cs → IsWritten ds → length cs < length ds → decimal cs < decimal ds
 shorter_is_less cs [] f g lt = absurd (omega (arith, lt))
 shorter_is_less cs (d ∷ []) f g lt = absurd (omega (arith, lt, f.some))

@@ -8,3 +8,5 @@ pub mod Present
 pub mod Compare
 pub mod Search
 pub mod Seams
+pub mod NumbersKept
+pub mod OctetOrder

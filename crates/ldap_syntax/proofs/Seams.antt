@@ -3,9 +3,9 @@ use Rattle.std.proofs.Common.{ℕ, ◌+◌, ◌/◌, ◌%◌, ◌<◌, ◌≤◌
 use Rattle.std.proofs.lemmas.Str.{cons_from_encodes, encodes-append, encodes_same}
 use lib.Utf8.{encode}
 use Rattle.ldap_syntax.specs.Parts.{StandInOrder, HasParts, part_or_nothing}
-use Rattle.ldap_syntax.specs.Keys.{text_key}
 use Rattle.ldap_syntax.proofs.Search.{later}
 use Rattle.ldap_syntax.proofs.Utf8.{Spelled, in_one, in_two, in_three, in_four, spelled}
+use Rattle.ldap_syntax.specs.Octets.{utf8_of}
 
 -- an octet that begins no character
 pub record IsNext (b : ℕ) : Type 0 where
@@ -133,7 +133,7 @@ from_octets ((c ∷ p) ∷ ps) cs s =
       then = from_octets ps on.back (subst (StandInOrder (map encode_utf8_all ps)) (sym on.is_behind) s.then);
     }
 
-key_or_nothing : (o : Option (List ℕ)) → part_or_nothing (text_key o) ≡ encode_utf8_all (part_or_nothing o)
+key_or_nothing : (o : Option (List ℕ)) → part_or_nothing (utf8_of o) ≡ encode_utf8_all (part_or_nothing o)
 key_or_nothing None = refl
 key_or_nothing (Some p) = refl
 
@@ -153,7 +153,7 @@ back (c ∷ p) cs middle e =
       is_middle = at.is_before;
     }
 
-pub parts_to_octets : (i f : Option (List ℕ)) (any : List (List ℕ)) (cs : List ℕ) → HasParts i any f cs → HasParts (text_key i) (map encode_utf8_all any) (text_key f) (encode_utf8_all cs)
+pub parts_to_octets : (i f : Option (List ℕ)) (any : List (List ℕ)) (cs : List ℕ) → HasParts i any f cs → HasParts (utf8_of i) (map encode_utf8_all any) (utf8_of f) (encode_utf8_all cs)
 parts_to_octets i f any cs d = record {
   middle = encode_utf8_all d.middle;
   ends = ap encode_utf8_all d.ends ∙ encodes-append (part_or_nothing i ++ d.middle) (part_or_nothing f)
@@ -161,10 +161,10 @@ parts_to_octets i f any cs d = record {
   between = to_octets any d.middle d.between;
 }
 
-pub parts_from_octets : (i f : Option (List ℕ)) (any : List (List ℕ)) (cs : List ℕ) → HasParts (text_key i) (map encode_utf8_all any) (text_key f) (encode_utf8_all cs) → HasParts i any f cs
+pub parts_from_octets : (i f : Option (List ℕ)) (any : List (List ℕ)) (cs : List ℕ) → HasParts (utf8_of i) (map encode_utf8_all any) (utf8_of f) (encode_utf8_all cs) → HasParts i any f cs
 parts_from_octets i f any cs d =
-    let start : Front cs (part_or_nothing i) (d.middle ++ part_or_nothing (text_key f)) =
-    front (part_or_nothing i) cs (d.middle ++ part_or_nothing (text_key f)) (d.ends ∙ append_assoc (part_or_nothing (text_key i)) d.middle (part_or_nothing (text_key f)) ∙ ap (λ (x : List ℕ). x ++ (d.middle ++ part_or_nothing (text_key f))) (key_or_nothing i)) in
+    let start : Front cs (part_or_nothing i) (d.middle ++ part_or_nothing (utf8_of f)) =
+    front (part_or_nothing i) cs (d.middle ++ part_or_nothing (utf8_of f)) (d.ends ∙ append_assoc (part_or_nothing (utf8_of i)) d.middle (part_or_nothing (utf8_of f)) ∙ ap (λ (x : List ℕ). x ++ (d.middle ++ part_or_nothing (utf8_of f))) (key_or_nothing i)) in
     let end : Back start.back d.middle (part_or_nothing f) = back (part_or_nothing f) start.back d.middle (start.is_behind ∙ ap (λ (x : List ℕ). d.middle ++ x) (key_or_nothing f)) in
     record {
       middle = end.front;
@@ -172,5 +172,5 @@ parts_from_octets i f any cs d =
       between = from_octets any end.front (subst (StandInOrder (map encode_utf8_all any)) (sym end.is_middle) d.between);
     }
 
-pub parts : (i f : Option (List ℕ)) (any : List (List ℕ)) (cs : List ℕ) → HasParts (text_key i) (map encode_utf8_all any) (text_key f) (encode_utf8_all cs) ↔ HasParts i any f cs
+pub parts : (i f : Option (List ℕ)) (any : List (List ℕ)) (cs : List ℕ) → HasParts (utf8_of i) (map encode_utf8_all any) (utf8_of f) (encode_utf8_all cs) ↔ HasParts i any f cs
 parts i f any cs = (parts_from_octets i f any cs, parts_to_octets i f any cs)

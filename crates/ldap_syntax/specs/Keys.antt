@@ -12,6 +12,7 @@ use Rattle.ldap_syntax.specs.declared.preparing.Part.TheVariants.{Whole}
 use Rattle.ldap_syntax.specs.declared.rule.Family.{Family}
 use Rattle.ldap_syntax.specs.declared.rule.Family.TheVariants as family
 use Rattle.ldap_syntax.specs.declared.rule.Rule.{Rule}
+use Rattle.ldap_syntax.specs.Octets.{utf8_of}
 
 -- digits behind their count, written as so many ones and a zero
 abbrev pub counted : List ℕ → List ℕ
@@ -26,24 +27,20 @@ abbrev pub number_key : List ℕ → List ℕ
 number_key [] = []
 number_key (c ∷ cs) = cond (nat_eq c 45) (0 ∷ turned (counted cs)) (1 ∷ counted (c ∷ cs))
 
--- a prepared text's key is its UTF-8
-abbrev pub text_key : Option (List ℕ) → Option (List ℕ)
-text_key None = None
-text_key (Some t) = Some (encode_utf8_all t)
-
+-- a value's key in a family; that of a prepared text is its UTF-8
 abbrev pub key_in : Family → List ℕ → Option (List ℕ)
 key_in family.Identifier v = cond (is_numericoid v) (Some v) None
 key_in family.Name v = None
-key_in family.Ignore v = text_key (spelled family.Ignore Whole v)
-key_in family.Exact v = text_key (spelled family.Exact Whole v)
-key_in family.Numeric v = text_key (spelled family.Numeric Whole v)
+key_in family.Ignore v = utf8_of (spelled family.Ignore Whole v)
+key_in family.Exact v = utf8_of (spelled family.Exact Whole v)
+key_in family.Numeric v = utf8_of (spelled family.Numeric Whole v)
 key_in family.Boolean v = cond (is_boolean v) (Some v) None
 key_in family.Integer v = cond (is_integer v) (Some (number_key v)) None
 key_in family.Octet v = Some v
-key_in family.Telephone v = text_key (spelled family.Telephone Whole v)
+key_in family.Telephone v = utf8_of (spelled family.Telephone Whole v)
 key_in family.Time v = cond (is_time v) (Some v) None
-key_in family.Ia5 v = text_key (spelled family.Ia5 Whole v)
-key_in family.Ia5Exact v = text_key (spelled family.Ia5Exact Whole v)
+key_in family.Ia5 v = utf8_of (spelled family.Ia5 Whole v)
+key_in family.Ia5Exact v = utf8_of (spelled family.Ia5Exact Whole v)
 
 -- a value's key under a rule; none, where the value isn't in the syntax
 abbrev pub key_at : Rule → List ℕ → Option (List ℕ)
@@ -51,7 +48,7 @@ key_at r v = cond (is_in_syntax r.syntax v) (key_in r.family v) None
 
 -- the key of a part of a substring assertion; none, where it means nothing
 abbrev pub part_key_at : Rule → Part → List ℕ → Option (List ℕ)
-part_key_at r part v = text_key (part_meaning r part v)
+part_key_at r part v = utf8_of (part_meaning r part v)
 
 -- A value has a key exactly where it has a meaning.
 abbrev pub KeysArePresentAsMeanings : Type 0
@@ -68,4 +65,4 @@ KeysAreOrderedAsMeanings = (r : Rule) (v w : List ℕ) (m n : Meaning) (k l : Li
 -- Under a rule with a substrings rule, a key has the keys of prepared parts exactly where the meaning has the parts.
 abbrev pub PartsStandAsMeanings : Type 0
 PartsStandAsMeanings = (r : Rule) (v : List ℕ) (m : Meaning) (k : List ℕ) (initial final : Option (List ℕ)) (any : List (List ℕ)) → has_substrings r.family ≡ true → meaning r v ≡ Some m → key_at r v ≡ Some k
-    → HasParts (text_key initial) (map encode_utf8_all any) (text_key final) k ↔ MeaningHasParts initial any final m
+    → HasParts (utf8_of initial) (map encode_utf8_all any) (utf8_of final) k ↔ MeaningHasParts initial any final m

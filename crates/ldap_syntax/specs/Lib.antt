@@ -1,5 +1,9 @@
 pub mod Text
 pub mod Numbers
+pub mod Octets
+pub mod Words
+pub mod Hexadecimal
+pub mod NameOrder
 pub mod Identifiers
 pub mod Times
 pub mod Syntaxes

@@ -3,7 +3,8 @@
 
 ghost use Rattle.std.specs.Prelude.{◌≡◌, ◌↔◌, None, Some, IfOk, IsErrOf, is_some};
 ghost use Rattle.ldap_syntax.specs.Meaning.{spelled, meaning, part_meaning, ValuesOfTheSyntaxMean};
-ghost use Rattle.ldap_syntax.specs.Keys.{text_key as text_key_of, key_at, key_in, part_key_at, KeysArePresentAsMeanings, KeysAreEqualAsMeanings, KeysAreOrderedAsMeanings, PartsStandAsMeanings};
+ghost use Rattle.ldap_syntax.specs.Octets.{utf8_of};
+ghost use Rattle.ldap_syntax.specs.Keys.{key_at, key_in, part_key_at, KeysArePresentAsMeanings, KeysAreEqualAsMeanings, KeysAreOrderedAsMeanings, PartsStandAsMeanings};
 
 use crate::admitting::{is_boolean, is_in_syntax, is_part_of, text_of};
 use crate::fault::ValueError;
@@ -59,7 +60,7 @@ pub fn part_key_of(alloc: Global, rule: Rule, part: Part, octets: &[u8]) -> Resu
 
 /// The key of the octets' prepared text.
 fn text_key(alloc: Global, family: Family, octets: &[u8], part: Part) -> Result<Key, ValueError>
-    ensures key { IfOk result (λ k. text_key_of (spelled family part octets.now) ≡ Some k) }
+    ensures key { IfOk result (λ k. utf8_of (spelled family part octets.now) ≡ Some k) }
     ensures not_in_syntax { IsErrOf result ValueError.NotInSyntax
         ↔ (spelled family part octets.now ≡ None) }
 {

@@ -23,6 +23,7 @@ pub use fault::ValueError;
 pub use identifying::is_numericoid;
 pub use key::Key;
 pub use keying::{has_meaning, key_of, keys_compare, part_key_of, parts_compare, values_mean};
+pub use numbering::is_number;
 pub use offering::{has_ordering, has_substrings, is_used_on};
 pub use preparing::{Part, prepare};
 pub use rule::{Family, Rule, Syntax};

@@ -9,6 +9,7 @@ use Rattle.std.proofs.lemmas.Str.{IsUtf8-from_ascii, is_utf8-from_IsUtf8}
 use Rattle.std.proofs.lemmas.Str.Ascii.{IsAscii-nil, IsAscii-cons}
 use Rattle.ldif.specs.Descriptions.{is_alpha, is_digit, is_key_octet, is_descr, is_number, is_numericoid, is_oid, is_option, is_described, is_description, is_dn, begins_change, is_type}
 use Rattle.ldif.proofs.Booleans.{left, right, both, either}
+use Rattle.ldap_syntax.proofs.Digits.{number_digits}
 
 -- an octet of a description: a keychar, `.` or `;`
 abbrev pub is_plain : ℕ → Bool
@@ -50,11 +51,7 @@ option_plain (c ∷ cs) h =
     both (is_plain c) (list_all is_plain cs) (key_plain c (left (is_key_octet c) (list_all is_key_octet cs) h)) (keys_plain cs (right (is_key_octet c) (list_all is_key_octet cs) h))
 
 number_plain : (d : List ℕ) → is_number d ≡ true → list_all is_plain d ≡ true
-number_plain [] h = refl
-number_plain (c ∷ cs) h =
-    let digits = left (is_digit c && list_all is_digit cs) (nat_eq (length cs) 0 || not (nat_eq c 48)) h in
-    both (is_plain c) (list_all is_plain cs) (key_plain c (digit_key c (left (is_digit c) (list_all is_digit cs) digits)))
-    (weaker is_digit is_plain cs (λ x e. key_plain x (digit_key x e)) (right (is_digit c) (list_all is_digit cs) digits))
+number_plain d h = weaker is_digit is_plain d (λ x e. key_plain x (digit_key x e)) (number_digits d h)
 
 split_step : (b : Bool) (x : ℕ) (xs : List ℕ) (parts : List (List ℕ)) → (b ≡ true → is_plain x ≡ true) → (list_all (list_all is_plain) parts ≡ true → list_all is_plain xs ≡ true)
     → list_all (list_all is_plain) (cond b ([] ∷ parts) (onto_first x parts)) ≡ true → (is_plain x && list_all is_plain xs) ≡ true

@@ -9,3 +9,5 @@ pub mod Reading
 pub mod Faults
 pub mod Content
 pub mod RoundTrip
+-- what layers above name of the crates below
+pub use Rattle.ldap_syntax.specs as ldap_syntax

@@ -1,6 +1,6 @@
 -- LDIF: what is written is read back.
 -- In: nothing. Out: the law, and of which records it speaks. Not here: its proof.
-use Rattle.std.specs.Prelude.{◌≡◌, ℕ, List, Bool, true, ◌&&◌, nat_lt}
+use Rattle.std.specs.Prelude.{◌≡◌, List, Bool, true, ◌&&◌}
 use Rattle.std.specs.declared.result.Result.TheVariants.{Ok}
 use Rattle.std.specs.List.{list_all}
 use Rattle.std.specs.Str.{is_utf8}
@@ -8,10 +8,7 @@ use Rattle.ldif.specs.Descriptions.{is_type}
 use Rattle.ldif.specs.Records.{ValueModel, RecordModel}
 use Rattle.ldif.specs.Written.{ldif_text}
 use Rattle.ldif.specs.Reading.{records_of}
-
--- octets are below 256
-abbrev pub are_octets : List ℕ → Bool
-are_octets v = list_all (λ c. nat_lt c 256) v
+pub use Rattle.ldap_syntax.specs.Octets.{are_octets}
 
 -- a value whose type is a description other than `dn`, `changetype` and `control`
 abbrev pub is_typed : ValueModel → Bool

@@ -5,6 +5,7 @@ ghost use Rattle.std.specs.Prelude.{◌≡◌, map, nat_eq, position, IfOk, code
 ghost use Rattle.std.specs.List.{list_all, slice_split};
 ghost use Rattle.ldif.specs.Descriptions as descriptions;
 
+use ldap_syntax::is_number;
 use std::alloc::{AllocError, Global};
 
 /// Whether the two are the same, without regard to case.
@@ -49,25 +50,6 @@ fn is_descr(octets: &[u8]) -> bool
     match octets {
         [] => false,
         [first, rest @ ..] => is_alpha(*first) && are_key_octets(rest),
-    }
-}
-
-/// Whether the octets are digits.
-fn are_digits(octets: &[u8]) -> bool
-    ensures { result ≡ list_all descriptions.is_digit octets.now }
-{
-    octets.iter().all(|octet| is_digit(*octet))
-}
-
-/// Whether the octets are a number without leading zeros.
-fn is_number(octets: &[u8]) -> bool
-    ensures { result ≡ descriptions.is_number octets.now }
-{
-    match octets {
-        [] => false,
-        [first, rest @ ..] => {
-            is_digit(*first) && are_digits(rest) && (rest.len() == 0 || !(*first == b'0'))
-        }
     }
 }
 

@@ -2,19 +2,9 @@
 -- In: octets of messages, or a text. Out: the lines of messages, or the octets that lines spell. Not here: what messages mean.
 use Rattle.std.specs.Prelude.{ℕ, ◌+◌, List, [], ◌∷◌, ◌++◌, length, nat_eq, cond, Option, None, Some, Result, Ok, Err}
 use Rattle.std.specs.Result.{result_ok}
-use Rattle.hex.specs.Hex.{decode_of, encode_lower}
+use Rattle.hex.specs.Hex.{decode_of}
 use Rattle.ldif.specs.Lines.{parts_of}
-use Rattle.ldap_msg.specs.Messages.{MessageValue}
-use Rattle.ldap_msg.specs.Written.{message_bytes}
-
--- octets as a line of lower-case hex
-abbrev pub hex_line : List ℕ → List ℕ
-hex_line octets = encode_lower octets ++ 10 ∷ []
-
--- messages, each in its written form as a line
-abbrev pub message_lines : List MessageValue → List ℕ
-message_lines [] = []
-message_lines (m ∷ ms) = hex_line (message_bytes m) ++ message_lines ms
+pub use Rattle.ldap_msg.specs.HexLines.{hex_line, message_lines}
 
 -- octets before those of the lines that follow, or the number of the first line that is no hex
 abbrev pub after : List (List ℕ) → Result (List (List ℕ)) ℕ → Result (List (List ℕ)) ℕ

@@ -1,19 +1,13 @@
 -- LDIF and messages: imports, from a text of LDIF to lines of hex.
 -- In: a text. Out: what is written of it, or why nothing is. Not here: which add a record asks for, how LDIF is read.
-use Rattle.std.specs.Prelude.{◌≡◌, ◌≤◌, ◌<◌, ◌^◌, ◌⊎◌, ℕ, List, [], ◌∷◌, length, Ok, Err}
+use Rattle.std.specs.Prelude.{◌≡◌, ◌≤◌, ◌<◌, ◌^◌, ℕ, List, length, Ok, Err}
 use Rattle.ldif.specs.Records.{RecordModel}
 use Rattle.ldif.specs.Reading.{records_of}
-use Rattle.ldap_msg.specs.Messages.{MessageValue}
-use Rattle.ldap_msg.specs.Written.{message_content}
 use Rattle.ldif_messages.specs.Adds.{adds_from}
 use Rattle.ldif_messages.specs.HexLines.{message_lines}
 use Rattle.ldif_messages.specs.declared.fault.ImportError.{ImportError}
 use Rattle.ldif_messages.specs.declared.fault.ImportError.TheVariants.{BadLdif, TooLong, TooManyRecords, NoMemory}
-
--- some message has a content that no length of at most four octets can say
-abbrev pub HasTooLong : List MessageValue → Type 0
-HasTooLong [] = ⊥
-HasTooLong (m ∷ ms) = (2 ^ 32 ≤ length (message_content m)) ⊎ HasTooLong ms
+pub use Rattle.ldap_msg.specs.Limits.{HasTooLong}
 
 -- why a message is not written: its content is too long, or memory ran out
 abbrev pub IsPutFault : ImportError → List ℕ → Type 0

@@ -14,7 +14,7 @@ use Rattle.session_talk.specs.Talk.{EndedValue, done, stale, lost, refused_memor
 use Rattle.local_directory.specs.ClientOrder.{client_cmp}
 use Rattle.local_directory.specs.Latest.{KeptValue, Standing, older, repeated, newer, standing}
 use Rattle.local_directory.specs.Local.{LocalValue}
-use Rattle.local_directory.specs.Allows.{allows, Ends, outcome_by, made_as, unchanged, last_number}
+use Rattle.local_directory.specs.Allows.{allows, Ends, outcome_by, made_as, unchanged, greatest}
 use Rattle.local_directory.specs.Made.{MadeUpdate, made_if, made_in, made_along, ops_of, IsFold, IsKept, DirectoryIsFold}
 use Rattle.session_talk.proofs.dir_search.dir_store.Joins.{after_join, replies_join}
 use Rattle.session_talk.proofs.dir_search.dir_store.Placed.{placed}
@@ -159,7 +159,7 @@ by_standing (repeated k) d e client request op (done n r) at h kept =
 by_standing (repeated k) d e client request op stale at h kept = leads_same d e h.1 kept
 by_standing (repeated k) d e client request op lost at h kept = leads_same d e h.1 kept
 by_standing (repeated k) d e client request op refused_memory at h kept = leads_same d e h kept
-by_standing newer d e client request op ended at h kept = next_leads (nat_lt d.number last_number) d e client request op ended h kept
+by_standing newer d e client request op ended at h kept = next_leads (nat_lt d.number greatest) d e client request op ended h kept
 
 -- a repeated request is one that is kept
 is_kept_of : Standing → KeptValue → KeptValue

@@ -11,7 +11,7 @@ use Rattle.session_talk.specs.Talk.{EndedValue, done, stale, lost, refused_memor
 use Rattle.local_directory.specs.ClientOrder.{client_cmp}
 use Rattle.local_directory.specs.Latest.{KeptValue, Standing, older, repeated, newer, standing}
 use Rattle.local_directory.specs.Local.{LocalValue}
-use Rattle.local_directory.specs.Allows.{allows, Ends, Outcome, outcome_by, made_as, unchanged, last_number}
+use Rattle.local_directory.specs.Allows.{allows, Ends, Outcome, outcome_by, made_as, unchanged, greatest}
 use Rattle.local_directory.specs.Made.{MadeOnce}
 use Rattle.local_directory.proofs.Clients.{clients_total}
 use Rattle.local_directory.proofs.Tables.{put_there, same_client_of}
@@ -58,14 +58,14 @@ next_done false d e client request n op reply h = absurd (not_lost n reply (sym 
 to_done : (a b : Bool) (k : KeptValue) (d e : LocalValue) (client : Client) (request n : ℕ) (op : OpValue) (reply : ReplyModel) → fin.get d.latest client ≡ Some k → nat_lt k.request request ≡ b →
     Ends (outcome_by (cond a older (cond b newer (repeated k))) d client request op) d (done n reply) e → WasDone request n reply (fin.get e.latest client)
 to_done true b k d e client request n op reply there test h = absurd (not_stale n reply (sym h.0))
-to_done false true k d e client request n op reply there test h = next_done (nat_lt d.number last_number) d e client request n op reply h
+to_done false true k d e client request n op reply there test h = next_done (nat_lt d.number greatest) d e client request n op reply h
 to_done false false k d e client request n op reply there test h =
     subst (WasDone request n reply) (sym (ap (λ (x : LocalValue). fin.get x.latest client) h.1 ∙ there))
     (le_of k.request request test, λ _. (same_number _ _ _ _ h.0, same_reply _ _ _ _ h.0))
 
 first_done : (o : Option KeptValue) (d e : LocalValue) (client : Client) (request n : ℕ) (op : OpValue) (reply : ReplyModel) → fin.get d.latest client ≡ o →
     Ends (outcome_by (standing o request) d client request op) d (done n reply) e → WasDone request n reply (fin.get e.latest client)
-first_done None d e client request n op reply there h = next_done (nat_lt d.number last_number) d e client request n op reply h
+first_done None d e client request n op reply there h = next_done (nat_lt d.number greatest) d e client request n op reply h
 first_done (Some k) d e client request n op reply there h = to_done (nat_lt request k.request) (nat_lt k.request request) k d e client request n op reply there refl h
 
 -- nothing changes
@@ -118,7 +118,7 @@ update_keeps : (s : Standing) (d e : LocalValue) (client q : Client) (request n 
     Ends (outcome_by s d q asked op) d ended e → WasDone request n reply (fin.get d.latest client) → WasDone request n reply (fin.get e.latest client)
 update_keeps older d e client q request n asked op reply ended at h was = stays_done d e client request n reply (same_after (unchanged d stale) d e ended refl h) was
 update_keeps (repeated k) d e client q request n asked op reply ended at h was = stays_done d e client request n reply (same_after (unchanged d (done k.number k.reply)) d e ended refl h) was
-update_keeps newer d e client q request n asked op reply ended at h was = next_keeps (nat_lt d.number last_number) d e client q request n asked op reply ended at h was
+update_keeps newer d e client q request n asked op reply ended at h was = next_keeps (nat_lt d.number greatest) d e client q request n asked op reply ended at h was
 
 exchange_keeps : (d e : LocalValue) (x : Exchange (Unit {0})) (client : Client) (request n : ℕ) (reply : ReplyModel) → allows d x e → WasDone request n reply (fin.get d.latest client) → WasDone request n reply (fin.get e.latest client)
 exchange_keeps d e (asked_role role told) client request n reply h was = stays_done d e client request n reply h.1 was

@@ -14,10 +14,7 @@ use Rattle.session_talk.specs.Talk.{EndedValue, done, stale, lost, refused_memor
 use Rattle.session_talk.specs.Talk.{Exchange, asked_role, learned, searched, compared, updated}
 use Rattle.local_directory.specs.Latest.{kept_as, Standing, older, repeated, newer, standing}
 use Rattle.local_directory.specs.Local.{LocalValue}
-
--- the greatest number that an update may have, that of 63 bits
-abbrev pub last_number : ℕ
-last_number = 9223372036854775807
+pub use Rattle.ldif_messages.specs.ldif.ldap_syntax.Numbers.{greatest}
 
 -- how an update ends where there is memory, and the directory after it
 pub record Outcome : Type 0 where
@@ -44,7 +41,7 @@ made_as d number client request op =
 -- an update is made as the next one; it is lost where there is no further number
 abbrev pub made_next : LocalValue → Client → ℕ → OpValue → Outcome
 made_next d client request op =
-    cond (nat_lt d.number last_number) (made_as d (d.number + 1) client request op) (unchanged d lost)
+    cond (nat_lt d.number greatest) (made_as d (d.number + 1) client request op) (unchanged d lost)
 
 -- a request below its client's latest one is stale; a repeated one is done with what it was answered with; a new one is
 -- made

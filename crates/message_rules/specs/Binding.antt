@@ -1,5 +1,5 @@
 -- What a bind comes to: RFC 4513 5.1. The manager's name and password and a bind flow in; who is bound and a result code flow out.
-use Rattle.std.specs.Prelude.{ℕ, pos, List, [], ◌∷◌, Bool, true, false, ◌&&◌, cond, Option, None, Some}
+use Rattle.std.specs.Prelude.{ℕ, pos, List, Bool, false, ◌&&◌, cond, Option, None, Some}
 use Rattle.std.specs.Str.{bytes_eq}
 use Rattle.std.specs.Ordering.{int_eq}
 use Rattle.ldap_msg.specs.ldap_requests.Values.{AuthenticationValue, simple, sasl}
@@ -10,10 +10,7 @@ use Rattle.ldap_msg.specs.Messages.{BindRequestValue}
 use Rattle.dir_tree.specs.Directory.{name_eq}
 use Rattle.message_rules.specs.declared.identity.Identity.TheVariants.{Anonymous, Manager}
 use Rattle.message_rules.specs.declared.bound.Bound.{Bound}
-
-abbrev pub is_empty : List ℕ → Bool
-is_empty [] = true
-is_empty (x ∷ xs) = false
+pub use Rattle.dir_tree.specs.dir_entry.ldap_syntax.Octets.{is_empty}
 
 -- without a password: anonymous with success (0) without a name, else unwillingToPerform (53) (RFC 4513 5.1.1, 5.1.2)
 abbrev pub bound_without_password : List ℕ → Bound

@@ -1,11 +1,11 @@
 -- The messages that carry a response: RFC 4511 4.1.1 and 4.1.9. Responses, numbers and codes flow in; messages flow out.
-use Rattle.std.specs.Prelude.{◌≤◌, ◌^◌, ◌⊎◌, ℕ, List, [], ◌∷◌, map, length, decimal, false, Option, None, Some}
+use Rattle.std.specs.Prelude.{ℕ, List, [], ◌∷◌, map, decimal, false, Option, None, Some}
 use Rattle.ldap_msg.specs.ldap_parts.Values.{ControlValue}
 use Rattle.ldap_msg.specs.Messages.{SearchResultEntryValue, LdapResultValue, ResponseValue, search_entry, response, MessageValue}
-use Rattle.ldap_msg.specs.Written.{message_content}
 use Rattle.message_rules.specs.Controls.{number_control}
 use Rattle.message_rules.specs.declared.requests.Answering.{Answering}
 use Rattle.message_rules.specs.declared.requests.Answering.TheVariants.{Bind, Search, Modify, Add, Delete, ModifyDn, Compare, Extended}
+pub use Rattle.ldap_msg.specs.Limits.{HasTooLong}
 
 -- a response with the messageID of its request, and controls
 abbrev pub message : ℕ → ResponseValue → List ControlValue → MessageValue
@@ -34,8 +34,3 @@ value_for Extended number = Some (decimal number)
 -- the entries of an answer, each a message, in order (RFC 4511 4.5.2)
 abbrev pub entry_messages : ℕ → List SearchResultEntryValue → List MessageValue
 entry_messages id entries = map (λ (e : SearchResultEntryValue). message id (search_entry e) []) entries
-
--- some message has a content that no length of at most four octets can say
-abbrev pub HasTooLong : List MessageValue → Type 0
-HasTooLong [] = ⊥
-HasTooLong (m ∷ ms) = (2 ^ 32 ≤ length (message_content m)) ⊎ HasTooLong ms

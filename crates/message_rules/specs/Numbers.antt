@@ -1,32 +1,13 @@
 -- Numbers as text: decimal digits without a leading zero. Octets flow in; numbers flow out.
-use Rattle.std.specs.Prelude.{ℕ, ◌+◌, ◌-◌, ◌*◌, List, [], ◌∷◌, Bool, false, ◌&&◌, cond, nat_eq, nat_le, Option, None, Some}
+use Rattle.std.specs.Prelude.{ℕ, List, [], ◌∷◌, Bool, false, cond, nat_eq, Option, None, Some}
 use Rattle.std.specs.Option.{option_and_then}
-
--- the greatest number that is named: 2 ^ 63 - 1
-abbrev pub greatest : ℕ
-greatest = 9223372036854775807
-
-abbrev pub is_digit : ℕ → Bool
-is_digit b = nat_le 48 b && nat_le b 57
-
--- a number with one more digit, if that is one and the number isn't above the greatest
-abbrev pub with_digit : ℕ → ℕ → Option ℕ
-with_digit n b = cond (is_digit b && nat_le (10 * n + (b - 48)) greatest) (Some (10 * n + (b - 48))) None
-
--- the number that these digits write after those of n, if there is one
-abbrev pub number_after : Option ℕ → List ℕ → Option ℕ
-number_after n [] = n
-number_after n (b ∷ bs) = number_after (option_and_then (λ k. with_digit k b) n) bs
+pub use Rattle.dir_tree.specs.dir_entry.ldap_syntax.Numbers.{greatest, with_digit, number_after, number_of_digits}
 
 -- a zero that other digits follow
 abbrev pub is_padded : List ℕ → Bool
 is_padded [] = false
 is_padded (b ∷ []) = false
 is_padded (b ∷ c ∷ bs) = nat_eq b 48
-
-abbrev pub number_of_digits : List ℕ → Option ℕ
-number_of_digits [] = None
-number_of_digits (b ∷ bs) = number_after (Some 0) (b ∷ bs)
 
 -- the number of a text: one digit or more, no leading zero, at most the greatest
 abbrev pub number_of : List ℕ → Option ℕ

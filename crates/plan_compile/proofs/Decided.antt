@@ -14,7 +14,7 @@ use Rattle.ldap_eval.specs.dir_entry.Entry.{KeyedAttribute, attributes_of, IsKey
 use Rattle.plan_sets.specs.index_choice.declared.kinds.Kinds.{Kinds}
 use Rattle.ldap_eval.specs.Value.{asked_by, parts_of, how_of, type_of, is_matched, is_looked_at}
 use Rattle.ldap_eval.specs.Bound.{leaf_if, leaves_from, matches_from, matches_for, matches_with}
-use Rattle.ldap_eval.specs.Made.{IsMadeOf, AreMadeOf, IsMadeOfItem, IsItemFor, IsItemOn, IsMatchOn, IsMatchFor, IsExtensible, is_equality_item, own_type}
+use Rattle.ldap_eval.specs.Made.{IsMadeOf, AreMadeOf, IsMadeOfItem, IsItemFor, IsItemOn, IsMatchOn, IsMatchFor, IsExtensible, is_equality_item}
 use Rattle.ldap_eval.specs.declared.bound.Leaf.{Leaf}
 use Rattle.ldap_eval.specs.declared.bound.Match.{Match}
 use Rattle.ldap_eval.specs.declared.bound.BoundFilter.{BoundFilter}
@@ -27,6 +27,7 @@ use Rattle.plan_compile.specs.Runs.{has_runs_for, runs_step, has_runs_of_test}
 use Rattle.plan_compile.specs.Decided.{put_if, types_from, types_under, is_decided_on, is_item_decided, looks_from, looks_at_some, is_left_open, is_extensible_decided, is_wire_item_decided, is_decided, are_decided}
 use Rattle.plan_compile.specs.Held.{has_runs_on, has_runs_of_item, has_runs_of_extensible, has_runs_of_wire_item, has_runs, has_all_runs, has_some_runs}
 use Rattle.plan_compile.proofs.HeldRuns.{TestsAreItems, test_decided, test_held}
+use Rattle.std.specs.Option.{option_flatten}
 
 module _ (ix : List Kinds) where
   decided-And : (v : Vec BoundFilter Global) → is_bound_decided ix (bound.And v) ≡ list_all (λ b. b) (map (is_bound_decided ix) v.items)
@@ -133,8 +134,8 @@ module _ (law : TestsAreItems) (s : SchemaModel) (ix : List Kinds) where
   decided_extensible : (x : ExtensibleValue) (h : Option How) (t : Option (Option ℕ)) (b : BoundFilter) → IsExtensible s x h t b → is_bound_decided ix b ≡ is_extensible_decided s ix x h t
   decided_extensible x h t b m = by (is_equality_item s x h t) refl
     where
-      by : (own : Bool) → is_equality_item s x h t ≡ own → is_bound_decided ix b ≡ cond own (is_item_decided s ix (equal x.match_value) (own_type t)) (not (is_left_open s x h t))
-      by true e = decided_for (equal x.match_value) (own_type t) b (m.equality e)
+      by : (own : Bool) → is_equality_item s x h t ≡ own → is_bound_decided ix b ≡ cond own (is_item_decided s ix (equal x.match_value) (option_flatten t)) (not (is_left_open s x h t))
+      by true e = decided_for (equal x.match_value) (option_flatten t) b (m.equality e)
       by false e = decided_match_for x h t b (m.residual e)
 
   decided_item : (i : filter_item.Item) (b : BoundFilter) → IsMadeOfItem s i b → is_bound_decided ix b ≡ is_wire_item_decided s ix i
@@ -243,8 +244,8 @@ module _ (law : TestsAreItems) (s : SchemaModel) (ix : List Kinds) (e : List Key
   runs_extensible : (x : ExtensibleValue) (h : Option How) (t : Option (Option ℕ)) (b : BoundFilter) → IsExtensible s x h t b → has_runs_for ix e b ≡ has_runs_of_extensible s ix (attributes_of e) x h t
   runs_extensible x h t b m = by (is_equality_item s x h t) refl
     where
-      by : (own : Bool) → is_equality_item s x h t ≡ own → has_runs_for ix e b ≡ cond own (has_runs_of_item s ix (attributes_of e) (equal x.match_value) (own_type t)) (is_left_open s x h t)
-      by true r = runs_for (equal x.match_value) (own_type t) b (m.equality r)
+      by : (own : Bool) → is_equality_item s x h t ≡ own → has_runs_for ix e b ≡ cond own (has_runs_of_item s ix (attributes_of e) (equal x.match_value) (option_flatten t)) (is_left_open s x h t)
+      by true r = runs_for (equal x.match_value) (option_flatten t) b (m.equality r)
       by false r = runs_match_for x h t b (m.residual r)
 
   runs_item : (i : filter_item.Item) (b : BoundFilter) → IsMadeOfItem s i b → has_runs_for ix e b ≡ has_runs_of_wire_item s ix (attributes_of e) i

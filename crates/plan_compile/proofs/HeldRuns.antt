@@ -5,7 +5,6 @@ use mathlib.Core.Path.{fun_ext}
 use Rattle.ldap_eval.specs.ldap_syntax.Families.{has_substrings}
 use Rattle.ldap_eval.specs.ldap_syntax.Meaning.{Meaning, text, as_text, part_meaning}
 use Rattle.ldap_eval.specs.ldap_syntax.Keys as syntax_keys
-use Rattle.ldap_eval.specs.ldap_syntax.Keys.{text_key}
 use Rattle.ldap_eval.specs.ldap_syntax.declared.preparing.Part.TheVariants.{Initial, Any, Final}
 use Rattle.ldap_eval.specs.ldap_syntax.declared.rule.Family.{Family}
 use Rattle.ldap_eval.specs.ldap_syntax.declared.rule.Family.TheVariants as family
@@ -27,9 +26,10 @@ use Rattle.plan_sets.specs.index_choice.Choice.{kinds_of}
 use Rattle.plan_sets.specs.dir_index.Postings.{some_key, stands_in}
 use Rattle.plan_compile.specs.Bounds.{is_test_decided}
 use Rattle.plan_compile.specs.Decided.{has_index_for, is_decided_on}
-use Rattle.plan_compile.specs.Held.{utf8_of, utf8_parts, stands_in_text, stands_in_some, has_part_runs, has_prepared_runs, has_runs_by, has_runs_on}
+use Rattle.plan_compile.specs.Held.{utf8_parts, stands_in_text, stands_in_some, has_part_runs, has_prepared_runs, has_runs_by, has_runs_on}
 use Rattle.plan_compile.specs.Runs.{has_runs, has_runs_of_test, runs_of_all}
 use Rattle.plan_compile.specs.Runs as runs
+use Rattle.ldap_eval.specs.ldap_syntax.Octets.{utf8_of}
 
 -- what a test on keys says is what the item says
 abbrev pub TestsAreItems : Type 0
@@ -123,22 +123,22 @@ abbrev spelled_all : Option PartsModel → Option PartsModel
 spelled_all None = None
 spelled_all (Some p) = Some (utf8_parts p)
 
-end_some : (o : Option (List ℕ)) → some_of (text_key o) ≡ spelled_end (some_of o)
+end_some : (o : Option (List ℕ)) → some_of (utf8_of o) ≡ spelled_end (some_of o)
 end_some None = refl
 end_some (Some t) = refl
 
-ends_spelled : (g : List ℕ → Option (List ℕ)) (o : Option (List ℕ)) → end_by (λ v. text_key (g v)) o ≡ spelled_end (end_by g o)
+ends_spelled : (g : List ℕ → Option (List ℕ)) (o : Option (List ℕ)) → end_by (λ v. utf8_of (g v)) o ≡ spelled_end (end_by g o)
 ends_spelled g None = refl
 ends_spelled g (Some v) = end_some (g v)
 
-before_spelled : (o : Option (List ℕ)) (os : Option (List (List ℕ))) → put_before (text_key o) (spelled_each os) ≡ spelled_each (put_before o os)
+before_spelled : (o : Option (List ℕ)) (os : Option (List (List ℕ))) → put_before (utf8_of o) (spelled_each os) ≡ spelled_each (put_before o os)
 before_spelled None os = refl
 before_spelled (Some t) None = refl
 before_spelled (Some t) (Some ts) = refl
 
-each_spelled : (g : List ℕ → Option (List ℕ)) (vs : List (List ℕ)) → each_by (λ v. text_key (g v)) vs ≡ spelled_each (each_by g vs)
+each_spelled : (g : List ℕ → Option (List ℕ)) (vs : List (List ℕ)) → each_by (λ v. utf8_of (g v)) vs ≡ spelled_each (each_by g vs)
 each_spelled g [] = refl
-each_spelled g (v ∷ vs) = ap (put_before (text_key (g v))) (each_spelled g vs) ∙ before_spelled (g v) (each_by g vs)
+each_spelled g (v ∷ vs) = ap (put_before (utf8_of (g v))) (each_spelled g vs) ∙ before_spelled (g v) (each_by g vs)
 
 three_spelled : (i : Option (Option (List ℕ))) (a : Option (List (List ℕ))) (l : Option (Option (List ℕ))) → three_parts (spelled_end i) (spelled_each a) (spelled_end l) ≡ spelled_all (three_parts i a l)
 three_spelled None a l = refl
@@ -154,7 +154,7 @@ parts_spelled r p =
 
 -- ---- the key of a value is the text that it means, in UTF-8
 
-text_stands : (g k : List ℕ) (b : Bool) (o : Option (List ℕ)) → cond b (text_key o) None ≡ Some k → stands_in g k ≡ stands_in_text g (cond b (as_text o) None)
+text_stands : (g k : List ℕ) (b : Bool) (o : Option (List ℕ)) → cond b (utf8_of o) None ≡ Some k → stands_in g k ≡ stands_in_text g (cond b (as_text o) None)
 text_stands g k true None h = absurd (cc)
 text_stands g k true (Some t) h = let same : encode_utf8_all t ≡ k = cc in ap (stands_in g) (sym same)
 text_stands g k false o h = absurd (cc)

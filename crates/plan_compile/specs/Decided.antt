@@ -9,9 +9,10 @@ use Rattle.ldap_eval.specs.ldap_filter.Tree.{Tree, conj, disj, negation, item, T
 use Rattle.ldap_eval.specs.ldap_match.Item.{Item, present, equal, at_least, at_most, substrings, is_answerable}
 use Rattle.ldap_eval.specs.ldap_match.declared.naming_rules.How.{How}
 use Rattle.ldap_eval.specs.Value.{asked_by, parts_of, how_of, type_of, is_matched, is_looked_at}
-use Rattle.ldap_eval.specs.Made.{is_equality_item, own_type}
+use Rattle.ldap_eval.specs.Made.{is_equality_item}
 use Rattle.plan_sets.specs.index_choice.declared.kinds.Kinds.{Kinds}
 use Rattle.plan_sets.specs.index_choice.Choice.{kinds_of}
+use Rattle.std.specs.Option.{option_flatten}
 
 abbrev pub put_if : Bool → ℕ → List ℕ → List ℕ
 put_if true t ts = t ∷ ts
@@ -60,7 +61,7 @@ is_left_open s x (Some h) (Some t) = is_matched s h t x.match_value && looks_at_
 
 -- Whether the indexes decide an extensible item: as the equality item that it is, else only where it can't be matched, and is Undefined on every entry.
 abbrev pub is_extensible_decided : SchemaModel → List Kinds → ExtensibleValue → Option How → Option (Option ℕ) → Bool
-is_extensible_decided s ix x h t = cond (is_equality_item s x h t) (is_item_decided s ix (equal x.match_value) (own_type t)) (not (is_left_open s x h t))
+is_extensible_decided s ix x h t = cond (is_equality_item s x h t) (is_item_decided s ix (equal x.match_value) (option_flatten t)) (not (is_left_open s x h t))
 
 abbrev pub is_wire_item_decided : SchemaModel → List Kinds → filter_item.Item → Bool
 is_wire_item_decided s ix (filter_item.comparison k d a) = is_item_decided s ix (asked_by k a) (find s d)

@@ -14,17 +14,15 @@ use Rattle.ldap_eval.specs.ldap_match.Item.{Item, present, equal, at_least, at_m
 use Rattle.ldap_eval.specs.ldap_match.declared.naming_rules.How.{How}
 use Rattle.ldap_eval.specs.dir_entry.Entry.{AttributeModel}
 use Rattle.ldap_eval.specs.Value.{asked_by, parts_of, how_of, type_of}
-use Rattle.ldap_eval.specs.Made.{is_equality_item, own_type}
+use Rattle.ldap_eval.specs.Made.{is_equality_item}
 use Rattle.plan_sets.specs.index_choice.declared.kinds.Kinds.{Kinds}
 use Rattle.plan_sets.specs.index_choice.Choice.{kinds_of}
 use Rattle.plan_sets.specs.dir_index.Postings.{stands_in}
 use Rattle.plan_compile.specs.Runs.{runs_of_all}
 use Rattle.plan_compile.specs.Runs as runs
 use Rattle.plan_compile.specs.Decided.{types_under, is_left_open}
-
-abbrev pub utf8_of : Option (List ℕ) → Option (List ℕ)
-utf8_of None = None
-utf8_of (Some t) = Some (encode_utf8_all t)
+use Rattle.ldap_eval.specs.ldap_syntax.Octets.{utf8_of}
+use Rattle.std.specs.Option.{option_flatten}
 
 -- prepared parts, each in UTF-8
 abbrev pub utf8_parts : PartsModel → PartsModel
@@ -74,7 +72,7 @@ has_runs_of_item s ix e asked (Some t) = is_answerable s asked t && list_any (λ
 
 -- of an extensible item, as of the equality item that it is, else of any entry, unless it is Undefined on every one
 abbrev pub has_runs_of_extensible : SchemaModel → List Kinds → List AttributeModel → ExtensibleValue → Option How → Option (Option ℕ) → Bool
-has_runs_of_extensible s ix e x h t = cond (is_equality_item s x h t) (has_runs_of_item s ix e (equal x.match_value) (own_type t)) (is_left_open s x h t)
+has_runs_of_extensible s ix e x h t = cond (is_equality_item s x h t) (has_runs_of_item s ix e (equal x.match_value) (option_flatten t)) (is_left_open s x h t)
 
 abbrev pub has_runs_of_wire_item : SchemaModel → List Kinds → List AttributeModel → filter_item.Item → Bool
 has_runs_of_wire_item s ix e (filter_item.comparison k d a) = has_runs_of_item s ix e (asked_by k a) (find s d)

@@ -1,6 +1,6 @@
 -- Each type of a schema that is read from a text is found by its first name. Descriptions flow in; names of entries are not here.
-use Rattle.std.proofs.Common.{ℕ, ◌+◌, ◌<◌, ◌≤◌, zero, suc, List, [], ◌∷◌, Bool, true, false, cond, not, ◌&&◌, ◌||◌, Option, None, Some, Ok, nat_eq, nat_lt, ◌≡◌, refl, sym, ap, ap₂, ◌∙◌, subst, map, length, IsUtf8, arith}
-use Rattle.std.proofs.lemmas.Bool.{eq-eqb}
+use Rattle.std.proofs.Common.{ℕ, ◌+◌, ◌<◌, ◌≤◌, zero, suc, List, [], ◌∷◌, Bool, true, false, cond, not, ◌&&◌, ◌||◌, Option, None, Some, Ok, nat_eq, nat_lt, nat_le, ◌≡◌, refl, sym, ap, ap₂, ◌∙◌, subst, map, length, IsUtf8, arith}
+use Rattle.std.proofs.lemmas.Bool.{eq-eqb, ltb-true}
 use Rattle.std.proofs.lemmas.Bool.Decides.{nat_tests}
 use Rattle.std.proofs.lemmas.Slice.Eq.{bytes_eq-Decides}
 use Rattle.std.proofs.lemmas.Str.{IsUtf8-append, IsUtf8-nil, IsUtf8-encode, encode_ascii, is_utf8-from_IsUtf8}
@@ -58,7 +58,12 @@ descr_octets (c ∷ cs) h = (
 -- parts of digits with dots between them
 digits_of : (p : List ℕ) → is_number p ≡ true → list_all is_digit p ≡ true
 digits_of [] h = refl
-digits_of (c ∷ cs) h = left_true (is_digit c && list_all is_digit cs) (nat_eq (length cs) 0 || not (nat_eq c 48)) h
+digits_of (c ∷ []) h = rw h refl
+digits_of (c ∷ d ∷ cs) h =
+    let front = left_true (nat_lt 48 c && nat_le c 57) (list_all is_digit (d ∷ cs)) h in
+    let low : 48 < c = ltb-true 48 c (left_true (nat_lt 48 c) (nat_le c 57) front) in
+    let high : nat_le c 57 ≡ true = right_true (nat_lt 48 c) (nat_le c 57) front in
+    rw (right_true (nat_lt 48 c && nat_le c 57) (list_all is_digit (d ∷ cs)) h) (grind (arith, nat_tests, low, high))
 
 each_digits : (ps : List (List ℕ)) → list_all is_number ps ≡ true → AllByRecursion (λ p. list_all is_digit p ≡ true) ps
 each_digits ps h = all_map (λ p. is_number p ≡ true) (λ p. list_all is_digit p ≡ true) digits_of ps (all_tests is_number ps h)

@@ -5,7 +5,7 @@ use Rattle.std.specs.List.{AllByRecursion}
 use Rattle.schema_reader.specs.schema_text.Words.{is_descr, is_numericoid}
 use Rattle.schema_reader.specs.schema_text.Tokens.{tokens_of}
 use Rattle.schema_reader.specs.schema_text.Keywords.{place_of, shape_of}
-use Rattle.schema_reader.specs.schema_text.Arguments.{if_found, one, one_or, listed, pieces, word_of, descr_if, quoted_text, quoted_name, next_text, all_from, argument_of}
+use Rattle.schema_reader.specs.schema_text.Arguments.{one, one_or, listed, pieces, word_of, descr_if, quoted_text, quoted_name, next_text, all_from, argument_of}
 use Rattle.schema_reader.specs.schema_text.Descriptions.{FieldModel, DescriptionModel, texts_at, keyword_at, is_flag, fields_end, begun, completed, with_argument, taken, fields_from, are_in_order, in_order, numericoid_if, numericoid_of, ordered_fields, of_pieces, inside, description_of}
 use Rattle.schema_reader.specs.schema_text.Texts.{SchemaTextModel, heading_of, is_skipped, is_headed, with_bad, with_type, with_class, description_behind, with_line, read_from, nothing, lines_of, read_text}
 use Rattle.schema_reader.specs.schema_text.declared.token.Token.{Token}
@@ -15,6 +15,7 @@ use Rattle.schema_reader.specs.schema_text.declared.keyword.Keyword.{Keyword}
 use Rattle.schema_reader.specs.schema_text.declared.keyword.Keyword.TheVariants as keyword
 use Rattle.ldap_dn.proofs.Spelled.{none_some, some_same}
 use Rattle.schema_laws.proofs.Valued.{all_append}
+use Rattle.std.specs.Option.{option_and_then}
 
 -- ---- names
 
@@ -25,7 +26,7 @@ descr_by : (b : Bool) (w n : List ℕ) → is_descr w ≡ b → cond b (Some w) 
 descr_by true w n e h = ap is_descr (sym (some_same h)) ∙ e
 descr_by false w n e h = absurd (none_some h)
 
-name_by : (o : Option (List ℕ)) (n : List ℕ) → if_found o descr_if ≡ Some n → is_descr n ≡ true
+name_by : (o : Option (List ℕ)) (n : List ℕ) → option_and_then descr_if o ≡ Some n → is_descr n ≡ true
 name_by None n h = absurd (none_some h)
 name_by (Some w) n h = descr_by (is_descr w) w n refl h
 
@@ -58,7 +59,7 @@ argument_is : (s : Section) (k : Keyword) (p : List Token) (xs : List (List ℕ)
 argument_is s keyword.Name p xs h e = names_by (listed p) p xs h
 argument_is s k p xs h e = cc
 
-with_by : (s : Section) (k : Keyword) (p : List Token) (o : Option (List (List ℕ))) (f : FieldModel) → argument_of (shape_of s k) p ≡ o → if_found o (λ xs. Some (record { keyword = k; texts = xs })) ≡ Some f → IsSoundField f
+with_by : (s : Section) (k : Keyword) (p : List Token) (o : Option (List (List ℕ))) (f : FieldModel) → argument_of (shape_of s k) p ≡ o → option_and_then (λ xs. Some (record { keyword = k; texts = xs })) o ≡ Some f → IsSoundField f
 with_by s k p None f e h = absurd (none_some h)
 with_by s k p (Some xs) f e h = subst IsSoundField (some_same h) (λ n. argument_is s k p xs e n)
 
@@ -94,7 +95,7 @@ ordered_by : (b : Bool) (fs gs : List FieldModel) → cond b (Some fs) None ≡ 
 ordered_by true fs gs h = some_same h
 ordered_by false fs gs h = absurd (none_some h)
 
-ordered_at : (s : Section) (ps : List (List Token)) (o : Option (List FieldModel)) (gs : List FieldModel) → fields_from s [] None ps ≡ o → if_found o in_order ≡ Some gs → AllByRecursion IsSoundField gs
+ordered_at : (s : Section) (ps : List (List Token)) (o : Option (List FieldModel)) (gs : List FieldModel) → fields_from s [] None ps ≡ o → option_and_then in_order o ≡ Some gs → AllByRecursion IsSoundField gs
 ordered_at s ps None gs e h = absurd (none_some h)
 ordered_at s ps (Some fs) gs e h = subst (AllByRecursion IsSoundField) (ordered_by (are_in_order 0 fs) fs gs h) (fields_by s [] fs None ps tt e)
 
@@ -117,14 +118,14 @@ numericoid_by : (b : Bool) (w o : List ℕ) → is_numericoid w ≡ b → cond b
 numericoid_by true w o e h = ap is_numericoid (sym (some_same h)) ∙ e
 numericoid_by false w o e h = absurd (none_some h)
 
-oid_by : (m : Option (List ℕ)) (o : List ℕ) → if_found m numericoid_if ≡ Some o → is_numericoid o ≡ true
+oid_by : (m : Option (List ℕ)) (o : List ℕ) → option_and_then numericoid_if m ≡ Some o → is_numericoid o ≡ true
 oid_by None o h = absurd (none_some h)
 oid_by (Some w) o h = numericoid_by (is_numericoid w) w o refl h
 
 made : ℕ → List ℕ → List FieldModel → DescriptionModel
 made line o fs = record { line = line; oid = o; fields = fs }
 
-pieces_by : (line : ℕ) (s : Section) (ps : List (List Token)) (a : Option (List ℕ)) (b : Option (List FieldModel)) (d : DescriptionModel) → ((o : List ℕ) → a ≡ Some o → is_numericoid o ≡ true) → ((fs : List FieldModel) → b ≡ Some fs → AllByRecursion IsSoundField fs) → if_found a (λ oid. if_found b (λ fs. Some (record { line = line; oid = oid; fields = fs }))) ≡ Some d → IsSound line d
+pieces_by : (line : ℕ) (s : Section) (ps : List (List Token)) (a : Option (List ℕ)) (b : Option (List FieldModel)) (d : DescriptionModel) → ((o : List ℕ) → a ≡ Some o → is_numericoid o ≡ true) → ((fs : List FieldModel) → b ≡ Some fs → AllByRecursion IsSoundField fs) → option_and_then (λ oid. option_and_then (λ fs. Some (record { line = line; oid = oid; fields = fs })) b) a ≡ Some d → IsSound line d
 unfolding made
 pieces_by line s ps None b d f g h = absurd (none_some h)
 pieces_by line s ps (Some o) None d f g h = absurd (none_some h)
@@ -137,11 +138,11 @@ of_pieces_by line s [] d h = absurd (none_some h)
 of_pieces_by line s (p ∷ ps) d h =
     pieces_by line s ps (numericoid_of p) (ordered_fields s ps) d (λ o e. oid_by (word_of p) o e) (λ fs e. ordered_at s ps (fields_from s [] None ps) fs refl e) h
 
-tokens_by : (line : ℕ) (s : Section) (o : Option (List Token)) (d : DescriptionModel) → if_found o (λ ts. of_pieces line s (pieces false ts)) ≡ Some d → IsSound line d
+tokens_by : (line : ℕ) (s : Section) (o : Option (List Token)) (d : DescriptionModel) → option_and_then (λ ts. of_pieces line s (pieces false ts)) o ≡ Some d → IsSound line d
 tokens_by line s None d h = absurd (none_some h)
 tokens_by line s (Some ts) d h = of_pieces_by line s (pieces false ts) d h
 
-inside_by : (line : ℕ) (s : Section) (o : Option (List ℕ)) (d : DescriptionModel) → if_found o (λ body. if_found (tokens_of body) (λ ts. of_pieces line s (pieces false ts))) ≡ Some d → IsSound line d
+inside_by : (line : ℕ) (s : Section) (o : Option (List ℕ)) (d : DescriptionModel) → option_and_then (λ body. option_and_then (λ ts. of_pieces line s (pieces false ts)) (tokens_of body)) o ≡ Some d → IsSound line d
 inside_by line s None d h = absurd (none_some h)
 inside_by line s (Some body) d h = tokens_by line s (tokens_of body) d h
 

@@ -1,64 +1,18 @@
 -- First lines by octets, after a change of the map, and what they say of descriptions. Facts on lists flow in and out; no value of the
 -- program is here.
-use Rattle.std.proofs.Common.{◌≡◌, ◌<◌, ◌+◌, ℕ, Bool, true, false, cond, ◌||◌, ◌&&◌, List, [], ◌∷◌, Option, Some, None, is_some, Ordering, refl, sym, ap, ◌∙◌, Vec, Global, drop, length, get_or, map, nat_lt, suc, add-one, drop-cons, arith}
+use Rattle.std.proofs.Common.{◌≡◌, ◌<◌, ◌+◌, ℕ, Bool, true, false, cond, ◌||◌, ◌&&◌, List, [], ◌∷◌, Option, Some, None, is_some, refl, sym, ap, ◌∙◌, drop, length, get_or, map, nat_lt, arith}
 use Rattle.std.specs.List.{list_any}
-use Rattle.std.specs.Ordering.{is_eq, match_ordering, nat_cmp}
-use Rattle.std.specs.Cmp.Lexicographic.{slice_cmp}
-use Rattle.std.specs.Map.{lookup}
-use Rattle.std.specs.BTreeMap.{insert_entry}
 use Rattle.std.specs.Char.{to_ascii_lowercase}
 use Rattle.std.specs.Str.{bytes_eq}
 use Rattle.std.proofs.lemmas.Bool.Decides.{nat_tests}
 use Rattle.std.proofs.lemmas.Slice.Eq.{bytes_eq-Decides}
-use Rattle.std.proofs.lemmas.Map.Text.{is_eq-slice_cmp}
 use Rattle.schema_text.specs.Descriptions.{DescriptionModel}
 use Rattle.schema_text.specs.Texts.{SchemaTextModel}
-use Rattle.schema_meaning.specs.Octets.{number_at, has_folded}
+use Rattle.schema_meaning.specs.Octets.{has_folded}
 use Rattle.schema_meaning.specs.Naming.{names_of, is_name_among, has_twice, share_a_name, is_before}
 use Rattle.schema_meaning.specs.Faults.{earlier_of}
 use Rattle.schema_meaning.specs.FirstLines.{noted, first_line, line_in, is_less}
-
-abbrev Lines : Type 0
-Lines = List (Vec ℕ Global × ℕ)
-
--- a look-up of the map
-pub line_lookup : (q : List ℕ) (es : Lines) → lookup (λ (k : Vec ℕ Global). is_eq (slice_cmp nat_cmp q k.items)) es ≡ number_at es q
-line_lookup q [] = refl
-line_lookup q (e ∷ es) =
-    ap (λ (b : Bool). cond b (Some e.1) (lookup (λ (k : Vec ℕ Global). is_eq (slice_cmp nat_cmp q k.items)) es)) (is_eq-slice_cmp q e.0.items)
-    ∙ ap (cond (bytes_eq q e.0.items) (Some e.1)) (line_lookup q es)
-
--- octets that are put
-pub line_put : (key : Vec ℕ Global) (v : ℕ) (es : Lines) (q : List ℕ) → number_at (insert_entry (λ (a b : Vec ℕ Global). slice_cmp nat_cmp a.items b.items) es key v) q ≡ cond (bytes_eq q key.items) (Some v) (number_at es q)
-line_put key v [] q = refl
-line_put key v (e ∷ es) q = by (slice_cmp nat_cmp key.items e.0.items) refl (line_put key v es q)
-  where
-    rest : Lines
-    rest = insert_entry (λ (a b : Vec ℕ Global). slice_cmp nat_cmp a.items b.items) es key v
-
-    swap : (a b : Bool) → (a ≡ true → b ≡ true → ⊥) → (x y : ℕ) (o : Option ℕ) → cond b (Some y) (cond a (Some x) o) ≡ cond a (Some x) (cond b (Some y) o)
-    swap true true apart x y o = absurd (apart refl refl)
-    swap true false apart x y o = refl
-    swap false b apart x y o = refl
-
-    flat : (b : Bool) → cond b (Some v) (number_at es q) ≡ cond b (Some v) (cond b (Some e.1) (number_at es q))
-    flat true = refl
-    flat false = refl
-
-    two : key.items ≡ e.0.items → bytes_eq key.items e.0.items ≡ false → ⊥
-    two same other = let yes' : bytes_eq key.items e.0.items ≡ true = (bytes_eq-Decides key.items e.0.items).1 same in cc
-
-    by : (o : Ordering) → o ≡ slice_cmp nat_cmp key.items e.0.items → number_at rest q ≡ cond (bytes_eq q key.items) (Some v) (number_at es q)
-        → number_at (match_ordering o ((key, v) ∷ e ∷ es) ((e.0, v) ∷ es) (e ∷ rest)) q ≡ cond (bytes_eq q key.items) (Some v) (cond (bytes_eq q e.0.items) (Some e.1) (number_at es q))
-    by Ordering.Less h ih = refl
-    by Ordering.Equal h ih =
-        let same : bytes_eq key.items e.0.items ≡ true = sym (is_eq-slice_cmp key.items e.0.items) ∙ ap is_eq (sym h) in
-        let one : key.items ≡ e.0.items = (bytes_eq-Decides key.items e.0.items).0 same in
-        flat (bytes_eq q e.0.items) ∙ sym (ap (λ (m : List ℕ). cond (bytes_eq q m) (Some v) (cond (bytes_eq q e.0.items) (Some e.1) (number_at es q))) one)
-    by Ordering.Greater h ih =
-        let other : bytes_eq key.items e.0.items ≡ false = sym (is_eq-slice_cmp key.items e.0.items) ∙ ap is_eq (sym h) in
-        ap (λ (o : Option ℕ). cond (bytes_eq q e.0.items) (Some e.1) o) ih
-        ∙ swap (bytes_eq q key.items) (bytes_eq q e.0.items) (λ a b. two (sym ((bytes_eq-Decides q key.items).0 a) ∙ (bytes_eq-Decides q e.0.items).0 b) other) v e.1 (number_at es q)
+pub use Rattle.schema_text.proofs.ldap_syntax.NumbersKept.{opened, number_lookup as line_lookup, number_put as line_put}
 
 -- the lower line is put
 noted_by : (f : List ℕ → Option ℕ) (k q : List ℕ) (line first : ℕ) (b : Bool) → bytes_eq q k ≡ b → Some first ≡ earlier_of line (f k) → cond b (Some first) (f q) ≡ noted b line (f q)
@@ -81,10 +35,6 @@ noted_twice : (a b : Bool) (line : ℕ) (o : Option ℕ) → noted b line (noted
 noted_twice true true line o = again line o
 noted_twice true false line o = refl
 noted_twice false b line o = refl
-
--- the element at a place and what stands behind it
-pub opened : {A : Type 0} (xs : List A) (i : ℕ) (x : A) → i < length xs → x ≡ get_or xs i x → drop i xs ≡ x ∷ drop (i + 1) xs
-opened xs i x lt is = drop-cons xs i x lt ∙ ap (λ (y : _). y ∷ drop (suc i) xs) (sym is) ∙ ap (λ (n : ℕ). x ∷ drop n xs) (sym (add-one i))
 
 -- one more name
 pub noted_more : {A : Type 0} (p : A → Bool) (xs : List A) (i : ℕ) (x : A) (o new all : Option ℕ) (line : ℕ) → i < length xs → x ≡ get_or xs i x → new ≡ noted (p x) line o

@@ -1,17 +1,17 @@
 -- What halving finds among octets in order. Facts on lists flow in and out; no value of the program is here.
-use Rattle.std.proofs.Common.{ℕ, zero, suc, ◌+◌, ◌<◌, ◌≤◌, List, [], ◌∷◌, true, false, cond, None, Some, ◌≡◌, refl, ap, sym, subst, ◌∙◌, Vec, Global, length, get_or, drop, map, ◌⊎◌, inl, inr, arith}
+use Rattle.std.proofs.Common.{ℕ, zero, suc, ◌+◌, ◌<◌, ◌≤◌, List, [], ◌∷◌, false, cond, None, Some, ◌≡◌, refl, ap, sym, subst, ◌∙◌, Vec, Global, length, get_or, ◌⊎◌, inl, inr, arith}
 use Rattle.std.specs.List.{AllByRecursion}
 use Rattle.std.specs.List.Sorted.{IsNonDecreasingBy, IsPartitionPoint, IsStrictlySortedBy}
-use Rattle.std.specs.Ordering.{ordering_index, is_lt, is_eq, ordering_reverse, nat_cmp}
+use Rattle.std.specs.Ordering.{ordering_index, is_lt, nat_cmp}
 use Rattle.std.specs.Cmp.Lexicographic.{slice_cmp}
 use Rattle.std.specs.Map.{keys_of}
 use Rattle.std.specs.declared.cmp.Ordering.TheVariants.{Less, Equal, Greater}
 use Rattle.std.specs.Str.{bytes_eq}
 use Rattle.std.proofs.lemmas.Bool.{cases_lt}
-use Rattle.std.proofs.lemmas.Cmp.{nat_list_cmp_total, alike_right, tied_back}
+use Rattle.std.proofs.lemmas.Cmp.{nat_list_cmp_total, alike_right}
 use Rattle.std.proofs.lemmas.List.Sorted.{searchable_from_sorted}
-use Rattle.std.proofs.lemmas.Map.Text.{is_eq-slice_cmp}
 use Rattle.schema_meaning.specs.Octets.{order, number_at, IsBefore, IsInOrder}
+pub use Rattle.schema_text.proofs.ldap_syntax.OctetOrder.{all_at, turned, same_is, other_is, above_is, longer}
 
 abbrev pub Entries : Type 0
 Entries = List (Vec ℕ Global × ℕ)
@@ -26,37 +26,17 @@ unfolding IsStrictlySortedBy
 in_order_of_keys [] s = tt
 in_order_of_keys (e ∷ es) s = (keys_behind e es s.0, in_order_of_keys es s.1)
 
-all_at : {X : Type 0} (P : X → Type 0) (xs : List X) (j : ℕ) (d : X) → j < length xs → AllByRecursion P xs → P (get_or xs j d)
-all_at P [] j d lt h = absurd (omega (arith, lt))
-all_at P (x ∷ xs) zero d lt h = h.0
-all_at P (x ∷ xs) (suc j) d lt h = all_at P xs j d (omega (arith, lt)) h.1
-
 far : (es : Entries) → IsInOrder es → (i j : ℕ) (d : Vec ℕ Global × ℕ) → i < j → j < length es → IsBefore (get_or es i d) (get_or es j d)
 far [] s i j d lt range = absurd (omega (arith, range))
 far (e ∷ es) s i zero d lt range = absurd (omega (arith, lt))
 far (e ∷ es) s zero (suc j) d lt range = all_at (IsBefore e) es j d (omega (arith, range)) s.0
 far (e ∷ es) s (suc i) (suc j) d lt range = far es s.1 i j d (omega (arith, lt)) (omega (arith, range))
 
-turned : (a b : List ℕ) → order a b ≡ Less → order b a ≡ Greater
-turned a b h = nat_list_cmp_total.antisymm b a ∙ ap ordering_reverse h
-
-turned_back : (a b : List ℕ) → order a b ≡ Greater → order b a ≡ Less
-turned_back a b h = nat_list_cmp_total.antisymm b a ∙ ap ordering_reverse h
-
 -- the comparisons with a name rise along the entries
 rise : (es : Entries) (q : List ℕ) → IsInOrder es → IsNonDecreasingBy (λ (y : Vec ℕ Global × ℕ). ordering_index (order y.0.items q)) es
 rise es q s =
     searchable_from_sorted nat_list_cmp_total (λ (e : Vec ℕ Global × ℕ). e.0.items) es q
     (λ k d low range. ap is_lt (turned (get_or es k d).0.items (get_or es (k + 1) d).0.items (far es s k (k + 1) d (omega arith) range)))
-
-same_is : (a b : List ℕ) → order a b ≡ Equal → bytes_eq b a ≡ true
-same_is a b h = sym (is_eq-slice_cmp b a) ∙ ap is_eq (tied_back nat_list_cmp_total a b h)
-
-other_is : (a b : List ℕ) → order a b ≡ Less → bytes_eq b a ≡ false
-other_is a b h = sym (is_eq-slice_cmp b a) ∙ ap is_eq (turned a b h)
-
-above_is : (a b : List ℕ) → order a b ≡ Greater → bytes_eq b a ≡ false
-above_is a b h = sym (is_eq-slice_cmp b a) ∙ ap is_eq (turned_back a b h)
 
 -- octets that are equal at a place have the number there
 found_at : (es : Entries) → IsInOrder es → (q : List ℕ) (i : ℕ) (d : Vec ℕ Global × ℕ) → i < length es → order (get_or es i d).0.items q ≡ Equal → number_at es q ≡ Some (get_or es i d).1
@@ -89,16 +69,3 @@ number_missing es slice e s q i range h =
     subst (λ (x : Entries). IsPartitionPoint (λ (y : Vec ℕ Global × ℕ). order y.0.items q ≡ Less) (λ (y : Vec ℕ Global × ℕ). order y.0.items q ≡ Greater) x i) e
     (h (subst (λ (x : Entries). IsNonDecreasingBy (λ (y : Vec ℕ Global × ℕ). ordering_index (order y.0.items q)) x) (sym e) (rise es q s))) in
     sym (none_at es q (λ j d lt. split_at es q i (λ m f low. split.0 m f (omega arith) low) (λ m f le high. split.1 m f le high) j d lt (cases_lt j i)))
-
--- octets that go on are behind those that have ended
-goes_on : (kept : List ℕ) (i : ℕ) → i < length kept → Greater ≡ order (drop i kept) []
-goes_on [] i lt = absurd (omega (arith, lt))
-goes_on (x ∷ kept) zero lt = refl
-goes_on (x ∷ kept) (suc i) lt = goes_on kept i (omega (arith, lt))
-
-ended : (rest : List ℕ) → length rest ≡ 0 → rest ≡ []
-ended [] h = refl
-ended (x ∷ rest) h = absurd (omega (arith, h))
-
-pub longer : (kept rest : List ℕ) (i : ℕ) (f : ℕ → ℕ) → i < length kept → length rest ≡ 0 → Greater ≡ order (drop i kept) (map f rest)
-longer kept rest i f lt h = goes_on kept i lt ∙ ap (λ (r : List ℕ). order (drop i kept) (map f r)) (sym (ended rest h))

@@ -1,12 +1,13 @@
 -- What is wrong with the descriptions of a text: RFC 4512 4.1. Descriptions flow in, numbers of lines flow out; the schema that they
 -- make is not here.
-use Rattle.std.specs.Prelude.{ℕ, ◌+◌, List, [], ◌∷◌, Bool, true, not, cond, ◌||◌, ◌&&◌, Option, None, Some, is_some, nat_lt}
+use Rattle.std.specs.Prelude.{ℕ, ◌+◌, List, [], ◌∷◌, Bool, true, not, cond, ◌||◌, ◌&&◌, Option, None, Some, is_some}
 use Rattle.std.specs.List.{list_all}
 use Rattle.schema_text.specs.Descriptions.{DescriptionModel, first_text_at, texts_at}
 use Rattle.schema_text.specs.Texts.{SchemaTextModel}
-use Rattle.ldap_syntax.specs.RulesByName.{equality_family, ordering_family, substrings_family, syntax_of}
+use Rattle.schema_text.specs.ldap_syntax.RulesByName.{equality_family, ordering_family, substrings_family, syntax_of}
 use Rattle.schema_meaning.specs.Naming.{superior_text, superior_texts, find, is_repeated}
 use Rattle.schema_meaning.specs.Inheriting.{is_unfit}
+pub use Rattle.schema_text.specs.ldap_syntax.NameOrder.{lower as earlier, lower_than as earlier_of}
 
 -- a description of a type is bad together with the others
 abbrev pub is_bad_type : SchemaTextModel → ℕ → DescriptionModel → Bool
@@ -21,15 +22,6 @@ first_of_types test t (d ∷ ds) = cond (test t d) (Some d.line) (first_of_types
 abbrev pub first_of_all : (DescriptionModel → Bool) → List DescriptionModel → Option ℕ
 first_of_all test [] = None
 first_of_all test (d ∷ ds) = cond (test d) (Some d.line) (first_of_all test ds)
-
-abbrev pub earlier_of : ℕ → Option ℕ → Option ℕ
-earlier_of n None = Some n
-earlier_of n (Some m) = Some (cond (nat_lt m n) m n)
-
--- the lower one of two lines
-abbrev pub earlier : Option ℕ → Option ℕ → Option ℕ
-earlier None m = m
-earlier (Some n) m = earlier_of n m
 
 -- The first line that is no description, or one that is bad together with the others.
 abbrev pub bad_line : SchemaTextModel → Option ℕ

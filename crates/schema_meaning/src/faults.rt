@@ -4,7 +4,7 @@
 ghost use Rattle.std.specs.Prelude.{◌≡◌, not, map, is_some, IfOk};
 ghost use Rattle.std.specs.List.{list_all};
 ghost use Rattle.schema_text.specs.Descriptions.{first_text_at};
-ghost use Rattle.ldap_syntax.specs.RulesByName as rules;
+ghost use Rattle.schema_text.specs.ldap_syntax.RulesByName as rules;
 ghost use Rattle.schema_meaning.specs.Naming as naming;
 ghost use Rattle.schema_meaning.specs.Faults as faults;
 ghost use Rattle.schema_meaning.specs.Inheriting as inheriting;
@@ -13,8 +13,9 @@ use crate::called::Called;
 use crate::effects::Effects;
 use crate::first_lines::FirstLines;
 use crate::indexed::IndexedText;
-use ldap_syntax::{equality_family, ordering_family, substrings_family, syntax_of};
-use schema_text::{Description, Keyword};
+use schema_text::{
+    Description, Keyword, equality_family, ordering_family, substrings_family, syntax_of,
+};
 use std::alloc::{AllocError, Global};
 
 /// Whether the description of a type is bad together with the others.

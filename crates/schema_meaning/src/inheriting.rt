@@ -3,16 +3,15 @@
 
 ghost use Rattle.std.specs.Prelude.{◌≡◌, IfOk};
 ghost use Rattle.schema_text.specs.Descriptions.{first_text_at};
-ghost use Rattle.ldap_syntax.specs.RulesByName as rules;
+ghost use Rattle.schema_text.specs.ldap_syntax.RulesByName as rules;
 ghost use Rattle.schema_meaning.specs.Naming.{superior_text};
 ghost use Rattle.schema_meaning.specs.Inheriting as inheriting;
 
 use crate::called::Called;
-use ldap_syntax::{
-    Family, Syntax, equality_family, family_number, is_used_on, ordering_family, substrings_family,
-    syntax_of,
+use schema_text::{
+    Description, Family, Keyword, Syntax, equality_family, family_number, is_used_on,
+    ordering_family, substrings_family, syntax_of,
 };
-use schema_text::{Description, Keyword};
 use std::alloc::{AllocError, Global};
 
 /// Where the SUP of a type leads.

@@ -17,9 +17,9 @@ pub use effects::Effects;
 pub use faults::{bad_line, earlier, unknown_line};
 pub use indexed::IndexedText;
 pub use inheriting::{Effect, Given};
-pub use ldap_syntax::{
-    Family, Key, Part, Rule, Syntax, ValueError, has_meaning, has_ordering, has_substrings,
-    is_in_syntax, is_numericoid, key_of, keys_compare, part_key_of, parts_compare,
-};
 pub use naming::{names, superior_of};
-pub use schema_text::{Description, Field, Keyword, SchemaText, read_text};
+pub use schema_text::{
+    Description, Family, Field, Key, Keyword, Part, Rule, SchemaText, Syntax, ValueError,
+    has_meaning, has_ordering, has_substrings, is_in_syntax, is_numericoid, key_of, keys_compare,
+    part_key_of, parts_compare, read_text,
+};

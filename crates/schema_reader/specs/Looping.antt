@@ -1,6 +1,7 @@
 -- Types that many SUPs lead to. Types flow in by their numbers; how a program finds them is not here, and no contract above names it.
 use Rattle.std.specs.Prelude.{ℕ, ◌*◌, ◌+◌, ◌<◌, zero, suc, List, [], ◌∷◌, ◌≡◌, Bool, true, false, map, length, slice_get, slice_set, Option, None, Some}
 use Rattle.ldap_schema.specs.Schema.{TypeModel, superior_of}
+use Rattle.std.specs.Option.{option_flatten}
 
 abbrev pub then_up : Option ℕ → (ℕ → Option ℕ) → Option ℕ
 then_up None f = None
@@ -11,13 +12,9 @@ abbrev pub up : List TypeModel → ℕ → ℕ → Option ℕ
 up ts zero t = Some t
 up ts (suc k) t = then_up (superior_of ts t) (λ u. up ts k u)
 
-abbrev pub step_in : Option (Option ℕ) → Option ℕ
-step_in None = None
-step_in (Some o) = o
-
 -- where steps lead from a type
 abbrev pub step_at : List (Option ℕ) → ℕ → Option ℕ
-step_at steps t = step_in (slice_get steps t)
+step_at steps t = option_flatten (slice_get steps t)
 
 -- the steps, each taken twice
 abbrev pub doubled : List (Option ℕ) → List (Option ℕ)

@@ -4,7 +4,7 @@ use Rattle.std.proofs.lemmas.Bool.{eqb-true}
 use Rattle.std.proofs.lemmas.List.{length-append}
 use Rattle.schema_text.specs.Words.{ends_with, is_octet}
 use Rattle.schema_text.specs.Tokens.{tokens_of}
-use Rattle.schema_text.specs.Arguments.{if_found, pieces, argument_of}
+use Rattle.schema_text.specs.Arguments.{pieces, argument_of}
 use Rattle.schema_text.specs.Keywords.{shape_of}
 use Rattle.schema_text.specs.Descriptions.{FieldModel, DescriptionModel, keyword_at, is_flag, begun, completed, fields_from, are_in_order, in_order, numericoid_of, ordered_fields, of_pieces, inside, description_of}
 use Rattle.schema_text.specs.Grammar.{IsSpaced, AreFields, no_field, a_flag, a_field, IsDescription, DescriptionsAreOfOctets}
@@ -14,6 +14,7 @@ use Rattle.schema_text.specs.declared.keyword.Keyword.{Keyword}
 use Rattle.schema_text.proofs.Spelled.{tokens_spelled}
 use Rattle.schema_text.specs.Spelling.{IsSpelled}
 use Rattle.schema_text.proofs.Spaced.{spaced_cut, cut_spaced}
+use Rattle.std.specs.Option.{option_and_then}
 
 none_some : {A : Type 0} {x : A} → None ≡ Some x → ⊥
 none_some h = cc
@@ -45,7 +46,7 @@ fields_read s acc (a_flag {ps} {fs} p k e f q) =
 fields_read s acc (a_field {ps} {fs} p q k xs e f a r) =
     ap (λ o. begun s acc o (λ gs v. fields_from s gs v (q ∷ ps))) e
     ∙ ap (λ (c : Bool). cond c (fields_from s (acc ++ flag k ∷ []) None (q ∷ ps)) (fields_from s acc (Some k) (q ∷ ps))) f
-    ∙ ap (λ (o : Option (List (List ℕ))). completed acc (if_found o (λ ys. Some (field k ys))) (λ gs v. fields_from s gs v ps)) a
+    ∙ ap (λ (o : Option (List (List ℕ))). completed acc (option_and_then (λ ys. Some (field k ys)) o) (λ gs v. fields_from s gs v ps)) a
     ∙ fields_read s (acc ++ field k xs ∷ []) r
     ∙ ap Some (push_onto acc (field k xs) fs)
 
@@ -57,7 +58,7 @@ record HasFields (s : Section) (acc : List FieldModel) (ps : List (List Token)) 
 put : (s : Section) (acc : List FieldModel) (f : FieldModel) (ps rest : List (List Token)) (gs : List FieldModel) → ((fs : List FieldModel) → AreFields s rest fs → AreFields s ps (f ∷ fs)) → HasFields s (acc ++ f ∷ []) rest gs → HasFields s acc ps gs
 put s acc f ps rest gs more h = record { fs = f ∷ h.fs; is_all = h.is_all ∙ push_onto acc f h.fs; are_fields = more h.fs h.are_fields }
 
-at_argument : (o : Option (List (List ℕ))) (s : Section) (acc : List FieldModel) (p q : List Token) (k : Keyword) (ps : List (List Token)) (gs : List FieldModel) → keyword_at s p ≡ Some k → is_flag (shape_of s k) ≡ false → argument_of (shape_of s k) q ≡ o → ((a : List FieldModel) → fields_from s a None ps ≡ Some gs → HasFields s a ps gs) → completed acc (if_found o (λ ys. Some (field k ys))) (λ hs v. fields_from s hs v ps) ≡ Some gs → HasFields s acc (p ∷ q ∷ ps) gs
+at_argument : (o : Option (List (List ℕ))) (s : Section) (acc : List FieldModel) (p q : List Token) (k : Keyword) (ps : List (List Token)) (gs : List FieldModel) → keyword_at s p ≡ Some k → is_flag (shape_of s k) ≡ false → argument_of (shape_of s k) q ≡ o → ((a : List FieldModel) → fields_from s a None ps ≡ Some gs → HasFields s a ps gs) → completed acc (option_and_then (λ ys. Some (field k ys)) o) (λ hs v. fields_from s hs v ps) ≡ Some gs → HasFields s acc (p ∷ q ∷ ps) gs
 at_argument None s acc p q k ps gs e f a more h = absurd (none_some h)
 at_argument (Some xs) s acc p q k ps gs e f a more h = put s acc (field k xs) (p ∷ q ∷ ps) ps gs (λ fs r. a_field p q k xs e f a r) (more (acc ++ field k xs ∷ []) h)
 
@@ -139,12 +140,12 @@ enclosed (c ∷ cs) body h = enclosed_by (nat_eq c 40 && ends_with 41 cs) c cs b
 -- a description is read so
 description_is : (s : Section) (octets : List ℕ) (d : DescriptionModel) → IsDescription s octets d → description_of d.line s octets ≡ Some d
 description_is s octets d i =
-    ap (λ (o : Option (List ℕ)). if_found o (λ body. if_found (tokens_of body) (λ ts. of_pieces d.line s (pieces false ts)))) (inside_of i.body octets i.is_enclosed)
-    ∙ ap (λ (o : Option (List Token)). if_found o (λ ts. of_pieces d.line s (pieces false ts))) ((tokens_spelled i.body i.tokens).1 i.are_tokens)
+    ap (λ (o : Option (List ℕ)). option_and_then (λ body. option_and_then (λ ts. of_pieces d.line s (pieces false ts)) (tokens_of body)) o) (inside_of i.body octets i.is_enclosed)
+    ∙ ap (λ (o : Option (List Token)). option_and_then (λ ts. of_pieces d.line s (pieces false ts)) o) ((tokens_spelled i.body i.tokens).1 i.are_tokens)
     ∙ ap (of_pieces d.line s) (spaced_cut false i.are_spaced)
-    ∙ ap (λ (o : Option (List ℕ)). if_found o (λ oid. if_found (ordered_fields s i.rest) (λ fs. Some (made d.line oid fs)))) i.is_oid
-    ∙ ap (λ (o : Option (List FieldModel)). if_found (if_found o in_order) (λ fs. Some (made d.line d.oid fs))) (fields_read s [] i.are_fields)
-    ∙ ap (λ (b : Bool). if_found (cond b (Some d.fields) None) (λ fs. Some (made d.line d.oid fs))) i.in_order
+    ∙ ap (λ (o : Option (List ℕ)). option_and_then (λ oid. option_and_then (λ fs. Some (made d.line oid fs)) (ordered_fields s i.rest)) o) i.is_oid
+    ∙ ap (λ (o : Option (List FieldModel)). option_and_then (λ fs. Some (made d.line d.oid fs)) (option_and_then in_order o)) (fields_read s [] i.are_fields)
+    ∙ ap (λ (b : Bool). option_and_then (λ fs. Some (made d.line d.oid fs)) (cond b (Some d.fields) None)) i.in_order
 
 -- what is read is a description
 record IsRead (s : Section) (n : ℕ) (octets : List ℕ) (d : DescriptionModel) (ps : List (List Token)) : Type 0 where
@@ -162,15 +163,15 @@ same_fields : (b : Bool) (fs gs : List FieldModel) → cond b (Some fs) None ≡
 same_fields true fs gs h = some_same h
 same_fields false fs gs h = absurd (none_some h)
 
-order_by : (o : Option (List FieldModel)) (gs : List FieldModel) → if_found o in_order ≡ Some gs → are_in_order 0 gs ≡ true
+order_by : (o : Option (List FieldModel)) (gs : List FieldModel) → option_and_then in_order o ≡ Some gs → are_in_order 0 gs ≡ true
 order_by None gs h = absurd (none_some h)
 order_by (Some fs) gs h = ordered (are_in_order 0 fs) fs gs refl h
 
-fields_by : (o : Option (List FieldModel)) (gs : List FieldModel) → if_found o in_order ≡ Some gs → o ≡ Some gs
+fields_by : (o : Option (List FieldModel)) (gs : List FieldModel) → option_and_then in_order o ≡ Some gs → o ≡ Some gs
 fields_by None gs h = absurd (none_some h)
 fields_by (Some fs) gs h = ap Some (same_fields (are_in_order 0 fs) fs gs h)
 
-by_fields : (o : Option (List FieldModel)) (s : Section) (n : ℕ) (octets oid : List ℕ) (d : DescriptionModel) (p : List Token) (ps : List (List Token)) → IsRead s n octets d (p ∷ ps) → numericoid_of p ≡ Some oid → ordered_fields s ps ≡ o → if_found o (λ fs. Some (made n oid fs)) ≡ Some d → IsDescription s octets d
+by_fields : (o : Option (List FieldModel)) (s : Section) (n : ℕ) (octets oid : List ℕ) (d : DescriptionModel) (p : List Token) (ps : List (List Token)) → IsRead s n octets d (p ∷ ps) → numericoid_of p ≡ Some oid → ordered_fields s ps ≡ o → option_and_then (λ fs. Some (made n oid fs)) o ≡ Some d → IsDescription s octets d
 by_fields None s n octets oid d p ps r e f h = absurd (none_some h)
 by_fields (Some fs) s n octets oid d p ps r e f h =
     subst (IsDescription s octets) (some_same h)
@@ -187,7 +188,7 @@ by_fields (Some fs) s n octets oid d p ps r e f h =
       in_order = order_by (fields_from s [] None ps) fs f;
     })
 
-by_oid : (o : Option (List ℕ)) (s : Section) (n : ℕ) (octets : List ℕ) (d : DescriptionModel) (p : List Token) (ps : List (List Token)) → IsRead s n octets d (p ∷ ps) → numericoid_of p ≡ o → if_found o (λ oid. if_found (ordered_fields s ps) (λ fs. Some (made n oid fs))) ≡ Some d → IsDescription s octets d
+by_oid : (o : Option (List ℕ)) (s : Section) (n : ℕ) (octets : List ℕ) (d : DescriptionModel) (p : List Token) (ps : List (List Token)) → IsRead s n octets d (p ∷ ps) → numericoid_of p ≡ o → option_and_then (λ oid. option_and_then (λ fs. Some (made n oid fs)) (ordered_fields s ps)) o ≡ Some d → IsDescription s octets d
 by_oid None s n octets d p ps r e h = absurd (none_some h)
 by_oid (Some oid) s n octets d p ps r e h = by_fields (ordered_fields s ps) s n octets oid d p ps r e refl h
 
@@ -195,12 +196,12 @@ by_pieces : (ps : List (List Token)) (s : Section) (n : ℕ) (octets : List ℕ)
 by_pieces [] s n octets d r h = absurd (none_some h)
 by_pieces (p ∷ ps) s n octets d r h = by_oid (numericoid_of p) s n octets d p ps r refl h
 
-by_tokens : (o : Option (List Token)) (s : Section) (n : ℕ) (octets body : List ℕ) (d : DescriptionModel) → octets ≡ 40 ∷ body ++ 41 ∷ [] → tokens_of body ≡ o → if_found o (λ ts. of_pieces n s (pieces false ts)) ≡ Some d → IsDescription s octets d
+by_tokens : (o : Option (List Token)) (s : Section) (n : ℕ) (octets body : List ℕ) (d : DescriptionModel) → octets ≡ 40 ∷ body ++ 41 ∷ [] → tokens_of body ≡ o → option_and_then (λ ts. of_pieces n s (pieces false ts)) o ≡ Some d → IsDescription s octets d
 by_tokens None s n octets body d c e h = absurd (none_some h)
 by_tokens (Some ts) s n octets body d c e h =
     by_pieces (pieces false ts) s n octets d (record { body = body; is_enclosed = c; tokens = ts; are_tokens = (tokens_spelled body ts).0 e; are_spaced = cut_spaced false ts }) h
 
-by_inside : (o : Option (List ℕ)) (s : Section) (n : ℕ) (octets : List ℕ) (d : DescriptionModel) → inside octets ≡ o → if_found o (λ body. if_found (tokens_of body) (λ ts. of_pieces n s (pieces false ts))) ≡ Some d → IsDescription s octets d
+by_inside : (o : Option (List ℕ)) (s : Section) (n : ℕ) (octets : List ℕ) (d : DescriptionModel) → inside octets ≡ o → option_and_then (λ body. option_and_then (λ ts. of_pieces n s (pieces false ts)) (tokens_of body)) o ≡ Some d → IsDescription s octets d
 by_inside None s n octets d e h = absurd (none_some h)
 by_inside (Some body) s n octets d e h = by_tokens (tokens_of body) s n octets body d (enclosed octets body e) refl h
 

@@ -5,14 +5,15 @@ use Rattle.std.proofs.lemmas.List.Elements.{All-nil, All-cons}
 use Rattle.std.specs.List.{slice_split, onto_first, slice_get}
 use Rattle.std.proofs.lemmas.Bool.{eqb-true}
 use Rattle.std.proofs.lemmas.List.Splits.{slice_split_none, slice_split_at}
-use Rattle.schema_text.specs.Texts.{without_return, part_in, one_line, lines_of_parts, lines_of}
+use Rattle.schema_text.specs.Texts.{without_return, one_line, lines_of_parts, lines_of}
 use Rattle.schema_text.specs.Lines.{LacksFeed, AreLines, no_line, last_line, a_line, LinesAreOfText}
+use Rattle.ldap_syntax.specs.Parts.{part_or_nothing}
 
 -- one more part before parts is one more line
 more_parts : (p q : List ℕ) (ps : List (List ℕ)) → lines_of_parts (p ∷ q ∷ ps) ≡ without_return p ∷ lines_of_parts (q ∷ ps)
 more_parts p q ps =
     let e : length (p ∷ q ∷ ps) - 1 ≡ suc (length (q ∷ ps) - 1) = omega arith in
-    ap (λ n. map without_return (take n (p ∷ q ∷ ps)) ++ one_line (part_in (slice_get (p ∷ q ∷ ps) n))) e
+    ap (λ n. map without_return (take n (p ∷ q ∷ ps)) ++ one_line (part_or_nothing (slice_get (p ∷ q ∷ ps) n))) e
 
 data IsParted : List ℕ → List (List ℕ) → Type 0 where
   is_last : (ts : List ℕ) → LacksFeed ts → IsParted ts (ts ∷ [])

@@ -7,10 +7,7 @@ use Rattle.schema_text.specs.Tokens.{octet_of, is_outer, is_inner, is_quoted, is
 use Rattle.schema_text.specs.declared.token.Token.{Token}
 use Rattle.schema_text.specs.declared.keyword.Shape.{Shape}
 use Rattle.schema_text.specs.declared.keyword.Shape.TheVariants as shape
-
-abbrev pub if_found : {A B : Type 0} → Option A → (A → Option B) → Option B
-if_found None f = None
-if_found (Some x) f = f x
+use Rattle.std.specs.Option.{option_and_then}
 
 abbrev pub is_some_piece : List Token → Bool
 is_some_piece ts = nat_lt 0 (length ts)
@@ -36,14 +33,14 @@ dstring_of ts = cond (nat_lt 0 (length ts) && list_all is_quoted ts) (Some (map 
 
 -- qdstring: a text in quotes, not empty (RFC 4512 1.4)
 abbrev pub quoted_text : Bool → List Token → Option (List ℕ)
-quoted_text b ts = if_found (between (is_bare b 39) (is_bare b 39) ts) dstring_of
+quoted_text b ts = option_and_then dstring_of (between (is_bare b 39) (is_bare b 39) ts)
 
 abbrev pub descr_if : List ℕ → Option (List ℕ)
 descr_if w = cond (is_descr w) (Some w) None
 
 -- qdescr: a descr in quotes (RFC 4512 1.4)
 abbrev pub quoted_name : Bool → List Token → Option (List ℕ)
-quoted_name b ts = if_found (quoted_text b ts) descr_if
+quoted_name b ts = option_and_then descr_if (quoted_text b ts)
 
 -- octets outside lists and quoted texts
 abbrev pub word_of : List Token → Option (List ℕ)
@@ -53,7 +50,7 @@ abbrev pub oid_if : List ℕ → Option (List ℕ)
 oid_if w = cond (is_oid w) (Some w) None
 
 abbrev pub oid_of : List Token → Option (List ℕ)
-oid_of ts = if_found (word_of ts) oid_if
+oid_of ts = option_and_then oid_if (word_of ts)
 
 -- without the SPACEs at the front
 abbrev pub without_leading : List Token → List Token
@@ -80,7 +77,7 @@ all_from f xs [] = Some xs
 all_from f xs (p ∷ ps) = next_text xs (f p) (λ ys. all_from f ys ps)
 
 abbrev pub one : Option (List ℕ) → Option (List (List ℕ))
-one o = if_found o (λ x. Some (x ∷ []))
+one o = option_and_then (λ x. Some (x ∷ [])) o
 
 -- a list in parentheses; none, where the piece is no such list
 abbrev pub listed : List Token → Option (List Token)
@@ -114,5 +111,5 @@ argument_of shape.Text ts = one (quoted_text false ts)
 argument_of shape.Texts ts = texts_of ts
 argument_of shape.Oid ts = one (oid_of ts)
 argument_of shape.Oids ts = oids_of ts
-argument_of shape.BoundedOid ts = one (if_found (word_of ts) bounded_oid)
-argument_of shape.Usage ts = one (if_found (word_of ts) usage_if)
+argument_of shape.BoundedOid ts = one (option_and_then bounded_oid (word_of ts))
+argument_of shape.Usage ts = one (option_and_then usage_if (word_of ts))

@@ -4,12 +4,13 @@ use Rattle.std.specs.Prelude.{ℕ, ◌-◌, List, [], ◌∷◌, ◌++◌, lengt
 use Rattle.schema_text.specs.Words.{is_numericoid, ends_with}
 use Rattle.schema_text.specs.Tokens.{tokens_of}
 use Rattle.schema_text.specs.Keywords.{keyword_of, place_of, may_follow, shape_of}
-use Rattle.schema_text.specs.Arguments.{if_found, pieces, word_of, argument_of}
+use Rattle.schema_text.specs.Arguments.{pieces, word_of, argument_of}
 use Rattle.schema_text.specs.declared.token.Token.{Token}
 use Rattle.schema_text.specs.declared.keyword.Section.{Section}
 use Rattle.schema_text.specs.declared.keyword.Keyword.{Keyword}
 use Rattle.schema_text.specs.declared.keyword.Shape.{Shape}
 use Rattle.schema_text.specs.declared.keyword.Shape.TheVariants as shape
+use Rattle.std.specs.Option.{option_and_then}
 
 -- a field: its keyword, and the texts of its argument
 pub record FieldModel : Type 0 where
@@ -40,7 +41,7 @@ abbrev pub first_text_at : ℕ → List FieldModel → Option (List ℕ)
 first_text_at n fs = first_of (texts_at n fs)
 
 abbrev pub keyword_at : Section → List Token → Option Keyword
-keyword_at s p = if_found (word_of p) (keyword_of s)
+keyword_at s p = option_and_then (keyword_of s) (word_of p)
 
 abbrev pub is_flag : Shape → Bool
 is_flag shape.Flag = true
@@ -67,7 +68,7 @@ completed fs (Some g) f = f (fs ++ g ∷ []) None
 
 -- the field of a keyword and its argument
 abbrev pub with_argument : Section → Keyword → List Token → Option FieldModel
-with_argument s k p = if_found (argument_of (shape_of s k) p) (λ xs. Some (record { keyword = k; texts = xs }))
+with_argument s k p = option_and_then (λ xs. Some (record { keyword = k; texts = xs })) (argument_of (shape_of s k) p)
 
 -- a piece is a keyword, or the argument that one waits for
 abbrev pub taken : Section → List FieldModel → Option Keyword → List Token → (List FieldModel → Option Keyword → Option (List FieldModel)) → Option (List FieldModel)
@@ -91,17 +92,17 @@ abbrev pub numericoid_if : List ℕ → Option (List ℕ)
 numericoid_if w = cond (is_numericoid w) (Some w) None
 
 abbrev pub numericoid_of : List Token → Option (List ℕ)
-numericoid_of p = if_found (word_of p) numericoid_if
+numericoid_of p = option_and_then numericoid_if (word_of p)
 
 -- the fields of pieces, in the order of the grammar
 abbrev pub ordered_fields : Section → List (List Token) → Option (List FieldModel)
-ordered_fields s ps = if_found (fields_from s [] None ps) in_order
+ordered_fields s ps = option_and_then in_order (fields_from s [] None ps)
 
 -- a description of pieces: a numericoid and fields
 abbrev pub of_pieces : ℕ → Section → List (List Token) → Option DescriptionModel
 of_pieces line s [] = None
 of_pieces line s (p ∷ ps) =
-    if_found (numericoid_of p) (λ oid. if_found (ordered_fields s ps) (λ fs. Some (record { line = line; oid = oid; fields = fs })))
+    option_and_then (λ oid. option_and_then (λ fs. Some (record { line = line; oid = oid; fields = fs })) (ordered_fields s ps)) (numericoid_of p)
 
 -- the octets between parentheses
 abbrev pub inside : List ℕ → Option (List ℕ)
@@ -112,4 +113,4 @@ inside (c ∷ cs) = cond (nat_eq c 40 && ends_with 41 cs) (Some (take (length cs
 -- 4.1.2, AttributeTypeDescription).
 abbrev pub description_of : ℕ → Section → List ℕ → Option DescriptionModel
 description_of line s octets =
-    if_found (inside octets) (λ body. if_found (tokens_of body) (λ ts. of_pieces line s (pieces false ts)))
+    option_and_then (λ body. option_and_then (λ ts. of_pieces line s (pieces false ts)) (tokens_of body)) (inside octets)

@@ -7,3 +7,5 @@ pub mod Texts
 pub mod Lines
 pub mod Spelling
 pub mod Grammar
+-- what layers above name of the crates below
+pub use Rattle.ldap_syntax.specs as ldap_syntax

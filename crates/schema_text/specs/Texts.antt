@@ -6,17 +6,14 @@ use Rattle.schema_text.specs.Words.{is_same_word, ends_with}
 use Rattle.schema_text.specs.Descriptions.{DescriptionModel, description_of}
 use Rattle.schema_text.specs.declared.keyword.Section.{Section}
 use Rattle.schema_text.specs.declared.keyword.Section.TheVariants.{AttributeTypes, ObjectClasses}
+use Rattle.ldap_syntax.specs.Parts.{part_or_nothing}
 
 -- less one CR at the end
 abbrev pub without_return : List ℕ → List ℕ
 without_return l = cond (ends_with 13 l) (take (length l - 1) l) l
 
-abbrev pub part_in : Option (List ℕ) → List ℕ
-part_in None = []
-part_in (Some l) = l
-
 abbrev pub last_part : List (List ℕ) → List ℕ
-last_part parts = part_in (slice_get parts (length parts - 1))
+last_part parts = part_or_nothing (slice_get parts (length parts - 1))
 
 abbrev pub but_last : List (List ℕ) → List (List ℕ)
 but_last parts = take (length parts - 1) parts

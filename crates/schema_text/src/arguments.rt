@@ -1,7 +1,7 @@
 // Arguments of fields. The tokens between spaces flow in, texts flow out.
 // What must not be here: keywords, octets of a text.
 
-ghost use Rattle.std.specs.Prelude.{◌≡◌, [], true, map, option_map, IfOk};
+ghost use Rattle.std.specs.Prelude.{◌≡◌, [], true, map, option_and_then, option_map, IfOk};
 ghost use Rattle.schema_text.specs.Arguments as arguments;
 ghost use Rattle.schema_text.specs.Words as words;
 
@@ -186,7 +186,7 @@ fn oids(alloc: Global, tokens: &[Token]) -> Result<Option<Vec<Vec<u8>>>, AllocEr
 
 /// The object identifier that the tokens are, which a number in braces may follow.
 fn bounded(alloc: Global, tokens: &[Token]) -> Result<Option<Vec<u8>>, AllocError>
-    ensures { IfOk result (λ o. option_map (λ v. v.items) o ≡ arguments.if_found (arguments.word_of tokens.now) words.bounded_oid) }
+    ensures { IfOk result (λ o. option_map (λ v. v.items) o ≡ option_and_then words.bounded_oid (arguments.word_of tokens.now)) }
 {
     let Some(word) = word(alloc, tokens)? else {
         return Ok(None);
@@ -199,7 +199,7 @@ fn bounded(alloc: Global, tokens: &[Token]) -> Result<Option<Vec<u8>>, AllocErro
 
 /// The word that the tokens are, if it is `userApplications`.
 fn usage(alloc: Global, tokens: &[Token]) -> Result<Option<Vec<u8>>, AllocError>
-    ensures { IfOk result (λ o. option_map (λ v. v.items) o ≡ arguments.if_found (arguments.word_of tokens.now) arguments.usage_if) }
+    ensures { IfOk result (λ o. option_map (λ v. v.items) o ≡ option_and_then arguments.usage_if (arguments.word_of tokens.now)) }
 {
     let Some(word) = word(alloc, tokens)? else {
         return Ok(None);

@@ -5,6 +5,7 @@ ghost use Rattle.std.specs.Prelude.{◌≡◌, ◌≤◌, length, map, option_ma
 ghost use Rattle.std.specs.List.{list_all, slice_split};
 ghost use Rattle.schema_text.specs.Words as words;
 
+use ldap_syntax::is_number;
 use std::alloc::{AllocError, Global};
 
 /// Whether the two are the same, without regard to case.
@@ -49,25 +50,6 @@ pub fn is_descr(word: &[u8]) -> bool
     match word {
         [] => false,
         [first, rest @ ..] => is_alpha(*first) && are_key_octets(rest),
-    }
-}
-
-/// Whether the octets are digits.
-fn are_digits(octets: &[u8]) -> bool
-    ensures { result ≡ list_all words.is_digit octets.now }
-{
-    octets.iter().all(|octet| is_digit(*octet))
-}
-
-/// Whether the word is a number without leading zeros.
-fn is_number(word: &[u8]) -> bool
-    ensures { result ≡ words.is_number word.now }
-{
-    match word {
-        [] => false,
-        [first, rest @ ..] => {
-            is_digit(*first) && are_digits(rest) && (rest.len() == 0 || !(*first == b'0'))
-        }
     }
 }
 

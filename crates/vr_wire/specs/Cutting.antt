@@ -13,11 +13,11 @@ use Rattle.vr_state.specs.declared.message.Snapshot.{Snapshot}
 use Rattle.vr_wire.specs.Frames.{limit}
 use Rattle.vr_wire.specs.declared.error.WireError.{WireError}
 use Rattle.vr_wire.specs.declared.error.WireError.TheVariants as error
+use Rattle.std.specs.Option.{option_and_then}
 
 -- what comes after a cut
 abbrev pub then : {A B : Type 0} → Option A → (A → Option B) → Option B
-then None next = None
-then (Some x) next = next x
+then cut next = option_and_then next cut
 
 -- why nothing was cut: there is nothing, or memory ran out; whose cluster it is isn't asked
 abbrev pub Fails : {Y : Type 0} → WireError → Option Y → Type 0

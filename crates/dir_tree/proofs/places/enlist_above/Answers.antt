@@ -1,13 +1,14 @@
-use Rattle.std.proofs.Common.{◌≡◌, ℕ, suc, ◌+◌, ◌-◌, ◌<◌, ◌≤◌, Bool, true, cond, length, take, zero, refl, sym, ap, nat_eq, ◌∙◌, arith}
+use Rattle.std.proofs.Common.{◌≡◌, ℕ, suc, ◌+◌, ◌-◌, ◌<◌, ◌≤◌, Bool, true, cond, length, take, zero, Some, refl, sym, ap, nat_eq, ◌∙◌, arith}
 use Rattle.std.specs.Prelude.{◌&&◌, is_some}
 use Rattle.std.proofs.lemmas.List.{length-map}
 use Rattle.dir_entry.specs.ldap_dn.Names.{RdnModel, rdns}
 use Rattle.dir_tree.specs.Directory.{NameKey, is_child}
 use Rattle.dir_tree.specs.Places.{Shown, listed, enlisted}
-use Rattle.dir_tree.specs.Kept.{lists_at, is_at, held, place_at}
+use Rattle.dir_tree.specs.Kept.{lists_at, held, place_at}
 use Rattle.dir_tree.specs.declared.place.Places.{Places}
 use Rattle.dir_tree.proofs.Walks.{walking-begins, walking-step, walking-held, walking-ends, done-undone, flag-child, mid-same, hung-on, foot-on}
 use Rattle.dir_tree.proofs.places.enlist_above.Goals as goal
+use Rattle.std.specs.Option.{option_eq}
 
 pub loop-i-init : goal.loop-i-init
 loop-i-init c =
@@ -28,7 +29,7 @@ loop-i-preserved c =
     c.requires.hung c.requires.footed refl c.enlist_next.ensures.links c.in-Ok.ensures.next (λ k. is_some (held now.lists.entries k))
     (walking-held n (λ m. enlisted n m c.args.number) old now new (length n - i) j c.loop-i.at c.in-Ok.next c.loop-i.invariant (omega arith) (omega arith) c.requires.hung c.requires.footed)
     (λ k. c.in-Ok.ensures.ok k
-    ∙ ap (λ (b : Bool). cond (is_at c.loop-i.at k && is_some (held now.lists.entries k)) (listed b c.args.number (lists_at now.lists.entries k)) (lists_at now.lists.entries k)) (flag-child n i j lt (omega arith)))
+    ∙ ap (λ (b : Bool). cond (option_eq nat_eq (Some k) c.loop-i.at && is_some (held now.lists.entries k)) (listed b c.args.number (lists_at now.lists.entries k)) (lists_at now.lists.entries k)) (flag-child n i j lt (omega arith)))
 
 pub returns-clause-ok : goal.returns-clause-ok
 returns-clause-ok c =

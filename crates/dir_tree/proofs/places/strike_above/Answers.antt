@@ -1,12 +1,13 @@
-use Rattle.std.proofs.Common.{◌≡◌, ℕ, suc, ◌+◌, ◌-◌, ◌<◌, ◌≤◌, Bool, true, cond, length, zero, refl, sym, ap, ◌∙◌, arith}
+use Rattle.std.proofs.Common.{◌≡◌, ℕ, suc, ◌+◌, ◌-◌, ◌<◌, ◌≤◌, Bool, true, cond, length, zero, Some, refl, sym, ap, nat_eq, ◌∙◌, arith}
 use Rattle.std.proofs.lemmas.List.{length-map}
 use Rattle.dir_entry.specs.ldap_dn.Names.{RdnModel, rdns}
 use Rattle.dir_tree.specs.Directory.{NameKey}
 use Rattle.dir_tree.specs.Places.{Shown, struck}
-use Rattle.dir_tree.specs.Kept.{lists_at, is_at}
+use Rattle.dir_tree.specs.Kept.{lists_at}
 use Rattle.dir_tree.specs.declared.place.Places.{Places}
 use Rattle.dir_tree.proofs.Walks.{walking-begins, walking-step, walking-ends, and-on}
 use Rattle.dir_tree.proofs.places.strike_above.Goals as goal
+use Rattle.std.specs.Option.{option_eq}
 
 pub loop-i-init : goal.loop-i-init
 loop-i-init c =
@@ -23,7 +24,7 @@ loop-i-preserved c =
     walking-step n (λ m. struck c.args.number) c.args.places.now c.loop-i.places new (length n - i) (length n - (i + 1)) c.loop-i.at c.strike_next-at.result c.loop-i.invariant (omega arith) (omega arith)
     c.requires.hung c.requires.footed refl c.strike_next-at.ensures.links c.strike_next-at.ensures.next (λ k. true) (λ k e. refl)
     (λ k. c.strike_next-at.ensures.struck k
-    ∙ and-on (is_at c.loop-i.at k) (struck c.args.number (lists_at c.loop-i.places.lists.entries k)) (lists_at c.loop-i.places.lists.entries k))
+    ∙ and-on (option_eq nat_eq (Some k) c.loop-i.at) (struck c.args.number (lists_at c.loop-i.places.lists.entries k)) (lists_at c.loop-i.places.lists.entries k))
 
 pub returns-clause-struck : goal.returns-clause-struck
 returns-clause-struck c =
