@@ -1,5 +1,5 @@
 -- Sets of postings: what one more posting changes, and which an attribute has.
-use Rattle.std.proofs.Common.{◌≡◌, ℕ, ◌<◌, ◌≤◌, ◌+◌, Bool, true, false, cond, not, List, [], ◌∷◌, ◌++◌, length, take, get_or, refl, sym, ap, ◌∙◌, nat_eq, arith}
+use Rattle.std.proofs.Common.{◌≡◌, ℕ, ◌<◌, ◌≤◌, ◌+◌, Bool, true, false, cond, not, List, [], ◌∷◌, ◌++◌, length, take, get_or, refl, sym, ap, ◌∙◌, nat_eq, Result, Ok, Err, OnOk, OnErr, arith}
 use Rattle.std.specs.Prelude.{◌&&◌, ◌||◌}
 use Rattle.std.specs.Ordering.{is_eq}
 use Rattle.std.specs.List.{list_any}
@@ -35,6 +35,17 @@ marked_more old new k h p =
     flat : (a b : Bool) → cond a true b ≡ (a || b)
     flat true b = refl
     flat false b = refl
+
+-- what was marked stays marked, whether or not there was memory for one more
+pub still_marked : {A E : Type 0} (P : Type 0) (r : Result A E) (old new : List Posting) (k : Posting) → OnOk r P
+    → (P → (q : Posting) → list_any (is_at (posting_order q)) new ≡ cond (is_at (posting_order k) q) true (list_any (is_at (posting_order q)) old)) → OnErr r (new ≡ old)
+    → (p : Posting) → is_marked old p ≡ true → is_marked new p ≡ true
+still_marked P (Ok a) old new k h f e p m = marked_more old new k (f h) p ∙ ap (λ (b : Bool). is_same_posting k p || b) m ∙ or_on (is_same_posting k p)
+  where
+    or_on : (b : Bool) → (b || true) ≡ true
+    or_on true = refl
+    or_on false = refl
+still_marked P (Err x) old new k h f e p m = ap (λ (l : List Posting). is_marked l p) e ∙ m
 
 -- ---- booleans
 

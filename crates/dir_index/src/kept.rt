@@ -1,7 +1,7 @@
 // What keeps posting lists, as plans ask it. A posting or a range flows in; numbers, or whether a number is there, flow out.
 // What must not be here: how the lists are kept and changed.
 
-ghost use Rattle.std.specs.Prelude.{◌≡◌, ◌++◌, map, OnOk};
+ghost use Rattle.std.specs.Prelude.{◌≡◌, ◌++◌, map, drop, length, OnOk};
 ghost use Rattle.dir_index.specs.Postings.{Lists, has_number, IsRising, AreRising, HaveTogether};
 
 use crate::posting::{Posting, Range};
@@ -25,7 +25,9 @@ pub trait Kept {
         ensures { result ≡ has_number number ((lists self.now).range range.now) };
 
     /// Puts the lists of the keys in a range behind those that are there: each rises, and together they have the numbers of the range.
+    /// An `Err` leaves what was there in front.
     fn push_range<'a>(&'a self, range: &Range, into: &mut Vec<&'a [u64]>) -> Result<(), AllocError>
         ensures covered { OnOk result (HaveTogether (map (λ x. x.now) into.old.items) ((lists self.now).range range.now) (map (λ x. x.now) into.new.items)) }
+        ensures kept { map (λ x. x.now) into.new.items ≡ map (λ x. x.now) into.old.items ++ drop (length (map (λ x. x.now) into.old.items)) (map (λ x. x.now) into.new.items) }
         ensures rising { AreRising (map (λ x. x.now) into.old.items) → AreRising (map (λ x. x.now) into.new.items) };
 }

@@ -1,7 +1,7 @@
 // The postings that list an entry. An index choice and attributes flow in, a set of postings flows out.
 // What must not be here: lists of numbers.
 
-ghost use Rattle.std.specs.Prelude.{◌≡◌, ◌||◌, ◌&&◌, not, ◌∷◌, [], IfOk, OnOk, map};
+ghost use Rattle.std.specs.Prelude.{◌≡◌, ◌||◌, ◌&&◌, not, true, ◌∷◌, [], IfOk, OnOk, map};
 ghost use Rattle.std.specs.List.{list_any};
 ghost use Rattle.dir_index.specs.declared.posting.Posting.{Posting};
 ghost use Rattle.dir_index.specs.Ordered.{is_same_posting};
@@ -17,7 +17,8 @@ pub type Marks = BTreeSet<Posting>;
 
 /// Puts a posting to the others.
 fn mark(marks: &mut Marks, posting: Posting) -> Result<(), AllocError>
-    ensures { OnOk result ((p : Posting) → is_marked marks.new.keys p ≡ (is_same_posting posting p || is_marked marks.old.keys p)) }
+    ensures ok { OnOk result ((p : Posting) → is_marked marks.new.keys p ≡ (is_same_posting posting p || is_marked marks.old.keys p)) }
+    ensures kept { (p : Posting) → is_marked marks.old.keys p ≡ true → is_marked marks.new.keys p ≡ true }
 {
     marks.insert(posting)?;
     Ok(())
@@ -25,7 +26,8 @@ fn mark(marks: &mut Marks, posting: Posting) -> Result<(), AllocError>
 
 /// Puts the posting of the first three octets to the others, if there are three.
 fn mark_first(marks: &mut Marks, type_id: TypeId, octets: &[u8]) -> Result<(), AllocError>
-    ensures { OnOk result ((p : Posting) → is_marked marks.new.keys p ≡ (is_first_run type_id octets.now p || is_marked marks.old.keys p)) }
+    ensures ok { OnOk result ((p : Posting) → is_marked marks.new.keys p ≡ (is_first_run type_id octets.now p || is_marked marks.old.keys p)) }
+    ensures kept { (p : Posting) → is_marked marks.old.keys p ≡ true → is_marked marks.new.keys p ≡ true }
 {
     if octets.len() < 3 {
         return Ok(());
@@ -38,7 +40,8 @@ fn mark_first(marks: &mut Marks, type_id: TypeId, octets: &[u8]) -> Result<(), A
 
 /// Puts the postings of each run of three octets to the others.
 fn mark_runs(marks: &mut Marks, type_id: TypeId, octets: &[u8]) -> Result<(), AllocError>
-    ensures { OnOk result ((p : Posting) → is_marked marks.new.keys p ≡ (is_run_of type_id octets.now p || is_marked marks.old.keys p)) }
+    ensures ok { OnOk result ((p : Posting) → is_marked marks.new.keys p ≡ (is_run_of type_id octets.now p || is_marked marks.old.keys p)) }
+    ensures kept { (p : Posting) → is_marked marks.old.keys p ≡ true → is_marked marks.new.keys p ≡ true }
 {
     let mut rest = octets;
     while let Some((_, behind)) = rest.split_first() {
@@ -55,7 +58,8 @@ fn mark_value(
     type_id: TypeId,
     key: &Key,
 ) -> Result<(), AllocError>
-    ensures { OnOk result ((p : Posting) → is_marked marks.new.keys p ≡ (is_of_key type_id key.now p || is_marked marks.old.keys p)) }
+    ensures ok { OnOk result ((p : Posting) → is_marked marks.new.keys p ≡ (is_of_key type_id key.now p || is_marked marks.old.keys p)) }
+    ensures kept { (p : Posting) → is_marked marks.old.keys p ≡ true → is_marked marks.new.keys p ≡ true }
 {
     let octets = Vec::from_slice(alloc, key.as_octets())?;
     mark(marks, Posting::Equal(type_id, Key::new(octets)))
@@ -69,7 +73,8 @@ fn mark_key(
     type_id: TypeId,
     key: &Key,
 ) -> Result<(), AllocError>
-    ensures { OnOk result ((p : Posting) → is_marked marks.new.keys p ≡ (is_from_key kinds type_id p key.now || is_marked marks.old.keys p)) }
+    ensures ok { OnOk result ((p : Posting) → is_marked marks.new.keys p ≡ (is_from_key kinds type_id p key.now || is_marked marks.old.keys p)) }
+    ensures kept { (p : Posting) → is_marked marks.old.keys p ≡ true → is_marked marks.new.keys p ≡ true }
 {
     if kinds.equality || kinds.ordering {
         mark_value(alloc, marks, type_id, key)?;
@@ -88,7 +93,8 @@ fn mark_keys(
     type_id: TypeId,
     keys: &[Key],
 ) -> Result<(), AllocError>
-    ensures { OnOk result ((p : Posting) → is_marked marks.new.keys p ≡ (list_any (is_from_key kinds type_id p) keys.now || is_marked marks.old.keys p)) }
+    ensures ok { OnOk result ((p : Posting) → is_marked marks.new.keys p ≡ (list_any (is_from_key kinds type_id p) keys.now || is_marked marks.old.keys p)) }
+    ensures kept { (p : Posting) → is_marked marks.old.keys p ≡ true → is_marked marks.new.keys p ≡ true }
 {
     for key in keys {
         mark_key(alloc, marks, kinds, type_id, key)?;
@@ -98,7 +104,8 @@ fn mark_keys(
 
 /// Puts the posting of an attribute's presence to the others, if there is such an index.
 fn mark_presence(marks: &mut Marks, kinds: Kinds, type_id: TypeId) -> Result<(), AllocError>
-    ensures { OnOk result ((p : Posting) → is_marked marks.new.keys p ≡ (is_from_presence kinds type_id p || is_marked marks.old.keys p)) }
+    ensures ok { OnOk result ((p : Posting) → is_marked marks.new.keys p ≡ (is_from_presence kinds type_id p || is_marked marks.old.keys p)) }
+    ensures kept { (p : Posting) → is_marked marks.old.keys p ≡ true → is_marked marks.new.keys p ≡ true }
 {
     if kinds.presence {
         mark(marks, Posting::Present(type_id))?;
@@ -113,7 +120,8 @@ fn mark_attribute(
     indexes: &Indexes,
     attribute: &Attribute,
 ) -> Result<(), AllocError>
-    ensures { OnOk result ((p : Posting) → is_marked marks.new.keys p ≡ (is_from_attribute indexes.now attribute.now p || is_marked marks.old.keys p)) }
+    ensures ok { OnOk result ((p : Posting) → is_marked marks.new.keys p ≡ (is_from_attribute indexes.now attribute.now p || is_marked marks.old.keys p)) }
+    ensures kept { (p : Posting) → is_marked marks.old.keys p ≡ true → is_marked marks.new.keys p ≡ true }
 {
     let type_id = attribute.type_id();
     let kinds = indexes.kinds(type_id);

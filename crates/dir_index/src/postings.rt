@@ -1,7 +1,7 @@
 // The posting lists of entries. Entries before and after an update flow in; lists of numbers flow out.
 // What must not be here: which entries there are, and which a search wants.
 
-ghost use Rattle.std.specs.Prelude.{◌≡◌, List, [], ◌∷◌, ◌++◌, map, OnOk, OnErr};
+ghost use Rattle.std.specs.Prelude.{◌≡◌, List, [], ◌∷◌, ◌++◌, map, drop, length, OnOk, OnErr};
 ghost use Rattle.dir_index.specs.Postings.{Indexed, has_number, IsRising, AreRising, HaveTogether};
 ghost use Rattle.dir_index.specs.Whole.{lists_of, AreOf, AreSameLists, AllBelow, HasEntry, without, with_attributes, IsAboveAll, IsHeld};
 
@@ -139,6 +139,7 @@ impl Kept for Postings {
 
     fn push_range<'a>(&'a self, range: &Range, into: &mut Vec<&'a [u64]>) -> Result<(), AllocError>
         ensures covered { OnOk result (HaveTogether (map (λ x. x.now) into.old.items) ((lists_of self.now).range range.now) (map (λ x. x.now) into.new.items)) }
+        ensures kept { map (λ x. x.now) into.new.items ≡ map (λ x. x.now) into.old.items ++ drop (length (map (λ x. x.now) into.old.items)) (map (λ x. x.now) into.new.items) }
         ensures rising { AreRising (map (λ x. x.now) into.old.items) → AreRising (map (λ x. x.now) into.new.items) }
     {
         if !self.indexes.kinds(range.type_id).ordering {

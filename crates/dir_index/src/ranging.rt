@@ -1,7 +1,7 @@
 // The lists of a range. A range and the map of lists flow in; the lists of the keys in the range flow out.
 // What must not be here: changes of lists.
 
-ghost use Rattle.std.specs.Prelude.{◌≡◌, ◌++◌, ℕ, true, map, IfOk, OnOk};
+ghost use Rattle.std.specs.Prelude.{◌≡◌, ◌++◌, ℕ, true, map, drop, length, IfOk, OnOk};
 ghost use Rattle.std.specs.List.{list_any};
 ghost use Rattle.std.specs.BTreeMap.Range.{IsLeBy};
 ghost use Rattle.dir_index.specs.declared.posting.Posting.{Posting};
@@ -57,6 +57,7 @@ fn push_between<'a>(
     requires low { (q : Posting) → is_in_range_posting range.now q ≡ true → IsLeBy posting_order low.now q }
     requires high { (q : Posting) → is_in_range_posting range.now q ≡ true → IsLeBy posting_order q high.now }
     ensures pushed { OnOk result (map (λ x. x.now) into.new.items ≡ map (λ x. x.now) into.old.items ++ lists_in range.now (seen table.now.entries)) }
+    ensures kept { map (λ x. x.now) into.new.items ≡ map (λ x. x.now) into.old.items ++ drop (length (map (λ x. x.now) into.old.items)) (map (λ x. x.now) into.new.items) }
     ensures rising { AreRising (map (λ x. x.now) into.old.items) → AreRising (map (λ x. x.now) into.new.items) }
     ensures found { OnOk result ((n : ℕ) → list_any (has_number n) (lists_in range.now (seen table.now.entries)) ≡ true → (p : Posting) × (is_in_range_posting range.now p ≡ true) × (is_in (seen table.now.entries) p n ≡ true)) }
 {
@@ -77,6 +78,7 @@ pub fn push_lists<'a>(
 ) -> Result<(), AllocError>
     requires { AllRise (seen table.now.entries) }
     ensures pushed { OnOk result (map (λ x. x.now) into.new.items ≡ map (λ x. x.now) into.old.items ++ lists_in range.now (seen table.now.entries)) }
+    ensures kept { map (λ x. x.now) into.new.items ≡ map (λ x. x.now) into.old.items ++ drop (length (map (λ x. x.now) into.old.items)) (map (λ x. x.now) into.new.items) }
     ensures rising { AreRising (map (λ x. x.now) into.old.items) → AreRising (map (λ x. x.now) into.new.items) }
     ensures found { OnOk result ((n : ℕ) → list_any (has_number n) (lists_in range.now (seen table.now.entries)) ≡ true → (p : Posting) × (is_in_range_posting range.now p ≡ true) × (is_in (seen table.now.entries) p n ≡ true)) }
 {

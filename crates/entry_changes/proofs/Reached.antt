@@ -1,60 +1,21 @@
 -- Since which place values are held, after a change of the map. Facts on lists flow in and out; no value of the program is here.
-use Rattle.std.proofs.Common.{Result, Ok, Err, OnOk, map, ◌≡◌, ◌<◌, ◌+◌, ℕ, Bool, true, false, cond, ◌||◌, List, [], ◌∷◌, Option, Some, None, Ordering, refl, sym, ap, ◌∙◌, Vec, Global, take, length, get_or}
+use Rattle.std.proofs.Common.{zero, suc, Result, Ok, Err, OnOk, map, ◌≡◌, ◌<◌, ◌+◌, ℕ, Bool, true, false, cond, ◌||◌, List, [], ◌∷◌, Option, Some, None, refl, sym, ap, ◌∙◌, Vec, Global, take, length, get_or}
 use Rattle.std.specs.List.{list_any, list_all}
 use Rattle.dir_entry.proofs.Shown.{any_of_map}
 use Rattle.dir_entry.proofs.Keyed.{list_all-map}
-use Rattle.std.specs.Ordering.{is_eq, match_ordering, nat_cmp}
+use Rattle.std.specs.Ordering.{is_eq, nat_cmp}
 use Rattle.std.specs.Cmp.Lexicographic.{slice_cmp}
 use Rattle.std.specs.Map.{lookup, remove_entry}
-use Rattle.std.specs.BTreeMap.{insert_entry}
 use Rattle.std.specs.Str.{bytes_eq}
 use Rattle.std.proofs.lemmas.Slice.Eq.{bytes_eq-Decides}
 use Rattle.std.proofs.lemmas.Map.Text.{is_eq-slice_cmp}
 use Rattle.std.proofs.lemmas.List.{take_more}
 use Rattle.std.proofs.lemmas.List.Folds.{list_any-append}
 use Rattle.entry_changes.specs.Opening.{since}
+pub use Rattle.dir_entry.proofs.ldap_syntax.NumbersKept.{number_lookup as since_lookup, number_put as since_put}
 
 abbrev Reached : Type 0
 Reached = List (Vec ℕ Global × ℕ)
-
--- a look-up of the map
-pub since_lookup : (q : List ℕ) (es : Reached) → lookup (λ (k : Vec ℕ Global). is_eq (slice_cmp nat_cmp q k.items)) es ≡ since es q
-since_lookup q [] = refl
-since_lookup q (e ∷ es) =
-    ap (λ (b : Bool). cond b (Some e.1) (lookup (λ (k : Vec ℕ Global). is_eq (slice_cmp nat_cmp q k.items)) es)) (is_eq-slice_cmp q e.0.items)
-    ∙ ap (cond (bytes_eq q e.0.items) (Some e.1)) (since_lookup q es)
-
--- octets that are put
-pub since_put : (key : Vec ℕ Global) (v : ℕ) (es : Reached) (q : List ℕ) → since (insert_entry (λ (a b : Vec ℕ Global). slice_cmp nat_cmp a.items b.items) es key v) q ≡ cond (bytes_eq q key.items) (Some v) (since es q)
-since_put key v [] q = refl
-since_put key v (e ∷ es) q = by (slice_cmp nat_cmp key.items e.0.items) refl (since_put key v es q)
-  where
-    rest : Reached
-    rest = insert_entry (λ (a b : Vec ℕ Global). slice_cmp nat_cmp a.items b.items) es key v
-
-    swap : (a b : Bool) → (a ≡ true → b ≡ true → ⊥) → (x y : ℕ) (o : Option ℕ) → cond b (Some y) (cond a (Some x) o) ≡ cond a (Some x) (cond b (Some y) o)
-    swap true true apart x y o = absurd (apart refl refl)
-    swap true false apart x y o = refl
-    swap false b apart x y o = refl
-
-    flat : (b : Bool) → cond b (Some v) (since es q) ≡ cond b (Some v) (cond b (Some e.1) (since es q))
-    flat true = refl
-    flat false = refl
-
-    two : key.items ≡ e.0.items → bytes_eq key.items e.0.items ≡ false → ⊥
-    two same other = let yes' : bytes_eq key.items e.0.items ≡ true = (bytes_eq-Decides key.items e.0.items).1 same in cc
-
-    by : (o : Ordering) → o ≡ slice_cmp nat_cmp key.items e.0.items → since rest q ≡ cond (bytes_eq q key.items) (Some v) (since es q)
-        → since (match_ordering o ((key, v) ∷ e ∷ es) ((e.0, v) ∷ es) (e ∷ rest)) q ≡ cond (bytes_eq q key.items) (Some v) (cond (bytes_eq q e.0.items) (Some e.1) (since es q))
-    by Ordering.Less h ih = refl
-    by Ordering.Equal h ih =
-        let same : bytes_eq key.items e.0.items ≡ true = sym (is_eq-slice_cmp key.items e.0.items) ∙ ap is_eq (sym h) in
-        let one : key.items ≡ e.0.items = (bytes_eq-Decides key.items e.0.items).0 same in
-        flat (bytes_eq q e.0.items) ∙ sym (ap (λ (m : List ℕ). cond (bytes_eq q m) (Some v) (cond (bytes_eq q e.0.items) (Some e.1) (since es q))) one)
-    by Ordering.Greater h ih =
-        let other : bytes_eq key.items e.0.items ≡ false = sym (is_eq-slice_cmp key.items e.0.items) ∙ ap is_eq (sym h) in
-        ap (λ (o : Option ℕ). cond (bytes_eq q e.0.items) (Some e.1) o) ih
-        ∙ swap (bytes_eq q key.items) (bytes_eq q e.0.items) (λ a b. two (sym ((bytes_eq-Decides q key.items).0 a) ∙ (bytes_eq-Decides q e.0.items).0 b) other) v e.1 (since es q)
 
 -- octets that are taken out
 pub since_take : (ns : List ℕ) (es new : Reached) → new ≡ remove_entry (λ (k : Vec ℕ Global). is_eq (slice_cmp nat_cmp ns k.items)) es → lookup (λ (k : Vec ℕ Global). is_eq (slice_cmp nat_cmp ns k.items)) new ≡ None → (q : List ℕ)
@@ -104,3 +65,17 @@ all_of_octets items p xs ys os e h = ap (λ (l : List _). list_all (λ o. p (ite
 pub on_ok : {A E P Q : Type 0} (r : Result A E) → (P → Q) → OnOk r P → OnOk r Q
 on_ok (Ok a) f h = f h
 on_ok (Err e) f h = h
+
+none_taken : {A : Type 0} (p : A → Bool) (xs : List A) (i : ℕ) → list_any p xs ≡ false → list_any p (take i xs) ≡ false
+none_taken p [] zero none = refl
+none_taken p [] (suc i) none = refl
+none_taken p (x ∷ xs) zero none = refl
+none_taken p (x ∷ xs) (suc i) none = by (p x) none (none_taken p xs i)
+  where
+    by : (b : Bool) → (b || list_any p xs) ≡ false → (list_any p xs ≡ false → list_any p (take i xs) ≡ false) → (b || list_any p (take i xs)) ≡ false
+    by true h rest = h
+    by false h rest = rest h
+
+-- what is put at some places leaves what is at others
+pub stays : {A : Type 0} (p : A → Bool) (xs : List A) (i v : ℕ) (new old : Option ℕ) → list_any p xs ≡ false → new ≡ cond (list_any p (take i xs)) (Some v) old → new ≡ old
+stays p xs i v new old none e = e ∙ ap (λ (b : Bool). cond b (Some v) old) (none_taken p xs i none)

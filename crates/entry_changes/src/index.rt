@@ -1,7 +1,7 @@
 // Which values of an attribute are held, found by what they are compared by. Attributes and places flow in; marks flow out.
 // What must not be here: schemas, entries.
 
-ghost use Rattle.std.specs.Prelude.{◌≡◌, ℕ, List, Some, None, cond, map, is_some, IfOk, OnOk};
+ghost use Rattle.std.specs.Prelude.{◌≡◌, ℕ, List, Some, None, cond, false, map, is_some, IfOk, OnOk, OnErr};
 ghost use Rattle.std.specs.List.{list_any, list_all};
 ghost use Rattle.std.specs.Str.{bytes_eq};
 ghost use Rattle.entry_changes.specs.Opening.{since, octets_by as compared_by, marks_in};
@@ -81,24 +81,26 @@ pub fn holds_all_of(alloc: Global, index: &Index, given: &Attribute) -> Result<b
     Ok(are_all_held(&index.held, octets.as_slice()))
 }
 
-/// The given values are held since this place.
+/// The given values are held since this place. Whatever comes, what is held of others stays.
 pub fn hold(
     alloc: Global,
     index: &mut Index,
     given: &Attribute,
     place: usize,
 ) -> Result<(), AllocError>
-    ensures by_keys { OnOk result (index.new.by_keys ≡ index.old.by_keys) }
+    ensures by_keys { index.new.by_keys ≡ index.old.by_keys }
     ensures held { OnOk result ((q : List ℕ) → since index.new.held.entries q ≡ cond (list_any (bytes_eq q) (compared_by index.old.by_keys given.now)) (Some place) (since index.old.held.entries q)) }
+    ensures others { (q : List ℕ) → list_any (bytes_eq q) (compared_by index.old.by_keys given.now) ≡ false → since index.new.held.entries q ≡ since index.old.held.entries q }
 {
     let octets = octets_by(alloc, index.by_keys, given)?;
     put_all(alloc, &mut index.held, octets.as_slice(), place)
 }
 
-/// The given values are held no more.
+/// The given values are held no more. An `Err` leaves the index as it was.
 pub fn let_go(alloc: Global, index: &mut Index, given: &Attribute) -> Result<(), AllocError>
     ensures by_keys { OnOk result (index.new.by_keys ≡ index.old.by_keys) }
     ensures held { OnOk result ((q : List ℕ) → since index.new.held.entries q ≡ cond (list_any (bytes_eq q) (compared_by index.old.by_keys given.now)) None (since index.old.held.entries q)) }
+    ensures err { OnErr result (index.new ≡ index.old) }
 {
     let octets = octets_by(alloc, index.by_keys, given)?;
     take_all(&mut index.held, octets.as_slice());

@@ -1,7 +1,7 @@
 // Since which place values are held. Octets and places flow in and out.
 // What must not be here: what octets stand for, attributes.
 
-ghost use Rattle.std.specs.Prelude.{◌≡◌, ℕ, List, Some, None, cond, map, is_some, IfOk, OnOk};
+ghost use Rattle.std.specs.Prelude.{◌≡◌, ℕ, List, Some, None, cond, false, map, is_some, IfOk, OnOk, OnErr};
 ghost use Rattle.std.specs.List.{list_any, list_all};
 ghost use Rattle.std.specs.Str.{bytes_eq};
 ghost use Rattle.entry_changes.specs.Opening.{since, is_since, marks_from};
@@ -83,22 +83,24 @@ fn copied(alloc: Global, octets: &[u8]) -> Result<Vec<u8>, AllocError>
     octets.to_vec(alloc)
 }
 
-/// Values of these octets are held since this place.
+/// Values of these octets are held since this place. An `Err` leaves what was held.
 fn put(held: &mut Since, octets: Vec<u8>, place: usize) -> Result<(), AllocError>
-    ensures { OnOk result ((q : List ℕ) → since held.new.entries q ≡ cond (bytes_eq q octets.items) (Some place) (since held.old.entries q)) }
+    ensures ok { OnOk result ((q : List ℕ) → since held.new.entries q ≡ cond (bytes_eq q octets.items) (Some place) (since held.old.entries q)) }
+    ensures err { OnErr result (held.new.entries ≡ held.old.entries) }
 {
     held.insert(octets, place)?;
     Ok(())
 }
 
-/// Values of each of these octets are held since this place.
+/// Values of each of these octets are held since this place. Whatever comes, what is held of others stays.
 pub fn put_all(
     alloc: Global,
     held: &mut Since,
     list: &[&[u8]],
     place: usize,
 ) -> Result<(), AllocError>
-    ensures { OnOk result ((q : List ℕ) → since held.new.entries q ≡ cond (list_any (λ octets. bytes_eq q octets.now) list.now) (Some place) (since held.old.entries q)) }
+    ensures ok { OnOk result ((q : List ℕ) → since held.new.entries q ≡ cond (list_any (λ octets. bytes_eq q octets.now) list.now) (Some place) (since held.old.entries q)) }
+    ensures others { (q : List ℕ) → list_any (λ octets. bytes_eq q octets.now) list.now ≡ false → since held.new.entries q ≡ since held.old.entries q }
 {
     for octets in list {
         put(held, copied(alloc, octets)?, place)?;

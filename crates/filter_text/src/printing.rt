@@ -1,7 +1,7 @@
 //! Filter texts: the one text that is printed.
 //! In: a filter. Out: its text, or E18 where it has none. Not here: limits, how texts are read.
 
-ghost use Rattle.std.specs.Prelude.{◌≡◌, ◌++◌, ◌∷◌, [], List, ℕ, true, string_bytes, IfOk, IfErr, OnOk};
+ghost use Rattle.std.specs.Prelude.{◌≡◌, ◌++◌, drop, length, ◌∷◌, [], List, ℕ, true, string_bytes, IfOk, IfErr, OnOk};
 ghost use Rattle.ldap_filter.specs.Tree.{Tree};
 ghost use Rattle.ldap_filter.specs.View.{view, views};
 ghost use Rattle.filter_text.specs.Grammar as grammar;
@@ -16,7 +16,8 @@ use std::alloc::{AllocError, Global};
 /// Puts what stands between a filter's parentheses.
 #[cycle(print)]
 fn put_inner(out: &mut String, filter: &Filter) -> Result<(), AllocError>
-    ensures { OnOk result (string_bytes out.new ≡ string_bytes out.old ++ grammar.filter_inner (view filter.now)) }
+    ensures ok { OnOk result (string_bytes out.new ≡ string_bytes out.old ++ grammar.filter_inner (view filter.now)) }
+    ensures kept { string_bytes out.new ≡ string_bytes out.old ++ drop (length (string_bytes out.old)) (string_bytes out.new) }
 {
     match filter {
         Filter::And(filters) => {
@@ -56,7 +57,8 @@ fn put_inner(out: &mut String, filter: &Filter) -> Result<(), AllocError>
 /// Puts a filter.
 #[cycle(print)]
 fn put_filter(out: &mut String, filter: &Filter) -> Result<(), AllocError>
-    ensures { OnOk result (string_bytes out.new ≡ string_bytes out.old ++ grammar.filter_text (view filter.now)) }
+    ensures ok { OnOk result (string_bytes out.new ≡ string_bytes out.old ++ grammar.filter_text (view filter.now)) }
+    ensures kept { string_bytes out.new ≡ string_bytes out.old ++ drop (length (string_bytes out.old)) (string_bytes out.new) }
 {
     out.push('(')?;
     put_inner(out, filter)?;
@@ -66,7 +68,8 @@ fn put_filter(out: &mut String, filter: &Filter) -> Result<(), AllocError>
 /// Puts filters, one after the other.
 #[cycle(print)]
 fn put_filters(out: &mut String, filters: &[Filter]) -> Result<(), AllocError>
-    ensures { OnOk result (string_bytes out.new ≡ string_bytes out.old ++ grammar.filter_texts (views filters.now)) }
+    ensures ok { OnOk result (string_bytes out.new ≡ string_bytes out.old ++ grammar.filter_texts (views filters.now)) }
+    ensures kept { string_bytes out.new ≡ string_bytes out.old ++ drop (length (string_bytes out.old)) (string_bytes out.new) }
 {
     for filter in filters {
         put_filter(out, filter)?;

@@ -1,7 +1,7 @@
 // The indexes of each type, of all lines together. Lines flow in, the choice flows out.
 // What must not be here: texts.
 
-ghost use Rattle.std.specs.Prelude.{◌≡◌, ◌<◌, ◌||◌, ℕ, cond, length, nat_eq, IfOk, OnOk};
+ghost use Rattle.std.specs.Prelude.{◌≡◌, ◌<◌, ◌||◌, ℕ, cond, length, nat_eq, IfOk, OnOk, OnErr};
 ghost use Rattle.index_choice.specs.Choice.{kinds_of};
 ghost use Rattle.index_choice.specs.Texts.{chosen, joined as joined_kinds, one_more};
 
@@ -22,10 +22,10 @@ fn joined(a: Kinds, b: Kinds) -> Kinds
     }
 }
 
-/// Makes room for a type's kinds; types without kinds have none.
+/// Makes room for a type's kinds; types without kinds have none. Whatever comes, each type has the kinds that it had.
 fn reach(kinds: &mut Vec<Kinds>, number: usize) -> Result<(), AllocError>
     ensures reached { OnOk result (number < length kinds.new.items) }
-    ensures same { OnOk result ((t : ℕ) → kinds_of kinds.new.items t ≡ kinds_of kinds.old.items t) }
+    ensures same { (t : ℕ) → kinds_of kinds.new.items t ≡ kinds_of kinds.old.items t }
 {
     while kinds.len() <= number {
         kinds.push(Kinds {
@@ -38,9 +38,10 @@ fn reach(kinds: &mut Vec<Kinds>, number: usize) -> Result<(), AllocError>
     Ok(())
 }
 
-/// Gives a type more kinds.
+/// Gives a type more kinds. An `Err` leaves each type the kinds that it had.
 fn add_kinds(kinds: &mut Vec<Kinds>, type_id: TypeId, more: Kinds) -> Result<(), AllocError>
-    ensures { OnOk result ((t : ℕ) → kinds_of kinds.new.items t ≡ cond (nat_eq type_id t) (joined_kinds (kinds_of kinds.old.items t) more) (kinds_of kinds.old.items t)) }
+    ensures ok { OnOk result ((t : ℕ) → kinds_of kinds.new.items t ≡ cond (nat_eq type_id t) (joined_kinds (kinds_of kinds.old.items t) more) (kinds_of kinds.old.items t)) }
+    ensures err { OnErr result ((t : ℕ) → kinds_of kinds.new.items t ≡ kinds_of kinds.old.items t) }
 {
     let number = type_id.number();
     reach(kinds, number)?;
@@ -49,9 +50,10 @@ fn add_kinds(kinds: &mut Vec<Kinds>, type_id: TypeId, more: Kinds) -> Result<(),
     Ok(())
 }
 
-/// Gives the type of a line the kinds that it asks for.
+/// Gives the type of a line the kinds that it asks for. An `Err` leaves each type the kinds that it had.
 fn add_line(kinds: &mut Vec<Kinds>, line: &IndexLine) -> Result<(), AllocError>
-    ensures { OnOk result ((t : ℕ) → kinds_of kinds.new.items t ≡ one_more line.now t (kinds_of kinds.old.items t)) }
+    ensures ok { OnOk result ((t : ℕ) → kinds_of kinds.new.items t ≡ one_more line.now t (kinds_of kinds.old.items t)) }
+    ensures err { OnErr result ((t : ℕ) → kinds_of kinds.new.items t ≡ kinds_of kinds.old.items t) }
 {
     match line.named {
         Named::Known(type_id) => add_kinds(kinds, type_id, line.kinds),

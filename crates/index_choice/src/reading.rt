@@ -1,7 +1,7 @@
 // What the lines of an index choice say. A schema and a text flow in; lines, or the first thing that is wrong, flow out.
 // What must not be here: the indexes of a type, all lines together.
 
-ghost use Rattle.std.specs.Prelude.{◌≡◌, ℕ, List, Result, map, Ok, Err, None, Some, IfOk, IfErr, OnOk};
+ghost use Rattle.std.specs.Prelude.{◌≡◌, ℕ, List, Result, map, Ok, Err, None, Some, IfOk, IfErr, OnOk, OnErr};
 ghost use Rattle.index_choice.specs.declared.line.IndexLine.{IndexLine};
 ghost use Rattle.index_choice.specs.declared.error.IndexError.TheVariants.{BadDescription, NoMemory};
 ghost use Rattle.dir_entry.specs.ldap_schema.Schema.{find};
@@ -131,7 +131,7 @@ pub fn index_lines(
     said_by_lines(alloc, schema, lines.as_slice())
 }
 
-/// Puts what a line says behind what lines before it say.
+/// Puts what a line says behind what lines before it say. An `Err` puts nothing.
 fn push_line(
     alloc: Global,
     schema: &Schema,
@@ -141,6 +141,7 @@ fn push_line(
 ) -> Result<(), IndexError>
     ensures ok { OnOk result ((rest : Result (List IndexLine) ℕ) → after said.new.items rest ≡ after said.old.items (line_said schema.now number line.now rest)) }
     ensures refused { IfErr result (λ e. (rest : Result (List IndexLine) ℕ) → IsBadLine (line_said schema.now number line.now rest) e) }
+    ensures err { OnErr result (said.new.items ≡ said.old.items) }
 {
     if is_skipped(line) {
         return Ok(());

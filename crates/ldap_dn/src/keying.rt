@@ -1,7 +1,7 @@
 // The key of a name as a value. Relative names flow in, octets by which names are told apart flow out.
 // What must not be here: texts, spellings, how keys of other values are made.
 
-ghost use Rattle.std.specs.Prelude.{◌≡◌, ◌++◌, ◌∷◌, [], map, OnOk, IfOk};
+ghost use Rattle.std.specs.Prelude.{◌≡◌, ◌++◌, ◌∷◌, [], map, drop, length, OnOk, IfOk};
 ghost use Rattle.ldap_dn.specs.NameKeys.{listed, itself, number_octets, pair_octets, name_key, NameKeysAreOfNames};
 
 use crate::rdn::{Rdn, TypeAndKey};
@@ -9,7 +9,8 @@ use std::alloc::{AllocError, Global};
 
 /// Puts a number, its lowest digit to the base 256 first.
 fn put_number(out: &mut Vec<u8>, number: usize) -> Result<(), AllocError>
-    ensures { OnOk result (out.new.items ≡ out.old.items ++ number_octets number) }
+    ensures ok { OnOk result (out.new.items ≡ out.old.items ++ number_octets number) }
+    ensures kept { out.new.items ≡ out.old.items ++ drop (length out.old.items) out.new.items }
 {
     let mut left = number;
     while left > 0 {
@@ -23,7 +24,8 @@ fn put_number(out: &mut Vec<u8>, number: usize) -> Result<(), AllocError>
 
 /// Puts octets.
 fn put_octets(out: &mut Vec<u8>, octets: &[u8]) -> Result<(), AllocError>
-    ensures { OnOk result (out.new.items ≡ out.old.items ++ listed itself octets.now) }
+    ensures ok { OnOk result (out.new.items ≡ out.old.items ++ listed itself octets.now) }
+    ensures kept { out.new.items ≡ out.old.items ++ drop (length out.old.items) out.new.items }
 {
     for octet in octets {
         out.push(1)?;
@@ -35,7 +37,8 @@ fn put_octets(out: &mut Vec<u8>, octets: &[u8]) -> Result<(), AllocError>
 
 /// Puts a type and a key.
 fn put_pair(out: &mut Vec<u8>, pair: &TypeAndKey) -> Result<(), AllocError>
-    ensures { OnOk result (out.new.items ≡ out.old.items ++ pair_octets pair.now) }
+    ensures ok { OnOk result (out.new.items ≡ out.old.items ++ pair_octets pair.now) }
+    ensures kept { out.new.items ≡ out.old.items ++ drop (length out.old.items) out.new.items }
 {
     put_number(out, pair.type_id.number())?;
     put_octets(out, pair.key.as_octets())
@@ -43,7 +46,8 @@ fn put_pair(out: &mut Vec<u8>, pair: &TypeAndKey) -> Result<(), AllocError>
 
 /// Puts the types and keys of a relative name.
 fn put_pairs(out: &mut Vec<u8>, pairs: &[TypeAndKey]) -> Result<(), AllocError>
-    ensures { OnOk result (out.new.items ≡ out.old.items ++ listed pair_octets pairs.now) }
+    ensures ok { OnOk result (out.new.items ≡ out.old.items ++ listed pair_octets pairs.now) }
+    ensures kept { out.new.items ≡ out.old.items ++ drop (length out.old.items) out.new.items }
 {
     for pair in pairs {
         out.push(1)?;
@@ -55,14 +59,16 @@ fn put_pairs(out: &mut Vec<u8>, pairs: &[TypeAndKey]) -> Result<(), AllocError>
 
 /// Puts a relative name.
 fn put_rdn(out: &mut Vec<u8>, rdn: &Rdn) -> Result<(), AllocError>
-    ensures { OnOk result (out.new.items ≡ out.old.items ++ listed pair_octets rdn.now.keys) }
+    ensures ok { OnOk result (out.new.items ≡ out.old.items ++ listed pair_octets rdn.now.keys) }
+    ensures kept { out.new.items ≡ out.old.items ++ drop (length out.old.items) out.new.items }
 {
     put_pairs(out, rdn.keys.as_slice())
 }
 
 /// Puts relative names.
 fn put_rdns(out: &mut Vec<u8>, rdns: &[Rdn]) -> Result<(), AllocError>
-    ensures { OnOk result (out.new.items ≡ out.old.items ++ name_key (map (λ r. r.keys) rdns.now)) }
+    ensures ok { OnOk result (out.new.items ≡ out.old.items ++ name_key (map (λ r. r.keys) rdns.now)) }
+    ensures kept { out.new.items ≡ out.old.items ++ drop (length out.old.items) out.new.items }
 {
     for rdn in rdns {
         out.push(1)?;

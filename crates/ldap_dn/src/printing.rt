@@ -1,7 +1,7 @@
 // Names printed. Relative names and a schema flow in, their one text flows out.
 // What must not be here: keys, how texts are read.
 
-ghost use Rattle.std.specs.Prelude.{◌≡◌, ◌++◌, chars, true, map, reverse, flat_map, ◌∷◌, string_bytes, IfOk, OnOk};
+ghost use Rattle.std.specs.Prelude.{◌≡◌, ◌++◌, drop, length, chars, true, map, reverse, flat_map, ◌∷◌, string_bytes, IfOk, OnOk};
 ghost use Rattle.ldap_schema.specs.Schema.{first_name_of};
 ghost use Rattle.ldap_dn.specs.Printed as printed;
 
@@ -25,7 +25,8 @@ fn is_escaped(is_first: bool, is_last: bool, c: char) -> bool
 
 /// Puts a character, behind a backslash where it is escaped.
 fn put_character(out: &mut String, escaped: bool, c: char) -> Result<(), AllocError>
-    ensures { OnOk result (string_bytes out.new ≡ string_bytes out.old ++ printed.printed_character escaped c) }
+    ensures ok { OnOk result (string_bytes out.new ≡ string_bytes out.old ++ printed.printed_character escaped c) }
+    ensures kept { string_bytes out.new ≡ string_bytes out.old ++ drop (length (string_bytes out.old)) (string_bytes out.new) }
 {
     if c == '\0' {
         return out.push_str("\\00");
@@ -38,7 +39,8 @@ fn put_character(out: &mut String, escaped: bool, c: char) -> Result<(), AllocEr
 
 /// Puts the characters of a value.
 fn put_characters(out: &mut String, characters: &[char]) -> Result<(), AllocError>
-    ensures { OnOk result (string_bytes out.new ≡ string_bytes out.old ++ printed.printed_from true characters.now) }
+    ensures ok { OnOk result (string_bytes out.new ≡ string_bytes out.old ++ printed.printed_from true characters.now) }
+    ensures kept { string_bytes out.new ≡ string_bytes out.old ++ drop (length (string_bytes out.old)) (string_bytes out.new) }
 {
     let mut is_first = true;
     let mut left = characters.len();
@@ -59,7 +61,8 @@ fn characters(alloc: Global, text: &str) -> Result<Vec<char>, AllocError>
 
 /// Puts a value.
 fn put_value(alloc: Global, out: &mut String, value: &str) -> Result<(), AllocError>
-    ensures { OnOk result (string_bytes out.new ≡ string_bytes out.old ++ printed.printed_value value.now) }
+    ensures ok { OnOk result (string_bytes out.new ≡ string_bytes out.old ++ printed.printed_value value.now) }
+    ensures kept { string_bytes out.new ≡ string_bytes out.old ++ drop (length (string_bytes out.old)) (string_bytes out.new) }
 {
     let characters = characters(alloc, value)?;
     put_characters(out, characters.as_slice())
@@ -92,7 +95,8 @@ fn put_type_and_value(
     schema: &Schema,
     one: &TypeAndValue,
 ) -> Result<(), AllocError>
-    ensures { OnOk result (string_bytes out.new ≡ string_bytes out.old ++ printed.printed_type_and_value schema.now one.now) }
+    ensures ok { OnOk result (string_bytes out.new ≡ string_bytes out.old ++ printed.printed_type_and_value schema.now one.now) }
+    ensures kept { string_bytes out.new ≡ string_bytes out.old ++ drop (length (string_bytes out.old)) (string_bytes out.new) }
 {
     out.push_str(type_name(schema, one.type_id))?;
     out.push('=')?;
@@ -106,7 +110,8 @@ fn put_more(
     schema: &Schema,
     list: &[TypeAndValue],
 ) -> Result<(), AllocError>
-    ensures { OnOk result (string_bytes out.new ≡ string_bytes out.old ++ flat_map (λ y. 43 ∷ y) (map (printed.printed_type_and_value schema.now) list.now)) }
+    ensures ok { OnOk result (string_bytes out.new ≡ string_bytes out.old ++ flat_map (λ y. 43 ∷ y) (map (printed.printed_type_and_value schema.now) list.now)) }
+    ensures kept { string_bytes out.new ≡ string_bytes out.old ++ drop (length (string_bytes out.old)) (string_bytes out.new) }
 {
     for one in list {
         out.push('+')?;
@@ -122,7 +127,8 @@ fn put_rdn(
     schema: &Schema,
     list: &[TypeAndValue],
 ) -> Result<(), AllocError>
-    ensures { OnOk result (string_bytes out.new ≡ string_bytes out.old ++ printed.printed_rdn schema.now list.now) }
+    ensures ok { OnOk result (string_bytes out.new ≡ string_bytes out.old ++ printed.printed_rdn schema.now list.now) }
+    ensures kept { string_bytes out.new ≡ string_bytes out.old ++ drop (length (string_bytes out.old)) (string_bytes out.new) }
 {
     match list.split_first() {
         Some((first, more)) => {
@@ -140,7 +146,8 @@ fn put_more_rdns(
     schema: &Schema,
     rdns: &[&Rdn],
 ) -> Result<(), AllocError>
-    ensures { OnOk result (string_bytes out.new ≡ string_bytes out.old ++ flat_map (λ y. 44 ∷ y) (map (λ r. printed.printed_rdn schema.now r.spelling) (map (λ r. r.now) rdns.now))) }
+    ensures ok { OnOk result (string_bytes out.new ≡ string_bytes out.old ++ flat_map (λ y. 44 ∷ y) (map (λ r. printed.printed_rdn schema.now r.spelling) (map (λ r. r.now) rdns.now))) }
+    ensures kept { string_bytes out.new ≡ string_bytes out.old ++ drop (length (string_bytes out.old)) (string_bytes out.new) }
 {
     for rdn in rdns {
         out.push(',')?;
@@ -156,7 +163,8 @@ fn put_rdns(
     schema: &Schema,
     rdns: &[&Rdn],
 ) -> Result<(), AllocError>
-    ensures { OnOk result (string_bytes out.new ≡ string_bytes out.old ++ printed.separated 44 (map (λ r. printed.printed_rdn schema.now r.spelling) (map (λ r. r.now) rdns.now))) }
+    ensures ok { OnOk result (string_bytes out.new ≡ string_bytes out.old ++ printed.separated 44 (map (λ r. printed.printed_rdn schema.now r.spelling) (map (λ r. r.now) rdns.now))) }
+    ensures kept { string_bytes out.new ≡ string_bytes out.old ++ drop (length (string_bytes out.old)) (string_bytes out.new) }
 {
     match rdns.split_first() {
         Some((first, more)) => {

@@ -1,5 +1,6 @@
 -- Wire, between elements and messages: what is written piece by piece is the whole.
-use Rattle.std.proofs.Common.{◌≡◌, ℕ, List, ◌++◌, Result, Ok, Err, ap, append_assoc, ◌∙◌}
+use Rattle.std.proofs.Common.{◌≡◌, ℕ, List, ◌++◌, drop, length, Result, Ok, Err, sym, ap, append_assoc, ◌∙◌}
+use Rattle.std.proofs.Math.Seq.{drop-append_seam}
 use Rattle.std.specs.Prelude.{IsErrOf, OnOk}
 
 -- an error is the same, whatever stands beside it
@@ -14,3 +15,7 @@ three_pieces old a b d one two new e₁ e₂ e₃ =
 pub three : {T E : Type 0} (r : Result T E) (old a b d one two new : List ℕ) → one ≡ old ++ a → two ≡ one ++ b → OnOk r (new ≡ two ++ d) → OnOk r (new ≡ old ++ (a ++ b ++ d))
 three (Ok v) old a b d one two new e₁ e₂ e₃ = three_pieces old a b d one two new e₁ e₂ e₃
 three (Err e) old a b d one two new e₁ e₂ e₃ = tt
+
+-- what is put behind octets leaves them in front
+pub kept_front : (new old more : List ℕ) → new ≡ old ++ more → new ≡ old ++ drop (length old) new
+kept_front new old more e = e ∙ ap (λ (x : List ℕ). old ++ x) (sym (ap (drop (length old)) e ∙ drop-append_seam old more))

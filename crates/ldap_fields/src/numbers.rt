@@ -1,7 +1,7 @@
 //! Wire, between elements and messages: writing numbers, flags and optional fields.
 //! In: a value. Out: its element at the end of a buffer. Not here: which fields a message has.
 
-ghost use Rattle.std.specs.Prelude.{◌≡◌, ◌<◌, ◌≤◌, ◌%◌, ◌^◌, ◌++◌, length, OnOk, IfErr, IsErrOf, string_bytes};
+ghost use Rattle.std.specs.Prelude.{◌≡◌, ◌<◌, ◌≤◌, ◌%◌, ◌^◌, ◌++◌, length, OnErr, OnOk, IfErr, IsErrOf, string_bytes};
 ghost use Rattle.std.specs.Option.{option_map};
 ghost use Rattle.ldap_ber.specs.Element.{element_bytes};
 ghost use Rattle.ldap_fields.specs.Written.{number_bytes, flag_octets, optional_bytes};
@@ -13,6 +13,7 @@ pub fn put_number(first: u8, number: u32, out: &mut Vec<u8>) -> Result<(), Write
     requires { first % 32 < 31 }
     ensures ok { OnOk result (out.new.items ≡ out.old.items ++ number_bytes first number) }
     ensures no_memory { IfErr result (λ e. e ≡ WriteError.NoMemory) }
+    ensures err { OnErr result (out.new.items ≡ out.old.items) }
 {
     write_integer(first, i64::from(number), out)
 }
@@ -21,6 +22,7 @@ pub fn put_number(first: u8, number: u32, out: &mut Vec<u8>) -> Result<(), Write
 pub fn put_flag(flag: bool, out: &mut Vec<u8>) -> Result<(), WriteError>
     ensures ok { OnOk result (out.new.items ≡ out.old.items ++ element_bytes 1 (flag_octets flag)) }
     ensures no_memory { IfErr result (λ e. e ≡ WriteError.NoMemory) }
+    ensures err { OnErr result (out.new.items ≡ out.old.items) }
 {
     if flag {
         write(0x01, &[0xff], out)
@@ -39,6 +41,7 @@ pub fn put_optional_text(
     ensures ok { OnOk result (out.new.items ≡ out.old.items ++ optional_bytes first (option_map string_bytes text.now)) }
     ensures too_long { IsErrOf result WriteError.TooLong
         → 2 ^ 32 ≤ length (optional_bytes first (option_map string_bytes text.now)) }
+    ensures err { OnErr result (out.new.items ≡ out.old.items) }
 {
     match text {
         Some(text) => write(first, text.as_bytes(), out),
@@ -57,6 +60,7 @@ pub fn put_optional_octets(
         (λ v. v.items) octets.now)) }
     ensures too_long { IsErrOf result WriteError.TooLong
         → 2 ^ 32 ≤ length (optional_bytes first (option_map (λ v. v.items) octets.now)) }
+    ensures err { OnErr result (out.new.items ≡ out.old.items) }
 {
     match octets {
         Some(octets) => write(first, octets, out),

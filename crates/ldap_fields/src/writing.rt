@@ -1,7 +1,7 @@
 //! Wire, between elements and messages: the octets of rows and flags.
 //! In: values. Out: their one spelling at the end of a buffer. Not here: which fields a message has.
 
-ghost use Rattle.std.specs.Prelude.{◌≡◌, ◌++◌, ◌^◌, ◌≤◌, ◌<◌, length, Bool, OnOk, OnErr, IfErr, IfOk, IsErrOf, map, string_bytes, Err};
+ghost use Rattle.std.specs.Prelude.{◌≡◌, ◌++◌, ◌^◌, ◌≤◌, ◌<◌, length, drop, Bool, OnOk, OnErr, IfErr, IfOk, IsErrOf, map, string_bytes, Err};
 ghost use Rattle.ldap_ber.specs.Element.{element_bytes};
 ghost use Rattle.ldap_fields.specs.Rows.{row_bytes};
 
@@ -26,6 +26,7 @@ pub fn put_texts(texts: &[String], out: &mut Vec<u8>) -> Result<(), WriteError>
         (map string_bytes texts.now)) }
     ensures too_long { IsErrOf result WriteError.TooLong
         → 2 ^ 32 ≤ length (row_bytes (element_bytes 4) (map string_bytes texts.now)) }
+    ensures kept { out.new.items ≡ out.old.items ++ drop (length out.old.items) out.new.items }
 {
     for text in texts {
         write(0x04, text.as_bytes(), out)?;
@@ -40,6 +41,7 @@ pub fn put_values(values: &[Vec<u8>], out: &mut Vec<u8>) -> Result<(), WriteErro
         (λ v. v.items) values.now)) }
     ensures too_long { IsErrOf result WriteError.TooLong
         → 2 ^ 32 ≤ length (row_bytes (element_bytes 4) (map (λ v. v.items) values.now)) }
+    ensures kept { out.new.items ≡ out.old.items ++ drop (length out.old.items) out.new.items }
 {
     for value in values {
         write(0x04, value, out)?;

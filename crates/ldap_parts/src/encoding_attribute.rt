@@ -1,7 +1,7 @@
 //! Wire, parts of messages: writing attributes.
 //! In: attributes. Out: their octets. Not here: whose attributes they are.
 
-ghost use Rattle.std.specs.Prelude.{◌≡◌, ◌^◌, ◌≤◌, ◌++◌, map, length, IfOk, OnOk, IsErrOf};
+ghost use Rattle.std.specs.Prelude.{◌≡◌, ◌^◌, ◌≤◌, ◌++◌, map, drop, length, IfOk, OnOk, IsErrOf};
 ghost use Rattle.ldap_fields.specs.Rows.{row_bytes};
 ghost use Rattle.ldap_parts.specs.View.{attribute_view};
 ghost use Rattle.ldap_parts.specs.Written.{attribute_content, attribute_bytes};
@@ -34,6 +34,7 @@ pub fn put_attributes(
         (map attribute_view attributes.now)) }
     ensures too_long { IsErrOf result WriteError.TooLong
         → 2 ^ 32 ≤ length (row_bytes attribute_bytes (map attribute_view attributes.now)) }
+    ensures kept { out.new.items ≡ out.old.items ++ drop (length out.old.items) out.new.items }
 {
     for attribute in attributes {
         let content = attribute_content(alloc, attribute)?;

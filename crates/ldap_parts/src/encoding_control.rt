@@ -1,7 +1,7 @@
 //! Wire, parts of messages: writing controls.
 //! In: controls. Out: their octets at the end of a buffer. Not here: what a control asks for.
 
-ghost use Rattle.std.specs.Prelude.{◌≡◌, ◌^◌, ◌≤◌, ◌++◌, map, length, IfOk, OnOk, IsErrOf};
+ghost use Rattle.std.specs.Prelude.{◌≡◌, ◌^◌, ◌≤◌, ◌++◌, map, drop, length, IfOk, OnErr, OnOk, IsErrOf};
 ghost use Rattle.ldap_fields.specs.Rows.{row_bytes};
 ghost use Rattle.ldap_parts.specs.View.{control_view};
 ghost use Rattle.ldap_parts.specs.Written.{control_content, control_bytes};
@@ -35,6 +35,7 @@ fn put_row(alloc: Global, controls: &[Control], out: &mut Vec<u8>) -> Result<(),
         (map control_view controls.now)) }
     ensures too_long { IsErrOf result WriteError.TooLong
         → 2 ^ 32 ≤ length (row_bytes control_bytes (map control_view controls.now)) }
+    ensures kept { out.new.items ≡ out.old.items ++ drop (length out.old.items) out.new.items }
 {
     for control in controls {
         let content = control_content(alloc, control)?;
@@ -53,6 +54,7 @@ pub fn put_controls(
         (map control_view controls.now)) }
     ensures too_long { IsErrOf result WriteError.TooLong
         → 2 ^ 32 ≤ length (row_or_none_bytes control_bytes 160 (map control_view controls.now)) }
+    ensures err { OnErr result (out.new.items ≡ out.old.items) }
 {
     match controls {
         [] => Ok(()),

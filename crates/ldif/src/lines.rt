@@ -1,7 +1,7 @@
 //! LDIF: the lines of a text, unfolded, with their numbers.
 //! In: octets. Out: lines. Not here: what a line says.
 
-ghost use Rattle.std.specs.Prelude.{◌≡◌, ◌++◌, map, drop, nat_eq, true, false, IfOk, OnOk, MatchOption};
+ghost use Rattle.std.specs.Prelude.{◌≡◌, ◌++◌, map, drop, length, nat_eq, true, false, IfOk, OnOk, OnErr, MatchOption};
 ghost use Rattle.std.specs.List.{slice_split};
 ghost use Rattle.ldif.specs.Lines as lines;
 ghost use Rattle.ldif.specs.Folding as folding;
@@ -49,9 +49,10 @@ impl Line {
         self.text.as_slice()
     }
 
-    /// The line with what stands behind the space of a part.
+    /// The line with what stands behind the space of a part. An `Err` leaves it as it was.
     fn extend(&mut self, octets: &[u8]) -> Result<(), AllocError>
-        ensures { OnOk result (self.new ≡ record { number = self.old.number; text = self.old.text ++ octets.now }) }
+        ensures ok { OnOk result (self.new ≡ record { number = self.old.number; text = self.old.text ++ octets.now }) }
+        ensures err { OnErr result (self.new ≡ self.old) }
     {
         self.text.extend_from_slice(octets)
     }
@@ -91,14 +92,15 @@ fn continuation<'a>(line: &[u8], part: &'a [u8]) -> Option<&'a [u8]>
     }
 }
 
-/// Puts a part behind lines: it continues the last one, or is one of its own.
+/// Puts a part behind lines: it continues the last one, or is one of its own. After an `Err` no line is there but the first ones, as they were.
 fn put_part(
     alloc: Global,
     lines: &mut Vec<Line>,
     number: usize,
     part: &[u8],
 ) -> Result<(), AllocError>
-    ensures { OnOk result (folding.Puts lines.old.items (record { number = number; text = part.now }) lines.new.items) }
+    ensures ok { OnOk result (folding.Puts lines.old.items (record { number = number; text = part.now }) lines.new.items) }
+    ensures err { OnErr result (lines.old.items ≡ lines.new.items ++ drop (length lines.new.items) lines.old.items) }
 {
     let Some(mut last) = lines.pop() else {
         lines.push(Line::new(alloc, number, part)?)?;

@@ -1,7 +1,7 @@
 //! LDIF: records that a text has.
 //! In: octets. Out: records, or E19 with the first line that is wrong. Not here: how a line is taken apart.
 
-ghost use Rattle.std.specs.Prelude.{◌≡◌, Ok, Some, IfOk, IfErr, OnOk, string_bytes};
+ghost use Rattle.std.specs.Prelude.{◌≡◌, Ok, Some, IfOk, IfErr, OnOk, OnErr, string_bytes};
 ghost use Rattle.ldif.specs.Reading as specs;
 ghost use Rattle.ldif.specs.Says.{line_says};
 ghost use Rattle.ldif.specs.RoundTrip.{RecordsReturn};
@@ -15,11 +15,12 @@ use crate::record::Record;
 use crate::saying::line_said;
 use std::alloc::Global;
 
-/// Takes one more line.
+/// Takes one more line. An `Err` keeps the whole records; the one that stands open may be gone.
 fn put_line(alloc: Global, reading: &mut Reading, line: &Line) -> Result<(), LdifError>
     ensures taken { OnOk result (specs.after_line reading.old (line_says line.now.text) ≡ Some reading.new) }
     ensures refused { IfErr result
         (λ e. IsLineFault e (specs.after_line reading.old (line_says line.now.text)) line.now.number) }
+    ensures err { OnErr result (reading.new.done ≡ reading.old.done) }
 {
     let said = line_said(alloc, line.text())?;
     reading.put(alloc, said, line.number())

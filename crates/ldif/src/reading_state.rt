@@ -1,7 +1,7 @@
 //! LDIF: what was read so far.
 //! In: what lines say, one after the other. Out: records. Not here: how a line is taken apart.
 
-ghost use Rattle.std.specs.Prelude.{◌≡◌, Some, IfOk, IfErr, OnOk, string_bytes};
+ghost use Rattle.std.specs.Prelude.{◌≡◌, Some, IfOk, IfErr, OnOk, OnErr, string_bytes};
 ghost use Rattle.ldif.specs.Reading as specs;
 ghost use Rattle.ldif.specs.Said.{said_of};
 ghost use Rattle.ldif.specs.Faults.{IsLineFault};
@@ -58,9 +58,10 @@ impl Reading {
         }
     }
 
-    /// Ends the record that stands open.
+    /// Ends the record that stands open. An `Err` keeps the whole ones, and the open one is gone.
     fn close(&mut self) -> Result<(), AllocError>
-        ensures { OnOk result (self.new ≡ specs.after_blank self.old) }
+        ensures ok { OnOk result (self.new ≡ specs.after_blank self.old) }
+        ensures err { OnErr result (self.new.done ≡ self.old.done) }
     {
         match self.current.take() {
             Some(whole) => {
@@ -71,11 +72,12 @@ impl Reading {
         Ok(())
     }
 
-    /// Begins a record.
+    /// Begins a record. An `Err` keeps the whole ones.
     fn put_name(&mut self, alloc: Global, name: String, line: usize) -> Result<(), LdifError>
         ensures taken { OnOk result (specs.after_name self.old (string_bytes name) self.old.current ≡ Some self.new) }
         ensures refused { IfErr result
             (λ e. IsLineFault e (specs.after_name self.old (string_bytes name) self.old.current) line) }
+        ensures err { OnErr result (self.new.done ≡ self.old.done) }
     {
         match self.current.take() {
             Some(_) => Err(LdifError::BadLdif { line }),
@@ -87,7 +89,7 @@ impl Reading {
         }
     }
 
-    /// Takes a value of the record that stands open, or the version before all else.
+    /// Takes a value of the record that stands open, or the version before all else. An `Err` keeps the whole ones.
     fn put_value(
         &mut self,
         is_version: bool,
@@ -97,6 +99,7 @@ impl Reading {
         ensures taken { OnOk result (specs.after_value self.old is_version value self.old.current ≡ Some self.new) }
         ensures refused { IfErr result
             (λ e. IsLineFault e (specs.after_value self.old is_version value self.old.current) line) }
+        ensures err { OnErr result (self.new.done ≡ self.old.done) }
     {
         match self.current.take() {
             Some(mut whole) => {
@@ -114,10 +117,11 @@ impl Reading {
         }
     }
 
-    /// Takes what one more line says.
+    /// Takes what one more line says. An `Err` keeps the whole records; the one that stands open may be gone.
     pub fn put(&mut self, alloc: Global, said: Said, line: usize) -> Result<(), LdifError>
         ensures taken { OnOk result (specs.after_line self.old (said_of said) ≡ Some self.new) }
         ensures refused { IfErr result (λ e. IsLineFault e (specs.after_line self.old (said_of said)) line) }
+        ensures err { OnErr result (self.new.done ≡ self.old.done) }
     {
         match said {
             Said::Blank => Ok(self.close()?),

@@ -1,7 +1,7 @@
 //! LDIF: the one text that is written.
 //! In: records. Out: their text. Not here: when a value is base64, how texts are read.
 
-ghost use Rattle.std.specs.Prelude.{◌≡◌, ◌++◌, map, IfOk, OnOk};
+ghost use Rattle.std.specs.Prelude.{◌≡◌, ◌++◌, drop, length, map, IfOk, OnOk};
 ghost use Rattle.ldif.specs.Written as written;
 
 use crate::record::{AttributeValue, Record};
@@ -10,7 +10,8 @@ use std::alloc::{AllocError, Global};
 
 /// Puts the lines of values.
 fn put_values(alloc: Global, out: &mut Vec<u8>, values: &[AttributeValue]) -> Result<(), AllocError>
-    ensures { OnOk result (out.new.items ≡ out.old.items ++ written.lines_text (map written.value_line values.now)) }
+    ensures ok { OnOk result (out.new.items ≡ out.old.items ++ written.lines_text (map written.value_line values.now)) }
+    ensures kept { out.new.items ≡ out.old.items ++ drop (length out.old.items) out.new.items }
 {
     for value in values {
         put_pair(alloc, out, value.description().as_bytes(), value.octets())?;
@@ -20,7 +21,8 @@ fn put_values(alloc: Global, out: &mut Vec<u8>, values: &[AttributeValue]) -> Re
 
 /// Puts a record.
 fn put_record(alloc: Global, out: &mut Vec<u8>, item: &Record) -> Result<(), AllocError>
-    ensures { OnOk result (out.new.items ≡ out.old.items ++ written.lines_text (written.record_lines item.now)) }
+    ensures ok { OnOk result (out.new.items ≡ out.old.items ++ written.lines_text (written.record_lines item.now)) }
+    ensures kept { out.new.items ≡ out.old.items ++ drop (length out.old.items) out.new.items }
 {
     out.push(b'\n')?;
     put_pair(alloc, out, b"dn", item.name().as_bytes())?;
@@ -29,7 +31,8 @@ fn put_record(alloc: Global, out: &mut Vec<u8>, item: &Record) -> Result<(), All
 
 /// Puts records.
 fn put_records(alloc: Global, out: &mut Vec<u8>, records: &[Record]) -> Result<(), AllocError>
-    ensures { OnOk result (out.new.items ≡ out.old.items ++ written.lines_text (written.records_lines records.now)) }
+    ensures ok { OnOk result (out.new.items ≡ out.old.items ++ written.lines_text (written.records_lines records.now)) }
+    ensures kept { out.new.items ≡ out.old.items ++ drop (length out.old.items) out.new.items }
 {
     for item in records {
         put_record(alloc, out, item)?;

@@ -1,7 +1,7 @@
 //! LDIF: lines of a type and a value, written.
 //! In: octets. Out: their line at the end of a buffer. Not here: records.
 
-ghost use Rattle.std.specs.Prelude.{◌≡◌, ◌++◌, ◌∷◌, [], string_bytes, IfOk, OnOk};
+ghost use Rattle.std.specs.Prelude.{◌≡◌, ◌++◌, drop, length, ◌∷◌, [], string_bytes, IfOk, OnOk};
 ghost use Rattle.std.specs.List.{list_all};
 ghost use Rattle.base64.specs.Engines.{standard};
 ghost use Rattle.base64.specs.GeneralPurpose.{encode_of};
@@ -53,7 +53,8 @@ fn is_safe(octets: &[u8]) -> bool
 
 /// Puts octets as base64 behind a second colon.
 fn put_base64(alloc: Global, out: &mut Vec<u8>, octets: &[u8]) -> Result<(), AllocError>
-    ensures { OnOk result (out.new.items ≡ out.old.items ++ 58 ∷ 32 ∷ encode_of standard octets.now) }
+    ensures ok { OnOk result (out.new.items ≡ out.old.items ++ 58 ∷ 32 ∷ encode_of standard octets.now) }
+    ensures kept { out.new.items ≡ out.old.items ++ drop (length out.old.items) out.new.items }
 {
     let text = STANDARD.encode(alloc, octets)?;
     out.extend_from_slice(b": ")?;
@@ -62,7 +63,8 @@ fn put_base64(alloc: Global, out: &mut Vec<u8>, octets: &[u8]) -> Result<(), All
 
 /// Puts what stands behind a type's colon.
 fn put_value_part(alloc: Global, out: &mut Vec<u8>, octets: &[u8]) -> Result<(), AllocError>
-    ensures { OnOk result (out.new.items ≡ out.old.items ++ written.value_part octets.now) }
+    ensures ok { OnOk result (out.new.items ≡ out.old.items ++ written.value_part octets.now) }
+    ensures kept { out.new.items ≡ out.old.items ++ drop (length out.old.items) out.new.items }
 {
     if octets.is_empty() {
         Ok(())
@@ -81,7 +83,8 @@ pub fn put_pair(
     word: &[u8],
     octets: &[u8],
 ) -> Result<(), AllocError>
-    ensures { OnOk result (out.new.items ≡ out.old.items ++ written.pair_line word.now octets.now ++ 10 ∷ []) }
+    ensures ok { OnOk result (out.new.items ≡ out.old.items ++ written.pair_line word.now octets.now ++ 10 ∷ []) }
+    ensures kept { out.new.items ≡ out.old.items ++ drop (length out.old.items) out.new.items }
 {
     out.extend_from_slice(word)?;
     out.push(b':')?;

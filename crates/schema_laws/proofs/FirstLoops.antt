@@ -18,17 +18,17 @@ use Rattle.schema_laws.proofs.OneFamily.{none_found, rest_none}
 use Rattle.schema_laws.proofs.Looped.{loops_of_types}
 use Rattle.schema_laws.proofs.Lineages.{loops_of_classes}
 
-false_true : false ≡ true → ⊥
+pub false_true : false ≡ true → ⊥
 false_true h = cc
 
 -- ---- the first description that a test finds
 
-record IsFoundAt (test : ℕ → DescriptionModel → Bool) (k : ℕ) (ds : List DescriptionModel) (n : ℕ) : Type 0 where
-  i : ℕ
-  d : DescriptionModel
-  at : slice_get ds i ≡ Some d
-  line : d.line ≡ n
-  passes : test (k + i) d ≡ true
+pub record IsFoundAt (test : ℕ → DescriptionModel → Bool) (k : ℕ) (ds : List DescriptionModel) (n : ℕ) : Type 0 where
+  pub i : ℕ
+  pub d : DescriptionModel
+  pub at : slice_get ds i ≡ Some d
+  pub line : d.line ≡ n
+  pub passes : test (k + i) d ≡ true
 
 found_by : (test : ℕ → DescriptionModel → Bool) (k : ℕ) (x : DescriptionModel) (ds : List DescriptionModel) (n : ℕ) (b : Bool) → test k x ≡ b → cond b (Some x.line) (first_of_types test (k + 1) ds) ≡ Some n → (first_of_types test (k + 1) ds ≡ Some n → IsFoundAt test (k + 1) ds n) → IsFoundAt test k (x ∷ ds) n
 found_by test k x ds n true e h f = let same : k + 0 ≡ k = omega arith in record { i = 0; d = x; at = refl; line = some_same h; passes = ap (λ m. test m x) same ∙ e }
@@ -37,7 +37,7 @@ found_by test k x ds n false e h f =
     let same : k + suc r.i ≡ (k + 1) + r.i = omega arith in
     record { i = suc r.i; d = r.d; at = r.at; line = r.line; passes = ap (λ m. test m r.d) same ∙ r.passes }
 
-found : (test : ℕ → DescriptionModel → Bool) (k : ℕ) (ds : List DescriptionModel) (n : ℕ) → first_of_types test k ds ≡ Some n → IsFoundAt test k ds n
+pub found : (test : ℕ → DescriptionModel → Bool) (k : ℕ) (ds : List DescriptionModel) (n : ℕ) → first_of_types test k ds ≡ Some n → IsFoundAt test k ds n
 found test k [] n h = absurd (none_some h)
 found test k (x ∷ ds) n h = found_by test k x ds n (test k x) refl h (λ e. found test (k + 1) ds n e)
 
@@ -63,7 +63,7 @@ least test k [] n r h j e at passes = absurd (none_some h)
 least test k (x ∷ ds) n r h j e at passes = least_here test k x ds n (test k x) refl h r.0 j e at passes (λ i g a p. least test (k + 1) ds n r.1 g i e a p)
 
 -- a line that a test finds is not before the first one
-not_before : (test : ℕ → DescriptionModel → Bool) (ds : List DescriptionModel) (o : Option ℕ) (n : ℕ) → AreRising ds → first_of_types test 0 ds ≡ o → ((m : ℕ) → o ≡ Some m → n ≤ m) → (j : ℕ) (e : DescriptionModel) → slice_get ds j ≡ Some e → test j e ≡ true → n ≤ e.line
+pub not_before : (test : ℕ → DescriptionModel → Bool) (ds : List DescriptionModel) (o : Option ℕ) (n : ℕ) → AreRising ds → first_of_types test 0 ds ≡ o → ((m : ℕ) → o ≡ Some m → n ≤ m) → (j : ℕ) (e : DescriptionModel) → slice_get ds j ≡ Some e → test j e ≡ true → n ≤ e.line
 not_before test ds None n r h le j e at passes =
     let same : 0 + j ≡ j = omega arith in
     absurd (false_true (sym (none_found test 0 ds j e h at) ∙ ap (λ m. test m e) same ∙ passes))
@@ -79,7 +79,7 @@ lower_by : (b : Bool) (m k n : ℕ) → cond b m k ≡ n → (k ≡ n) ⊎ (m �
 lower_by true m k n h = inr h
 lower_by false m k n h = inl h
 
-one_of : (a b : Option ℕ) (n : ℕ) → earlier a b ≡ Some n → (a ≡ Some n) ⊎ (b ≡ Some n)
+pub one_of : (a b : Option ℕ) (n : ℕ) → earlier a b ≡ Some n → (a ≡ Some n) ⊎ (b ≡ Some n)
 one_of None b n h = inr h
 one_of (Some k) None n h = inl h
 one_of (Some k) (Some m) n h = by (lower_by (nat_lt m k) m k n (some_same h)) where
@@ -87,16 +87,16 @@ one_of (Some k) (Some m) n h = by (lower_by (nat_lt m k) m k n (some_same h)) wh
   by (inl e) = inl (ap Some e)
   by (inr e) = inr (ap Some e)
 
-lower : (b : Bool) (m k n : ℕ) → nat_lt m k ≡ b → cond b m k ≡ n → (n ≤ k) × (n ≤ m)
+pub lower : (b : Bool) (m k n : ℕ) → nat_lt m k ≡ b → cond b m k ≡ n → (n ≤ k) × (n ≤ m)
 lower true m k n e h = let lt = ltb-true m k e in (omega (arith, lt, h), omega (arith, h))
 lower false m k n e h = let le = ltb-false m k e in (omega (arith, h), omega (arith, le, h))
 
-no_later_one : (a b : Option ℕ) (n k : ℕ) → earlier a b ≡ Some n → a ≡ Some k → n ≤ k
+pub no_later_one : (a b : Option ℕ) (n k : ℕ) → earlier a b ≡ Some n → a ≡ Some k → n ≤ k
 no_later_one None b n k h e = absurd (none_some e)
 no_later_one (Some x) None n k h e = let s : x ≡ n = some_same h in let t : x ≡ k = some_same e in omega (arith, s, t)
 no_later_one (Some x) (Some m) n k h e = let t : x ≡ k = some_same e in let l : n ≤ x = (lower (nat_lt m x) m x n refl (some_same h)).0 in omega (arith, l, t)
 
-no_later_two : (a b : Option ℕ) (n m : ℕ) → earlier a b ≡ Some n → b ≡ Some m → n ≤ m
+pub no_later_two : (a b : Option ℕ) (n m : ℕ) → earlier a b ≡ Some n → b ≡ Some m → n ≤ m
 no_later_two None b n m h e = let s : n ≡ m = some_same (sym h ∙ e) in omega (arith, s)
 no_later_two (Some x) None n m h e = absurd (none_some e)
 no_later_two (Some x) (Some y) n m h e = let t : y ≡ m = some_same e in let l : n ≤ y = (lower (nat_lt y x) y x n refl (some_same h)).1 in omega (arith, l, t)
@@ -135,11 +135,11 @@ first_by text n h (class_comes_back i d at line b) =
 
 -- ---- the refusal
 
-refused_is : (s : SchemaModel) (o : Option SchemaError) (e : SchemaError) → unless_refused s o ≡ Err e → o ≡ Some e
+pub refused_is : (s : SchemaModel) (o : Option SchemaError) (e : SchemaError) → unless_refused s o ≡ Err e → o ≡ Some e
 refused_is s None e h = cc
 refused_is s (Some x) e h = let same : x ≡ e = cc in ap Some same
 
-other : (o : Option ℕ) (f : ℕ → SchemaError) (rest : Option SchemaError) (e : SchemaError) → ((n : ℕ) → f n ≡ e → ⊥) → refused_at o f rest ≡ Some e → rest ≡ Some e
+pub other : (o : Option ℕ) (f : ℕ → SchemaError) (rest : Option SchemaError) (e : SchemaError) → ((n : ℕ) → f n ≡ e → ⊥) → refused_at o f rest ≡ Some e → rest ≡ Some e
 other None f rest e differ h = h
 other (Some n) f rest e differ h = absurd (differ n (some_same h))
 

@@ -28,21 +28,21 @@ use Rattle.schema_laws.proofs.Looped.{type_is, superior_is, are_within}
 
 -- ---- of a text without faults
 
-none_of_all : (test : DescriptionModel → Bool) (ds : List DescriptionModel) (i : ℕ) (d : DescriptionModel) → first_of_all test ds ≡ None → slice_get ds i ≡ Some d → test d ≡ false
+pub none_of_all : (test : DescriptionModel → Bool) (ds : List DescriptionModel) (i : ℕ) (d : DescriptionModel) → first_of_all test ds ≡ None → slice_get ds i ≡ Some d → test d ≡ false
 none_of_all test [] i d h e = absurd (none_some e)
 none_of_all test (x ∷ ds) zero d h e = ap test (sym (some_same e)) ∙ (none_bad_by (test x) x.line (first_of_all test ds) h).0
 none_of_all test (x ∷ ds) (suc i) d h e = none_of_all test ds i d (none_bad_by (test x) x.line (first_of_all test ds) h).1 e
 
-not_not : (b : Bool) → not b ≡ false → b ≡ true
+pub not_not : (b : Bool) → not b ≡ false → b ≡ true
 not_not true h = refl
 not_not false h = cc
 
 first_of_five : (a b c d e : Bool) → (a && b && c && d && e) ≡ true → a ≡ true
 first_of_five a b c d e h = left_true a b (left_true (a && b) c (left_true (a && b && c) d (left_true (a && b && c && d) e h)))
 
-record IsChained (all : List DescriptionModel) : Type 0 where
-  known : (t : ℕ) (d : DescriptionModel) → slice_get all t ≡ Some d → is_known_by (find all) (superior_text d) ≡ true
-  end : (t : ℕ) → t < length all → walk (types_from all 0 all) (length all) t ≡ None
+pub record IsChained (all : List DescriptionModel) : Type 0 where
+  pub known : (t : ℕ) (d : DescriptionModel) → slice_get all t ≡ Some d → is_known_by (find all) (superior_text d) ≡ true
+  pub end : (t : ℕ) → t < length all → walk (types_from all 0 all) (length all) t ≡ None
 
 looping_none : (t : SchemaTextModel) → loop_line t (schema_of t) ≡ None → (i : ℕ) → i < length (types_from t.types 0 t.types) → is_type_looping (types_from t.types 0 t.types) i ≡ false
 looping_none t h i lt =
@@ -53,15 +53,11 @@ looping_none t h i lt =
     first_none (first_of_types (λ u d. is_type_looping ts u) 0 t.types) (first_of_types (λ c d. is_class_looping (schema_of t).classes c) 0 t.classes) h in
     ap (is_type_looping ts) (sym first) ∙ none_found (λ u d. is_type_looping ts u) 0 t.types i at.0 none at.1
 
-chained : (t : SchemaTextModel) → fault_of t (schema_of t) ≡ None → IsChained t.types
-chained t h =
+pub chained_by : (t : SchemaTextModel) → unknown_of t (schema_of t) ≡ None → loop_line t (schema_of t) ≡ None → IsChained t.types
+chained_by t unknown loop =
     let ts = types_from t.types 0 t.types in
-    let rest : refused_at (unknown_of t (schema_of t)) UnknownName (loop_fault t (schema_of t)) ≡ None = rest_none (bad_line t) BadDescription (refused_at (unknown_of t (schema_of t)) UnknownName (loop_fault t (schema_of t))) h in
-    let unknown : unknown_of t (schema_of t) ≡ None = refused_none (unknown_of t (schema_of t)) UnknownName (loop_fault t (schema_of t)) rest in
     let line : unknown_line t ≡ None = first_none (unknown_line t) (missing_line t.behind (schema_of t)) unknown in
     let types : first_of_all (λ d. not (names_known_type t.types d)) t.types ≡ None = first_none (first_of_all (λ d. not (names_known_type t.types d)) t.types) (first_of_all (λ d. not (names_known_class t d)) t.classes) line in
-    let loops : loop_fault t (schema_of t) ≡ None = rest_none (unknown_of t (schema_of t)) UnknownName (loop_fault t (schema_of t)) rest in
-    let loop : loop_line t (schema_of t) ≡ None = refused_none (loop_line t (schema_of t)) LoopInSup (refused_at (no_equality_line t (schema_of t)) NoEquality None) loops in
     record {
       known = λ i d e.
           first_of_five (is_known_by (find t.types) (superior_text d)) (is_known_by equality_family (first_text_at 5 d.fields)) (is_known_by ordering_family (first_text_at 6 d.fields)) (is_known_by substrings_family (first_text_at 7 d.fields)) (is_known_by syntax_of (first_text_at 8 d.fields))
@@ -69,6 +65,13 @@ chained t h =
       end = λ i lt.
           ap (λ n. walk ts n i) (sym (count_types t.types 0 t.types)) ∙ ends ts (are_within t.types) (looping_none t loop) i (omega (arith, lt, count_types t.types 0 t.types));
     }
+
+chained : (t : SchemaTextModel) → fault_of t (schema_of t) ≡ None → IsChained t.types
+chained t h =
+    let rest : refused_at (unknown_of t (schema_of t)) UnknownName (loop_fault t (schema_of t)) ≡ None = rest_none (bad_line t) BadDescription (refused_at (unknown_of t (schema_of t)) UnknownName (loop_fault t (schema_of t))) h in
+    let unknown : unknown_of t (schema_of t) ≡ None = refused_none (unknown_of t (schema_of t)) UnknownName (loop_fault t (schema_of t)) rest in
+    let loops : loop_fault t (schema_of t) ≡ None = rest_none (unknown_of t (schema_of t)) UnknownName (loop_fault t (schema_of t)) rest in
+    chained_by t unknown (refused_none (loop_line t (schema_of t)) LoopInSup (refused_at (no_equality_line t (schema_of t)) NoEquality None) loops)
 
 -- ---- what stands above inherits nothing
 
@@ -164,13 +167,13 @@ at_below all above d u e h one (is_below {above = g} x v i k higher) =
     let up : v ≡ u = some_same (sym k ∙ ap (superior_of all) (sym same) ∙ h) in
     ap₂ inherited (one g (subst (λ y. IsInEffect all y g) up higher)) (ap own same)
 
-one_effect : (all : List DescriptionModel) {t : ℕ} {e : Effect} → IsInEffect all t e → (f : Effect) → IsInEffect all t f → e ≡ f
+pub one_effect : (all : List DescriptionModel) {t : ℕ} {e : Effect} → IsInEffect all t e → (f : Effect) → IsInEffect all t f → e ≡ f
 one_effect all (has_no_superior d i h) f p = at_root all d i h p
 one_effect all (is_below {above = above} d u i h higher) f p = at_below all above d u i h (λ g q. one_effect all higher g q) p
 
 -- ---- the laws
 
-found_effect : (all : List DescriptionModel) → IsChained all → (t : ℕ) (d : DescriptionModel) → slice_get all t ≡ Some d → IsInEffect all t (effect_of all t)
+pub found_effect : (all : List DescriptionModel) → IsChained all → (t : ℕ) (d : DescriptionModel) → slice_get all t ≡ Some d → IsInEffect all t (effect_of all t)
 found_effect all c t d e =
     let h = chain all c all t d e (c.end t (at_low all t d e)) in
     let is : effect_of all t ≡ effect_down all nothing (reverse (t ∷ h.rest)) = ap (effect_along all t) (h.goes (t ∷ [])) in

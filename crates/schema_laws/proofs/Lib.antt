@@ -13,3 +13,4 @@ pub mod Looped
 pub mod InEffect
 pub mod Lineages
 pub mod FirstLoops
+pub mod FirstFaults

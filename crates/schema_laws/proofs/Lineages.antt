@@ -1,10 +1,12 @@
 -- The classes above classes: what is filled in, and the chain of superclasses. Numbers of classes flow in and out; descriptions are not
 -- here.
 use Rattle.std.proofs.Common.{ℕ, ◌+◌, ◌<◌, ◌≤◌, zero, suc, List, [], ◌∷◌, ◌++◌, Bool, true, false, cond, ◌||◌, Option, None, Some, Ok, ◌≡◌, refl, ap, sym, subst, ◌∙◌, length, take, drop, slice_get, nat_eq, nat_lt, append_assoc, append-nil, length-append, add-one, arith}
-use Rattle.std.specs.List.{IsDistinct, list_all}
+use Rattle.std.specs.List.{IsDistinct, flat_map, list_all}
 use Rattle.std.specs.Cmp.{nat_eq_equiv}
 use Rattle.std.proofs.Math.Seq.{drop-append_seam}
-use Rattle.std.proofs.lemmas.List.{take-append-le}
+use Rattle.std.proofs.lemmas.List.{take-append-le, take-append-drop}
+use Rattle.std.proofs.lemmas.List.Concat.{flat_map-cons}
+use Rattle.std.proofs.lemmas.Grind.{flat_map-append}
 use Rattle.std.proofs.lemmas.List.Folds.{list_any-append}
 use Rattle.std.proofs.lemmas.Map.Keys.{IsDistinct-push}
 use Rattle.std.proofs.lemmas.Map.Steps.{length-le_from_distinct_below}
@@ -17,7 +19,7 @@ use Rattle.schema_reader.specs.Described.{schema_of}
 use Rattle.schema_reader.specs.Reading.{fault_of, schema_of_text}
 use Rattle.schema_reader.proofs.Judged.{known_of}
 use Rattle.ldap_dn.proofs.Spelled.{none_some, some_same}
-use Rattle.schema_laws.specs.Chains.{LoopsOfClassesLeadBack, IsAbove, IsMissing, MissingAreAbove, MissingStandOnce}
+use Rattle.schema_laws.specs.Chains.{LoopsOfClassesLeadBack, IsAbove, IsMissing, MissingAreAbove, MissingStandOnce, MissingComeInTurn}
 use Rattle.schema_laws.proofs.FirstFound.{no_fault}
 use Rattle.schema_laws.proofs.Joined.{left_true, right_true}
 use Rattle.schema_laws.proofs.Lettered.{not_left, not_right}
@@ -291,3 +293,76 @@ pub missing_stand_once : MissingStandOnce
 missing_stand_once text s h cs =
     let f = filled_is s (known_of_text text s h) cs in
     subst (IsDistinct nat_eq) (sym (behind s cs f)) f.grown.once
+
+-- ---- the order
+
+abbrev above_all : List ClassModel → List ℕ → List ℕ
+above_all classes cs = flat_map (direct_superclasses classes) cs
+
+missing_of_both : (have xs ys : List ℕ) → with_missing have (xs ++ ys) ≡ with_missing (with_missing have xs) ys
+missing_of_both have [] ys = refl
+missing_of_both have (x ∷ xs) ys = missing_of_both (cond (is_among have x) have (have ++ x ∷ [])) xs ys
+
+above_one_more : (classes : List ClassModel) (xs : List ℕ) (c : ℕ) → above_all classes (xs ++ c ∷ []) ≡ above_all classes xs ++ direct_superclasses classes c
+above_one_more classes xs c =
+    flat_map-append (direct_superclasses classes) xs (c ∷ [])
+    ∙ ap (λ (l : List ℕ). above_all classes xs ++ l) (flat_map-cons (direct_superclasses classes) c [] ∙ append-nil (direct_superclasses classes c))
+
+-- of so many at the front the superclasses were taken, in turn
+record IsInTurn (classes : List ClassModel) (cs row : List ℕ) : Type 0 where
+  taken : ℕ
+  is : row ≡ with_missing cs (above_all classes (take taken row))
+
+turn_more : (classes : List ClassModel) (cs : List ℕ) (i c : ℕ) (have : List ℕ) → slice_get have i ≡ Some c → have ≡ with_missing cs (above_all classes (take i have))
+    → with_missing have (direct_superclasses classes c) ≡ with_missing cs (above_all classes (take (i + 1) (with_missing have (direct_superclasses classes c))))
+turn_more classes cs i c have e h =
+    let m = more_of have (direct_superclasses classes c) in
+    let within : i < length have = at_within have i c e in
+    let front : take (i + 1) (with_missing have (direct_superclasses classes c)) ≡ take i have ++ c ∷ [] =
+    ap (take (i + 1)) m.1 ∙ take-append-le (i + 1) have m.0 (omega (arith, within)) ∙ ap (λ (n : ℕ). take n have) (add-one i) ∙ front_with have i c e in
+    ap (λ (l : List ℕ). with_missing l (direct_superclasses classes c)) h
+    ∙ sym (missing_of_both cs (above_all classes (take i have)) (direct_superclasses classes c))
+    ∙ ap (with_missing cs) (sym (above_one_more classes (take i have) c))
+    ∙ ap (λ (l : List ℕ). with_missing cs (above_all classes l)) (sym front)
+
+turn_by : (classes : List ClassModel) (cs : List ℕ) (k i : ℕ) (have : List ℕ) (o : Option ℕ) → have ≡ with_missing cs (above_all classes (take i have))
+    → ((c : ℕ) → o ≡ Some c → IsInTurn classes cs (next_of classes k i have c)) → IsInTurn classes cs (gone_on o have (next_of classes k i have))
+turn_by classes cs k i have None h f = record { taken = i; is = h }
+turn_by classes cs k i have (Some c) h f = f c refl
+
+in_turn : (classes : List ClassModel) (cs : List ℕ) (k i : ℕ) (have : List ℕ) → have ≡ with_missing cs (above_all classes (take i have)) → IsInTurn classes cs (filled_from k classes i have)
+in_turn classes cs zero i have h = record { taken = i; is = h }
+in_turn classes cs (suc k) i have h =
+    turn_by classes cs k i have (slice_get have i) h (λ c e. in_turn classes cs k (i + 1) (with_missing have (direct_superclasses classes c)) (turn_more classes cs i c have e h))
+
+absorbed : (row ys : List ℕ) → ((u : ℕ) → is_among ys u ≡ true → is_among row u ≡ true) → with_missing row ys ≡ row
+absorbed row [] f = refl
+absorbed row (y ∷ ys) f =
+    ap (λ (b : Bool). with_missing (cond b row (row ++ y ∷ [])) ys) (f y (or_first (nat_eq y y) (is_among ys y) (eq-eqb y y refl)))
+    ∙ absorbed row ys (λ u m. f u (or_second (nat_eq u y) (is_among ys u) m))
+
+nothing_above : (classes : List ClassModel) (row xs : List ℕ) → ((c : ℕ) → is_among xs c ≡ true → is_among row c ≡ true) → IsClosed classes row → with_missing row (above_all classes xs) ≡ row
+nothing_above classes row [] f closed = refl
+nothing_above classes row (x ∷ xs) f closed =
+    ap (with_missing row) (flat_map-cons (direct_superclasses classes) x xs)
+    ∙ missing_of_both row (direct_superclasses classes x) (above_all classes xs)
+    ∙ ap (λ (l : List ℕ). with_missing l (above_all classes xs)) (absorbed row (direct_superclasses classes x) (λ u m. closed x u (f x (or_first (nat_eq x x) (is_among xs x) (eq-eqb x x refl))) m))
+    ∙ nothing_above classes row xs (λ c m. f c (or_second (nat_eq c x) (is_among xs c) m)) closed
+
+settled : (classes : List ClassModel) (cs row : List ℕ) → IsInTurn classes cs row → IsClosed classes row → row ≡ with_missing cs (above_all classes row)
+settled classes cs row t closed =
+    let first : List ℕ = take t.taken row in
+    let rest : List ℕ = drop t.taken row in
+    let cut : first ++ rest ≡ row = take-append-drop t.taken row in
+    sym (ap (λ (l : List ℕ). with_missing cs (above_all classes l)) (sym cut)
+    ∙ ap (with_missing cs) (flat_map-append (direct_superclasses classes) first rest)
+    ∙ missing_of_both cs (above_all classes first) (above_all classes rest)
+    ∙ ap (λ (l : List ℕ). with_missing l (above_all classes rest)) (sym t.is)
+    ∙ nothing_above classes row rest (λ c m. ap (λ (l : List ℕ). is_among l c) (sym cut) ∙ in_back first rest c m) closed)
+
+pub missing_come_in_turn : MissingComeInTurn
+missing_come_in_turn text s h cs =
+    let f = filled_is s (known_of_text text s h) cs in
+    let row : filled s.classes cs ≡ cs ++ missing_superclasses s cs = f.grown.is ∙ ap (λ (l : List ℕ). cs ++ l) (sym (behind s cs f)) in
+    let t = in_turn s.classes cs (length cs + length s.classes) 0 cs refl in
+    sym row ∙ settled s.classes cs (filled s.classes cs) t f.closed ∙ ap (λ (l : List ℕ). with_missing cs (above_all s.classes l)) row

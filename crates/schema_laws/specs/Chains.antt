@@ -1,9 +1,9 @@
 -- Chains of SUPs: RFC 4512 2.5.1, 4.1.1 and 4.1.2. Texts of schemas flow in, statements flow out; how far a chain is followed is not here.
-use Rattle.std.specs.Prelude.{ℕ, List, ◌≤◌, None, Some, Ok, Err, slice_get, nat_eq, true, false, ◌≡◌, ◌↔◌}
+use Rattle.std.specs.Prelude.{ℕ, List, ◌++◌, flat_map, ◌≤◌, None, Some, Ok, Err, slice_get, nat_eq, true, false, ◌≡◌, ◌↔◌}
 use Rattle.std.specs.List.{IsDistinct}
 use Rattle.ldap_match.specs.ldap_schema.Schema.{SchemaModel, IsUnder}
 use Rattle.ldap_match.specs.ldap_schema.Schema as schema
-use Rattle.ldap_match.specs.ldap_schema.Superclasses.{is_among, direct_superclasses, missing_superclasses, IsSubclass}
+use Rattle.ldap_match.specs.ldap_schema.Superclasses.{is_among, direct_superclasses, with_missing, missing_superclasses, IsSubclass}
 use Rattle.schema_reader.specs.schema_text.Descriptions.{DescriptionModel}
 use Rattle.schema_reader.specs.schema_text.Texts.{SchemaTextModel, read_text}
 use Rattle.schema_reader.specs.schema_meaning.Naming.{superior_text, superior_of}
@@ -85,3 +85,9 @@ MissingAreAbove = (text : List ℕ) (s : SchemaModel) → schema_of_text text �
 -- Each of them is there once.
 abbrev pub MissingStandOnce : Type 0
 MissingStandOnce = (text : List ℕ) (s : SchemaModel) → schema_of_text text ≡ Ok s → (cs : List ℕ) → IsDistinct nat_eq (missing_superclasses s cs)
+
+-- They come in turn: behind these classes, for each of these and of the missing ones in their order, its direct superclasses in the order
+-- written, each where it comes first. So a direct superclass of an earlier one comes before one that only later ones have.
+abbrev pub MissingComeInTurn : Type 0
+MissingComeInTurn = (text : List ℕ) (s : SchemaModel) → schema_of_text text ≡ Ok s → (cs : List ℕ)
+    → cs ++ missing_superclasses s cs ≡ with_missing cs (flat_map (direct_superclasses s.classes) (cs ++ missing_superclasses s cs))

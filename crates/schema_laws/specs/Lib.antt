@@ -2,3 +2,4 @@ pub mod PrintedRead
 pub mod Ruled
 pub mod MeaningNames
 pub mod Chains
+pub mod FirstFaults

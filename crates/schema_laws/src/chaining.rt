@@ -6,6 +6,7 @@ ghost use Rattle.schema_laws.specs.Chains.{
   LoopsOfClassesLeadBack,
   LoopsOfTypesLeadBack,
   MissingAreAbove,
+  MissingComeInTurn,
   MissingStandOnce,
   ReadTextsHaveNoLoop,
   RefusedAtFirstLoop,
@@ -29,8 +30,9 @@ pub fn effects_are_inherited()
 {}
 
 /// In a schema that is read from a text, the superclasses that are missing beside some classes are those above one of these that are none
-/// of these, each once.
+/// of these, each once, and in turn: the direct superclasses of an earlier one before those of a later one.
 pub fn missing_are_above()
     ensures above { MissingAreAbove }
     ensures once { MissingStandOnce }
+    ensures in_turn { MissingComeInTurn }
 {}

@@ -1,5 +1,5 @@
 //! Frames: fields put at the end of octets. Numbers, clusters, clients, records and logs flow in; octets flow out. Messages are not here.
-ghost use Rattle.std.specs.Prelude.{◌≡◌, ◌∷◌, [], ◌^◌, ◌<◌, ◌≤◌, length};
+ghost use Rattle.std.specs.Prelude.{◌≡◌, ◌∷◌, [], ◌++◌, ◌^◌, ◌<◌, ◌≤◌, drop, length};
 ghost use Rattle.view_store.specs.Cluster.{cluster_octets};
 ghost use Rattle.vr_wire.specs.Frames.{number, short, client_octets, payload_octets, entry_octets, entries_octets, log_octets, held_octets};
 ghost use Rattle.vr_wire.specs.Frames.{perhaps_octets, limit};
@@ -18,21 +18,24 @@ use vr_state::words::{Client, Entry};
 pub const LIMIT: usize = 268_435_456;
 
 pub fn put_octet(out: &mut Vec<u8>, octet: u8) -> Result<(), WireError>
-    ensures { Puts result out.old.items out.new.items (octet ∷ []) }
+    ensures spelled { Puts result out.old.items out.new.items (octet ∷ []) }
+    ensures kept { out.new.items ≡ out.old.items ++ drop (length out.old.items) out.new.items }
 {
     out.push(octet)?;
     Ok(())
 }
 
 pub fn put_number(out: &mut Vec<u8>, value: u64) -> Result<(), WireError>
-    ensures { Puts result out.old.items out.new.items (number value) }
+    ensures spelled { Puts result out.old.items out.new.items (number value) }
+    ensures kept { out.new.items ≡ out.old.items ++ drop (length out.old.items) out.new.items }
 {
     out.extend_from_slice(&value.to_be_bytes())?;
     Ok(())
 }
 
 fn put_short(out: &mut Vec<u8>, number: u32) -> Result<(), WireError>
-    ensures { Puts result out.old.items out.new.items (short number) }
+    ensures spelled { Puts result out.old.items out.new.items (short number) }
+    ensures kept { out.new.items ≡ out.old.items ++ drop (length out.old.items) out.new.items }
 {
     out.extend_from_slice(&number.to_be_bytes())?;
     Ok(())
@@ -40,7 +43,8 @@ fn put_short(out: &mut Vec<u8>, number: u32) -> Result<(), WireError>
 
 /// A cluster's number, in six octets.
 pub fn put_cluster(out: &mut Vec<u8>, cluster: Cluster) -> Result<(), WireError>
-    ensures { Puts result out.old.items out.new.items (cluster_octets cluster) }
+    ensures spelled { Puts result out.old.items out.new.items (cluster_octets cluster) }
+    ensures kept { out.new.items ≡ out.old.items ++ drop (length out.old.items) out.new.items }
 {
     let octets = cluster.number().to_be_bytes();
     out.extend_from_slice(&octets[2..])?;
@@ -50,14 +54,16 @@ pub fn put_cluster(out: &mut Vec<u8>, cluster: Cluster) -> Result<(), WireError>
 /// A length or a count, which is within the limit.
 pub fn put_count(out: &mut Vec<u8>, count: usize) -> Result<(), WireError>
     requires { count ≤ limit }
-    ensures { Puts result out.old.items out.new.items (short count) }
+    ensures spelled { Puts result out.old.items out.new.items (short count) }
+    ensures kept { out.new.items ≡ out.old.items ++ drop (length out.old.items) out.new.items }
 {
     put_short(out, count as u32)
 }
 
 #[tactic(auto, using(crate::proofs::PutLaws::longer, crate::proofs::PutLaws::longer_by))]
 fn put_client(out: &mut Vec<u8>, client: Client) -> Result<(), WireError>
-    ensures { Puts result out.old.items out.new.items (client_octets client) }
+    ensures spelled { Puts result out.old.items out.new.items (client_octets client) }
+    ensures kept { out.new.items ≡ out.old.items ++ drop (length out.old.items) out.new.items }
 {
     put_octet(out, client.home)?;
     put_number(out, client.life)?;
@@ -66,7 +72,8 @@ fn put_client(out: &mut Vec<u8>, client: Client) -> Result<(), WireError>
 
 /// A payload, unless it or what stands before it is over the limit.
 fn put_payload(out: &mut Vec<u8>, payload: &[u8]) -> Result<(), WireError>
-    ensures { Puts result out.old.items out.new.items (payload_octets payload.now) }
+    ensures spelled { Puts result out.old.items out.new.items (payload_octets payload.now) }
+    ensures kept { out.new.items ≡ out.old.items ++ drop (length out.old.items) out.new.items }
 {
     if out.len() > LIMIT || payload.len() > LIMIT {
         return Err(WireError::BadFrame);
@@ -90,7 +97,8 @@ fn op_octets(alloc: Global, op: &Op) -> Result<Vec<u8>, WireError>
 /// A record, whose update is written.
 #[tactic(auto, using(crate::proofs::PutLaws::longer, crate::proofs::PutLaws::longer_by))]
 pub fn put_entry(alloc: Global, out: &mut Vec<u8>, entry: &Entry<Op>) -> Result<(), WireError>
-    ensures { Puts result out.old.items out.new.items (entry_octets (written_entry entry.now)) }
+    ensures spelled { Puts result out.old.items out.new.items (entry_octets (written_entry entry.now)) }
+    ensures kept { out.new.items ≡ out.old.items ++ drop (length out.old.items) out.new.items }
 {
     let payload = op_octets(alloc, &entry.payload)?;
     put_client(out, entry.client)?;
@@ -100,7 +108,8 @@ pub fn put_entry(alloc: Global, out: &mut Vec<u8>, entry: &Entry<Op>) -> Result<
 
 /// Records, one after the other.
 fn put_entries(alloc: Global, out: &mut Vec<u8>, entries: &[Entry<Op>]) -> Result<(), WireError>
-    ensures { Puts result out.old.items out.new.items (entries_octets (written_log entries.now)) }
+    ensures spelled { Puts result out.old.items out.new.items (entries_octets (written_log entries.now)) }
+    ensures kept { out.new.items ≡ out.old.items ++ drop (length out.old.items) out.new.items }
 {
     for entry in entries {
         put_entry(alloc, out, entry)?;
@@ -110,7 +119,8 @@ fn put_entries(alloc: Global, out: &mut Vec<u8>, entries: &[Entry<Op>]) -> Resul
 
 /// A log.
 pub fn put_log(alloc: Global, out: &mut Vec<u8>, entries: &[Entry<Op>]) -> Result<(), WireError>
-    ensures { Puts result out.old.items out.new.items (log_octets (written_log entries.now)) }
+    ensures spelled { Puts result out.old.items out.new.items (log_octets (written_log entries.now)) }
+    ensures kept { out.new.items ≡ out.old.items ++ drop (length out.old.items) out.new.items }
 {
     if entries.len() > LIMIT {
         return Err(WireError::BadFrame);
@@ -120,7 +130,8 @@ pub fn put_log(alloc: Global, out: &mut Vec<u8>, entries: &[Entry<Op>]) -> Resul
 }
 
 pub fn put_held(alloc: Global, out: &mut Vec<u8>, held: &Snapshot<Op>) -> Result<(), WireError>
-    ensures { Puts result out.old.items out.new.items (held_octets (written_held held.now)) }
+    ensures spelled { Puts result out.old.items out.new.items (held_octets (written_held held.now)) }
+    ensures kept { out.new.items ≡ out.old.items ++ drop (length out.old.items) out.new.items }
 {
     put_number(out, held.commit_number)?;
     put_log(alloc, out, held.log.as_slice())
@@ -132,7 +143,8 @@ pub fn put_perhaps(
     out: &mut Vec<u8>,
     held: &Option<Snapshot<Op>>,
 ) -> Result<(), WireError>
-    ensures { Puts result out.old.items out.new.items (perhaps_octets (written_perhaps held.now)) }
+    ensures spelled { Puts result out.old.items out.new.items (perhaps_octets (written_perhaps held.now)) }
+    ensures kept { out.new.items ≡ out.old.items ++ drop (length out.old.items) out.new.items }
 {
     match held {
         None => put_octet(out, 0),

@@ -26,7 +26,8 @@ const HEAD_ROOM: usize = 64;
 /// Two numbers.
 #[tactic(auto, using(crate::proofs::PutLaws::longer_by))]
 fn put_two(out: &mut Vec<u8>, first: u64, second: u64) -> Result<(), WireError>
-    ensures { Puts result out.old.items out.new.items (number first ++ number second) }
+    ensures spelled { Puts result out.old.items out.new.items (number first ++ number second) }
+    ensures kept { out.new.items ≡ out.old.items ++ drop (length out.old.items) out.new.items }
 {
     put_number(out, first)?;
     put_number(out, second)
@@ -41,7 +42,8 @@ fn put_prepare(
     op_number: u64,
     commit_number: u64,
 ) -> Result<(), WireError>
-    ensures { Puts result out.old.items out.new.items (body_octets (written (kind.Prepare view_number entry.now op_number commit_number))) }
+    ensures spelled { Puts result out.old.items out.new.items (body_octets (written (kind.Prepare view_number entry.now op_number commit_number))) }
+    ensures kept { out.new.items ≡ out.old.items ++ drop (length out.old.items) out.new.items }
 {
     put_number(out, view_number)?;
     put_two(out, op_number, commit_number)?;
@@ -55,7 +57,8 @@ fn put_do_view_change(
     view_number: u64,
     change: &Change<Op>,
 ) -> Result<(), WireError>
-    ensures { Puts result out.old.items out.new.items (body_octets (written (kind.DoViewChange view_number change.now))) }
+    ensures spelled { Puts result out.old.items out.new.items (body_octets (written (kind.DoViewChange view_number change.now))) }
+    ensures kept { out.new.items ≡ out.old.items ++ drop (length out.old.items) out.new.items }
 {
     put_number(out, view_number)?;
     put_two(out, change.last_normal_view, change.commit_number)?;
@@ -69,7 +72,8 @@ fn put_recovery_response(
     nonce: u64,
     response: &Response<Op>,
 ) -> Result<(), WireError>
-    ensures { Puts result out.old.items out.new.items (body_octets (written (kind.RecoveryResponse nonce response.now))) }
+    ensures spelled { Puts result out.old.items out.new.items (body_octets (written (kind.RecoveryResponse nonce response.now))) }
+    ensures kept { out.new.items ≡ out.old.items ++ drop (length out.old.items) out.new.items }
 {
     put_two(out, response.view_number, nonce)?;
     put_perhaps(alloc, out, &response.held)
@@ -77,7 +81,8 @@ fn put_recovery_response(
 
 /// What follows the sender, by kind.
 fn put_body(alloc: Global, out: &mut Vec<u8>, message: &PeerMessage<Op>) -> Result<(), WireError>
-    ensures { Puts result out.old.items out.new.items (body_octets (written message.now)) }
+    ensures spelled { Puts result out.old.items out.new.items (body_octets (written message.now)) }
+    ensures kept { out.new.items ≡ out.old.items ++ drop (length out.old.items) out.new.items }
 {
     match message {
         PeerMessage::Prepare {
@@ -124,7 +129,8 @@ fn put_new_state(
     base: u64,
     tail: &Snapshot<Op>,
 ) -> Result<(), WireError>
-    ensures { Puts result out.old.items out.new.items (body_octets (written (kind.NewState view_number base tail.now))) }
+    ensures spelled { Puts result out.old.items out.new.items (body_octets (written (kind.NewState view_number base tail.now))) }
+    ensures kept { out.new.items ≡ out.old.items ++ drop (length out.old.items) out.new.items }
 {
     put_number(out, view_number)?;
     put_two(out, tail.commit_number, base)?;
@@ -139,7 +145,8 @@ fn put_state(
     view_number: u64,
     held: &Snapshot<Op>,
 ) -> Result<(), WireError>
-    ensures { Puts result out.old.items out.new.items (number view_number ++ held_octets (written_held held.now)) }
+    ensures spelled { Puts result out.old.items out.new.items (number view_number ++ held_octets (written_held held.now)) }
+    ensures kept { out.new.items ≡ out.old.items ++ drop (length out.old.items) out.new.items }
 {
     put_number(out, view_number)?;
     put_held(alloc, out, held)
@@ -187,7 +194,8 @@ fn held_len(response: &Response<Op>) -> usize {
 /// Four zeros where the length will stand, the version, the cluster's number, the kind and the sender's index.
 #[tactic(auto, using(crate::proofs::PutLaws::longer_by))]
 fn put_head(out: &mut Vec<u8>, cluster: Cluster, kind: u8, sender: u8) -> Result<(), WireError>
-    ensures { Puts result out.old.items out.new.items (0 ∷ 0 ∷ 0 ∷ 0 ∷ 2 ∷ (cluster_octets cluster ++ kind ∷ sender ∷ [])) }
+    ensures spelled { Puts result out.old.items out.new.items (0 ∷ 0 ∷ 0 ∷ 0 ∷ 2 ∷ (cluster_octets cluster ++ kind ∷ sender ∷ [])) }
+    ensures kept { out.new.items ≡ out.old.items ++ drop (length out.old.items) out.new.items }
 {
     out.extend_from_slice(&[0, 0, 0, 0, VERSION])?;
     put_cluster(out, cluster)?;

@@ -9,7 +9,7 @@ use Rattle.dir_index.proofs.marks.marks_of_both.Goals as goal
 
 pub loop-attribute-preserved : goal.loop-attribute-preserved
 loop-attribute-preserved c = λ p.
-    c.in_ok-mark_attribute.ensures p ∙ ap (λ (b : Bool). is_from_attribute c.args.indexes.now c.attribute-item.result p || b) (c.loop-attribute.invariant p)
+    c.in_ok-mark_attribute.ensures.ok p ∙ ap (λ (b : Bool). is_from_attribute c.args.indexes.now c.attribute-item.result p || b) (c.loop-attribute.invariant p)
     ∙ any_more (λ a. is_from_attribute c.args.indexes.now a p) c.args.after.now c.loop-attribute.attribute-index c.attribute-item.result (lists_entry c.args.indexes.now c.args.before.now p) c.loop-attribute-test.true c.attribute-item.is
 
 pub returns : goal.returns

@@ -3,6 +3,7 @@ use Rattle.std.specs.List.{list_any, AllByRecursion}
 use Rattle.std.specs.Map.Iter.{deref_pair}
 use Rattle.std.specs.declared.ops.Bound.TheVariants.{Included}
 use Rattle.std.proofs.lemmas.List.{append-nil}
+use Rattle.std.proofs.Math.Seq.{drop-length}
 use Rattle.std.proofs.lemmas.Map.Iter.{rest_all}
 use Rattle.dir_index.specs.declared.posting.Range.{Range}
 use Rattle.dir_index.specs.Postings.{has_number, IsRising}
@@ -13,9 +14,11 @@ use Rattle.dir_index.proofs.ranging.push_between.Goals as goal
 
 pub loop-posting-init : goal.loop-posting-init
 loop-posting-init c =
+    let old : List (List ℕ) = map {A = Bor (List ℕ)} {B = List ℕ} (λ x. x.now) c.args.into.now.items in
     let found : AreFound c.args.table.now.entries c.range-posting-items.result = all_found c.args.table.now (Included c.args.low.now) (Included c.args.high.now) c.range-posting-items.result (c.range-posting-items.ensures.in_range tt).0 in
     record {
       pushed = refl;
+      kept = sym (ap (λ (l : List (List ℕ)). old ++ l) (drop-length old) ∙ append-nil old);
       rest = subst (λ (rows : Rows). AllByRecursion (λ e. IsRising e.1.items) rows) (sym c.into_iter-posting-iterator.ensures.into_iter_gives) (found_rise c.args.table.now.entries c.range-posting-items.result c.requires.rising found);
       rising = λ h. h;
     }

@@ -17,4 +17,4 @@ returns-then-not-has_text-clause-refused c = (refl, no_text c.has_text.result (v
 
 pub returns-clause-spells : goal.returns-clause-spells
 returns-clause-spells c =
-    subst (IsFilterText (view c.args.filter.now)) (sym (c.in_ok-put_filter.ensures ∙ ap (λ (x : List ℕ). x ++ filter_text (view c.args.filter.now)) c.new-out.ensures.bytes)) (filter_spells (view c.args.filter.now) [] (sym c.has_text.ensures ∙ c.if-not-has_text.false))
+    subst (IsFilterText (view c.args.filter.now)) (sym (c.in_ok-put_filter.ensures.ok ∙ ap (λ (x : List ℕ). x ++ filter_text (view c.args.filter.now)) c.new-out.ensures.bytes)) (filter_spells (view c.args.filter.now) [] (sym c.has_text.ensures ∙ c.if-not-has_text.false))

@@ -3,7 +3,7 @@ use Rattle.std.proofs.Common.{string_bytes}
 use Rattle.filter_text.proofs.Values.{a_character}
 use Rattle.filter_text.proofs.printing_value.put_first.Goals as goal
 
-pub returns-in_ok-push_str-in-Some : goal.returns-in_ok-push_str-in-Some
-returns-in_ok-push_str-in-Some c =
+pub returns-in_ok-push_str-in-Some-clause-ok : goal.returns-in_ok-push_str-in-Some-clause-ok
+returns-in_ok-push_str-in-Some-clause-ok c =
     let e = c.in-Some.ensures in
     a_character (string_bytes c.args.out.now) (string_bytes c.push_str.new.self) c.in-Some.text.now c.args.octets.now e.0 e.1 e.2 e.3 c.in_ok-push_str-in-Some.ensures.bytes

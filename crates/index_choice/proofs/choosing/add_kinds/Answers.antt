@@ -5,8 +5,8 @@ use Rattle.index_choice.specs.Texts.{joined}
 use Rattle.index_choice.proofs.Settings.{kinds_here, kinds_set, at_type}
 use Rattle.index_choice.proofs.choosing.add_kinds.Goals as goal
 
-pub returns : goal.returns
-returns c =
+pub returns-clause-ok : goal.returns-clause-ok
+returns-clause-ok c =
     let ks : List Kinds = c.reach.new.kinds.items in
     let old : List Kinds = c.args.kinds.now.items in
     let n : ℕ = c.number-number.result in

@@ -1,7 +1,9 @@
 -- Wire, between elements and messages: the goals of `put_texts` that no tactic closes, each by one lemma over plain lists.
+use Rattle.std.proofs.Common.{◌∙◌}
 use Rattle.std.specs.Prelude.{string_bytes}
 use Rattle.std.proofs.lemmas.Result.{err_from_is_err_and}
 use Rattle.ldap_ber.specs.Element.{element_bytes}
+use Rattle.ldap_fields.proofs.Puts.{kept_front}
 use Rattle.ldap_fields.proofs.Written.{row_step, row_long, element_long}
 use Rattle.ldap_fields.proofs.writing.put_texts.Goals as goal
 
@@ -13,3 +15,9 @@ returns-in_err-write-clause-too_long c =
 pub loop-text-preserved : goal.loop-text-preserved
 loop-text-preserved c =
     row_step (element_bytes 4) string_bytes c.args.out.now.items c.loop-text.out.items c.write.new.out.items c.args.texts.now c.loop-text.text-index c.text-item.result c.loop-text-test.true c.text-item.is c.loop-text.invariant (rw c.as_bytes.ensures.value at c.in_ok-write.ensures.ok)
+
+pub returns-in_err-write-clause-kept : goal.returns-in_err-write-clause-kept
+returns-in_err-write-clause-kept c = kept_front _ _ _ (c.in_err-write.ensures.err ∙ c.loop-text.invariant)
+
+pub returns-clause-kept : goal.returns-clause-kept
+returns-clause-kept c = kept_front _ _ _ c.loop-text.invariant

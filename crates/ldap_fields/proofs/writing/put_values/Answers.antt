@@ -1,6 +1,8 @@
 -- Wire, between elements and messages: the goals of `put_values` that no tactic closes, each by one lemma over plain lists.
+use Rattle.std.proofs.Common.{◌∙◌}
 use Rattle.std.proofs.lemmas.Result.{err_from_is_err_and}
 use Rattle.ldap_ber.specs.Element.{element_bytes}
+use Rattle.ldap_fields.proofs.Puts.{kept_front}
 use Rattle.ldap_fields.proofs.Written.{row_step, row_long, element_long}
 use Rattle.ldap_fields.proofs.writing.put_values.Goals as goal
 
@@ -12,3 +14,9 @@ returns-in_err-write-clause-too_long c =
 pub loop-value-preserved : goal.loop-value-preserved
 loop-value-preserved c =
     row_step (element_bytes 4) (λ v. v.items) c.args.out.now.items c.loop-value.out.items c.write.new.out.items c.args.values.now c.loop-value.value-index c.value-item.result c.loop-value-test.true c.value-item.is c.loop-value.invariant (rw c.deref.ensures.value at c.in_ok-write.ensures.ok)
+
+pub returns-in_err-write-clause-kept : goal.returns-in_err-write-clause-kept
+returns-in_err-write-clause-kept c = kept_front _ _ _ (c.in_err-write.ensures.err ∙ c.loop-value.invariant)
+
+pub returns-clause-kept : goal.returns-clause-kept
+returns-clause-kept c = kept_front _ _ _ c.loop-value.invariant

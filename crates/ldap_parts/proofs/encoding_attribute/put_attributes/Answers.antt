@@ -5,7 +5,7 @@ use Rattle.ldap_fields.specs.ldap_ber.Element.{element_bytes}
 use Rattle.ldap_fields.proofs.Written.{row_step, row_long, element_long}
 use Rattle.ldap_parts.specs.View.{attribute_view}
 use Rattle.ldap_parts.specs.Written.{attribute_content, attribute_bytes}
-use Rattle.ldap_fields.proofs.Puts.{same_error}
+use Rattle.ldap_fields.proofs.Puts.{kept_front, same_error}
 use Rattle.ldap_parts.proofs.encoding_attribute.put_attributes.Goals as goal
 
 pub returns-in_err-content-clause-too_long : goal.returns-in_err-content-clause-too_long
@@ -22,3 +22,12 @@ pub loop-attribute-preserved : goal.loop-attribute-preserved
 loop-attribute-preserved c =
     row_step attribute_bytes attribute_view c.args.out.now.items c.loop-attribute.out.items c.write.new.out.items c.args.attributes.now c.loop-attribute.attribute-index c.attribute-item.result c.loop-attribute-test.true c.attribute-item.is c.loop-attribute.invariant
     (c.in_ok-write.ensures.ok ∙ ap (λ (x : List ℕ). c.loop-attribute.out.items ++ element_bytes 48 x) (c.deref.ensures.value ∙ c.in_ok-content.ensures.ok))
+
+pub returns-in_err-content-clause-kept : goal.returns-in_err-content-clause-kept
+returns-in_err-content-clause-kept c = kept_front _ _ _ c.loop-attribute.invariant
+
+pub returns-in_err-write-clause-kept : goal.returns-in_err-write-clause-kept
+returns-in_err-write-clause-kept c = kept_front _ _ _ (c.in_err-write.ensures.err ∙ c.loop-attribute.invariant)
+
+pub returns-clause-kept : goal.returns-clause-kept
+returns-clause-kept c = kept_front _ _ _ c.loop-attribute.invariant

@@ -5,7 +5,7 @@ use Rattle.ldap_fields.specs.ldap_ber.Element.{element_bytes}
 use Rattle.ldap_fields.proofs.Written.{row_step, row_long, element_long}
 use Rattle.ldap_parts.specs.View.{control_view}
 use Rattle.ldap_parts.specs.Written.{control_content, control_bytes}
-use Rattle.ldap_fields.proofs.Puts.{same_error}
+use Rattle.ldap_fields.proofs.Puts.{kept_front, same_error}
 use Rattle.ldap_parts.proofs.encoding_control.put_row.Goals as goal
 
 pub returns-in_err-content-clause-too_long : goal.returns-in_err-content-clause-too_long
@@ -22,3 +22,12 @@ pub loop-control-preserved : goal.loop-control-preserved
 loop-control-preserved c =
     row_step control_bytes control_view c.args.out.now.items c.loop-control.out.items c.write.new.out.items c.args.controls.now c.loop-control.control-index c.control-item.result c.loop-control-test.true c.control-item.is c.loop-control.invariant
     (c.in_ok-write.ensures.ok ∙ ap (λ (x : List ℕ). c.loop-control.out.items ++ element_bytes 48 x) (c.deref.ensures.value ∙ c.in_ok-content.ensures.ok))
+
+pub returns-in_err-content-clause-kept : goal.returns-in_err-content-clause-kept
+returns-in_err-content-clause-kept c = kept_front _ _ _ c.loop-control.invariant
+
+pub returns-in_err-write-clause-kept : goal.returns-in_err-write-clause-kept
+returns-in_err-write-clause-kept c = kept_front _ _ _ (c.in_err-write.ensures.err ∙ c.loop-control.invariant)
+
+pub returns-clause-kept : goal.returns-clause-kept
+returns-clause-kept c = kept_front _ _ _ c.loop-control.invariant
