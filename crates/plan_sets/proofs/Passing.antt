@@ -186,9 +186,6 @@ wanted_same value value' scope candidates same =
 pub even_more : (a b x d a' d' k : ℕ) → a + b ≡ x + d → a' ≡ a + k → d' ≡ d + k → a' + b ≡ x + d'
 even_more a b x d a' d' k e f g = omega arith
 
-pub at_most : (a b : ℕ) → a ≡ b → a ≤ b
-at_most a b e = omega arith
-
 -- all that is left open was asked for, once no candidate is left
 pub none_left : (must may : ℕ → Bool) (value : ℕ → Truth) (scope candidates : List ℕ) (t l : ℕ) → IsUnderWay must may value scope candidates t l → candidates ≡ [] → t ≡ length (filter (is_open must may) scope)
 none_left must may value scope candidates t l w e = all_counted (filter (is_open must may) scope) t w.within (w.left ∙ ap (filter (is_asked must may scope)) e)

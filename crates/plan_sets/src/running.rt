@@ -1,7 +1,7 @@
 // Runs of plans. Candidates of the plan that has all that may be found flow in, the numbers that are found flow out.
 // What must not be here: how one candidate is told.
 
-ghost use Rattle.std.specs.Prelude.{◌≡◌, ◌+◌, ◌^◌, ◌<◌, ◌≤◌, [], ◌∷◌, filter, length, nat_le, IfOk, IfSome, MatchOption};
+ghost use Rattle.std.specs.Prelude.{◌≡◌, ◌+◌, ◌^◌, ◌<◌, ◌≤◌, [], ◌∷◌, filter, length, nat_le, IfOk, MatchOption};
 ghost use Rattle.dir_index.specs.Postings.{IsRising};
 ghost use Rattle.plan_sets.specs.Runs.{AreGuides, left_open, true_set};
 
@@ -75,8 +75,6 @@ impl<'a, K: Kept, V: Values> Running<'a, K, V> {
             (λ n. self.old.to_come ≡ n ∷ self.new.to_come) }
         ensures same { self.new.open_numbers ≡ self.old.open_numbers }
         ensures few { self.new.tests ≤ length self.new.open_numbers }
-        ensures few_up_to { IfSome result (λ m. self.new.tests
-            ≤ length (filter (λ n. nat_le n m) self.new.open_numbers)) }
         // Those left open up to the number that is given were asked for, and no others; all of them, where none is given.
         ensures asked { MatchOption result (self.new.tests ≡ length self.new.open_numbers)
             (λ m. self.new.tests ≡ length (filter (λ n. nat_le n m) self.new.open_numbers)) }

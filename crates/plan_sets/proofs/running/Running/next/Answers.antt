@@ -2,7 +2,7 @@ use Rattle.std.proofs.Common.{◌∙◌, sym, ap}
 use Rattle.std.specs.Prelude.{filter}
 use Rattle.plan_sets.specs.Sets.{is_in}
 use Rattle.plan_sets.specs.Runs.{is_wanted}
-use Rattle.plan_sets.proofs.Passing.{passed, wanted_same, filter_no, even_more, at_most, none_left}
+use Rattle.plan_sets.proofs.Passing.{passed, wanted_same, filter_no, even_more, none_left}
 use Rattle.plan_sets.proofs.running.Running.next.Goals as goal
 
 pub invariant_of-self : goal.invariant_of-self
@@ -12,14 +12,6 @@ invariant_of-self g c =
     (passed (in_lists c.loop-number.self-inside.sided.now.must) (in_lists c.loop-number.self-inside.sided.now.may) (g.V.Values.value_at c.loop-number.self-inside.values) (g.V.Values.value_at c.is_found.new.values) c.loop-number.self-inside.scope.now c.next.new.self
     c.in-Some.number c.loop-number.self-inside.tests (g.V.Values.looks c.loop-number.self-inside.values) c.is_found.new.tests (g.V.Values.looks c.is_found.new.values)
     under_way c.is_found.ensures.same c.is_found.ensures.tests c.is_found.ensures.counted).under_way
-
-pub returns-then-is_found-clause-few_up_to : goal.returns-then-is_found-clause-few_up_to
-returns-then-is_found-clause-few_up_to g c =
-    let in_lists = is_in (g.K.Kept.lists c.loop-number.self-inside.kept.now) c.loop-number.self-inside.scope.now in
-    let under_way = rw c.in-Some.ensures at c.loop-number.invariant.under_way in
-    at_most _ _ ((passed (in_lists c.loop-number.self-inside.sided.now.must) (in_lists c.loop-number.self-inside.sided.now.may) (g.V.Values.value_at c.loop-number.self-inside.values) (g.V.Values.value_at c.is_found.new.values) c.loop-number.self-inside.scope.now c.next.new.self
-    c.in-Some.number c.loop-number.self-inside.tests (g.V.Values.looks c.loop-number.self-inside.values) c.is_found.new.tests (g.V.Values.looks c.is_found.new.values)
-    under_way c.is_found.ensures.same c.is_found.ensures.tests c.is_found.ensures.counted).asked)
 
 pub returns-then-is_found-clause-asked : goal.returns-then-is_found-clause-asked
 returns-then-is_found-clause-asked g c =
