@@ -2,6 +2,7 @@
 //! what a text in it means (a name, a filter), is not here.
 #![tactic(auto)]
 
+mod rows;
 mod serving;
 mod words;
 

@@ -1,10 +1,10 @@
 //! The words of `serve`: what a replica is told. Matched words flow in, and a replica's settings flow out, or why they are none. What a
 //! replica does with them is not here.
-use crate::words::{as_text, index_word, schema_word};
-use clap::builder::ValueParser;
+use crate::rows::{INDEX_WORD, Order, SCHEMA_WORD, Takes, Word, command_of};
+use crate::words::as_text;
 use clap::error::ErrorKind;
-use clap::{Arg, ArgAction, ArgMatches, Command, Error, value_parser};
-use std::alloc::{AllocError, Global};
+use clap::{ArgMatches, Error};
+use std::alloc::Global;
 use std::net::SocketAddr;
 
 /// The greatest number of a cluster.
@@ -58,192 +58,132 @@ pub struct Serving<'a> {
     pub peers: Vec<Peer>,
 }
 
-/// A word with a value, as its help shows it.
-fn value_word<'a>(alloc: Global, name: &'a str, value: &'a str, help: &'a str) -> Arg<'a> {
-    Arg::new(alloc, name)
-        .long(name)
-        .value_name(value)
-        .help(help)
-}
+/// What each word of `serve` is, in the order of its help.
+const WORDS: &[Word] = &[
+    Word {
+        name: "cluster",
+        value: "C",
+        takes: Takes::Number {
+            first: 1,
+            last: LAST_CLUSTER,
+        },
+        help: "The number of the cluster, the same at each of its replicas and at no other cluster's",
+    },
+    Word {
+        name: "id",
+        value: "I",
+        takes: Takes::Number { first: 0, last: 6 },
+        help: "Which of the PEERs this replica is, counted from 0",
+    },
+    Word {
+        name: "store",
+        value: "FILE",
+        takes: Takes::Wanted,
+        help: "The file of the replica's stored view, its own for its whole life",
+    },
+    Word {
+        name: "fresh",
+        value: "",
+        takes: Takes::Nothing,
+        help: "The first start of the replica's life: its file is made, and no other start may be given this",
+    },
+    Word {
+        name: "suffix",
+        value: "DN",
+        takes: Takes::Wanted,
+        help: "The name of the directory's root",
+    },
+    Word {
+        name: "manager",
+        value: "DN",
+        takes: Takes::Wanted,
+        help: "The name that may bind and update",
+    },
+    Word {
+        name: "password",
+        value: "TEXT",
+        takes: Takes::Wanted,
+        help: "The manager's password",
+    },
+    SCHEMA_WORD,
+    INDEX_WORD,
+    Word {
+        name: "seats",
+        value: "N",
+        takes: Takes::Count {
+            last: 32,
+            default: "8",
+        },
+        help: "How many sessions are served at once, at most 32",
+    },
+    Word {
+        name: "waiting",
+        value: "N",
+        takes: Takes::Count {
+            last: 4096,
+            default: "64",
+        },
+        help: "How many connections wait for a seat, at most; more wait in the system",
+    },
+    Word {
+        name: "stall",
+        value: "MS",
+        takes: Takes::Count {
+            last: LONGEST,
+            default: "10000",
+        },
+        help: "How long a client may be silent in the middle of a message",
+    },
+    Word {
+        name: "idle",
+        value: "MS",
+        takes: Takes::Count {
+            last: LONGEST,
+            default: "60000",
+        },
+        help: "How long a client may ask nothing while others wait for a seat",
+    },
+    Word {
+        name: "take",
+        value: "MS",
+        takes: Takes::Count {
+            last: LONGEST,
+            default: "20000",
+        },
+        help: "How long a client may take nothing of what it is sent",
+    },
+    Word {
+        name: "beat",
+        value: "MS",
+        takes: Takes::Count {
+            last: LONGEST,
+            default: "500",
+        },
+        help: "How often the replica sends again what others may have missed",
+    },
+    Word {
+        name: "suspect",
+        value: "MS",
+        takes: Takes::Count {
+            last: LONGEST,
+            default: "3000",
+        },
+        help: "How long a backup hears nothing of its primary before it suspects it",
+    },
+    Word {
+        name: "PEER",
+        value: "",
+        takes: Takes::Many { at_least_one: true },
+        help: "Each replica of the cluster in order, 3, 5 or 7: where replicas find it and where clients do, as 127.0.0.1:4000,127.0.0.1:3890",
+    },
+];
 
-/// A word that can't be left out.
-fn wanted_word<'a>(alloc: Global, name: &'a str, value: &'a str, help: &'a str) -> Arg<'a> {
-    value_word(alloc, name, value, help).required(true)
-}
-
-/// A number up to this one.
-fn numbers_to<'a>(first: i64, last: i64) -> ValueParser<'a> {
-    value_parser!(u64).range(first..=last)
-}
-
-/// A word with a number of milliseconds.
-fn time_word<'a>(alloc: Global, name: &'a str, default: &'a str, help: &'a str) -> Arg<'a> {
-    value_word(alloc, name, "MS", help)
-        .value_parser(numbers_to(1, LONGEST))
-        .default_value(default)
-}
-
-/// A word with a count up to this one.
-fn count_word<'a>(
-    alloc: Global,
-    name: &'a str,
-    last: i64,
-    default: &'a str,
-    help: &'a str,
-) -> Arg<'a> {
-    value_word(alloc, name, "N", help)
-        .value_parser(numbers_to(1, last))
-        .default_value(default)
-}
-
-/// The word for the number of the cluster.
-fn cluster_word<'a>(alloc: Global) -> Arg<'a> {
-    wanted_word(
-        alloc,
-        "cluster",
-        "C",
-        "The number of the cluster, the same at each of its replicas and at no other cluster's",
-    )
-    .value_parser(numbers_to(1, LAST_CLUSTER))
-}
-
-/// The word for the replica's index.
-fn id_word<'a>(alloc: Global) -> Arg<'a> {
-    wanted_word(
-        alloc,
-        "id",
-        "I",
-        "Which of the PEERs this replica is, counted from 0",
-    )
-    .value_parser(numbers_to(0, 6))
-}
-
-/// The word for the file of the stored view.
-fn store_word<'a>(alloc: Global) -> Arg<'a> {
-    wanted_word(
-        alloc,
-        "store",
-        "FILE",
-        "The file of the replica's stored view, its own for its whole life",
-    )
-}
-
-/// The word for a first start.
-fn fresh_word<'a>(alloc: Global) -> Arg<'a> {
-    Arg::new(alloc, "fresh")
-        .long("fresh")
-        .action(ArgAction::SetTrue)
-        .help(
-            "The first start of the replica's life: its file is made, and no other start may be given this",
-        )
-}
-
-/// The words for all replicas.
-fn peers_word<'a>(alloc: Global) -> Arg<'a> {
-    Arg::new(alloc, "PEER").required(true).num_args(1..).help(
-        "Each replica of the cluster in order, 3, 5 or 7: where replicas find it and where clients do, as 127.0.0.1:4000,127.0.0.1:3890",
-    )
-}
-
-/// The words that say which replica it is.
-fn with_identity<'a>(alloc: Global, command: Command<'a>) -> Result<Command<'a>, AllocError> {
-    let command = command.arg(cluster_word(alloc))?;
-    let command = command.arg(id_word(alloc))?;
-    let command = command.arg(store_word(alloc))?;
-    command.arg(fresh_word(alloc))
-}
-
-/// The words that say whose directory it serves.
-fn with_names<'a>(alloc: Global, command: Command<'a>) -> Result<Command<'a>, AllocError> {
-    let suffix = wanted_word(alloc, "suffix", "DN", "The name of the directory's root");
-    let command = command.arg(suffix)?;
-    let manager = wanted_word(alloc, "manager", "DN", "The name that may bind and update");
-    let command = command.arg(manager)?;
-    command.arg(wanted_word(alloc, "password", "TEXT", "The manager's password"))
-}
-
-/// The words for the files of its schema and of its indexes.
-fn with_files<'a>(alloc: Global, command: Command<'a>) -> Result<Command<'a>, AllocError> {
-    let command = command.arg(schema_word(alloc))?;
-    command.arg(index_word(alloc))
-}
-
-/// The words that say how many clients it serves.
-fn with_seats<'a>(alloc: Global, command: Command<'a>) -> Result<Command<'a>, AllocError> {
-    let seats = count_word(
-        alloc,
-        "seats",
-        32,
-        "8",
-        "How many sessions are served at once, at most 32",
-    );
-    let command = command.arg(seats)?;
-    let waiting = count_word(
-        alloc,
-        "waiting",
-        4096,
-        "64",
-        "How many connections wait for a seat, at most; more wait in the system",
-    );
-    command.arg(waiting)
-}
-
-/// The words that say how patient it is with clients.
-fn with_patience<'a>(alloc: Global, command: Command<'a>) -> Result<Command<'a>, AllocError> {
-    let stall = time_word(
-        alloc,
-        "stall",
-        "10000",
-        "How long a client may be silent in the middle of a message",
-    );
-    let command = command.arg(stall)?;
-    let idle = time_word(
-        alloc,
-        "idle",
-        "60000",
-        "How long a client may ask nothing while others wait for a seat",
-    );
-    let command = command.arg(idle)?;
-    let take = time_word(
-        alloc,
-        "take",
-        "20000",
-        "How long a client may take nothing of what it is sent",
-    );
-    command.arg(take)
-}
-
-/// The words that say when it moves by itself.
-fn with_times<'a>(alloc: Global, command: Command<'a>) -> Result<Command<'a>, AllocError> {
-    let beat = time_word(
-        alloc,
-        "beat",
-        "500",
-        "How often the replica sends again what others may have missed",
-    );
-    let command = command.arg(beat)?;
-    let suspect = time_word(
-        alloc,
-        "suspect",
-        "3000",
-        "How long a backup hears nothing of its primary before it suspects it",
-    );
-    command.arg(suspect)
-}
-
-/// The words of `serve`.
-pub fn serve_command<'a>(alloc: Global) -> Result<Command<'a>, AllocError> {
-    let command = Command::new(alloc, "serve").about(
-        "Serve LDAP as one replica of a cluster, until it is stopped",
-    );
-    let command = with_identity(alloc, command)?;
-    let command = with_names(alloc, command)?;
-    let command = with_files(alloc, command)?;
-    let command = with_seats(alloc, command)?;
-    let command = with_patience(alloc, command)?;
-    let command = with_times(alloc, command)?;
-    command.arg(peers_word(alloc))
-}
+/// The command `serve`.
+pub const SERVE: Order = Order {
+    name: "serve",
+    about: "Serve LDAP as one replica of a cluster, until it is stopped",
+    words: WORDS,
+};
 
 /// Where a replica is found, by its word; none, where that isn't two addresses with a comma between them.
 fn peer_of(word: &str) -> Option<Peer> {
@@ -256,7 +196,7 @@ fn peer_of(word: &str) -> Option<Peer> {
 
 /// An error in the words of `serve`.
 fn refused(alloc: Global, message: &str) -> Error {
-    let made = match serve_command(alloc) {
+    let made = match command_of(alloc, &SERVE) {
         Ok(mut command) => command.error(ErrorKind::ValueValidation, message),
         Err(error) => Err(error),
     };

@@ -1,7 +1,8 @@
 //! The words of the command line: they flow in, a job flows out, or a text for the user. What a job does is not here.
-use crate::serving::{Serving, serve_command, serving_in};
+use crate::rows::{INDEX_WORD, Order, SCHEMA_WORD, Takes, Word, command_of};
+use crate::serving::{SERVE, Serving, serving_in};
 use clap::error::ErrorKind;
-use clap::{Arg, ArgAction, ArgMatches, Command, Error};
+use clap::{ArgMatches, Command, Error};
 use ldap_msg::Scope;
 use std::alloc::{AllocError, Global};
 
@@ -45,98 +46,77 @@ pub struct Question<'a> {
 /// The words for scopes.
 const SCOPES: &[&str] = &["base", "one", "sub"];
 
-/// The word for a schema.
-pub fn schema_word<'a>(alloc: Global) -> Arg<'a> {
-    Arg::new(alloc, "schema")
-        .long("schema")
-        .value_name("FILE")
-        .help("Read the schema from this file, in place of the built-in one")
-}
-
-/// The word for an index choice.
-pub fn index_word<'a>(alloc: Global) -> Arg<'a> {
-    Arg::new(alloc, "index")
-        .long("index")
-        .value_name("FILE")
-        .help("Read from this file which indexes each attribute type has, in place of none")
-}
-
-/// The word for the sample.
-fn sample_word<'a>(alloc: Global) -> Arg<'a> {
-    Arg::new(alloc, "sample")
-        .long("sample")
-        .action(ArgAction::SetTrue)
-        .help("Answer over the built-in sample of six entries")
-}
-
 /// The words of `answer`.
-fn answer_command<'a>(alloc: Global) -> Result<Command<'a>, AllocError> {
-    let command = Command::new(alloc, "answer").about(
-        "Answer one client: the input is its stream of LDAP messages, lines of hex cut anywhere; each response is a line of hex",
-    );
-    let command = command.arg(sample_word(alloc))?;
-    let command = command.arg(schema_word(alloc))?;
-    command.arg(index_word(alloc))
-}
-
-/// A word that stands by itself and can't be left out.
-fn place_word<'a>(alloc: Global, name: &'a str, help: &'a str) -> Arg<'a> {
-    Arg::new(alloc, name).required(true).help(help)
-}
-
-/// The word for a scope.
-fn scope_word<'a>(alloc: Global) -> Arg<'a> {
-    place_word(
-        alloc,
-        "SCOPE",
-        "The base alone, the entries right under it, or all at or below it",
-    )
-    .value_parser(SCOPES)
-}
-
-/// The words for the attributes that are shown.
-fn attributes_word<'a>(alloc: Global) -> Arg<'a> {
-    Arg::new(alloc, "ATTR").num_args(0..).help(
-        "Which attributes are shown: all for none or *, no attribute for 1.1 alone",
-    )
-}
+const ANSWER_WORDS: &[Word] = &[
+    Word {
+        name: "sample",
+        value: "",
+        takes: Takes::Nothing,
+        help: "Answer over the built-in sample of six entries",
+    },
+    SCHEMA_WORD,
+    INDEX_WORD,
+];
 
 /// The words of `search`.
-fn search_command<'a>(alloc: Global) -> Result<Command<'a>, AllocError> {
-    let command = Command::new(alloc, "search").about(
-        "Search the entries of an LDIF text: the input is LDIF, the answer is LDIF",
-    );
-    let base = place_word(
-        alloc,
-        "BASE",
-        "The name of the entry where the search begins",
-    );
-    let command = command.arg(base)?;
-    let command = command.arg(scope_word(alloc))?;
-    let filter = place_word(alloc, "FILTER", "Which entries are shown, as in (cn=Ana)");
-    let command = command.arg(filter)?;
-    command.arg(attributes_word(alloc))
-}
+const SEARCH_WORDS: &[Word] = &[
+    Word {
+        name: "BASE",
+        value: "",
+        takes: Takes::Place,
+        help: "The name of the entry where the search begins",
+    },
+    Word {
+        name: "SCOPE",
+        value: "",
+        takes: Takes::OneOf(SCOPES),
+        help: "The base alone, the entries right under it, or all at or below it",
+    },
+    Word {
+        name: "FILTER",
+        value: "",
+        takes: Takes::Place,
+        help: "Which entries are shown, as in (cn=Ana)",
+    },
+    Word {
+        name: "ATTR",
+        value: "",
+        takes: Takes::Many {
+            at_least_one: false,
+        },
+        help: "Which attributes are shown: all for none or *, no attribute for 1.1 alone",
+    },
+];
 
-/// The words of `import` and `export`, which have none of their own.
-fn with_texts<'a>(alloc: Global, command: Command<'a>) -> Result<Command<'a>, AllocError> {
-    let import = Command::new(alloc, "import").about(
-        "Turn LDIF into messages: each record becomes an AddRequest, a line of hex, with ids from 1",
-    );
-    let command = command.subcommand(import)?;
-    let export = Command::new(alloc, "export").about(
-        "Turn the responses to a search, lines of hex, into LDIF of the entries",
-    );
-    command.subcommand(export)
-}
-
-/// The words of `lab`.
-fn lab_command<'a>(alloc: Global) -> Result<Command<'a>, AllocError> {
-    let command = Command::new(alloc, "lab").about(
-        "Play a script of updates, searches, deliveries, view changes, crashes and recoveries with real replicas",
-    );
-    command.arg(index_word(alloc))
-}
+/// All commands, in the order of the help.
+const ORDERS: &[Order] = &[
+    Order {
+        name: "answer",
+        about: "Answer one client: the input is its stream of LDAP messages, lines of hex cut anywhere; each response is a line of hex",
+        words: ANSWER_WORDS,
+    },
+    Order {
+        name: "search",
+        about: "Search the entries of an LDIF text: the input is LDIF, the answer is LDIF",
+        words: SEARCH_WORDS,
+    },
+    Order {
+        name: "import",
+        about: "Turn LDIF into messages: each record becomes an AddRequest, a line of hex, with ids from 1",
+        words: &[],
+    },
+    Order {
+        name: "export",
+        about: "Turn the responses to a search, lines of hex, into LDIF of the entries",
+        words: &[],
+    },
+    Order {
+        name: "lab",
+        about: "Play a script of updates, searches, deliveries, view changes, crashes and recoveries with real replicas",
+        words: &[INDEX_WORD],
+    },
+    SERVE,
+];
 
 /// The program's own words.
 fn program<'a>(alloc: Global) -> Command<'a> {
@@ -149,11 +129,12 @@ fn program<'a>(alloc: Global) -> Command<'a> {
 
 /// All words.
 fn command<'a>(alloc: Global) -> Result<Command<'a>, AllocError> {
-    let command = program(alloc).subcommand(answer_command(alloc)?)?;
-    let command = command.subcommand(search_command(alloc)?)?;
-    let command = with_texts(alloc, command)?;
-    let command = command.subcommand(lab_command(alloc)?)?;
-    command.subcommand(serve_command(alloc)?)
+    let mut command = program(alloc);
+    for order in ORDERS {
+        let taken = command_of(alloc, order)?;
+        command = command.subcommand(taken)?;
+    }
+    Ok(command)
 }
 
 /// What `answer` is told.
