@@ -41,10 +41,3 @@ keyed_by_picked s (Some r) ms vs ks h = map_picked (key_at s r) ms vs ∙ ap (pi
 
 pub keyed_picked : (s : SchemaModel) (t : ℕ) (ms : List Bool) (vs ks : List (List ℕ)) → AreKeysOf s t vs ks → AreKeysOf s t (picked ms vs) (picked ms ks)
 keyed_picked s t ms vs ks h = keyed_by_picked s (equality_of s t) ms vs ks h
-
--- an attribute that has the picked ones of another's values and keys
-pub keyed_kept : (s : SchemaModel) (a b : KeyedAttribute) (ms : List Bool) → b.kind ≡ a.kind → b.values ≡ picked ms a.values → b.keys ≡ picked ms a.keys → AreKeysOf s a.kind a.values a.keys → AreKeysOf s b.kind b.values b.keys
-keyed_kept s a b ms k v w h =
-    subst (λ (t : ℕ). AreKeysOf s t b.values b.keys) (sym k)
-    (subst (λ (vs : List (List ℕ)). AreKeysOf s a.kind vs b.keys) (sym v)
-    (subst (λ (ks : List (List ℕ)). AreKeysOf s a.kind (picked ms a.values) ks) (sym w) (keyed_picked s a.kind ms a.values a.keys h)))

@@ -17,11 +17,6 @@ or_false : (a : Bool) → (a || false) ≡ a
 or_false true = refl
 or_false false = refl
 
-or_front : (a b c : Bool) → (a || b) ≡ true → ((a || c) || b) ≡ true
-or_front true b c h = refl
-or_front false b true h = refl
-or_front false b false h = h
-
 or_both : (a b c d : Bool) → (a || b) ≡ true → (b ≡ true → d ≡ true) → ((a || c) || d) ≡ true
 or_both true b c d h f = refl
 or_both false b true d h f = refl
@@ -87,8 +82,3 @@ pub twice_of_map : {A B : Type 0} (same : A → A → Bool) (eq : B → B → Bo
 twice_of_map same eq f h [] = refl
 twice_of_map same eq f h (x ∷ xs) =
     ap (λ (b : Bool). b || has_twice same xs) (any_of_images same eq f h x xs) ∙ ap (λ (b : Bool). list_any (eq (f x)) (map f xs) || b) (twice_of_map same eq f h xs)
-
-pub marks_of_map : {A B : Type 0} (same : A → A → Bool) (eq : B → B → Bool) (f : A → B) → ((x y : A) → same x y ≡ eq (f x) (f y)) → (xs ys : List A)
-    → map (λ x. list_any (same x) ys) xs ≡ map (λ z. list_any (eq z) (map f ys)) (map f xs)
-marks_of_map same eq f h [] ys = refl
-marks_of_map same eq f h (x ∷ xs) ys = ap₂ (λ (b : Bool) (bs : List Bool). b ∷ bs) (any_of_images same eq f h x ys) (marks_of_map same eq f h xs ys)

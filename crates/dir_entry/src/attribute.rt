@@ -241,8 +241,8 @@ fn pick<T: Drop>(alloc: Global, marks: &[bool], items: Vec<T>) -> Result<Vec<T>,
     Ok(picked)
 }
 
-/// A copy of a list of values.
-fn copy_values(alloc: Global, values: &[Vec<u8>]) -> Result<Vec<Vec<u8>>, AllocError>
+/// A copy of a list of values. Fails only for want of memory.
+pub fn copy_values(alloc: Global, values: &[Vec<u8>]) -> Result<Vec<Vec<u8>>, AllocError>
     ensures { IfOk result (λ r. map (λ v. v.items) r.items ≡ map (λ v. v.items) values.now) }
 {
     let mut copy = Vec::with_capacity(alloc, values.len())?;

@@ -5,9 +5,9 @@ use Rattle.std.specs.Bool.{◌==◌}
 use Rattle.dir_entry.specs.ldap_schema.Schema.{SchemaModel}
 use Rattle.dir_entry.specs.Entry.{AttributeModel, KeyedAttribute, are_in_syntax}
 use Rattle.dir_entry.specs.Values.{has_repeats}
-use Rattle.dir_entry.specs.Adding.{refuse, has_type, Refuses}
+use Rattle.dir_entry.specs.Adding.{refuse, Refuses}
 use Rattle.entry_changes.specs.Compared.{values_held, RefusesFor}
-use Rattle.entry_changes.specs.Editing.{place, holds, is_empty, if_distinct, values_of, values_left, attribute_with, with_values_of, with_added, with_replaced, without_attribute, without_values}
+use Rattle.entry_changes.specs.Editing.{place, holds, is_empty, if_distinct, values_of, values_left, attribute_with, with_values_of, with_added, with_replaced, without_values}
 use Rattle.dir_entry.specs.declared.fault.EntryError.{EntryError}
 use Rattle.dir_entry.specs.declared.fault.EntryError.TheVariants.{InvalidAttributeSyntax, NoSuchAttribute, AttributeOrValueExists, ConstraintViolation, ObjectClassViolation, NotAllowedOnRdn, ObjectClassModsProhibited, NoMemory}
 use Rattle.entry_changes.proofs.Placed.{with_values_back}
@@ -72,29 +72,12 @@ deleted s t i values e others new kind held left given valid all is_held is_left
     ∙ ap Ok (sym (put_in t i e others new kind left (values_left s t values (values_of t e)) pi oi ni is_kind
     (is_left ∙ ap₂ (λ (k : ℕ) (h : List (List ℕ)). values_left s k given h) is_kind is_held ∙ ap (λ (g : List (List ℕ)). values_left s t g (values_of t e)) is_given)))
 
-pub not_deleted : (s : SchemaModel) (t : ℕ) (values : List (List ℕ)) (e : List AttributeModel) (kind : ℕ) (held given : List (List ℕ)) (error : EntryError) → are_in_syntax s t values ≡ true
-    → held ≡ values_of t e → given ≡ values → kind ≡ t → RefusesFor 16 (not (list_all (holds s kind held) given)) error → Refuses error (without_values s t values e)
-not_deleted s t values e kind held given error valid is_held is_given is_kind h =
-    refused_for 16 (not (list_all (holds s kind held) given)) error (without_values s t values e)
-    (λ k. passes _ _ _ (ap not valid)
-    ∙ fails _ _ _ (ap not (sym (ap₂ (λ (k : ℕ) (w : List (List ℕ)). list_all (holds s k w) given) is_kind is_held ∙ ap (list_all (holds s t (values_of t e))) is_given)) ∙ k)) h
-
 -- nothing is held of a type that is not there
 pub none_held : (s : SchemaModel) (t : ℕ) (values : List (List ℕ)) (e : List AttributeModel) (o : Option KeyedAttribute) → are_in_syntax s t values ≡ true → is_empty values ≡ false → o ≡ None → values_held o ≡ values_of t e
     → without_values s t values e ≡ Err 16
 none_held s t [] e o valid some h w = absurd (cc)
 none_held s t (v ∷ vs) e o valid some h w =
     passes _ _ _ (ap not valid) ∙ fails _ _ _ (ap (λ (held : List (List ℕ)). not (list_all (holds s t held) (v ∷ vs))) (sym (sym (ap values_held h) ∙ w)))
-
-pub attribute_deleted : (t i : ℕ) (e others : List AttributeModel) → has_type t e ≡ true → i ≡ place t e → others ≡ take i e ++ drop (i + 1) e → without_attribute t e ≡ Ok others
-attribute_deleted t i e others h pi oi = passes _ _ _ (ap not h) ∙ ap Ok (sym (oi ∙ ap (λ (n : ℕ). take n e ++ drop (n + 1) e) pi ∙ gone (take (place t e) e) (drop (place t e + 1) e)))
-  where
-    gone : (f b : List AttributeModel) → f ++ b ≡ (f ++ []) ++ b
-    gone [] b = refl
-    gone (x ∷ f) b = ap (λ (z : List AttributeModel). x ∷ z) (gone f b)
-
-pub nothing_deleted : (t : ℕ) (e : List AttributeModel) → has_type t e ≡ false → without_attribute t e ≡ Err 16
-nothing_deleted t e h = fails _ _ _ (ap not h)
 
 -- whether values are given, as the code asks it
 pub some_given : {A : Type 0} (items : A → List ℕ) (vs : List A) → false ≡ (length vs == 0) → is_empty (map items vs) ≡ false

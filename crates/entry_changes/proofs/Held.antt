@@ -58,16 +58,3 @@ held_by_octets s t v items vs e = sym (any_of_map (bytes_eq v) items vs) ∙ ap 
 
 pub equivalent_keys : TestsAreItems → (s : SchemaModel) (t : ℕ) (r : Rule) (v w k l : List ℕ) → equality_of s t ≡ Some r → key_at s r v ≡ Some k → key_at s r w ≡ Some l → bytes_eq k l ≡ is_equivalent s t v w
 equivalent_keys law s t r v w k l e h o = alike law s t r v w k l e h o
-
-pub first_means_nothing : (s : SchemaModel) (t : ℕ) (r : Rule) (v w : List ℕ) → equality_of s t ≡ Some r → meaning s r v ≡ None → is_equivalent s t v w ≡ false
-first_means_nothing s t r v w e h = ap (λ (o : Option Rule). is_equivalent_by s o v w) e ∙ ap (λ (m : Option Meaning). is_same_meaning m (meaning s r w)) h
-
-pub second_means_nothing : (s : SchemaModel) (t : ℕ) (r : Rule) (v w : List ℕ) → equality_of s t ≡ Some r → meaning s r w ≡ None → is_equivalent s t v w ≡ false
-second_means_nothing s t r v w e h = ap (λ (o : Option Rule). is_equivalent_by s o v w) e ∙ ap (is_same_meaning (meaning s r v)) h ∙ none_same (meaning s r v)
-  where
-    none_same : (m : Option Meaning) → is_same_meaning m None ≡ false
-    none_same None = refl
-    none_same (Some x) = refl
-
-pub equivalent_octets : (s : SchemaModel) (t : ℕ) (v w : List ℕ) → equality_of s t ≡ None → bytes_eq v w ≡ is_equivalent s t v w
-equivalent_octets s t v w e = ap (λ (o : Option Rule). is_equivalent_by s o v w) (sym e)

@@ -60,10 +60,6 @@ new_index by a x long same by_is has =
       };
     }
 
--- an index that stays
-pub old_index : (by : Bool) (x : Indexed) → x.index.by_keys ≡ by → Fits x.index.by_keys (since x.index.held.entries) x.attribute → IsIndexed by (held_of x) x
-old_index by x e h = record { kind = refl; values = refl; octets = refl; by_keys = e; fits = h }
-
 pub map_length : {A B : Type 0} (f : A → B) (xs : List A) → length (map f xs) ≡ length xs
 map_length f [] = refl
 map_length f (x ∷ xs) = ap suc (map_length f xs)

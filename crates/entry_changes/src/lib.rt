@@ -11,6 +11,6 @@ mod since;
 mod working;
 
 pub use changing::{add_values, delete_values, replace_values};
-pub use dir_entry::{Entry, EntryError, Schema, TypeAndValue, TypeId};
+pub use dir_entry::{Entry, EntryError, Schema, TypeAndValue, TypeId, copy_values};
 pub use naming::{add_rdn, delete_rdn, holds_rdn};
 pub use working::Working;

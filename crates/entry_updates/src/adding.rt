@@ -7,10 +7,9 @@ ghost use Rattle.entry_changes.specs.ldap_schema.Schema.{find as type_of};
 ghost use Rattle.entry_updates.specs.Adding.{with_given, with_all_given, attributes_asked};
 ghost use Rattle.entry_updates.specs.Refused.{RefusedAs};
 
-use crate::copying::copy_values;
 use crate::fault::UpdateError;
 use crate::finishing::name;
-use entry_changes::{Entry, Schema, TypeAndValue};
+use entry_changes::{Entry, Schema, TypeAndValue, copy_values};
 use ldap_op::{PartialAttribute, ResultCode};
 use std::alloc::Global;
 

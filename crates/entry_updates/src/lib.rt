@@ -3,7 +3,6 @@
 #![tactic(auto)]
 
 mod adding;
-mod copying;
 mod fault;
 mod finishing;
 mod modifying;

@@ -6,11 +6,11 @@ ghost use Rattle.ldap_op.specs.ldap_updates.View.{change_view};
 ghost use Rattle.entry_updates.specs.Modifying.{is_increment as is_increment_of, with_change, changed, all_changed, attributes_changed};
 ghost use Rattle.entry_updates.specs.Refused.{RefusedAs};
 
-use crate::copying::copy_values;
 use crate::fault::UpdateError;
 use crate::finishing::finish;
 use entry_changes::{
-    Entry, Schema, TypeAndValue, TypeId, Working, add_values, delete_values, replace_values,
+    Entry, Schema, TypeAndValue, TypeId, Working, add_values, copy_values, delete_values,
+    replace_values,
 };
 use ldap_op::{Change, ModifyOperation, ResultCode};
 use std::alloc::Global;

@@ -3,7 +3,7 @@ use Rattle.std.proofs.Common.{◌≡◌, ℕ, zero, suc, ◌+◌, ◌-◌, ◌*�
 use Rattle.std.specs.List.{list_all}
 use Rattle.std.specs.Str.{is_utf8}
 use Rattle.std.proofs.lemmas.Bool.{leb-true, le-leb, lt-ltb, ltb-true}
-use Rattle.filter_text.specs.Values.{is_normal, hex_digit, with_low, with_high, hex_octet, IsValue, nothing, normal, escaped, are_octets, digit, escape, put_octet, put_alone, is_high, is_character, character_len, put_first, printed_from}
+use Rattle.filter_text.specs.Values.{is_normal, hex_digit, with_low, with_high, hex_octet, IsValue, nothing, normal, escaped, are_octets, digit, escape, put_octet, is_high, is_character, character_len, put_first, printed_from}
 use Rattle.filter_text.proofs.Booleans.{left, right, both, either}
 
 digit_read : (n : ℕ) → n < 16 → hex_digit (digit n) ≡ Some n
@@ -129,9 +129,6 @@ pub character_from : (m : ℕ) (v : List ℕ) → character_len v ≡ suc m → 
 character_from m [] e h = refl
 character_from m (c ∷ cs) e h =
     ap (λ n. put_first n c ++ printed_from (n - 1) cs) e ∙ ap (λ n. put_octet c ++ printed_from n cs) (omega arith) ∙ high_from (suc m) (c ∷ cs) h
-
-pub alone_from : (c : ℕ) (cs : List ℕ) → character_len (c ∷ cs) ≡ 0 → printed_from 0 (c ∷ cs) ≡ put_alone c ++ printed_from 0 cs
-alone_from c cs e = ap (λ n. put_first n c ++ printed_from (n - 1) cs) e
 
 -- ---- one step of printing
 

@@ -8,12 +8,19 @@ ghost use Rattle.ldap_filter.specs.Item.{substrings, extensible};
 ghost use Rattle.ldap_filter.specs.ItemView.{substrings_view, extensible_view};
 ghost use Rattle.ldap_filter.specs.View.{view, views};
 ghost use Rattle.filter_text.specs.Values.{are_octets as are_octets_of};
-ghost use Rattle.filter_text.specs.Descriptions.{is_description as is_description_text};
+ghost use Rattle.filter_text.specs.Descriptions.{is_description as is_description_text, is_dn as is_dn_word};
 ghost use Rattle.filter_text.specs.Items as items;
 ghost use Rattle.filter_text.specs.Grammar as grammar;
 
-use crate::describing::{is_description, is_dn, is_oid};
 use ldap_filter::{Filter, MatchingRuleAssertion, SubstringFilter};
+use ldap_syntax::{is_description, is_oid};
+
+/// Whether the octets are `dn`, in any case.
+fn is_dn(octets: &[u8]) -> bool
+    ensures { result ≡ is_dn_word octets.now }
+{
+    octets.eq_ignore_ascii_case(b"dn")
+}
 
 /// Octets are octets.
 fn are_octets(value: &[u8]) -> bool

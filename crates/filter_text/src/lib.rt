@@ -4,7 +4,6 @@
 #![tactic(auto)]
 
 mod checking;
-mod describing;
 mod fault;
 mod printing;
 mod printing_item;
@@ -12,4 +11,6 @@ mod printing_value;
 
 pub use fault::FilterTextError;
 pub use ldap_filter::{Filter, MAX_DEPTH, MAX_ITEMS, MatchingRuleAssertion, SubstringFilter};
+pub use ldap_syntax::{hex_digit, hex_octet, is_alpha, is_digit, is_key_octet, number_of_digits};
 pub use printing::{print_text, printed_is_a_text};
+pub use printing_value::is_normal;

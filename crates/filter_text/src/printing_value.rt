@@ -8,7 +8,7 @@ ghost use Rattle.filter_text.specs.Values as values;
 
 use std::alloc::AllocError;
 
-/// Whether the octet may stand as it is.
+/// Whether the octet stands for itself in a value (RFC 4515 3, normal).
 pub fn is_normal(octet: u8) -> bool
     ensures { result ≡ values.is_normal octet }
 {

@@ -27,16 +27,13 @@ use Rattle.filter_text_reader.proofs.Oids.{oid_run}
 use Rattle.filter_text_reader.proofs.Names.{name_run}
 use Rattle.filter_text_reader.proofs.Words.{dn_oid}
 use Rattle.filter_text_reader.proofs.ItemRuns.{not_equals}
+use Rattle.filter_text_reader.proofs.ValueRuns.{not_backslash_at as no_backslash}
 
 -- ---- values
 
 push_onto : {X : Type 0} (xs : List X) (y : X) (ys : List X) → (xs ++ y ∷ []) ++ ys ≡ xs ++ y ∷ ys
 push_onto [] y ys = refl
 push_onto (x ∷ xs) y ys = ap (λ l. x ∷ l) (push_onto xs y ys)
-
-no_backslash : (b : Bool) (c : ℕ) → nat_eq c 92 ≡ b → is_normal c ≡ true → b ≡ false
-no_backslash false c t e = refl
-no_backslash true c t e = absurd (false_true (sym (ap is_normal (eqb-true c 92 t)) ∙ e))
 
 spelled_scanned : (acc : List ℕ) {v text : List ℕ} → IsValue v text → scanned acc Between text ≡ Some (acc ++ v)
 spelled_scanned acc nothing = ap Some (sym (append-nil acc))

@@ -14,15 +14,6 @@ some_same e = cc
 
 -- ---- texts one after the other
 
-run_then : {S : Type 0} (step : S → ℕ → Option S) (o : Option S) (a b : List ℕ) → ((s : S) → run step s (a ++ b) ≡ option_and_then (λ t. run step t b) (run step s a))
-    → option_and_then (λ t. run step t (a ++ b)) o ≡ option_and_then (λ t. run step t b) (option_and_then (λ t. run step t a) o)
-run_then step None a b h = refl
-run_then step (Some s) a b h = h s
-
-pub run_append : {S : Type 0} (step : S → ℕ → Option S) (s : S) (a b : List ℕ) → run step s (a ++ b) ≡ option_and_then (λ t. run step t b) (run step s a)
-run_append step s [] b = refl
-run_append step s (c ∷ cs) b = run_then step (step s c) cs b (λ t. run_append step t cs b)
-
 -- an octet and a text behind it
 pub one_step : {S : Type 0} (step : S → ℕ → Option S) (s t : S) (c : ℕ) (cs : List ℕ) → step s c ≡ Some t → run step s (c ∷ cs) ≡ run step t cs
 one_step step s t c cs e = ap (λ o. option_and_then (λ u. run step u cs) o) e

@@ -37,13 +37,6 @@ no_digit c e = ap is_digit (eqb-true c 46 e)
 zero_digit : (c : ℕ) → nat_eq c 48 ≡ true → nat_eq c 46 ≡ false
 zero_digit c e = ap (λ x. nat_eq x 46) (eqb-true c 48 e)
 
-digit_dot_at : (b : Bool) (c : ℕ) → nat_eq c 46 ≡ b → is_digit c ≡ true → b ≡ false
-digit_dot_at true c e d = absurd (false_true (sym (no_digit c e) ∙ d))
-digit_dot_at false c e d = refl
-
-digit_dot : (c : ℕ) → is_digit c ≡ true → nat_eq c 46 ≡ false
-digit_dot c d = digit_dot_at (nat_eq c 46) c refl d
-
 above_zero : (c : ℕ) → is_digit c ≡ true → nat_eq c 48 ≡ false → nat_lt 48 c ≡ true
 above_zero c d e =
     let x = leb-true 48 c (left (nat_le 48 c) (nat_le c 57) d) in

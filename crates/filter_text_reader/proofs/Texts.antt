@@ -27,12 +27,6 @@ filter_refused TooDeep text h f = let p = passed_text text h in (p.0, p.1, f p.0
 filter_refused TooManyItems text h f = let p = passed_text text h in (p.0, p.1, f p.0 [] p.1)
 filter_refused NoMemory text h f = tt
 
-pub filter_only : (e : FilterTextError) (text : List ℕ) (t : Tree) → IsFrontFault e 128 512 text → IsFilterText t text → depth t ≤ 128 → count t ≤ 512 → e ≡ NoMemory
-filter_only (BadFilterText n) text t f p d m = absurd (f t [] p)
-filter_only TooDeep text t f p d m = let x = f t [] p in let no : ⊥ = omega (arith, x, d) in absurd no
-filter_only TooManyItems text t f p d m = let x = f t [] p in let no : ⊥ = omega (arith, x, m) in absurd no
-filter_only NoMemory text t f p d m = refl
-
 pub filter_found : (text : List ℕ) (u : Tree) (left : ℕ) (after : List ℕ) → stop text ≡ None → IsFrontRead 128 512 text u left after → IsFilterText u text × (depth u ≤ 128) × (count u ≤ 512)
 filter_found text u left after h r =
     let p = passed_text text h in

@@ -14,7 +14,7 @@ use Rattle.filter_text_reader.proofs.Machines.{false_true, one_step}
 
 -- ---- octets
 
-not_backslash_at : (b : Bool) (c : ℕ) → nat_eq c 92 ≡ b → is_normal c ≡ true → b ≡ false
+pub not_backslash_at : (b : Bool) (c : ℕ) → nat_eq c 92 ≡ b → is_normal c ≡ true → b ≡ false
 not_backslash_at false c t e = refl
 not_backslash_at true c t e = absurd (false_true (sym (ap is_normal (eqb-true c 92 t)) ∙ e))
 

@@ -4,8 +4,6 @@
 #![tactic(auto)]
 
 mod cutting;
-mod digits;
-mod octets;
 mod place;
 mod reading;
 mod reading_item;
@@ -15,5 +13,5 @@ mod scanning;
 mod scanning_item;
 mod value_reading;
 
-pub use filter_text::FilterTextError;
+pub use filter_text::{FilterTextError, number_of_digits};
 pub use reading::{one_filter_text, read_text};

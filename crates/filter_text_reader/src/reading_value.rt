@@ -8,10 +8,8 @@ ghost use Rattle.filter_text_reader.specs.Reads.{PartFault};
 ghost use Rattle.filter_text_reader.specs.Scanned.{turn as turn_from, value_of};
 ghost use Rattle.filter_text_reader.specs.declared.value_reading.Reading.TheVariants.{Between};
 
-use crate::digits::hex_octet;
-use crate::octets::is_normal;
 use crate::value_reading::{Reading, Turn};
-use filter_text::FilterTextError;
+use filter_text::{FilterTextError, hex_octet, is_normal};
 use std::alloc::{AllocError, Global};
 
 /// What an octet does between octets of the value.

@@ -6,9 +6,15 @@ ghost use Rattle.std.specs.Prelude.{◌≡◌};
 ghost use Rattle.std.specs.Option.{option_map};
 ghost use Rattle.filter_text_reader.specs.ItemScan as scan;
 
-use crate::digits::is_hex;
-use crate::octets::{is_alpha, is_digit, is_key_octet, is_normal};
 use crate::place::{ItemPlace, NamePlace, OidPlace, ValuePlace, Word};
+use filter_text::{hex_digit, is_alpha, is_digit, is_key_octet, is_normal};
+
+/// Whether the octet is a hexadecimal digit.
+fn is_hex(octet: u8) -> bool
+    ensures { result ≡ scan.is_hex octet }
+{
+    hex_digit(octet).is_some()
+}
 
 /// The first octet of an oid.
 fn oid_first(octet: u8) -> Option<OidPlace>

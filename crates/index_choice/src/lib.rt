@@ -7,7 +7,6 @@ mod choosing;
 mod error;
 mod kinds;
 mod line;
-mod lines;
 mod reading;
 mod words;
 

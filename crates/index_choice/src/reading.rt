@@ -10,9 +10,9 @@ ghost use Rattle.index_choice.specs.Texts.{named_by, line_of_words as said_by_wo
 use crate::error::IndexError;
 use crate::kinds::Kinds;
 use crate::line::{IndexLine, Named};
-use crate::lines::{is_skipped, lines};
 use crate::words::{are_kinds, but_last, is_head, kinds_of_words, parts};
 use dir_entry::{Schema, TypeId, equality_rule, ordering_rule, substrings_rule};
+use schema_text::{is_skipped, lines};
 use std::alloc::{AllocError, Global};
 
 /// What a name stands for.
@@ -36,7 +36,7 @@ fn line_of_words(
 {
     match words.split_first() {
         Some((head, kinds)) => {
-            if !is_head(alloc, *head)? || !are_kinds(kinds) {
+            if !is_head(*head) || !are_kinds(kinds) {
                 return Ok(None);
             }
             Ok(Some(IndexLine {

@@ -1,4 +1,3 @@
-pub mod Numbers
 pub mod Each
 pub mod Lines
 pub mod Refusals

@@ -1,11 +1,11 @@
 -- Lines, one by one. In: what is read so far, and what is left. Out: the same with one more line.
 -- Nothing of words is here.
-use Rattle.std.proofs.Common.{◌≡◌, ◌⊎◌, ℕ, suc, ◌+◌, ◌<◌, ◌≤◌, List, [], ◌∷◌, ◌++◌, Vec, Global, map, length, take, drop, get_or, Option, Some, None, inl, inr, refl, sym, ap, ◌∙◌, subst, arith, append_assoc, append-nil, add-one, drop-cons}
+use Rattle.std.proofs.Common.{◌≡◌, ℕ, suc, ◌+◌, ◌<◌, List, [], ◌∷◌, ◌++◌, Vec, Global, map, length, take, drop, get_or, inr, refl, sym, ap, ◌∙◌, subst, arith, append_assoc, append-nil, add-one, drop-cons}
 use Rattle.std.proofs.lemmas.List.{map-append, take_more}
 use Rattle.dir_lab.specs.declared.events.LabEvent.{LabEvent}
 use Rattle.lab_script.specs.Events.{EventValue, event_view}
-use Rattle.lab_script.specs.Lines.{IsLine, first_line}
-use Rattle.lab_script.specs.Script.{AreEvents, IsSchedule, IsInLanguage, IsFirstBad, IsFirst, IsBadLine}
+use Rattle.lab_script.specs.Lines.{IsLine}
+use Rattle.lab_script.specs.Script.{AreEvents, IsFirstBad}
 use Rattle.lab_script.proofs.Each.{views}
 
 -- the octets of a line that is kept in a vector
@@ -48,8 +48,3 @@ bad_later vs i n v es lt is names h =
     let next : i + 1 + 2 ≡ i + 2 + 1 = omega arith in
     subst (λ (ls : List (List ℕ)). IsFirstBad (i + 2) ls n) (sym (left vs i v lt is))
     (inr (record { events = es; names = names }, subst (λ (p : ℕ). IsFirstBad p (all_octets (drop (i + 1) vs)) n) next h))
-
--- A line that names nothing is.
-pub bad_here : (vs : List (Vec ℕ Global)) (i n : ℕ) (v : Vec ℕ Global) → i < length vs → v ≡ get_or vs i v → ((es : List EventValue) → IsLine v.items es → ⊥) → n ≡ i + 2 → IsFirstBad (i + 2) (all_octets (drop i vs)) n
-bad_here vs i n v lt is none at =
-    subst (λ (ls : List (List ℕ)). IsFirstBad (i + 2) ls n) (sym (left vs i v lt is)) (inl (at, none))

@@ -1,5 +1,5 @@
 -- What no line names. In: that a part of it names nothing. Out: that all of it names nothing. Code is not here.
-use Rattle.std.proofs.Common.{◌≡◌, ℕ, List, Option, Some, subst}
+use Rattle.std.proofs.Common.{◌≡◌, ℕ, List, Some, subst}
 use Rattle.dir_lab.specs.dir_search.ldap_msg.Messages.{SearchRequestValue}
 use Rattle.script_texts.specs.Searches.{IsSearchText}
 use Rattle.lab_script.specs.Events.{EventValue}

@@ -1,13 +1,13 @@
 -- How many replicas a script names. In: a script's schedule. Out: that they are 2f + 1. Events are not here.
-use Rattle.std.proofs.Common.{◌≡◌, ℕ, ◌==◌, ◌||◌, Bool, true, false, cond, List, [], ◌∷◌, Option, Some, None, option_and_then, refl, sym, ap, ◌∙◌, subst, arith}
+use Rattle.std.proofs.Common.{◌≡◌, ℕ, ◌==◌, ◌||◌, Bool, true, false, cond, List, [], ◌∷◌, Option, Some, None, option_and_then, refl, sym, subst, arith}
 use Rattle.std.proofs.lemmas.Bool.{eqb-true}
 use Rattle.dir_lab.specs.vr_world.Law.{IsSize}
 use Rattle.lab_script.specs.Events.{EventValue}
-use Rattle.lab_script.specs.Lines.{replicas_of, first_line}
+use Rattle.lab_script.specs.Lines.{replicas_of}
 use Rattle.lab_script.specs.Words.{tokens_of, words_of}
 use Rattle.lab_script.specs.Script.{IsSchedule}
 use Rattle.lab_script.specs.declared.token.Token.{Token}
-use Rattle.lab_script.specs.declared.token.Token.TheVariants.{Replicas, Deliver, Suspect, Beat, Crash, Recover, State, Number}
+use Rattle.lab_script.specs.declared.token.Token.TheVariants.{Replicas, Number}
 
 either : {P : Type 0} (a b : Bool) → (a || b) ≡ true → (a ≡ true → P) → (b ≡ true → P) → P
 either true b e f g = f refl

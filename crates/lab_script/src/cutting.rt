@@ -7,8 +7,8 @@ ghost use Rattle.lab_script.specs.Lines as lines;
 ghost use Rattle.lab_script.specs.LineKinds.{kind_view};
 ghost use Rattle.lab_script.specs.Words as words;
 
-use crate::token::{is_text, number_of};
-use script_texts::cut_text;
+use crate::token::is_text;
+use script_texts::{cut_text, number_of_digits};
 
 /// What a line is by its first word, and what stands behind that and one space.
 #[derive(Clone, Copy)]
@@ -72,7 +72,7 @@ fn number_then(text: &[u8]) -> Option<Numbered<'_>>
         (λ n. words.number_then text.now ≡ Some (record { number = n.number; rest = n.rest.now })) }
 {
     match cut_text(b' ', text) {
-        Some(parts) => match number_of(parts.front) {
+        Some(parts) => match number_of_digits(parts.front) {
             Some(number) => Some(Numbered {
                 number,
                 rest: parts.behind,

@@ -1,13 +1,10 @@
 -- Names that are the same, and names below others, by the comparison of their relative names in turn.
-use Rattle.std.proofs.Common.{ℕ, suc, List, [], ◌∷◌, ◌++◌, Bool, true, false, ◌&&◌, nat_eq, length, ◌<◌, ◌≡◌, refl, sym, ap, ◌∙◌, arith, IsTrue, ◌↔◌}
+use Rattle.std.proofs.Common.{ℕ, suc, List, [], ◌∷◌, ◌++◌, Bool, true, ◌&&◌, nat_eq, length, ◌<◌, ◌≡◌, refl, sym, ap, ◌∙◌, arith, IsTrue, ◌↔◌}
 use Rattle.std.specs.Str.{bytes_eq}
 use Rattle.std.proofs.lemmas.Bool.{eqb-true, eq-eqb}
 use Rattle.std.proofs.lemmas.Slice.Eq.{bytes_eq-Decides}
 use Rattle.ldap_dn.specs.Names.{TypeAndKey, RdnModel, rdns, IsSameName, IsBelow, are_same_keys, is_front}
-
-both : (a b : Bool) → (a && b) ≡ true → (a ≡ true) × (b ≡ true)
-both true b e = (refl, e)
-both false b e = absurd (cc)
+use Rattle.ldap_dn.proofs.Rising.{both}
 
 and_true : (a b : Bool) → a ≡ true → b ≡ true → (a && b) ≡ true
 and_true a b e f = rw (e, f) refl
@@ -90,13 +87,6 @@ below_front (x ∷ xs) (y ∷ ys) h =
     and_true (are_same_keys y.keys x.keys) (is_front ys xs)
     (same_keys y.keys x.keys (sym (heads x.keys y.keys (rdns xs) (rdns ys ++ h.0 ∷ h.1) h.2)))
     (below_front xs ys (h.0, h.1, tails x.keys y.keys (rdns xs) (rdns ys ++ h.0 ∷ h.1) h.2))
-
-pub below_length : (a b : List RdnModel) → IsBelow a b → length b < length a
-below_length [] [] h = absurd (let e = h.2 in cc)
-below_length [] (y ∷ ys) h = absurd (let e = h.2 in cc)
-below_length (x ∷ xs) [] h = omega arith
-below_length (x ∷ xs) (y ∷ ys) h =
-    let l = below_length xs ys (h.0, h.1, tails x.keys y.keys (rdns xs) (rdns ys ++ h.0 ∷ h.1) h.2) in omega arith
 
 pub same_answer : (a b x y : List RdnModel) (r : Bool) (m n : ℕ) → m ≡ length a → n ≡ length b → m ≡ n → x ≡ a → y ≡ b → r ≡ is_front x y → IsTrue r ↔ IsSameName a b
 same_answer a b x y r m n l k e p q h =

@@ -9,10 +9,6 @@ pub meant_found : (m : Option Meaning) (k : Option (List ℕ)) (x : List ℕ) �
 meant_found None k x some e = absurd (some refl)
 meant_found (Some m) k x some e = e
 
-pub meant_none : (m : Option Meaning) (k : Option (List ℕ)) → m ≡ None → meant m k ≡ None
-meant_none None k e = refl
-meant_none (Some m) k e = absurd (cc)
-
 not_true : (b : Bool) → (b ≡ true → ⊥) → b ≡ false
 not_true true h = absurd (h refl)
 not_true false h = refl

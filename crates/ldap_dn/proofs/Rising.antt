@@ -34,7 +34,7 @@ placed_put k (x ∷ xs) = by (nat_lt x.kind k.kind) (placed_put k xs)
     by true h = next_place (1 + count_below k.kind xs) (count_below k.kind xs) k x xs (omega arith) ∙ ap (with_first x) h
     by false h = refl
 
-both : (a b : Bool) → (a && b) ≡ true → (a ≡ true) × (b ≡ true)
+pub both : (a b : Bool) → (a && b) ≡ true → (a ≡ true) × (b ≡ true)
 both true b e = (refl, e)
 both false b e = absurd (cc)
 

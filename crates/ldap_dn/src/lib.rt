@@ -22,7 +22,7 @@ pub use ldap_forms::{Form, equality_family, is_used_on, meets, ordering_family, 
 pub use ldap_schema::{
     ClassId, ClassKind, Family, Key, Part, Rule, Schema, Syntax, TypeId, ValueError, equality_rule,
     has_ordering, has_substrings, is_identifier, is_in_syntax, is_meaningful, key, keys_compare,
-    part_key_of, parts_compare,
+    number_of_digits, part_key_of, parts_compare,
 };
 pub use name::{Name, names_are_of_texts};
 pub use ordering::equal_is_same;

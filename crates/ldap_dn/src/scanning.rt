@@ -1,14 +1,15 @@
 // Escapes undone. The octets of a text flow in, its tokens flow out.
 // What must not be here: separators, spaces, types, values.
 
-ghost use Rattle.std.specs.Prelude.{◌≡◌, ◌<◌, None, Some, IfOk, IfSome, IsErrOf};
-ghost use Rattle.ldap_dn.specs.Tokens.{is_escapable as is_escapable_octet, hex_digit as hex_digit_of, hex_octet as hex_octet_of};
+ghost use Rattle.std.specs.Prelude.{◌≡◌, None, Some, IfOk, IsErrOf};
+ghost use Rattle.ldap_dn.specs.Tokens.{is_escapable as is_escapable_octet};
 ghost use Rattle.ldap_dn.specs.declared.token.Scan.TheVariants.{Between, Escape};
 ghost use Rattle.ldap_dn.specs.Grammar.{TokensAreSpelled};
 ghost use Rattle.ldap_dn.specs.Texts.{step as step_from, tokens_of};
 
 use crate::fault::NameError;
 use crate::token::{Scan, Step, Token};
+use ldap_schema::hex_octet;
 use std::alloc::Global;
 
 /// Whether a backslash may stand before the octet.
@@ -26,31 +27,6 @@ fn is_escapable(octet: u8) -> bool
         || octet == b' '
         || octet == b'#'
         || octet == b'='
-}
-
-/// The value of a hexadecimal digit.
-fn hex_digit(octet: u8) -> Option<u8>
-    ensures value { result ≡ hex_digit_of octet }
-    ensures bound { IfSome result (λ d. d < 16) }
-{
-    if b'0' <= octet && octet <= b'9' {
-        Some(octet - b'0')
-    } else if b'A' <= octet && octet <= b'F' {
-        Some(octet - (b'A' - 10))
-    } else if b'a' <= octet && octet <= b'f' {
-        Some(octet - (b'a' - 10))
-    } else {
-        None
-    }
-}
-
-/// The octet that two hexadecimal digits spell.
-fn hex_octet(high: u8, low: u8) -> Option<u8>
-    ensures { result ≡ hex_octet_of high low }
-{
-    let high = hex_digit(high)?;
-    let low = hex_digit(low)?;
-    Some(high * 16 + low)
 }
 
 /// What an octet does where the reader stands so.

@@ -1,5 +1,5 @@
 -- The rules that a type supports, against its EQUALITY rule. Facts on types flow in and out; no value of the program is here.
-use Rattle.std.proofs.Common.{ℕ, List, Bool, true, false, cond, ◌&&◌, ◌||◌, not, Option, None, Some, is_some, option_map, slice_get, ◌≡◌, refl, ap, ap₂, sym, subst, ◌∙◌}
+use Rattle.std.proofs.Common.{ℕ, List, Bool, true, false, cond, ◌&&◌, ◌||◌, not, Option, None, Some, slice_get, ◌≡◌, refl, ap, ap₂, sym, ◌∙◌}
 use Rattle.ldap_dn.specs.ldap_syntax.Families.{is_used_on, is_textual, is_ordering}
 use Rattle.ldap_dn.specs.ldap_syntax.Keys as syntax_keys
 use Rattle.ldap_dn.specs.ldap_syntax.declared.rule.Family.{Family}
@@ -252,11 +252,11 @@ sole_used family.Ia5Exact syntax.ObjectIdentifier y u t w = absurd (cc)
 sole_used family.Ia5Exact syntax.OctetString y u t w = absurd (cc)
 sole_used family.Ia5Exact syntax.TelephoneNumber y u t w = absurd (cc)
 
-and_left : (a b : Bool) → (a && b) ≡ true → a ≡ true
+pub and_left : (a b : Bool) → (a && b) ≡ true → a ≡ true
 and_left true b h = refl
 and_left false b h = absurd (cc)
 
-and_right : (a b : Bool) → (a && b) ≡ true → b ≡ true
+pub and_right : (a b : Bool) → (a && b) ≡ true → b ≡ true
 and_right true b h = h
 and_right false b h = absurd (cc)
 

@@ -1,15 +1,12 @@
 -- Keys of parts, one by one, as the loop makes them. Facts on lists flow in and out.
-use Rattle.std.proofs.Common.{ℕ, ◌+◌, ◌<◌, zero, suc, add-one, List, [], ◌∷◌, ◌++◌, Option, None, Some, ◌≡◌, refl, ap, ap₂, sym, ◌∙◌, map, length, drop, get_or, append_assoc, arith}
+use Rattle.std.proofs.Common.{ℕ, ◌+◌, ◌<◌, zero, suc, add-one, List, [], ◌∷◌, ◌++◌, Option, None, Some, ◌≡◌, refl, ap, ap₂, sym, ◌∙◌, map, length, drop, get_or, arith}
 use Rattle.std.proofs.lemmas.List.{append-nil}
-use Rattle.ldap_match.specs.Item.{put_before, each_by}
+use Rattle.ldap_match.specs.Item.{each_by}
 
 -- what the loop has made: with keys of what is left they are keys of all, and where what is left has none all have none
 pub record KeysSoFar (f : List ℕ → Option (List ℕ)) (all keys rest : List (List ℕ)) : Type 0 where
   pub behind : (xs : List (List ℕ)) → each_by f rest ≡ Some xs → each_by f all ≡ Some (keys ++ xs)
   pub ahead : each_by f rest ≡ None → each_by f all ≡ None
-
-pub no_keys : (f : List ℕ → Option (List ℕ)) (all : List (List ℕ)) → KeysSoFar f all [] all
-no_keys f all = record { behind = λ xs h. h; ahead = λ h. h }
 
 left_more : {A : Type 0} (g : A → List ℕ) (xs : List A) (i : ℕ) (x : A) → i < length xs → map g (drop i xs) ≡ g (get_or xs i x) ∷ map g (drop (suc i) xs)
 left_more g [] i x lt = absurd (omega (arith, lt))
@@ -20,16 +17,5 @@ left_more g (y ∷ xs) (suc i) x lt = left_more g xs i x (omega (arith, lt))
 pub left_is : {A : Type 0} (g : A → List ℕ) (xs : List A) (i : ℕ) (x : A) → i < length xs → x ≡ get_or xs i x → map g (drop i xs) ≡ g x ∷ map g (drop (i + 1) xs)
 left_is g xs i x lt is = left_more g xs i x lt ∙ ap₂ (λ (y : List ℕ) (n : ℕ). y ∷ map g (drop n xs)) (ap g (sym is)) (sym (add-one i))
 
-pub one_more_key : (f : List ℕ → Option (List ℕ)) (all keys new rest after : List (List ℕ)) (v k : List ℕ) → KeysSoFar f all keys rest → rest ≡ v ∷ after → f v ≡ Some k → new ≡ keys ++ k ∷ [] → KeysSoFar f all new after
-one_more_key f all keys new rest after v k so_far e h pushed =
-    let step : each_by f rest ≡ put_before (Some k) (each_by f after) = ap (each_by f) e ∙ ap (λ (o : Option (List ℕ)). put_before o (each_by f after)) h in
-    record {
-      behind = λ xs a. so_far.behind (k ∷ xs) (step ∙ ap (put_before (Some k)) a) ∙ ap Some (sym (ap (λ (ys : List (List ℕ)). ys ++ xs) pushed ∙ append_assoc keys (k ∷ []) xs));
-      ahead = λ a. so_far.ahead (step ∙ ap (put_before (Some k)) a);
-    }
-
 pub all_keys : (f : List ℕ → Option (List ℕ)) (all keys rest : List (List ℕ)) → KeysSoFar f all keys rest → rest ≡ [] → each_by f all ≡ Some keys
 all_keys f all keys rest so_far e = so_far.behind [] (ap (each_by f) e) ∙ ap Some (append-nil keys)
-
-pub some_key_lacks : (f : List ℕ → Option (List ℕ)) (all keys rest after : List (List ℕ)) (v : List ℕ) → KeysSoFar f all keys rest → rest ≡ v ∷ after → f v ≡ None → each_by f all ≡ None
-some_key_lacks f all keys rest after v so_far e h = so_far.ahead (ap (each_by f) e ∙ ap (λ (o : Option (List ℕ)). put_before o (each_by f after)) h)

@@ -9,7 +9,7 @@ use Rattle.ldap_dn.specs.ldap_schema.Schema.{SchemaModel}
 use Rattle.ldap_dn.specs.Pairs.{PairModel}
 use Rattle.ldap_match.specs.Meaning.{meaning}
 use Rattle.ldap_match.specs.Truth.{truth_of}
-use Rattle.ldap_match.specs.Item.{is_meant, answered, by_rule}
+use Rattle.ldap_match.specs.Item.{answered, by_rule}
 use Rattle.ldap_match.specs.Keyed.{key_at, AreKeysBy, AreKeysOf}
 use Rattle.ldap_match.specs.Matching.{rule_for, asks_less, satisfies, goes_by_key, key_meets, match_on_values, pair_answered, pair_by, match_on_pair}
 use Rattle.ldap_match.specs.Matched.{match_made, match_of_key, match_of_rule, match_for, match_value, match_pair}

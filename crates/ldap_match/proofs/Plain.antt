@@ -1,6 +1,5 @@
 -- Rules that are of another family than names. Facts on values flow in and out; names are not here.
-use Rattle.std.proofs.Common.{ℕ, List, true, Option, None, Some, is_some, Result, Ok, Err, OnOk, ◌≡◌, refl, ap, sym, ◌∙◌, slice_get}
-use Rattle.ldap_dn.specs.ldap_syntax.Families.{is_ordering}
+use Rattle.std.proofs.Common.{ℕ, List, true, Option, None, Some, is_some, Result, Ok, Err, OnOk, ◌≡◌, refl}
 use Rattle.ldap_dn.specs.ldap_syntax.Meaning.{Meaning}
 use Rattle.ldap_dn.specs.ldap_syntax.declared.rule.Family.{Family}
 use Rattle.ldap_dn.specs.ldap_syntax.declared.rule.Family.TheVariants as family
@@ -11,9 +10,7 @@ use Rattle.ldap_dn.specs.ldap_schema.Schema.{SchemaModel}
 use Rattle.ldap_dn.specs.ldap_schema.Meaning as plain
 use Rattle.ldap_dn.specs.ldap_schema.Keyed as plain_keys
 use Rattle.ldap_match.specs.Meaning.{meaning, meaning_by}
-use Rattle.ldap_match.specs.Item.{ordering_of, is_valid_by}
 use Rattle.ldap_match.specs.Keyed.{key_at, key_by}
-use Rattle.ldap_match.proofs.Items.{not_offered, ordering_is}
 
 means : (s : SchemaModel) (r : Rule) (f : Family) (v : List ℕ) → (f ≡ family.Name → ⊥) → meaning_by s r f v ≡ plain.meaning_by s r f v
 means s r family.Name v h = absurd (h refl)
@@ -49,11 +46,6 @@ keyed s r family.Ia5Exact v h = refl
 
 pub plain_key : (s : SchemaModel) (r : Rule) (v : List ℕ) → (r.family ≡ family.Name → ⊥) → key_at s r v ≡ plain_keys.key_at s r v
 plain_key s r v h = keyed s r r.family v h
-
--- a rule that orders is no rule of names
-pub ordered_plainly : (s : SchemaModel) (t : ℕ) (r : Rule) (v : List ℕ) → ordering_of s t ≡ Some r → is_some (plain.meaning s r v) ≡ is_valid_by s (ordering_of s t) v
-ordered_plainly s t r v e =
-    ap is_some (sym (plain_meaning s r v (not_offered is_ordering r.family family.Name refl (ordering_is (slice_get s.types t) r e).1))) ∙ ap (λ (o : Option Rule). is_valid_by s o v) (sym e)
 
 some_there : (o : Option Meaning) → (o ≡ None → ⊥) → is_some o ≡ true
 some_there None h = absurd (h refl)

@@ -14,7 +14,7 @@ mod truth;
 pub use keying::{is_comparable, is_of_syntax, is_ordered, key};
 pub use ldap_dn::{
     ClassId, ClassKind, Form, Key, Name, NameError, Rdn, Rule, Schema, TypeAndValue, TypeId,
-    ValueError, equality_rule, is_front,
+    ValueError, equality_rule, is_front, number_of_digits,
 };
 pub use matching::{
     Asserted, MatchTest, is_matchable, match_on_pair, match_on_values, match_test,

@@ -9,7 +9,7 @@ use Rattle.ldap_schema.specs.Schema.{ClassModel, SchemaModel, is_called, first_n
 pub same_octets : (xs : List ℕ) → bytes_eq xs xs ≡ true
 same_octets xs = (bytes_eq-Decides xs xs).1 refl
 
-or_true : (a b : Bool) → a ≡ true → (a || b) ≡ true
+pub or_true : (a b : Bool) → a ≡ true → (a || b) ≡ true
 or_true true b h = refl
 or_true false b h = absurd (cc)
 

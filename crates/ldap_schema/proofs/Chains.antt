@@ -16,11 +16,11 @@ pub ended_past : (k : ℕ) (ts : List TypeModel) (t : ℕ) → length ts ≤ t �
 ended_past zero ts t h = ap (λ (o : Option ℕ). if_led o (λ u. false)) (none_past ts t h)
 ended_past (suc k) ts t h = ap (λ (o : Option ℕ). if_led o (λ u. ends_within k ts u)) (none_past ts t h)
 
-and_one : (a b : Bool) → (a && b) ≡ true → a ≡ true
+pub and_one : (a b : Bool) → (a && b) ≡ true → a ≡ true
 and_one true b h = refl
 and_one false b h = h
 
-and_two : (a b : Bool) → (a && b) ≡ true → b ≡ true
+pub and_two : (a b : Bool) → (a && b) ≡ true → b ≡ true
 and_two true b h = h
 and_two false b h = cc
 
@@ -40,11 +40,11 @@ all_end ts t h =
 same_number : (a b : ℕ) → nat_eq a b ≡ true → a ≡ b
 same_number a b h = grind (arith, nat_tests, h)
 
-or_cases : {P : Type 0} (a b : Bool) → (a || b) ≡ true → (a ≡ true → P) → (b ≡ true → P) → P
+pub or_cases : {P : Type 0} (a b : Bool) → (a || b) ≡ true → (a ≡ true → P) → (b ≡ true → P) → P
 or_cases true b h f g = f refl
 or_cases false b h f g = g h
 
-or_second : (a b : Bool) → b ≡ true → (a || b) ≡ true
+pub or_second : (a b : Bool) → b ≡ true → (a || b) ≡ true
 or_second true b h = refl
 or_second false b h = h
 

@@ -1,12 +1,8 @@
 -- Lists of classes filled with superclasses, a step at a time. Facts on lists flow in and out; no value of the program is here.
-use Rattle.std.proofs.Common.{ℕ, ◌+◌, ◌-◌, ◌<◌, zero, suc, List, Option, None, Some, ◌≡◌, refl, ap, sym, ◌∙◌, arith}
+use Rattle.std.proofs.Common.{ℕ, ◌+◌, ◌-◌, ◌<◌, suc, List, Some, ◌≡◌, refl, ap, sym, ◌∙◌, arith}
 use Rattle.std.specs.List.{slice_get}
 use Rattle.ldap_schema.specs.Schema.{ClassModel}
-use Rattle.ldap_schema.specs.Superclasses.{gone_on, direct_superclasses, with_missing, filled_from}
-
-pub fill_ends : (k : ℕ) (classes : List ClassModel) (i : ℕ) (have : List ℕ) → slice_get have i ≡ None → filled_from k classes i have ≡ have
-fill_ends zero classes i have is = refl
-fill_ends (suc k) classes i have is = ap (λ (o : Option ℕ). gone_on o have (λ c. filled_from k classes (i + 1) (with_missing have (direct_superclasses classes c)))) is
+use Rattle.ldap_schema.specs.Superclasses.{direct_superclasses, with_missing, filled_from}
 
 pub fill_one : (m k : ℕ) (classes : List ClassModel) (i c : ℕ) (have : List ℕ) → m ≡ suc k → slice_get have i ≡ Some c → filled_from m classes i have ≡ filled_from k classes (i + 1) (with_missing have (direct_superclasses classes c))
 fill_one m k classes i c have e is = rw (e, is) refl

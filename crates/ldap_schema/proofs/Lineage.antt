@@ -1,5 +1,5 @@
 -- The filled list of a class against the chain of superclasses. Facts on lists flow in and out; no value of the program is here.
-use Rattle.std.proofs.Common.{IsTrue, ◌↔◌, ℕ, ◌+◌, ◌<◌, ◌≤◌, zero, suc, List, [], ◌∷◌, ◌++◌, Bool, true, false, cond, ◌&&◌, ◌||◌, Option, None, Some, ◌≡◌, refl, ap, sym, subst, ◌∙◌, length, take, nat_eq, nat_lt, append_assoc, add-one, arith}
+use Rattle.std.proofs.Common.{IsTrue, ◌↔◌, ℕ, ◌+◌, ◌<◌, ◌≤◌, zero, suc, List, [], ◌∷◌, ◌++◌, Bool, true, false, cond, Option, None, Some, ◌≡◌, refl, ap, sym, subst, ◌∙◌, length, take, nat_eq, nat_lt, append_assoc, add-one, arith}
 use Rattle.std.specs.List.{IsDistinct, list_all, slice_get}
 use Rattle.std.specs.Cmp.{nat_eq_equiv}
 use Rattle.std.proofs.lemmas.List.{take-append-le}
@@ -10,26 +10,8 @@ use Rattle.std.proofs.lemmas.Bool.Decides.{nat_tests}
 use Rattle.ldap_schema.specs.Schema.{ClassModel, SchemaModel}
 use Rattle.ldap_schema.specs.Superclasses.{is_among, superclasses_in, direct_superclasses, with_missing, gone_on, filled_from, with_superclasses, is_subclass, IsSubclass, is_itself, goes_up, has_known_superclasses, AreSuperclassesKnown}
 use Rattle.ldap_schema.proofs.Steps.{append-nil}
-
-or_cases : {P : Type 0} (a b : Bool) → (a || b) ≡ true → (a ≡ true → P) → (b ≡ true → P) → P
-or_cases true b h f g = f refl
-or_cases false b h f g = g h
-
-or_first : (a b : Bool) → a ≡ true → (a || b) ≡ true
-or_first true b h = refl
-or_first false b h = absurd (cc)
-
-or_second : (a b : Bool) → b ≡ true → (a || b) ≡ true
-or_second true b h = refl
-or_second false b h = h
-
-and_one : (a b : Bool) → (a && b) ≡ true → a ≡ true
-and_one true b h = refl
-and_one false b h = h
-
-and_two : (a b : Bool) → (a && b) ≡ true → b ≡ true
-and_two true b h = h
-and_two false b h = cc
+use Rattle.ldap_schema.proofs.Called.{or_true as or_first}
+use Rattle.ldap_schema.proofs.Chains.{and_one, and_two, or_cases, or_second}
 
 false_true : false ≡ true → ⊥
 false_true h = cc

@@ -7,19 +7,14 @@ use Rattle.std.proofs.lemmas.Bool.Decides.{nat_tests}
 use Rattle.std.proofs.lemmas.List.Sorted.{list_any-IsPermutation, IsPermutation-sym}
 use Rattle.ldap_schema.specs.Superclasses.{is_among}
 use Rattle.ldap_schema.specs.Lines.{is_either_under, are_all_in_line, falls, falls_whole, first_of, lowest_in, rank_in, greatest}
+pub use Rattle.ldap_schema.proofs.Chains.{and_one}
+pub use Rattle.ldap_schema.proofs.Chains.{and_two}
+use Rattle.ldap_schema.proofs.Chains.{or_cases, or_second}
 
 pub record IsRankedOrder (under : ℕ → ℕ → Bool) (ranks : List ℕ) : Type 0 where
   pub itself : (a : ℕ) → under a a ≡ true
   pub through : (a b c : ℕ) → under a b ≡ true → under b c ≡ true → under a c ≡ true
   pub ranked : (a b : ℕ) → under a b ≡ true → (a ≡ b) ⊎ (rank_in ranks b < rank_in ranks a)
-
-pub and_one : (a b : Bool) → (a && b) ≡ true → a ≡ true
-and_one true b h = refl
-and_one false b h = h
-
-pub and_two : (a b : Bool) → (a && b) ≡ true → b ≡ true
-and_two true b h = h
-and_two false b h = cc
 
 pub both : (a b : Bool) → a ≡ true → b ≡ true → (a && b) ≡ true
 both true b h k = k
@@ -28,14 +23,6 @@ both false b h k = cc
 or_first : (a b : Bool) → a ≡ true → (a || b) ≡ true
 or_first true b h = refl
 or_first false b h = cc
-
-or_second : (a b : Bool) → b ≡ true → (a || b) ≡ true
-or_second true b h = refl
-or_second false b h = h
-
-or_cases : {P : Type 0} (a b : Bool) → (a || b) ≡ true → (a ≡ true → P) → (b ≡ true → P) → P
-or_cases true b h f g = f refl
-or_cases false b h f g = g h
 
 false_true : false ≡ true → ⊥
 false_true h = cc

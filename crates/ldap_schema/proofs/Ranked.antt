@@ -111,12 +111,6 @@ pub under_cut : (classes : List ClassModel) (ranks : List ℕ) (low a b : ℕ) (
 under_cut classes ranks low a b found known r lows is =
     ap (λ (x : List ℕ). nat_eq a b || is_among x b) is ∙ ap (λ (l : ℕ). is_under_in (cut ranks l classes) a b) lows ∙ cut_tells classes ranks a b known r
 
-pub cut_begins : (classes : List ClassModel) (ranks : List ℕ) (low : ℕ) (named have : List ℕ) → have ≡ named
-    → filled_from (length named + length classes - 0) (cut ranks low classes) 0 have ≡ filled (cut ranks low classes) named
-cut_begins classes ranks low named have is =
-    let same : length (cut ranks low classes) ≡ length classes = length-map classes (cut_class ranks low) in
-    ap (λ (n : ℕ). filled_from n (cut ranks low classes) 0 have) (omega (arith, same)) ∙ ap (filled_from (length named + length (cut ranks low classes)) (cut ranks low classes) 0) is
-
 pub cut_goes_on : (n : ℕ) (classes : List ClassModel) (ranks : List ℕ) (low i c : ℕ) (have new up direct all : List ℕ) → i < n → slice_get have i ≡ Some c → direct ≡ direct_superclasses classes c
     → up ≡ filter (λ u. nat_le low (rank_in ranks u)) direct → new ≡ with_missing have up → filled_from (n - i) (cut ranks low classes) i have ≡ all
     → filled_from (n - (i + 1)) (cut ranks low classes) (i + 1) new ≡ all

@@ -1,5 +1,5 @@
 -- Loops over tables, a step at a time. Facts on lists flow in and out; no value of the program is here.
-use Rattle.std.proofs.Common.{ℕ, ◌+◌, ◌-◌, ◌<◌, zero, suc, List, [], ◌∷◌, ◌++◌, Bool, true, false, ◌||◌, None, Some, ◌≡◌, refl, ap, sym, ◌∙◌, map, length, nat_eq, drop, get_or, append_assoc, add-one, drop-cons, arith}
+use Rattle.std.proofs.Common.{ℕ, ◌+◌, ◌-◌, ◌<◌, zero, suc, List, [], ◌∷◌, ◌++◌, Bool, true, false, ◌||◌, None, Some, ◌≡◌, refl, ap, sym, ◌∙◌, map, length, nat_eq, drop, get_or, append_assoc, arith}
 use Rattle.std.specs.List.{list_any, position_from}
 use Rattle.ldap_schema.specs.Schema.{TypeModel, superior_of, superiors}
 pub use Rattle.ldap_syntax.proofs.NumbersKept.{opened}
@@ -17,15 +17,6 @@ list_any-map p f (x ∷ xs) = rw (list_any-map p f xs) refl
 pub pushed_out : {A C : Type 0} (f : A → C) (old : List A) (x : A) (t : List C) → map f (old ++ x ∷ []) ++ t ≡ map f old ++ f x ∷ t
 pushed_out f [] x t = refl
 pushed_out f (o ∷ old) x t = ap (λ (z : List _). f o ∷ z) (pushed_out f old x t)
-
-pub copied_more : {A B C : Type 0} (f : A → C) (g : B → C) (old new : List A) (x : A) (ys : List B) (i : ℕ) (d : B) → i < length ys → new ≡ old ++ x ∷ [] → f x ≡ g (get_or ys i d) → map f old ++ map g (drop i ys) ≡ map g ys → map f new ++ map g (drop (i + 1) ys) ≡ map g ys
-copied_more f g old new x ys i d lt pushed same so_far =
-    ap (λ (z : List _). map f z ++ map g (drop (i + 1) ys)) pushed
-    ∙ pushed_out f old x (map g (drop (i + 1) ys))
-    ∙ ap (λ (z : _). map f old ++ z ∷ map g (drop (i + 1) ys)) same
-    ∙ ap (λ (n : ℕ). map f old ++ g (get_or ys i d) ∷ map g (drop n ys)) (add-one i)
-    ∙ ap (λ (z : List _). map f old ++ map g z) (sym (drop-cons ys i d lt))
-    ∙ so_far
 
 pub one_up : (m k : ℕ) (ts : List TypeModel) (t u : ℕ) → m ≡ suc k → superior_of ts t ≡ Some u → superiors m ts t ≡ u ∷ superiors k ts u
 one_up m k ts t u e is = rw (e, is) refl

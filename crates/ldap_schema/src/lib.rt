@@ -5,7 +5,6 @@
 
 mod attribute_type;
 mod class;
-mod comparing;
 mod gathered;
 mod keying;
 mod lines;
@@ -23,9 +22,10 @@ pub use class::{ClassId, ClassKind, ObjectClass};
 pub use gathered::is_class_among;
 pub use keying::{equality_rule, is_identifier, is_meaningful, key, named_oid};
 pub use ldap_syntax::{
-    Family, Key, Part, Rule, Syntax, ValueError, has_ordering, has_substrings, is_in_syntax,
-    keys_compare, part_key_of, parts_compare,
+    Family, Key, Part, Rule, Syntax, ValueError, has_ordering, has_substrings, hex_octet,
+    is_in_syntax, keys_compare, number_of_digits, part_key_of, parts_compare,
 };
+pub use lines::rank_of;
 pub use schema::Schema;
 pub use superclasses::{superclasses_of, with_superclasses};
 pub use tables::{class_called, is_type_among, superiors, type_called};

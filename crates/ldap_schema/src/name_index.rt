@@ -13,6 +13,7 @@ ghost use Rattle.ldap_schema.specs.Schema.{is_called};
 use crate::attribute_type::AttributeType;
 use crate::class::ObjectClass;
 use crate::name_table::NameTable;
+use ldap_syntax::lower_case;
 use std::alloc::{AllocError, Global};
 use std::marker::Model;
 
@@ -30,15 +31,6 @@ impl Model for NameIndex {
     ghost Value = { IndexModel };
 
     ghost view = { λ i. record { names = i.names; oids = i.oids } };
-}
-
-/// The octets with letters in lower case.
-fn lower_case(alloc: Global, name: &[u8]) -> Result<Vec<u8>, AllocError>
-    ensures { IfOk result (λ v. v.items ≡ map to_ascii_lowercase name.now) }
-{
-    name.iter()
-        .map(|octet| octet.to_ascii_lowercase())
-        .collect(alloc)
 }
 
 /// Adds a name in lower case, unless it is there.

@@ -6,7 +6,7 @@ ghost use Rattle.std.specs.Char.{to_ascii_lowercase};
 ghost use Rattle.std.specs.Str.{bytes_eq};
 ghost use Rattle.ldap_schema.specs.NameOrder.{order, number_at, kept_or};
 
-use crate::comparing::{compare_folded, compare_octets};
+use ldap_syntax::compare_folded;
 use std::alloc::{AllocError, Global};
 use std::cmp::Ordering;
 use std::marker::Model;
@@ -31,7 +31,7 @@ impl NameEntry {
     fn compare(&self, name: &[u8]) -> Ordering
         ensures { result ≡ order self.now.0 name.now }
     {
-        compare_octets(self.name.as_slice(), name)
+        self.name.as_slice().cmp(name)
     }
 
     /// Its name against these octets, whose letters are taken in lower case.

@@ -8,5 +8,6 @@ pub mod Present
 pub mod Compare
 pub mod Search
 pub mod Seams
+pub mod Numbers
 pub mod NumbersKept
 pub mod OctetOrder

@@ -76,9 +76,6 @@ pub record Cuts (h p rest : List ℕ) : Type 0 where
   pub place : h ≡ before ++ p ++ rest
   pub first : (b a : List ℕ) → h ≡ b ++ p ++ a → length before ≤ length b
 
-not_sooner : (h p : List ℕ) (at : ℕ) → NoneBefore (OccursAt h p) 0 (length h + 1) at → (b a : List ℕ) → h ≡ b ++ p ++ a → at ≤ length b → at ≤ length b
-not_sooner h p at none b a e l = l
-
 first_place : (h p : List ℕ) (at : ℕ) → NoneBefore (OccursAt h p) 0 (length h + 1) at → (b a : List ℕ) → h ≡ b ++ p ++ a → (length b < at → ⊥)
 first_place h p at none b a e l = none.before (length b) (omega arith) l (occurs h b p a e)
 

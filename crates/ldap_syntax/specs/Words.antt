@@ -1,8 +1,10 @@
--- The words of descriptions: RFC 4512 1.4. Octets flow in, a yes or no flows out; object identifiers in dotted form are not here.
-use Rattle.std.specs.Prelude.{ℕ, List, [], ◌∷◌, map, Bool, false, ◌&&◌, ◌||◌, nat_eq, nat_le}
-use Rattle.std.specs.List.{list_all}
+-- Words, and the descriptions of attributes that they make: RFC 4512 1.4 and 2.5. Octets flow in, a yes or no flows out; what a
+-- description stands for is not here.
+use Rattle.std.specs.Prelude.{ℕ, ◌+◌, List, [], ◌∷◌, map, take, drop, position, Bool, false, ◌&&◌, ◌||◌, Option, None, Some, nat_eq, nat_le}
+use Rattle.std.specs.List.{list_all, slice_split}
 use Rattle.std.specs.Char.{to_ascii_lowercase}
 use Rattle.std.specs.Str.{bytes_eq}
+use Rattle.ldap_syntax.specs.Identifiers.{is_numericoid}
 use Rattle.ldap_syntax.specs.Numbers.{is_digit}
 
 -- the same without regard to the case of ASCII letters (RFC 4512 1.4, descr; RFC 4234 2.3, keywords)
@@ -26,3 +28,16 @@ is_descr (c ∷ cs) = is_alpha c && list_all is_key_octet cs
 abbrev pub is_option : List ℕ → Bool
 is_option [] = false
 is_option (c ∷ cs) = is_key_octet c && list_all is_key_octet cs
+
+-- oid: a descr or a numericoid (RFC 4512 1.4)
+abbrev pub is_oid : List ℕ → Bool
+is_oid v = is_descr v || is_numericoid v
+
+-- an oid alone, or before the first `;`, behind which options stand with `;` between them
+abbrev pub is_described : List ℕ → Option ℕ → Bool
+is_described d None = is_oid d
+is_described d (Some i) = is_oid (take i d) && list_all is_option (slice_split (λ c. nat_eq c 59) (drop (i + 1) d))
+
+-- attributedescription: an oid, and each option behind a `;` (RFC 4512 2.5)
+abbrev pub is_description : List ℕ → Bool
+is_description d = is_described d (position (λ c. nat_eq c 59) d)

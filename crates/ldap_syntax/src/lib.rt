@@ -4,7 +4,10 @@
 #![tactic(auto)]
 
 mod admitting;
+mod describing;
 mod fault;
+mod folding;
+mod hexadecimal;
 mod identifying;
 mod key;
 mod keying;
@@ -19,11 +22,14 @@ mod spacing;
 mod timing;
 
 pub use admitting::{is_in_syntax, is_part_of};
+pub use describing::{is_alpha, is_descr, is_description, is_key_octet, is_oid, is_same_word};
 pub use fault::ValueError;
+pub use folding::{compare_folded, lower_case};
+pub use hexadecimal::{hex_digit, hex_octet};
 pub use identifying::is_numericoid;
 pub use key::Key;
 pub use keying::{has_meaning, key_of, keys_compare, part_key_of, parts_compare, values_mean};
-pub use numbering::is_number;
+pub use numbering::{is_digit, is_number, number_of_digits};
 pub use offering::{has_ordering, has_substrings, is_used_on};
 pub use preparing::{Part, prepare};
 pub use rule::{Family, Rule, Syntax};

@@ -1,8 +1,8 @@
 // Whole numbers as they are written, and their keys. Octets flow in; a yes or no, or a key's octets, flow out.
 // What must not be here: rules and syntaxes.
 
-ghost use Rattle.std.specs.Prelude.{◌≡◌, IfOk};
-ghost use Rattle.ldap_syntax.specs.Numbers.{is_digit as is_digit_octet, are_digits as are_digit_octets, is_whole as is_whole_number, is_number as is_number_text, is_integer as is_integer_text};
+ghost use Rattle.std.specs.Prelude.{◌≡◌, ◌≤◌, IfOk, IfSome};
+ghost use Rattle.ldap_syntax.specs.Numbers.{is_digit as is_digit_octet, are_digits as are_digit_octets, is_whole as is_whole_number, is_number as is_number_text, is_integer as is_integer_text, greatest, with_digit as number_with_digit, number_of_digits as number_of};
 ghost use Rattle.ldap_syntax.specs.Keys.{number_key as number_key_of, counted as counted_digits, turned as turned_octets};
 
 use std::alloc::{AllocError, Global};
@@ -56,6 +56,41 @@ pub fn is_integer(value: &[u8]) -> bool
             }
         }
     }
+}
+
+/// A number with one more digit.
+fn with_digit(number: u64, octet: u8) -> Option<u64>
+    requires { number ≤ greatest }
+    ensures longer { result ≡ number_with_digit number octet }
+    ensures small { IfSome result (λ longer. longer ≤ greatest) }
+{
+    if !is_digit(octet) {
+        return None;
+    }
+    let digit = u64::from(octet) - 48;
+    if number <= (9223372036854775807 - digit) / 10 {
+        Some(10 * number + digit)
+    } else {
+        None
+    }
+}
+
+/// The number that decimal digits write, leading zeros or not, up to 9223372036854775807; none, where there is another octet or no digit.
+#[tactic(auto, using(crate::proofs::Numbers::digit_more, crate::proofs::Numbers::number_is))]
+pub fn number_of_digits(text: &[u8]) -> Option<u64>
+    ensures { result ≡ number_of text.now }
+{
+    if text.is_empty() {
+        return None;
+    }
+    let mut number = 0;
+    for octet in text {
+        match with_digit(number, *octet) {
+            Some(longer) => number = longer,
+            None => return None,
+        }
+    }
+    Some(number)
 }
 
 /// The octets of an integer's key: a sign, so many ones as there are digits and a zero, and the digits; of a negative

@@ -1,5 +1,5 @@
 -- LDIF: the octets that a description has.
-use Rattle.std.proofs.Common.{◌≡◌, ℕ, suc, ◌+◌, ◌<◌, List, [], ◌∷◌, length, take, drop, position, get_or, Bool, true, false, cond, not, ◌&&◌, ◌||◌, Option, None, Some, nat_eq, nat_le, nat_lt, refl, sym, ap, ◌∙◌, arith, drop-cons, take-append-drop}
+use Rattle.std.proofs.Common.{◌≡◌, ℕ, suc, ◌+◌, ◌<◌, List, [], ◌∷◌, length, take, drop, position, get_or, Bool, true, false, cond, not, ◌&&◌, ◌||◌, Option, None, Some, nat_eq, nat_le, refl, sym, ap, ◌∙◌, arith, drop-cons, take-append-drop}
 use Rattle.std.specs.List.{list_all, slice_split, onto_first}
 use Rattle.std.specs.Str.{IsAscii, is_utf8}
 use Rattle.std.proofs.lemmas.Bool.{leb-true, eqb-true}
@@ -7,7 +7,10 @@ use Rattle.std.proofs.lemmas.List.Folds.{list_all-append}
 use Rattle.std.proofs.lemmas.List.Quantifiers.{position-Some}
 use Rattle.std.proofs.lemmas.Str.{IsUtf8-from_ascii, is_utf8-from_IsUtf8}
 use Rattle.std.proofs.lemmas.Str.Ascii.{IsAscii-nil, IsAscii-cons}
-use Rattle.ldif.specs.Descriptions.{is_alpha, is_digit, is_key_octet, is_descr, is_number, is_numericoid, is_oid, is_option, is_described, is_description, is_dn, begins_change, is_type}
+use Rattle.ldap_syntax.specs.Identifiers.{has_dot, are_numbers, is_numericoid}
+use Rattle.ldap_syntax.specs.Numbers.{is_digit, is_number}
+use Rattle.ldap_syntax.specs.Words.{is_alpha, is_key_octet, is_descr, is_oid, is_option, is_described, is_description}
+use Rattle.ldif.specs.Descriptions.{is_dn, begins_change, is_type}
 use Rattle.ldif.proofs.Booleans.{left, right, both, either}
 use Rattle.ldap_syntax.proofs.Digits.{number_digits}
 
@@ -62,22 +65,21 @@ split_step false x xs (y ∷ ys) f g h =
     both (is_plain x) (list_all is_plain xs) (left (is_plain x) (list_all is_plain y) front)
     (g (both (list_all is_plain y) (list_all (list_all is_plain) ys) (right (is_plain x) (list_all is_plain y) front) (right (is_plain x && list_all is_plain y) (list_all (list_all is_plain) ys) h)))
 
-same_plain : (k x : ℕ) → is_plain k ≡ true → nat_eq k x ≡ true → is_plain x ≡ true
-same_plain k x h e = ap is_plain (sym (eqb-true k x e)) ∙ h
+same_plain : (k x : ℕ) → is_plain k ≡ true → nat_eq x k ≡ true → is_plain x ≡ true
+same_plain k x h e = ap is_plain (eqb-true x k e) ∙ h
 
 -- octets are plain where their parts are, and what parts them
-split_plain : (k : ℕ) (xs : List ℕ) → is_plain k ≡ true → list_all (list_all is_plain) (slice_split (nat_eq k) xs) ≡ true → list_all is_plain xs ≡ true
+split_plain : (k : ℕ) (xs : List ℕ) → is_plain k ≡ true → list_all (list_all is_plain) (slice_split (λ c. nat_eq c k) xs) ≡ true → list_all is_plain xs ≡ true
 split_plain k [] p h = refl
-split_plain k (x ∷ xs) p h = split_step (nat_eq k x) x xs (slice_split (nat_eq k) xs) (same_plain k x p) (split_plain k xs p) h
+split_plain k (x ∷ xs) p h = split_step (nat_eq x k) x xs (slice_split (λ c. nat_eq c k) xs) (same_plain k x p) (split_plain k xs p) h
 
 oid_plain : (d : List ℕ) → is_oid d ≡ true → list_all is_plain d ≡ true
 oid_plain d h =
     either (is_descr d) (is_numericoid d) h (descr_plain d)
-    (λ e. split_plain 46 d refl (each_weaker is_number (list_all is_plain) (slice_split (nat_eq 46) d) number_plain
-    (right (nat_lt 1 (length (slice_split (nat_eq 46) d))) (list_all is_number (slice_split (nat_eq 46) d)) e)))
+    (λ e. split_plain 46 d refl (each_weaker is_number (list_all is_plain) (slice_split (λ c. nat_eq c 46) d) number_plain (right (has_dot d) (are_numbers d) e)))
 
-options_plain : (d : List ℕ) → list_all is_option (slice_split (nat_eq 59) d) ≡ true → list_all is_plain d ≡ true
-options_plain d h = split_plain 59 d refl (each_weaker is_option (list_all is_plain) (slice_split (nat_eq 59) d) option_plain h)
+options_plain : (d : List ℕ) → list_all is_option (slice_split (λ c. nat_eq c 59) d) ≡ true → list_all is_plain d ≡ true
+options_plain d h = split_plain 59 d refl (each_weaker is_option (list_all is_plain) (slice_split (λ c. nat_eq c 59) d) option_plain h)
 
 joined_plain : (d : List ℕ) (i : ℕ) → i < length d → is_plain (get_or d i 0) ≡ true → list_all is_plain (take i d) ≡ true → list_all is_plain (drop (suc i) d) ≡ true → list_all is_plain d ≡ true
 joined_plain d i lt at front rest =
@@ -86,18 +88,18 @@ joined_plain d i lt at front rest =
     ∙ both (list_all is_plain (take i d)) (list_all is_plain (drop i d)) front
     (ap (list_all is_plain) cut ∙ both (is_plain (get_or d i 0)) (list_all is_plain (drop (suc i) d)) at rest)
 
-described_plain : (d : List ℕ) (o : Option ℕ) → position (nat_eq 59) d ≡ o → is_described d o ≡ true → list_all is_plain d ≡ true
+described_plain : (d : List ℕ) (o : Option ℕ) → position (λ c. nat_eq c 59) d ≡ o → is_described d o ≡ true → list_all is_plain d ≡ true
 described_plain d None e h = oid_plain d h
 described_plain d (Some i) e h =
-    let found = position-Some (nat_eq 59) d i 0 e in
-    let options = right (is_oid (take i d)) (list_all is_option (slice_split (nat_eq 59) (drop (i + 1) d))) h in
+    let found = position-Some (λ c. nat_eq c 59) d i 0 e in
+    let options = right (is_oid (take i d)) (list_all is_option (slice_split (λ c. nat_eq c 59) (drop (i + 1) d))) h in
     joined_plain d i found.0 (same_plain 59 (get_or d i 0) refl found.1)
-    (oid_plain (take i d) (left (is_oid (take i d)) (list_all is_option (slice_split (nat_eq 59) (drop (i + 1) d))) h))
+    (oid_plain (take i d) (left (is_oid (take i d)) (list_all is_option (slice_split (λ c. nat_eq c 59) (drop (i + 1) d))) h))
     (let n : i + 1 ≡ suc i = omega arith in rw n at (options_plain (drop (i + 1) d) options))
 
 pub type_plain : (d : List ℕ) → is_type d ≡ true → list_all is_plain d ≡ true
 type_plain d h =
-    described_plain d (position (nat_eq 59) d) refl
+    described_plain d (position (λ c. nat_eq c 59) d) refl
     (left (is_description d) (not (is_dn d)) (left (is_description d && not (is_dn d)) (not (begins_change d)) h))
 
 -- ---- they are text

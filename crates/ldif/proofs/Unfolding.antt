@@ -57,10 +57,6 @@ resumed_nil [] = refl
 resumed_nil (x ∷ []) = refl
 resumed_nil (x ∷ y ∷ ys) = ap (λ l. x ∷ l) (resumed_nil (y ∷ ys))
 
--- the first part
-pub puts_first : (n : ℕ) (t : List ℕ) → Puts [] (line n t) (line n t ∷ [])
-puts_first n t = record { whatever_follows = λ rest. refl }
-
 -- one that continues the last line
 pub puts_folded : (xs : List LineModel) (a : LineModel) (m : ℕ) (t : List ℕ) → continues a.text t ≡ true → Puts (xs ++ a ∷ []) (line m t) (xs ++ line a.number (a.text ++ drop 1 t) ∷ [])
 puts_folded xs a m t e = record {

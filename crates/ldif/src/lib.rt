@@ -15,6 +15,7 @@ mod written_value;
 
 pub use describing::is_type;
 pub use fault::LdifError;
+pub use lines::{line_parts, without_return};
 pub use reading::{read, records_are_of_text, written_is_read_back};
 pub use record::{AttributeValue, Record};
 pub use writing::write;

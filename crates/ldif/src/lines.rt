@@ -58,15 +58,15 @@ impl Line {
     }
 }
 
-/// The parts of the text that line feeds part.
-fn fed(alloc: Global, text: &[u8]) -> Result<Vec<&[u8]>, AllocError>
+/// The parts of a text that line feeds part. Fails only for want of memory.
+pub fn line_parts(alloc: Global, text: &[u8]) -> Result<Vec<&[u8]>, AllocError>
     ensures { IfOk result (λ v. map (λ x. x.now) v.items ≡ slice_split (nat_eq 10) text.now) }
 {
     text.split(|octet| b'\n' == *octet).collect(alloc)
 }
 
-/// The part without a carriage return at its end.
-fn without_return(part: &[u8]) -> &[u8]
+/// A part without a carriage return at its end.
+pub fn without_return(part: &[u8]) -> &[u8]
     ensures { result.now ≡ lines.without_return part.now }
 {
     match part.len() {
@@ -134,6 +134,6 @@ fn unfolded(alloc: Global, parts: &[&[u8]]) -> Result<Vec<Line>, AllocError>
 pub fn lines_of(alloc: Global, text: &[u8]) -> Result<Vec<Line>, AllocError>
     ensures { IfOk result (λ v. v.items ≡ lines.lines_of text.now) }
 {
-    let parts = fed(alloc, text)?;
+    let parts = line_parts(alloc, text)?;
     unfolded(alloc, parts.as_slice())
 }

@@ -6,10 +6,10 @@ ghost use Rattle.ldif.specs.Reading as specs;
 ghost use Rattle.ldif.specs.Said.{said_of};
 ghost use Rattle.ldif.specs.Faults.{IsLineFault};
 
-use crate::describing::is_same_word;
 use crate::fault::LdifError;
 use crate::record::{AttributeValue, Record};
 use crate::saying::Said;
+use ldap_syntax::is_same_word;
 use std::alloc::{AllocError, Global};
 use std::marker::Model;
 

@@ -118,7 +118,7 @@ fn value_said(
 ) -> Result<Said, AllocError>
     ensures { IfOk result (λ s. said_of s ≡ says.value_says in_base64 word.now octets.items) }
 {
-    if !is_type(alloc, word)? {
+    if !is_type(word) {
         return Ok(Said::Wrong);
     }
     match text_of(word) {

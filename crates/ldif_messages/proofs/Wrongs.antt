@@ -1,5 +1,5 @@
 -- LDIF and messages: what is wrong with messages is no matter of hex.
-use Rattle.std.proofs.Common.{◌≡◌, ℕ, List, [], ◌∷◌, Bool, true, false, cond, nat_eq, Option, Some, None}
+use Rattle.std.proofs.Common.{◌≡◌, ℕ, List, [], ◌∷◌, Bool, true, false, cond, nat_eq, Some}
 use Rattle.ldif_messages.specs.declared.meant.Meant.{Meant}
 use Rattle.ldif_messages.specs.declared.meant.Meant.TheVariants.{Entry, Done, Other}
 use Rattle.ldif_messages.specs.declared.fault.ExportError.{ExportError}

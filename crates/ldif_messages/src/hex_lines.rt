@@ -1,16 +1,16 @@
 //! LDIF and messages: lines of hex.
 //! In: octets, or a text. Out: their line, or the octets that lines spell. Not here: what messages mean.
 
-ghost use Rattle.std.specs.Prelude.{◌≡◌, ◌++◌, ℕ, List, Result, map, nat_eq, string_bytes, IfOk, IfErr, OnOk, OnErr};
+ghost use Rattle.std.specs.Prelude.{◌≡◌, ◌++◌, ℕ, List, Result, map, string_bytes, IfOk, IfErr, OnOk, OnErr};
 ghost use Rattle.std.specs.Option.{option_map};
 ghost use Rattle.std.specs.Result.{result_ok};
-ghost use Rattle.std.specs.List.{slice_split};
 ghost use Rattle.hex.specs.Hex.{decode_of};
 ghost use Rattle.ldif.specs.Lines as lines;
 ghost use Rattle.ldif_messages.specs.HexLines as specs;
 ghost use Rattle.ldif_messages.specs.HexFaults.{IsHexFault, IsLineFault};
 
 use crate::fault::ExportError;
+use ldif::{line_parts, without_return};
 use std::alloc::{AllocError, Global};
 
 /// Octets as a line of lower-case hex.
@@ -30,29 +30,6 @@ pub fn put_hex_line(alloc: Global, octets: &[u8], out: &mut Vec<u8>) -> Result<(
     let line = line_of(alloc, octets)?;
     out.extend_from_slice(line.as_bytes())?;
     Ok(())
-}
-
-/// The parts of the text that line feeds part.
-fn fed(alloc: Global, text: &[u8]) -> Result<Vec<&[u8]>, AllocError>
-    ensures { IfOk result (λ v. map (λ x. x.now) v.items ≡ slice_split (nat_eq 10) text.now) }
-{
-    text.split(|octet| b'\n' == *octet).collect(alloc)
-}
-
-/// The part without a carriage return at its end.
-fn without_return(part: &[u8]) -> &[u8]
-    ensures { result.now ≡ lines.without_return part.now }
-{
-    match part.len() {
-        0 => part,
-        length => {
-            if part[length - 1] == b'\r' {
-                &part[..length - 1]
-            } else {
-                part
-            }
-        }
-    }
 }
 
 /// The octets that a line spells; none, where it is no hex.
@@ -106,6 +83,6 @@ pub fn octets_of_lines(alloc: Global, text: &[u8]) -> Result<Vec<Vec<u8>>, Expor
     ensures found { IfOk result (λ v. specs.octets_of_lines text.now ≡ Ok (map (λ x. x.items) v.items)) }
     ensures refused { IfErr result (λ e. IsHexFault e text.now) }
 {
-    let parts = fed(alloc, text)?;
+    let parts = line_parts(alloc, text)?;
     octets_of_all(alloc, parts.as_slice())
 }

@@ -15,15 +15,15 @@ use ldif::{AttributeValue, Record, is_type};
 use std::alloc::{AllocError, Global};
 
 /// Whether the type of each line may stand in LDIF.
-fn are_writable(alloc: Global, values: &[AttributeValue]) -> Result<bool, AllocError>
-    ensures { IfOk result (λ b. b ≡ list_all exports.is_writable values.now) }
+fn are_writable(values: &[AttributeValue]) -> bool
+    ensures { result ≡ list_all exports.is_writable values.now }
 {
     for value in values {
-        if !is_type(alloc, value.description().as_bytes())? {
-            return Ok(false);
+        if !is_type(value.description().as_bytes()) {
+            return false;
         }
     }
-    Ok(true)
+    true
 }
 
 /// What an entry means.
@@ -31,7 +31,7 @@ fn meant_by_entry(alloc: Global, entry: &SearchResultEntry) -> Result<Meant, All
     ensures { IfOk result (λ m. m ≡ exports.if_writable (record_of_entry (entry_view entry.now))) }
 {
     let item = record_of(alloc, entry)?;
-    if are_writable(alloc, item.values())? {
+    if are_writable(item.values()) {
         Ok(Meant::Entry(item))
     } else {
         Ok(Meant::Other)

@@ -1,4 +1,3 @@
-pub mod Digits
 pub mod Colons
 pub mod Given
 pub mod EntryLists

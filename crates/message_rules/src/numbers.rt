@@ -1,44 +1,11 @@
 //! Numbers as text. Octets flow in; numbers flow out. What names them is not here.
-ghost use Rattle.std.specs.Prelude.{◌≡◌, ◌+◌, ◌≤◌, length, take, drop, IfSome};
-ghost use Rattle.message_rules.specs.Numbers.{greatest, with_digit, number_of_digits, is_padded, number_of, positive_of, before_colon, behind_colon, pair_of};
+ghost use Rattle.std.specs.Prelude.{◌≡◌, ◌+◌, ◌≤◌, length, take, drop};
+ghost use Rattle.message_rules.specs.Numbers.{is_padded, number_of, positive_of, before_colon, behind_colon, pair_of};
+
+use dir_tree::number_of_digits;
 
 /// The greatest number that is named.
 pub const GREATEST: u64 = 9223372036854775807;
-
-/// A number with one more digit.
-fn with_digit(number: u64, octet: u8) -> Option<u64>
-    requires { number ≤ greatest }
-    ensures longer { result ≡ with_digit number octet }
-    ensures small { IfSome result (λ longer. longer ≤ greatest) }
-{
-    if !octet.is_ascii_digit() {
-        return None;
-    }
-    let digit = u64::from(octet) - 48;
-    if number <= (9223372036854775807 - digit) / 10 {
-        Some(10 * number + digit)
-    } else {
-        None
-    }
-}
-
-/// The number that digits write, a leading zero or not.
-#[tactic(auto, using(crate::proofs::Digits::digit_more, crate::proofs::Digits::number_is))]
-fn number_of_digits(text: &[u8]) -> Option<u64>
-    ensures { result ≡ number_of_digits text.now }
-{
-    if text.is_empty() {
-        return None;
-    }
-    let mut number = 0;
-    for octet in text {
-        match with_digit(number, *octet) {
-            Some(longer) => number = longer,
-            None => return None,
-        }
-    }
-    Some(number)
-}
 
 /// Whether a text begins with a zero that other octets follow.
 fn is_padded(text: &[u8]) -> bool

@@ -60,9 +60,6 @@ line_more p xs i x o new all lt is put so_far =
     ∙ ap (λ (ys : List DescriptionModel). first_line p ys o) (sym (opened xs i x lt is))
     ∙ so_far
 
-pub lines_done : (p : DescriptionModel → Bool) (rest : List DescriptionModel) (o all : Option ℕ) → rest ≡ [] → first_line p rest o ≡ all → o ≡ all
-lines_done p rest o all e h = ap (λ (ys : List DescriptionModel). first_line p ys o) (sym e) ∙ h
-
 -- whether the first line is before another
 or_nothing : (a b : Bool) → a ≡ (a || (b && false))
 or_nothing true b = refl

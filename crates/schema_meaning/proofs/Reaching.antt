@@ -1,6 +1,6 @@
 -- What a table of what is in effect tells of types is so, and where it tells nothing new it has all. Lists flow in and out; no value of
 -- the program is here.
-use Rattle.std.proofs.Common.{ℕ, ◌<◌, ◌≤◌, zero, suc, List, [], ◌∷◌, Option, None, Some, is_some, ◌≡◌, ◌⊎◌, inl, inr, refl, ap, sym, ◌∙◌, length, set, slice_get, arith}
+use Rattle.std.proofs.Common.{ℕ, ◌<◌, ◌≤◌, zero, suc, List, [], ◌∷◌, Option, None, Some, ◌≡◌, ◌⊎◌, inl, inr, refl, ap, sym, ◌∙◌, length, set, slice_get, arith}
 use Rattle.std.proofs.Math.ListN.{length-set}
 use Rattle.std.proofs.lemmas.Option.{slice_get_past}
 use Rattle.std.proofs.lemmas.Bool.{cases_lt}
@@ -8,14 +8,9 @@ use Rattle.schema_text.specs.Descriptions.{DescriptionModel}
 use Rattle.schema_meaning.specs.declared.inheriting.Way.{Way}
 use Rattle.schema_meaning.specs.declared.inheriting.Way.TheVariants.{Ends, IsLost, GoesTo}
 use Rattle.schema_meaning.specs.declared.inheriting.Effect.{Effect}
-use Rattle.schema_meaning.specs.Inheriting.{way_from, way_of, lineage, effect_of, effect_along, has_lineage, own_at}
-use Rattle.schema_meaning.specs.Settling.{settled, settled_by, settled_under, settled_within, gone_on, effect_at, effect_in, effect_by, new_if, new_effect, Knows, HasAll}
-use Rattle.schema_meaning.proofs.Settling.{settled_is, settled_step, not_above, none_some}
-
--- what a table tells of a type is so
-under_told : (types : List DescriptionModel) (t : ℕ) (o p : Option Effect) (e : Effect) → ((d : Effect) → o ≡ Some d → p ≡ Some d) → settled_under types t o ≡ Some e → settled_under types t p ≡ Some e
-under_told types t None p e s h = absurd (none_some h)
-under_told types t (Some d) p e s h = ap (settled_under types t) (s d refl) ∙ h
+use Rattle.schema_meaning.specs.Inheriting.{way_from, way_of, own_at}
+use Rattle.schema_meaning.specs.Settling.{settled, settled_under, settled_within, gone_on, effect_at, effect_in, effect_by, new_if, new_effect, Knows, HasAll}
+use Rattle.schema_meaning.proofs.Settling.{settled_is, settled_step, not_above, none_some, under_later as under_told}
 
 told_by : (types : List DescriptionModel) (table : List (Option Effect)) (t : ℕ) (w : Way) (e : Effect) → Knows types table → gone_on types t w (effect_at table) ≡ Some e → gone_on types t w (settled types) ≡ Some e
 told_by types table t Ends e k h = h
@@ -123,17 +118,3 @@ has_all types table k n = record {
 abbrev pub or_own : List DescriptionModel → ℕ → Option Effect → Effect
 or_own types t None = own_at types t
 or_own types t (Some e) = e
-
-own_or : (types : List DescriptionModel) (t : ℕ) (o : Option (List ℕ)) → or_own types t (settled_by types o) ≡ effect_along types t o
-own_or types t None = refl
-own_or types t (Some chain) = refl
-
-ends_or : (types : List DescriptionModel) (o : Option (List ℕ)) → is_some (settled_by types o) ≡ is_some o
-ends_or types None = refl
-ends_or types (Some chain) = refl
-
-pub effect_is : (types : List DescriptionModel) (table : List (Option Effect)) (t : ℕ) → HasAll types table → or_own types t (effect_at table t) ≡ effect_of types t
-effect_is types table t h = ap (or_own types t) (sym (h.all t)) ∙ own_or types t (lineage types t)
-
-pub ends_is : (types : List DescriptionModel) (table : List (Option Effect)) (t : ℕ) → HasAll types table → is_some (effect_at table t) ≡ has_lineage types t
-ends_is types table t h = ap is_some (sym (h.all t)) ∙ ends_or types (lineage types t)

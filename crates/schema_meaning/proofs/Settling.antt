@@ -48,7 +48,7 @@ settled_is types t = lineage_down types [] t types ∙ none_above types (settled
 pub none_some : {A : Type 0} {x : A} → None ≡ Some x → ⊥
 none_some h = cc
 
-under_later : (types : List DescriptionModel) (t : ℕ) (o p : Option Effect) (e : Effect) → ((d : Effect) → o ≡ Some d → p ≡ Some d) → settled_under types t o ≡ Some e → settled_under types t p ≡ Some e
+pub under_later : (types : List DescriptionModel) (t : ℕ) (o p : Option Effect) (e : Effect) → ((d : Effect) → o ≡ Some d → p ≡ Some d) → settled_under types t o ≡ Some e → settled_under types t p ≡ Some e
 under_later types t None p e s h = absurd (none_some h)
 under_later types t (Some d) p e s h = ap (settled_under types t) (s d refl) ∙ h
 

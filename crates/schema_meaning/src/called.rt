@@ -8,9 +8,9 @@ ghost use Rattle.schema_meaning.specs.Octets.{number_at, kept_or, has_folded, fo
 ghost use Rattle.schema_meaning.specs.Naming as naming;
 
 use crate::naming::names;
-use crate::octets::{Numbers, keep, lower_case, number_of};
+use crate::octets::{Numbers, keep, number_of};
 use crate::ordered::Ordered;
-use schema_text::Description;
+use schema_text::{Description, lower_case};
 use std::alloc::{AllocError, Global};
 use std::collections::BTreeMap;
 use std::marker::Model;

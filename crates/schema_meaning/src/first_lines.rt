@@ -12,8 +12,8 @@ ghost use Rattle.schema_meaning.specs.Faults.{earlier_of};
 ghost use Rattle.schema_meaning.specs.FirstLines.{noted, first_line, is_less as is_line_less};
 
 use crate::naming::names;
-use crate::octets::{Numbers, lower_case, number_of, put};
-use schema_text::{Description, SchemaText};
+use crate::octets::{Numbers, number_of, put};
+use schema_text::{Description, SchemaText, lower_case};
 use std::alloc::{AllocError, Global};
 use std::collections::BTreeMap;
 use std::marker::Model;

@@ -1,25 +1,15 @@
 // Numbers that are kept at octets. Octets and numbers flow in, numbers flow out, in as many steps as a logarithm of their count.
 // What must not be here: descriptions, what a number stands for.
 
-ghost use Rattle.std.specs.Prelude.{◌≡◌, ℕ, List, Some, cond, map, IfOk, OnOk};
-ghost use Rattle.std.specs.Char.{to_ascii_lowercase};
+ghost use Rattle.std.specs.Prelude.{◌≡◌, ℕ, List, Some, cond, OnOk};
 ghost use Rattle.std.specs.Str.{bytes_eq};
 ghost use Rattle.schema_meaning.specs.Octets.{number_at, kept_or};
 
-use std::alloc::{AllocError, Global};
+use std::alloc::AllocError;
 use std::collections::BTreeMap;
 
 /// Numbers by octets.
 pub type Numbers = BTreeMap<Vec<u8>, usize>;
-
-/// The octets with letters in lower case.
-pub fn lower_case(alloc: Global, name: &[u8]) -> Result<Vec<u8>, AllocError>
-    ensures { IfOk result (λ v. v.items ≡ map to_ascii_lowercase name.now) }
-{
-    name.iter()
-        .map(|octet| octet.to_ascii_lowercase())
-        .collect(alloc)
-}
 
 /// The number of these octets.
 pub fn number_of(numbers: &Numbers, octets: &[u8]) -> Option<usize>

@@ -4,35 +4,12 @@
 
 ghost use Rattle.std.specs.Prelude.{◌≡◌, map, IfOk};
 ghost use Rattle.std.specs.Char.{to_ascii_lowercase};
-ghost use Rattle.schema_meaning.specs.Octets.{number_at, order};
+ghost use Rattle.schema_meaning.specs.Octets.{number_at};
 
 use crate::octets::Numbers;
+use schema_text::compare_folded;
 use std::alloc::{AllocError, Global};
-use std::cmp::Ordering;
 use std::marker::Model;
-
-/// The kept octets against the asked ones in lower case.
-fn compare_folded(kept: &[u8], asked: &[u8]) -> Ordering
-    ensures { result ≡ order kept.now (map to_ascii_lowercase asked.now) }
-{
-    let mut rest = asked;
-    for octet in kept {
-        match rest.split_first() {
-            Some((first, behind)) => {
-                match octet.cmp(&first.to_ascii_lowercase()) {
-                    Ordering::Equal => rest = behind,
-                    unequal => return unequal,
-                }
-            }
-            None => return Ordering::Greater,
-        }
-    }
-    if rest.is_empty() {
-        Ordering::Equal
-    } else {
-        Ordering::Less
-    }
-}
 
 /// Octets in order, each with a number.
 #[derive(Drop)]

@@ -68,7 +68,7 @@ filled_all p classes (suc k) i have up h =
 itself_or : (x : ℕ) (b : Bool) → (nat_eq x x || b) ≡ true
 itself_or x b = let e : nat_eq x x ≡ true = grind (arith, nat_tests) in ap (λ (a : Bool). a || b) e
 
-behind_or : (a b : Bool) → b ≡ true → (a || b) ≡ true
+pub behind_or : (a b : Bool) → b ≡ true → (a || b) ≡ true
 behind_or true b h = refl
 behind_or false b h = h
 
@@ -105,9 +105,6 @@ off_loop classes ranks n c direct b r same directs tells is =
     not_looping classes ranks c r (sym (ap (list_all (λ u. nat_lt (rank_in ranks u) (rank_in ranks c))) directs) ∙ sym tells ∙ is) ∙ ap (is_class_looping classes) same
 
 -- without ranks
-
-pub none_falling : (classes : List ClassModel) → IsFalling classes []
-none_falling classes c u m = omega arith
 
 -- the test of ranks, a class at a time
 

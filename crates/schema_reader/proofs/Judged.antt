@@ -1,5 +1,5 @@
 -- What follows where nothing is wrong with a text. Facts on lists flow in and out; no value of the program is here.
-use Rattle.std.proofs.Common.{ℕ, ◌+◌, ◌<◌, zero, suc, List, [], ◌∷◌, Bool, true, false, cond, ◌&&◌, Option, None, Some, is_some, Ok, Err, ◌≡◌, refl, ap, sym, subst, ◌∙◌, length, map, nat_lt, arith, codes}
+use Rattle.std.proofs.Common.{ℕ, ◌+◌, ◌<◌, zero, suc, List, [], ◌∷◌, Bool, true, false, cond, ◌&&◌, Option, None, Some, is_some, ◌≡◌, refl, ap, subst, ◌∙◌, length, map, nat_lt, arith, codes}
 use Rattle.std.specs.List.{list_all, position_from, slice_get}
 use Rattle.std.proofs.lemmas.List.{length-map}
 use Rattle.std.proofs.lemmas.Bool.Decides.{nat_tests}
@@ -16,10 +16,10 @@ use Rattle.ldap_schema.specs.Schema.{TypeModel, ClassModel, SchemaModel, IsLoopl
 use Rattle.ldap_schema.specs.Schema as schema
 use Rattle.ldap_schema.specs.Superclasses.{has_known_superclasses, AreSuperclassesKnown}
 use Rattle.ldap_schema.specs.ObjectClassType.{IsObjectClassType, identifier_rule}
-use Rattle.schema_reader.specs.Described.{types_from, with_number, numbers_of, class_of, schema_of}
-use Rattle.schema_reader.specs.Reading.{is_identifier_on, is_identifier_rule, has_identifier_rule, object_class_found, object_class_in, required_in, is_type_looping, is_class_looping, loop_line, no_equality_line, refused_at, loop_fault, unknown_of, fault_of, IsFaultOf, unless_refused, schema_of_lines, IsRefusalOf}
+use Rattle.schema_reader.specs.Described.{types_from, with_number, numbers_of, class_of}
+use Rattle.schema_reader.specs.Reading.{is_identifier_on, is_identifier_rule, has_identifier_rule, object_class_found, object_class_in, required_in, is_type_looping, is_class_looping, loop_line, no_equality_line, refused_at, loop_fault, unknown_of, fault_of}
 use Rattle.schema_reader.specs.declared.error.SchemaError.{SchemaError}
-use Rattle.schema_reader.specs.declared.error.SchemaError.TheVariants.{BadDescription, UnknownName, LoopInSup, NoEquality, NoMemory}
+use Rattle.schema_reader.specs.declared.error.SchemaError.TheVariants.{BadDescription, UnknownName, LoopInSup, NoEquality}
 use Rattle.schema_reader.proofs.Loops.{loopless_from}
 
 false_true : false ≡ true → ⊥
@@ -148,21 +148,6 @@ with_top false o t h = absurd (none_some h)
 
 pub object_class_of : (m : SchemaModel) (t : ℕ) → required_in m ≡ Some t → IsObjectClassType m t
 object_class_of m t h = found_by m (schema.find m (codes "objectClass")) t refl (with_top (is_some (schema.class_named m (codes "top"))) (object_class_in m.types) t h)
-
--- the schema, or the refusal
-pub schema_is : (text : SchemaTextModel) (m : SchemaModel) → m ≡ schema_of text → fault_of text m ≡ None → schema_of_lines text ≡ Ok m
-schema_is text m e h =
-    ap (λ (x : SchemaModel). unless_refused x (fault_of text x)) (sym e) ∙ ap (unless_refused m) h
-
-refusal_by : (text : SchemaTextModel) (m : SchemaModel) (x : SchemaError) → m ≡ schema_of text → fault_of text m ≡ Some x → schema_of_lines text ≡ Err x
-refusal_by text m x e h = ap (λ (y : SchemaModel). unless_refused y (fault_of text y)) (sym e) ∙ ap (unless_refused m) h
-
-pub refusal_is : (text : SchemaTextModel) (m : SchemaModel) (x : SchemaError) → m ≡ schema_of text → IsFaultOf (fault_of text m) x → IsRefusalOf (schema_of_lines text) x
-refusal_is text m (BadDescription n) e h = refusal_by text m (BadDescription n) e h
-refusal_is text m (UnknownName n) e h = refusal_by text m (UnknownName n) e h
-refusal_is text m (LoopInSup n) e h = refusal_by text m (LoopInSup n) e h
-refusal_is text m (NoEquality n) e h = refusal_by text m (NoEquality n) e h
-refusal_is text m NoMemory e h = tt
 
 -- the schema of these types and classes
 abbrev pub model : List TypeModel → List ClassModel → SchemaModel

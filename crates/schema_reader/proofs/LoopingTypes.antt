@@ -11,6 +11,7 @@ use Rattle.ldap_schema.specs.Schema.{TypeModel, led, if_led, superior_of, superi
 use Rattle.schema_reader.specs.Reading.{is_type_looping}
 use Rattle.schema_reader.specs.Looping.{then_up, up, step_at, doubled, IsUp, IsUpBut, marked, all_marked, has_mark}
 use Rattle.schema_reader.proofs.Loops.{false_true, none_some, or_cases, same_number, within, len, below, begun, apart, one_distinct}
+use Rattle.schema_reader.proofs.FallingClasses.{behind_or as or_two}
 
 some_same : {A : Type 0} {x y : A} → Some x ≡ Some y → x ≡ y
 some_same h = cc
@@ -92,10 +93,6 @@ eq_itself a b e = grind (arith, nat_tests, e)
 or_one : (a b : Bool) → a ≡ true → (a || b) ≡ true
 or_one true b h = refl
 or_one false b h = absurd (false_true h)
-
-or_two : (a b : Bool) → b ≡ true → (a || b) ≡ true
-or_two true b h = refl
-or_two false b h = h
 
 among_by : (ts : List TypeModel) (k b j : ℕ) (o : Option ℕ) → ((u : ℕ) (i : ℕ) → i < k → up ts (suc i) u ≡ Some b → list_any (λ x. nat_eq x b) (superiors k ts u) ≡ true) → j < suc k → then_up o (λ u. up ts j u) ≡ Some b → list_any (λ x. nat_eq x b) (led o (λ u. superiors k ts u)) ≡ true
 among_by ts k b j None f lt h = absurd (none_some h)

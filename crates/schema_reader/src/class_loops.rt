@@ -11,19 +11,11 @@ ghost use Rattle.schema_reader.specs.Reading as reading;
 ghost use Rattle.schema_reader.specs.Falling.{IsFalling};
 
 use crate::ranking::ranks_of;
-use ldap_schema::{ClassId, ObjectClass, is_class_among, superclasses_of, with_superclasses};
+use ldap_schema::{
+    ClassId, ObjectClass, is_class_among, rank_of, superclasses_of, with_superclasses,
+};
 use schema_meaning::Description;
 use std::alloc::{AllocError, Global};
-
-/// The rank of a class; 0, where it has none.
-fn rank_of(ranks: &[usize], class: ClassId) -> usize
-    ensures { result ≡ rank_in ranks.now class }
-{
-    match ranks.get(class.number()) {
-        Some(rank) => *rank,
-        None => 0,
-    }
-}
 
 /// Whether none of these has a greater rank than a class.
 fn is_none_higher(ranks: &[usize], class: ClassId, superclasses: &[ClassId]) -> bool

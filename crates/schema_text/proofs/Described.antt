@@ -11,7 +11,7 @@ use Rattle.schema_text.specs.Grammar.{IsSpaced, AreFields, no_field, a_flag, a_f
 use Rattle.schema_text.specs.declared.token.Token.{Token}
 use Rattle.schema_text.specs.declared.keyword.Section.{Section}
 use Rattle.schema_text.specs.declared.keyword.Keyword.{Keyword}
-use Rattle.schema_text.proofs.Spelled.{tokens_spelled}
+use Rattle.schema_text.proofs.Spelled.{tokens_spelled, push_onto, and_one, and_two}
 use Rattle.schema_text.specs.Spelling.{IsSpelled}
 use Rattle.schema_text.proofs.Spaced.{spaced_cut, cut_spaced}
 use Rattle.std.specs.Option.{option_and_then}
@@ -21,10 +21,6 @@ none_some h = cc
 
 some_same : {A : Type 0} {x y : A} → Some x ≡ Some y → x ≡ y
 some_same h = cc
-
-push_onto : {A : Type 0} (xs : List A) (y : A) (ys : List A) → (xs ++ y ∷ []) ++ ys ≡ xs ++ y ∷ ys
-push_onto [] y ys = refl
-push_onto (x ∷ xs) y ys = ap (λ l. x ∷ l) (push_onto xs y ys)
 
 abbrev made : ℕ → List ℕ → List FieldModel → DescriptionModel
 made n oid fs = record { line = n; oid = oid; fields = fs }
@@ -110,14 +106,6 @@ last_at (suc n) (c ∷ cs) x e l = ap (λ (ys : List ℕ). c ∷ ys) (last_at n 
 octet_at : (o : Option ℕ) → is_octet 41 o ≡ true → o ≡ Some 41
 octet_at None h = absurd (cc)
 octet_at (Some x) h = ap Some (eqb-true x 41 h)
-
-and_one : (a b : Bool) → (a && b) ≡ true → a ≡ true
-and_one true b h = refl
-and_one false b h = h
-
-and_two : (a b : Bool) → (a && b) ≡ true → b ≡ true
-and_two true b h = h
-and_two false b h = absurd (cc)
 
 long : (c : ℕ) (cs : List ℕ) → length (c ∷ cs) ≡ suc (length (c ∷ cs) - 1)
 long c cs = omega arith

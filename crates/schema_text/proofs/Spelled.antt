@@ -16,7 +16,7 @@ none_some h = cc
 some_same : {A : Type 0} {x y : A} → Some x ≡ Some y → x ≡ y
 some_same h = cc
 
-push_onto : {A : Type 0} (xs : List A) (y : A) (ys : List A) → (xs ++ y ∷ []) ++ ys ≡ xs ++ y ∷ ys
+pub push_onto : {A : Type 0} (xs : List A) (y : A) (ys : List A) → (xs ++ y ∷ []) ++ ys ≡ xs ++ y ∷ ys
 push_onto [] y ys = refl
 push_onto (x ∷ xs) y ys = ap (λ l. x ∷ l) (push_onto xs y ys)
 
@@ -120,11 +120,11 @@ no_half : (x : Bool) (P : Type 0) (b : Bool) (acc : List Token) (d : ℕ) (us : 
 no_half true P b acc d us e = absurd (none_some e)
 no_half false P b acc d us e = absurd (none_some e)
 
-and_one : (a b : Bool) → (a && b) ≡ true → a ≡ true
+pub and_one : (a b : Bool) → (a && b) ≡ true → a ≡ true
 and_one true b h = refl
 and_one false b h = h
 
-and_two : (a b : Bool) → (a && b) ≡ true → b ≡ true
+pub and_two : (a b : Bool) → (a && b) ≡ true → b ≡ true
 and_two true b h = h
 and_two false b h = absurd (cc)
 

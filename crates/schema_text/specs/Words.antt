@@ -1,18 +1,9 @@
 -- The words of a description: RFC 4512 1.4. Octets flow in, a yes or no flows out; spaces, quotes and fields are not here.
 use Rattle.std.specs.Prelude.{ℕ, ◌+◌, ◌-◌, List, [], ◌∷◌, length, take, drop, position, slice_get, Bool, false, cond, ◌&&◌, ◌||◌, Option, None, Some, nat_eq, nat_lt}
-use Rattle.std.specs.List.{list_all, slice_split}
+use Rattle.std.specs.List.{list_all}
+pub use Rattle.ldap_syntax.specs.Identifiers.{is_numericoid}
 pub use Rattle.ldap_syntax.specs.Numbers.{is_digit, is_number}
-pub use Rattle.ldap_syntax.specs.Words.{is_same_word, is_alpha, is_key_octet, is_descr}
-
--- numericoid: numbers with dots between them, two at least (RFC 4512 1.4)
-abbrev pub is_numericoid : List ℕ → Bool
-is_numericoid word =
-    let numbers = slice_split (nat_eq 46) word in
-    nat_lt 1 (length numbers) && list_all is_number numbers
-
--- oid: a descr or a numericoid (RFC 4512 1.4)
-abbrev pub is_oid : List ℕ → Bool
-is_oid word = is_descr word || is_numericoid word
+pub use Rattle.ldap_syntax.specs.Words.{is_same_word, is_alpha, is_key_octet, is_descr, is_oid}
 
 abbrev pub is_octet : ℕ → Option ℕ → Bool
 is_octet c None = false

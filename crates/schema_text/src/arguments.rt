@@ -10,7 +10,8 @@ use crate::pieces::{
     alternatives, are_inner, are_outer, are_quoted, between_quotes, listed, octets, pieces, trimmed,
 };
 use crate::token::Token;
-use crate::words::{bounded_oid, is_descr, is_oid, is_same_word};
+use crate::words::bounded_oid;
+use ldap_syntax::{is_descr, is_oid, is_same_word};
 use std::alloc::{AllocError, Global};
 
 /// The text of tokens between quotes.
@@ -68,13 +69,13 @@ pub fn word(alloc: Global, tokens: &[Token]) -> Result<Option<Vec<u8>>, AllocErr
 }
 
 /// The word, if it is a name or an object identifier.
-fn oid_if(alloc: Global, word: Vec<u8>) -> Result<Option<Vec<u8>>, AllocError>
-    ensures { IfOk result (λ o. option_map (λ v. v.items) o ≡ arguments.oid_if word.items) }
+fn oid_if(word: Vec<u8>) -> Option<Vec<u8>>
+    ensures { option_map (λ v. v.items) result ≡ arguments.oid_if word.items }
 {
-    if is_oid(alloc, word.as_slice())? {
-        Ok(Some(word))
+    if is_oid(word.as_slice()) {
+        Some(word)
     } else {
-        Ok(None)
+        None
     }
 }
 
@@ -83,7 +84,7 @@ fn oid(alloc: Global, tokens: &[Token]) -> Result<Option<Vec<u8>>, AllocError>
     ensures { IfOk result (λ o. option_map (λ v. v.items) o ≡ arguments.oid_of tokens.now) }
 {
     match word(alloc, tokens)? {
-        Some(word) => oid_if(alloc, word),
+        Some(word) => Ok(oid_if(word)),
         None => Ok(None),
     }
 }
@@ -94,7 +95,7 @@ fn inner_oid(alloc: Global, tokens: &[Token]) -> Result<Option<Vec<u8>>, AllocEr
 {
     let word = trimmed(tokens);
     if are_inner(word) {
-        oid_if(alloc, octets(alloc, word)?)
+        Ok(oid_if(octets(alloc, word)?))
     } else {
         Ok(None)
     }
@@ -191,7 +192,7 @@ fn bounded(alloc: Global, tokens: &[Token]) -> Result<Option<Vec<u8>>, AllocErro
     let Some(word) = word(alloc, tokens)? else {
         return Ok(None);
     };
-    match bounded_oid(alloc, word.as_slice())? {
+    match bounded_oid(word.as_slice()) {
         Some(oid) => Ok(Some(Vec::from_slice(alloc, oid)?)),
         None => Ok(None),
     }

@@ -11,7 +11,8 @@ use crate::keyword::{Keyword, Section, Shape, keyword_of, may_follow, place, sha
 use crate::pieces::pieces;
 use crate::scanning::tokens;
 use crate::token::Token;
-use crate::words::{ends_with, is_numericoid};
+use crate::words::ends_with;
+use ldap_syntax::is_numericoid;
 use std::alloc::{AllocError, Global};
 
 /// The keyword that the tokens are.
@@ -136,7 +137,7 @@ fn numericoid(alloc: Global, tokens: &[Token]) -> Result<Option<Vec<u8>>, AllocE
     let Some(word) = word(alloc, tokens)? else {
         return Ok(None);
     };
-    if is_numericoid(alloc, word.as_slice())? {
+    if is_numericoid(word.as_slice()) {
         Ok(Some(word))
     } else {
         Ok(None)

@@ -1,7 +1,7 @@
 // A schema's text, line by line. Octets flow in; descriptions, and the first line that is none, flow out.
 // What must not be here: the words of a description, what descriptions mean together.
 
-ghost use Rattle.std.specs.Prelude.{◌≡◌, ◌-◌, ◌+◌, length, map, take, drop, nat_eq, IfOk, OnOk};
+ghost use Rattle.std.specs.Prelude.{◌≡◌, ◌-◌, ◌+◌, map, take, drop, nat_eq, IfOk, OnOk};
 ghost use Rattle.std.specs.List.{slice_split};
 ghost use Rattle.schema_text.specs.Texts as texts;
 ghost use Rattle.schema_text.specs.declared.keyword.Section.TheVariants.{AttributeTypes, ObjectClasses};
@@ -9,7 +9,8 @@ ghost use Rattle.schema_text.specs.declared.keyword.Section.TheVariants.{Attribu
 use crate::description::Description;
 use crate::fields::description;
 use crate::keyword::Section;
-use crate::words::{ends_with, is_same_word};
+use crate::words::ends_with;
+use ldap_syntax::is_same_word;
 use std::alloc::{AllocError, Global};
 use std::marker::Model;
 
@@ -119,8 +120,8 @@ fn lines_of_parts<'a>(alloc: Global, parts: &[&'a [u8]]) -> Result<Vec<&'a [u8]>
     Ok(lines)
 }
 
-/// The lines of a text.
-fn lines(alloc: Global, text: &[u8]) -> Result<Vec<&[u8]>, AllocError>
+/// The lines of a text: each ends by LF or CRLF, the last one also where the text ends. Fails only for want of memory.
+pub fn lines(alloc: Global, text: &[u8]) -> Result<Vec<&[u8]>, AllocError>
     ensures { IfOk result (λ v. map (λ x. x.now) v.items ≡ texts.lines_of text.now) }
 {
     let parts = parts(alloc, text)?;
@@ -128,7 +129,7 @@ fn lines(alloc: Global, text: &[u8]) -> Result<Vec<&[u8]>, AllocError>
 }
 
 /// Whether the line is empty or a comment.
-fn is_skipped(line: &[u8]) -> bool
+pub fn is_skipped(line: &[u8]) -> bool
     ensures { result ≡ texts.is_skipped line.now }
 {
     match line {

@@ -1,15 +1,11 @@
 -- What no text writes. In: that a part of it writes none. Out: that all of it writes none. Code is not here.
-use Rattle.std.proofs.Common.{◌≡◌, ℕ, List, Option, Some, None, Result, Ok, sym, ap, ◌∙◌, subst}
+use Rattle.std.proofs.Common.{◌≡◌, ℕ, List, Some, None, Ok, ap, ◌∙◌, subst}
 use Rattle.hex.specs.Hex.{decode_of}
 use Rattle.ldif_messages.specs.ldap_msg.Messages.{MessageValue, SearchRequestValue}
 use Rattle.ldap_op.specs.Values.{OpValue}
 use Rattle.ldif_messages.specs.Exports.{IsWhole}
 use Rattle.script_texts.specs.Updates.{update_by, IsUpdateIn, IsHexText}
 use Rattle.script_texts.specs.Searches.{Parts, parts_of, IsSearchOf, IsSearchText}
-
--- Octets that are a message which asks for this update.
-pub update_is : (octets : List ℕ) (m : MessageValue) (op : OpValue) → IsWhole octets m → update_by m.op ≡ Some op → IsUpdateIn octets op
-update_is octets m op w a = record { message = m; whole = w; asks = a }
 
 -- Octets that are no message ask for nothing.
 pub no_message : (octets : List ℕ) (op : OpValue) → ((m : MessageValue) → IsWhole octets m → ⊥) → IsUpdateIn octets op → ⊥

@@ -1,17 +1,8 @@
 -- Worked rows. In: texts. Out: what they write, by computation. Nothing is proved over all texts here.
 use Rattle.std.proofs.Common.{◌≡◌, Some, None, codes, refl}
 use Rattle.ldif_messages.specs.ldap_msg.ldap_requests.declared.search.Scope.TheVariants.{SingleLevel}
-use Rattle.script_texts.specs.Cuts.{cut_pair}
-use Rattle.script_texts.specs.Updates.{line_in, kind_of, add_kind, no_kind}
+use Rattle.script_texts.specs.Updates.{line_in, kind_of, add_kind}
 use Rattle.script_texts.specs.Searches.{parts_of}
-
--- The value is all behind the first colon with a space, later ones too.
-value_with_colons : cut_pair (codes "sn: x: y ") ≡ Some (record { front = codes "sn"; behind = codes "x: y " })
-value_with_colons = refl
-
--- A colon without a space stands in a type.
-type_with_a_colon : cut_pair (codes "url:: z") ≡ Some (record { front = codes "url:"; behind = codes "z" })
-type_with_a_colon = refl
 
 -- A piece without a colon and a space is no line.
 no_line : line_in (codes "sn:x") ≡ None
@@ -24,6 +15,3 @@ bars = refl
 -- A text is cut at its first space alone.
 words : kind_of (codes "add cn=a b") ≡ add_kind (codes "cn=a b")
 words = refl
-
-noop_with_a_space : kind_of (codes "noop ") ≡ no_kind
-noop_with_a_space = refl

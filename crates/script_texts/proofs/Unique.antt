@@ -1,5 +1,5 @@
 -- A text writes one thing at most. In: two that it writes. Out: they are one. Code is not here.
-use Rattle.std.proofs.Common.{◌≡◌, ℕ, List, [], ◌++◌, Option, Some, None, Result, Ok, refl, sym, ap, ◌∙◌, subst}
+use Rattle.std.proofs.Common.{◌≡◌, ℕ, List, [], ◌++◌, Some, Ok, refl, sym, ap, ◌∙◌, subst}
 use Rattle.hex.specs.Hex.{decode_of}
 use Rattle.ldap_filter.specs.Tree.{Tree}
 use Rattle.filter_text_reader.specs.filter_text.Grammar.{IsFilterText}

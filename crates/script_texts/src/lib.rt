@@ -13,6 +13,7 @@ mod updates;
 
 pub use cutting::{Cut, cut_text};
 pub use fault::TextError;
+pub use filter_text_reader::number_of_digits;
 pub use laws::{one_search, one_update};
 pub use ldap_op::Op;
 pub use ldif_messages::SearchRequest;
