@@ -2,6 +2,7 @@ pub mod Bulk
 pub mod Ends
 pub mod Listed
 pub mod Marking
+pub mod Moved
 pub mod Narrowed
 pub mod Ranged
 pub mod Rising

@@ -1,5 +1,5 @@
 -- The lists of entries: which numbers are in them, and what they are after the entries change.
-use Rattle.std.proofs.Common.{◌≡◌, ℕ, ◌<◌, Bool, true, false, cond, not, List, [], ◌∷◌, ◌++◌, length, map, Result, Ok, Err, OnOk, OnErr, Some, refl, sym, ap, ◌∙◌, subst, nat_eq, arith, inl, inr}
+use Rattle.std.proofs.Common.{◌≡◌, ℕ, ◌<◌, Bool, true, false, cond, not, List, [], ◌∷◌, ◌++◌, length, map, Result, Ok, Err, OnOk, Some, refl, sym, ap, ◌∙◌, subst, nat_eq, arith, inl, inr}
 use Rattle.std.specs.Prelude.{◌&&◌, ◌||◌, ◌⊎◌}
 use Rattle.std.specs.List.{list_any, AllByRecursion, filter}
 use Rattle.std.proofs.lemmas.Bool.{cases_order, cases_eq, eqb-true, eq-eqb, ne_eqb, and_parts, and_from, or_cases, or_left, or_right}
@@ -12,15 +12,15 @@ use Rattle.index_choice.specs.Choice.{kinds_of}
 use Rattle.dir_index.specs.declared.posting.Posting.{Posting}
 use Rattle.dir_index.specs.declared.posting.Posting.TheVariants.{Present, Equal, Run}
 use Rattle.dir_index.specs.declared.posting.Range.{Range}
-use Rattle.dir_index.specs.Postings.{Indexed, has_number, IsRising, HaveTogether, numbers_where, is_of, some_key, in_range, has_in_range, is_kept, is_listed}
+use Rattle.dir_index.specs.Postings.{Indexed, Lists, has_number, IsRising, HaveTogether, numbers_where, is_of, some_key, in_range, has_in_range, is_kept, is_listed}
 use Rattle.dir_index.specs.Ordered.{is_same_posting}
 use Rattle.dir_index.specs.OrderLaws.{posting_equiv}
-use Rattle.dir_index.specs.Stored.{list_at, is_in}
+use Rattle.dir_index.specs.Stored.{list_at, is_in, AllRise}
 use Rattle.dir_index.specs.Marked.{is_marked, lists_entry}
 use Rattle.dir_index.specs.Columns.{column_at, is_ordered, is_posting_in, range_at}
 use Rattle.std.specs.Map.{lookup}
 use Rattle.dir_index.specs.Ranges.{lists_in}
-use Rattle.dir_index.specs.Whole.{PostingsModel, lists_of, IsWhole, ArePostingsOf, AreSameLists, AllBelow, HasEntry, IsAboveAll, IsHeld, without, with_attributes}
+use Rattle.dir_index.specs.Whole.{PostingsModel, lists_of, IsWhole, ArePostingsOf, AreOf, AreSameLists, AllBelow, HasEntry, IsAboveAll, IsHeld, IsUnder, IsMoved, without, with_attributes}
 use Rattle.dir_index.proofs.Rising.{none_above}
 use Rattle.dir_index.proofs.Rows.{one_posting}
 use Rattle.dir_index.proofs.Marking.{off, entry_lists}
@@ -139,10 +139,6 @@ found_below q n [] h = refl
 found_below q n (e ∷ es) h = ap (λ (b : Bool). (b && q e.entry) || found q n es) (ne_eqb n e.number (λ k. absurd (omega (arith, h.0)))) ∙ found_below q n es h.1
 
 -- ---- which entries there are after a change
-
-push_above : (x n : ℕ) (xs : List ℕ) → AllByRecursion (λ y. x < y) xs → x < n → AllByRecursion (λ y. x < y) (xs ++ n ∷ [])
-push_above x n [] h l = (l, tt)
-push_above x n (y ∷ ys) h l = (h.0, push_above x n ys h.1 l)
 
 pub push_rises : (n : ℕ) (a : List KeyedAttribute) (es : List Indexed) → IsRising (map (λ e. e.number) es) → AllBelow n es → IsRising (map (λ e. e.number) (es ++ record { number = n; entry = a } ∷ []))
 push_rises n a [] r h = (tt, tt)
@@ -317,21 +313,64 @@ ranged_entry ix e ps r h = one_way (list_any (is_posting_in r) ps) ((kinds_of ix
     (and_from (is_kept ix (Equal r.type_id w.0)) (some_key r.type_id (is_same_key w.0) e) (or_right (kinds_of ix r.type_id).equality (kinds_of ix r.type_id).ordering p.0) w.1) p.0)
     (and_from (nat_eq r.type_id r.type_id) (in_range r w.0) (eq-eqb r.type_id r.type_id refl) w.2))
 
--- ---- the whole
+-- ---- lists in which one number moved
 
--- what a change of the lists is, posting by posting
-abbrev pub IsChanged : List Kinds → List (Posting × List ℕ) → List (Posting × List ℕ) → ℕ → List KeyedAttribute → Type 0
-IsChanged ix old new n a = (p : Posting) (m : ℕ) → is_in new p m ≡ cond (nat_eq m n) (lists_entry ix a p) (is_in old p m)
+-- lists that rise and have the numbers of others, but for one number, which is in just those that pass
+pub record AreMoved (x y : Lists) (n : ℕ) (f : Posting → Bool) (g : Range → Bool) : Type 0 where
+  pub rise : (p : Posting) → IsRising (y.posting p)
+  pub rise_too : (r : Range) → IsRising (y.range r)
+  pub postings : (p : Posting) (k : ℕ) → has_number k (y.posting p) ≡ cond (nat_eq k n) (f p) (has_number k (x.posting p))
+  pub ranges : (r : Range) (k : ℕ) → has_number k (y.range r) ≡ cond (nat_eq k n) (g r) (has_number k (x.range r))
 
--- the lists of the entries after a change are the changed lists
-pub changed_lists : (ix : List Kinds) (ls ls' : List (Posting × List ℕ)) (cs cs' : List (ℕ × List Posting)) (n : ℕ) (a : List KeyedAttribute) (es es' : List Indexed)
-    → IsWhole ix ls cs → IsWhole ix ls' cs' → IsChanged ix ls ls' n a → ArePostingsOf (lists_of (record { indexes = ix; lists = ls; columns = cs })) ix es
-    → IsRising (map (λ e. e.number) es') → ((q : List KeyedAttribute → Bool) (m : ℕ) → q [] ≡ false → found q m es' ≡ cond (nat_eq m n) (q a) (found q m es))
-    → ArePostingsOf (lists_of (record { indexes = ix; lists = ls'; columns = cs' })) ix es'
-changed_lists ix ls ls' cs cs' n a es es' w w' h old up f = record {
+-- lists in which it moved alike are the same
+pub same_moved : {x y z : Lists} {n : ℕ} {f : Posting → Bool} {g : Range → Bool} → AreMoved x y n f g → AreMoved x z n f g → AreSameLists y z
+same_moved {x} {y} {z} a b = record {
+  postings = λ p. rising_same (y.posting p) (z.posting p) (a.rise p) (b.rise p) (λ k. a.postings p k ∙ sym (b.postings p k));
+  ranges = λ r. rising_same (y.range r) (z.range r) (a.rise_too r) (b.rise_too r) (λ k. a.ranges r k ∙ sym (b.ranges r k));
+}
+
+-- of two moves the second stands
+pub moved_again : {x y z : Lists} {n : ℕ} {f h : Posting → Bool} {g i : Range → Bool} → AreMoved x y n f g → AreMoved y z n h i → AreMoved x z n h i
+moved_again {x} {y} {z} {n} {f} {h} {g} {i} a b = record {
+  rise = b.rise;
+  rise_too = b.rise_too;
+  postings = λ p k. b.postings p k ∙ ap (λ (v : Bool). cond (nat_eq k n) (h p) v) (a.postings p k) ∙ twice (nat_eq k n) (h p) (f p) (has_number k (x.posting p));
+  ranges = λ r k. b.ranges r k ∙ ap (λ (v : Bool). cond (nat_eq k n) (i r) v) (a.ranges r k) ∙ twice (nat_eq k n) (i r) (g r) (has_number k (x.range r));
+}
+  where
+    twice : (e u v w : Bool) → cond e u (cond e v w) ≡ cond e u w
+    twice true u v w = refl
+    twice false u v w = refl
+
+-- a move that is said otherwise
+pub moved_said : {x y : Lists} {n : ℕ} {f h : Posting → Bool} {g i : Range → Bool} → AreMoved x y n f g → ((p : Posting) → f p ≡ h p) → ((r : Range) → g r ≡ i r) → AreMoved x y n h i
+moved_said {x} {y} {n} a u v = record {
+  rise = a.rise;
+  rise_too = a.rise_too;
+  postings = λ p k. a.postings p k ∙ ap (λ (b : Bool). cond (nat_eq k n) b (has_number k (x.posting p))) (u p);
+  ranges = λ r k. a.ranges r k ∙ ap (λ (b : Bool). cond (nat_eq k n) b (has_number k (x.range r))) (v r);
+}
+
+-- a number that stays where it is
+pub unmoved : (x : Lists) (n : ℕ) (f : Posting → Bool) (g : Range → Bool) → ((p : Posting) → IsRising (x.posting p)) → ((r : Range) → IsRising (x.range r)) → ((p : Posting) → has_number n (x.posting p) ≡ f p) → ((r : Range) → has_number n (x.range r) ≡ g r)
+    → AreMoved x x n f g
+unmoved x n f g rise too u v = record { rise = rise; rise_too = too; postings = λ p k. stays (x.posting p) (f p) k (nat_eq k n) refl (u p); ranges = λ r k. stays (x.range r) (g r) k (nat_eq k n) refl (v r) }
+  where
+    stays : (ns : List ℕ) (b : Bool) (k : ℕ) (e : Bool) → nat_eq k n ≡ e → has_number n ns ≡ b → has_number k ns ≡ cond e b (has_number k ns)
+    stays ns b k true e h = ap (λ (m : ℕ). has_number m ns) (eqb-true k n e) ∙ h
+    stays ns b k false e h = refl
+
+-- whether an entry is in a range whose index is kept
+abbrev pub in_entry : List Kinds → List KeyedAttribute → Range → Bool
+in_entry ix a r = (kinds_of ix r.type_id).ordering && has_in_range r a
+
+-- lists of entries in which a number moved to the lists of other attributes are those of the entries after the change
+pub moved_entries : {x y : Lists} (ix : List Kinds) (n : ℕ) (a : List KeyedAttribute) (es es' : List Indexed) → AreMoved x y n (lists_entry ix a) (in_entry ix a) → ArePostingsOf x ix es
+    → IsRising (map (λ e. e.number) es') → ((q : List KeyedAttribute → Bool) (m : ℕ) → q [] ≡ false → found q m es' ≡ cond (nat_eq m n) (q a) (found q m es)) → ArePostingsOf y ix es'
+moved_entries {x} {y} ix n a es es' v held up f = record {
   numbered = up;
-  postings = λ p. rising_same (list_at ls' p) (numbers_where (λ e. is_kept ix p && is_listed p e) es') (w'.rising p) (filtered_rises (λ e. is_kept ix p && is_listed p e.entry) es' up) (posted p);
-  ranges = λ r. rising_same (range_at cs' r) (numbers_where (λ e. (kinds_of ix r.type_id).ordering && has_in_range r e) es') (range_rises cs' r w'.numbers) (filtered_rises (λ e. (kinds_of ix r.type_id).ordering && has_in_range r e.entry) es' up) (ranged r);
+  postings = λ p. one (λ e. is_kept ix p && is_listed p e) (x.posting p) (y.posting p) (none p) (v.rise p) (held.postings p) (v.postings p);
+  ranges = λ r. one (λ e. (kinds_of ix r.type_id).ordering && has_in_range r e) (x.range r) (y.range r) (off (kinds_of ix r.type_id).ordering) (v.rise_too r) (held.ranges r) (v.ranges r);
 }
   where
     none : (p : Posting) → (is_kept ix p && is_listed p []) ≡ false
@@ -339,67 +378,71 @@ changed_lists ix ls ls' cs cs' n a es es' w w' h old up f = record {
     none (Equal t k) = off ((kinds_of ix t).equality || (kinds_of ix t).ordering)
     none (Run t g) = off ((kinds_of ix t).substrings && nat_eq (length g) 3)
 
-    posted : (p : Posting) (m : ℕ) → is_in ls' p m ≡ has_number m (numbers_where (λ e. is_kept ix p && is_listed p e) es')
-    posted p m =
-        h p m ∙ ap (λ (b : Bool). cond (nat_eq m n) (lists_entry ix a p) b) (ap (has_number m) (old.postings p) ∙ number_found (λ e. is_kept ix p && is_listed p e) m es)
-        ∙ sym (f (λ e. is_kept ix p && is_listed p e) m (none p)) ∙ sym (number_found (λ e. is_kept ix p && is_listed p e) m es')
+    one : (q : List KeyedAttribute → Bool) (xs ys : List ℕ) → q [] ≡ false → IsRising ys → xs ≡ numbers_where q es → ((k : ℕ) → has_number k ys ≡ cond (nat_eq k n) (q a) (has_number k xs)) → ys ≡ numbers_where q es'
+    one q xs ys e rise old has = rising_same ys (numbers_where q es') rise (filtered_rises (λ d. q d.entry) es' up)
+        (λ k. has k ∙ ap (λ (b : Bool). cond (nat_eq k n) (q a) b) (ap (has_number k) old ∙ number_found q k es) ∙ sym (f q k e) ∙ sym (number_found q k es'))
 
-    column : (p : Posting) (m : ℕ) → is_marked (column_at cs' m) p ≡ (cond (nat_eq m n) (lists_entry ix a p) (is_in ls p m) && is_ordered ix p)
-    column p m = w'.linked p m ∙ ap (λ (b : Bool). b && is_ordered ix p) (h p m)
+-- ---- the whole
 
-    at : (r : Range) (m : ℕ) (b : Bool) → nat_eq m n ≡ b → list_any (is_posting_in r) (column_at cs' m) ≡ cond b ((kinds_of ix r.type_id).ordering && has_in_range r a) (list_any (is_posting_in r) (column_at cs m))
-    at r m true e = ranged_entry ix a (column_at cs' m) r (λ p. column p m ∙ ap (λ (b : Bool). cond b (lists_entry ix a p) (is_in ls p m) && is_ordered ix p) e)
-    at r m false e = same_any (is_posting_in r) (column_at cs' m) (column_at cs m) (λ p. column p m ∙ ap (λ (b : Bool). cond b (lists_entry ix a p) (is_in ls p m) && is_ordered ix p) e ∙ sym (w.linked p m))
+-- the column that a moved number has
+pub column_here : (old new : PostingsModel) (n : ℕ) (f : Posting → Bool) → IsMoved old new n f → (p : Posting) → is_marked (column_at new.columns n) p ≡ (f p && is_ordered old.indexes p)
+column_here old new n f v p = v.whole.linked p n ∙ ap (λ (b : Bool). b && is_ordered old.indexes p) (v.has p n ∙ ap (λ (b : Bool). cond b (f p) (is_in old.lists p n)) (eq-eqb n n refl))
 
-    ranged : (r : Range) (m : ℕ) → has_number m (range_at cs' r) ≡ has_number m (numbers_where (λ e. (kinds_of ix r.type_id).ordering && has_in_range r e) es')
-    ranged r m =
-        in_range_at cs' r m w'.numbers ∙ at r m (nat_eq m n) refl
-        ∙ ap (λ (b : Bool). cond (nat_eq m n) ((kinds_of ix r.type_id).ordering && has_in_range r a) b)
-        (sym (in_range_at cs r m w.numbers) ∙ ap (has_number m) (old.ranges r) ∙ number_found (λ e. (kinds_of ix r.type_id).ordering && has_in_range r e) m es)
-        ∙ sym (f (λ e. (kinds_of ix r.type_id).ordering && has_in_range r e) m (off (kinds_of ix r.type_id).ordering)) ∙ sym (number_found (λ e. (kinds_of ix r.type_id).ordering && has_in_range r e) m es')
+-- what is kept has moved lists
+pub are_moved : (old new : PostingsModel) (n : ℕ) (f : Posting → Bool) (g : Range → Bool) → IsMoved old new n f → ((r : Range) → list_any (is_posting_in r) (column_at new.columns n) ≡ g r) → AreMoved (lists_of old) (lists_of new) n f g
+are_moved old new n f g v u = record {
+  rise = v.whole.rising;
+  rise_too = λ r. range_rises new.columns r v.whole.numbers;
+  postings = v.has;
+  ranges = λ r k. in_range_at new.columns r k v.whole.numbers ∙ at r k (nat_eq k n) refl ∙ ap (λ (b : Bool). cond (nat_eq k n) (g r) b) (sym (in_range_at old.columns r k v.was.numbers));
+}
+  where
+    at : (r : Range) (k : ℕ) (b : Bool) → nat_eq k n ≡ b → list_any (is_posting_in r) (column_at new.columns k) ≡ cond b (g r) (list_any (is_posting_in r) (column_at old.columns k))
+    at r k true e = ap (λ (m : ℕ). list_any (is_posting_in r) (column_at new.columns m)) (eqb-true k n e) ∙ u r
+    at r k false e = same_any (is_posting_in r) (column_at new.columns k) (column_at old.columns k)
+        (λ p. v.whole.linked p k ∙ ap (λ (b : Bool). b && is_ordered old.indexes p) (v.has p k ∙ ap (λ (b : Bool). cond b (f p) (is_in old.lists p k)) e) ∙ sym (v.was.linked p k))
+
+-- the lists of the entries after a change are the changed lists
+pub changed_lists : (old new : PostingsModel) (n : ℕ) (a : List KeyedAttribute) (es es' : List Indexed) → IsMoved old new n (lists_entry old.indexes a) → AreOf old es
+    → IsRising (map (λ e. e.number) es') → ((q : List KeyedAttribute → Bool) (m : ℕ) → q [] ≡ false → found q m es' ≡ cond (nat_eq m n) (q a) (found q m es)) → AreOf new es'
+changed_lists old new n a es es' v held up f = subst (λ (ix : List Kinds). ArePostingsOf (lists_of new) ix es') (sym v.indexes)
+    (moved_entries old.indexes n a es es' (are_moved old new n (lists_entry old.indexes a) (in_entry old.indexes a) v (λ r. ranged_entry old.indexes a (column_at new.columns n) r (column_here old new n (lists_entry old.indexes a) v))) held up f)
 
 -- what lists a number that is above all, or that has an entry
-pub here_above : (m : PostingsModel) (n : ℕ) → IsAboveAll m n → (p : Posting) → is_in m.lists p n ≡ lists_entry m.indexes [] p
+pub here_above : (m : PostingsModel) (n : ℕ) → IsAboveAll m n → IsUnder m n (lists_entry m.indexes [])
 here_above m n h p =
     let q : List KeyedAttribute → Bool = λ e. is_kept m.indexes p && is_listed p e in
     ap (has_number n) (h.1.postings p) ∙ number_found q n h.0 ∙ found_below q n h.0 h.2 ∙ entry_lists m.indexes [] p
 
-pub here_held : (m : PostingsModel) (n : ℕ) (a : List KeyedAttribute) → IsHeld m n a → (p : Posting) → is_in m.lists p n ≡ lists_entry m.indexes a p
+pub here_held : (m : PostingsModel) (n : ℕ) (a : List KeyedAttribute) → IsHeld m n a → IsUnder m n (lists_entry m.indexes a)
 here_held m n a h p =
     let q : List KeyedAttribute → Bool = λ e. is_kept m.indexes p && is_listed p e in
     ap (has_number n) (h.1.postings p) ∙ number_found q n h.0 ∙ found_here q n a h.0 h.1.numbered h.2
 
 -- one more entry, one less, one with other attributes
-pub added_lists : (ix : List Kinds) (ls ls' : List (Posting × List ℕ)) (cs cs' : List (ℕ × List Posting)) (n : ℕ) (a : List KeyedAttribute) → IsWhole ix ls cs → IsWhole ix ls' cs' → IsChanged ix ls ls' n a
-    → (es : List Indexed) → ArePostingsOf (lists_of (record { indexes = ix; lists = ls; columns = cs })) ix es → AllBelow n es
-    → ArePostingsOf (lists_of (record { indexes = ix; lists = ls'; columns = cs' })) ix (es ++ record { number = n; entry = a } ∷ [])
-added_lists ix ls ls' cs cs' n a w w' h es old b =
-    changed_lists ix ls ls' cs cs' n a es (es ++ record { number = n; entry = a } ∷ []) w w' h old (push_rises n a es old.numbered b) (λ q m e. found_new q m n a es b)
+pub added_lists : (old new : PostingsModel) (n : ℕ) (a : List KeyedAttribute) → IsMoved old new n (lists_entry old.indexes a)
+    → (es : List Indexed) → AreOf old es → AllBelow n es → AreOf new (es ++ record { number = n; entry = a } ∷ [])
+added_lists old new n a v es held b =
+    changed_lists old new n a es (es ++ record { number = n; entry = a } ∷ []) v held (push_rises n a es held.numbered b) (λ q m e. found_new q m n a es b)
 
-pub removed_lists : (ix : List Kinds) (ls ls' : List (Posting × List ℕ)) (cs cs' : List (ℕ × List Posting)) (n : ℕ) → IsWhole ix ls cs → IsWhole ix ls' cs' → IsChanged ix ls ls' n []
-    → (es : List Indexed) → ArePostingsOf (lists_of (record { indexes = ix; lists = ls; columns = cs })) ix es → ArePostingsOf (lists_of (record { indexes = ix; lists = ls'; columns = cs' })) ix (without n es)
-removed_lists ix ls ls' cs cs' n w w' h es old =
-    changed_lists ix ls ls' cs cs' n [] es (without n es) w w' h old (filtered_rises (λ e. not (nat_eq e.number n)) es old.numbered)
+pub removed_lists : (old new : PostingsModel) (n : ℕ) → IsMoved old new n (lists_entry old.indexes []) → (es : List Indexed) → AreOf old es → AreOf new (without n es)
+removed_lists old new n v es held =
+    changed_lists old new n [] es (without n es) v held (filtered_rises (λ e. not (nat_eq e.number n)) es held.numbered)
     (λ q m e. found_without q m n es ∙ ap (λ (b : Bool). cond (nat_eq m n) b (found q m es)) (sym e))
 
-pub replaced_lists : (ix : List Kinds) (ls ls' : List (Posting × List ℕ)) (cs cs' : List (ℕ × List Posting)) (n : ℕ) (b a : List KeyedAttribute) → IsWhole ix ls cs → IsWhole ix ls' cs' → IsChanged ix ls ls' n a
-    → (es : List Indexed) → ArePostingsOf (lists_of (record { indexes = ix; lists = ls; columns = cs })) ix es → HasEntry es n b
-    → ArePostingsOf (lists_of (record { indexes = ix; lists = ls'; columns = cs' })) ix (with_attributes n a es)
-replaced_lists ix ls ls' cs cs' n b a w w' h es old held =
-    changed_lists ix ls ls' cs cs' n a es (with_attributes n a es) w w' h old (subst IsRising (sym (same_numbers n a es)) old.numbered)
-    (λ q m e. found_with q m n a es ∙ ap (λ (x : Bool). cond (nat_eq m n) (x && q a) (found q m es)) (held_there n b es held))
+pub replaced_lists : (old new : PostingsModel) (n : ℕ) (b a : List KeyedAttribute) → IsMoved old new n (lists_entry old.indexes a)
+    → (es : List Indexed) → AreOf old es → HasEntry es n b → AreOf new (with_attributes n a es)
+replaced_lists old new n b a v es held there =
+    changed_lists old new n a es (with_attributes n a es) v held (subst IsRising (sym (same_numbers n a es)) held.numbered)
+    (λ q m e. found_with q m n a es ∙ ap (λ (x : Bool). cond (nat_eq m n) (x && q a) (found q m es)) (held_there n b es there))
 
 -- lists that have the same numbers, and the same columns
-pub same_lists : (ix : List Kinds) (ls ls' : List (Posting × List ℕ)) (cs cs' : List (ℕ × List Posting)) → IsWhole ix ls cs → IsWhole ix ls' cs' → ((p : Posting) (m : ℕ) → is_in ls' p m ≡ is_in ls p m) → cs' ≡ cs
-    → AreSameLists (lists_of (record { indexes = ix; lists = ls'; columns = cs' })) (lists_of (record { indexes = ix; lists = ls; columns = cs }))
-same_lists ix ls ls' cs cs' w w' h e = record {
-  postings = λ p. rising_same (list_at ls' p) (list_at ls p) (w'.rising p) (w.rising p) (h p);
+pub same_lists : (m : PostingsModel) (ls : List (Posting × List ℕ)) (cs : List (ℕ × List Posting)) → IsWhole m.indexes m.lists m.columns → AllRise ls → cs ≡ m.columns
+    → ((p : Posting) (k : ℕ) → is_in ls p k ≡ is_in m.lists p k) → AreSameLists (lists_of (record { indexes = m.indexes; lists = ls; columns = cs })) (lists_of m)
+same_lists m ls cs w rising e h = record {
+  postings = λ p. rising_same (list_at ls p) (list_at m.lists p) (rising p) (w.rising p) (h p);
   ranges = λ r. ap (λ (c : List (ℕ × List Posting)). range_at c r) e;
 }
-
-pub on_both_err : {A E P Q R : Type 0} (r : Result A E) → (P → Q → R) → OnErr r P → OnErr r Q → OnErr r R
-on_both_err (Ok a) f h k = h
-on_both_err (Err e) f h k = f h k
 
 -- ---- the lists of a range
 

@@ -1,14 +1,12 @@
 -- Sets of postings: what one more posting changes, and which an attribute has.
-use Rattle.std.proofs.Common.{◌≡◌, ℕ, ◌<◌, ◌≤◌, ◌+◌, Bool, true, false, cond, not, List, [], ◌∷◌, ◌++◌, length, take, get_or, refl, sym, ap, ◌∙◌, nat_eq, Result, Ok, Err, OnOk, OnErr, arith}
+use Rattle.std.proofs.Common.{◌≡◌, ℕ, ◌<◌, ◌+◌, Bool, true, false, cond, not, List, [], ◌∷◌, ◌++◌, length, take, get_or, refl, sym, ap, ◌∙◌, nat_eq, Result, Ok, Err, OnOk, OnErr}
 use Rattle.std.specs.Prelude.{◌&&◌, ◌||◌}
 use Rattle.std.specs.Ordering.{is_eq}
 use Rattle.std.specs.List.{list_any}
 use Rattle.std.specs.BTreeMap.{is_at}
-use Rattle.std.specs.Str.{bytes_eq}
-use Rattle.std.proofs.lemmas.Bool.{eqb-true, ne_eqb}
+use Rattle.std.proofs.lemmas.Bool.{eqb-true}
 use Rattle.std.proofs.lemmas.List.Folds.{list_any_more, list_any-append}
 use Rattle.index_choice.specs.ldap_match.Keyed.{is_same_key}
-use Rattle.index_choice.specs.ldap_match.Parts.{is_at_start}
 use Rattle.index_choice.specs.dir_entry.Entry.{KeyedAttribute}
 use Rattle.index_choice.specs.declared.kinds.Kinds.{Kinds}
 use Rattle.index_choice.specs.Choice.{kinds_of}
@@ -18,7 +16,7 @@ use Rattle.dir_index.specs.Ordered.{posting_order, is_same_posting}
 use Rattle.dir_index.specs.OrderLaws.{posting_ties, posting_equiv}
 use Rattle.dir_index.specs.Postings.{is_of, stands_in, is_kept, is_listed}
 use Rattle.dir_index.proofs.Rows.{one_posting}
-use Rattle.dir_index.specs.Marked.{is_marked, lists_entry, is_first_run, is_run_of, is_of_key, is_from_key, is_from_presence, is_from_attribute}
+use Rattle.dir_index.specs.Marked.{is_marked, lists_entry, is_from_key, is_from_attribute}
 
 -- what std's set has is what is marked
 pub marked_at : (ks : List Posting) (p : Posting) → is_marked ks p ≡ list_any (is_at (posting_order p)) ks
@@ -65,81 +63,6 @@ pub or_swap : (a b c : Bool) → (a || (b || c)) ≡ (b || (a || c))
 or_swap true true c = refl
 or_swap true false c = refl
 or_swap false b c = refl
-
-spread : (a l s r : Bool) → (a && (l && (s || r))) ≡ ((a && (l && s)) || (a && (l && r)))
-spread false l s r = refl
-spread true false s r = refl
-spread true true s r = refl
-
--- ---- runs
-
--- a run of three octets stands at the start exactly where it is the first three
-first_three : (a b c : ℕ) (r g : List ℕ) → (nat_eq (length g) 3 && is_at_start g (a ∷ b ∷ c ∷ r)) ≡ bytes_eq (a ∷ b ∷ c ∷ []) g
-first_three a b c r [] = refl
-first_three a b c r (x ∷ []) = sym (off (nat_eq a x))
-first_three a b c r (x ∷ y ∷ []) = sym (ap (λ (v : Bool). nat_eq a x && v) (off (nat_eq b y)) ∙ off (nat_eq a x))
-first_three a b c r (x ∷ y ∷ z ∷ []) = refl
-first_three a b c r (x ∷ y ∷ z ∷ w ∷ g) =
-    ap (λ (v : Bool). v && is_at_start (x ∷ y ∷ z ∷ w ∷ g) (a ∷ b ∷ c ∷ r)) (ne_eqb (length (x ∷ y ∷ z ∷ w ∷ g)) 3 (λ e. absurd (omega arith)))
-    ∙ sym (ap (λ (v : Bool). nat_eq a x && (nat_eq b y && v)) (off (nat_eq c z)) ∙ ap (λ (v : Bool). nat_eq a x && v) (off (nat_eq b y)) ∙ off (nat_eq a x))
-
-pub first_run : (t a b c : ℕ) (r : List ℕ) (p : Posting) → is_same_posting (Run t (a ∷ b ∷ c ∷ [])) p ≡ is_first_run t (a ∷ b ∷ c ∷ r) p
-first_run t a b c r (Present u) = off (nat_eq t u)
-first_run t a b c r (Equal u l) = off (nat_eq t u)
-first_run t a b c r (Run u g) = ap (λ (v : Bool). nat_eq t u && v) (sym (first_three a b c r g))
-
-pub first_at : (t : ℕ) (k : List ℕ) (p : Posting) → 3 ≤ length k → is_same_posting (Run t (get_or k 0 0 ∷ get_or k 1 0 ∷ get_or k 2 0 ∷ [])) p ≡ is_first_run t k p
-first_at t [] p l = absurd (omega arith)
-first_at t (a ∷ []) p l = absurd (omega arith)
-first_at t (a ∷ b ∷ []) p l = absurd (omega arith)
-first_at t (a ∷ b ∷ c ∷ r) p l = first_run t a b c r p
-
--- no run of three stands at the start of fewer octets
-short : (g k : List ℕ) → length k < 3 → (nat_eq (length g) 3 && is_at_start g k) ≡ false
-short [] k l = refl
-short (x ∷ []) k l = refl
-short (x ∷ y ∷ []) k l = refl
-short (x ∷ y ∷ z ∷ []) [] l = refl
-short (x ∷ y ∷ z ∷ []) (a ∷ []) l = off (nat_eq a x)
-short (x ∷ y ∷ z ∷ []) (a ∷ b ∷ []) l = ap (λ (v : Bool). nat_eq a x && v) (off (nat_eq b y)) ∙ off (nat_eq a x)
-short (x ∷ y ∷ z ∷ []) (a ∷ b ∷ c ∷ k) l = absurd (omega arith)
-short (x ∷ y ∷ z ∷ w ∷ g) k l = ap (λ (v : Bool). v && is_at_start (x ∷ y ∷ z ∷ w ∷ g) k) (ne_eqb (length (x ∷ y ∷ z ∷ w ∷ g)) 3 (λ e. absurd (omega arith)))
-
-pub first_none : (t : ℕ) (k : List ℕ) (p : Posting) → length k < 3 → is_first_run t k p ≡ false
-first_none t k (Present u) l = refl
-first_none t k (Equal u m) l = refl
-first_none t k (Run u g) l = ap (λ (v : Bool). nat_eq t u && v) (short g k l) ∙ off (nat_eq t u)
-
-pub run_more : (t a : ℕ) (k : List ℕ) (p : Posting) → is_run_of t (a ∷ k) p ≡ (is_first_run t (a ∷ k) p || is_run_of t k p)
-run_more t a k (Present u) = refl
-run_more t a k (Equal u l) = refl
-run_more t a k (Run u g) = spread (nat_eq t u) (nat_eq (length g) 3) (is_at_start g (a ∷ k)) (stands_in g k)
-
-pub run_none : (t : ℕ) (p : Posting) → is_run_of t [] p ≡ false
-run_none t (Present u) = refl
-run_none t (Equal u m) = refl
-run_none t (Run u g) = ap (λ (v : Bool). nat_eq t u && v) (ap (λ (v : Bool). nat_eq (length g) 3 && v) (or_off (is_at_start g [])) ∙ short g [] (omega arith)) ∙ off (nat_eq t u)
-
--- ---- the posting of a key, and of a presence
-
-pub key_posting : (t : ℕ) (k : List ℕ) (p : Posting) → is_same_posting (Equal t k) p ≡ is_of_key t k p
-key_posting t k (Present u) = off (nat_eq t u)
-key_posting t k (Equal u l) = refl
-key_posting t k (Run u g) = off (nat_eq t u)
-
-pub presence_posting : (ks : Kinds) (t : ℕ) (p : Posting) → ks.presence ≡ true → is_same_posting (Present t) p ≡ is_from_presence ks t p
-presence_posting ks t (Present u) e = flat (nat_eq t u) ∙ ap (λ (b : Bool). b && nat_eq t u) (sym e)
-  where
-    flat : (b : Bool) → (b && true) ≡ b
-    flat true = refl
-    flat false = refl
-presence_posting ks t (Equal u l) e = off (nat_eq t u)
-presence_posting ks t (Run u g) e = off (nat_eq t u)
-
-pub presence_none : (ks : Kinds) (t : ℕ) (p : Posting) → ks.presence ≡ false → is_from_presence ks t p ≡ false
-presence_none ks t (Present u) e = ap (λ (b : Bool). b && nat_eq t u) e
-presence_none ks t (Equal u l) e = refl
-presence_none ks t (Run u g) e = refl
 
 -- ---- what an attribute, and an entry, are marked by
 

@@ -5,43 +5,42 @@ use Rattle.std.specs.List.{list_any, AllByRecursion, filter}
 use Rattle.std.proofs.lemmas.Bool.{eqb-true, eq-eqb, and_parts, and_from, or_left, or_right}
 use Rattle.index_choice.specs.dir_entry.Entry.{KeyedAttribute}
 use Rattle.index_choice.specs.declared.kinds.Kinds.{Kinds}
-use Rattle.index_choice.specs.Choice.{kinds_of}
 use Rattle.dir_index.specs.declared.posting.Posting.{Posting}
 use Rattle.dir_index.specs.declared.posting.Range.{Range}
-use Rattle.dir_index.specs.Postings.{Indexed, has_number, IsRising, numbers_where, has_in_range, is_kept, is_listed}
+use Rattle.dir_index.specs.Postings.{Indexed, has_number, IsRising}
 use Rattle.dir_index.specs.Ordered.{is_same_posting}
 use Rattle.dir_index.specs.OrderLaws.{posting_equiv}
 use Rattle.dir_index.specs.Stored.{list_at, is_in, AllRise}
 use Rattle.dir_index.specs.Marked.{is_marked, lists_entry}
 use Rattle.dir_index.specs.Columns.{column_at, column_numbers, is_ordered, is_posting_in, range_at}
-use Rattle.dir_index.specs.Whole.{lists_of, IsWhole, ArePostingsOf, AreSameLists, AllBelow, HasEntry, with_attributes}
-use Rattle.dir_index.specs.Begun.{SideModel, BegunModel, kept_if, lists_with, IsOrderedSide, IsBegun}
+use Rattle.dir_index.specs.Whole.{PostingsModel, lists_of, IsWhole, ArePostingsOf, AreOf, AreSameLists, AllBelow, HasEntry, IsUnder, IsMoved, with_attributes}
+use Rattle.dir_index.specs.Begun.{SideModel, begun_of, kept_if, lists_with, lists_before, lists_after, IsOrderedSide, IsWidened, IsBegun}
+use Rattle.dir_index.proofs.Bulk.{left_of}
 use Rattle.dir_index.proofs.Marking.{off}
+use Rattle.dir_index.proofs.Moved.{moved}
 use Rattle.dir_index.proofs.Ranged.{in_range_at, range_rises}
-use Rattle.dir_index.proofs.Listed.{found, rising_same, number_found, filtered_rises, same_any, ranged_entry, found_with, same_numbers, held_there, push_rises, found_new, marked_any, any_marked}
+use Rattle.dir_index.proofs.Listed.{found, AreMoved, same_moved, moved_again, moved_said, unmoved, moved_entries, column_here, are_moved, same_any, ranged_entry, found_with, same_numbers, held_there, push_rises, found_new, marked_any, any_marked}
+
+-- a side is within what is there
+abbrev pub IsWithin : PostingsModel → ℕ → SideModel → Type 0
+IsWithin m n s = (p : Posting) → is_marked s.postings p ≡ true → is_in m.lists p n ≡ true
+
+pub is_within : (m : PostingsModel) (n : ℕ) (s : SideModel) (left : List Posting) → IsUnder m n (λ p. is_marked left p || is_marked s.postings p) → IsWithin m n s
+is_within m n s left here p h = here p ∙ or_right (is_marked left p) (is_marked s.postings p) h
 
 -- the ordered postings of a side are in the column that is there
-pub within_column : (ix : List Kinds) (ls : List (Posting × List ℕ)) (cs : List (ℕ × List Posting)) (n : ℕ) (kept left col : List Posting) → IsWhole ix ls cs
-    → ((p : Posting) → is_in ls p n ≡ (is_marked left p || is_marked kept p)) → ((p : Posting) → is_marked col p ≡ (is_marked kept p && is_ordered ix p))
-    → (p : Posting) → is_marked col p ≡ true → is_marked (column_at cs n) p ≡ true
-within_column ix ls cs n kept left col w here ord p h =
-    let k = and_parts (is_marked kept p) (is_ordered ix p) (sym (ord p) ∙ h) in
-    w.linked p n ∙ and_from (is_in ls p n) (is_ordered ix p) (here p ∙ or_right (is_marked left p) (is_marked kept p) k.0) k.1
+pub within_column : (m : PostingsModel) (n : ℕ) (s : SideModel) → IsWhole m.indexes m.lists m.columns → IsWithin m n s → IsOrderedSide m.indexes s → (p : Posting) → is_marked s.ordered p ≡ true → is_marked (column_at m.columns n) p ≡ true
+within_column m n s w i ord p h =
+    let k = and_parts (is_marked s.postings p) (is_ordered m.indexes p) (sym (ord p) ∙ h) in
+    w.linked p n ∙ and_from (is_in m.lists p n) (is_ordered m.indexes p) (i p k.0) k.1
 
--- lists and columns that a number was narrowed in are whole
-pub narrowed_whole : (ix : List Kinds) (ls ls' : List (Posting × List ℕ)) (cs cs' : List (ℕ × List Posting)) (n : ℕ) (kept col : List Posting) → IsWhole ix ls cs
-    → AllRise ls' → IsRising (column_numbers cs') → ((m : ℕ) → column_at cs' m ≡ cond (nat_eq m n) col (column_at cs m))
-    → ((p : Posting) (m : ℕ) → is_in ls' p m ≡ cond (nat_eq m n) (is_marked kept p) (is_in ls p m)) → ((p : Posting) → is_marked col p ≡ (is_marked kept p && is_ordered ix p))
-    → IsWhole ix ls' cs'
-narrowed_whole ix ls ls' cs cs' n kept col w rising numbers column has ord = record { rising = rising; numbers = numbers; linked = λ p m. linked p m (nat_eq m n) refl }
-  where
-    linked : (p : Posting) (m : ℕ) (b : Bool) → nat_eq m n ≡ b → is_marked (column_at cs' m) p ≡ (is_in ls' p m && is_ordered ix p)
-    linked p m true e =
-        ap (λ (l : List Posting). is_marked l p) (column m ∙ ap (λ (b : Bool). cond b col (column_at cs m)) e) ∙ ord p
-        ∙ ap (λ (b : Bool). b && is_ordered ix p) (sym (has p m ∙ ap (λ (b : Bool). cond b (is_marked kept p) (is_in ls p m)) e))
-    linked p m false e =
-        ap (λ (l : List Posting). is_marked l p) (column m ∙ ap (λ (b : Bool). cond b col (column_at cs m)) e) ∙ w.linked p m
-        ∙ ap (λ (b : Bool). b && is_ordered ix p) (sym (has p m ∙ ap (λ (b : Bool). cond b (is_marked kept p) (is_in ls p m)) e))
+-- what is kept once the number left the lists of the other side, and its column is this side's
+pub narrowed : (m : PostingsModel) (ls : List (Posting × List ℕ)) (cs : List (ℕ × List Posting)) (n : ℕ) (s : SideModel) (left : List Posting) → IsWhole m.indexes m.lists m.columns
+    → IsUnder m n (λ p. is_marked left p || is_marked s.postings p) → IsOrderedSide m.indexes s → AllRise ls → IsRising (column_numbers cs) → ((k : ℕ) → column_at cs k ≡ cond (nat_eq k n) s.ordered (column_at m.columns k))
+    → ((p : Posting) (k : ℕ) → is_in ls p k ≡ (not ((is_marked left p && not (is_marked s.postings p)) && nat_eq k n) && is_in m.lists p k))
+    → IsMoved m (record { indexes = m.indexes; lists = ls; columns = cs }) n (is_marked s.postings)
+narrowed m ls cs n s left w here ord rising numbers put out = moved m ls cs n (is_marked s.postings) s.ordered w rising numbers put ord
+    (λ p k. out p k ∙ left_of (is_marked s.postings p) (is_marked left p) (nat_eq k n) (is_in m.lists p k) (λ e. ap (λ (x : ℕ). is_in m.lists p x) (eqb-true k n e) ∙ here p))
 
 -- ---- a list in which a number stays only where it may
 
@@ -81,66 +80,42 @@ has_kept b n m ns = has_some (λ k. b || not (nat_eq k n)) m ns ∙ by b (nat_eq
     by false true h = refl
     by false false h = refl
 
--- a side is within what is there
-abbrev pub IsWithin : BegunModel → SideModel → Type 0
-IsWithin m s = (p : Posting) → is_marked s.postings p ≡ true → is_in m.lists p m.number ≡ true
-
 implied : (a b : Bool) → (a ≡ true → b ≡ true) → (a && b) ≡ a
 implied true b f = f refl
 implied false b f = refl
 
--- which numbers the lists of a side have
-pub side_posting : (m : BegunModel) (s : SideModel) → IsWithin m s → (p : Posting) (k : ℕ)
-    → has_number k ((lists_with m s).posting p) ≡ cond (nat_eq k m.number) (is_marked s.postings p) (is_in m.lists p k)
-side_posting m s w p k = has_kept (is_marked s.postings p) m.number k (list_at m.lists p) ∙ by (nat_eq k m.number) refl
+-- the number stays just where it may, of where it was
+kept_number : (b : Bool) (n k : ℕ) (ns : List ℕ) → (b ≡ true → has_number n ns ≡ true) → has_number k (kept_if b n ns) ≡ cond (nat_eq k n) b (has_number k ns)
+kept_number b n k ns h = has_kept b n k ns ∙ by (nat_eq k n) refl
   where
-    by : (e : Bool) → nat_eq k m.number ≡ e → cond e (is_marked s.postings p && is_in m.lists p k) (is_in m.lists p k) ≡ cond e (is_marked s.postings p) (is_in m.lists p k)
-    by true e = implied (is_marked s.postings p) (is_in m.lists p k) (λ h. ap (λ (x : ℕ). is_in m.lists p x) (eqb-true k m.number e) ∙ w p h)
+    by : (e : Bool) → nat_eq k n ≡ e → cond e (b && has_number k ns) (has_number k ns) ≡ cond e b (has_number k ns)
+    by true e = implied b (has_number k ns) (λ g. ap (λ (x : ℕ). has_number x ns) (eqb-true k n e) ∙ h g)
     by false e = refl
 
 -- a test that some of the side's ordered postings pass is passed by some of those that are there
 within_any : (f : Posting → Bool) (ps qs : List Posting) → ((p : Posting) → is_marked ps p ≡ true → is_marked qs p ≡ true) → list_any f ps ≡ true → list_any f qs ≡ true
 within_any f ps qs h e = let w : (p : Posting) × (is_marked ps p ≡ true) × (f p ≡ true) = any_marked f ps e in marked_any f qs w.0 (h w.0 w.1) w.2
 
-pub side_range : (m : BegunModel) (s : SideModel) → IsWhole m.indexes m.lists m.columns → IsWithin m s → IsOrderedSide m.indexes s → (r : Range) (k : ℕ)
-    → has_number k ((lists_with m s).range r) ≡ cond (nat_eq k m.number) (list_any (is_posting_in r) s.ordered) (list_any (is_posting_in r) (column_at m.columns k))
-side_range m s w i o r k =
-    has_kept (list_any (is_posting_in r) s.ordered) m.number k (range_at m.columns r)
-    ∙ ap (λ (b : Bool). cond (nat_eq k m.number) (list_any (is_posting_in r) s.ordered && b) b) (in_range_at m.columns r k w.numbers) ∙ by (nat_eq k m.number) refl
-  where
-    there : nat_eq k m.number ≡ true → (p : Posting) → is_marked s.ordered p ≡ true → is_marked (column_at m.columns k) p ≡ true
-    there e p h =
-        let a = and_parts (is_marked s.postings p) (is_ordered m.indexes p) (sym (o p) ∙ h) in
-        w.linked p k ∙ and_from (is_in m.lists p k) (is_ordered m.indexes p) (ap (λ (x : ℕ). is_in m.lists p x) (eqb-true k m.number e) ∙ i p a.0) a.1
+-- whether a side is in a range
+abbrev in_side : SideModel → Range → Bool
+in_side s r = list_any (is_posting_in r) s.ordered
 
-    by : (e : Bool) → nat_eq k m.number ≡ e → cond e (list_any (is_posting_in r) s.ordered && list_any (is_posting_in r) (column_at m.columns k)) (list_any (is_posting_in r) (column_at m.columns k))
-        ≡ cond e (list_any (is_posting_in r) s.ordered) (list_any (is_posting_in r) (column_at m.columns k))
-    by true e = implied (list_any (is_posting_in r) s.ordered) (list_any (is_posting_in r) (column_at m.columns k)) (within_any (is_posting_in r) s.ordered (column_at m.columns k) (there e))
-    by false e = refl
-
--- lists and columns in which the number has one side's postings are the lists of that side
-pub narrowed_lists : (m : BegunModel) (s : SideModel) (ls : List (Posting × List ℕ)) (cs : List (ℕ × List Posting)) → IsWhole m.indexes m.lists m.columns → IsWhole m.indexes ls cs → IsWithin m s → IsOrderedSide m.indexes s
-    → ((p : Posting) (k : ℕ) → is_in ls p k ≡ cond (nat_eq k m.number) (is_marked s.postings p) (is_in m.lists p k))
-    → AreSameLists (lists_of (record { indexes = m.indexes; lists = ls; columns = cs })) (lists_with m s)
-narrowed_lists m s ls cs w w' i o has = record {
-  postings = λ p. rising_same (list_at ls p) (kept_if (is_marked s.postings p) m.number (list_at m.lists p)) (w'.rising p) (some_rise (λ k. is_marked s.postings p || not (nat_eq k m.number)) (list_at m.lists p) (w.rising p)) (λ k. has p k ∙ sym (side_posting m s i p k));
-  ranges = λ r. rising_same (range_at cs r) (kept_if (list_any (is_posting_in r) s.ordered) m.number (range_at m.columns r)) (range_rises cs r w'.numbers) (some_rise (λ k. list_any (is_posting_in r) s.ordered || not (nat_eq k m.number)) (range_at m.columns r) (range_rises m.columns r w.numbers)) (λ k. ranged r k (nat_eq k m.number) refl ∙ sym (side_range m s w i o r k));
+-- the lists of a side are those that are there, with the number where the side is
+kept_moved : (m : PostingsModel) (n : ℕ) (sb sa s : SideModel) → IsWhole m.indexes m.lists m.columns → IsWithin m n s → IsOrderedSide m.indexes s → AreMoved (lists_of m) (lists_with (begun_of m n sb sa) s) n (is_marked s.postings) (in_side s)
+kept_moved m n sb sa s w i o = record {
+  rise = λ p. some_rise (λ k. is_marked s.postings p || not (nat_eq k n)) (list_at m.lists p) (w.rising p);
+  rise_too = λ r. some_rise (λ k. in_side s r || not (nat_eq k n)) (range_at m.columns r) (range_rises m.columns r w.numbers);
+  postings = λ p k. kept_number (is_marked s.postings p) n k (list_at m.lists p) (i p);
+  ranges = λ r k. kept_number (in_side s r) n k (range_at m.columns r) (λ e. in_range_at m.columns r n w.numbers ∙ within_any (is_posting_in r) s.ordered (column_at m.columns n) (within_column m n s w i o) e);
 }
-  where
-    ranged : (r : Range) (k : ℕ) (e : Bool) → nat_eq k m.number ≡ e → has_number k (range_at cs r) ≡ cond (nat_eq k m.number) (list_any (is_posting_in r) s.ordered) (list_any (is_posting_in r) (column_at m.columns k))
-    ranged r k true e =
-        in_range_at cs r k w'.numbers
-        ∙ same_any (is_posting_in r) (column_at cs k) s.ordered (λ p. w'.linked p k ∙ ap (λ (b : Bool). b && is_ordered m.indexes p) (has p k ∙ ap (λ (b : Bool). cond b (is_marked s.postings p) (is_in m.lists p k)) e) ∙ sym (o p))
-        ∙ sym (ap (λ (b : Bool). cond b (list_any (is_posting_in r) s.ordered) (list_any (is_posting_in r) (column_at m.columns k))) e)
-    ranged r k false e =
-        in_range_at cs r k w'.numbers
-        ∙ same_any (is_posting_in r) (column_at cs k) (column_at m.columns k) (λ p. w'.linked p k ∙ ap (λ (b : Bool). b && is_ordered m.indexes p) (has p k ∙ ap (λ (b : Bool). cond b (is_marked s.postings p) (is_in m.lists p k)) e) ∙ sym (w.linked p k))
-        ∙ sym (ap (λ (b : Bool). cond b (list_any (is_posting_in r) s.ordered) (list_any (is_posting_in r) (column_at m.columns k))) e)
+
+-- what is kept once the number moved to one side's lists has the lists of that side
+narrowed_lists : (old new : PostingsModel) (n : ℕ) (sb sa s : SideModel) → IsWithin old n s → IsOrderedSide old.indexes s → IsMoved old new n (is_marked s.postings) → AreSameLists (lists_of new) (lists_with (begun_of old n sb sa) s)
+narrowed_lists old new n sb sa s i o v =
+    same_moved (are_moved old new n (is_marked s.postings) (in_side s) v (λ r. same_any (is_posting_in r) (column_at new.columns n) s.ordered (λ p. column_here old new n (is_marked s.postings) v p ∙ sym (o p))))
+    (kept_moved old n sb sa s v.was i o)
 
 -- ---- what has begun
-
-abbrev pub begun : List Kinds → List (Posting × List ℕ) → List (ℕ × List Posting) → ℕ → SideModel → SideModel → BegunModel
-begun ix ls cs n b a = record { indexes = ix; lists = ls; columns = cs; number = n; before = b; after = a }
 
 or_turned : (a b : Bool) → (a || b) ≡ (b || a)
 or_turned true true = refl
@@ -149,113 +124,68 @@ or_turned false true = refl
 or_turned false false = refl
 
 -- the lists of what has begun, both ways out
-pub settled_lists : (m : BegunModel) (ls : List (Posting × List ℕ)) (cs : List (ℕ × List Posting)) → IsBegun m → IsWhole m.indexes ls cs
-    → ((p : Posting) (k : ℕ) → is_in ls p k ≡ cond (nat_eq k m.number) (is_marked m.after.postings p) (is_in m.lists p k))
-    → AreSameLists (lists_of (record { indexes = m.indexes; lists = ls; columns = cs })) (lists_with m m.after)
-settled_lists m ls cs b w has = narrowed_lists m m.after ls cs b.whole w (λ p h. b.here p ∙ ap (λ (x : Bool). x || is_marked m.before.postings p) h) b.after has
+pub both_turned : (old : PostingsModel) (n : ℕ) (sb sa : SideModel) → IsBegun (begun_of old n sb sa) → IsUnder old n (λ p. is_marked sb.postings p || is_marked sa.postings p)
+both_turned old n sb sa b p = b.here p ∙ or_turned (is_marked sa.postings p) (is_marked sb.postings p)
 
-pub former_lists : (m : BegunModel) (ls : List (Posting × List ℕ)) (cs : List (ℕ × List Posting)) → IsBegun m → IsWhole m.indexes ls cs
-    → ((p : Posting) (k : ℕ) → is_in ls p k ≡ cond (nat_eq k m.number) (is_marked m.before.postings p) (is_in m.lists p k))
-    → AreSameLists (lists_of (record { indexes = m.indexes; lists = ls; columns = cs })) (lists_with m m.before)
-former_lists m ls cs b w has = narrowed_lists m m.before ls cs b.whole w (λ p h. b.here p ∙ or_right (is_marked m.after.postings p) (is_marked m.before.postings p) h) b.before has
+pub settled_lists : (old new : PostingsModel) (n : ℕ) (sb sa : SideModel) → IsBegun (begun_of old n sb sa) → IsMoved old new n (is_marked sa.postings) → AreSameLists (lists_of new) (lists_after (begun_of old n sb sa))
+settled_lists old new n sb sa b v = narrowed_lists old new n sb sa sa (is_within old n sa sb.postings (both_turned old n sb sa b)) b.after v
 
-pub both_turned : (m : BegunModel) → IsBegun m → (p : Posting) → is_in m.lists p m.number ≡ (is_marked m.before.postings p || is_marked m.after.postings p)
-both_turned m b p = b.here p ∙ or_turned (is_marked m.after.postings p) (is_marked m.before.postings p)
+pub former_lists : (old new : PostingsModel) (n : ℕ) (sb sa : SideModel) → IsBegun (begun_of old n sb sa) → IsMoved old new n (is_marked sb.postings) → AreSameLists (lists_of new) (lists_before (begun_of old n sb sa))
+former_lists old new n sb sa b v = narrowed_lists old new n sb sa sb (is_within old n sb sa.postings b.here) b.before v
 
--- lists to which the postings of an entry as it is to be were put
-abbrev pub AreWidened : List Kinds → List (Posting × List ℕ) → List (Posting × List ℕ) → ℕ → List KeyedAttribute → List KeyedAttribute → Type 0
-AreWidened ix ls ls' n b a = (p : Posting) (k : ℕ) → is_in ls' p k ≡ cond (nat_eq k n) (lists_entry ix a p || lists_entry ix b p) (is_in ls p k)
+-- lists that were widened are those of a change that has begun
+pub is_begun : (old new : PostingsModel) (n : ℕ) (b a : List KeyedAttribute) (sb sa : SideModel) → IsWidened old new n b a sb sa → IsBegun (begun_of new n sb sa)
+is_begun old new n b a sb sa w = record {
+  whole = subst (λ (ix : List Kinds). IsWhole ix new.lists new.columns) (sym w.moved.indexes) w.moved.whole;
+  here = λ p. w.moved.has p n ∙ ap (λ (x : Bool). cond x (lists_entry old.indexes a p || lists_entry old.indexes b p) (is_in old.lists p n)) (eq-eqb n n refl)
+      ∙ ap (λ (x : Bool). x || lists_entry old.indexes b p) (sym (w.after.postings p)) ∙ ap (λ (x : Bool). is_marked sa.postings p || x) (sym (w.before.postings p));
+  before = subst (λ (ix : List Kinds). IsOrderedSide ix sb) (sym w.moved.indexes) w.before.ordered;
+  after = subst (λ (ix : List Kinds). IsOrderedSide ix sa) (sym w.moved.indexes) w.after.ordered;
+}
 
-abbrev pub IsSideOf : List Kinds → SideModel → List KeyedAttribute → Type 0
-IsSideOf ix s a = (p : Posting) → is_marked s.postings p ≡ lists_entry ix a p
-
-pub begun_here : (ix : List Kinds) (ls ls' : List (Posting × List ℕ)) (n : ℕ) (b a : List KeyedAttribute) (sb sa : SideModel) → AreWidened ix ls ls' n b a → IsSideOf ix sb b → IsSideOf ix sa a
-    → (p : Posting) → is_in ls' p n ≡ (is_marked sa.postings p || is_marked sb.postings p)
-begun_here ix ls ls' n b a sb sa h eb ea p =
-    h p n ∙ ap (λ (x : Bool). cond x (lists_entry ix a p || lists_entry ix b p) (is_in ls p n)) (eq-eqb n n refl)
-    ∙ ap (λ (x : Bool). x || lists_entry ix b p) (sym (ea p)) ∙ ap (λ (x : Bool). is_marked sa.postings p || x) (sym (eb p))
+-- the lists that were widened, as they are of one side
+widened_moved : (old new : PostingsModel) (n : ℕ) (b a : List KeyedAttribute) (sb sa s : SideModel) → IsWidened old new n b a sb sa → IsWithin new n s → IsOrderedSide new.indexes s → AreMoved (lists_of old) (lists_with (begun_of new n sb sa) s) n (is_marked s.postings) (in_side s)
+widened_moved old new n b a sb sa s w i o =
+    moved_again (are_moved old new n (λ p. lists_entry old.indexes a p || lists_entry old.indexes b p) (λ r. list_any (is_posting_in r) (column_at new.columns n)) w.moved (λ r. refl))
+    (kept_moved new n sb sa s (is_begun old new n b a sb sa w).whole i o)
 
 -- what the lists of the entry as it was have is what was kept
-pub begun_before : (ix : List Kinds) (ls ls' : List (Posting × List ℕ)) (cs cs' : List (ℕ × List Posting)) (n : ℕ) (b a : List KeyedAttribute) (sb sa : SideModel) → IsWhole ix ls cs → IsBegun (begun ix ls' cs' n sb sa)
-    → AreWidened ix ls ls' n b a → IsSideOf ix sb b → ((p : Posting) → is_in ls p n ≡ lists_entry ix b p)
-    → AreSameLists (lists_with (begun ix ls' cs' n sb sa) sb) (lists_of (record { indexes = ix; lists = ls; columns = cs }))
-begun_before ix ls ls' cs cs' n b a sb sa w g h eb here = record {
-  postings = λ p. rising_same (kept_if (is_marked sb.postings p) n (list_at ls' p)) (list_at ls p) (some_rise (λ k. is_marked sb.postings p || not (nat_eq k n)) (list_at ls' p) (g.whole.rising p)) (w.rising p) (λ k. side_posting m sb within p k ∙ posted p k (nat_eq k n) refl);
-  ranges = λ r. rising_same (kept_if (list_any (is_posting_in r) sb.ordered) n (range_at cs' r)) (range_at cs r) (some_rise (λ k. list_any (is_posting_in r) sb.ordered || not (nat_eq k n)) (range_at cs' r) (range_rises cs' r g.whole.numbers)) (range_rises cs r w.numbers) (λ k. side_range m sb g.whole within g.before r k ∙ ranged r k (nat_eq k n) refl ∙ sym (in_range_at cs r k w.numbers));
-}
+pub begun_before : (old new : PostingsModel) (n : ℕ) (b a : List KeyedAttribute) (sb sa : SideModel) → IsWidened old new n b a sb sa → AreSameLists (lists_before (begun_of new n sb sa)) (lists_of old)
+begun_before old new n b a sb sa w =
+    same_moved (widened_moved old new n b a sb sa sb w (is_within new n sb sa.postings g.here) g.before)
+    (unmoved (lists_of old) n (is_marked sb.postings) (in_side sb) w.moved.was.rising (λ r. range_rises old.columns r w.moved.was.numbers) here
+    (λ r. in_range_at old.columns r n w.moved.was.numbers ∙ same_any (is_posting_in r) (column_at old.columns n) sb.ordered (λ p. w.moved.was.linked p n ∙ ap (λ (x : Bool). x && is_ordered old.indexes p) (here p) ∙ sym (w.before.ordered p))))
   where
-    m : BegunModel
-    m = begun ix ls' cs' n sb sa
+    g : IsBegun (begun_of new n sb sa)
+    g = is_begun old new n b a sb sa w
 
-    within : (p : Posting) → is_marked sb.postings p ≡ true → is_in ls' p n ≡ true
-    within p e = g.here p ∙ or_right (is_marked sa.postings p) (is_marked sb.postings p) e
-
-    posted : (p : Posting) (k : ℕ) (e : Bool) → nat_eq k n ≡ e → cond (nat_eq k n) (is_marked sb.postings p) (is_in ls' p k) ≡ is_in ls p k
-    posted p k true e = ap (λ (x : Bool). cond x (is_marked sb.postings p) (is_in ls' p k)) e ∙ eb p ∙ sym (here p) ∙ sym (ap (λ (x : ℕ). is_in ls p x) (eqb-true k n e))
-    posted p k false e = ap (λ (x : Bool). cond x (is_marked sb.postings p) (is_in ls' p k)) e ∙ h p k ∙ ap (λ (x : Bool). cond x (lists_entry ix a p || lists_entry ix b p) (is_in ls p k)) e
-
-    ranged : (r : Range) (k : ℕ) (e : Bool) → nat_eq k n ≡ e → cond (nat_eq k n) (list_any (is_posting_in r) sb.ordered) (list_any (is_posting_in r) (column_at cs' k)) ≡ list_any (is_posting_in r) (column_at cs k)
-    ranged r k true e =
-        ap (λ (x : Bool). cond x (list_any (is_posting_in r) sb.ordered) (list_any (is_posting_in r) (column_at cs' k))) e
-        ∙ same_any (is_posting_in r) sb.ordered (column_at cs k) (λ p. g.before p ∙ ap (λ (x : Bool). x && is_ordered ix p) (eb p ∙ sym (here p) ∙ sym (ap (λ (x : ℕ). is_in ls p x) (eqb-true k n e))) ∙ sym (w.linked p k))
-    ranged r k false e =
-        ap (λ (x : Bool). cond x (list_any (is_posting_in r) sb.ordered) (list_any (is_posting_in r) (column_at cs' k))) e
-        ∙ same_any (is_posting_in r) (column_at cs' k) (column_at cs k) (λ p. g.whole.linked p k ∙ ap (λ (x : Bool). x && is_ordered ix p) (h p k ∙ ap (λ (x : Bool). cond x (lists_entry ix a p || lists_entry ix b p) (is_in ls p k)) e) ∙ sym (w.linked p k))
+    here : (p : Posting) → is_in old.lists p n ≡ is_marked sb.postings p
+    here p = w.here p ∙ sym (w.before.postings p)
 
 -- the lists of the entry as it is to be are those of entries among which only its number has other attributes
-begun_listed : (ix : List Kinds) (ls ls' : List (Posting × List ℕ)) (cs cs' : List (ℕ × List Posting)) (n : ℕ) (b a : List KeyedAttribute) (sb sa : SideModel) → IsWhole ix ls cs → IsBegun (begun ix ls' cs' n sb sa)
-    → AreWidened ix ls ls' n b a → IsSideOf ix sa a → (es es' : List Indexed) → ArePostingsOf (lists_of (record { indexes = ix; lists = ls; columns = cs })) ix es
+begun_listed : (old new : PostingsModel) (n : ℕ) (b a : List KeyedAttribute) (sb sa : SideModel) → IsWidened old new n b a sb sa → (es es' : List Indexed) → AreOf old es
     → IsRising (map (λ e. e.number) es') → ((q : List KeyedAttribute → Bool) (k : ℕ) → found q k es' ≡ cond (nat_eq k n) (q a) (found q k es))
-    → ArePostingsOf (lists_with (begun ix ls' cs' n sb sa) sa) ix es'
-begun_listed ix ls ls' cs cs' n b a sb sa w g h ea es es' old up f = record {
-  numbered = up;
-  postings = λ p. rising_same (kept_if (is_marked sa.postings p) n (list_at ls' p)) (numbers_where (λ e. is_kept ix p && is_listed p e) es') (some_rise (λ k. is_marked sa.postings p || not (nat_eq k n)) (list_at ls' p) (g.whole.rising p)) (filtered_rises (λ e. is_kept ix p && is_listed p e.entry) es' up) (λ k. side_posting m sa within p k ∙ posted p k (nat_eq k n) refl);
-  ranges = λ r. rising_same (kept_if (list_any (is_posting_in r) sa.ordered) n (range_at cs' r)) (numbers_where (λ e. (kinds_of ix r.type_id).ordering && has_in_range r e) es') (some_rise (λ k. list_any (is_posting_in r) sa.ordered || not (nat_eq k n)) (range_at cs' r) (range_rises cs' r g.whole.numbers)) (filtered_rises (λ e. (kinds_of ix r.type_id).ordering && has_in_range r e.entry) es' up) (λ k. side_range m sa g.whole within g.after r k ∙ ranged r k (nat_eq k n) refl);
-}
+    → ArePostingsOf (lists_after (begun_of new n sb sa)) old.indexes es'
+begun_listed old new n b a sb sa w es es' held up f =
+    moved_entries old.indexes n a es es'
+    (moved_said (widened_moved old new n b a sb sa sa w (is_within new n sa sb.postings (both_turned new n sb sa g)) g.after) w.after.postings
+    (λ r. ranged_entry old.indexes a sa.ordered r (λ p. w.after.ordered p ∙ ap (λ (x : Bool). x && is_ordered old.indexes p) (w.after.postings p)))) held up (λ q k e. f q k)
   where
-    m : BegunModel
-    m = begun ix ls' cs' n sb sa
-
-    within : (p : Posting) → is_marked sa.postings p ≡ true → is_in ls' p n ≡ true
-    within p e = g.here p ∙ ap (λ (x : Bool). x || is_marked sb.postings p) e
-
-    found_after : (q : List KeyedAttribute → Bool) (k : ℕ) → has_number k (numbers_where q es') ≡ cond (nat_eq k n) (q a) (found q k es)
-    found_after q k = number_found q k es' ∙ f q k
-
-    posted : (p : Posting) (k : ℕ) (e : Bool) → nat_eq k n ≡ e → cond (nat_eq k n) (is_marked sa.postings p) (is_in ls' p k) ≡ has_number k (numbers_where (λ e. is_kept ix p && is_listed p e) es')
-    posted p k true e =
-        ap (λ (x : Bool). cond x (is_marked sa.postings p) (is_in ls' p k)) e ∙ ea p
-        ∙ sym (found_after (λ e. is_kept ix p && is_listed p e) k ∙ ap (λ (x : Bool). cond x (lists_entry ix a p) (found (λ e. is_kept ix p && is_listed p e) k es)) e)
-    posted p k false e =
-        ap (λ (x : Bool). cond x (is_marked sa.postings p) (is_in ls' p k)) e ∙ h p k ∙ ap (λ (x : Bool). cond x (lists_entry ix a p || lists_entry ix b p) (is_in ls p k)) e
-        ∙ ap (has_number k) (old.postings p) ∙ number_found (λ e. is_kept ix p && is_listed p e) k es
-        ∙ sym (found_after (λ e. is_kept ix p && is_listed p e) k ∙ ap (λ (x : Bool). cond x (lists_entry ix a p) (found (λ e. is_kept ix p && is_listed p e) k es)) e)
-
-    ranged : (r : Range) (k : ℕ) (e : Bool) → nat_eq k n ≡ e → cond (nat_eq k n) (list_any (is_posting_in r) sa.ordered) (list_any (is_posting_in r) (column_at cs' k)) ≡ has_number k (numbers_where (λ e. (kinds_of ix r.type_id).ordering && has_in_range r e) es')
-    ranged r k true e =
-        ap (λ (x : Bool). cond x (list_any (is_posting_in r) sa.ordered) (list_any (is_posting_in r) (column_at cs' k))) e
-        ∙ ranged_entry ix a sa.ordered r (λ p. g.after p ∙ ap (λ (x : Bool). x && is_ordered ix p) (ea p))
-        ∙ sym (found_after (λ e. (kinds_of ix r.type_id).ordering && has_in_range r e) k ∙ ap (λ (x : Bool). cond x ((kinds_of ix r.type_id).ordering && has_in_range r a) (found (λ e. (kinds_of ix r.type_id).ordering && has_in_range r e) k es)) e)
-    ranged r k false e =
-        ap (λ (x : Bool). cond x (list_any (is_posting_in r) sa.ordered) (list_any (is_posting_in r) (column_at cs' k))) e
-        ∙ same_any (is_posting_in r) (column_at cs' k) (column_at cs k) (λ p. g.whole.linked p k ∙ ap (λ (x : Bool). x && is_ordered ix p) (h p k ∙ ap (λ (x : Bool). cond x (lists_entry ix a p || lists_entry ix b p) (is_in ls p k)) e) ∙ sym (w.linked p k))
-        ∙ sym (in_range_at cs r k w.numbers) ∙ ap (has_number k) (old.ranges r) ∙ number_found (λ e. (kinds_of ix r.type_id).ordering && has_in_range r e) k es
-        ∙ sym (found_after (λ e. (kinds_of ix r.type_id).ordering && has_in_range r e) k ∙ ap (λ (x : Bool). cond x ((kinds_of ix r.type_id).ordering && has_in_range r a) (found (λ e. (kinds_of ix r.type_id).ordering && has_in_range r e) k es)) e)
+    g : IsBegun (begun_of new n sb sa)
+    g = is_begun old new n b a sb sa w
 
 -- the lists of the entry as it is to be are those of the entries after the change
-pub begun_after : (ix : List Kinds) (ls ls' : List (Posting × List ℕ)) (cs cs' : List (ℕ × List Posting)) (n : ℕ) (b a : List KeyedAttribute) (sb sa : SideModel) → IsWhole ix ls cs → IsBegun (begun ix ls' cs' n sb sa)
-    → AreWidened ix ls ls' n b a → IsSideOf ix sa a → (es : List Indexed) → ArePostingsOf (lists_of (record { indexes = ix; lists = ls; columns = cs })) ix es → HasEntry es n b
-    → ArePostingsOf (lists_with (begun ix ls' cs' n sb sa) sa) ix (with_attributes n a es)
-begun_after ix ls ls' cs cs' n b a sb sa w g h ea es old held =
-    begun_listed ix ls ls' cs cs' n b a sb sa w g h ea es (with_attributes n a es) old (subst IsRising (sym (same_numbers n a es)) old.numbered)
-    (λ q k. found_with q k n a es ∙ ap (λ (x : Bool). cond (nat_eq k n) (x && q a) (found q k es)) (held_there n b es held))
+pub begun_after : (old new : PostingsModel) (n : ℕ) (b a : List KeyedAttribute) (sb sa : SideModel) → IsWidened old new n b a sb sa → (es : List Indexed) → AreOf old es → HasEntry es n b
+    → ArePostingsOf (lists_after (begun_of new n sb sa)) old.indexes (with_attributes n a es)
+begun_after old new n b a sb sa w es held there =
+    begun_listed old new n b a sb sa w es (with_attributes n a es) held (subst IsRising (sym (same_numbers n a es)) held.numbered)
+    (λ q k. found_with q k n a es ∙ ap (λ (x : Bool). cond (nat_eq k n) (x && q a) (found q k es)) (held_there n b es there))
 
 -- and after an entry more
-pub begun_added : (ix : List Kinds) (ls ls' : List (Posting × List ℕ)) (cs cs' : List (ℕ × List Posting)) (n : ℕ) (b a : List KeyedAttribute) (sb sa : SideModel) → IsWhole ix ls cs → IsBegun (begun ix ls' cs' n sb sa)
-    → AreWidened ix ls ls' n b a → IsSideOf ix sa a → (es : List Indexed) → ArePostingsOf (lists_of (record { indexes = ix; lists = ls; columns = cs })) ix es → AllBelow n es
-    → ArePostingsOf (lists_with (begun ix ls' cs' n sb sa) sa) ix (es ++ record { number = n; entry = a } ∷ [])
-begun_added ix ls ls' cs cs' n b a sb sa w g h ea es old below =
-    begun_listed ix ls ls' cs cs' n b a sb sa w g h ea es (es ++ record { number = n; entry = a } ∷ []) old (push_rises n a es old.numbered below) (λ q k. found_new q k n a es below)
+pub begun_added : (old new : PostingsModel) (n : ℕ) (b a : List KeyedAttribute) (sb sa : SideModel) → IsWidened old new n b a sb sa → (es : List Indexed) → AreOf old es → AllBelow n es
+    → ArePostingsOf (lists_after (begun_of new n sb sa)) old.indexes (es ++ record { number = n; entry = a } ∷ [])
+begun_added old new n b a sb sa w es held below =
+    begun_listed old new n b a sb sa w es (es ++ record { number = n; entry = a } ∷ []) held (push_rises n a es held.numbered below) (λ q k. found_new q k n a es below)
 
 -- a column with a posting can't be within one that isn't there
 pub no_place : {P : Type 0} (col : List Posting) → (col ≡ [] → ⊥) → ((p : Posting) → is_marked col p ≡ true → false ≡ true) → P

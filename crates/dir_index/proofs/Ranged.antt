@@ -1,6 +1,6 @@
 -- The map from numbers to postings: look-ups after a change, and its numbers in order.
-use Rattle.std.proofs.Common.{◌≡◌, ℕ, ◌<◌, Bool, true, false, cond, List, [], ◌∷◌, ◌++◌, Option, Some, None, map, refl, sym, ap, ◌∙◌, subst, nat_eq, Vec, Global, Ordering, arith}
-use Rattle.std.specs.Prelude.{◌&&◌, ◌||◌}
+use Rattle.std.proofs.Common.{◌≡◌, ℕ, ◌<◌, Bool, true, false, cond, List, [], ◌∷◌, Option, Some, None, map, refl, sym, ap, ◌∙◌, subst, nat_eq, Vec, Global, Ordering, arith}
+use Rattle.std.specs.Prelude.{◌||◌}
 use Rattle.std.specs.Ordering.{is_eq, nat_cmp}
 use Rattle.std.specs.Cmp.{unsigned_ties, nat_eq_equiv}
 use Rattle.std.specs.List.{list_any, AllByRecursion, filter}
@@ -11,12 +11,8 @@ use Rattle.std.proofs.lemmas.Cmp.{ranked}
 use Rattle.std.proofs.lemmas.Bool.{eqb-true}
 use Rattle.dir_index.specs.declared.posting.Posting.{Posting}
 use Rattle.dir_index.specs.declared.posting.Range.{Range}
-use Rattle.dir_index.specs.Ordered.{is_same_posting}
 use Rattle.dir_index.specs.Postings.{has_number, IsRising}
-use Rattle.dir_index.specs.Marked.{is_marked}
 use Rattle.dir_index.specs.Columns.{ColumnRows, shown, or_none, column_at, column_numbers, is_posting_in, range_at}
-use Rattle.dir_index.proofs.Rows.{one_posting}
-use Rattle.dir_index.proofs.Marking.{off, marked_push}
 use Rattle.dir_index.proofs.Rising.{none_above}
 
 -- what a look-up finds, without its memory
@@ -59,30 +55,6 @@ pub numbers_rise : (rows : ColumnRows) → IsStrictlySortedBy nat_cmp (keys_of r
 unfolding IsStrictlySortedBy
 numbers_rise [] h = tt
 numbers_rise (r ∷ rs) h = (all_less r.0 rs h.0, numbers_rise rs h.1)
-
--- one more posting of a set, where it passes a test, and where it doesn't
-pub kept_by : (f : Posting → Bool) (left all rest : List Posting) (k p : Posting) → f k ≡ true
-    → (is_marked left p || (is_marked (k ∷ rest) p && f p)) ≡ (is_marked all p && f p)
-    → (is_marked (left ++ k ∷ []) p || (is_marked rest p && f p)) ≡ (is_marked all p && f p)
-kept_by f left all rest k p yes' h =
-    ap (λ (b : Bool). b || (is_marked rest p && f p)) (marked_push left k p)
-    ∙ pushed (is_marked left p) (is_same_posting k p) (is_marked rest p) (f p) (λ e. ap f (sym (one_posting k p e)) ∙ yes') ∙ h
-  where
-    pushed : (a s m o : Bool) → (s ≡ true → o ≡ true) → ((a || (s || false)) || (m && o)) ≡ (a || ((s || m) && o))
-    pushed true s m o g = refl
-    pushed false true m o g = sym (g refl)
-    pushed false false m o g = refl
-
-pub left_by : (f : Posting → Bool) (left all rest : List Posting) (k p : Posting) → f k ≡ false
-    → (is_marked left p || (is_marked (k ∷ rest) p && f p)) ≡ (is_marked all p && f p)
-    → (is_marked left p || (is_marked rest p && f p)) ≡ (is_marked all p && f p)
-left_by f left all rest k p no' h =
-    skipped (is_marked left p) (is_same_posting k p) (is_marked rest p) (f p) (λ e. ap f (sym (one_posting k p e)) ∙ no') ∙ h
-  where
-    skipped : (a s m o : Bool) → (s ≡ true → o ≡ false) → (a || (m && o)) ≡ (a || ((s || m) && o))
-    skipped true s m o g = refl
-    skipped false true m o g = ap (λ (b : Bool). m && b) (g refl) ∙ off m ∙ sym (g refl)
-    skipped false false m o g = refl
 
 -- ---- the numbers of a range
 

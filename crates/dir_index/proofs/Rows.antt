@@ -133,6 +133,10 @@ pub on_err : {A E P Q : Type 0} (r : Result A E) → (P → Q) → OnErr r P →
 on_err (Ok a) f h = h
 on_err (Err e) f h = f h
 
+pub at_err : {A E P : Type 0} (r : Result A E) → P → OnErr r P
+at_err (Ok a) h = tt
+at_err (Err e) h = h
+
 -- what holds of what an Ok leaves, and of what was there, holds where an Err leaves it
 pub either : {A E : Type 0} (r : Result A E) (P : List ℕ → Type 0) (new old : List ℕ) → OnOk r (P new) → OnErr r (new ≡ old) → P old → P new
 either (Ok a) P new old h e p = h

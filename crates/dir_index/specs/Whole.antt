@@ -1,5 +1,5 @@
 -- What is kept as a whole, and which entries it is of. How it is changed is not here.
-use Rattle.std.specs.Prelude.{◌≡◌, ℕ, ◌<◌, List, [], ◌∷◌, ◌&&◌, cond, map, filter, not, nat_eq, ◌⊎◌}
+use Rattle.std.specs.Prelude.{◌≡◌, ℕ, ◌<◌, List, [], ◌∷◌, Bool, ◌&&◌, cond, map, filter, not, nat_eq, ◌⊎◌}
 use Rattle.std.specs.List.{AllByRecursion}
 use Rattle.index_choice.specs.dir_entry.Entry.{KeyedAttribute}
 use Rattle.index_choice.specs.declared.kinds.Kinds.{Kinds}
@@ -57,6 +57,17 @@ with_attributes n a es = map (λ e. cond (nat_eq e.number n) (record { number = 
 -- The lists are those of the entries under their own index choice.
 abbrev pub AreOf : PostingsModel → List Indexed → Type 0
 AreOf m es = ArePostingsOf (lists_of m) m.indexes es
+
+-- The number is in the lists of just the postings that pass.
+abbrev pub IsUnder : PostingsModel → ℕ → (Posting → Bool) → Type 0
+IsUnder m n listed = (p : Posting) → is_in m.lists p n ≡ listed p
+
+-- One number moved and nothing else: now it is in the lists of just the postings that pass. What is kept was whole, and still is.
+pub record IsMoved (old new : PostingsModel) (n : ℕ) (listed : Posting → Bool) : Type 0 where
+  pub indexes : new.indexes ≡ old.indexes
+  pub was : IsWhole old.indexes old.lists old.columns
+  pub whole : IsWhole old.indexes new.lists new.columns
+  pub has : (p : Posting) (k : ℕ) → is_in new.lists p k ≡ cond (nat_eq k n) (listed p) (is_in old.lists p k)
 
 -- The lists are of some entries whose numbers are all below this one.
 abbrev pub IsAboveAll : PostingsModel → ℕ → Type 0

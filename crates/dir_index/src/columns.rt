@@ -125,6 +125,7 @@ fn is_some_in(range: &Range, postings: &[Posting]) -> bool
 }
 
 /// Whether a number has a key in a range: a look-up, and a test of each of its keys.
+#[tactic(auto, using(crate::proofs::Ranged::columns_at))]
 pub fn has_in_range(columns: &Columns, range: &Range, number: u64) -> bool
     ensures { result ≡ list_any (is_in_range_posting range.now) (column_at (shown columns.now.entries) number) }
 {

@@ -86,6 +86,7 @@ fn mark_key(
 }
 
 /// Puts the postings of an attribute's keys to the others.
+#[tactic(auto, using(crate::proofs::Marking::any_more))]
 fn mark_keys(
     alloc: Global,
     marks: &mut Marks,

@@ -30,6 +30,7 @@ pub fn has(numbers: &[u64], number: u64) -> bool
 }
 
 /// Puts a number into a rising list, if it is not there. An `Err` changes nothing.
+#[tactic(auto, using(crate::proofs::Rising::has_put, crate::proofs::Rising::rising_put, crate::proofs::Rising::has_there))]
 pub fn put_in(numbers: &mut Vec<u64>, number: u64) -> Result<(), AllocError>
     requires { IsRising numbers.old.items }
     ensures has { OnOk result ((n : ℕ) → has_number n numbers.new.items ≡ (nat_eq n number || has_number n numbers.old.items)) }
@@ -46,6 +47,7 @@ pub fn put_in(numbers: &mut Vec<u64>, number: u64) -> Result<(), AllocError>
 }
 
 /// Takes a number out of a rising list, if it is there.
+#[tactic(auto, using(crate::proofs::Rising::has_out, crate::proofs::Rising::rising_out, crate::proofs::Rising::has_out_none))]
 pub fn take_out(numbers: &mut Vec<u64>, number: u64)
     requires { IsRising numbers.old.items }
     ensures has { (n : ℕ) → has_number n numbers.new.items ≡ (not (nat_eq n number) && has_number n numbers.old.items) }

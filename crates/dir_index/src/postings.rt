@@ -10,7 +10,6 @@ use crate::kept::Kept;
 use crate::numbers::has;
 use crate::posting::{Posting, Range};
 use crate::ranging::push_lists;
-use crate::shifting::change;
 use crate::tables::{Table, list_of};
 use index_choice::{Entry, Indexes};
 use std::alloc::{AllocError, Global};
@@ -67,15 +66,7 @@ impl Postings {
         ensures indexes { self.new.indexes ≡ self.old.indexes }
         ensures err { OnErr result (AreSameLists (lists_of self.new) (lists_of self.old)) }
     {
-        change(
-            self.alloc,
-            &self.indexes,
-            &mut self.lists,
-            &mut self.columns,
-            number,
-            &[],
-            entry.attributes(),
-        )
+        self.change(number, &[], entry.attributes())
     }
 
     /// Takes an entry out of the lists. It takes memory for the entry's postings before it changes anything; an `Err` changes nothing.
@@ -85,15 +76,7 @@ impl Postings {
         ensures indexes { self.new.indexes ≡ self.old.indexes }
         ensures err { OnErr result (AreSameLists (lists_of self.new) (lists_of self.old)) }
     {
-        change(
-            self.alloc,
-            &self.indexes,
-            &mut self.lists,
-            &mut self.columns,
-            number,
-            entry.attributes(),
-            &[],
-        )
+        self.change(number, entry.attributes(), &[])
     }
 
     /// Lists an entry as it is after a change of its attributes: it leaves the lists that it is no longer in. An `Err` changes nothing.
@@ -103,15 +86,7 @@ impl Postings {
         ensures indexes { self.new.indexes ≡ self.old.indexes }
         ensures err { OnErr result (AreSameLists (lists_of self.new) (lists_of self.old)) }
     {
-        change(
-            self.alloc,
-            &self.indexes,
-            &mut self.lists,
-            &mut self.columns,
-            number,
-            before.attributes(),
-            after.attributes(),
-        )
+        self.change(number, before.attributes(), after.attributes())
     }
 }
 
@@ -131,6 +106,7 @@ impl Kept for Postings {
         has(list_of(&self.lists, posting), number)
     }
 
+    #[tactic(auto, using(crate::proofs::Ranged::in_range_at))]
     fn in_range(&self, range: &Range, number: u64) -> bool
         ensures { result ≡ has_number number ((lists_of self.now).range range.now) }
     {

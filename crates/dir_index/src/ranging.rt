@@ -19,6 +19,7 @@ use std::alloc::{AllocError, Global};
 use std::ops::Bound;
 
 /// A posting that no posting of the range stands before.
+#[tactic(auto, using(crate::proofs::Ends::low_is))]
 fn low_end(alloc: Global, range: &Range) -> Result<Posting, AllocError>
     ensures { IfOk result (λ p. (q : Posting) → is_in_range_posting range.now q ≡ true → IsLeBy posting_order p q) }
 {
@@ -32,6 +33,7 @@ fn low_end(alloc: Global, range: &Range) -> Result<Posting, AllocError>
 }
 
 /// A posting that no posting of the range stands behind.
+#[tactic(auto, using(crate::proofs::Ends::high_is))]
 fn high_end(alloc: Global, range: &Range) -> Result<Posting, AllocError>
     ensures { IfOk result (λ p. (q : Posting) → is_in_range_posting range.now q ≡ true → IsLeBy posting_order q p) }
 {

@@ -1,10 +1,8 @@
 // The two sides of an entry's change. An index choice and attributes flow in; the postings that list the entry flow out.
 // What must not be here: lists of numbers.
 
-ghost use Rattle.std.specs.Prelude.{◌≡◌, ◌&&◌, IfOk};
-ghost use Rattle.dir_index.specs.declared.posting.Posting.{Posting};
-ghost use Rattle.dir_index.specs.Marked.{is_marked, lists_entry};
-ghost use Rattle.dir_index.specs.Columns.{is_ordered};
+ghost use Rattle.std.specs.Prelude.{IfOk};
+ghost use Rattle.dir_index.specs.Begun.{side_shown, IsSideOf};
 
 use crate::columns::column_of;
 use crate::marks::{Marks, marks_of};
@@ -28,8 +26,7 @@ pub struct Sides {
 
 /// The postings of an entry of these attributes.
 fn side_of(alloc: Global, indexes: &Indexes, attributes: &[Attribute]) -> Result<Side, AllocError>
-    ensures postings { IfOk result (λ s. (p : Posting) → is_marked s.postings.keys p ≡ lists_entry indexes.now attributes.now p) }
-    ensures ordered { IfOk result (λ s. (p : Posting) → is_marked s.ordered.items p ≡ (is_marked s.postings.keys p && is_ordered indexes.now p)) }
+    ensures { IfOk result (λ s. IsSideOf indexes.now (side_shown s) attributes.now) }
 {
     let postings = marks_of(alloc, indexes, attributes)?;
     let ordered = column_of(alloc, indexes, &postings)?;
@@ -43,10 +40,8 @@ pub fn sides_of(
     before: &[Attribute],
     after: &[Attribute],
 ) -> Result<Sides, AllocError>
-    ensures before { IfOk result (λ s. (p : Posting) → is_marked s.before.postings.keys p ≡ lists_entry indexes.now before.now p) }
-    ensures after { IfOk result (λ s. (p : Posting) → is_marked s.after.postings.keys p ≡ lists_entry indexes.now after.now p) }
-    ensures before_ordered { IfOk result (λ s. (p : Posting) → is_marked s.before.ordered.items p ≡ (is_marked s.before.postings.keys p && is_ordered indexes.now p)) }
-    ensures after_ordered { IfOk result (λ s. (p : Posting) → is_marked s.after.ordered.items p ≡ (is_marked s.after.postings.keys p && is_ordered indexes.now p)) }
+    ensures before { IfOk result (λ s. IsSideOf indexes.now (side_shown s.before) before.now) }
+    ensures after { IfOk result (λ s. IsSideOf indexes.now (side_shown s.after) after.now) }
 {
     let old = side_of(alloc, indexes, before)?;
     let new = side_of(alloc, indexes, after)?;

@@ -30,6 +30,7 @@ pub fn copy_posting(alloc: Global, posting: &Posting) -> Result<Posting, AllocEr
 }
 
 /// The list of a posting; none is empty.
+#[tactic(auto, using(crate::proofs::Rows::rows_at))]
 pub fn list_of<'a>(table: &'a Table, posting: &Posting) -> &'a [u64]
     ensures { result.now ≡ list_at (seen table.now.entries) posting.now }
 {
