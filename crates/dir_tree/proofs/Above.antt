@@ -1,7 +1,6 @@
 -- The names above a name, by how many parts they have.
-use Rattle.std.proofs.Common.{◌≡◌, ℕ, ◌+◌, ◌≤◌, Bool, true, false, cond, List, [], ◌∷◌, length, take, suc, zero, Option, refl, sym, ap, ◌∙◌, arith, nat_lt}
+use Rattle.std.proofs.Common.{◌≡◌, ℕ, ◌+◌, ◌≤◌, Bool, true, false, List, [], ◌∷◌, length, take, suc, zero, refl, sym, ap, ◌∙◌, arith, nat_lt}
 use Rattle.std.specs.Prelude.{◌&&◌}
-use Rattle.std.specs.Option.{option_map}
 use Rattle.std.proofs.lemmas.List.{length-take-le}
 use Rattle.dir_entry.specs.ldap_dn.Names.{TypeAndKey, are_same_keys}
 use Rattle.dir_tree.specs.Directory.{NameKey, name_eq, begins}
@@ -52,14 +51,3 @@ above_off q n i h = off (begins q n) refl
     off : (b : Bool) → b ≡ begins q n → (b && nat_lt (length q) (i + 1)) ≡ (b && nat_lt (length q) i)
     off false e = refl
     off true e = bound_more (length q) i (λ same. cc (h, sym ((name_decides q (take i n)).1 (begins-is q n (sym e) ∙ ap (λ (k : ℕ). take k n) same))))
-
-pub above_more : {S : Type 0} (f : S → S) (q n : NameKey) (i : ℕ) → i ≤ length n → (p : Option S) (x : Option S) → x ≡ cond (is_above i n q) (option_map f p) p
-    → cond (name_eq q (take i n)) (option_map f x) x ≡ cond (is_above (i + 1) n q) (option_map f p) p
-above_more {S} f q n i le p x e = pick (name_eq q (take i n)) refl
-  where
-    pick : (a : Bool) → name_eq q (take i n) ≡ a → cond a (option_map f x) x ≡ cond (is_above (i + 1) n q) (option_map f p) p
-    pick true h =
-        let t : (is_above i n q ≡ false) × (is_above (i + 1) n q ≡ true) = above_at q n i le h in
-        let was : x ≡ p = e ∙ ap (λ (b : Bool). cond b (option_map f p) p) t.0 in
-        ap (λ (o : Option S). option_map f o) was ∙ sym (ap (λ (b : Bool). cond b (option_map f p) p) t.1)
-    pick false h = e ∙ sym (ap (λ (b : Bool). cond b (option_map f p) p) (above_off q n i h))

@@ -2,14 +2,14 @@
 use Rattle.std.proofs.Common.{◌≡◌, ℕ, ◌+◌, ◌<◌, ◌≤◌, Bool, true, false, cond, List, [], ◌∷◌, ◌++◌, length, take, Option, Some, None, refl, sym, ap, ◌∙◌, arith, nat_eq, nat_lt, append-nil, min}
 use Rattle.std.specs.Prelude.{◌&&◌, not}
 use Rattle.std.specs.Option.{option_map}
-use Rattle.std.proofs.lemmas.List.{length-take-le, length-take}
+use Rattle.std.proofs.lemmas.List.{length-take}
 use Rattle.std.proofs.Math.Seq.{take-length}
 use Rattle.std.proofs.lemmas.Bool.{ltb-false}
 use Rattle.dir_tree.specs.Directory.{NameKey, name_eq, begins, is_child}
 use Rattle.dir_tree.specs.Labelled.{Label, Labels, LabelsBelow, label_at, numbers_in}
 use Rattle.dir_tree.specs.Places.{Shown, is_above, listed, enlisted, struck, dropped, place_of}
 use Rattle.dir_tree.proofs.KeptLemmas.{part_decides, name_decides, name_eq-refl}
-use Rattle.dir_tree.proofs.Above.{begins-is, begins-take, and-false}
+use Rattle.dir_tree.proofs.Above.{begins-is, and-false}
 
 -- a number after all of a list is no element of what is left of it
 pub dropped-push : (k : ℕ) (xs : List ℕ) → dropped k xs ≡ xs → dropped k (xs ++ k ∷ []) ≡ xs
@@ -39,7 +39,7 @@ pub struck-enlisted : (q n : NameKey) (k : ℕ) (p : Option Shown) → option_ma
 struck-enlisted q n k None h = refl
 struck-enlisted q n k (Some p) h = let e : struck k p ≡ p = cc h in ap Some (struck-listed (is_child q n) k p e)
 
-still_above : (q n : NameKey) (i : ℕ) → i ≤ length n → is_above i n q ≡ true → is_above (length n) n q ≡ true
+pub still_above : (q n : NameKey) (i : ℕ) → i ≤ length n → is_above i n q ≡ true → is_above (length n) n q ≡ true
 still_above q n i le h = both (begins q n) h
   where
     grows : (k : ℕ) → nat_lt k i ≡ true → nat_lt k (length n) ≡ true
@@ -68,25 +68,7 @@ undone q n i k le x y p z fresh e f g = pick (is_above i n q) refl
 pub taken_back : (q n : NameKey) (k : ℕ) (y p z : Option Shown) → option_map (struck k) p ≡ p → y ≡ cond (is_above (length n) n q) (option_map (enlisted n q k) p) p → z ≡ cond (is_above (length n) n q) (option_map (struck k) y) y → z ≡ p
 taken_back q n k y p z fresh e g = undone q n (length n) k (omega arith) y y p z fresh e refl g
 
--- the flag of the name right above
-pub last_above : {S : Type 0} (f : Bool → S → S) (q n : NameKey) (i : ℕ) (flag : Bool) → i < length n → flag ≡ nat_eq (i + 1) (length n) → (x : Option S)
-    → cond (name_eq q (take i n)) (option_map (f flag) x) x ≡ cond (name_eq q (take i n)) (option_map (f (is_child q n)) x) x
-last_above {S} f q n i flag lt e x = pick (name_eq q (take i n)) refl
-  where
-    swapped : (a b : ℕ) → nat_eq (a + 1) b ≡ nat_eq b (a + 1)
-    swapped a b = grind arith
-
-    pick : (a : Bool) → name_eq q (take i n) ≡ a → cond a (option_map (f flag) x) x ≡ cond a (option_map (f (is_child q n)) x) x
-    pick false h = refl
-    pick true h =
-        let is : q ≡ take i n = (name_decides q (take i n)).0 h in
-        let le : i ≤ length n = omega arith in
-        let long : length q ≡ i = ap (λ (m : NameKey). length m) is ∙ length-take-le i n le in
-        let front : begins q n ≡ true = ap (λ (m : NameKey). begins m n) is ∙ begins-take n i in
-        let same : flag ≡ is_child q n = e ∙ swapped i (length n) ∙ sym (ap (λ (b : Bool). b && nat_eq (length n) (length q + 1)) front ∙ ap (λ (k : ℕ). nat_eq (length n) (k + 1)) long) in
-        ap (λ (b : Bool). option_map (f b) x) same
-
-find-push : (q : NameKey) (d : Labels) (e : Label) → name_eq q e.name ≡ false → label_at q (d ++ e ∷ []) ≡ label_at q d
+pub find-push : (q : NameKey) (d : Labels) (e : Label) → name_eq q e.name ≡ false → label_at q (d ++ e ∷ []) ≡ label_at q d
 find-push q [] e h = ap (λ (b : Bool). cond b (Some e) None) h
 find-push q (x ∷ d) e h = ap (λ (o : Option Label). cond (name_eq q x.name) (Some x) o) (find-push q d e h)
 

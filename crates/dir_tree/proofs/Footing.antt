@@ -11,6 +11,7 @@ use Rattle.dir_tree.specs.Labelled.{Label, Labels, LabelsBelow, LabelsAbove, Lab
 use Rattle.dir_tree.proofs.KeptLemmas.{name_decides, part_decides, name_eq-refl, names, both, and_true}
 use Rattle.dir_tree.proofs.Above.{begins-is, begins-take}
 use Rattle.dir_tree.proofs.Changes.{begins-own}
+pub use Rattle.dir_tree.proofs.Changes.{find-push as label-push}
 
 -- a shorter beginning begins a longer one
 pub begins-front : (p q : NameKey) (m : ℕ) → length p ≤ m → begins p q ≡ true → begins p (take m q) ≡ true
@@ -78,7 +79,7 @@ numbers-none t (e ∷ d) h =
     later n true f = refl
     later n false f = f
 
-or_else : (a b : Bool) → (a || b) ≡ true → a ≡ false → b ≡ true
+pub or_else : (a b : Bool) → (a || b) ≡ true → a ≡ false → b ≡ true
 or_else true b h e = absurd (cc e)
 or_else false b h e = h
 
@@ -121,11 +122,6 @@ rise-push (x ∷ d) e h b = (more d h.0 b.0, rise-push d e h.1 b.1)
     more [] a l = (l, tt)
     more (y ∷ d) a l = (a.0, more d a.1 l)
 
--- a look-up once a label is there
-pub label-push : (q : NameKey) (d : Labels) (e : Label) → name_eq q e.name ≡ false → label_at q (d ++ e ∷ []) ≡ label_at q d
-label-push q [] e h = ap (λ (b : Bool). cond b (Some e) None) h
-label-push q (x ∷ d) e h = ap (λ (o : Option Label). cond (name_eq q x.name) (Some x) o) (label-push q d e h)
-
 some-push : (q : NameKey) (d : Labels) (e : Label) → is_some (label_at q d) ≡ true → is_some (label_at q (d ++ e ∷ [])) ≡ true
 some-push q [] e h = absurd (cc h)
 some-push q (x ∷ d) e h = by (name_eq q x.name) h (some-push q d e)
@@ -163,12 +159,12 @@ directory-push s d e t b gone foot = record { rise = rise-push d e t.rise b; dif
         by false f = t.parents q (sym (ap (λ (o : Option Label). is_some o) (label-push q d e f)) ∙ h) g
 
 -- the name above a name, from its relative names
-pub above-rdns : (n : List RdnModel) (i : ℕ) → i ≡ length n - 1 → rdns (take i n) ≡ above (rdns n)
-above-rdns n i h = ap (λ (k : ℕ). rdns (take k n)) h ∙ sym (take-map (λ (r : RdnModel). r.keys) (length n - 1) n) ∙ ap (λ (k : ℕ). take (k - 1) (rdns n)) (sym (length-map n (λ (r : RdnModel). r.keys)))
+pub above_rdns : (n : List RdnModel) (i : ℕ) → i ≡ length n - 1 → rdns (take i n) ≡ above (rdns n)
+above_rdns n i h = ap (λ (k : ℕ). rdns (take k n)) h ∙ sym (take-map (λ (r : RdnModel). r.keys) (length n - 1) n) ∙ ap (λ (k : ℕ). take (k - 1) (rdns n)) (sym (length-map n (λ (r : RdnModel). r.keys)))
 
 -- names are one where their relative names are
-pub same-rdns : (a b : List RdnModel) → pointwise (λ (x y : RdnModel). are_same_keys x.keys y.keys) a b ≡ name_eq (rdns a) (rdns b)
-same-rdns [] [] = refl
-same-rdns [] (y ∷ ys) = refl
-same-rdns (x ∷ xs) [] = refl
-same-rdns (x ∷ xs) (y ∷ ys) = ap (λ (v : Bool). are_same_keys x.keys y.keys && v) (same-rdns xs ys)
+pub same_rdns : (a b : List RdnModel) → pointwise (λ (x y : RdnModel). are_same_keys x.keys y.keys) a b ≡ name_eq (rdns a) (rdns b)
+same_rdns [] [] = refl
+same_rdns [] (y ∷ ys) = refl
+same_rdns (x ∷ xs) [] = refl
+same_rdns (x ∷ xs) (y ∷ ys) = ap (λ (v : Bool). are_same_keys x.keys y.keys && v) (same_rdns xs ys)

@@ -1,5 +1,5 @@
 -- What is kept under numbers, after a change of the map.
-use Rattle.std.proofs.Common.{◌≡◌, ℕ, Bool, true, false, cond, List, [], ◌∷◌, Option, Some, None, Ordering, refl, sym, ap, ◌∙◌, nat_eq, arith}
+use Rattle.std.proofs.Common.{◌≡◌, ℕ, Bool, true, false, cond, [], ◌∷◌, Option, Some, None, Ordering, refl, sym, ap, ◌∙◌, nat_eq, arith}
 use Rattle.std.specs.Prelude.{◌&&◌, is_some}
 use Rattle.std.specs.Option.{option_map}
 use Rattle.std.specs.Ordering.{nat_cmp, is_eq, match_ordering}
@@ -10,16 +10,13 @@ use Rattle.dir_tree.specs.Kept.{PlaceEntries, held, shown, lists_of, lists_at, l
 use Rattle.dir_tree.specs.declared.place.Place.{Place}
 use Rattle.dir_tree.proofs.Numbered.{is_eq-nat, same_number}
 
-abbrev pub at : ℕ → ℕ → Bool
-at k n = is_eq (nat_cmp k n)
-
 pub own_number : (k : ℕ) → nat_eq k k ≡ true
 own_number k = grind arith
 
 -- a look-up of the map
-pub held-lookup : (k : ℕ) (ps : PlaceEntries) → lookup (λ n. is_eq (nat_cmp k n)) ps ≡ held ps k
-held-lookup k [] = refl
-held-lookup k (e ∷ ps) = ap (λ (b : Bool). cond b (Some e.1) (lookup (λ n. is_eq (nat_cmp k n)) ps)) (is_eq-nat k e.0) ∙ ap (λ (o : Option Place). cond (nat_eq k e.0) (Some e.1) o) (held-lookup k ps)
+pub held_lookup : (k : ℕ) (ps : PlaceEntries) → lookup (λ n. is_eq (nat_cmp k n)) ps ≡ held ps k
+held_lookup k [] = refl
+held_lookup k (e ∷ ps) = ap (λ (b : Bool). cond b (Some e.1) (lookup (λ n. is_eq (nat_cmp k n)) ps)) (is_eq-nat k e.0) ∙ ap (λ (o : Option Place). cond (nat_eq k e.0) (Some e.1) o) (held_lookup k ps)
 
 -- another place under a number
 pub held-put : (k : ℕ) (w : Place) (ps : PlaceEntries) → is_some (held ps k) ≡ true → (j : ℕ) → held (set_value (λ n. is_eq (nat_cmp k n)) ps w) j ≡ cond (nat_eq j k) (Some w) (held ps j)
@@ -55,9 +52,9 @@ held-put k w (e ∷ ps) h j =
     by false f s ih = apart (nat_eq j e.0) (nat_eq j k) refl refl f (ih s)
 
 -- a new number's place, or another one under a number
-pub held-insert : (k : ℕ) (v : Place) (ps : PlaceEntries) (j : ℕ) → held (insert_entry nat_cmp ps k v) j ≡ cond (nat_eq j k) (Some v) (held ps j)
-held-insert k v [] j = refl
-held-insert k v (e ∷ ps) j = by (nat_cmp k e.0) refl (held-insert k v ps j)
+pub held_insert : (k : ℕ) (v : Place) (ps : PlaceEntries) (j : ℕ) → held (insert_entry nat_cmp ps k v) j ≡ cond (nat_eq j k) (Some v) (held ps j)
+held_insert k v [] j = refl
+held_insert k v (e ∷ ps) j = by (nat_cmp k e.0) refl (held_insert k v ps j)
   where
     rest : PlaceEntries
     rest = insert_entry nat_cmp ps k v
@@ -86,8 +83,8 @@ held-insert k v (e ∷ ps) j = by (nat_cmp k e.0) refl (held-insert k v ps j)
         two a b f = let same : k ≡ e.0 = sym a ∙ b in let t : nat_eq k e.0 ≡ true = ap (λ (n : ℕ). nat_eq k n) (sym same) ∙ own_number k in cc (t, f)
 
 -- a number loses its place, others keep theirs
-pub held-remove : (k : ℕ) (ps new : PlaceEntries) → new ≡ remove_entry (λ n. is_eq (nat_cmp k n)) ps → lookup (λ n. is_eq (nat_cmp k n)) new ≡ None → (j : ℕ) → held new j ≡ cond (nat_eq j k) None (held ps j)
-held-remove k ps new e gone j = by (nat_eq j k) refl
+pub held_remove : (k : ℕ) (ps new : PlaceEntries) → new ≡ remove_entry (λ n. is_eq (nat_cmp k n)) ps → lookup (λ n. is_eq (nat_cmp k n)) new ≡ None → (j : ℕ) → held new j ≡ cond (nat_eq j k) None (held ps j)
+held_remove k ps new e gone j = by (nat_eq j k) refl
   where
     others : (l : PlaceEntries) → nat_eq j k ≡ false → held (remove_entry (λ n. is_eq (nat_cmp k n)) l) j ≡ held l j
     others [] off = refl
@@ -98,7 +95,7 @@ held-remove k ps new e gone j = by (nat_eq j k) refl
         either false f ih = ap (λ (o : Option Place). cond (nat_eq j x.0) (Some x.1) o) ih
 
     by : (b : Bool) → nat_eq j k ≡ b → held new j ≡ cond b None (held ps j)
-    by true f = ap (held new) (same_number j k f) ∙ sym (held-lookup k new) ∙ gone
+    by true f = ap (held new) (same_number j k f) ∙ sym (held_lookup k new) ∙ gone
     by false f = ap (λ (l : PlaceEntries). held l j) e ∙ others ps f
 
 -- what a place that was written says
@@ -108,7 +105,7 @@ lists-put k p w ps new e found f same j =
     ap (λ (l : PlaceEntries). lists_at l j) e ∙ ap (λ (o : Option Place). lists_of j o) (held-put k w ps (ap (λ (o : Option Place). is_some o) there) j) ∙ by (nat_eq j k) refl
   where
     there : held ps k ≡ Some p
-    there = sym (held-lookup k ps) ∙ sym found
+    there = sym (held_lookup k ps) ∙ sym found
 
     by : (b : Bool) → nat_eq j k ≡ b → lists_of j (cond b (Some w) (held ps j)) ≡ cond b (f (lists_at ps j)) (lists_at ps j)
     by true g =
@@ -121,7 +118,7 @@ links-put k p w ps new e found same j =
     ap (λ (l : PlaceEntries). link_at l j) e ∙ ap (λ (o : Option Place). option_map (λ (v : Place). v.above) o) (held-put k w ps (ap (λ (o : Option Place). is_some o) there) j) ∙ by (nat_eq j k) refl
   where
     there : held ps k ≡ Some p
-    there = sym (held-lookup k ps) ∙ sym found
+    there = sym (held_lookup k ps) ∙ sym found
 
     by : (b : Bool) → nat_eq j k ≡ b → option_map (λ (v : Place). v.above) (cond b (Some w) (held ps j)) ≡ link_at ps j
     by true g =
@@ -134,7 +131,7 @@ pub lists-none : (k : ℕ) (ps : PlaceEntries) → None ≡ lookup (λ n. is_eq 
 lists-none k ps gone f same j = by (nat_eq j k) refl
   where
     there : held ps k ≡ None
-    there = sym (held-lookup k ps) ∙ sym gone
+    there = sym (held_lookup k ps) ∙ sym gone
 
     by : (b : Bool) → nat_eq j k ≡ b → lists_at ps j ≡ cond b (f (lists_at ps j)) (lists_at ps j)
     by true g =
@@ -157,7 +154,7 @@ lists-at-held k p ps found f j = by (nat_eq j k) refl
   where
     by : (b : Bool) → nat_eq j k ≡ b → cond b (f (lists_at ps j)) (lists_at ps j) ≡ cond (b && is_some (held ps j)) (f (lists_at ps j)) (lists_at ps j)
     by true g =
-        let here : held ps j ≡ Some p = ap (held ps) (same_number j k g) ∙ sym (held-lookup k ps) ∙ sym found in
+        let here : held ps j ≡ Some p = ap (held ps) (same_number j k g) ∙ sym (held_lookup k ps) ∙ sym found in
         sym (ap (λ (o : Option Place). cond (is_some o) (f (lists_at ps j)) (lists_at ps j)) here)
     by false g = refl
 
@@ -166,7 +163,7 @@ lists-not-held k ps gone f j = by (nat_eq j k) refl
   where
     by : (b : Bool) → nat_eq j k ≡ b → lists_at ps j ≡ cond (b && is_some (held ps j)) (f (lists_at ps j)) (lists_at ps j)
     by true g =
-        let here : held ps j ≡ None = ap (held ps) (same_number j k g) ∙ sym (held-lookup k ps) ∙ sym gone in
+        let here : held ps j ≡ None = ap (held ps) (same_number j k g) ∙ sym (held_lookup k ps) ∙ sym gone in
         sym (ap (λ (o : Option Place). cond (is_some o) (f (lists_at ps j)) (lists_at ps j)) here)
     by false g = refl
 
@@ -177,19 +174,10 @@ links-set k p w a ps new e found same j =
     ap (λ (l : PlaceEntries). link_at l j) e ∙ ap (λ (o : Option Place). option_map (λ (v : Place). v.above) o) (held-put k w ps (ap (λ (o : Option Place). is_some o) there) j) ∙ by (nat_eq j k) refl
   where
     there : held ps k ≡ Some p
-    there = sym (held-lookup k ps) ∙ sym found
+    there = sym (held_lookup k ps) ∙ sym found
 
     by : (b : Bool) → nat_eq j k ≡ b → option_map (λ (v : Place). v.above) (cond b (Some w) (held ps j)) ≡ cond b (option_map (λ (b : Option ℕ). a) (link_at ps j)) (link_at ps j)
     by true g =
         let here : held ps j ≡ Some p = ap (held ps) (same_number j k g) ∙ there in
         ap (λ (a : Option ℕ). Some a) same ∙ sym (ap (λ (o : Option Place). option_map (λ (b : Option ℕ). a) (option_map (λ (v : Place). v.above) o)) here)
-    by false g = refl
-
-pub links-none : (k : ℕ) (a : Option ℕ) (ps : PlaceEntries) → None ≡ lookup (λ n. is_eq (nat_cmp k n)) ps → (j : ℕ) → link_at ps j ≡ cond (nat_eq j k) (option_map (λ (b : Option ℕ). a) (link_at ps j)) (link_at ps j)
-links-none k a ps gone j = by (nat_eq j k) refl
-  where
-    by : (b : Bool) → nat_eq j k ≡ b → link_at ps j ≡ cond b (option_map (λ (b : Option ℕ). a) (link_at ps j)) (link_at ps j)
-    by true g =
-        let here : held ps j ≡ None = ap (held ps) (same_number j k g) ∙ sym (held-lookup k ps) ∙ sym gone in
-        ap (λ (o : Option Place). option_map (λ (v : Place). v.above) o) here ∙ sym (ap (λ (o : Option Place). option_map (λ (b : Option ℕ). a) (option_map (λ (v : Place). v.above) o)) here)
     by false g = refl

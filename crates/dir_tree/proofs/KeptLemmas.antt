@@ -1,7 +1,6 @@
 -- Look-ups of numbers by name, after a change of the map.
 use Rattle.std.proofs.Common.{◌≡◌, ℕ, Bool, true, false, cond, List, [], ◌∷◌, Option, Some, None, Ordering, refl, sym, ap, ◌∙◌, subst, nat_eq, Vec, Global, Result, Ok, Err, OnOk, OnErr}
 use Rattle.std.specs.Prelude.{◌&&◌}
-use Rattle.std.specs.Option.{option_map, IsSome}
 use Rattle.std.specs.Bool.{Decides}
 use Rattle.std.specs.Ordering.{is_eq, ordering_then, match_ordering}
 use Rattle.std.specs.Cmp.{IsEquivalence}
@@ -103,10 +102,6 @@ name_decides a b = pointwise_decides part_decides a b
 pub name_eq-refl : (a : NameKey) → name_eq a a ≡ true
 name_eq-refl a = (name_decides a a).1 refl
 
--- a test by a name finds one name
-pub one_name : (n x y : NameKey) → name_eq n x ≡ true → name_eq n y ≡ name_eq x y
-one_name n x y h = ap (λ (m : NameKey). name_eq m y) ((name_decides n x).0 h)
-
 pub on_ok : {A E P Q : Type 0} (r : Result A E) → (P → Q) → OnOk r P → OnOk r Q
 on_ok (Ok a) f h = f h
 on_ok (Err e) f h = h
@@ -162,9 +157,9 @@ number_of-insert key v (e ∷ es) q = by (stored_cmp key.items e.0.items) refl (
         ∙ swap (name_eq q new) (name_eq q old) (λ a b. two (sym ((name_decides q new).0 a) ∙ (name_decides q old).0 b) other) v (e.1) (number_of es q)
 
 -- a name loses its number, others keep theirs
-pub number_of-remove : (ns : List RdnModel) (es new : NameEntries) → new ≡ remove_entry (λ k. is_eq (stored_cmp ns k.items)) es → lookup (λ k. is_eq (stored_cmp ns k.items)) new ≡ None → (q : NameKey)
+pub number_of_remove : (ns : List RdnModel) (es new : NameEntries) → new ≡ remove_entry (λ k. is_eq (stored_cmp ns k.items)) es → lookup (λ k. is_eq (stored_cmp ns k.items)) new ≡ None → (q : NameKey)
     → number_of new q ≡ cond (name_eq q (rdns ns)) None (number_of es q)
-number_of-remove ns es new e gone q = by (name_eq q (rdns ns)) refl
+number_of_remove ns es new e gone q = by (name_eq q (rdns ns)) refl
   where
     others : (n : NameKey) (l : List (NameKey × ℕ)) → name_eq q n ≡ false → lookup (name_eq q) (remove_entry (name_eq n) l) ≡ lookup (name_eq q) l
     others n [] off = refl

@@ -16,7 +16,7 @@ label_at-find q (e ∷ d) = by (name_eq q (rdns e.name)) (label_at-find q d)
     by true h = refl
     by false h = h
 
-some_mapped : {A B : Type 0} (f : A → B) (o : Option A) → is_some (option_map f o) ≡ is_some o
+pub some_mapped : {A B : Type 0} (f : A → B) (o : Option A) → is_some (option_map f o) ≡ is_some o
 some_mapped f None = refl
 some_mapped f (Some x) = refl
 
@@ -55,10 +55,6 @@ pub labels-below : (k : ℕ) (d : List Entered) → AllBelow k d → LabelsBelow
 labels-below k [] h = tt
 labels-below k (e ∷ d) h = (h.0, labels-below k d h.1)
 
-labels-above : (k : ℕ) (d : List Entered) → AllAbove k d → LabelsAbove k (labels d)
-labels-above k [] h = tt
-labels-above k (e ∷ d) h = (h.0, labels-above k d h.1)
-
 above-labels : (k : ℕ) (d : List Entered) → LabelsAbove k (labels d) → AllAbove k d
 above-labels k [] h = tt
 above-labels k (e ∷ d) h = (h.0, above-labels k d h.1)
@@ -96,9 +92,9 @@ labels-unnumbered k (e ∷ d) = by (nat_eq k e.number) (labels-unnumbered k d)
     by true h = refl
     by false h = ap (λ (l : Labels). label_of e ∷ l) h
 
-pub labels-replaced : (k : ℕ) (v : List KeyedAttribute) (d : List Entered) → labels (replaced k v d) ≡ labels d
-labels-replaced k v [] = refl
-labels-replaced k v (e ∷ d) = by (nat_eq k e.number) (labels-replaced k v d)
+pub labels_replaced : (k : ℕ) (v : List KeyedAttribute) (d : List Entered) → labels (replaced k v d) ≡ labels d
+labels_replaced k v [] = refl
+labels_replaced k v (e ∷ d) = by (nat_eq k e.number) (labels_replaced k v d)
   where
     by : (b : Bool) → labels (replaced k v d) ≡ labels d → labels (cond b (record { number = e.number; name = e.name; entry = v } ∷ d) (e ∷ replaced k v d)) ≡ label_of e ∷ labels d
     by true h = refl

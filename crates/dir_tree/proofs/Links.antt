@@ -1,12 +1,11 @@
 -- Numbers and their links, after a change of the names.
-use Rattle.std.proofs.Common.{◌≡◌, ℕ, zero, suc, ◌+◌, ◌-◌, ◌<◌, ◌≤◌, Bool, true, false, cond, List, [], ◌∷◌, ◌++◌, length, take, drop, append-nil, Option, Some, None, refl, sym, ap, subst, ◌∙◌, arith, nat_eq, nat_lt}
-use Rattle.std.specs.Prelude.{◌&&◌, ◌||◌, is_some}
+use Rattle.std.proofs.Common.{◌≡◌, ℕ, ◌-◌, ◌<◌, ◌≤◌, Bool, true, false, cond, List, [], ◌∷◌, ◌++◌, length, drop, append-nil, Option, Some, None, refl, sym, ap, ◌∙◌, arith, nat_eq, nat_lt}
+use Rattle.std.specs.Prelude.{◌||◌, is_some}
 use Rattle.std.specs.Option.{option_map}
-use Rattle.std.proofs.lemmas.Bool.{ltb-false}
 use Rattle.dir_entry.specs.ldap_dn.Names.{RdnModel, rdns, TypeAndKey}
 use Rattle.dir_tree.specs.Directory.{NameKey, Entered, name_eq, begins, above, is_child}
 use Rattle.dir_tree.specs.Labelled.{Label, Labels, IsLabelled, HasNot, AreApart as AreNumbersApart, labels, label_at, numbers_in}
-use Rattle.dir_tree.specs.Places.{Shown, is_above, place_of}
+use Rattle.dir_tree.specs.Places.{Shown, is_above}
 use Rattle.dir_tree.specs.Kept.{PlaceEntries, place_at, number_of, held, lists_at, lists_of, link_at, up, AreApart, AreLinked, IsHung, IsFooted, IsKept, IsTree}
 use Rattle.dir_tree.specs.declared.place.Place.{Place}
 use Rattle.dir_tree.specs.declared.place.Places.{Places}
@@ -14,7 +13,7 @@ use Rattle.dir_tree.proofs.KeptLemmas.{name_decides, both}
 use Rattle.dir_tree.proofs.HeldLemmas.{own_number}
 use Rattle.dir_tree.proofs.Numbered.{same_number}
 use Rattle.dir_tree.proofs.Above.{begins-take}
-use Rattle.dir_tree.proofs.Footing.{begins-front, begins-through, begins-long, above-long, fronts}
+use Rattle.dir_tree.proofs.Footing.{begins-front, begins-through, begins-long, above-long, fronts, or_else}
 use Rattle.dir_tree.proofs.Changes.{begins-own}
 use Rattle.dir_tree.proofs.Moves.{split, begins-joined, behind-joined, above-joined, above-off}
 use Rattle.dir_tree.proofs.Labelling.{rise-apart, some_none}
@@ -92,10 +91,6 @@ hung-like f g ps rs h l t = record { apart = apart-same f g h t.apart; linked = 
 pub footed-like : (f g : Numbering) (n : NameKey) → ((q : NameKey) → g q ≡ f q) → IsFooted f n → IsFooted g n
 footed-like f g n h t q a e = h (above q) ∙ t q a (sym (h q) ∙ e)
 
-or_else : (a b : Bool) → (a || b) ≡ true → a ≡ false → b ≡ true
-or_else true b h e = absurd (cc e)
-or_else false b h e = h
-
 -- above a name without a label, among those above a name with a footing, there is none
 footed-labels : (s : NameKey) (d : Labels) → IsLabelled s d → (n : NameKey) → (name_eq n s || is_some (label_at (above n) d)) ≡ true → (q : NameKey) → is_above (length n) n q ≡ true → is_some (label_at q d) ≡ false → is_some (label_at (above q) d) ≡ false
 footed-labels s d t n foot q h off = by (is_some (label_at (above q) d)) refl
@@ -142,15 +137,6 @@ tree-footed s d p t n foot q h off =
 
 above-short : (x : List TypeAndKey) (xs : NameKey) → length (above (x ∷ xs)) < length (x ∷ xs)
 above-short x xs = let l : length (above (x ∷ xs)) ≡ length (x ∷ xs) - 1 = above-long (x ∷ xs) in omega (arith, l)
-
-not-own-parent : (x : List TypeAndKey) (xs : NameKey) → name_eq (above (x ∷ xs)) (x ∷ xs) ≡ false
-not-own-parent x xs = by (name_eq (above (x ∷ xs)) (x ∷ xs)) refl
-  where
-    by : (b : Bool) → name_eq (above (x ∷ xs)) (x ∷ xs) ≡ b → b ≡ false
-    by false e = refl
-    by true e =
-        let same : length (above (x ∷ xs)) ≡ length (x ∷ xs) = ap (λ (m : NameKey). length m) ((name_decides (above (x ∷ xs)) (x ∷ xs)).0 e) in
-        let lt = above-short x xs in absurd (omega (arith, same, lt))
 
 -- where no name stands below n, what is above another name is as it was
 up-apart : (f g : Numbering) (n : NameKey) (v : Option ℕ) → ((q : NameKey) → g q ≡ cond (name_eq q n) v (f q)) → (q : NameKey) → (nat_lt (length n) (length q) ≡ true → begins n q ≡ false) → up g q ≡ up f q

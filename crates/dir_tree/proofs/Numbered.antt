@@ -13,12 +13,12 @@ use Rattle.dir_tree.specs.Stored.{directory_of, entered_of}
 use Rattle.dir_tree.specs.declared.named.NamedEntry.{NamedEntry}
 
 -- an entry of a number above all goes to the end
-pub directory-insert : (k : ℕ) (v : NamedEntry) (es : List (ℕ × NamedEntry)) → AllBelow k (directory_of es) → directory_of (insert_entry nat_cmp es k v) ≡ directory_of es ++ entered_of k v ∷ []
-directory-insert k v [] h = refl
-directory-insert k v (e ∷ es) h =
+pub directory_insert : (k : ℕ) (v : NamedEntry) (es : List (ℕ × NamedEntry)) → AllBelow k (directory_of es) → directory_of (insert_entry nat_cmp es k v) ≡ directory_of es ++ entered_of k v ∷ []
+directory_insert k v [] h = refl
+directory_insert k v (e ∷ es) h =
     let above : Ordering.Greater ≡ nat_cmp k e.0 = nat_cmp_is k e.0 Ordering.Greater h.0 in
     ap (λ (o : Ordering). directory_of (match_ordering o ((k, v) ∷ e ∷ es) ((e.0, v) ∷ es) (e ∷ insert_entry nat_cmp es k v))) (sym above)
-    ∙ ap (λ (d : List Entered). entered_of e.0 e.1 ∷ d) (directory-insert k v es h.1)
+    ∙ ap (λ (d : List Entered). entered_of e.0 e.1 ∷ d) (directory_insert k v es h.1)
 
 pub is_eq-nat : (k n : ℕ) → is_eq (nat_cmp k n) ≡ nat_eq k n
 is_eq-nat k n = by (nat_lt k n) (nat_eq k n) refl refl

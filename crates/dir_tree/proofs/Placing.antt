@@ -1,11 +1,10 @@
 -- Places put in, taken out and given other lists.
-use Rattle.std.proofs.Common.{◌≡◌, ℕ, Bool, true, false, cond, List, [], ◌∷◌, length, Option, Some, None, refl, sym, ap, subst, ◌∙◌, nat_eq, BTreeMap, Vec, Global}
-use Rattle.std.specs.Prelude.{is_some}
+use Rattle.std.proofs.Common.{◌≡◌, ℕ, Bool, true, false, cond, Option, Some, None, refl, sym, ap, ◌∙◌, nat_eq, BTreeMap, Vec, Global}
 use Rattle.std.specs.Option.{option_map}
-use Rattle.dir_entry.specs.ldap_dn.Names.{RdnModel, rdns}
+use Rattle.dir_entry.specs.ldap_dn.Names.{RdnModel}
 use Rattle.dir_tree.specs.Directory.{NameKey, name_eq}
-use Rattle.dir_tree.specs.Places.{Shown, is_above, struck}
-use Rattle.dir_tree.specs.Kept.{PlaceEntries, place_at, number_of, held, shown, lists_of, lists_at, link_at, AreApart, AreHeld}
+use Rattle.dir_tree.specs.Places.{Shown}
+use Rattle.dir_tree.specs.Kept.{place_at, number_of, held, shown, lists_of, lists_at, link_at, AreApart}
 use Rattle.dir_tree.specs.declared.place.Place.{Place}
 use Rattle.dir_tree.specs.declared.place.Places.{Places}
 use Rattle.dir_tree.proofs.KeptLemmas.{name_decides}
@@ -77,13 +76,6 @@ dropped-place p mid new n k apart here e h g q = by (name_eq q n) refl
             let was : number_of p.names.entries q ≡ Some k = ap (λ (v : BTreeMap (Vec RdnModel Global) ℕ). number_of v.entries q) (sym e) ∙ f ∙ ap (λ (i : ℕ). Some i) (same_number j k m) in
             let on : name_eq q n ≡ true = (name_decides q n).1 (apart q n k was here) in
             absurd (cc (on, s))
-
-pub dropped-links : (mid new : Places) (k : ℕ) → ((j : ℕ) → held new.lists.entries j ≡ cond (nat_eq j k) None (held mid.lists.entries j)) → (j : ℕ) → link_at new.lists.entries j ≡ cond (nat_eq j k) None (link_at mid.lists.entries j)
-dropped-links mid new k h j = ap (λ (o : Option Place). option_map (λ (w : Place). w.above) o) (h j) ∙ by (nat_eq j k)
-  where
-    by : (b : Bool) → option_map (λ (w : Place). w.above) (cond b None (held mid.lists.entries j)) ≡ cond b None (link_at mid.lists.entries j)
-    by true = refl
-    by false = refl
 
 -- other lists under a name's number
 pub set-one : (f : NameKey → Option ℕ) (a b : ℕ → Shown) (n : NameKey) (k : ℕ) (g : Shown → Shown) → AreApart f → f n ≡ Some k → ((j : ℕ) → b j ≡ cond (nat_eq j k) (g (a j)) (a j))

@@ -27,9 +27,6 @@ pub record IsPutting (all rest : List (NameKey × ℕ)) (old now : NameKey → O
   pub fewer : (q : NameKey) → has_place q all ≡ false → has_place q rest ≡ false
   pub others : (q : NameKey) → has_place q all ≡ false → now q ≡ old q
 
-pub putting-begins : (all : List (NameKey × ℕ)) (old : NameKey → Option ℕ) → IsPutting all all old old
-putting-begins all old = record { goes_on = λ q. refl; fewer = λ q h. h; others = λ q h. refl }
-
 pub over-same : {A : Type 0} (xs : List (NameKey × A)) (f g : NameKey → Option A) → ((q : NameKey) → f q ≡ g q) → (q : NameKey) → over xs f q ≡ over xs g q
 over-same [] f g h q = h q
 over-same {A} (x ∷ xs) f g h q = over-same xs (λ m. cond (name_eq m x.0) (Some x.1) (f m)) (λ m. cond (name_eq m x.0) (Some x.1) (g m)) (λ m. ap (λ (o : Option A). cond (name_eq m x.0) (Some x.1) o) (h m)) q
@@ -188,12 +185,12 @@ places-named f old new (e ∷ es) q h k =
     by (Some s) a b = ap (λ (v : Bool). v || has_place q (places_after f old (rdns new) es)) a ∙ b
 
 -- what a number's entry adds or takes
-pub forgotten-one : (q : NameKey) (e : Entered) (o : Option Entered) (n : List RdnModel) (x y : Option ℕ) → Some e ≡ o → n ≡ e.name → y ≡ cond (name_eq q (rdns n)) None x → y ≡ cond (is_name_of q (put_some o [])) None x
-forgotten-one q e o n x y h g f =
+pub forgotten_one : (q : NameKey) (e : Entered) (o : Option Entered) (n : List RdnModel) (x y : Option ℕ) → Some e ≡ o → n ≡ e.name → y ≡ cond (name_eq q (rdns n)) None x → y ≡ cond (is_name_of q (put_some o [])) None x
+forgotten_one q e o n x y h g f =
     f ∙ ap (λ (m : List RdnModel). cond (name_eq q (rdns m)) None x) g ∙ ap (λ (b : Bool). cond b None x) (sym (or-off (name_eq q (rdns e.name)))) ∙ ap (λ (v : Option Entered). cond (is_name_of q (put_some v [])) None x) h
 
-pub forgotten-nothing : (q : NameKey) (o : Option Entered) (x : Option ℕ) → None ≡ o → x ≡ cond (is_name_of q (put_some o [])) None x
-forgotten-nothing q o x h = ap (λ (v : Option Entered). cond (is_name_of q (put_some v [])) None x) h
+pub forgotten_nothing : (q : NameKey) (o : Option Entered) (x : Option ℕ) → None ≡ o → x ≡ cond (is_name_of q (put_some o [])) None x
+forgotten_nothing q o x h = ap (λ (v : Option Entered). cond (is_name_of q (put_some v [])) None x) h
 
 pub placed-one : (f : Numbering) (old new : NameKey) (e : Entered) (o : Option Entered) (n : List RdnModel) (xs ys : List (NameKey × ℕ)) → Some e ≡ o → n ≡ e.name → ys ≡ xs ++ put_seen (key_after old new (rdns n)) (f (rdns n)) []
     → ys ≡ xs ++ places_after f old new (put_some o [])

@@ -10,6 +10,7 @@ use Rattle.dir_tree.specs.declared.place.Places.{Places}
 use Rattle.dir_tree.proofs.Links.{numbers-kept}
 use Rattle.dir_tree.proofs.Labelling.{label_at-find, number_found, numbers_found, some_label, below_found}
 use Rattle.dir_tree.proofs.Below.{count-some}
+pub use Rattle.dir_tree.proofs.Labelling.{some_mapped}
 
 abbrev made : NameKey → Labels → Label → Shown
 made q d e = record { number = e.number; children = numbers_in (is_child q) d; within = numbers_in (begins q) d }
@@ -30,10 +31,6 @@ children_kept q d es h = listed_kept q d es h (λ (p : Shown). p.children) (numb
 
 pub within_kept : (q : NameKey) (d : List Entered) (es : Places) → IsKept d es → option_map (λ p. p.within) (place_at es q) ≡ option_map (λ (e : Entered). numbers (is_at_or_below q) d) (find q d)
 within_kept q d es h = listed_kept q d es h (λ (p : Shown). p.within) (numbers (is_at_or_below q) d) (λ e. numbers_found (begins q) d)
-
-pub some_mapped : {A B : Type 0} (f : A → B) (o : Option A) → is_some (option_map f o) ≡ is_some o
-some_mapped f None = refl
-some_mapped f (Some x) = refl
 
 pub some_kept : (q : NameKey) (d : List Entered) (es : Places) → IsKept d es → is_some (number_of es.names.entries q) ≡ is_some (find q d)
 some_kept q d es h = ap (λ (o : Option ℕ). is_some o) (number_kept q d es h) ∙ some_mapped (λ (e : Entered). e.number) (find q d)

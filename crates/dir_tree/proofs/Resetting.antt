@@ -16,9 +16,6 @@ pub record IsSetting (all rest : List (NameKey × Shown)) (old now : Places) : T
   pub links : (k : ℕ) → link_at now.lists.entries k ≡ link_at old.lists.entries k
   pub goes_on : (q : NameKey) → set_over rest (place_at now) q ≡ set_over all (place_at old) q
 
-pub setting-begins : (all : List (NameKey × Shown)) (old : Places) → IsSetting all all old old
-setting-begins all old = record { names = refl; links = λ k. refl; goes_on = λ q. refl }
-
 pub setting-step : (all : List (NameKey × Shown)) (x : NameKey × Shown) (rest : List (NameKey × Shown)) (old now new : Places) → IsSetting all (x ∷ rest) old now
     → new.names ≡ now.names → ((k : ℕ) → link_at new.lists.entries k ≡ link_at now.lists.entries k)
     → ((q : NameKey) → place_at new q ≡ cond (name_eq q x.0) (option_map (relist x.1.children x.1.within) (place_at now q)) (place_at now q)) → IsSetting all rest old new

@@ -6,7 +6,7 @@ use Rattle.dir_entry.specs.ldap_dn.Names.{RdnModel, rdns}
 use Rattle.dir_tree.specs.Directory.{NameKey, Entered, AllBelow, name_eq, above, begins, find, has_below, has_footing, unnumbered}
 use Rattle.dir_tree.specs.Labelled.{Label, Labels, IsLabelled, LabelsBelow, label_of, labels, label_at, numbers_in, below_in}
 use Rattle.dir_tree.specs.Places.{Shown, place_of, is_above, enlisted, struck}
-use Rattle.dir_tree.specs.Kept.{IsTree, place_at, number_of, link_at, up, AreLinked, IsFooted}
+use Rattle.dir_tree.specs.Kept.{IsTree, place_at, number_of, link_at, up, IsFooted}
 use Rattle.dir_tree.specs.declared.place.Places.{Places}
 use Rattle.dir_tree.proofs.Links.{numbering, numbers-at, numbers-kept, numbers-same, linked-same, linked-more, linked-less, tree-hung, tree-footed}
 use Rattle.dir_tree.proofs.KeptLemmas.{name_decides}

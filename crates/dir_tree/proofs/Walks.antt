@@ -1,21 +1,20 @@
 -- Walks from a name up to the root, by the numbers that are kept.
 use Rattle.std.proofs.Common.{◌≡◌, ℕ, zero, suc, ◌+◌, ◌-◌, ◌<◌, ◌≤◌, Bool, true, false, cond, List, [], ◌∷◌, length, take, Option, Some, None, refl, sym, ap, subst, ◌∙◌, arith, nat_eq, nat_lt, BTreeMap, Vec, Global}
-use Rattle.std.specs.Prelude.{◌&&◌, ◌||◌, is_some}
+use Rattle.std.specs.Prelude.{◌&&◌, is_some}
 use Rattle.std.specs.Option.{option_map, option_flatten, option_eq}
 use Rattle.std.proofs.lemmas.List.{length-take-le}
 use Rattle.dir_entry.specs.ldap_dn.Names.{RdnModel}
 use Rattle.dir_tree.specs.Directory.{NameKey, name_eq, begins, is_child, above}
-use Rattle.dir_tree.specs.Labelled.{Label, Labels, IsLabelled, label_at}
-use Rattle.dir_tree.specs.Places.{Shown, is_above, enlisted, struck, listed}
+use Rattle.dir_tree.specs.Places.{Shown, is_above, enlisted, struck}
 use Rattle.dir_tree.specs.Kept.{PlaceEntries, place_at, number_of, lists_at, held, link_at, next_of, up, AreApart, AreHeld, AreLinked, IsHung, IsFooted}
 use Rattle.dir_tree.specs.declared.place.Place.{Place}
 use Rattle.dir_tree.specs.declared.place.Places.{Places}
 use Rattle.std.proofs.Math.Seq.{take-length}
-use Rattle.dir_tree.proofs.KeptLemmas.{name_decides, name_eq-refl}
+use Rattle.dir_tree.proofs.KeptLemmas.{name_decides}
 use Rattle.dir_tree.proofs.HeldLemmas.{own_number}
 use Rattle.dir_tree.proofs.Numbered.{same_number}
 use Rattle.dir_tree.proofs.Above.{begins-take, above_at, above_off, and-false}
-use Rattle.dir_tree.proofs.Changes.{struck-enlisted, last_above}
+use Rattle.dir_tree.proofs.Changes.{struck-enlisted, still_above}
 
 abbrev Numbering : Type 0
 Numbering = NameKey → Option ℕ
@@ -107,16 +106,6 @@ done-first n g j q p h = by (is_above (length n) n q) ∙ sym (ap (λ (k : ℕ).
 
 pub done-last : (n : NameKey) (g : NameKey → Shown → Shown) (j : ℕ) (q : NameKey) (p : Option Shown) → j ≡ zero → done n g j q p ≡ cond (is_above (length n) n q) (option_map (g q) p) p
 done-last n g j q p h = ap (λ (k : ℕ). done n g k q p) h ∙ ap (λ (b : Bool). cond b p (cond (is_above (length n) n q) (option_map (g q) p) p)) (nothing-above n q)
-
-still_above : (q n : NameKey) (i : ℕ) → i ≤ length n → is_above i n q ≡ true → is_above (length n) n q ≡ true
-still_above q n i le h = both (begins q n) h
-  where
-    grows : (k : ℕ) → nat_lt k i ≡ true → nat_lt k (length n) ≡ true
-    grows k e = grind (arith, le)
-
-    both : (b : Bool) → (b && nat_lt (length q) i) ≡ true → (b && nat_lt (length q) (length n)) ≡ true
-    both true e = grows (length q) e
-    both false e = absurd (cc e)
 
 -- one name further
 pub done-more : (n : NameKey) (g : NameKey → Shown → Shown) (j : ℕ) (q : NameKey) (p x y : Option Shown) → j + 1 ≤ length n → x ≡ done n g (j + 1) q p

@@ -4,6 +4,7 @@ pub mod Places
 pub mod Stored
 pub mod Kept
 pub mod Renamed
+pub mod Subtree
 -- what layers above name of the crates below
 pub use Rattle.dir_entry.specs.ldap_schema as ldap_schema
 pub use Rattle.dir_entry.specs.ldap_dn as ldap_dn

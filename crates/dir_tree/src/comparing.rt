@@ -8,6 +8,7 @@ ghost use Rattle.dir_tree.specs.Directory.{above, begins, name_eq};
 use dir_entry::{Rdn, is_front};
 
 /// Whether two names are one, whatever their spellings.
+#[tactic(auto, using(crate::proofs::Footing::same_rdns))]
 pub fn are_same(a: &[Rdn], b: &[Rdn]) -> bool
     ensures { result ≡ name_eq (rdns a.now) (rdns b.now) }
 {
@@ -15,6 +16,7 @@ pub fn are_same(a: &[Rdn], b: &[Rdn]) -> bool
 }
 
 /// Whether the name right above a name is another one or stands below it.
+#[tactic(auto, using(crate::proofs::Footing::above_rdns, crate::proofs::Renamed::front_begins))]
 pub fn is_over_parent(front: &[Rdn], name: &[Rdn]) -> bool
     ensures { result ≡ begins (rdns front.now) (above (rdns name.now)) }
 {

@@ -24,6 +24,7 @@ pub fn entry_numbered(entries: &Entries, number: u64) -> Option<&NamedEntry>
 }
 
 /// Puts an entry under a number above all. An `Err` changes nothing.
+#[tactic(auto, using(crate::proofs::Numbered::directory_insert))]
 pub fn put_entry(entries: &mut Entries, number: u64, entry: NamedEntry) -> Result<(), AllocError>
     requires { AllBelow number (directory_of entries.old.entries) }
     ensures ok { OnOk result (directory_of entries.new.entries ≡ directory_of entries.old.entries ++ entered_of number entry ∷ []) }

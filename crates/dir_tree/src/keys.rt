@@ -76,6 +76,7 @@ pub fn put_name(names: &mut Names, key: Vec<Rdn>, number: u64) -> Result<(), Vec
 }
 
 /// Forgets a name.
+#[tactic(auto, using(crate::proofs::KeptLemmas::number_of_remove))]
 pub fn forget(names: &mut Names, name: &[Rdn])
     ensures { (q : NameKey) → number_of names.new.entries q ≡ cond (name_eq q (rdns name.now)) None (number_of names.old.entries q) }
 {

@@ -20,7 +20,7 @@ mod tree;
 pub use comparing::{are_same, is_over_parent};
 pub use dir_entry::{
     Attribute, Entry, EntryError, Name, NameError, Rdn, Schema, Truth, TypeAndValue, TypeId,
-    is_of_syntax,
+    copy_values, is_of_syntax, number_of_digits,
 };
 pub use named::NamedEntry;
 pub use shared::SharedEntry;

@@ -10,6 +10,7 @@ use crate::place::{Lists, Place, strike};
 use std::alloc::AllocError;
 
 /// The numbers right under a number.
+#[tactic(auto, using(crate::proofs::HeldLemmas::held_lookup))]
 pub fn children_of(lists: &Lists, number: u64) -> &[u64]
     ensures { result.now ≡ (lists_at lists.now.entries number).children }
 {
@@ -20,6 +21,7 @@ pub fn children_of(lists: &Lists, number: u64) -> &[u64]
 }
 
 /// The numbers at or below a number.
+#[tactic(auto, using(crate::proofs::HeldLemmas::held_lookup))]
 pub fn within_of(lists: &Lists, number: u64) -> &[u64]
     ensures { result.now ≡ (lists_at lists.now.entries number).within }
 {
@@ -118,6 +120,7 @@ pub fn enlist_next(
 }
 
 /// Keeps a place under a number. An `Err` changes nothing.
+#[tactic(auto, using(crate::proofs::HeldLemmas::held_insert))]
 pub fn put_lists(lists: &mut Lists, number: u64, place: Place) -> Result<(), AllocError>
     ensures ok { OnOk result ((j : ℕ) → held lists.new.entries j ≡ cond (nat_eq j number) (Some place) (held lists.old.entries j)) }
     ensures err { OnErr result ((j : ℕ) → held lists.new.entries j ≡ held lists.old.entries j) }
@@ -129,6 +132,7 @@ pub fn put_lists(lists: &mut Lists, number: u64, place: Place) -> Result<(), All
 }
 
 /// Forgets what is kept under a number.
+#[tactic(auto, using(crate::proofs::HeldLemmas::held_remove))]
 pub fn drop_lists(lists: &mut Lists, number: u64)
     ensures { (j : ℕ) → held lists.new.entries j ≡ cond (nat_eq j number) None (held lists.old.entries j) }
 {

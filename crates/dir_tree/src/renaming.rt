@@ -5,11 +5,25 @@ ghost use Rattle.std.specs.Prelude.{◌≡◌, ◌++◌, [], IfOk, OnOk};
 ghost use Rattle.dir_entry.specs.ldap_dn.Names.{rdns};
 ghost use Rattle.dir_tree.specs.Directory.{name_after, entry_at};
 ghost use Rattle.dir_tree.specs.Stored.{directory_of};
-ghost use Rattle.dir_tree.specs.Renamed.{names_after, entries_of, put_some};
+ghost use Rattle.dir_tree.specs.Renamed.{names_after, put_some};
+ghost use Rattle.dir_tree.specs.Subtree.{old_key, names_given};
 
 use crate::entries::{Entries, entry_numbered};
 use dir_entry::{Name, Rdn, is_front};
 use std::alloc::{AllocError, Global};
+
+/// A rename: the entries of numbers, which stand at or below an old name, are to stand at or below a new one.
+#[derive(Clone, Copy)]
+pub struct Rename<'a> {
+    pub alloc: Global,
+    pub entries: &'a Entries,
+    /// The number of the entry that is renamed.
+    pub number: u64,
+    /// The numbers of the entry and of those below it.
+    pub numbers: &'a [u64],
+    pub old_name: &'a [Rdn],
+    pub new_name: &'a [Rdn],
+}
 
 /// The name of relative names and of more behind them.
 fn joined(alloc: Global, front: &[Rdn], behind: &[Rdn]) -> Result<Name, AllocError>
@@ -51,39 +65,29 @@ pub fn name_moved(alloc: Global, name: &[Rdn], old: &[Rdn], new: &[Rdn]) -> Resu
     }
 }
 
-/// The numbers of entries with their names, once those at or below an old name stand at or below a new one.
-pub fn names_moved(
-    alloc: Global,
-    entries: &Entries,
-    numbers: &[u64],
-    old: &[Rdn],
-    new: &[Rdn],
-) -> Result<Vec<(u64, Name)>, AllocError>
-    ensures { IfOk result (λ v. v.items ≡ names_after (rdns old.now) new.now (entries_of numbers.now (directory_of entries.now.entries))) }
-{
-    let mut names = Vec::new(alloc);
-    for number in numbers {
-        push_name(alloc, &mut names, entries, *number, old, new)?;
-    }
-    Ok(names)
-}
-
-/// Adds a number with the new name of its entry.
-fn push_name(
-    alloc: Global,
-    names: &mut Vec<(u64, Name)>,
-    entries: &Entries,
-    number: u64,
-    old: &[Rdn],
-    new: &[Rdn],
-) -> Result<(), AllocError>
-    ensures { OnOk result (names.new.items ≡ names.old.items ++ names_after (rdns old.now) new.now (put_some (entry_at number (directory_of entries.now.entries)) [])) }
-{
-    match entry_numbered(entries, number) {
-        Some(named) => {
-            names.push((number, name_moved(alloc, named.name.rdns(), old, new)?))?;
-            Ok(())
+impl Rename<'_> {
+    /// The numbers of the entries that move, with their new names.
+    pub fn names(&self) -> Result<Vec<(u64, Name)>, AllocError>
+        ensures { IfOk result (λ v. v.items ≡ names_given self.now) }
+    {
+        let mut names = Vec::new(self.alloc);
+        for number in self.numbers {
+            self.push_name(&mut names, *number)?;
         }
-        None => Ok(()),
+        Ok(names)
+    }
+
+    /// Adds a number with the new name of its entry.
+    fn push_name(&self, names: &mut Vec<(u64, Name)>, number: u64) -> Result<(), AllocError>
+        ensures { OnOk result (names.new.items ≡ names.old.items ++ names_after (old_key self.now) self.now.new_name.now (put_some (entry_at number (directory_of self.now.entries.now.entries)) [])) }
+    {
+        match entry_numbered(self.entries, number) {
+            Some(named) => {
+                let name = name_moved(self.alloc, named.name.rdns(), self.old_name, self.new_name)?;
+                names.push((number, name))?;
+                Ok(())
+            }
+            None => Ok(()),
+        }
     }
 }

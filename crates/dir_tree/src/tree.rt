@@ -10,13 +10,12 @@ ghost use Rattle.dir_tree.specs.Stored.{directory_of, entered_of};
 use crate::comparing::are_same;
 use crate::entries::{Entries, entry_numbered, put_entry, set_entry, set_names, take_entry};
 use crate::keys::{front_at, has_parent_at, number_above, number_at};
-use crate::moving::rename_places;
 use crate::named::NamedEntry;
 use crate::place::{Place, Places};
 use crate::places::{
     children_at, drop_place, enlist_above, numbers_within, put_place, strike_above, within_at,
 };
-use crate::renaming::names_moved;
+use crate::renaming::Rename;
 use crate::shared::SharedEntry;
 use dir_entry::{Name, Rdn};
 use std::alloc::{AllocError, Global};
@@ -76,6 +75,7 @@ impl Tree {
     }
 
     /// The number of a name's entry. It takes a logarithm of comparisons, and no memory.
+    #[tactic(auto, using(crate::proofs::ReadPlaces::number_kept))]
     pub fn find(&self, name: &[Rdn]) -> Option<u64>
         ensures { result ≡ option_map (λ e. e.number) (find (rdns name.now) self.now.entries) }
     {
@@ -83,6 +83,7 @@ impl Tree {
     }
 
     /// Whether a name has an entry.
+    #[tactic(auto, using(crate::proofs::Labelling::some_mapped))]
     pub fn has(&self, name: &[Rdn]) -> bool
         ensures { result ≡ is_some (find (rdns name.now) self.now.entries) }
     {
@@ -90,6 +91,7 @@ impl Tree {
     }
 
     /// Whether the name right above a name has an entry.
+    #[tactic(auto, using(crate::proofs::ReadPlaces::some_kept))]
     pub fn has_parent(&self, name: &[Rdn]) -> bool
         ensures { result ≡ is_some (find (above (rdns name.now)) self.now.entries) }
     {
@@ -200,6 +202,7 @@ impl Tree {
     }
 
     /// Gives the entry of a number other attributes; its name stays.
+    #[tactic(auto, using(crate::proofs::Labelling::labels_replaced))]
     pub fn replace(&mut self, number: u64, entry: SharedEntry)
         ensures { self.new ≡ record { suffix = self.old.suffix; entries = replaced number entry self.old.entries } }
     {
@@ -227,20 +230,16 @@ impl Tree {
         ensures err { OnErr result (self.new ≡ self.old) }
     {
         let numbers = numbers_within(self.alloc, &self.places, name)?;
-        let numbers = numbers.as_slice();
-        let new = new_name.rdns();
-        let names = names_moved(self.alloc, &self.entries, numbers, name, new)?;
-        let renamed = names.as_slice();
-        rename_places(
-            self.alloc,
-            &mut self.places,
-            &self.entries,
+        let rename = Rename {
+            alloc: self.alloc,
+            entries: &self.entries,
             number,
-            numbers,
-            renamed,
-            name,
-            new,
-        )?;
+            numbers: numbers.as_slice(),
+            old_name: name,
+            new_name: new_name.rdns(),
+        };
+        let names = rename.names()?;
+        rename.place(&mut self.places, names.as_slice())?;
         set_names(&mut self.entries, names);
         set_entry(&mut self.entries, number, new_entry);
         Ok(())

@@ -1,4 +1,4 @@
-use Rattle.std.proofs.Common.{ℕ, Option, refl}
+use Rattle.std.proofs.Common.{refl}
 use Rattle.dir_tree.specs.Places.{relist}
 use Rattle.dir_tree.specs.declared.place.Place.{Place}
 use Rattle.dir_tree.proofs.HeldLemmas.{lists-put, links-put}

@@ -1,11 +1,11 @@
-use Rattle.std.proofs.Common.{List, Option, ap, subst, ◌∙◌, cond}
+use Rattle.std.proofs.Common.{List, ap, subst, ◌∙◌, cond}
 use Rattle.std.specs.Option.{option_map}
 use Rattle.dir_entry.specs.ldap_dn.Names.{RdnModel, rdns}
-use Rattle.dir_tree.specs.Directory.{NameKey, name_eq}
-use Rattle.dir_tree.specs.Places.{Shown, relist}
+use Rattle.dir_tree.specs.Directory.{name_eq}
+use Rattle.dir_tree.specs.Places.{relist}
 use Rattle.dir_tree.specs.Kept.{place_at}
 use Rattle.dir_tree.specs.Renamed.{seen, shown_new}
-use Rattle.dir_tree.proofs.Resetting.{IsSetting, setting-begins, setting-step, apart-on, held-on}
+use Rattle.dir_tree.proofs.Resetting.{IsSetting, setting-step, apart-on, held-on}
 use Rattle.dir_tree.proofs.moving.set_all.Goals as goal
 
 pub loop-key-preserved : goal.loop-key-preserved

@@ -1,9 +1,9 @@
-use Rattle.std.proofs.Common.{◌≡◌, ℕ, suc, ◌+◌, ◌-◌, ◌<◌, ◌≤◌, Bool, true, cond, length, take, zero, Some, refl, sym, ap, nat_eq, ◌∙◌, arith}
+use Rattle.std.proofs.Common.{◌≡◌, ℕ, ◌+◌, ◌-◌, ◌<◌, Bool, cond, length, Some, refl, ap, nat_eq, ◌∙◌, arith}
 use Rattle.std.specs.Prelude.{◌&&◌, is_some}
 use Rattle.std.proofs.lemmas.List.{length-map}
 use Rattle.dir_entry.specs.ldap_dn.Names.{RdnModel, rdns}
-use Rattle.dir_tree.specs.Directory.{NameKey, is_child}
-use Rattle.dir_tree.specs.Places.{Shown, listed, enlisted}
+use Rattle.dir_tree.specs.Directory.{NameKey}
+use Rattle.dir_tree.specs.Places.{listed, enlisted}
 use Rattle.dir_tree.specs.Kept.{lists_at, held, place_at}
 use Rattle.dir_tree.specs.declared.place.Places.{Places}
 use Rattle.dir_tree.proofs.Walks.{walking-begins, walking-step, walking-held, walking-ends, done-undone, flag-child, mid-same, hung-on, foot-on}

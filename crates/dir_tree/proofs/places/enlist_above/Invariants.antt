@@ -1,4 +1,4 @@
-use Rattle.std.proofs.Common.{ℕ, ◌-◌, length}
+use Rattle.std.proofs.Common.{◌-◌, length}
 use Rattle.dir_entry.specs.ldap_dn.Names.{rdns}
 use Rattle.dir_tree.specs.Places.{enlisted}
 use Rattle.dir_tree.proofs.Walks.{IsWalking}

@@ -1,0 +1,11 @@
+use Rattle.std.proofs.Common.{slice_index_or}
+use Rattle.std.proofs.lemmas.List.{get_or_default}
+use Rattle.dir_tree.specs.Stored.{directory_of}
+use Rattle.dir_tree.proofs.Putting.{names-step}
+use Rattle.dir_tree.specs.Subtree.{old_key}
+use Rattle.dir_tree.proofs.renaming.Rename.names.Goals as goal
+
+pub loop-number-preserved : goal.loop-number-preserved
+loop-number-preserved c =
+    names-step (directory_of c.args.self.now.entries.now.entries) c.args.self.now.numbers.now c.loop-number.number-index (slice_index_or c.args.self.now.numbers.now c.loop-number.number-index 0) c.loop-number-test.true (get_or_default c.args.self.now.numbers.now c.loop-number.number-index 0 (slice_index_or c.args.self.now.numbers.now c.loop-number.number-index 0) c.loop-number-test.true)
+    (old_key c.args.self.now) c.args.self.now.new_name.now c.loop-number.names.items c.push_name.new.names.items _ c.loop-number.invariant c.in_ok-push_name.ensures
