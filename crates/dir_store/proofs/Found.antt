@@ -149,7 +149,7 @@ front_is_not (x ∷ f) (y ∷ w) l = by (are_same_keys x.keys y.keys) (front_is_
     by true ih = ih
     by false ih = refl
 
-length_rdns : (a : List RdnModel) → length (rdns a) ≡ length a
+pub length_rdns : (a : List RdnModel) → length (rdns a) ≡ length a
 length_rdns [] = refl
 length_rdns (x ∷ a) = ap (λ (k : ℕ). suc k) (length_rdns a)
 

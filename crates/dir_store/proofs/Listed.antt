@@ -8,7 +8,7 @@ use Rattle.dir_tree.specs.dir_entry.Entry.{KeyedAttribute}
 use Rattle.dir_index.specs.index_choice.declared.kinds.Kinds.{Kinds}
 use Rattle.dir_index.specs.Postings.{Indexed, Lists}
 use Rattle.dir_index.specs.Whole as index
-use Rattle.dir_index.specs.Whole.{PostingsModel, ArePostingsOf, AreSameLists, HasEntry, without, with_attributes, lists_of}
+use Rattle.dir_index.specs.Whole.{ArePostingsOf, AreSameLists, HasEntry, without, with_attributes}
 use Rattle.dir_tree.specs.Directory.{NameKey, Entered, name_eq, find, entry_at, unnumbered, replaced, moved, AllBelow, AllAbove, NumbersRise, NamesDiffer}
 use Rattle.dir_store.proofs.Found.{names_same}
 use Rattle.dir_store.specs.Listed.{listed, listed_of}

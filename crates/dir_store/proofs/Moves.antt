@@ -3,15 +3,11 @@ use Rattle.std.proofs.Common.{◌≡◌, ◌-◌, ℕ, suc, List, [], ◌∷◌,
 use Rattle.std.specs.Option.{option_map}
 use Rattle.dir_tree.specs.ldap_dn.Names.{TypeAndKey, RdnModel, rdns, are_same_keys}
 use Rattle.dir_tree.specs.Directory.{NameKey, Entered, name_eq, begins, find, above, has_footing, NumbersRise, IsDirectory}
-use Rattle.dir_store.proofs.Found.{found_at, found_name, names_same, placed_same, rdns_take}
+use Rattle.dir_store.proofs.Found.{found_at, found_name, names_same, placed_same, rdns_take, length_rdns}
 use Rattle.dir_store.proofs.Shown.{entry_shown}
 use Rattle.dir_store.specs.Places.{entry_named, parent_of, last_of}
 use Rattle.dir_store.specs.Stored.{named}
 use Rattle.dir_store.specs.Updates.{is_other_than}
-
-length_rdns : (a : List RdnModel) → length (rdns a) ≡ length a
-length_rdns [] = refl
-length_rdns (x ∷ a) = ap (λ (k : ℕ). suc k) (length_rdns a)
 
 -- the name above a name is the name of what is above it
 pub above_of : (a : List RdnModel) → rdns (parent_of a) ≡ above (rdns a)

@@ -1,5 +1,5 @@
 -- Numbers rise from entry to entry, whatever the updates. Facts on definitions flow in and out; no value of the program is here.
-use Rattle.std.proofs.Common.{◌≡◌, ◌<◌, ◌+◌, ℕ, zero, suc, List, [], ◌∷◌, ◌++◌, Bool, true, false, cond, Result, Ok, Err, nat_eq, arith, sym, ap, subst}
+use Rattle.std.proofs.Common.{◌<◌, ◌+◌, ℕ, List, [], ◌∷◌, ◌++◌, Bool, true, false, cond, Result, Ok, Err, nat_eq}
 use Rattle.dir_tree.specs.ldap_dn.Names.{RdnModel, rdns}
 use Rattle.entry_updates.specs.ldap_op.Values.{OpValue, add, delete, modify, modify_dn, noop}
 use Rattle.dir_tree.specs.dir_entry.Entry.{AttributeModel}
@@ -9,7 +9,7 @@ use Rattle.dir_store.specs.Order.{NumbersAbove, NumbersAreRising, EntriesRise}
 use Rattle.dir_store.specs.Places.{without_entry, with_attributes, moved}
 use Rattle.dir_store.specs.Replies.{ReplyModel, then}
 use Rattle.dir_store.specs.Stored.{NumbersBelow}
-use Rattle.dir_store.specs.Updates.{PlacedModel, KeptModel, MoveModel, name_asked, leaf_asked, addition, change_asked, move_asked, updated, with_entries, applied, directory_after, empty_directory}
+use Rattle.dir_store.specs.Updates.{PlacedModel, KeptModel, MoveModel, name_asked, leaf_asked, addition, change_asked, move_asked, with_entries, applied, directory_after, empty_directory}
 use Rattle.dir_store.proofs.Below.{below_applied}
 
 -- one more behind, under a number that is above all others

@@ -1,5 +1,6 @@
 pub mod Directory
 pub mod Listed
+pub mod Moving
 pub mod Places
 pub mod Replies
 pub mod Updates

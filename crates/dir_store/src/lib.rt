@@ -19,7 +19,7 @@ mod store;
 pub use dir_index::{IndexError, Indexes, Postings};
 pub use dir_tree::{
     Attribute, Entry, EntryError, Name, NameError, NamedEntry, Rdn, Schema, SharedEntry, Tree,
-    Truth, TypeId, are_same, is_of_syntax,
+    Truth, TypeId, are_same, copy_values, is_of_syntax,
 };
 pub use entry_updates::{Op, Update};
 pub use indexed::IndexedTree;

@@ -3,10 +3,11 @@
 ghost use Rattle.std.specs.Prelude.{◌≡◌, ◌++◌, ◌∷◌, [], false, true, Some, OnOk, OnErr, IfOk, IfErr, is_some};
 ghost use Rattle.std.specs.Option.{option_map};
 ghost use Rattle.dir_tree.specs.ldap_dn.Names.{rdns};
-ghost use Rattle.dir_tree.specs.Directory.{AllBelow, name_eq, begins, find, above, has_footing, unnumbered, replaced, moved};
+ghost use Rattle.dir_tree.specs.Directory.{AllBelow, find, has_footing, unnumbered, replaced, moved};
 ghost use Rattle.dir_index.specs.Whole.{lists_of, ArePostingsOf, with_attributes};
 ghost use Rattle.dir_index.specs.Begun.{lists_before, lists_after};
 ghost use Rattle.dir_store.specs.Listed.{listed_of};
+ghost use Rattle.dir_store.specs.Moving.{MayMove};
 
 use crate::finding::standing;
 use dir_index::{Begun, Postings};
@@ -104,11 +105,7 @@ pub fn rename_listed(
     new_entry: SharedEntry,
 ) -> (Postings, Result<(), AllocError>)
     requires listed { ArePostingsOf (lists_of postings) postings.indexes (listed_of tree.old.entries) }
-    requires here { option_map (λ e. e.number) (find (rdns name.now) tree.old.entries) ≡ Some number }
-    requires root { name_eq (rdns name.now) (rdns tree.old.suffix) ≡ false }
-    requires parent { is_some (find (above (rdns new_name)) tree.old.entries) ≡ true }
-    requires apart { begins (rdns name.now) (above (rdns new_name)) ≡ false }
-    requires free { is_some (find (rdns new_name) tree.old.entries) ≡ true → name_eq (rdns name.now) (rdns new_name) ≡ true }
+    requires may { MayMove tree.old number (rdns name.now) (rdns new_name) }
     ensures listed { ArePostingsOf (lists_of result.0) result.0.indexes (listed_of tree.new.entries) }
     ensures indexes { result.0.indexes ≡ postings.indexes }
     ensures ok { OnOk result.1 (tree.new ≡ record { suffix = tree.old.suffix; entries = moved (rdns name.now) new_name new_entry tree.old.entries }) }

@@ -1,15 +1,14 @@
 //! What a modifyDN asks for. A schema, a tree and a request flow in; the entry under its new name, or a refusal, flows out. The tree stays
 //! as it is.
-ghost use Rattle.std.specs.Prelude.{◌≡◌, ◌++◌, ◌∷◌, [], true, false, Ok, Some, IfOk, IfErr, OnOk, is_some, map};
+ghost use Rattle.std.specs.Prelude.{◌≡◌, ◌++◌, ◌∷◌, [], true, false, Ok, IfOk, IfErr, OnOk, is_some, map};
 ghost use Rattle.dir_tree.specs.ldap_dn.Names.{rdns};
 ghost use Rattle.entry_updates.specs.ldap_updates.View.{modify_dn_view};
 ghost use Rattle.dir_tree.specs.dir_entry.Entry.{IsKeyedBy};
-ghost use Rattle.std.specs.Option.{option_map};
-ghost use Rattle.dir_tree.specs.Directory.{find, name_eq, begins, above as above_name};
-ghost use Rattle.dir_tree.specs.Stored.{entered_of};
+ghost use Rattle.dir_tree.specs.Directory.{find, name_eq, begins};
 ghost use Rattle.dir_store.specs.Places.{parent_of, entry_named};
 ghost use Rattle.dir_store.specs.Stored.{named, directory, AreKeyedBy};
 ghost use Rattle.dir_store.specs.Updates.{is_at_or_below as is_name_at_or_below, is_misplaced as is_move_misplaced, superior_of, is_other_than, moved_entry, move_names, move_to, move_under, move_asked as move_that_is_asked};
+ghost use Rattle.dir_store.specs.Moving.{MayMove};
 ghost use Rattle.dir_store.specs.View.{names_view, moved_view, RefusedWith};
 
 use crate::fault::{StoreError, refused_attributes};
@@ -19,6 +18,7 @@ use crate::reply::Reply;
 use dir_tree::{Entry, Name, NamedEntry, Rdn, Schema, Tree};
 use entry_updates::{ModifyDnRequest, ResultCode, entry_renamed};
 use std::alloc::{AllocError, Global};
+use std::marker::Model;
 
 /// An entry's number, its name before and after, and its attributes after.
 #[derive(Drop)]
@@ -78,34 +78,6 @@ fn parent(alloc: Global, name: &Name) -> Result<Name, AllocError>
     Ok(Name::from_rdns(rdns))
 }
 
-/// The name of the superior as it is spelled: the new one's, 32 where it is no entry's, or the present one's.
-#[tactic(auto, using(crate::proofs::Moves::stands_above, crate::proofs::Moves::above_of))]
-fn superior_name(
-    alloc: Global,
-    schema: &Schema,
-    tree: &Tree,
-    name: &Name,
-    above: &Option<Name>,
-) -> Result<Name, StoreError>
-    requires keyed { AreKeyedBy schema.now tree.now.entries }
-    requires here { is_some (find (rdns name.now) tree.now.entries) ≡ true }
-    requires root { name_eq (rdns name.now) (rdns tree.now.suffix) ≡ false }
-    requires outside { is_name_at_or_below name.now above.now ≡ false }
-    ensures ok { IfOk result (λ n. superior_of (directory schema.now tree.now) name.now above.now ≡ Ok n) }
-    ensures stands { IfOk result (λ n. is_some (find (rdns n) tree.now.entries) ≡ true) }
-    ensures apart { IfOk result (λ n. begins (rdns name.now) (rdns n) ≡ false) }
-    ensures refused { IfErr result (λ e. RefusedWith e (superior_of (directory schema.now tree.now) name.now above.now)) }
-{
-    tree.is_directory();
-    match above {
-        None => Ok(parent(alloc, name)?),
-        Some(above) => {
-            let (_, held) = asked_entry(alloc, schema, tree, above.rdns())?;
-            Ok(held.name.copy(alloc)?)
-        }
-    }
-}
-
 /// A name with one relative name more.
 fn with_rdn(alloc: Global, superior: Name, rdn: &Rdn) -> Result<Name, AllocError>
     ensures { IfOk result (λ n. n ≡ superior ++ rdn.now ∷ []) }
@@ -126,99 +98,115 @@ fn is_taken_by_other(tree: &Tree, number: u64, name: &[Rdn]) -> bool
     }
 }
 
-/// The entry under a name: what its attributes are refused for.
-fn moved_under(
+/// A move that is asked of an entry of a tree.
+#[derive(Drop)]
+struct Move<'a> {
     alloc: Global,
-    schema: &Schema,
+    schema: &'a Schema,
+    tree: &'a Tree,
     delete_old: bool,
     number: u64,
-    held: &NamedEntry,
-    rdn: &Rdn,
-    after: Name,
-) -> Result<Moved, StoreError>
-    requires keyed { IsKeyedBy schema.now held.now.entry }
-    ensures ok { IfOk result (λ m. moved_entry schema.now delete_old (named (entered_of number held.now)) rdn.now after ≡ Ok (moved_view m)) }
-    ensures keyed { IfOk result (λ m. IsKeyedBy schema.now m.entry) }
-    ensures number { IfOk result (λ m. m.number ≡ number) }
-    ensures before { IfOk result (λ m. m.before ≡ held.now.name) }
-    ensures after { IfOk result (λ m. m.after ≡ after) }
-    ensures refused { IfErr result (λ e. RefusedWith e (moved_entry schema.now delete_old (named (entered_of number held.now)) rdn.now after)) }
-{
-    match entry_renamed(
-        alloc,
-        schema,
-        own_rdn(held.name.rdns()),
-        rdn.types_and_values(),
-        delete_old,
-        &held.entry,
-    ) {
-        Ok(entry) => Ok(Moved {
-            number,
-            before: held.name.copy(alloc)?,
-            after,
-            entry,
-        }),
-        Err(error) => Err(refused_attributes(alloc, error)),
-    }
+    held: &'a NamedEntry,
+    rdn: &'a Rdn,
 }
 
-/// The entry under a name that no other entry has: 68, then what its attributes are refused for.
-fn move_to_name(
-    alloc: Global,
-    schema: &Schema,
-    tree: &Tree,
-    delete_old: bool,
-    number: u64,
-    held: &NamedEntry,
-    rdn: &Rdn,
-    after: Name,
-) -> Result<Moved, StoreError>
-    requires keyed { IsKeyedBy schema.now held.now.entry }
-    ensures ok { IfOk result (λ m. move_to (directory schema.now tree.now) delete_old (named (entered_of number held.now)) rdn.now after ≡ Ok (moved_view m)) }
-    ensures keyed { IfOk result (λ m. IsKeyedBy schema.now m.entry) }
-    ensures number { IfOk result (λ m. m.number ≡ number) }
-    ensures before { IfOk result (λ m. m.before ≡ held.now.name) }
-    ensures after { IfOk result (λ m. m.after ≡ after) }
-    ensures fresh { OnOk result (is_other_than number (entry_named (rdns after) (map named tree.now.entries)) ≡ false) }
-    ensures refused { IfErr result (λ e. RefusedWith e (move_to (directory schema.now tree.now) delete_old (named (entered_of number held.now)) rdn.now after)) }
-{
-    if is_taken_by_other(tree, number, after.rdns()) {
-        return Err(StoreError::Refused(Reply::only(alloc, ResultCode::ENTRY_ALREADY_EXISTS)));
-    }
-    moved_under(alloc, schema, delete_old, number, held, rdn, after)
+impl<'a> Model for Move<'a> {
+    ghost use Rattle.dir_tree.specs.Stored.{entered_of};
+    ghost use Rattle.dir_store.specs.Moving.{MoveAsked, IsOfTree};
+
+    ghost Value = { MoveAsked };
+
+    ghost view = { λ m. record { schema = m.schema.now; tree = m.tree.now; delete_old = m.delete_old; entry = entered_of m.number m.held.now; rdn = m.rdn.now } };
+
+    ghost invariant = { λ m. IsOfTree (record { schema = m.schema.now; tree = m.tree.now; delete_old = m.delete_old; entry = entered_of m.number m.held.now; rdn = m.rdn.now }) };
 }
 
-/// A move of an entry: 53, 32 of the new superior, 68, then what its attributes are refused for.
-#[tactic(auto, using(crate::proofs::Moves::free_of, crate::proofs::Moves::above_last))]
-fn move_entry(
-    alloc: Global,
-    schema: &Schema,
-    tree: &Tree,
-    delete_old: bool,
-    number: u64,
-    held: &NamedEntry,
-    rdn: &Rdn,
-    above: &Option<Name>,
-) -> Result<Moved, StoreError>
-    requires keyed { AreKeyedBy schema.now tree.now.entries }
-    requires entry { IsKeyedBy schema.now held.now.entry }
-    requires here { find (rdns held.now.name) tree.now.entries ≡ Some (entered_of number held.now) }
-    ensures ok { IfOk result (λ m. move_under (directory schema.now tree.now) delete_old (named (entered_of number held.now)) rdn.now above.now ≡ Ok (moved_view m)) }
-    ensures keyed { IfOk result (λ m. IsKeyedBy schema.now m.entry) }
-    ensures here { IfOk result (λ m. option_map (λ e. e.number) (find (rdns m.before) tree.now.entries) ≡ Some m.number) }
-    ensures root { IfOk result (λ m. name_eq (rdns m.before) (rdns tree.now.suffix) ≡ false) }
-    ensures parent { IfOk result (λ m. is_some (find (above_name (rdns m.after)) tree.now.entries) ≡ true) }
-    ensures apart { IfOk result (λ m. begins (rdns m.before) (above_name (rdns m.after)) ≡ false) }
-    ensures free { IfOk result (λ m. is_some (find (rdns m.after) tree.now.entries) ≡ true → name_eq (rdns m.before) (rdns m.after) ≡ true) }
-    ensures refused { IfErr result (λ e. RefusedWith e (move_under (directory schema.now tree.now) delete_old (named (entered_of number held.now)) rdn.now above.now)) }
-{
-    tree.is_directory();
-    if is_misplaced(tree.suffix().rdns(), held.name.rdns(), above) {
-        return Err(StoreError::Refused(Reply::only(alloc, ResultCode::UNWILLING_TO_PERFORM)));
+impl Move<'_> {
+    /// The name of the superior as it is spelled: the new one's, 32 where it is no entry's, or the present one's.
+    #[tactic(auto, using(crate::proofs::Moves::stands_above, crate::proofs::Moves::above_of))]
+    fn superior_name(&self, above: &Option<Name>) -> Result<Name, StoreError>
+        requires root { name_eq (rdns self.now.entry.name) (rdns self.now.tree.suffix) ≡ false }
+        requires outside { is_name_at_or_below self.now.entry.name above.now ≡ false }
+        ensures ok { IfOk result (λ n. superior_of (directory self.now.schema self.now.tree) self.now.entry.name above.now ≡ Ok n) }
+        ensures stands { IfOk result (λ n. is_some (find (rdns n) self.now.tree.entries) ≡ true) }
+        ensures apart { IfOk result (λ n. begins (rdns self.now.entry.name) (rdns n) ≡ false) }
+        ensures refused { IfErr result (λ e. RefusedWith e (superior_of (directory self.now.schema self.now.tree) self.now.entry.name above.now)) }
+    {
+        self.tree.is_directory();
+        match above {
+            None => Ok(parent(self.alloc, &self.held.name)?),
+            Some(above) => {
+                let (_, held) = asked_entry(self.alloc, self.schema, self.tree, above.rdns())?;
+                Ok(held.name.copy(self.alloc)?)
+            }
+        }
     }
-    let superior = superior_name(alloc, schema, tree, &held.name, above)?;
-    let after = with_rdn(alloc, superior, rdn)?;
-    move_to_name(alloc, schema, tree, delete_old, number, held, rdn, after)
+
+    /// The entry under a name: what its attributes are refused for.
+    fn moved_under(&self, after: Name) -> Result<Moved, StoreError>
+        ensures ok { IfOk result (λ m. moved_entry self.now.schema self.now.delete_old (named self.now.entry) self.now.rdn after ≡ Ok (moved_view m)) }
+        ensures keyed { IfOk result (λ m. IsKeyedBy self.now.schema m.entry) }
+        ensures number { IfOk result (λ m. m.number ≡ self.now.entry.number) }
+        ensures before { IfOk result (λ m. m.before ≡ self.now.entry.name) }
+        ensures after { IfOk result (λ m. m.after ≡ after) }
+        ensures refused { IfErr result (λ e. RefusedWith e (moved_entry self.now.schema self.now.delete_old (named self.now.entry) self.now.rdn after)) }
+    {
+        match entry_renamed(
+            self.alloc,
+            self.schema,
+            own_rdn(self.held.name.rdns()),
+            self.rdn.types_and_values(),
+            self.delete_old,
+            &self.held.entry,
+        ) {
+            Ok(entry) => Ok(Moved {
+                number: self.number,
+                before: self.held.name.copy(self.alloc)?,
+                after,
+                entry,
+            }),
+            Err(error) => Err(refused_attributes(self.alloc, error)),
+        }
+    }
+
+    /// The entry under a name that no other entry has: 68, then what its attributes are refused for.
+    fn moved_to(&self, after: Name) -> Result<Moved, StoreError>
+        ensures ok { IfOk result (λ m. move_to (directory self.now.schema self.now.tree) self.now.delete_old (named self.now.entry) self.now.rdn after ≡ Ok (moved_view m)) }
+        ensures keyed { IfOk result (λ m. IsKeyedBy self.now.schema m.entry) }
+        ensures number { IfOk result (λ m. m.number ≡ self.now.entry.number) }
+        ensures before { IfOk result (λ m. m.before ≡ self.now.entry.name) }
+        ensures after { IfOk result (λ m. m.after ≡ after) }
+        ensures fresh { OnOk result (is_other_than self.now.entry.number (entry_named (rdns after) (map named self.now.tree.entries)) ≡ false) }
+        ensures refused { IfErr result (λ e. RefusedWith e (move_to (directory self.now.schema self.now.tree) self.now.delete_old (named self.now.entry) self.now.rdn after)) }
+    {
+        if is_taken_by_other(self.tree, self.number, after.rdns()) {
+            return Err(StoreError::Refused(Reply::only(
+                self.alloc,
+                ResultCode::ENTRY_ALREADY_EXISTS,
+            )));
+        }
+        self.moved_under(after)
+    }
+
+    /// The entry under its new name: 53, 32 of the new superior, 68, then what its attributes are refused for.
+    #[tactic(auto, using(crate::proofs::Moves::free_of, crate::proofs::Moves::above_last))]
+    fn moved(&self, above: &Option<Name>) -> Result<Moved, StoreError>
+        ensures ok { IfOk result (λ m. move_under (directory self.now.schema self.now.tree) self.now.delete_old (named self.now.entry) self.now.rdn above.now ≡ Ok (moved_view m)) }
+        ensures keyed { IfOk result (λ m. IsKeyedBy self.now.schema m.entry) }
+        ensures may { IfOk result (λ m. MayMove self.now.tree m.number (rdns m.before) (rdns m.after)) }
+        ensures refused { IfErr result (λ e. RefusedWith e (move_under (directory self.now.schema self.now.tree) self.now.delete_old (named self.now.entry) self.now.rdn above.now)) }
+    {
+        self.tree.is_directory();
+        if is_misplaced(self.tree.suffix().rdns(), self.held.name.rdns(), above) {
+            return Err(StoreError::Refused(Reply::only(
+                self.alloc,
+                ResultCode::UNWILLING_TO_PERFORM,
+            )));
+        }
+        let superior = self.superior_name(above)?;
+        let after = with_rdn(self.alloc, superior, self.rdn)?;
+        self.moved_to(after)
+    }
 }
 
 /// What a modifyDN asks for (RFC 4511 4.9): 34 of its three names, 32, 53, 32 of the new superior, 68, then what the attributes are
@@ -232,23 +220,19 @@ pub fn asked_move(
     requires keyed { AreKeyedBy schema.now tree.now.entries }
     ensures ok { IfOk result (λ m. move_that_is_asked (directory schema.now tree.now) (modify_dn_view request.now) ≡ Ok (moved_view m)) }
     ensures keyed { IfOk result (λ m. IsKeyedBy schema.now m.entry) }
-    ensures here { IfOk result (λ m. option_map (λ e. e.number) (find (rdns m.before) tree.now.entries) ≡ Some m.number) }
-    ensures root { IfOk result (λ m. name_eq (rdns m.before) (rdns tree.now.suffix) ≡ false) }
-    ensures parent { IfOk result (λ m. is_some (find (above_name (rdns m.after)) tree.now.entries) ≡ true) }
-    ensures apart { IfOk result (λ m. begins (rdns m.before) (above_name (rdns m.after)) ≡ false) }
-    ensures free { IfOk result (λ m. is_some (find (rdns m.after) tree.now.entries) ≡ true → name_eq (rdns m.before) (rdns m.after) ≡ true) }
+    ensures may { IfOk result (λ m. MayMove tree.now m.number (rdns m.before) (rdns m.after)) }
     ensures refused { IfErr result (λ e. RefusedWith e (move_that_is_asked (directory schema.now tree.now) (modify_dn_view request.now))) }
 {
     let MoveNames { name, rdn, above } = asked_names(alloc, schema, request)?;
     let (number, held) = asked_entry(alloc, schema, tree, name.rdns())?;
-    move_entry(
+    let asked = Move {
         alloc,
         schema,
         tree,
-        request.deleteoldrdn,
+        delete_old: request.deleteoldrdn,
         number,
         held,
-        &rdn,
-        &above,
-    )
+        rdn: &rdn,
+    };
+    asked.moved(&above)
 }

@@ -12,5 +12,5 @@ pub returns-in-Ok-rename-clause-listed : goal.returns-in-Ok-rename-clause-listed
 returns-in-Ok-rename-clause-listed c =
     let d : List Entered = c.args.tree.now.entries in
     kept_postings (lists_of c.settle.result) (lists_after c.in-Ok.begun) c.settle.result.indexes c.in-Ok.begun.indexes (listed_of c.rename.new.self.entries) (with_attributes c.args.number c.args.new_entry (listed_of d)) c.settle.ensures.lists c.settle.ensures.indexes
-    (ap (λ (t : TreeModel). listed_of t.entries) c.in-Ok-rename.ensures.ok ∙ moved_listed (rdns c.args.name.now) c.args.new_name c.args.new_entry c.args.number d c.is_directory.ensures.rise c.is_directory.ensures.differ c.requires.here)
+    (ap (λ (t : TreeModel). listed_of t.entries) c.in-Ok-rename.ensures.ok ∙ moved_listed (rdns c.args.name.now) c.args.new_name c.args.new_entry c.args.number d c.is_directory.ensures.rise c.is_directory.ensures.differ c.requires.may.here)
     (subst (λ (x : List KeyedAttribute). ArePostingsOf (lists_after c.in-Ok.begun) c.in-Ok.begun.indexes (with_attributes c.args.number x (listed_of d))) c.deref.ensures c.in-Ok.ensures.after)
