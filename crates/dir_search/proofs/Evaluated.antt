@@ -29,7 +29,7 @@ use Rattle.dir_search.specs.Numbered.{put_some, entries_of}
 use Rattle.dir_search.specs.Scopes.{is_in_scope}
 use Rattle.dir_search.specs.View.{FindsAmong}
 use Rattle.dir_search.specs.declared.found.SearchAnswer.{SearchAnswer}
-use Rattle.dir_search.proofs.Few.{true_here, found_true}
+use Rattle.dir_search.proofs.Few.{true_here, bound_on, found_true}
 use Rattle.dir_search.proofs.Limits.{keyed_at}
 use Rattle.dir_search.proofs.Numbers.{numbers_are}
 use Rattle.dir_search.proofs.Scoped.{shown_filter}
@@ -60,7 +60,7 @@ tested P none d (k ∷ ks) = by (entry_at k d) (tested P none d ks)
 -- as many numbers are found as entries match
 true_counted : (s : SchemaModel) (t : Tree) (b : BoundFilter) (d : List Entered) (ks : List ℕ) → AreKeyedBy s d → IsBoundTo s t b → length (true_numbers b d ks) ≡ length (filter (is_match s t) (map named (entries_of ks d)))
 true_counted s t b d ks keyed stands =
-    sym (here_counted d (true_numbers b d ks) (true_here b d ks)) ∙ sym (length-map (entries_of (true_numbers b d ks) d) named) ∙ ap length (found_true s t b d keyed stands ks)
+    sym (here_counted d (true_numbers b d ks) (true_here b d ks)) ∙ sym (length-map (entries_of (true_numbers b d ks) d) named) ∙ ap length (found_true s t b d (bound_on s t b d keyed stands) ks)
 
 -- as many numbers' entries hold the runs that a bound filter asks for as hold those that its filter asks for
 module _ (law : TestsAreItems) (s : SchemaModel) (ix : List Kinds) (d : List Entered) (t : Tree) (b : BoundFilter) where
@@ -193,7 +193,7 @@ module _ (s : SchemaModel) (tr : TreeModel) (q : SearchRequestValue) (ix : List 
   matching_are : NumbersRise tr.entries → AreKeyedBy s tr.entries → IsBoundTo s q.filter b
       → map named (entries_of (true_numbers b tr.entries (numbers_in_scope (directory s tr) q base tr.entries)) tr.entries) ≡ matching (directory s tr) q base
   matching_are rise keyed stands =
-      found_true s q.filter b tr.entries keyed stands (numbers_in_scope (directory s tr) q base tr.entries) ∙ ap (filter (is_match s q.filter)) (named_scope rise)
+      found_true s q.filter b tr.entries (bound_on s q.filter b tr.entries keyed stands) (numbers_in_scope (directory s tr) q base tr.entries) ∙ ap (filter (is_match s q.filter)) (named_scope rise)
 
   numbers_found : NumbersRise tr.entries → AreKeyedBy s tr.entries → IsBoundTo s q.filter b
       → true_numbers b tr.entries (numbers_in_scope (directory s tr) q base tr.entries) ≡ map (λ (x : NamedEntry). x.number) (matching (directory s tr) q base)

@@ -1,5 +1,6 @@
 -- Success shows exactly what was asked for. The definition of answers flows in; the plain sentence on it flows out.
 use Rattle.std.proofs.Common.{◌≡◌, ℕ, suc, arith, List, [], ◌∷◌, map, filter, length, take, nat_lt, Bool, true, false, cond, ◌&&◌, inl, inr, Option, Some, refl, sym, ap, ◌∙◌, subst, true≢false}
+use Rattle.std.proofs.lemmas.Bool.{and_from, and_parts}
 use Rattle.dir_store.specs.ldap_dn.Names.{RdnModel, rdns}
 use Rattle.dir_store.specs.ldap_dn.Texts.{name_of_text}
 use Rattle.dir_store.specs.Directory.{Directory, NamedEntry}
@@ -51,23 +52,14 @@ filter_among p e (f ∷ fs) (inr h) is = by (p f) (filter_among p e fs h is)
     by true i = inr i
     by false i = i
 
-both : (a b : Bool) → a ≡ true → b ≡ true → (a && b) ≡ true
-both true true x y = refl
-both true false x y = y
-both false b x y = x
-
-each : (a b : Bool) → (a && b) ≡ true → (a ≡ true) × (b ≡ true)
-each true b h = (refl, h)
-each false b h = absurd (true≢false (sym h))
-
 -- the matching entries are exactly those that are asked for
 are_exactly : (d : Directory) (q : SearchRequestValue) (base : List RdnModel) → NumbersAreRising d.entries → AreExactly d q base (map (selected d.schema q.attributes q.types_only) (matching d q base))
 are_exactly d q base rising = record {
   entries = matching d q base;
   are_shown = refl;
   rising = rising_filter (is_match d.schema q.filter) (in_scope d q.scope base) (rising_filter scoped d.entries rising);
-  sound = λ e i. let m = among_filter (is_match d.schema q.filter) e (in_scope d q.scope base) i in let s = among_filter scoped e d.entries m.0 in (s.0, both (scoped e) (is_match d.schema q.filter e) s.1 m.1);
-  complete = λ e i asked. let t = each (scoped e) (is_match d.schema q.filter e) asked in
+  sound = λ e i. let m = among_filter (is_match d.schema q.filter) e (in_scope d q.scope base) i in let s = among_filter scoped e d.entries m.0 in (s.0, and_from (scoped e) (is_match d.schema q.filter e) s.1 m.1);
+  complete = λ e i asked. let t = and_parts (scoped e) (is_match d.schema q.filter e) asked in
       filter_among (is_match d.schema q.filter) e (in_scope d q.scope base) (filter_among scoped e d.entries i t.0) t.1;
 }
   where

@@ -2,9 +2,10 @@
 use Rattle.std.proofs.Common.{◌≡◌, ◌<◌, ◌≤◌, ℕ, length, Bool, true, false, cond, ◌||◌, List, [], ◌∷◌, Option, Some, None, map, nat_eq, nat_lt, refl, sym, ap, ◌∙◌, subst, eq-eqb, arith}
 use Rattle.std.specs.Prelude.{is_some, filter, nat_le}
 use Rattle.std.specs.List.{AllByRecursion, slice_get}
+use Rattle.std.proofs.lemmas.Bool.{or_right}
 use Rattle.std.proofs.lemmas.Bool.Decides.{nat_tests}
-use Rattle.dir_store.specs.ldap_match.declared.truth.Truth.{Truth}
-use Rattle.dir_store.specs.ldap_match.declared.truth.Truth.TheVariants.{True, False, Undefined}
+use Rattle.std.proofs.lemmas.List.Sums.{count_by-le-length, length-filter}
+use Rattle.dir_store.specs.ldap_match.declared.truth.Truth.TheVariants.{True}
 use Rattle.dir_store.specs.ldap_schema.Schema.{SchemaModel}
 use Rattle.ldap_filter.specs.Tree.{Tree}
 use Rattle.ldap_msg.specs.Messages.{SearchRequestValue}
@@ -23,26 +24,19 @@ use Rattle.plan_compile.specs.plan_sets.Runs.{is_true as is_true_value}
 use Rattle.dir_store.specs.Listed.{listed_of}
 use Rattle.dir_search.specs.Answer.{is_true, is_match, limited}
 use Rattle.dir_search.specs.Counted.{first_past}
-use Rattle.dir_search.specs.Looks.{value_on, value_in, true_numbers, has_runs_on, leaves_open_on, up_to, AreNumbersOf, AreHere, IsFew, LeavesFew}
+use Rattle.dir_search.specs.Looks.{value_on, value_in, IsBoundOn, true_numbers, has_runs_on, leaves_open_on, up_to, AreNumbersOf, AreHere, IsFew, LeavesFew}
 use Rattle.dir_search.specs.Numbered.{put_some, entries_of}
 use Rattle.dir_search.specs.Selection.{selected}
 use Rattle.dir_search.specs.View.{Shows, FindsAmong}
 use Rattle.dir_search.specs.declared.found.SearchAnswer.{SearchAnswer}
 use Rattle.dir_search.proofs.Limits.{keyed_at}
 
-or_right : (a b : Bool) → b ≡ true → (a || b) ≡ true
-or_right true b h = refl
-or_right false b h = h
-
 or_weaker : (a b b' : Bool) → (b ≡ true → b' ≡ true) → (a || b) ≡ true → (a || b') ≡ true
 or_weaker true b b' f h = refl
 or_weaker false b b' f h = f h
 
 filter_short : (p : ℕ → Bool) (ks : List ℕ) → length (filter p ks) ≤ length ks
-filter_short p [] = omega arith
-filter_short p (k ∷ ks) =
-    let less : length (filter p ks) ≤ length ks = filter_short p ks in
-    elim (p k) as (λ v. length (cond v (k ∷ filter p ks) (filter p ks)) ≤ length (k ∷ ks)) [ true ↦ omega arith | false ↦ omega arith ]
+filter_short p ks = subst (λ (n : ℕ). n ≤ length ks) (sym (length-filter p ks)) (count_by-le-length p ks)
 
 -- what passes a stronger test is no more
 fewer : (p q : ℕ → Bool) (ks : List ℕ) → ((n : ℕ) → has_number n ks ≡ true → p n ≡ true → q n ≡ true) → length (filter p ks) ≤ length (filter q ks)
@@ -71,21 +65,15 @@ filter_less q (k ∷ ks) n h = by (q k) (filter_less q ks n) h
     by true ih h = or_weaker (nat_eq n k) (has_number n (filter q ks)) (has_number n ks) ih h
     by false ih h = or_right (nat_eq n k) (has_number n ks) (ih h)
 
-filter_yes : (p : ℕ → Bool) (x : ℕ) (xs : List ℕ) → p x ≡ true → filter p (x ∷ xs) ≡ x ∷ filter p xs
-filter_yes p x xs h = ap (λ (b : Bool). cond b (x ∷ filter p xs) (filter p xs)) h
-
-filter_no : (p : ℕ → Bool) (x : ℕ) (xs : List ℕ) → p x ≡ false → filter p (x ∷ xs) ≡ filter p xs
-filter_no p x xs h = ap (λ (b : Bool). cond b (x ∷ filter p xs) (filter p xs)) h
-
 -- two tests in either order
 either_order : (p q : ℕ → Bool) (ks : List ℕ) → filter q (filter p ks) ≡ filter p (filter q ks)
 either_order p q [] = refl
 either_order p q (k ∷ ks) = by (p k) (q k) refl refl (either_order p q ks)
   where
     by : (a b : Bool) → p k ≡ a → q k ≡ b → filter q (filter p ks) ≡ filter p (filter q ks) → filter q (cond a (k ∷ filter p ks) (filter p ks)) ≡ filter p (cond b (k ∷ filter q ks) (filter q ks))
-    by true true pa qb ih = filter_yes q k (filter p ks) qb ∙ ap (λ (l : List ℕ). k ∷ l) ih ∙ sym (filter_yes p k (filter q ks) pa)
-    by true false pa qb ih = filter_no q k (filter p ks) qb ∙ ih
-    by false true pa qb ih = ih ∙ sym (filter_no p k (filter q ks) pa)
+    by true true pa qb ih = rw (qb, pa) (ap (λ (l : List ℕ). k ∷ l) ih)
+    by true false pa qb ih = rw qb ih
+    by false true pa qb ih = rw pa ih
     by false false pa qb ih = ih
 
 module _ (open_at : ℕ → Bool) (ix : List Kinds) (b : BoundFilter) (d : List Entered) (ks : List ℕ) (tests : ℕ) where
@@ -151,26 +139,30 @@ numbers_rise p (e ∷ es) h = by (p e) (numbers_rise p es h.1)
 pub scope_rises : (ks : List ℕ) (d : List Entered) → AreNumbersOf ks d → IsRising (map (λ e. e.number) (listed_of d)) → IsRising ks
 scope_rises ks d sel h = subst IsRising (sym sel.1) (numbers_rise sel.0 d h)
 
--- The entries of the numbers that are found are those that match.
-pub found_true : (s : SchemaModel) (t : Tree) (b : BoundFilter) (d : List Entered) → AreKeyedBy s d → IsBoundTo s t b → (ks : List ℕ)
-    → map named (entries_of (true_numbers b d ks) d) ≡ filter (is_match s t) (map named (entries_of ks d))
-found_true s t b d keyed stands [] = refl
-found_true s t b d keyed stands (k ∷ ks) = by (entry_at k d) refl (found_true s t b d keyed stands ks)
-  where
-    told : (x : Entered) → entry_at k d ≡ Some x → map named (entries_of (true_numbers b d ks) d) ≡ filter (is_match s t) (map named (entries_of ks d)) → (v : Truth)
-        → map named (entries_of (cond (is_true_value v) (k ∷ true_numbers b d ks) (true_numbers b d ks)) d)
-        ≡ cond (is_true v) (named x ∷ filter (is_match s t) (map named (entries_of ks d))) (filter (is_match s t) (map named (entries_of ks d)))
-    told x e ih True = ap (λ (o : Option Entered). map named (put_some o (entries_of (true_numbers b d ks) d))) e ∙ ap (λ (l : List NamedEntry). named x ∷ l) ih
-    told x e ih False = ih
-    told x e ih Undefined = ih
+-- A bound filter that stands for a filter stands for it on entries that are keyed.
+pub bound_on : (s : SchemaModel) (t : Tree) (b : BoundFilter) (d : List Entered) → AreKeyedBy s d → IsBoundTo s t b → IsBoundOn s t b d
+bound_on s t b d keyed stands k e is = ap is_true (stands e.name e.entry (keyed_at s d k e keyed is))
 
-    by : (o : Option Entered) → entry_at k d ≡ o → map named (entries_of (true_numbers b d ks) d) ≡ filter (is_match s t) (map named (entries_of ks d))
-        → map named (entries_of (cond (is_true_value (value_on b o)) (k ∷ true_numbers b d ks) (true_numbers b d ks)) d) ≡ filter (is_match s t) (map named (put_some o (entries_of ks d)))
+-- The entries of the numbers that are found are those that match.
+pub found_true : (s : SchemaModel) (t : Tree) (b : BoundFilter) (d : List Entered) → IsBoundOn s t b d → (ks : List ℕ)
+    → map named (entries_of (true_numbers b d ks) d) ≡ filter (is_match s t) (map named (entries_of ks d))
+found_true s t b d same [] = refl
+found_true s t b d same (k ∷ ks) = by (entry_at k d) refl (found_true s t b d same ks)
+  where
+    found : List ℕ
+    found = true_numbers b d ks
+
+    matching : List NamedEntry
+    matching = filter (is_match s t) (map named (entries_of ks d))
+
+    told : (x : Entered) → entry_at k d ≡ Some x → map named (entries_of found d) ≡ matching → (v : Bool) → map named (entries_of (cond v (k ∷ found) found) d) ≡ cond v (named x ∷ matching) matching
+    told x e ih true = ap (λ (o : Option Entered). map named (put_some o (entries_of found d))) e ∙ ap (λ (l : List NamedEntry). named x ∷ l) ih
+    told x e ih false = ih
+
+    by : (o : Option Entered) → entry_at k d ≡ o → map named (entries_of found d) ≡ matching
+        → map named (entries_of (cond (is_true (value_on b o)) (k ∷ found) found) d) ≡ filter (is_match s t) (map named (put_some o (entries_of ks d)))
     by None e ih = ih
-    by (Some x) e ih =
-        told x e ih (bound_value x.name x.entry b)
-        ∙ ap (λ (v : Truth). cond (is_true v) (named x ∷ filter (is_match s t) (map named (entries_of ks d))) (filter (is_match s t) (map named (entries_of ks d))))
-        (stands x.name x.entry (keyed_at s d k x keyed e))
+    by (Some x) e ih = told x e ih (is_true (bound_value x.name x.entry b)) ∙ ap (λ (v : Bool). cond v (named x ∷ matching) matching) (same k x e)
 
 -- two tests that are alike on these numbers
 alike_here : (p q : ℕ → Bool) (ks : List ℕ) → ((n : ℕ) → has_number n ks ≡ true → p n ≡ q n) → filter p ks ≡ filter q ks
@@ -200,15 +192,15 @@ past_is limit ks m pos past =
 
 -- What is shown of the numbers that are found is what a search finds among the entries.
 module _ (a : SearchAnswer) (s : SchemaModel) (q : SearchRequestValue) (ix : List Kinds) (b : BoundFilter) (d : List Entered) (ks : List ℕ) (open_at : ℕ → Bool) (must may : Plan) where
-  pub among : AreKeyedBy s d → IsBoundTo s q.filter b → LeavesFew open_at ix b d ks → ((m : SchemaModel) (t : Tree) → IsBoundTo m t b → IsMadeOf m t b → ArePlansFor m ix t must may)
+  pub among : IsBoundOn s q.filter b d → LeavesFew open_at ix b d ks → ((m : SchemaModel) (t : Tree) → IsBoundTo m t b → IsMadeOf m t b → ArePlansFor m ix t must may)
       → ((n : ℕ) → has_number n ks ≡ true → open_at n ≡ leaves_open_on ix must may (entry_at n d))
       → Shows a (selected s q.attributes q.types_only) q.size_limit d (true_numbers b d ks) (filter open_at ks) → FindsAmong a s q ix b d ks
-  among keyed stands leaves plans told shows =
+  among bound leaves plans told shows =
       let o : Option ℕ = first_past q.size_limit (true_numbers b d ks) in
       let short : length (up_to o (filter open_at ks)) ≤ length (filter open_at ks) = up_to_short o (filter open_at ks) in
       let same : a.tests ≡ length (up_to o (filter open_at ks)) = shows.counted in
       record {
-        shown = shows.shown ∙ ap (λ (l : List NamedEntry). limited q.size_limit (map (selected s q.attributes q.types_only) l)) (found_true s q.filter b d keyed stands ks);
+        shown = shows.shown ∙ ap (λ (l : List NamedEntry). limited q.size_limit (map (selected s q.attributes q.types_only) l)) (found_true s q.filter b d bound ks);
         few = is_few open_at ix b d ks a.tests leaves (omega arith);
         few_up_to = λ m pos past.
             let up : a.tests ≡ length (filter open_at (filter (λ n. nat_le n m) ks)) =

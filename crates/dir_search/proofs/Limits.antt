@@ -134,7 +134,3 @@ keyed_at s (e ∷ es) k x keyed h = by (nat_eq k e.number) (keyed_at s es k x ke
     by : (b : Bool) → (entry_at k es ≡ Some x → IsKeyedBy s x.entry) → cond b (Some e) (entry_at k es) ≡ Some x → IsKeyedBy s x.entry
     by true ih h = let same : e ≡ x = cc h in subst (λ (y : Entered). IsKeyedBy s y.entry) same keyed.0
     by false ih h = ih h
-
--- an answer without a name
-pub ended : (code : ℕ) (matched : List ℕ) (shown : List SearchResultEntryValue) → matched ≡ [] → ◌≡◌ {A = Answer} (record { code = code; matched = matched; entries = shown }) (record { code = code; matched = []; entries = shown })
-ended code matched shown h = ap (λ (m : List ℕ). let a : Answer = record { code = code; matched = m; entries = shown } in a) h

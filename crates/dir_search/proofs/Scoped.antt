@@ -7,7 +7,7 @@ use Rattle.dir_store.specs.ldap_dn.Names.{RdnModel, rdns}
 use Rattle.ldap_msg.specs.ldap_requests.declared.search.Scope.{Scope}
 use Rattle.ldap_msg.specs.Messages.{SearchRequestValue}
 use Rattle.dir_store.specs.dir_tree.Directory as tree
-use Rattle.dir_store.specs.dir_tree.Directory.{NameKey, Entered, TreeModel, NumbersRise, name_eq, begins, find, numbers, number_found, is_at_or_below}
+use Rattle.dir_store.specs.dir_tree.Directory.{NameKey, Entered, TreeModel, NumbersRise, name_eq, begins, find, numbers, is_at_or_below}
 use Rattle.dir_store.specs.Directory.{NamedEntry}
 use Rattle.dir_store.specs.Places.{entry_named}
 use Rattle.dir_store.specs.Stored.{named, directory}
@@ -117,12 +117,3 @@ scope_counted s t scope base = counted (λ e. is_in_scope (rdns t.suffix) scope 
 pub numbers_nowhere : (d : List Entered) → [] ≡ numbers (λ e. false) d
 numbers_nowhere [] = refl
 numbers_nowhere (e ∷ es) = numbers_nowhere es
-
--- a number that was found, or none
-pub one_found : (o : Option Entered) (n : ℕ) → Some n ≡ option_map (λ (e : Entered). e.number) o → n ∷ [] ≡ number_found o
-one_found None n h = absurd (cc h)
-one_found (Some e) n h = let same : n ≡ e.number = cc h in ap (λ (k : ℕ). k ∷ []) same
-
-pub none_found : (o : Option Entered) → ◌≡◌ {A = Option ℕ} None (option_map (λ (e : Entered). e.number) o) → [] ≡ number_found o
-none_found None h = refl
-none_found (Some e) h = absurd (cc h)

@@ -1,17 +1,15 @@
 -- Selectors one after another.
-use Rattle.std.proofs.Common.{◌≡◌, ◌<◌, ◌||◌, ℕ, zero, suc, Bool, true, false, List, [], ◌∷◌, length, map, refl, ap, ◌∙◌, subst, slice_index_or, string_bytes, String, Global, arith}
+use Rattle.std.proofs.Common.{◌≡◌, ◌<◌, ◌||◌, ℕ, zero, suc, Bool, true, List, [], ◌∷◌, length, map, refl, ap, ◌∙◌, subst, slice_index_or, string_bytes, String, Global, arith}
 use Rattle.std.specs.List.{list_any}
 use Rattle.std.specs.Prelude.{◌↔◌}
 use Rattle.std.specs.Bool.{IsTrue}
 use Rattle.std.specs.Str.{bytes_eq}
+use Rattle.std.proofs.lemmas.Bool.{or_right}
+use Rattle.std.proofs.lemmas.Bool.Decides.{same_from_decides}
 use Rattle.std.proofs.lemmas.Slice.Eq.{bytes_eq-Decides}
 use Rattle.dir_store.specs.ldap_schema.Schema.{SchemaModel, is_under}
 use Rattle.dir_store.specs.dir_entry.Entry.{KeyedAttribute, attributes_of}
 use Rattle.dir_search.specs.Compared.{has_under}
-
-or_true : (b : Bool) → b || true ≡ true
-or_true true = refl
-or_true false = refl
 
 -- some selector passes, at some place
 pub some_at : (p : List ℕ → Bool) (xs : List (String Global)) (i : ℕ) (x : String Global) → i < length xs → x ≡ slice_index_or xs i x → p (string_bytes x) ≡ true → list_any p (map string_bytes xs) ≡ true
@@ -20,7 +18,7 @@ some_at p (y ∷ xs) zero x lt is passes =
     let here : p (string_bytes y) ≡ true = subst (λ (z : String Global). p (string_bytes z) ≡ true) is passes in
     ap (λ (b : Bool). b || list_any p (map string_bytes xs)) here
 some_at p (y ∷ xs) (suc i) x lt is passes =
-    ap (λ (b : Bool). p (string_bytes y) || b) (some_at p xs i x (omega (arith, lt)) is passes) ∙ or_true (p (string_bytes y))
+    ap (λ (b : Bool). p (string_bytes y) || b) (some_at p xs i x (omega (arith, lt)) is passes) ∙ or_right (p (string_bytes y)) true refl
 
 -- whether some attribute is under a type is asked of types alone
 pub some_under : (s : SchemaModel) (t : ℕ) (e : List KeyedAttribute) → list_any (λ a. is_under s a.kind t) e ≡ has_under s t (attributes_of e)
@@ -29,10 +27,4 @@ some_under s t (a ∷ e) = ap (λ (b : Bool). is_under s a.kind t || b) (some_un
 
 -- a test of two lists of octets
 pub same_test : (r : Bool) (a b : List ℕ) → (IsTrue r ↔ (a ≡ b)) → r ≡ bytes_eq a b
-same_test r a b h = by r (bytes_eq a b) refl h
-  where
-    by : (r e : Bool) → bytes_eq a b ≡ e → (IsTrue r ↔ (a ≡ b)) → r ≡ e
-    by true true f h = refl
-    by false false f h = refl
-    by true false f h = let t : bytes_eq a b ≡ true = (bytes_eq-Decides a b).1 (h.0 refl) in absurd (cc (f, t))
-    by false true f h = let t : false ≡ true = h.1 ((bytes_eq-Decides a b).0 f) in absurd (cc t)
+same_test r a b h = same_from_decides r (bytes_eq a b) h (bytes_eq-Decides a b)

@@ -10,6 +10,7 @@ pub mod Looks
 pub mod Counted
 pub mod Evaluated
 pub mod View
+pub mod Among
 -- what layers above name of the crates below
 pub use Rattle.dir_store.specs.ldap_op as ldap_op
 pub use Rattle.ldap_msg.specs as ldap_msg

@@ -17,11 +17,13 @@ use Rattle.dir_store.specs.index_choice.declared.kinds.Kinds.{Kinds}
 use Rattle.dir_store.specs.dir_index.Postings.{has_number}
 use Rattle.dir_store.specs.dir_tree.Directory.{Entered, entry_at, numbers}
 use Rattle.dir_store.specs.Directory.{Directory}
+use Rattle.dir_store.specs.Stored.{named}
 use Rattle.plan_compile.specs.Bounds.{is_decided}
 use Rattle.plan_compile.specs.Runs.{has_runs_for}
 use Rattle.plan_compile.specs.Planned.{ArePlansFor}
 use Rattle.plan_compile.specs.plan_sets.declared.plan.Plan.{Plan}
 use Rattle.plan_compile.specs.plan_sets.Runs.{true_set}
+use Rattle.dir_search.specs.Answer.{is_true, is_match}
 use Rattle.dir_search.specs.Counted.{leaves_open, first_past}
 use Rattle.dir_search.specs.Scopes.{is_in_scope}
 
@@ -33,6 +35,10 @@ value_on b (Some e) = bound_value e.name e.entry b
 -- the value of a bound filter on the entry of a number
 abbrev pub value_in : BoundFilter → List Entered → ℕ → Truth
 value_in b d n = value_on b (entry_at n d)
+
+-- A bound filter stands for a filter on these entries: it is True on each of them just where the filter is.
+abbrev pub IsBoundOn : SchemaModel → Tree → BoundFilter → List Entered → Type 0
+IsBoundOn s t b d = (k : ℕ) (e : Entered) → entry_at k d ≡ Some e → is_true (bound_value e.name e.entry b) ≡ is_match s t (named e)
 
 -- the numbers of the entries that a bound filter is True on, in their order
 abbrev pub true_numbers : BoundFilter → List Entered → List ℕ → List ℕ

@@ -1,12 +1,17 @@
 -- What selectors select that were looked up once for a whole search. Sets of numbers of types flow in; a yes or no for a type flows out. Only this
 -- crate's own contracts speak of it: what a search selects, `Selection` says.
-use Rattle.std.specs.Prelude.{ℕ, List, [], ◌∷◌, Bool, true, false, ◌||◌, ◌≡◌, length}
+use Rattle.std.specs.Prelude.{ℕ, List, [], ◌∷◌, Bool, true, false, ◌||◌, ◌≡◌, length, map, string_bytes}
 use Rattle.std.specs.List.{list_any}
 use Rattle.std.specs.Ordering.{nat_cmp}
 use Rattle.std.specs.BTreeSet.{BTreeSet, contains}
 use Rattle.dir_store.specs.ldap_schema.Schema.{SchemaModel, superiors}
+use Rattle.ldap_msg.specs.ldap_requests.declared.search.SearchRequest.{SearchRequest}
 use Rattle.dir_search.specs.Selection.{is_selected}
 use Rattle.dir_search.specs.declared.resolving.Selection.{Selection}
+
+-- the selectors of a request in memory
+abbrev pub selectors_of : SearchRequest → List (List ℕ)
+selectors_of q = map string_bytes q.attributes.items
 
 -- a number is in a set
 abbrev pub is_held : BTreeSet ℕ → ℕ → Bool

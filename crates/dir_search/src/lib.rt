@@ -2,6 +2,7 @@
 //! messages, sessions and replication are not here.
 #![tactic(auto)]
 
+mod bound_search;
 mod comparing;
 mod found;
 mod laws;

@@ -6,13 +6,14 @@ ghost use Rattle.std.specs.Str.{str_eq_ignore_ascii_case};
 ghost use Rattle.ldap_msg.specs.View.{attribute_view, entry_view, search_view};
 ghost use Rattle.dir_store.specs.dir_entry.Entry.{attributes_of, IsKeyedBy};
 ghost use Rattle.dir_search.specs.Answer.{dse_matching};
+ghost use Rattle.dir_search.specs.Resolved.{selectors_of};
 ghost use Rattle.dir_search.specs.RootDse.{class_top, dse_attributes, dse_selected, where_named, without_values};
 ghost use Rattle.dir_search.specs.View.{Finds};
 
 use crate::found::SearchAnswer;
 use crate::resolving::Selection;
 use crate::searching::matches;
-use crate::selecting::show_selected;
+use crate::selecting::Showing;
 use dir_store::{Entry, EntryError, Name, Schema, Store, TypeId};
 use ldap_eval::bind;
 use ldap_msg::{PartialAttribute, ResultCode, SearchRequest, SearchResultEntry};
@@ -83,42 +84,38 @@ fn octets_of(alloc: Global, texts: &[&str]) -> Result<Vec<Vec<u8>>, AllocError>
     Ok(all)
 }
 
-/// An operational attribute with these values, or without them.
-fn operational(
-    alloc: Global,
-    types_only: bool,
-    description: &str,
-    values: &[&str],
-) -> Result<PartialAttribute, AllocError>
-    ensures { IfOk result (λ a. attribute_view a ≡ without_values types_only (record { description = description.now; values = map (λ t. t.now) values.now })) }
-{
-    let values = if types_only {
-        Vec::new(alloc)
-    } else {
-        octets_of(alloc, values)?
-    };
-    let description = String::from_str(alloc, description)?;
-    Ok(PartialAttribute {
-        description,
-        values,
-    })
-}
-
-/// Adds an operational attribute, where a selector is its name.
-fn add_asked(
-    alloc: Global,
-    shown: &mut Vec<PartialAttribute>,
-    request: &SearchRequest,
-    description: &str,
-    values: &[&str],
-) -> Result<(), AllocError>
-    ensures { OnOk result (map attribute_view shown.new.items ≡ map attribute_view shown.old.items
-        ++ where_named (map string_bytes request.now.attributes.items) request.now.types_only (record { description = description.now; values = map (λ t. t.now) values.now })) }
-{
-    if is_asked(&request.attributes, description) {
-        shown.push(operational(alloc, request.types_only, description, values)?)?;
+impl Showing<'_> {
+    /// An operational attribute with these values, or without them.
+    fn operational(&self, name: &str, values: &[&str]) -> Result<PartialAttribute, AllocError>
+        ensures { IfOk result (λ a. attribute_view a ≡ without_values self.now.request.now.types_only (record { description = name.now; values = map (λ t. t.now) values.now })) }
+    {
+        let values = if self.request.types_only {
+            Vec::new(self.alloc)
+        } else {
+            octets_of(self.alloc, values)?
+        };
+        let description = String::from_str(self.alloc, name)?;
+        Ok(PartialAttribute {
+            description,
+            values,
+        })
     }
-    Ok(())
+
+    /// Adds an operational attribute, where a selector is its name.
+    fn add_asked(
+        &self,
+        shown: &mut Vec<PartialAttribute>,
+        name: &str,
+        values: &[&str],
+    ) -> Result<(), AllocError>
+        ensures { OnOk result (map attribute_view shown.new.items ≡ map attribute_view shown.old.items
+            ++ where_named (selectors_of self.now.request.now) self.now.request.now.types_only (record { description = name.now; values = map (λ t. t.now) values.now })) }
+    {
+        if is_asked(&self.request.attributes, name) {
+            shown.push(self.operational(name, values)?)?;
+        }
+        Ok(())
+    }
 }
 
 /// What is shown of the root DSE.
@@ -129,40 +126,23 @@ fn shown_root(
     request: &SearchRequest,
 ) -> Result<SearchResultEntry, AllocError>
     requires attributes { attributes_of entry.now ≡ dse_attributes store.now.directory.schema }
-    ensures { IfOk result (λ e. entry_view e ≡ dse_selected store.now.directory (map string_bytes request.now.attributes.items) request.now.types_only) }
+    ensures { IfOk result (λ e. entry_view e ≡ dse_selected store.now.directory (selectors_of request.now) request.now.types_only) }
 {
     let schema = store.schema();
     let selection = Selection::of(alloc, schema, &request.attributes)?;
-    let mut attributes = show_selected(alloc, schema, request, &selection, entry.attributes())?;
+    let showing = Showing {
+        alloc,
+        schema,
+        request,
+        selection,
+    };
+    let mut attributes = showing.show_all(entry.attributes())?;
     let suffix = store.printed_suffix(alloc)?;
-    add_asked(
-        alloc,
-        &mut attributes,
-        request,
-        "namingContexts",
-        &[&suffix],
-    )?;
-    add_asked(
-        alloc,
-        &mut attributes,
-        request,
-        "supportedControl",
-        &["2.25.20120101", "2.25.20120102"],
-    )?;
-    add_asked(
-        alloc,
-        &mut attributes,
-        request,
-        "supportedExtension",
-        &["2.25.20120103"],
-    )?;
-    add_asked(
-        alloc,
-        &mut attributes,
-        request,
-        "supportedLDAPVersion",
-        &["3"],
-    )?;
+    let controls = ["2.25.20120101", "2.25.20120102"];
+    showing.add_asked(&mut attributes, "namingContexts", &[&suffix])?;
+    showing.add_asked(&mut attributes, "supportedControl", &controls)?;
+    showing.add_asked(&mut attributes, "supportedExtension", &["2.25.20120103"])?;
+    showing.add_asked(&mut attributes, "supportedLDAPVersion", &["3"])?;
     Ok(SearchResultEntry {
         object_name: String::new(alloc),
         attributes,

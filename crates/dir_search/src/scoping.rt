@@ -8,6 +8,13 @@ ghost use Rattle.dir_search.specs.Scopes.{is_right_under};
 
 use dir_store::{Rdn, Tree};
 
+/// Whether a name is the empty one.
+pub fn is_unnamed(base: &[Rdn]) -> bool
+    ensures { result ≡ is_empty base.now }
+{
+    base.is_empty()
+}
+
 /// The numbers of the entries right under a name that has one.
 #[tactic(auto, using(crate::proofs::Scoped::level_kept, crate::proofs::Scoped::level_none))]
 pub fn numbers_right_under<'a>(tree: &'a Tree, base: &[Rdn]) -> &'a [u64]

@@ -1,18 +1,18 @@
 //! What is shown of the entries that are found. The numbers that a run gives flow in, one by one; an answer, up to the size limit, flows
 //! out. Which numbers are found is not told here.
-ghost use Rattle.std.specs.Prelude.{◌≡◌, ◌<◌, ◌++◌, ◌∷◌, [], map, IfOk, OnOk, string_bytes};
+ghost use Rattle.std.specs.Prelude.{◌≡◌, ◌<◌, ◌++◌, ◌∷◌, [], map, IfOk, OnOk};
 ghost use Rattle.std.specs.Bool.{OnTrue, OnFalse};
 ghost use Rattle.ldap_msg.specs.View.{entry_view};
 ghost use Rattle.dir_store.specs.Stored.{named};
 ghost use Rattle.dir_search.specs.Looks.{AreHere};
 ghost use Rattle.dir_search.specs.Numbered.{entries_of};
-ghost use Rattle.dir_search.specs.Resolved.{Resolves};
+ghost use Rattle.dir_search.specs.Resolved.{selectors_of};
 ghost use Rattle.dir_search.specs.Selection.{selected};
 ghost use Rattle.dir_search.specs.View.{answer_view, Shows};
 
 use crate::found::SearchAnswer;
 use crate::resolving::Selection;
-use crate::selecting::select;
+use crate::selecting::Showing;
 use crate::values::Evaluated;
 use dir_store::{Postings, Schema, Tree};
 use ldap_msg::{ResultCode, SearchRequest, SearchResultEntry};
@@ -25,31 +25,6 @@ fn is_full(limit: usize, count: usize) -> bool
     ensures more { OnFalse result (0 < limit → count ≡ limit → ⊥) }
 {
     limit > 0 && count == limit
-}
-
-/// Adds what is shown of the entry of a number.
-fn show_next(
-    alloc: Global,
-    schema: &Schema,
-    tree: &Tree,
-    request: &SearchRequest,
-    selection: &Selection,
-    number: u64,
-    entries: &mut Vec<SearchResultEntry>,
-) -> Result<(), AllocError>
-    requires { Resolves schema.now (map string_bytes request.now.attributes.items) selection.now }
-    ensures { OnOk result (map entry_view entries.new.items ≡ map entry_view entries.old.items
-        ++ map (selected schema.now (map string_bytes request.now.attributes.items) request.now.types_only)
-        (map named (entries_of (number ∷ []) tree.now.entries))) }
-{
-    match tree.entry(number) {
-        Some(held) => {
-            let entry = select(alloc, schema, request, selection, held)?;
-            entries.push(entry)?;
-            Ok(())
-        }
-        None => Ok(()),
-    }
 }
 
 /// The answer with these entries.
@@ -70,37 +45,71 @@ fn ended(
     }
 }
 
-/// What is shown of the entries that a run gives, up to the limit; 0 is no limit. It stops at the first past it.
+impl Showing<'_> {
+    /// Adds what is shown of the entry of a number.
+    fn show_next(
+        &self,
+        tree: &Tree,
+        number: u64,
+        entries: &mut Vec<SearchResultEntry>,
+    ) -> Result<(), AllocError>
+        ensures { OnOk result (map entry_view entries.new.items ≡ map entry_view entries.old.items
+            ++ map (selected self.now.schema.now (selectors_of self.now.request.now) self.now.request.now.types_only)
+            (map named (entries_of (number ∷ []) tree.now.entries))) }
+    {
+        match tree.entry(number) {
+            Some(held) => {
+                let entry = self.show_entry(held)?;
+                entries.push(entry)?;
+                Ok(())
+            }
+            None => Ok(()),
+        }
+    }
+
+    /// What is shown of the entries that a run gives, up to the limit; 0 is no limit. It stops at the first past it.
+    fn show_found(
+        &self,
+        tree: &Tree,
+        mut running: Running<'_, Postings, Evaluated<'_>>,
+    ) -> Result<SearchAnswer, AllocError>
+        requires { AreHere tree.now.entries running.to_come }
+        ensures { IfOk result (λ a. Shows a
+            (selected self.now.schema.now (selectors_of self.now.request.now) self.now.request.now.types_only)
+            self.now.request.now.size_limit tree.now.entries running.entry.to_come running.entry.open_numbers) }
+    {
+        let limit = self.request.size_limit as usize;
+        let mut entries = Vec::new(self.alloc);
+        while let Some(number) = running.next() {
+            if is_full(limit, entries.as_slice().len()) {
+                let code = ResultCode::SIZE_LIMIT_EXCEEDED;
+                return Ok(ended(self.alloc, code, entries, running.tests()));
+            }
+            self.show_next(tree, number, &mut entries)?;
+        }
+        let code = ResultCode::SUCCESS;
+        Ok(ended(self.alloc, code, entries, running.tests()))
+    }
+}
+
+/// What a request has shown of the entries that a run gives.
 pub fn show_found(
     alloc: Global,
     schema: &Schema,
     tree: &Tree,
     request: &SearchRequest,
-    mut running: Running<'_, Postings, Evaluated<'_>>,
+    running: Running<'_, Postings, Evaluated<'_>>,
 ) -> Result<SearchAnswer, AllocError>
     requires { AreHere tree.now.entries running.to_come }
-    ensures { IfOk result (λ a. Shows a
-        (selected schema.now (map string_bytes request.now.attributes.items) request.now.types_only)
+    ensures { IfOk result (λ a. Shows a (selected schema.now (selectors_of request.now) request.now.types_only)
         request.now.size_limit tree.now.entries running.entry.to_come running.entry.open_numbers) }
 {
     let selection = Selection::of(alloc, schema, &request.attributes)?;
-    let limit = request.size_limit as usize;
-    let mut entries = Vec::new(alloc);
-    while let Some(number) = running.next() {
-        if is_full(limit, entries.as_slice().len()) {
-            let code = ResultCode::SIZE_LIMIT_EXCEEDED;
-            return Ok(ended(alloc, code, entries, running.tests()));
-        }
-        show_next(
-            alloc,
-            schema,
-            tree,
-            request,
-            &selection,
-            number,
-            &mut entries,
-        )?;
-    }
-    let code = ResultCode::SUCCESS;
-    Ok(ended(alloc, code, entries, running.tests()))
+    let showing = Showing {
+        alloc,
+        schema,
+        request,
+        selection,
+    };
+    showing.show_found(tree, running)
 }

@@ -1,4 +1,4 @@
-use Rattle.std.proofs.Common.{◌||◌, ℕ, Option, Some, sym, ap, ◌∙◌, length}
+use Rattle.std.proofs.Common.{◌||◌, ℕ, Option, sym, ap, ◌∙◌, length}
 use Rattle.dir_store.specs.ldap_schema.Schema.{superiors}
 use Rattle.dir_search.specs.Selection.{is_named_by}
 use Rattle.dir_search.specs.Resolved.{is_held, picks_named}

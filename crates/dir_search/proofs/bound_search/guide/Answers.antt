@@ -1,6 +1,6 @@
 use Rattle.dir_store.specs.dir_index.Whole.{lists_of}
 use Rattle.dir_search.proofs.Guided.{guided, leaves_few, told_open}
-use Rattle.dir_search.proofs.searching.guide.Goals as goal
+use Rattle.dir_search.proofs.bound_search.guide.Goals as goal
 
 pub returns-clause-guides : goal.returns-clause-guides
 returns-clause-guides c =

@@ -1,0 +1,142 @@
+//! A search whose filter is bound: the numbers in scope of the entries whose filter value is True are drawn from plans, in order, up to the size
+//! limit. A tree and a request flow in, what is shown of the entries flows out. How a filter is bound, and how plans are made, is not here.
+ghost use Rattle.std.specs.Prelude.{◌≡◌, ℕ, List, true, false, IfOk};
+ghost use Rattle.dir_store.specs.ldap_schema.Schema.{SchemaModel};
+ghost use Rattle.ldap_filter.specs.Tree.{Tree as FilterTree};
+ghost use Rattle.ldap_filter.specs.View.{view as filter_view};
+ghost use Rattle.dir_store.specs.ldap_dn.Names.{rdns};
+ghost use Rattle.ldap_eval.specs.Bound.{IsBoundTo};
+ghost use Rattle.ldap_eval.specs.Made.{IsMadeOf};
+ghost use Rattle.dir_store.specs.dir_index.Whole.{lists_of, ArePostingsOf};
+ghost use Rattle.dir_store.specs.dir_index.Postings.{has_number};
+ghost use Rattle.dir_store.specs.dir_tree.Directory.{name_eq, begins, entry_at};
+ghost use Rattle.dir_store.specs.Listed.{listed_of};
+ghost use Rattle.dir_store.specs.Stored.{directory};
+ghost use Rattle.plan_compile.specs.plan_sets.Sets.{is_in};
+ghost use Rattle.plan_compile.specs.Planned.{ArePlansFor};
+ghost use Rattle.plan_compile.specs.plan_sets.Runs.{AreGuides, is_open};
+ghost use Rattle.dir_search.specs.Answer.{stands};
+ghost use Rattle.dir_search.specs.Looks.{AreNumbersOf, IsBoundOn, LeavesFew, leaves_open_on, value_in};
+ghost use Rattle.dir_search.specs.Scopes.{is_right_under, is_in_scope};
+
+use crate::found::SearchAnswer;
+use crate::scoping::{is_unnamed, numbers_right_under, numbers_within};
+use crate::showing::show_found;
+use crate::values::Evaluated;
+use dir_store::{IndexedTree, Postings, Rdn, Schema, Tree};
+use ldap_eval::BoundFilter;
+use ldap_msg::{Scope, SearchRequest};
+use plan_compile::{Sided, compile, sets_are_of_entries, start};
+use std::alloc::{AllocError, Global};
+
+/// The plans that bound where a filter is True, over the posting lists of a tree's entries.
+fn guide(
+    alloc: Global,
+    tree: &Tree,
+    postings: &Postings,
+    bound: &BoundFilter,
+) -> Result<Sided, AllocError>
+    requires { ArePostingsOf (lists_of postings.now) postings.now.indexes (listed_of tree.now.entries) }
+    ensures guides { IfOk result (λ s. (ks : List ℕ) → AreNumbersOf ks tree.now.entries
+        → AreGuides (lists_of postings.now) s (value_in bound.now tree.now.entries) ks) }
+    ensures few { IfOk result (λ s. (ks : List ℕ) → AreNumbersOf ks tree.now.entries
+        → LeavesFew (is_open (is_in (lists_of postings.now) ks s.must) (is_in (lists_of postings.now) ks s.may))
+        postings.now.indexes bound.now tree.now.entries ks) }
+    ensures plans { IfOk result (λ s. (m : SchemaModel) (t : FilterTree) → IsBoundTo m t bound.now → IsMadeOf m t bound.now
+        → ArePlansFor m postings.now.indexes t s.must s.may) }
+    ensures told { IfOk result (λ s. (ks : List ℕ) → AreNumbersOf ks tree.now.entries → (n : ℕ) → has_number n ks ≡ true
+        → is_open (is_in (lists_of postings.now) ks s.must) (is_in (lists_of postings.now) ks s.may) n
+        ≡ leaves_open_on postings.now.indexes s.must s.may (entry_at n tree.now.entries)) }
+{
+    sets_are_of_entries();
+    let sided = compile(alloc, bound, postings.indexes())?;
+    Ok(sided)
+}
+
+/// A search at a base that stands, its filter bound.
+#[derive(Drop)]
+pub struct BoundSearch<'a> {
+    pub alloc: Global,
+    pub schema: &'a Schema,
+    pub indexed: &'a IndexedTree,
+    /// It is True of an entry of the tree just where the request's filter is.
+    pub bound: &'a BoundFilter,
+    pub base: &'a [Rdn],
+    pub request: &'a SearchRequest,
+    ghost bound_on: { IsBoundOn schema.now (filter_view request.now.filter) bound.now indexed.now.tree.entries },
+    ghost base_stands: { stands (directory schema.now indexed.now.tree) base.now ≡ true },
+}
+
+impl BoundSearch<'_> {
+    ghost use Rattle.dir_search.specs.Among.{FindsOf, FindsWhere};
+
+    /// What is shown of the entries of these numbers that match, up to the limit; 0 is no limit. The numbers come from the posting lists; the
+    /// filter is evaluated only where its plans leave open whether it is True.
+    fn among(&self, numbers: &[u64]) -> Result<SearchAnswer, AllocError>
+        requires { AreNumbersOf numbers.now self.now.indexed.now.tree.entries }
+        ensures { IfOk result (FindsOf self.now numbers.now) }
+    {
+        let tree = self.indexed.tree();
+        let postings = self.indexed.postings();
+        let sided = guide(self.alloc, tree, postings, self.bound)?;
+        let values = Evaluated {
+            tree,
+            bound: self.bound,
+            looks: 0,
+        };
+        let running = start(self.alloc, &sided, postings, numbers, values)?;
+        show_found(self.alloc, self.schema, tree, self.request, running)
+    }
+
+    /// The search of one name's entry; of none, where the name has none.
+    fn entry(&self, name: &[Rdn]) -> Result<SearchAnswer, AllocError>
+        ensures { IfOk result (FindsWhere self.now (name_eq (rdns name.now))) }
+    {
+        let tree = self.indexed.tree();
+        tree.is_single();
+        match tree.find(name) {
+            Some(number) => self.among(&[number]),
+            None => self.among(&[]),
+        }
+    }
+
+    /// The search of the root's entry.
+    fn root(&self) -> Result<SearchAnswer, AllocError>
+        ensures { IfOk result (FindsWhere self.now (name_eq (rdns self.now.indexed.now.tree.suffix))) }
+    {
+        let root = self.indexed.tree().suffix();
+        self.entry(root.rdns())
+    }
+
+    /// The search of the entries right under the base; right under the empty name stands the root.
+    fn level(&self) -> Result<SearchAnswer, AllocError>
+        ensures { IfOk result (FindsWhere self.now (is_right_under (rdns self.now.indexed.now.tree.suffix) (rdns self.now.base.now))) }
+    {
+        if is_unnamed(self.base) {
+            return self.root();
+        }
+        let numbers = numbers_right_under(self.indexed.tree(), self.base);
+        self.among(numbers)
+    }
+
+    /// The search of the entries at or below the base; below the empty name stand all.
+    fn subtree(&self) -> Result<SearchAnswer, AllocError>
+        ensures { IfOk result (FindsWhere self.now (begins (rdns self.now.base.now))) }
+    {
+        let numbers = numbers_within(self.indexed.tree(), self.base);
+        self.among(numbers)
+    }
+
+    /// The search of the entries in scope.
+    pub fn in_scope(&self) -> Result<SearchAnswer, AllocError>
+        ensures { IfOk result (FindsWhere self.now
+            (is_in_scope (rdns self.now.indexed.now.tree.suffix) self.now.request.now.scope (rdns self.now.base.now))) }
+    {
+        match self.request.scope {
+            Scope::BaseObject => self.entry(self.base),
+            Scope::SingleLevel => self.level(),
+            Scope::WholeSubtree => self.subtree(),
+            Scope::SubordinateSubtree => self.among(&[]),
+        }
+    }
+}
