@@ -1,5 +1,5 @@
 -- One more record: the directory and the replies go on as those of the records with it. Definitions flow in; the fold's step flows out.
-use Rattle.std.proofs.Common.{◌≡◌, ℕ, suc, ◌+◌, List, [], ◌∷◌, ◌++◌, map, length, Result, Ok, Err, refl, sym, ap, ◌∙◌, subst, arith}
+use Rattle.std.proofs.Common.{◌≡◌, ℕ, suc, ◌+◌, List, [], ◌∷◌, ◌++◌, length, Result, Ok, Err, refl, sym, ap, ◌∙◌, subst, arith}
 use Rattle.std.proofs.lemmas.List.{map-append}
 use Rattle.vr_state.specs.declared.words.Entry.{Entry}
 use Rattle.dir_store.specs.ldap_schema.Schema.{SchemaModel}
@@ -80,11 +80,3 @@ fold_pushed es records e kept d new rs replies reply n fold number made replied 
     (subst (λ (x : List RdnModel). IsFold d.schema x records new (replies_view replies)) (sym (same_suffix d new n e.payload made))
     (subst (λ (x : List ReplyModel). IsFold d.schema d.suffix records new x) replies-are
     (subst (λ (x : List (Entry OpValue)). IsFold d.schema d.suffix x new (replies_view rs ++ reply_view reply ∷ [])) records-are f)))
-
--- nothing executed, over a directory without entries
-pub fold_none : (d : Directory) → d.entries ≡ [] → IsFold d.schema d.suffix [] d []
-fold_none d none = record {
-  directory = ap (λ (es : List NamedEntry). record { schema = d.schema; suffix = d.suffix; entries = es }) none;
-  replies_are = refl;
-  below = subst (λ (es : List NamedEntry). NumbersBelow 1 es) (sym none) tt;
-}

@@ -1,12 +1,11 @@
 -- What is kept of replicas, place by place. One place that is written, and all of them one after the other, flow in; what each place has flows out.
 -- Nothing of what a record asks for is here.
-use Rattle.std.proofs.Common.{◌≡◌, ◌≢◌, ℕ, zero, suc, ◌+◌, ◌<◌, ◌≤◌, ◌==◌, nat_lt, Bool, true, false, ◌⊎◌, inl, inr, List, [], ◌∷◌, ◌++◌, length, replicate, get_or, set, slice_get, Option, Some, None, refl, sym, ap, ◌∙◌, subst, arith, eqb-true, eq-eqb, true≢false}
+use Rattle.std.proofs.Common.{◌≡◌, ◌≢◌, ℕ, zero, suc, ◌+◌, ◌<◌, ◌≤◌, ◌==◌, Bool, true, false, ◌⊎◌, inl, inr, List, [], ◌∷◌, length, replicate, get_or, set, slice_get, Option, Some, None, refl, sym, ap, ◌∙◌, subst, arith, eqb-true, eq-eqb, true≢false}
 use Rattle.std.proofs.lemmas.Bool.{cases_lt}
 use Rattle.std.proofs.lemmas.List.{length-set}
 use Rattle.std.proofs.lemmas.Option.{slice_get_past, slice_get-get_or}
 use Rattle.vr_state.specs.State.{State}
 use Rattle.vr_state.specs.declared.words.Entry.{Entry}
-use Rattle.vr_state.specs.declared.replica.Replica.{Replica}
 use Rattle.vr_world.specs.Cluster.{up_state, world}
 use Rattle.vr_world.specs.World.{World}
 use Rattle.vr_world.specs.declared.cluster.Cluster.{Cluster}
@@ -74,26 +73,6 @@ pub record UpTo (w : World OpValue) (old : List (Option ExecutedValue)) (k : ℕ
   pub done : (j : ℕ) → j < k → records_by new j ≡ caught_up (records_by old j) (w.replicas j)
   pub left : (j : ℕ) → k ≤ j → records_by new j ≡ records_by old j
 
--- none so far
-pub up_to_none : (w : World OpValue) (old : List (Option ExecutedValue)) → UpTo w old 0 old
-up_to_none w old = record { counted = refl; done = λ j lt. absurd (omega (arith, lt)); left = λ j le. refl }
-
--- one more
-pub up_to_next : (w : World OpValue) (old mid new : List (Option ExecutedValue)) (k : ℕ) → UpTo w old k mid → IsAdvancedAt w mid k new → UpTo w old (k + 1) new
-up_to_next w old mid new k u a = record {
-  counted = a.counted ∙ u.counted;
-  done = λ j lt. go j lt (same_or k j);
-  left = λ j le. a.there j (λ e. absurd (omega (arith, e, le))) ∙ u.left j (omega (arith, le));
-}
-  where
-    go : (j : ℕ) → j < k + 1 → (j ≡ k) ⊎ (j ≢ k) → records_by new j ≡ caught_up (records_by old j) (w.replicas j)
-    go j lt (inl e) = subst (λ (i : ℕ). records_by new i ≡ caught_up (records_by old i) (w.replicas i)) (sym e) (a.here ∙ ap (λ r. caught_up r (w.replicas k)) (u.left k (omega arith)))
-    go j lt (inr ne) = a.there j ne ∙ u.done j (by_order (cases_lt j k))
-      where
-        by_order : (j < k) ⊎ (k ≤ j) → j < k
-        by_order (inl h) = h
-        by_order (inr h) = absurd (ne (omega (arith, h, lt)))
-
 -- All of them: where there is no place there is no replica.
 pub up_to_all : (cluster : Cluster OpValue) (old new : List (Option ExecutedValue)) (k : ℕ) → cluster.count ≤ k → length old ≡ cluster.count → length cluster.up.items ≡ cluster.count
     → UpTo (world cluster) old k new → records_by new ≡ all_caught_up (records_by old) (world cluster)
@@ -113,14 +92,6 @@ none_by n kept e = λ t. λ i. (ap (λ (l : List (Option ExecutedValue)). record
     each zero i = refl
     each (suc n) zero = refl
     each (suc n) (suc i) = each n i
-
-pub none_over : (s : SchemaModel) (root : List RdnModel) (n : ℕ) (kept : List (Option ExecutedValue)) → kept ≡ replicate n None → AreOver s root kept
-none_over s root n kept e i o h = go n i (ap (λ (l : List (Option ExecutedValue)). slice_get l i) (sym e) ∙ h)
-  where
-    go : (n i : ℕ) → slice_get (replicate n None) i ≡ Some o → IsOver s root o
-    go zero i q = absurd (cc q)
-    go (suc n) zero q = let none : None ≡ o = cc q in subst (IsOver s root) none tt
-    go (suc n) (suc i) q = go n i q
 
 -- what is kept at a place
 pub records_here : (kept : List (Option ExecutedValue)) (i : ℕ) (o : Option ExecutedValue) → o ≡ get_or kept i o → i < length kept → records_of o ≡ records_by kept i

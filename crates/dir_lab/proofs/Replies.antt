@@ -5,12 +5,12 @@ use Rattle.std.proofs.Math.ListN.{drop_of_length-le}
 use Rattle.std.proofs.Math.Seq.{drop-append_seam}
 use Rattle.std.proofs.lemmas.List.{reverse-append, length-reverse, map-append}
 use Rattle.vr_state.proofs.Laws.{prefix_refl, prefix_trans, prefix_length}
-use Rattle.vr_state.specs.Lists.{IsPrefix, In, EntryAt, IsNamedIn}
+use Rattle.vr_state.specs.Lists.{IsPrefix, In, IsNamedIn}
 use Rattle.vr_state.specs.State.{State, is_recovering}
 use Rattle.vr_state.specs.declared.words.Entry.{Entry}
 use Rattle.vr_world.specs.Committed.{committed}
 use Rattle.vr_world.specs.Law.{IsSize, IsExecuted, GivenSince}
-use Rattle.vr_world.specs.World.{World, run, start, after, happens}
+use Rattle.vr_world.specs.World.{World, start, after, happens}
 use Rattle.vr_world.specs.declared.events.WorldEvent.{WorldEvent}
 use Rattle.vr_world.specs.declared.words.ReplyBy.{ReplyBy}
 use Rattle.vr_world.proofs.Laws.{committed_grows, replicas_agree, replies_are_executed, run-append}
@@ -21,12 +21,11 @@ use Rattle.dir_executed.specs.dir_store.ldap_schema.Schema.{SchemaModel}
 use Rattle.dir_executed.specs.dir_store.ldap_dn.Names.{RdnModel}
 use Rattle.dir_executed.specs.dir_store.ldap_op.Values.{OpValue}
 use Rattle.dir_executed.specs.dir_store.Directory.{Directory}
-use Rattle.dir_executed.specs.dir_store.Replies.{ReplyModel}
 use Rattle.dir_executed.specs.dir_store.Updates.{applied, directory_after, directory_of, empty_directory, replies_after, replies_of}
 use Rattle.dir_executed.proofs.dir_store.Joins.{replies_join}
 use Rattle.dir_search.specs.Answer.{answer}
 use Rattle.dir_lab.specs.Headline.{committed_by, IsReplyOf, RepliesAreOfCommitted}
-use Rattle.dir_lab.specs.Schedule.{happening, happenings, executed, executions, found, told, given_since, shown_at, shown_by, shown_from}
+use Rattle.dir_lab.specs.Schedule.{happenings, executed, executions, found, told, given_since, shown_by, shown_from}
 use Rattle.dir_lab.specs.Shown.{Shown, Replied, Unavailable, NotYet, Answered, Standing, Down, standing, code_at, code_or_other}
 use Rattle.dir_lab.specs.declared.events.LabEvent.{LabEvent}
 use Rattle.dir_lab.specs.declared.events.LabEvent.TheVariants.{Happens, Search, State as Question}

@@ -3,13 +3,13 @@ use Rattle.std.proofs.lemmas.List.{map-append}
 use Rattle.std.proofs.Common.{◌≡◌, ℕ, Bool, true, cond, map, List, [], ◌∷◌, ◌++◌, refl, sym, ap, ap₂, ◌∙◌, subst, append_assoc, append-nil}
 use Rattle.vr_state.specs.declared.words.Entry.{Entry}
 use Rattle.vr_world.specs.Law.{IsSize}
-use Rattle.vr_world.specs.World.{World, run, start, after, happens}
+use Rattle.vr_world.specs.World.{World, run, after, happens}
 use Rattle.vr_world.specs.declared.events.WorldEvent.{WorldEvent}
 use Rattle.vr_world.proofs.Laws.{run-append}
 use Rattle.dir_executed.specs.dir_store.ldap_schema.Schema.{SchemaModel}
 use Rattle.dir_executed.specs.dir_store.ldap_dn.Names.{RdnModel}
 use Rattle.dir_executed.specs.dir_store.ldap_op.Values.{OpValue}
-use Rattle.dir_lab.specs.Executions.{all_caught_up, moved_on, played_from, played}
+use Rattle.dir_lab.specs.Executions.{all_caught_up, played_from, played}
 use Rattle.dir_lab.specs.Schedule.{happening, happenings, executions, shown_at, shown_from, shown_by}
 use Rattle.dir_lab.specs.Shown.{Shown, shown_view}
 use Rattle.dir_lab.specs.declared.events.LabReply.{LabReply}
@@ -55,17 +55,6 @@ shown-append s root n (e ∷ es) more w =
     here : List Shown
     here = shown_at s root n (executions (run n (happening e) w)) w (run n (happening e) w) e
 
--- What is shown so far, and then what is left, is all: one event further.
-pub shown_next : (s : SchemaModel) (root : List RdnModel) (n : ℕ) (e : LabEvent) (es rest : List LabEvent) (w new : World OpValue) (records later : ℕ → List (Entry OpValue)) (xs ys all : List Shown)
-    → xs ++ played_from s root n rest w records ≡ all → rest ≡ e ∷ es → new ≡ run n (happening e) w → later ≡ moved_on records new e → ys ≡ xs ++ shown_at s root n later w new e
-    → ys ++ played_from s root n es new later ≡ all
-shown_next s root n e es rest w new records later xs ys all h cut world moves shows =
-    ap (λ l. l ++ played_from s root n es new later) shows
-    ∙ append_assoc xs (shown_at s root n later w new e) (played_from s root n es new later)
-    ∙ ap (λ (f : ℕ → List (Entry OpValue)). xs ++ (shown_at s root n f w new e ++ played_from s root n es new f)) moves
-    ∙ ap (λ (v : World OpValue). xs ++ (shown_at s root n (moved_on records v e) w v e ++ played_from s root n es v (moved_on records v e))) world
-    ∙ ap (λ (l : List LabEvent). xs ++ played_from s root n l w records) (sym cut) ∙ h
-
 -- At the end all is shown.
 pub shown_all : (s : SchemaModel) (root : List RdnModel) (n : ℕ) (rest : List LabEvent) (w : World OpValue) (records : ℕ → List (Entry OpValue)) (xs all : List Shown)
     → xs ++ played_from s root n rest w records ≡ all → rest ≡ [] → xs ≡ all
@@ -75,10 +64,3 @@ shown_all s root n rest w records xs all h none = sym (append-nil xs) ∙ ap (λ
 pub shown_one : (xs ys : List LabReply) (x : LabReply) (one : Shown) (b : Bool) → ys ≡ xs ++ x ∷ [] → shown_view x ≡ one → b ≡ true → map shown_view ys ≡ map shown_view xs ++ cond b (one ∷ []) []
 shown_one xs ys x one b pushed is holds =
     ap (map shown_view) pushed ∙ map-append shown_view xs (x ∷ []) ∙ ap (λ (y : Shown). map shown_view xs ++ y ∷ []) is ∙ ap (λ (t : Bool). map shown_view xs ++ cond t (one ∷ []) []) (sym holds)
-
--- Nothing is shown at the start.
-pub shown_first : (s : SchemaModel) (root : List RdnModel) (n : ℕ) (es : List LabEvent) (w : World OpValue) (records : ℕ → List (Entry OpValue)) (xs : List LabReply)
-    → xs ≡ [] → w ≡ start n → records ≡ (λ i. []) → map shown_view xs ++ played_from s root n es w records ≡ played s root n es
-shown_first s root n es w records xs none begins empty =
-    ap (λ (l : List LabReply). map shown_view l ++ played_from s root n es w records) none
-    ∙ ap₂ (λ (v : World OpValue) (r : ℕ → List (Entry OpValue)). played_from s root n es v r) begins empty

@@ -1,10 +1,9 @@
 -- Each search of each schedule. The law on worlds and the law on answers flow in; what is told at a search flows out.
-use Rattle.std.proofs.Common.{◌≡◌, ℕ, ◌<◌, ◌≤◌, nat_lt, Bool, true, false, cond, List, [], ◌∷◌, ◌++◌, length, take, Option, Some, None, refl, sym, ap, ◌∙◌, subst, true≢false, lt-ltb, le-ltb}
+use Rattle.std.proofs.Common.{◌≡◌, ℕ, nat_lt, false, cond, List, [], ◌∷◌, ◌++◌, take, Option, Some, None, refl, sym, ap, ◌∙◌, subst, lt-ltb, le-ltb}
 use Rattle.std.proofs.lemmas.List.{length-take-le}
 use Rattle.vr_state.proofs.Laws.{prefix_trans}
 use Rattle.vr_state.specs.Lists.{IsPrefix}
 use Rattle.vr_state.specs.State.{State, is_recovering}
-use Rattle.vr_state.specs.declared.words.Entry.{Entry}
 use Rattle.vr_world.specs.Committed.{committed}
 use Rattle.vr_world.specs.Law.{IsSize}
 use Rattle.vr_world.specs.World.{World, after, start}
@@ -12,16 +11,15 @@ use Rattle.vr_world.specs.declared.events.WorldEvent.{WorldEvent}
 use Rattle.vr_world.proofs.Laws.{committed_grows, commits_are_held, replicas_agree}
 use Rattle.dir_search.specs.ldap_msg.Messages.{SearchRequestValue}
 use Rattle.dir_search.specs.ldap_msg.View.{search_view}
-use Rattle.dir_search.specs.ldap_msg.ldap_requests.declared.search.SearchRequest.{SearchRequest}
 use Rattle.dir_executed.specs.Executing.{ops_of}
 use Rattle.dir_executed.specs.dir_store.ldap_schema.Schema.{SchemaModel}
 use Rattle.dir_executed.specs.dir_store.ldap_dn.Names.{RdnModel}
 use Rattle.dir_executed.specs.dir_store.ldap_op.Values.{OpValue}
 use Rattle.dir_executed.specs.dir_store.Updates.{directory_of}
-use Rattle.dir_search.specs.Answer.{Answer, answer}
+use Rattle.dir_search.specs.Answer.{answer}
 use Rattle.dir_search.proofs.Exact.{success_is_exact}
-use Rattle.dir_lab.specs.Headline.{committed_by, Answers, IsAway, IsAnswerAt, IsTold, IsShownBehind, SearchesAreTold}
-use Rattle.dir_lab.specs.Schedule.{happening, happenings, executed, executions, found, shown_by, shown_from}
+use Rattle.dir_lab.specs.Headline.{committed_by, IsAway, IsAnswerAt, IsTold, SearchesAreTold}
+use Rattle.dir_lab.specs.Schedule.{happenings, executed, executions, found, shown_by, shown_from}
 use Rattle.dir_lab.specs.Shown.{Shown, Unavailable, NotYet, Answered}
 use Rattle.dir_lab.specs.declared.events.LabEvent.{LabEvent}
 use Rattle.dir_lab.specs.declared.events.LabEvent.TheVariants.{Search}

@@ -104,12 +104,6 @@ started_left {D} seen may_leave moment left_since old new mid cluster pair one i
     (λ c q. inr (subst (λ (f : Finding). IsFormerOrNew cluster f (started_pair f) c) (sym is)
     (subst (λ (f : Finding). IsFormerOrNew cluster f next c) (ap (found cluster) same ∙ is) q)))
 
--- where nothing is written
-pub only_read : {D : Type 0} (seen : D → List ℕ) (may_leave : D → List ℕ → Type 0) (moment : D → ℕ) (left_since : D → ℕ → List ℕ → Type 0) (old new : D) (cluster : ℕ)
-    → LeavesOnly moment left_since old new (may_leave old) → LeavesOnly moment left_since old new (StartLeaves seen may_leave cluster old)
-only_read seen may_leave moment left_since old new cluster loaded =
-    weaker_fact moment left_since old new (may_leave old) (StartLeaves seen may_leave cluster old) loaded (λ c h. inl h)
-
 -- why a node's pair wasn't stored
 abbrev cause_of : NodeError → ViewStoreError
 cause_of (Store e) = e

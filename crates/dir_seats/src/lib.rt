@@ -17,7 +17,7 @@ pub use making::seats;
 pub use publisher::Publisher;
 pub use seat::{Seat, Told};
 pub use session_talk::{
-    Client as SessionClient, CompareRequest, Ended, Found, Gate, Look, LookError, Reply, Role,
-    SearchAnswer, SearchRequest, Update,
+    CompareRequest, Ended, Found, Gate, Look, LookError, Reply, Role, SearchAnswer, SearchRequest,
+    Update,
 };
 pub use vr_state::words::{Client, Entry};

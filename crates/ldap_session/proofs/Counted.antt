@@ -1,5 +1,5 @@
 -- How many updates a session asks for. Facts on definitions flow in and out; no value of the program is here.
-use Rattle.std.proofs.Common.{◌≡◌, ◌≤◌, ℕ, ◌+◌, suc, arith, length, List, [], ◌∷◌, ◌++◌, refl, ap, sym, subst, ◌∙◌}
+use Rattle.std.proofs.Common.{◌≡◌, ◌≤◌, ℕ, ◌+◌, suc, arith, length, List, [], ◌∷◌, ◌++◌, ap, ◌∙◌}
 use Rattle.session_rules.specs.ldap_msg.Messages.{MessageValue}
 use Rattle.session_rules.specs.session_talk.Talk.{Exchange}
 use Rattle.session_rules.specs.Session.{ConfigValue, Reaction, Asked}

@@ -1,21 +1,11 @@
 -- Octets that are written bit by bit. Facts on octets flow in and out; no value of the program is here.
 use Rattle.std.proofs.Common.{◌≡◌, ℕ, ◌+◌, ◌<◌, List, [], ◌∷◌, ◌++◌, Bool, true, false, Option, refl, ap, sym, subst, ◌∙◌, map, length, take, drop, get_or, append_assoc, append-nil, take-append-drop}
 use Rattle.std.proofs.lemmas.List.{take_more}
-use Rattle.std.proofs.KnownBytes.{Appends-nil, Appends-trans, Appends-kept}
-use Rattle.std.specs.Io.KnownBytes.{Appends, Keeps}
+use Rattle.std.proofs.KnownBytes.{Appends-nil, Appends-trans}
+use Rattle.std.specs.Io.KnownBytes.{Appends}
 use Rattle.session_rules.specs.ldap_msg.Messages.{MessageValue}
 use Rattle.session_rules.specs.ldap_msg.Written.{message_bytes}
 use Rattle.ldap_session.specs.Octets.{is_empty, joined, octets_of, IsFront, WritesSome, HasWritten}
-
--- what a writer took of octets, and what is left of them
-pub some_taken : (a b : Option (List ℕ)) (octets : List ℕ) (n : ℕ) → Appends a b (take n octets) → WritesSome a b octets (drop n octets)
-some_taken a b octets n p = record { taken = take n octets; grown = p; whole = sym (take-append-drop n octets) }
-
-pub nothing_kept : (a b : Option (List ℕ)) → Keeps a b → Appends a b []
-nothing_kept a b p = Appends-kept a a b [] (Appends-nil a) p
-
-pub all_left : (a b : Option (List ℕ)) (octets : List ℕ) → Keeps a b → WritesSome a b octets octets
-all_left a b octets p = record { taken = []; grown = nothing_kept a b p; whole = refl }
 
 pub begun : (a : Option (List ℕ)) (octets : List ℕ) → WritesSome a a octets octets
 begun a octets = record { taken = []; grown = Appends-nil a; whole = refl }

@@ -1,29 +1,18 @@
 -- A map from clients, kept in their order, is a finite map. Entries of a map flow in; what the map has at each client flows out.
-use Rattle.std.proofs.Common.{◌≡◌, ℕ, Bool, true, false, cond, List, [], ◌∷◌, Option, Some, None, is_some, refl, sym, ap, ◌∙◌, true≢false}
+use Rattle.std.proofs.Common.{◌≡◌, Bool, true, false, cond, List, [], ◌∷◌, Option, Some, None, is_some, refl, sym, ap, ◌∙◌, true≢false}
 use Rattle.std.specs.Option.{option_map, option_copied}
 use Rattle.std.specs.Borrow.{Bor}
-use Rattle.std.specs.Ordering.{nat_cmp, ordering_then}
-use Rattle.std.specs.Cmp.{IsTotalOrder, on_total, then_total, nat_cmp_total, eq_by_cmp_equiv}
+use Rattle.std.specs.Cmp.{eq_by_cmp_equiv}
 use Rattle.std.specs.FinMap.{FinMap, from_entries, get, insert, remove, get-from_entries, get-insert, get-remove, same_map}
 use Rattle.std.specs.FinMap.Entries.{find}
 use Rattle.std.specs.BTreeMap.{is_at}
 use Rattle.std.specs.Map.{lookup}
-use Rattle.std.proofs.lemmas.Map.Lookups.{CmpEqualImpliesEq, exact_pairs, exact_unsigned}
-use Rattle.session_talk.specs.declared.client.Client.{Client}
+pub use Rattle.session_talk.proofs.vr_state.Clients.{exact_clients, clients_total}
+use Rattle.session_talk.specs.vr_state.declared.words.Client.{Client}
 use Rattle.local_directory.specs.declared.kept.Kept.{Kept}
 use Rattle.local_directory.specs.ClientOrder.{client_cmp}
 use Rattle.local_directory.specs.Latest.{KeptValue}
 use Rattle.local_directory.specs.View.{kept_view, entries_view}
-
--- Clients that compare alike are one.
-pub exact_clients : CmpEqualImpliesEq client_cmp
-exact_clients a b h =
-    ap (λ (p : ℕ × (ℕ × ℕ)). record { home = p.0; life = p.1.0; number = p.1.1 })
-    (exact_pairs nat_cmp (λ (x y : ℕ × ℕ). ordering_then (nat_cmp x.0 y.0) (nat_cmp x.1 y.1)) exact_unsigned (exact_pairs nat_cmp nat_cmp exact_unsigned exact_unsigned) (a.home, (a.life, a.number)) (b.home, (b.life, b.number)) h)
-
--- Their order is total.
-pub clients_total : IsTotalOrder client_cmp
-clients_total = then_total (on_total (λ c. c.home) nat_cmp_total) (then_total (on_total (λ c. c.life) nat_cmp_total) (on_total (λ c. c.number) nat_cmp_total))
 
 -- what these entries have at a client
 abbrev pub latest_at : List (Client × Kept) → Client → Option Kept

@@ -7,7 +7,7 @@ use Rattle.session_talk.specs.ldap_op.Values.{OpValue}
 use Rattle.session_talk.specs.dir_store.Updates.{applied, reply_to}
 use Rattle.session_talk.specs.dir_search.Answer.{answer}
 use Rattle.session_talk.specs.dir_search.Compared.{compared as compared_reply}
-use Rattle.session_talk.specs.declared.client.Client.{Client}
+use Rattle.session_talk.specs.vr_state.declared.words.Client.{Client}
 use Rattle.session_talk.specs.Reading.{IsReadAt}
 use Rattle.session_talk.specs.Talk.{primary}
 use Rattle.session_talk.specs.Talk.{EndedValue, done, stale, lost, refused_memory}

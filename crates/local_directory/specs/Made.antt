@@ -7,7 +7,7 @@ use Rattle.session_talk.specs.ldap_op.Values.{OpValue}
 use Rattle.session_talk.specs.dir_store.Replies.{ReplyModel}
 use Rattle.session_talk.specs.dir_store.Updates.{directory_after, replies_after}
 use Rattle.session_talk.specs.dir_store.Placed.{reply_at}
-use Rattle.session_talk.specs.declared.client.Client.{Client}
+use Rattle.session_talk.specs.vr_state.declared.words.Client.{Client}
 use Rattle.session_talk.specs.Talk.{EndedValue, done, stale, lost, refused_memory}
 use Rattle.session_talk.specs.Talk.{Exchange, asked_role, learned, searched, compared, updated, Along}
 use Rattle.local_directory.specs.Latest.{KeptValue}

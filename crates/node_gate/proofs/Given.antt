@@ -1,8 +1,7 @@
 -- What a publisher was given stays a beginning of what a node has executed. Definitions flow in; what an event and a further record make of them flows
 -- out. Code is not here.
 use Rattle.std.proofs.Common.{◌≡◌, ℕ, zero, suc, ◌+◌, ◌≤◌, List, [], ◌∷◌, ◌++◌, length, take, Some, slice_get, Bool, true, false, sym, ap, subst, ◌∙◌, append_assoc, append-nil, arith}
-use Rattle.std.proofs.Math.Seq.{take-length}
-use Rattle.std.proofs.lemmas.List.{take-append-le, length-append}
+use Rattle.std.proofs.lemmas.List.{length-append}
 use Rattle.std.proofs.lemmas.Option.{slice_get_within, get_or_from_slice_get}
 use mathlib.Core.List.{IsPrefix}
 use Rattle.dir_node.specs.vr_state.declared.words.Entry.{Entry}
@@ -12,7 +11,7 @@ use Rattle.dir_node.specs.NodeState.{CatchesUp}
 use Rattle.dir_seats.specs.Lists.{IsBeginning, with_records}
 use Rattle.dir_seats.specs.Showing.{Showing}
 use Rattle.dir_seats.proofs.Begins.{begins_self}
-use Rattle.node_gate.specs.Given.{IsGiven, HasAll}
+use Rattle.node_gate.specs.Given.{IsGiven}
 
 -- what is executed by an event is put at the end
 caught : (behind : Bool) (old due new : List (Entry OpValue)) → CatchesUp behind old due new → IsPrefix old new
@@ -25,29 +24,6 @@ grown a b behind due p schema suffix indexes = record { schema = schema; suffix 
 
 pub stayed : (a b : ExecutedValue) → b ≡ a → IsBeginning a b
 stayed a b e = subst (λ (x : ExecutedValue). IsBeginning a x) (sym e) (begins_self a)
-
--- what was given is still a beginning where more is executed
-pub given_on : (a b : ExecutedValue) (shown : Showing) (n : ℕ) → IsGiven a shown n → IsBeginning a b → IsGiven b shown n
-given_on a b shown n g p = (
-  p.schema ∙ g.0,
-  p.suffix ∙ g.1,
-  p.indexes ∙ g.2,
-  g.3 ∙ (sym (take-append-le n a.records p.records.0 g.4) ∙ ap (λ (l : List (Entry OpValue)). take n l) p.records.1),
-  subst (λ (l : List (Entry OpValue)). n ≤ length l) p.records.1 (longer a.records p.records.0 g.4),
-)
-  where
-    longer : (xs ys : List (Entry OpValue)) → n ≤ length xs → n ≤ length (xs ++ ys)
-    longer xs ys h = omega (arith, h, length-append xs ys)
-
--- at the start nothing was given
-pub given_nothing : (executed : ExecutedValue) (shown : Showing) → shown.published ≡ executed → shown.waiting ≡ [] → executed.records ≡ [] → IsGiven executed shown 0
-given_nothing executed shown same none empty = (
-  ap (λ (v : ExecutedValue). v.schema) (sym same),
-  ap (λ (v : ExecutedValue). v.suffix) (sym same),
-  ap (λ (v : ExecutedValue). v.indexes) (sym same),
-  ap (λ (v : ExecutedValue). v.records ++ shown.waiting) same ∙ (ap (λ (l : List (Entry OpValue)). l ++ shown.waiting) empty ∙ none),
-  omega (arith),
-)
 
 -- one element more of a front
 front_with : (xs : List (Entry OpValue)) (i : ℕ) (c : Entry OpValue) → slice_get xs i ≡ Some c → take (suc i) xs ≡ take i xs ++ c ∷ []
@@ -84,10 +60,3 @@ all_shown executed old new n g is none = (
   ap (λ (l : List (Entry OpValue)). new.published.records ++ l) none ∙ (append-nil new.published.records ∙ (ap (λ (v : ExecutedValue). v.records) is ∙ g.3)),
   g.4,
 )
-
--- where nothing waits and all was given, all is shown
-pub all_there : (executed : ExecutedValue) (shown : Showing) (n : ℕ) → IsGiven executed shown n → shown.waiting ≡ [] → n ≡ length executed.records → HasAll executed shown
-all_there executed shown n g none count =
-    sym (append-nil shown.published.records)
-    ∙ (ap (λ (l : List (Entry OpValue)). shown.published.records ++ l) (sym none)
-    ∙ (g.3 ∙ (ap (λ (k : ℕ). take k executed.records) count ∙ take-length executed.records)))

@@ -2,7 +2,6 @@
 -- not here; nor is of which moment the state is.
 use Rattle.std.specs.Prelude.{◌≡◌, ◌⊎◌, ℕ, Option}
 use Rattle.dir_seats.specs.session_talk.dir_store.Replies.{ReplyModel}
-use Rattle.dir_seats.specs.session_talk.declared.client.Client as session
 use Rattle.dir_seats.specs.session_talk.Talk.{Exchange, asked_role, learned, searched, compared, updated}
 use Rattle.dir_seats.specs.session_talk.Talk.{EndedValue}
 use Rattle.dir_seats.specs.session_talk.Talk as talk
@@ -10,10 +9,6 @@ use Rattle.dir_node.specs.vr_state.declared.words.Client.{Client}
 use Rattle.dir_node.specs.dir_executed.Executing.{ExecutedValue}
 use Rattle.dir_node.specs.NodeState.{NodeValue}
 use Rattle.dir_node.specs.Outcomes.{OutcomeValue, done, pending, stale, lost, outcome_of}
-
--- a session's client as the replicas know it
-abbrev pub core_client : session.Client → Client
-core_client c = record { home = c.home; life = c.life; number = c.number }
 
 -- how an outcome is told: as it is, unless its reply finds no memory; what is still to come is told as lost
 abbrev pub EndsAs : OutcomeValue → EndedValue → Type 0
@@ -40,4 +35,4 @@ gates D (asked_role role told) = Unit {0}
 gates D (learned told) = ⊥
 gates D (searched named q looked) = ⊥
 gates D (compared named q looked) = ⊥
-gates D (updated client number op ended) = IsUpdated D (core_client client) number ended
+gates D (updated client number op ended) = IsUpdated D client number ended

@@ -1,13 +1,12 @@
 // A session's gate to a running node. Updates flow in; how they ended flows out. What must not be here: reads, how replicas agree.
 ghost use Rattle.dir_seats.specs.session_talk.View.{ended_view};
-ghost use Rattle.node_gate.specs.Shared.{IsUpdated, core_client};
+ghost use Rattle.node_gate.specs.Shared.{IsUpdated};
 
-use crate::ending::core_client;
 use crate::held::Here;
 use crate::peers::Peers;
 use crate::running::Running;
-use dir_node::{Device, Entry, Event, NodeError, Op, Standing};
-use dir_seats::{Ended, Gate, Role, SessionClient, Told, Update};
+use dir_node::{Client, Device, Entry, Event, NodeError, Op, Standing};
+use dir_seats::{Ended, Gate, Role, Told, Update};
 use std::alloc::Global;
 use std::sync::Wait;
 
@@ -52,10 +51,9 @@ impl<'a, 'r, R: Wait, D: Device, P> NodeGate<'a, 'r, R, D, P> {
 
 impl<'a, 'r, R: Wait, D: Device, P: Peers> NodeGate<'a, 'r, R, D, P> {
     /// Hands a request to the node, and waits for its outcome.
-    fn ask(&self, alloc: Global, client: SessionClient, number: u64, payload: Op) -> Ended
-        ensures { IsUpdated D (core_client client) number (ended_view result) }
+    fn ask(&self, alloc: Global, client: Client, number: u64, payload: Op) -> Ended
+        ensures { IsUpdated D client number (ended_view result) }
     {
-        let client = core_client(client);
         let entry = Entry {
             client,
             request_number: number,
@@ -95,13 +93,7 @@ impl<'a, 'r, R: Wait, D: Device, P: Peers> Gate<Option<Told<Here>>> for NodeGate
         (role, self.running.told())
     }
 
-    fn update(
-        &mut self,
-        alloc: Global,
-        client: SessionClient,
-        number: u64,
-        update: Update,
-    ) -> Ended {
+    fn update(&mut self, alloc: Global, client: Client, number: u64, update: Update) -> Ended {
         self.asked = self.asked.saturating_add(1);
         match Op::new(alloc, update) {
             Ok(payload) => self.ask(alloc, client, number, payload),

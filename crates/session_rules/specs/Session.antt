@@ -9,7 +9,7 @@ use Rattle.session_talk.specs.dir_store.Replies.{ReplyModel, only}
 use Rattle.session_talk.specs.dir_search.Answer.{Answer}
 use Rattle.session_talk.specs.Clients.{named_client}
 use Rattle.session_talk.specs.Talk.{Looked, RoleValue, primary, backup, changing, recovering, EndedValue, done, stale, lost, refused_memory}
-use Rattle.session_talk.specs.declared.client.Client.{Client}
+use Rattle.session_talk.specs.vr_state.declared.words.Client.{Client}
 use Rattle.message_rules.specs.Numbers.{greatest}
 use Rattle.message_rules.specs.Controls.{judged}
 use Rattle.message_rules.specs.Binding.{bound}
@@ -22,6 +22,7 @@ use Rattle.message_rules.specs.declared.bound.Bound.{Bound}
 use Rattle.message_rules.specs.declared.controls.Named.{Named}
 use Rattle.message_rules.specs.declared.requests.Answering.{Answering}
 use Rattle.message_rules.specs.declared.requests.Answering.TheVariants.{Bind, Search, Modify, Add, Delete, ModifyDn, Compare, Extended}
+use Rattle.session_rules.specs.declared.pending.Pending.{Pending}
 use Rattle.session_rules.specs.declared.state.State.{State}
 use Rattle.session_rules.specs.declared.answered.Next.{Next}
 use Rattle.session_rules.specs.declared.answered.Next.TheVariants.{GoesOn, Unbound, Disconnected}
@@ -127,46 +128,53 @@ or_zero (Some n) = n
 abbrev pub named_number : State → Named → ℕ
 named_number s named = max s.floor (or_zero named.number)
 
+-- a request that waits for its answer, with the messageID of its message and what its controls name
+abbrev pub pending_of : ℕ → RequestValue → Named → Pending
+pending_of id r named = record { id = id; answering = answering_of r; named = named }
+
+-- nothing is asked, since a code alone refuses the request
+abbrev pub refusal : State → Pending → ℕ → Asked
+refusal s p code = nothing (refused_with s p.id p.answering code)
+
 -- what a bind makes of a session
 abbrev pub bound_reaction : State → ℕ → Bound → Reaction
 bound_reaction s id b = says (record s { identity = b.identity }) (code_message id Bind b.code)
 
 -- the client and the number of an update: those that its control names, or the session's own client and its next number; other (80), once
 -- those are used up
-abbrev pub update_as : ConfigValue → State → ℕ → Answering → OpValue → Option (ℕ × ℕ) → Asked
-update_as c s id answering u (Some named) = an_update (named_client named.0) named.1 u
-update_as c s id answering u None =
-    cond (nat_lt s.requests greatest) (an_update c.client (s.requests + 1) u) (nothing (refused_with s id answering 80))
+abbrev pub update_as : ConfigValue → State → Pending → OpValue → Option (ℕ × ℕ) → Asked
+update_as c s p u (Some named) = an_update (named_client named.0) named.1 u
+update_as c s p u None = cond (nat_lt s.requests greatest) (an_update c.client (s.requests + 1) u) (refusal s p 80)
 
 -- the manager's update: unavailable (52) while it is being found out where updates are made, referral (10) at a backup
-abbrev pub update_at : ConfigValue → State → ℕ → Answering → Named → OpValue → RoleValue → Asked
-update_at c s id answering named u primary = update_as c s id answering u named.request
-update_at c s id answering named u (backup uri) = nothing (refused s id answering (referral_to uri))
-update_at c s id answering named u changing = nothing (refused_with s id answering 52)
-update_at c s id answering named u recovering = nothing (refused_with s id answering 52)
+abbrev pub update_at : ConfigValue → State → Pending → OpValue → RoleValue → Asked
+update_at c s p u primary = update_as c s p u p.named.request
+update_at c s p u (backup uri) = nothing (refused s p.id p.answering (referral_to uri))
+update_at c s p u changing = refusal s p 52
+update_at c s p u recovering = refusal s p 52
 
 -- insufficientAccessRights (50) for an update that is not the manager's (RFC 4511 Appendix A.2)
-abbrev pub update_by : Identity → ConfigValue → State → ℕ → Answering → Named → OpValue → RoleValue → Asked
-update_by Anonymous c s id answering named u role = nothing (refused_with s id answering 50)
-update_by Manager c s id answering named u role = update_at c s id answering named u role
+abbrev pub update_by : Identity → ConfigValue → State → Pending → OpValue → RoleValue → Asked
+update_by Anonymous c s p u role = refusal s p 50
+update_by Manager c s p u role = update_at c s p u role
 
 -- an extended request that is no update is not recognised: protocolError (2) (RFC 4511 4.12)
-abbrev pub asked_of_update : ConfigValue → State → ℕ → Answering → Named → RoleValue → Option OpValue → Asked
-asked_of_update c s id answering named role None = nothing (refused_with s id answering 2)
-asked_of_update c s id answering named role (Some u) = update_by s.identity c s id answering named u role
+abbrev pub asked_of_update : ConfigValue → State → Pending → RoleValue → Option OpValue → Asked
+asked_of_update c s p role None = refusal s p 2
+asked_of_update c s p role (Some u) = update_by s.identity c s p u role
 
 -- what is asked at a replica that has a state
-abbrev pub asked_of : ConfigValue → State → ℕ → RequestValue → Named → RoleValue → Asked
-asked_of c s id (bind b) named role = nothing (bound_reaction s id (bound c.schema c.manager c.password b))
-asked_of c s id unbind named role = nothing (silent s Unbound)
-asked_of c s id (search q) named role = a_search (named_number s named) q
-asked_of c s id (modify m) named role = asked_of_update c s id Modify named role (update_of (modify m))
-asked_of c s id (add a) named role = asked_of_update c s id Add named role (update_of (add a))
-asked_of c s id (delete name) named role = asked_of_update c s id Delete named role (update_of (delete name))
-asked_of c s id (modify_dn m) named role = asked_of_update c s id ModifyDn named role (update_of (modify_dn m))
-asked_of c s id (compare q) named role = a_compare (named_number s named) q
-asked_of c s id (abandon k) named role = nothing (silent s GoesOn)
-asked_of c s id (extended_request x) named role = asked_of_update c s id Extended named role (update_of (extended_request x))
+abbrev pub asked_of : ConfigValue → State → Pending → RequestValue → RoleValue → Asked
+asked_of c s p (bind b) role = nothing (bound_reaction s p.id (bound c.schema c.manager c.password b))
+asked_of c s p unbind role = nothing (silent s Unbound)
+asked_of c s p (search q) role = a_search (named_number s p.named) q
+asked_of c s p (modify m) role = asked_of_update c s p role (update_of (modify m))
+asked_of c s p (add a) role = asked_of_update c s p role (update_of (add a))
+asked_of c s p (delete name) role = asked_of_update c s p role (update_of (delete name))
+asked_of c s p (modify_dn m) role = asked_of_update c s p role (update_of (modify_dn m))
+asked_of c s p (compare q) role = a_compare (named_number s p.named) q
+asked_of c s p (abandon k) role = nothing (silent s GoesOn)
+asked_of c s p (extended_request x) role = asked_of_update c s p role (update_of (extended_request x))
 
 -- whether a replica has no state yet
 abbrev pub is_recovering : RoleValue → Bool
@@ -176,8 +184,8 @@ is_recovering changing = false
 is_recovering recovering = true
 
 -- What is asked, once the role of the replica is known: nothing at one that is recovering, unavailable (52).
-abbrev pub asked : ConfigValue → State → ℕ → RequestValue → Named → RoleValue → Asked
-asked c s id r named role = cond (is_recovering role) (nothing (refused_with s id (answering_of r) 52)) (asked_of c s id r named role)
+abbrev pub asked : ConfigValue → State → Pending → RequestValue → RoleValue → Asked
+asked c s p r role = cond (is_recovering role) (refusal s p 52) (asked_of c s p r role)
 
 -- what a search comes to
 abbrev pub after_search : State → ℕ → Named → Looked Answer → Reaction

@@ -5,9 +5,9 @@ use Rattle.session_talk.specs.ldap_op.Values.{OpValue}
 use Rattle.session_talk.specs.dir_store.Replies.{ReplyModel}
 use Rattle.session_talk.specs.dir_search.Answer.{Answer}
 use Rattle.session_talk.specs.Talk.{Looked, RoleValue, EndedValue, Exchange, asked_role, learned, searched, compared, updated}
-use Rattle.session_talk.specs.declared.client.Client.{Client}
+use Rattle.session_talk.specs.vr_state.declared.words.Client.{Client}
 use Rattle.message_rules.specs.Requests.{answering_of}
-use Rattle.session_rules.specs.Session.{ConfigValue, Reaction, at_once, after_role, due, Asked, nothing, a_search, a_compare, an_update, asked, after_search, after_compare, after_update, asked_state}
+use Rattle.session_rules.specs.Session.{ConfigValue, Reaction, at_once, after_role, due, Asked, nothing, a_search, a_compare, an_update, pending_of, asked, after_search, after_compare, after_update, asked_state}
 use Rattle.session_rules.specs.declared.answered.Next.{Next}
 use Rattle.session_rules.specs.declared.answered.Next.TheVariants.{GoesOn}
 use Rattle.message_rules.specs.declared.controls.Named.{Named}
@@ -28,7 +28,7 @@ pub data Outcome {T : Type 0} (s : State) (id : ℕ) (answering : Answering) (na
 -- A request that has passed its controls is answered: the role is asked, and what is told with it is learned before anything else is asked;
 -- then at most one question.
 pub data Inquiry {T : Type 0} (c : ConfigValue) (s : State) (id : ℕ) (r : RequestValue) (named : Named) : List (Exchange T) → Reaction → Type 0 where
-  asks : {xs : List (Exchange T)} {a : Reaction} (role : RoleValue) (told : T) → Outcome s id (answering_of r) named (asked c s id r named role) xs a →
+  asks : {xs : List (Exchange T)} {a : Reaction} (role : RoleValue) (told : T) → Outcome s id (answering_of r) named (asked c s (pending_of id r named) r role) xs a →
       Inquiry c s id r named (asked_role role told ∷ learned told ∷ xs) a
 
 -- What a session makes of one message, along what it asks and is answered. Nothing is asked for a message that has its reaction at once.

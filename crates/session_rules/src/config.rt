@@ -2,7 +2,7 @@
 ghost use Rattle.std.specs.Prelude.{◌≡◌};
 ghost use Rattle.session_rules.specs.View.{config_view};
 
-use session_talk::{Client, Name, Schema};
+use session_talk::{Client, Name, Schema, session_client};
 
 /// What all sessions of a server share, and which of them a session is.
 #[derive(Clone, Copy)]
@@ -25,6 +25,6 @@ impl<'a> Config<'a> {
     pub fn client(&self) -> Client
         ensures { result ≡ (config_view self.now).client }
     {
-        Client::of_session(self.replica, self.restarts, self.session)
+        session_client(self.replica, self.restarts, self.session)
     }
 }

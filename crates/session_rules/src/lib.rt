@@ -10,6 +10,7 @@ mod pending;
 mod responses;
 mod state;
 mod taking;
+mod task;
 mod updating;
 
 pub use answered::{Answered, Next};

@@ -7,130 +7,22 @@ ghost use Rattle.session_talk.specs.View.{role_view};
 ghost use Rattle.message_rules.specs.Binding.{bound};
 ghost use Rattle.message_rules.specs.Requests.{update_of, answering_of};
 ghost use Rattle.session_rules.specs.Session.{a_search, a_compare, asked, asked_of, bound_reaction, named_number, is_recovering};
-ghost use Rattle.session_rules.specs.Taken.{IsDone, HasTaken};
-ghost use Rattle.session_rules.specs.Turns.{Outcome, Inquiry, Turn};
+ghost use Rattle.session_rules.specs.Taken.{IsDone, HasTaken, OutcomeOf};
+ghost use Rattle.session_rules.specs.Turns.{Inquiry, Turn};
 ghost use Rattle.session_rules.specs.View.{config_view};
 
 use crate::answered::{Answered, Next};
 use crate::config::Config;
 use crate::hearing::{Heard, hear};
-use crate::pending::Pending;
 use crate::responses::{disconnect, say_code, say_compare, say_search, silence};
 use crate::state::State;
-use crate::updating::{ask_update, refuse};
+use crate::task::{Task, refuse};
 use message_rules::{
     AnswerError, Answering, BindRequest, CompareRequest, Identity, Message, Request, ResultCode,
     SearchRequest, bind, update_in,
 };
 use session_talk::{Directory, Role};
 use std::alloc::Global;
-
-/// Binds, and answers. The session is anonymous while the bind is judged.
-fn take_bind(
-    alloc: Global,
-    config: &Config,
-    state: &mut State,
-    id: u32,
-    request: &BindRequest,
-) -> Result<Answered, AnswerError>
-    ensures { IsDone (bound_reaction state.old id (bound (config_view config.now).schema (config_view config.now).manager
-        (config_view config.now).password (bind_view request.now))) state.new result }
-{
-    state.identity = Identity::Anonymous;
-    let bound = bind(
-        alloc,
-        config.schema,
-        config.manager,
-        config.password,
-        request,
-    )?;
-    state.identity = bound.identity;
-    say_code(alloc, id, Answering::Bind, bound.code)
-}
-
-/// Asks for a search, and answers it.
-fn take_search<D: Directory>(
-    alloc: Global,
-    state: &State,
-    directory: &mut D,
-    pending: Pending,
-    request: &SearchRequest,
-) -> Result<Answered, AnswerError>
-    ensures { HasTaken D.allows directory.old directory.new (Outcome state.now pending.id pending.answering pending.named
-        (a_search (named_number state.now pending.named) (search_view request.now))) state.now result }
-{
-    let number = state.named_number(pending.named);
-    let outcome = directory.search(alloc, number, request);
-    say_search(alloc, pending.id, pending.named.number, outcome)
-}
-
-/// Asks for a compare, and answers it.
-fn take_compare<D: Directory>(
-    alloc: Global,
-    state: &State,
-    directory: &mut D,
-    pending: Pending,
-    request: &CompareRequest,
-) -> Result<Answered, AnswerError>
-    ensures { HasTaken D.allows directory.old directory.new (Outcome state.now pending.id pending.answering pending.named
-        (a_compare (named_number state.now pending.named) (compare_view request.now))) state.now result }
-{
-    let number = state.named_number(pending.named);
-    let outcome = directory.compare(alloc, number, request);
-    say_compare(alloc, pending.id, pending.named.number, outcome)
-}
-
-/// Answers a request that is no update, at a replica that has a state.
-fn take_other<D: Directory>(
-    alloc: Global,
-    config: &Config,
-    state: &mut State,
-    directory: &mut D,
-    pending: Pending,
-    request: &Request,
-) -> Result<Answered, AnswerError>
-    requires other { update_of (request_view request.now) ≡ None }
-    ensures { (role : RoleValue) → HasTaken D.allows directory.old directory.new (Outcome state.old pending.id pending.answering pending.named
-        (asked_of (config_view config.now) state.old pending.id (request_view request.now) pending.named role)) state.new result }
-{
-    match request {
-        Request::Bind(bind) => take_bind(alloc, config, state, pending.id, bind),
-        Request::Search(search) => take_search(alloc, state, directory, pending, search),
-        Request::Compare(compare) => take_compare(alloc, state, directory, pending, compare),
-        Request::Extended(_) => refuse(
-            alloc,
-            state,
-            pending.id,
-            Answering::Extended,
-            ResultCode::PROTOCOL_ERROR,
-        ),
-        Request::Unbind => silence(alloc, Next::Unbound),
-        Request::Abandon(_) => silence(alloc, Next::GoesOn),
-        Request::Add(_) | Request::Modify(_) | Request::Delete(_) | Request::ModifyDn(_) => {
-            unreachable!()
-        }
-    }
-}
-
-/// Answers a request at a replica that has a state.
-fn take_served<D: Directory>(
-    alloc: Global,
-    config: &Config,
-    state: &mut State,
-    directory: &mut D,
-    pending: Pending,
-    role: Role,
-    request: Request,
-) -> Result<Answered, AnswerError>
-    requires kind { pending.answering ≡ answering_of (request_view request) }
-    ensures { HasTaken D.allows directory.old directory.new (Outcome state.old pending.id pending.answering pending.named
-        (asked_of (config_view config.now) state.old pending.id (request_view request) pending.named (role_view role))) state.new result }
-{
-    match update_in(request) {
-        Ok(update) => ask_update(alloc, config, state, directory, pending, role, update),
-        Err(request) => take_other(alloc, config, state, directory, pending, &request),
-    }
-}
 
 /// Whether a replica has no state yet.
 fn is_recovering(role: &Role) -> bool
@@ -139,33 +31,6 @@ fn is_recovering(role: &Role) -> bool
     match role {
         Role::Recovering => true,
         Role::Primary | Role::Backup { .. } | Role::Changing => false,
-    }
-}
-
-/// Answers a request where the role of the replica is known.
-fn take_at<D: Directory>(
-    alloc: Global,
-    config: &Config,
-    state: &mut State,
-    directory: &mut D,
-    pending: Pending,
-    role: Role,
-    request: Request,
-) -> Result<Answered, AnswerError>
-    requires kind { pending.answering ≡ answering_of (request_view request) }
-    ensures { HasTaken D.allows directory.old directory.new (Outcome state.old pending.id pending.answering pending.named
-        (asked (config_view config.now) state.old pending.id (request_view request) pending.named (role_view role))) state.new result }
-{
-    if is_recovering(&role) {
-        refuse(
-            alloc,
-            state,
-            pending.id,
-            pending.answering,
-            ResultCode::UNAVAILABLE,
-        )
-    } else {
-        take_served(alloc, config, state, directory, pending, role, request)
     }
 }
 
@@ -178,21 +43,142 @@ fn ask_role<D: Directory>(alloc: Global, directory: &mut D) -> Role
     role
 }
 
-/// Asks about a request that has passed its controls, and answers it.
-fn take_request<D: Directory>(
-    alloc: Global,
-    config: &Config,
-    state: &mut State,
-    directory: &mut D,
-    pending: Pending,
-    request: Request,
-) -> Result<Answered, AnswerError>
-    requires kind { pending.answering ≡ answering_of (request_view request) }
-    ensures { HasTaken D.allows directory.old directory.new
-        (Inquiry (config_view config.now) state.old pending.id (request_view request) pending.named) state.new result }
-{
-    let role = ask_role(alloc, directory);
-    take_at(alloc, config, state, directory, pending, role, request)
+impl Task<'_> {
+    /// Binds, and answers. The session is anonymous while the bind is judged.
+    fn take_bind(&self, state: &mut State, request: &BindRequest) -> Result<Answered, AnswerError>
+        ensures { IsDone (bound_reaction state.old self.now.pending.id (bound (config_view self.now.config).schema
+            (config_view self.now.config).manager (config_view self.now.config).password (bind_view request.now))) state.new result }
+    {
+        state.identity = Identity::Anonymous;
+        let bound = bind(
+            self.alloc,
+            self.config.schema,
+            self.config.manager,
+            self.config.password,
+            request,
+        )?;
+        state.identity = bound.identity;
+        say_code(self.alloc, self.pending.id, Answering::Bind, bound.code)
+    }
+
+    /// Asks for a search, and answers it.
+    #[tactic(auto, using(crate::proofs::Turning::one_search))]
+    fn take_search<D: Directory>(
+        &self,
+        state: &State,
+        directory: &mut D,
+        request: &SearchRequest,
+    ) -> Result<Answered, AnswerError>
+        ensures { HasTaken D.allows directory.old directory.new (OutcomeOf state.now self.now.pending
+            (a_search (named_number state.now self.now.pending.named) (search_view request.now))) state.now result }
+    {
+        let number = state.named_number(self.pending.named);
+        let outcome = directory.search(self.alloc, number, request);
+        say_search(
+            self.alloc,
+            self.pending.id,
+            self.pending.named.number,
+            outcome,
+        )
+    }
+
+    /// Asks for a compare, and answers it.
+    #[tactic(auto, using(crate::proofs::Turning::one_compare))]
+    fn take_compare<D: Directory>(
+        &self,
+        state: &State,
+        directory: &mut D,
+        request: &CompareRequest,
+    ) -> Result<Answered, AnswerError>
+        ensures { HasTaken D.allows directory.old directory.new (OutcomeOf state.now self.now.pending
+            (a_compare (named_number state.now self.now.pending.named) (compare_view request.now))) state.now result }
+    {
+        let number = state.named_number(self.pending.named);
+        let outcome = directory.compare(self.alloc, number, request);
+        say_compare(
+            self.alloc,
+            self.pending.id,
+            self.pending.named.number,
+            outcome,
+        )
+    }
+
+    /// Answers a request that is no update, at a replica that has a state.
+    #[tactic(auto, using(crate::proofs::Turning::said_is_done, crate::proofs::Turning::reacted))]
+    fn take_other<D: Directory>(
+        &self,
+        state: &mut State,
+        directory: &mut D,
+        request: &Request,
+    ) -> Result<Answered, AnswerError>
+        requires other { update_of (request_view request.now) ≡ None }
+        ensures { (role : RoleValue) → HasTaken D.allows directory.old directory.new (OutcomeOf state.old self.now.pending
+            (asked_of (config_view self.now.config) state.old self.now.pending (request_view request.now) role)) state.new result }
+    {
+        match request {
+            Request::Bind(bind) => self.take_bind(state, bind),
+            Request::Search(search) => self.take_search(state, directory, search),
+            Request::Compare(compare) => self.take_compare(state, directory, compare),
+            Request::Extended(_) => self.refuse(state, ResultCode::PROTOCOL_ERROR),
+            Request::Unbind => silence(self.alloc, Next::Unbound),
+            Request::Abandon(_) => silence(self.alloc, Next::GoesOn),
+            Request::Add(_) | Request::Modify(_) | Request::Delete(_) | Request::ModifyDn(_) => {
+                unreachable!()
+            }
+        }
+    }
+
+    /// Answers a request at a replica that has a state.
+    fn take_served<D: Directory>(
+        &self,
+        state: &mut State,
+        directory: &mut D,
+        role: Role,
+        request: Request,
+    ) -> Result<Answered, AnswerError>
+        ensures { HasTaken D.allows directory.old directory.new (OutcomeOf state.old self.now.pending
+            (asked_of (config_view self.now.config) state.old self.now.pending (request_view request) (role_view role))) state.new result }
+    {
+        match update_in(request) {
+            Ok(update) => self.ask_update(state, directory, role, update),
+            Err(request) => self.take_other(state, directory, &request),
+        }
+    }
+
+    /// Answers a request where the role of the replica is known.
+    #[tactic(auto, using(crate::proofs::Turning::reacted))]
+    fn take_at<D: Directory>(
+        &self,
+        state: &mut State,
+        directory: &mut D,
+        role: Role,
+        request: Request,
+    ) -> Result<Answered, AnswerError>
+        ensures { HasTaken D.allows directory.old directory.new (OutcomeOf state.old self.now.pending
+            (asked (config_view self.now.config) state.old self.now.pending (request_view request) (role_view role))) state.new result }
+    {
+        if is_recovering(&role) {
+            self.refuse(state, ResultCode::UNAVAILABLE)
+        } else {
+            self.take_served(state, directory, role, request)
+        }
+    }
+
+    /// Asks about a request that has passed its controls, and answers it.
+    #[tactic(auto, using(crate::proofs::Turning::role_then))]
+    fn take_request<D: Directory>(
+        &self,
+        state: &mut State,
+        directory: &mut D,
+        request: Request,
+    ) -> Result<Answered, AnswerError>
+        requires kind { self.now.pending.answering ≡ answering_of (request_view request) }
+        ensures { HasTaken D.allows directory.old directory.new
+            (Inquiry (config_view self.now.config) state.old self.now.pending.id (request_view request) self.now.pending.named) state.new result }
+    {
+        let role = ask_role(self.alloc, directory);
+        self.take_at(state, directory, role, request)
+    }
 }
 
 /// What a session makes of one message: the octets of the responses, and whether the session goes on. A message that is no request gets the
@@ -216,7 +202,12 @@ pub fn take<D: Directory>(
             code,
         } => refuse(alloc, state, id, answering, code),
         Heard::Question { pending, request } => {
-            take_request(alloc, config, state, directory, pending, request)
+            let task = Task {
+                alloc,
+                config: *config,
+                pending,
+            };
+            task.take_request(state, directory, request)
         }
     }
 }

@@ -1,244 +1,162 @@
 //! An update, asked for and answered. An update and the role of the replica flow in; the octets of the response flow out, and the session's
 //! state after it stays. Reads are not here.
-ghost use Rattle.std.specs.Prelude.{◌≡◌, ◌+◌, ◌∷◌, [], string_bytes, None};
+ghost use Rattle.std.specs.Prelude.{◌≡◌, ◌∷◌, [], None};
 ghost use Rattle.session_talk.specs.dir_store.View.{reply_view};
 ghost use Rattle.session_talk.specs.ldap_op.View.{update_view};
 ghost use Rattle.session_talk.specs.View.{role_view, ended_view};
-ghost use Rattle.message_rules.specs.Messages.{referral_to};
 ghost use Rattle.session_rules.specs.Responses.{done_message};
-ghost use Rattle.session_rules.specs.Session.{an_update, refused, refused_with, identity_refused, after_update, requests_after, update_as, update_at, update_by};
-ghost use Rattle.session_rules.specs.Taken.{AreSaid, IsDone, HasTaken};
-ghost use Rattle.session_rules.specs.Turns.{Outcome};
+ghost use Rattle.session_rules.specs.Session.{an_update, after_update, requests_after, update_as, update_at, update_by};
+ghost use Rattle.session_rules.specs.Taken.{AreSaid, IsDone, HasTaken, OutcomeOf};
 ghost use Rattle.session_rules.specs.View.{config_view};
 
 use crate::answered::{Answered, Next};
-use crate::config::Config;
 use crate::pending::Pending;
-use crate::responses::{result_of, say, say_code, say_numbered};
+use crate::responses::{result_of, say_numbered};
 use crate::state::State;
-use message_rules::{
-    AnswerError, Answering, GREATEST, Identity, ResultCode, referral_to, response_to, value_for,
-};
-use session_talk::{Client, Directory, Ended, Reply, Role, Update};
-use std::alloc::Global;
+use crate::task::Task;
+use message_rules::{AnswerError, GREATEST, Identity, ResultCode, response_to, value_for};
+use session_talk::{Client, Directory, Ended, Reply, Role, Update, named_client};
 
-/// Who a session is bound as once a request of this kind was refused.
-fn identity_refused(identity: Identity, answering: Answering) -> Identity
-    ensures { result ≡ identity_refused identity answering }
-{
-    match answering {
-        Answering::Bind => Identity::Anonymous,
-        Answering::Search
-        | Answering::Modify
-        | Answering::Add
-        | Answering::Delete
-        | Answering::ModifyDn
-        | Answering::Compare
-        | Answering::Extended => identity,
-    }
-}
-
-/// Refuses a request of this kind by a code alone.
-pub fn refuse(
-    alloc: Global,
-    state: &mut State,
-    id: u32,
-    answering: Answering,
-    code: ResultCode,
-) -> Result<Answered, AnswerError>
-    ensures { IsDone (refused_with state.old id answering code) state.new result }
-{
-    state.identity = identity_refused(state.identity, answering);
-    say_code(alloc, id, answering, code)
-}
-
-/// Sends a request of this kind to where updates are made.
-fn refer(
-    alloc: Global,
-    state: &mut State,
-    id: u32,
-    answering: Answering,
-    uri: String,
-) -> Result<Answered, AnswerError>
-    ensures { IsDone (refused state.old id answering (referral_to (string_bytes uri))) state.new result }
-{
-    state.identity = identity_refused(state.identity, answering);
-    let referral = referral_to(alloc, uri)?;
-    say(alloc, id, response_to(answering, referral, None))
-}
-
-/// The response to an update that was made or refused.
-fn say_done(
-    alloc: Global,
-    pending: Pending,
-    number: u64,
-    reply: Reply,
-) -> Result<Answered, AnswerError>
-    ensures { AreSaid (done_message pending.id pending.answering pending.named.number number (reply_view reply) ∷ []) Next.GoesOn result }
-{
-    let value = value_for(alloc, pending.answering, number)?;
-    let response = response_to(pending.answering, result_of(alloc, reply), value);
-    say_numbered(alloc, pending.id, response, pending.named.number, number)
-}
-
-/// What an update that was asked came to.
-fn end_update(
-    alloc: Global,
-    state: &mut State,
-    pending: Pending,
-    ended: Ended,
-) -> Result<Answered, AnswerError>
-    ensures { IsDone (after_update state.old pending.id pending.answering pending.named (ended_view ended)) state.new result }
-{
-    let Pending { id, answering, .. } = pending;
-    match ended {
-        Ended::Done { number, reply } => {
-            state.floor = state.floor.max(number);
-            say_done(alloc, pending, number, reply)
-        }
-        Ended::Stale => refuse(
-            alloc,
-            state,
+impl Task<'_> {
+    /// The response to the update, which was made or refused under this number.
+    fn say_done(&self, number: u64, reply: Reply) -> Result<Answered, AnswerError>
+        ensures { AreSaid (done_message self.now.pending.id self.now.pending.answering self.now.pending.named.number number (reply_view reply) ∷ [])
+            Next.GoesOn result }
+    {
+        let Pending {
             id,
             answering,
-            ResultCode::UNWILLING_TO_PERFORM,
-        ),
-        Ended::Lost => refuse(alloc, state, id, answering, ResultCode::OTHER),
-        Ended::NoMemory => refuse(alloc, state, id, answering, ResultCode::OTHER),
+            named,
+        } = self.pending;
+        let value = value_for(self.alloc, answering, number)?;
+        let response = response_to(answering, result_of(self.alloc, reply), value);
+        say_numbered(self.alloc, id, response, named.number, number)
     }
-}
 
-/// Asks for an update as a client's request of this number, after which the session's own client has made so many requests.
-fn ask_gate<D: Directory>(
-    alloc: Global,
-    state: &mut State,
-    directory: &mut D,
-    pending: Pending,
-    client: Client,
-    number: u64,
-    requests: u64,
-    update: Update,
-) -> Result<Answered, AnswerError>
-    requires requests { requests ≡ requests_after state.old.requests pending.named.request }
-    ensures { HasTaken D.allows directory.old directory.new
-        (Outcome state.old pending.id pending.answering pending.named (an_update client number (update_view update))) state.new result }
-{
-    state.requests = requests;
-    let ended = directory.update(alloc, client, number, update);
-    end_update(alloc, state, pending, ended)
-}
-
-/// Asks for an update as the next request of the session's own client, while it has numbers.
-fn ask_as_own<D: Directory>(
-    alloc: Global,
-    config: &Config,
-    state: &mut State,
-    directory: &mut D,
-    pending: Pending,
-    update: Update,
-) -> Result<Answered, AnswerError>
-    requires own { pending.named.request ≡ None }
-    ensures { HasTaken D.allows directory.old directory.new (Outcome state.old pending.id pending.answering pending.named
-        (update_as (config_view config.now) state.old pending.id pending.answering (update_view update) None)) state.new result }
-{
-    if state.requests < GREATEST {
-        let number = state.requests + 1;
-        ask_gate(
-            alloc,
-            state,
-            directory,
-            pending,
-            config.client(),
-            number,
-            number,
-            update,
-        )
-    } else {
-        refuse(
-            alloc,
-            state,
-            pending.id,
-            pending.answering,
-            ResultCode::OTHER,
-        )
+    /// What the update came to, once it was asked.
+    fn end(&self, state: &mut State, ended: Ended) -> Result<Answered, AnswerError>
+        ensures { IsDone (after_update state.old self.now.pending.id self.now.pending.answering self.now.pending.named (ended_view ended))
+            state.new result }
+    {
+        match ended {
+            Ended::Done { number, reply } => {
+                state.floor = state.floor.max(number);
+                self.say_done(number, reply)
+            }
+            Ended::Stale => self.refuse(state, ResultCode::UNWILLING_TO_PERFORM),
+            Ended::Lost => self.refuse(state, ResultCode::OTHER),
+            Ended::NoMemory => self.refuse(state, ResultCode::OTHER),
+        }
     }
-}
 
-/// Asks for an update as the client that its control names, or as the session's own.
-fn ask_as<D: Directory>(
-    alloc: Global,
-    config: &Config,
-    state: &mut State,
-    directory: &mut D,
-    pending: Pending,
-    update: Update,
-) -> Result<Answered, AnswerError>
-    ensures { HasTaken D.allows directory.old directory.new (Outcome state.old pending.id pending.answering pending.named
-        (update_as (config_view config.now) state.old pending.id pending.answering (update_view update) pending.named.request)) state.new result }
-{
-    match pending.named.request {
-        Some((client, number)) => {
-            let requests = state.requests;
-            ask_gate(
-                alloc,
+    /// Asks for the update as a client's request of this number, after which the session's own client has made so many requests.
+    #[tactic(auto, using(crate::proofs::Turning::one_update))]
+    fn ask_gate<D: Directory>(
+        &self,
+        state: &mut State,
+        directory: &mut D,
+        client: Client,
+        number: u64,
+        requests: u64,
+        update: Update,
+    ) -> Result<Answered, AnswerError>
+        requires requests { requests ≡ requests_after state.old.requests self.now.pending.named.request }
+        ensures { HasTaken D.allows directory.old directory.new
+            (OutcomeOf state.old self.now.pending (an_update client number (update_view update))) state.new result }
+    {
+        state.requests = requests;
+        let ended = directory.update(self.alloc, client, number, update);
+        self.end(state, ended)
+    }
+
+    /// Asks for the update as the next request of the session's own client, while it has numbers.
+    #[tactic(auto, using(crate::proofs::Turning::reacted, std::proofs::lemmas::Bool::Decides::nat_tests))]
+    fn ask_as_own<D: Directory>(
+        &self,
+        state: &mut State,
+        directory: &mut D,
+        update: Update,
+    ) -> Result<Answered, AnswerError>
+        requires own { self.now.pending.named.request ≡ None }
+        ensures { HasTaken D.allows directory.old directory.new (OutcomeOf state.old self.now.pending
+            (update_as (config_view self.now.config) state.old self.now.pending (update_view update) None)) state.new result }
+    {
+        if state.requests < GREATEST {
+            let number = state.requests + 1;
+            self.ask_gate(
                 state,
                 directory,
-                pending,
-                Client::named(client),
+                self.config.client(),
                 number,
-                requests,
+                number,
                 update,
             )
+        } else {
+            self.refuse(state, ResultCode::OTHER)
         }
-        None => ask_as_own(alloc, config, state, directory, pending, update),
     }
-}
 
-/// Asks for the manager's update where updates are made, and refuses it elsewhere.
-fn ask_at<D: Directory>(
-    alloc: Global,
-    config: &Config,
-    state: &mut State,
-    directory: &mut D,
-    pending: Pending,
-    role: Role,
-    update: Update,
-) -> Result<Answered, AnswerError>
-    ensures { HasTaken D.allows directory.old directory.new (Outcome state.old pending.id pending.answering pending.named
-        (update_at (config_view config.now) state.old pending.id pending.answering pending.named (update_view update) (role_view role)))
-        state.new result }
-{
-    let Pending { id, answering, .. } = pending;
-    match role {
-        Role::Primary => ask_as(alloc, config, state, directory, pending, update),
-        Role::Backup { uri } => refer(alloc, state, id, answering, uri),
-        Role::Changing => refuse(alloc, state, id, answering, ResultCode::UNAVAILABLE),
-        Role::Recovering => refuse(alloc, state, id, answering, ResultCode::UNAVAILABLE),
+    /// Asks for the update as the client that its control names, or as the session's own.
+    fn ask_as<D: Directory>(
+        &self,
+        state: &mut State,
+        directory: &mut D,
+        update: Update,
+    ) -> Result<Answered, AnswerError>
+        ensures { HasTaken D.allows directory.old directory.new (OutcomeOf state.old self.now.pending (update_as (config_view self.now.config)
+            state.old self.now.pending (update_view update) self.now.pending.named.request)) state.new result }
+    {
+        match self.pending.named.request {
+            Some((client, number)) => {
+                let requests = state.requests;
+                self.ask_gate(
+                    state,
+                    directory,
+                    named_client(client),
+                    number,
+                    requests,
+                    update,
+                )
+            }
+            None => self.ask_as_own(state, directory, update),
+        }
     }
-}
 
-/// Asks for an update, if it is the manager who wants it.
-pub fn ask_update<D: Directory>(
-    alloc: Global,
-    config: &Config,
-    state: &mut State,
-    directory: &mut D,
-    pending: Pending,
-    role: Role,
-    update: Update,
-) -> Result<Answered, AnswerError>
-    ensures { HasTaken D.allows directory.old directory.new (Outcome state.old pending.id pending.answering pending.named
-        (update_by state.old.identity (config_view config.now) state.old pending.id pending.answering pending.named (update_view update)
-        (role_view role))) state.new result }
-{
-    match state.identity {
-        Identity::Manager => ask_at(alloc, config, state, directory, pending, role, update),
-        Identity::Anonymous => refuse(
-            alloc,
-            state,
-            pending.id,
-            pending.answering,
-            ResultCode::INSUFFICIENT_ACCESS_RIGHTS,
-        ),
+    /// Asks for the manager's update where updates are made, and refuses it elsewhere.
+    #[tactic(auto, using(crate::proofs::Turning::reacted))]
+    fn ask_at<D: Directory>(
+        &self,
+        state: &mut State,
+        directory: &mut D,
+        role: Role,
+        update: Update,
+    ) -> Result<Answered, AnswerError>
+        ensures { HasTaken D.allows directory.old directory.new (OutcomeOf state.old self.now.pending
+            (update_at (config_view self.now.config) state.old self.now.pending (update_view update) (role_view role))) state.new result }
+    {
+        match role {
+            Role::Primary => self.ask_as(state, directory, update),
+            Role::Backup { uri } => self.refer(state, uri),
+            Role::Changing => self.refuse(state, ResultCode::UNAVAILABLE),
+            Role::Recovering => self.refuse(state, ResultCode::UNAVAILABLE),
+        }
+    }
+
+    /// Asks for the update, if it is the manager who wants it.
+    #[tactic(auto, using(crate::proofs::Turning::reacted))]
+    pub fn ask_update<D: Directory>(
+        &self,
+        state: &mut State,
+        directory: &mut D,
+        role: Role,
+        update: Update,
+    ) -> Result<Answered, AnswerError>
+        ensures { HasTaken D.allows directory.old directory.new (OutcomeOf state.old self.now.pending (update_by state.old.identity
+            (config_view self.now.config) state.old self.now.pending (update_view update) (role_view role))) state.new result }
+    {
+        match state.identity {
+            Identity::Manager => self.ask_at(state, directory, role, update),
+            Identity::Anonymous => self.refuse(state, ResultCode::INSUFFICIENT_ACCESS_RIGHTS),
+        }
     }
 }

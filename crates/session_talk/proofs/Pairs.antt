@@ -1,5 +1,5 @@
 -- A look and a gate along a talk with both. Facts on definitions flow in and out.
-use Rattle.std.proofs.Common.{◌≡◌, ◌≤◌, ℕ, ◌+◌, min, arith, List, [], ◌∷◌, ap, sym, subst, ◌∙◌}
+use Rattle.std.proofs.Common.{◌≡◌, ◌≤◌, ℕ, ◌+◌, min, arith, List, [], ◌∷◌, ap, subst}
 use Rattle.session_talk.specs.Talk.{Exchange, asked_role, learned, searched, compared, updated, Along, ends, goes}
 use Rattle.session_talk.specs.Pairs.{both, reads_of, asked_of_gate, PairGoesAlong}
 use Rattle.session_talk.specs.Counting.{updates_of, updates_in, greatest_count, Counts, PairCounts}

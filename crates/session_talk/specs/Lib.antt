@@ -14,3 +14,4 @@ pub use Rattle.dir_search.specs.index_choice as index_choice
 pub use Rattle.dir_search.specs.dir_tree as dir_tree
 pub use Rattle.dir_search.specs.dir_store as dir_store
 pub use Rattle.dir_search.specs as dir_search
+pub use Rattle.vr_state.specs as vr_state

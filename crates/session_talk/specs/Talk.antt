@@ -5,7 +5,7 @@ use Rattle.dir_search.specs.ldap_msg.Messages.{SearchRequestValue, CompareReques
 use Rattle.dir_search.specs.ldap_op.Values.{OpValue}
 use Rattle.dir_search.specs.dir_store.Replies.{ReplyModel}
 use Rattle.dir_search.specs.Answer.{Answer}
-use Rattle.session_talk.specs.declared.client.Client.{Client}
+use Rattle.vr_state.specs.declared.words.Client.{Client}
 use Rattle.session_talk.specs.declared.outcomes.Found.{Found}
 use Rattle.session_talk.specs.declared.outcomes.LookError.{LookError}
 use Rattle.session_talk.specs.declared.outcomes.LookError.TheVariants.{NotYet, Gone, NoMemory}

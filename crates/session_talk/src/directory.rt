@@ -8,11 +8,11 @@ ghost use Rattle.dir_search.specs.dir_store.View.{reply_view};
 ghost use Rattle.session_talk.specs.Talk.{Exchange, asked_role, learned, searched, compared, looked, updated};
 ghost use Rattle.session_talk.specs.View.{role_view, ended_view};
 
-use crate::client::Client;
 use crate::gate::{Ended, Role};
 use crate::outcomes::{Found, LookError};
 use dir_search::{CompareRequest, Reply, SearchAnswer, SearchRequest, Update};
 use std::alloc::Global;
+use vr_state::words::Client;
 
 /// A directory that is read and updated. A look and a gate are one, as a pair.
 pub trait Directory {

@@ -6,9 +6,9 @@ ghost use Rattle.session_talk.specs.Counting.{Counts};
 ghost use Rattle.session_talk.specs.Talk.{Exchange, asked_role, updated};
 ghost use Rattle.session_talk.specs.View.{role_view, ended_view};
 
-use crate::client::Client;
 use dir_search::{Reply, Update};
 use std::alloc::Global;
+use vr_state::words::Client;
 
 /// What a replica is to an update.
 #[derive(Debug, Drop)]

@@ -10,7 +10,7 @@ mod outcomes;
 mod pair;
 mod reading;
 
-pub use client::Client;
+pub use client::{named_client, session_client};
 pub use dir_search::{
     AddRequest, Attribute, CompareRequest, DerefAliases, IndexError, Indexes, Name, NameError, Op,
     Reply, ResultCode, Schema, Scope, SearchAnswer, SearchRequest, Store, Update, are_same,
@@ -22,3 +22,4 @@ pub use look::Look;
 pub use outcomes::{Found, LookError};
 pub use pair::{pair_counts, pair_goes_along};
 pub use reading::{compare_at, search_at};
+pub use vr_state::words::Client;

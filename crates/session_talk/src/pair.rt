@@ -2,13 +2,13 @@
 ghost use Rattle.session_talk.specs.Counting.{PairCounts};
 ghost use Rattle.session_talk.specs.Pairs.{PairGoesAlong};
 
-use crate::client::Client;
 use crate::directory::Directory;
 use crate::gate::{Ended, Gate, Role};
 use crate::look::Look;
 use crate::outcomes::{Found, LookError};
 use dir_search::{CompareRequest, Reply, SearchAnswer, SearchRequest, Update};
 use std::alloc::Global;
+use vr_state::words::Client;
 
 impl<L: Look, G: Gate<L::Told>> Directory for (L, G) {
     ghost use Rattle.session_talk.specs.Pairs.{both};

@@ -1,4 +1,4 @@
-use Rattle.std.proofs.Common.{ℕ, nat_lt, List, Option, refl, ap₂, ◌∙◌, arith, lt-ltb}
+use Rattle.std.proofs.Common.{nat_lt, List, Option, refl, ap₂, ◌∙◌, arith, lt-ltb}
 use Rattle.std.specs.Arc.{arc_value}
 use Rattle.vr_state.specs.State.{State}
 use Rattle.vr_state.specs.declared.words.Entry.{Entry}

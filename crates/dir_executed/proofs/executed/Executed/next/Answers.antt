@@ -1,4 +1,4 @@
-use Rattle.std.proofs.Common.{◌≡◌, ◌+◌, ◌∷◌, ◌++◌, [], ap, ◌∙◌, arith}
+use Rattle.std.proofs.Common.{◌+◌, ◌∷◌, ◌++◌, [], ap, ◌∙◌, arith}
 use Rattle.dir_executed.proofs.Folds.{fold_pushed}
 use Rattle.dir_executed.proofs.executed.Executed.next.Goals as goal
 

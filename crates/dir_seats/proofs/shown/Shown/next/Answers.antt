@@ -1,4 +1,4 @@
-use Rattle.std.proofs.Common.{◌≡◌, ◌+◌, ◌∷◌, ◌++◌, [], ap, ◌∙◌, arith}
+use Rattle.std.proofs.Common.{◌+◌, ◌∷◌, ◌++◌, [], ap, ◌∙◌, arith}
 use Rattle.dir_seats.proofs.Shows.{fold_shown}
 use Rattle.dir_seats.proofs.shown.Shown.next.Goals as goal
 
