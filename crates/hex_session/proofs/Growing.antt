@@ -2,11 +2,10 @@
 use Rattle.std.proofs.Common.{◌≡◌, ℕ, ◌+◌, ◌<◌, List, [], ◌∷◌, ◌++◌, Option, None, Some, refl, ap, sym, subst, ◌∙◌, map, length, take, drop, get_or, append_assoc, take-append-drop}
 use Rattle.std.proofs.lemmas.List.{take_more}
 use Rattle.std.specs.Io.KnownBytes.{Appends}
-use Rattle.std.proofs.KnownBytes.{Appends-nil}
 use Rattle.ldap_session.specs.ldap_msg.Messages.{MessageValue}
 use Rattle.ldap_session.specs.ldap_msg.Written.{message_bytes}
 use Rattle.hex_session.specs.Lines.{hex_line, hex_lines, message_lines}
-use Rattle.hex_session.specs.Faults.{IsWriteFault, IsCutOff}
+use Rattle.hex_session.specs.Faults.{IsCutOff}
 use Rattle.hex_session.specs.declared.fault.LineFault.{LineFault}
 
 pub append-nil : {A : Type 0} (xs : List A) → xs ++ [] ≡ xs
@@ -76,7 +75,3 @@ line_cut items list i x octets a b d fault lt is whose p q = record {
         ∙ append_assoc (hex_lines (map items (take i list)) ++ q.taken) q.front.rest (hex_lines (map items (drop (i + 1) list)));
   };
 }
-
--- nothing of octets is written
-pub none_written : (a : Option (List ℕ)) (octets : List ℕ) (fault : LineFault) → IsWriteFault fault → IsCutOff a a octets fault
-none_written a octets fault kind = record { kind = kind; taken = []; appended = Appends-nil a; front = record { rest = octets; is = refl } }

@@ -35,33 +35,6 @@ fn put_answered<W: Write>(
     Ok(answered.next)
 }
 
-/// Answers all whole messages that are there.
-fn answer_ready<W: Write, D: Directory>(
-    alloc: Global,
-    session: &mut Session,
-    config: &Config,
-    directory: &mut D,
-    output: &mut W,
-) -> Result<Next, LineFault>
-    ensures ok { IfOk result (λ next. HasWorked D.allows (config_view config.now) directory.old directory.new (session_view session.old) (session_view session.new)
-        (W.contents output.old) (W.contents output.new) next) }
-    ensures err { IfErr result (λ fault. HasFailed D.allows (config_view config.now) directory.old directory.new (session_view session.old)
-        (W.contents output.old) (W.contents output.new) fault) }
-{
-    loop {
-        match session.answer(alloc, config, directory) {
-            Ok(None) => return Ok(Next::GoesOn),
-            Ok(Some(answered)) => match put_answered(alloc, &answered, output) {
-                Ok(Next::GoesOn) => {}
-                Ok(Next::Unbound) => return Ok(Next::Unbound),
-                Ok(Next::Disconnected) => return Ok(Next::Disconnected),
-                Err(fault) => return Err(fault),
-            },
-            Err(error) => return Err(LineFault::from(error)),
-        }
-    }
-}
-
 /// Sees to it that what is written goes on its way before more input is awaited.
 fn flushed<W: Write>(output: &mut W, next: Next) -> Result<Next, LineFault>
     ensures ok { IfOk result (λ after. HasFlushed (W.contents output.old) (W.contents output.new) next after) }
@@ -73,52 +46,83 @@ fn flushed<W: Write>(output: &mut W, next: Next) -> Result<Next, LineFault>
     }
 }
 
-/// Answers the messages that a piece of the stream completes.
-fn answer_piece<W: Write, D: Directory>(
+/// What each answer of a session needs beside the session.
+#[derive(Clone, Copy)]
+struct Terms<'a> {
     alloc: Global,
-    session: &mut Session,
-    piece: &[u8],
-    config: &Config,
-    directory: &mut D,
-    output: &mut W,
-) -> Result<Next, LineFault>
-    ensures ok { IfOk result (λ next. HasFed D.allows (config_view config.now) directory.old directory.new (session_view session.old) (session_view session.new) piece.now
-        (W.contents output.old) (W.contents output.new) next) }
-    ensures err { IfErr result (λ fault. HasFailedAt D.allows (config_view config.now) directory.old directory.new (session_view session.old) piece.now
-        (W.contents output.old) (W.contents output.new) fault) }
-{
-    match session.feed(piece) {
-        Ok(()) => match answer_ready(alloc, session, config, directory, output) {
-            Ok(next) => flushed(output, next),
-            Err(fault) => Err(fault),
-        },
-        Err(_) => Err(LineFault::NoMemory),
-    }
+    config: Config<'a>,
 }
 
-/// Answers what the next line is.
-fn answer_line<W: Write, D: Directory>(
-    alloc: Global,
-    session: &mut Session,
-    line: Line,
-    config: &Config,
-    directory: &mut D,
-    output: &mut W,
-) -> Result<Flow, LineFault>
-    ensures ok { IfOk result (λ flow. Takes D.allows (config_view config.now) directory.old directory.new (session_view session.old) (session_view session.new) line
-        (W.contents output.old) (W.contents output.new) flow) }
-    ensures err { IfErr result (λ fault. FailsAt D.allows (config_view config.now) directory.old directory.new (session_view session.old) line
-        (W.contents output.old) (W.contents output.new) fault) }
-{
-    match line {
-        Line::End => Ok(Flow::Ends(session.end_of_input())),
-        Line::Blank => Ok(Flow::Goes),
-        Line::Piece(piece) => {
-            match answer_piece(alloc, session, &piece, config, directory, output)? {
+impl Terms<'_> {
+    /// Answers all whole messages that are there.
+    fn answer_ready<W: Write, D: Directory>(
+        &self,
+        session: &mut Session,
+        directory: &mut D,
+        output: &mut W,
+    ) -> Result<Next, LineFault>
+        ensures ok { IfOk result (λ next. HasWorked D.allows (config_view self.now.config) directory.old directory.new
+            (session_view session.old) (session_view session.new) (W.contents output.old) (W.contents output.new) next) }
+        ensures err { IfErr result (λ fault. HasFailed D.allows (config_view self.now.config) directory.old directory.new
+            (session_view session.old) (W.contents output.old) (W.contents output.new) fault) }
+    {
+        loop {
+            match session.answer(self.alloc, &self.config, directory) {
+                Ok(None) => return Ok(Next::GoesOn),
+                Ok(Some(answered)) => match put_answered(self.alloc, &answered, output) {
+                    Ok(Next::GoesOn) => {}
+                    Ok(Next::Unbound) => return Ok(Next::Unbound),
+                    Ok(Next::Disconnected) => return Ok(Next::Disconnected),
+                    Err(fault) => return Err(fault),
+                },
+                Err(error) => return Err(LineFault::from(error)),
+            }
+        }
+    }
+
+    /// Answers the messages that a piece of the stream completes.
+    fn answer_piece<W: Write, D: Directory>(
+        &self,
+        session: &mut Session,
+        piece: &[u8],
+        directory: &mut D,
+        output: &mut W,
+    ) -> Result<Next, LineFault>
+        ensures ok { IfOk result (λ next. HasFed D.allows (config_view self.now.config) directory.old directory.new
+            (session_view session.old) (session_view session.new) piece.now (W.contents output.old) (W.contents output.new) next) }
+        ensures err { IfErr result (λ fault. HasFailedAt D.allows (config_view self.now.config) directory.old directory.new
+            (session_view session.old) piece.now (W.contents output.old) (W.contents output.new) fault) }
+    {
+        match session.feed(piece) {
+            Ok(()) => match self.answer_ready(session, directory, output) {
+                Ok(next) => flushed(output, next),
+                Err(fault) => Err(fault),
+            },
+            Err(_) => Err(LineFault::NoMemory),
+        }
+    }
+
+    /// Answers what the next line is.
+    fn answer_line<W: Write, D: Directory>(
+        &self,
+        session: &mut Session,
+        line: Line,
+        directory: &mut D,
+        output: &mut W,
+    ) -> Result<Flow, LineFault>
+        ensures ok { IfOk result (λ flow. Takes D.allows (config_view self.now.config) directory.old directory.new
+            (session_view session.old) (session_view session.new) line (W.contents output.old) (W.contents output.new) flow) }
+        ensures err { IfErr result (λ fault. FailsAt D.allows (config_view self.now.config) directory.old directory.new
+            (session_view session.old) line (W.contents output.old) (W.contents output.new) fault) }
+    {
+        match line {
+            Line::End => Ok(Flow::Ends(session.end_of_input())),
+            Line::Blank => Ok(Flow::Goes),
+            Line::Piece(piece) => match self.answer_piece(session, &piece, directory, output)? {
                 Next::GoesOn => Ok(Flow::Goes),
                 Next::Unbound => Ok(Flow::Ends(SessionEnd::Unbound)),
                 Next::Disconnected => Ok(Flow::Ends(SessionEnd::Disconnected)),
-            }
+            },
         }
     }
 }
@@ -139,10 +143,14 @@ pub fn answer_lines<R: BufRead, W: Write, D: Directory>(
     ensures err { IfErr result (λ fault. Fails D.allows (config_view config.now) directory.old directory.new (R.remaining input.old)
         (W.contents output.old) (W.contents output.new) fault) }
 {
+    let terms = Terms {
+        alloc,
+        config: *config,
+    };
     let mut session = Session::new(alloc);
     for number in 1..u64::MAX {
         let line = next_piece(alloc, input, number)?;
-        match answer_line(alloc, &mut session, line, config, directory, output) {
+        match terms.answer_line(&mut session, line, directory, output) {
             Ok(Flow::Goes) => {}
             Ok(Flow::Ends(end)) => return Ok(end),
             Err(fault) => return Err(fault),

@@ -1,27 +1,27 @@
 use Rattle.ldap_session.specs.session_rules.View.{config_view}
 use Rattle.ldap_session.specs.View.{session_view}
 use Rattle.hex_session.proofs.Worked.{fed_if, not_flushed_if, fed_failed, not_fed}
-use Rattle.hex_session.proofs.answering.answer_piece.Goals as goal
+use Rattle.hex_session.proofs.answering.Terms.answer_piece.Goals as goal
 
 pub returns-in-Ok-answer_ready-clause-ok : goal.returns-in-Ok-answer_ready-clause-ok
 returns-in-Ok-answer_ready-clause-ok g c =
-    fed_if g.D.Directory.allows (config_view c.args.config.now) c.args.directory.now c.answer_ready.new.directory
+    fed_if g.D.Directory.allows (config_view c.args.self.now.config) c.args.directory.now c.answer_ready.new.directory
     (session_view c.args.session.now) (session_view c.feed.new.self) (session_view c.answer_ready.new.session) c.args.piece.now
     (g.W.Write.contents c.args.output.now) (g.W.Write.contents c.answer_ready.new.output) (g.W.Write.contents c.flushed.new.output)
     c.in-Ok-answer_ready.next c.flushed.result c.in-Ok.ensures.stream c.feed.ensures.state c.in-Ok-answer_ready.ensures.ok c.flushed.ensures.ok
 
 pub returns-in-Ok-answer_ready-clause-err : goal.returns-in-Ok-answer_ready-clause-err
 returns-in-Ok-answer_ready-clause-err g c =
-    not_flushed_if g.D.Directory.allows (config_view c.args.config.now) c.args.directory.now c.answer_ready.new.directory
+    not_flushed_if g.D.Directory.allows (config_view c.args.self.now.config) c.args.directory.now c.answer_ready.new.directory
     (session_view c.args.session.now) (session_view c.feed.new.self) (session_view c.answer_ready.new.session) c.args.piece.now
     (g.W.Write.contents c.args.output.now) (g.W.Write.contents c.answer_ready.new.output) (g.W.Write.contents c.flushed.new.output)
     c.in-Ok-answer_ready.next c.flushed.result c.in-Ok.ensures.stream c.feed.ensures.state c.in-Ok-answer_ready.ensures.ok c.flushed.ensures.err
 
 pub returns-in-Err-answer_ready-clause-err : goal.returns-in-Err-answer_ready-clause-err
 returns-in-Err-answer_ready-clause-err g c =
-    fed_failed g.D.Directory.allows (config_view c.args.config.now) c.args.directory.now c.answer_ready.new.directory
+    fed_failed g.D.Directory.allows (config_view c.args.self.now.config) c.args.directory.now c.answer_ready.new.directory
     (session_view c.args.session.now) (session_view c.feed.new.self) c.args.piece.now (g.W.Write.contents c.args.output.now) (g.W.Write.contents c.answer_ready.new.output) c.in-Err-answer_ready.fault
     c.in-Ok.ensures.stream c.feed.ensures.state c.in-Err-answer_ready.ensures.err
 
 pub returns-in-Err-clause-err : goal.returns-in-Err-clause-err
-returns-in-Err-clause-err g c = not_fed g.D.Directory.allows (config_view c.args.config.now) c.args.directory.now (session_view c.args.session.now) c.args.piece.now (g.W.Write.contents c.args.output.now)
+returns-in-Err-clause-err g c = not_fed g.D.Directory.allows (config_view c.args.self.now.config) c.args.directory.now (session_view c.args.session.now) c.args.piece.now (g.W.Write.contents c.args.output.now)
