@@ -1,5 +1,5 @@
 -- Wire, the lowest floor: octets, and how large a number is that they spell.
-use Rattle.std.proofs.Common.{◌≡◌, ℕ, zero, suc, ◌+◌, ◌*◌, ◌^◌, ◌<◌, ◌≤◌, List, [], ◌∷◌, length, take, drop, get_or, map, arith, pow-add, add-zero}
+use Rattle.std.proofs.Common.{◌≡◌, ℕ, zero, suc, ◌+◌, ◌*◌, ◌^◌, ◌<◌, ◌≤◌, List, [], ◌∷◌, length, take, get_or, map, arith, pow-add, add-zero}
 use Rattle.std.proofs.Math.Pow.{pow_mono}
 use Rattle.std.proofs.lemmas.List.Sums.{fold_push}
 use Rattle.std.proofs.lemmas.List.{take_more, map_push}
@@ -33,11 +33,6 @@ octets-take zero bs h = tt
 octets-take (suc n) [] h = tt
 octets-take (suc n) (b ∷ bs) h = (h.0, octets-take n bs h.1)
 
-pub octets-drop : (n : ℕ) (bs : List ℕ) → AreOctets bs → AreOctets (drop n bs)
-octets-drop zero bs h = h
-octets-drop (suc n) [] h = tt
-octets-drop (suc n) (b ∷ bs) h = octets-drop n bs h.1
-
 pub fold_below : (n k : ℕ) (bs : List ℕ) → n < 2 ^ k → AreOctets bs → fold (λ n b. n * 256 + b) n bs < 2 ^ (k + 8 * length bs)
 fold_below n k [] small octets = rw add-zero small
 fold_below n k (b ∷ bs) small octets =
@@ -53,11 +48,3 @@ number_positive a bs low octets short =
     let below : 7 + 8 * length bs ≤ 63 = omega arith in
     let most : 2 ^ (7 + 8 * length bs) ≤ 2 ^ 63 = pow_mono below in
     omega (arith, fold_below (0 * 256 + a) 7 bs first octets, most)
-
--- four octets at most
-pub number_short : (bs : List ℕ) → AreOctets bs → length bs ≤ 4 → number bs < 2 ^ 32
-number_short bs octets short =
-    let below : 0 + 8 * length bs ≤ 32 = omega arith in
-    let most : 2 ^ (0 + 8 * length bs) ≤ 2 ^ 32 = pow_mono below in
-    let none : 0 < 2 ^ 0 = omega arith in
-    omega (arith, fold_below 0 0 bs none octets, most)

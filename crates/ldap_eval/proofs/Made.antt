@@ -1,9 +1,9 @@
 -- What binding makes of a filter, arm by arm. Facts on trees and lists flow in and out; no value of the program is here.
-use Rattle.std.proofs.Common.{ℕ, ◌+◌, ◌<◌, List, [], ◌∷◌, ◌++◌, Bool, true, false, Option, Some, None, Vec, Box, Global, String, ◌≡◌, refl, ap, sym, subst, ◌∙◌, map, length, take, get_or, string_bytes}
+use Rattle.std.proofs.Common.{ℕ, ◌+◌, ◌<◌, List, [], ◌∷◌, ◌++◌, Bool, true, false, Option, Some, None, Vec, Box, Global, ◌≡◌, refl, ap, sym, subst, ◌∙◌, length, take, get_or}
 use Rattle.std.proofs.lemmas.List.{take_more}
 use Rattle.ldap_filter.specs.Item as filter_item
 use Rattle.ldap_filter.specs.Item.{ExtensibleValue}
-use Rattle.ldap_filter.specs.Tree.{Tree, conj, disj, negation, item, Trees, no_trees, tree}
+use Rattle.ldap_filter.specs.Tree.{Tree, conj, disj, negation, item}
 use Rattle.ldap_filter.specs.View.{view, views, view_step}
 use Rattle.ldap_filter.specs.declared.tree.Filter.{Filter}
 use Rattle.ldap_filter.specs.declared.tree.Filter.TheVariants as filter
@@ -44,10 +44,6 @@ not_made s f x g b y is same boxed h =
     subst (λ (t : Tree). IsMadeOf s t (bound.Not y)) (sym (ap view is ∙ view-Not x))
     (record { part = y; is = refl; hold = subst (λ (z : BoundFilter). IsMadeOf s (view x.value) z) (sym boxed) (subst (λ (z : Filter). IsMadeOf s (view z) b) same h) })
 
--- a filter that is an item
-pub item_made : (s : SchemaModel) (f : Filter) (i : filter_item.Item) (b : BoundFilter) → view f ≡ item i → IsMadeOf s (item i) b → IsMadeOf s (view f) b
-item_made s f i b is h = subst (λ (t : Tree). IsMadeOf s t b) (sym is) h
-
 push_made : (s : SchemaModel) (fs : List Filter) (f : Filter) (bs : List BoundFilter) (b : BoundFilter) → AreMadeOf s (views fs) bs → IsBoundTo s (view f) b → IsMadeOf s (view f) b → AreMadeOf s (views (fs ++ f ∷ [])) (bs ++ b ∷ [])
 push_made s [] f [] b h k m = (k, m, tt)
 push_made s [] f (c1 ∷ bs) b h k m = absurd h
@@ -60,10 +56,6 @@ pub made_more : (s : SchemaModel) (fs : List Filter) (i : ℕ) (f : Filter) (old
 made_more s fs i f old new b lt is pushed h k m =
     subst (λ (xs : List Filter). AreMadeOf s (views xs) new) (sym (take_more fs i f lt ∙ ap (λ (x : Filter). take i fs ++ x ∷ []) (sym is)))
     (subst (λ (bs : List BoundFilter). AreMadeOf s (views (take i fs ++ f ∷ [])) bs) (sym pushed) (push_made s (take i fs) f old b h k m))
-
--- an item whose description is not recognised
-pub unknown_made : (s : SchemaModel) (d : List ℕ) (asked : Item) → find s d ≡ None → IsItemFor s asked (find s d) bound.Undefined
-unknown_made s d asked none = subst (λ (o : Option ℕ). IsItemFor s asked o bound.Undefined) (sym none) refl
 
 -- an item whose description is recognised
 pub item_for : (s : SchemaModel) (d : List ℕ) (asked : Item) (t : ℕ) (b : BoundFilter) → find s d ≡ Some t → IsItemOn s asked t b → IsItemFor s asked (find s d) b

@@ -1,9 +1,9 @@
 -- Extensible items: matches type by type against the item on attributes and on pairs of a name. Facts on lists flow in and out; no value of the
 -- program is here.
-use Rattle.std.proofs.Common.{ℕ, ◌+◌, ◌<◌, ◌≤◌, suc, zero, List, [], ◌∷◌, ◌++◌, Bool, true, false, cond, not, ◌&&◌, ◌||◌, Option, None, Some, is_some, Vec, Global, ◌≡◌, refl, ap, ap₂, sym, subst, ◌∙◌, map, filter, length, drop, slice_get, arith, add-one, append_assoc}
+use Rattle.std.proofs.Common.{ℕ, ◌+◌, ◌<◌, ◌≤◌, suc, zero, List, [], ◌∷◌, ◌++◌, Bool, true, false, cond, not, ◌&&◌, ◌||◌, Option, None, Some, is_some, Vec, Global, ◌≡◌, refl, ap, ap₂, sym, ◌∙◌, map, filter, length, drop, slice_get, arith, add-one, append_assoc}
 use Rattle.std.proofs.lemmas.Option.{slice_get_past}
 use Rattle.std.specs.List.{list_any}
-use Rattle.dir_entry.specs.ldap_schema.Schema.{TypeModel, SchemaModel, find, is_under}
+use Rattle.dir_entry.specs.ldap_schema.Schema.{TypeModel, SchemaModel, find}
 use Rattle.dir_entry.specs.ldap_schema.Rules.{equality_in, equality_of}
 use Rattle.dir_entry.specs.ldap_syntax.declared.rule.Rule.{Rule}
 use Rattle.dir_entry.specs.ldap_match.Item.{equal, is_valid_by, is_of_rule, is_of_type}
@@ -21,7 +21,7 @@ use Rattle.dir_entry.specs.ldap_dn.Pairs.{PairModel, pairs_of}
 use Rattle.dir_entry.specs.Entry.{AttributeModel, KeyedAttribute, shown, attributes_of, IsKeyedBy}
 use Rattle.ldap_eval.specs.Value.{item_on, how_of, some_type, type_of, is_matched, is_looked_at, match_on_entry, match_on_name, match_with, match_of_type, match_by, extensible_value}
 use Rattle.ldap_eval.specs.Made.{is_equality_item, type_with_equality}
-use Rattle.ldap_eval.specs.Bound.{match_on, match_on_name_pair, match_of_entry, value_step, bound_value, leaf_if, matches_from, matches_for, matches_with, IsBoundMatch}
+use Rattle.ldap_eval.specs.Bound.{match_of_entry, value_step, bound_value, leaf_if, matches_from, matches_for, matches_with, IsBoundMatch}
 use Rattle.ldap_eval.specs.declared.bound.Match.{Match}
 use Rattle.ldap_eval.specs.declared.bound.BoundFilter.{BoundFilter}
 use Rattle.ldap_eval.specs.declared.bound.BoundFilter.TheVariants as bound

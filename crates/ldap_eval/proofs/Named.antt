@@ -1,5 +1,5 @@
 -- The pairs of a name, relative name by relative name. Facts on lists flow in and out; no value of the program is here.
-use Rattle.std.proofs.Common.{ℕ, ◌+◌, ◌<◌, zero, suc, List, [], ◌∷◌, ◌++◌, Some, ◌≡◌, refl, ap, ap₂, sym, ◌∙◌, map, length, drop, slice_get, arith}
+use Rattle.std.proofs.Common.{ℕ, ◌<◌, zero, suc, List, [], ◌∷◌, Some, ◌≡◌, refl, ap, sym, ◌∙◌, map, length, drop, slice_get, arith}
 use Rattle.dir_entry.specs.ldap_dn.Names.{RdnModel}
 use Rattle.dir_entry.specs.ldap_dn.Pairs.{PairModel, pairs_in, pairs_of}
 use Rattle.dir_entry.specs.ldap_match.Truth.{truth_or, disjunction}

@@ -1,9 +1,9 @@
 -- Wire, between elements and messages: the parts of the grammar, each with its value first.
 use Rattle.std.proofs.Common.{ℕ, Bool, Option, List}
 use Rattle.std.specs.Prelude.{ℤ}
-use Rattle.ldap_fields.specs.Fields.{HasField, HasText, HasNumber, HasInteger, HasFlag, HasPart, HasFlagOrFalse, HasTextOrNone, HasOctetsOrNone}
-use Rattle.ldap_fields.specs.Rows.{AreTexts, AreValues, HasRowOrNone}
-use Rattle.ldap_fields.proofs.Same.{IsUnique, text_part}
+use Rattle.ldap_fields.specs.Fields.{HasField, HasText, HasNumber, HasInteger, HasPart, HasFlagOrFalse, HasTextOrNone, HasOctetsOrNone}
+use Rattle.ldap_fields.specs.Rows.{AreTexts, AreValues}
+use Rattle.ldap_fields.proofs.Same.{IsUnique}
 use Rattle.ldap_fields.proofs.RowLemmas.{part_unique, texts_one, values_one}
 
 abbrev pub number_part : ℕ → ℕ → ℕ → List ℕ → List ℕ → Type 0
@@ -17,9 +17,6 @@ tagged_text_part first t octets rest = HasText octets first t rest
 
 abbrev pub octets_part : ℕ → List ℕ → List ℕ → List ℕ → Type 0
 octets_part first v octets rest = HasField octets first v rest
-
-abbrev pub flag_part : ℕ → Bool → List ℕ → List ℕ → Type 0
-flag_part first b octets rest = HasFlag octets first b rest
 
 abbrev pub flag_or_false_part : ℕ → Bool → List ℕ → List ℕ → Type 0
 flag_or_false_part first b octets rest = HasFlagOrFalse octets first b rest
@@ -35,9 +32,6 @@ texts_part first ts octets rest = HasPart (AreTexts ts) octets first rest
 
 abbrev pub values_part : ℕ → List (List ℕ) → List ℕ → List ℕ → Type 0
 values_part first vs octets rest = HasPart (AreValues vs) octets first rest
-
-abbrev pub texts_or_none_part : ℕ → List (List ℕ) → List ℕ → List ℕ → Type 0
-texts_or_none_part first ts octets rest = HasRowOrNone text_part octets first ts rest
 
 pub texts_part_unique : (f : ℕ) → IsUnique (texts_part f)
 texts_part_unique f = part_unique AreTexts texts_one f

@@ -14,9 +14,6 @@ pub record Passed (content rest : List ℕ) : Type 0 where
   pub forth : AreElements rest → AreElements content
   pub back : AreElements content → AreElements rest
 
-pub passed_none : (content : List ℕ) → Passed content content
-passed_none content = record { forth = λ h. h; back = λ h. h }
-
 behind_element : (o c x : List ℕ) (f : ℕ) → HasField o f c x → AreElements o → AreElements x
 behind_element o c x f p none = absurd (field_some [] c x f p refl)
 behind_element o c x f p (more g d y q after) = subst AreElements (sym (same_field o c d x y f g p q).rest) after

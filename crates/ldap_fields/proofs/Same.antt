@@ -126,26 +126,8 @@ octets_or_none_unique f = optional_unique (λ v octets rest. HasField octets f v
 
 -- ---- what follows a part that was read
 
-pub behind_octets : {Next : List ℕ → Type 0} (o t u x : List ℕ) (f : ℕ) → HasField o f t x → Seq (HasField o f u) Next → Next x
-behind_octets {Next} o t u x f p s = subst Next (octets_unique f u t o s.rest x s.first p).rest s.next
-
 pub behind_text : {Next : List ℕ → Type 0} (o t u x : List ℕ) (f : ℕ) → HasText o f t x → Seq (HasText o f u) Next → Next x
 behind_text {Next} o t u x f p s = subst Next (text_unique f u t o s.rest x s.first p).rest s.next
-
-pub behind_number : {Next : List ℕ → Type 0} (o x : List ℕ) (f l m n : ℕ) → HasNumber o f l m x → Seq (HasNumber o f l n) Next → Next x
-behind_number {Next} o x f l m n p s = subst Next (number_unique f l n m o s.rest x s.first p).rest s.next
-
-pub behind_flag : {Next : List ℕ → Type 0} (o x : List ℕ) (f : ℕ) (v w : Bool) → HasFlag o f v x → Seq (HasFlag o f w) Next → Next x
-behind_flag {Next} o x f v w p s = subst Next (flag_unique f w v o s.rest x s.first p).rest s.next
-
-pub behind_flag_or_false : {Next : List ℕ → Type 0} (o x : List ℕ) (f : ℕ) (v w : Bool) → HasFlagOrFalse o f v x → Seq (HasFlagOrFalse o f w) Next → Next x
-behind_flag_or_false {Next} o x f v w p s = subst Next (flag_or_false_unique f w v o s.rest x s.first p).rest s.next
-
-pub behind_text_or_none : {Next : List ℕ → Type 0} (o x : List ℕ) (f : ℕ) (v w : Option (List ℕ)) → HasTextOrNone o f v x → Seq (HasTextOrNone o f w) Next → Next x
-behind_text_or_none {Next} o x f v w p s = subst Next (text_or_none_unique f w v o s.rest x s.first p).rest s.next
-
-pub behind_octets_or_none : {Next : List ℕ → Type 0} (o x : List ℕ) (f : ℕ) (v w : Option (List ℕ)) → HasOctetsOrNone o f v x → Seq (HasOctetsOrNone o f w) Next → Next x
-behind_octets_or_none {Next} o x f v w p s = subst Next (octets_or_none_unique f w v o s.rest x s.first p).rest s.next
 
 -- the same of any part, with its value
 pub record Behind (V : Type 0) (v w : V) (Next : Type 0) : Type 0 where

@@ -79,11 +79,6 @@ values vs small = rows value_part (element_bytes 4) (λ v. Unit {0}) (λ v rest 
 pub ended : (octets : List ℕ) (first : ℕ) → octets ≡ [] → BeginsOtherwise octets first
 ended octets first e = subst (λ (o : List ℕ). BeginsOtherwise o first) (sym e) tt
 
--- octets do not begin with a first octet that a row or an optional part is written with
-pub row_otherwise : {V : Type 0} (bytes : V → List ℕ) (first other : ℕ) (vs : List V) (rest : List ℕ) → (first ≡ other → ⊥) → BeginsOtherwise rest other → BeginsOtherwise (row_or_none_bytes bytes first vs ++ rest) other
-row_otherwise bytes first other [] rest ne h = h
-row_otherwise bytes first other (v ∷ vs) rest ne h = ne
-
 pub optional_otherwise : (first other : ℕ) (v : Option (List ℕ)) (rest : List ℕ) → (first ≡ other → ⊥) → BeginsOtherwise rest other → BeginsOtherwise (optional_bytes first v ++ rest) other
 optional_otherwise first other None rest ne h = h
 optional_otherwise first other (Some v) rest ne h = ne

@@ -1,7 +1,7 @@
 -- Wire, filters: what a part of an item lacks, the item lacks: at each exit of a reader, behind the parts that it read.
 use Rattle.std.proofs.Common.{◌≡◌, ℕ, Bool, Option, List, [], ◌∷◌, ◌++◌, refl, sym, ap, subst, ◌∙◌, append_assoc}
-use Rattle.std.proofs.lemmas.List.{append-nil, map_push}
-use Rattle.ldap_fields.specs.Fields.{HasField, HasText, HasPart, HasTextOrNone, HasOctetsOrNone, HasFlagOrFalse, BeginsOtherwise}
+use Rattle.std.proofs.lemmas.List.{append-nil}
+use Rattle.ldap_fields.specs.Fields.{HasField, HasText, HasTextOrNone, HasOctetsOrNone, HasFlagOrFalse, BeginsOtherwise}
 use Rattle.ldap_fields.proofs.Same.{step, octets_unique, text_unique, text_or_none_unique, octets_or_none_unique, flag_or_false_unique, text_part, same_field}
 use Rattle.ldap_fields.proofs.Parts.{octets_part, text_or_none_part, octets_or_none_part}
 use Rattle.ldap_filter.specs.Item.{SubstringsValue, ExtensibleValue}
@@ -87,9 +87,6 @@ are_substrings o x y d v s same p q e h = record {
 }
 
 -- ---- extensible
-
-pub extensible_rule : (o : List ℕ) → (e : ExtensibleValue) × IsExtensible e o → (t : Option (List ℕ)) × (r : List ℕ) × HasTextOrNone o 129 t r
-extensible_rule o (e, h) = (e.matching_rule, h.rest, h.first)
 
 pub extensible_description : (o x : List ℕ) (t : Option (List ℕ)) → HasTextOrNone o 129 t x → (e : ExtensibleValue) × IsExtensible e o → (u : Option (List ℕ)) × (r : List ℕ) × HasTextOrNone x 130 u r
 extensible_description o x t p (e, h) = let a = step (text_or_none_part 129) (text_or_none_unique 129) _ t e.matching_rule o x p h in (e.description, a.next.rest, a.next.first)

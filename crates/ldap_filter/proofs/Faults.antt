@@ -1,5 +1,5 @@
 -- Wire, filters: why a filter was refused, at each exit.
-use Rattle.std.proofs.Common.{◌≡◌, ℕ, suc, ◌-◌, ◌<◌, List, [], ◌++◌, refl, sym, ap, subst, ◌∙◌, ◌⊎◌, inl, inr, arith}
+use Rattle.std.proofs.Common.{◌≡◌, ℕ, suc, ◌-◌, ◌<◌, List, [], ◌++◌, sym, ap, subst, ◌∙◌, ◌⊎◌, inl, arith}
 use Rattle.std.proofs.lemmas.List.{append-nil}
 use Rattle.ldap_fields.specs.ldap_ber.Element.{IsElement}
 use Rattle.ldap_filter.specs.Item.{Item}

@@ -1,7 +1,5 @@
 -- Wire, filters: octets spell one item, and which kind its first octet tells.
-use Rattle.std.proofs.Common.{◌≡◌, ℕ, ◌≤◌, Bool, Option, List, [], ◌∷◌, ◌⊎◌, inl, inr, refl, sym, ap, ap₂, subst, ◌∙◌, arith}
-use Rattle.std.specs.Str.{IsUtf8}
-use Rattle.ldap_fields.specs.Fields.{HasField, HasPart}
+use Rattle.std.proofs.Common.{◌≡◌, ℕ, Bool, Option, List, [], ◌∷◌, inl, inr, refl, sym, ap, ap₂, subst, ◌∙◌, arith}
 use Rattle.ldap_fields.proofs.Same.{Same, step, field_front, octets_unique, text_unique, text_or_none_unique, octets_or_none_unique, flag_or_false_unique, text_part, same_field}
 use Rattle.ldap_fields.proofs.Parts.{octets_part, text_or_none_part, octets_or_none_part}
 use Rattle.ldap_filter.specs.Item.{Comparison, equal, at_least, at_most, approximate, SubstringsValue, ExtensibleValue, Item, comparison, substrings, presence, extensible}
@@ -100,30 +98,6 @@ item_unique (presence d) (substrings s) content same p q = absurd (omega arith)
 item_unique (presence d) (extensible e) content same p q = absurd (omega arith)
 item_unique (extensible e) (substrings s) content same p q = absurd (omega arith)
 item_unique (extensible e) (presence d) content same p q = absurd (omega arith)
-
-pub is_comparison : (i : Item) (n : ℕ) (content : List ℕ) → item_octet i ≡ n → (n ≡ 164 → ⊥) → (n ≡ 135 → ⊥) → (n ≡ 169 → ⊥) → IsItem i content → (k : Comparison) × (comparison_octet k ≡ n) × (d a : List ℕ) × IsAssertion d a content
-is_comparison (comparison k d a) n content e p q r h = (k, e, d, a, h)
-is_comparison (substrings s) n content e p q r h = absurd (p (sym e))
-is_comparison (presence d) n content e p q r h = absurd (q (sym e))
-is_comparison (extensible x) n content e p q r h = absurd (r (sym e))
-
-pub is_substrings : (i : Item) (content : List ℕ) → item_octet i ≡ 164 → IsItem i content → (s : SubstringsValue) × IsSubstrings s content
-is_substrings (substrings s) content e h = (s, h)
-is_substrings (comparison k d a) content e h = absurd ((apart k).substrings e)
-is_substrings (presence d) content e h = absurd (omega arith)
-is_substrings (extensible x) content e h = absurd (omega arith)
-
-pub is_presence : (i : Item) (content : List ℕ) → item_octet i ≡ 135 → IsItem i content → IsUtf8 content
-is_presence (presence d) content e h = subst IsUtf8 (sym h.0) h.1
-is_presence (comparison k d a) content e h = absurd ((apart k).presence e)
-is_presence (substrings s) content e h = absurd (omega arith)
-is_presence (extensible x) content e h = absurd (omega arith)
-
-pub is_extensible : (i : Item) (content : List ℕ) → item_octet i ≡ 169 → IsItem i content → (x : ExtensibleValue) × IsExtensible x content
-is_extensible (extensible x) content e h = (x, h)
-is_extensible (comparison k d a) content e h = absurd ((apart k).extensible e)
-is_extensible (substrings s) content e h = absurd (omega arith)
-is_extensible (presence d) content e h = absurd (omega arith)
 
 comparison_known : (k : Comparison) → IsOctet (comparison_octet k)
 comparison_known equal = inl (omega arith, omega arith)

@@ -8,14 +8,11 @@ use Rattle.std.specs.Ordering.{nat_cmp, ordering_then, is_lt, is_eq}
 use Rattle.std.specs.Cmp.{nat_cmp_is}
 use Rattle.std.specs.Cmp.Lexicographic.{slice_cmp}
 use Rattle.std.specs.declared.cmp.Ordering.{Ordering}
-use Rattle.std.specs.declared.cmp.Ordering.TheVariants.{Less, Equal, Greater}
+use Rattle.std.specs.declared.cmp.Ordering.TheVariants.{Less, Equal}
 use Rattle.ldap_syntax.specs.Meaning.{is_before}
 
 pub less_first : (x y : ℕ) (xs ys : List ℕ) → x < y → Less ≡ slice_cmp nat_cmp (x ∷ xs) (y ∷ ys)
 less_first x y xs ys h = ap (λ (r : Ordering). ordering_then r (slice_cmp nat_cmp xs ys)) (nat_cmp_is x y Less h)
-
-pub more_first : (x y : ℕ) (xs ys : List ℕ) → y < x → Greater ≡ slice_cmp nat_cmp (x ∷ xs) (y ∷ ys)
-more_first x y xs ys h = ap (λ (r : Ordering). ordering_then r (slice_cmp nat_cmp xs ys)) (nat_cmp_is x y Greater h)
 
 pub same_first : (x y : ℕ) (xs ys : List ℕ) → x ≡ y → slice_cmp nat_cmp xs ys ≡ slice_cmp nat_cmp (x ∷ xs) (y ∷ ys)
 same_first x y xs ys h = ap (λ (r : Ordering). ordering_then r (slice_cmp nat_cmp xs ys)) (nat_cmp_is x y Equal h)

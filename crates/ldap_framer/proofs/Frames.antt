@@ -1,5 +1,5 @@
 -- Wire, streams: what a header says of the octets behind it, and how a stream goes on.
-use Rattle.std.proofs.Common.{◌≡◌, ℕ, ◌+◌, ◌-◌, ◌%◌, ◌<◌, ◌≤◌, List, [], ◌∷◌, ◌++◌, length, take, drop, map, refl, sym, ap, subst, ◌∙◌, inl, inr, append_assoc, arith}
+use Rattle.std.proofs.Common.{◌≡◌, ℕ, ◌+◌, ◌-◌, ◌%◌, ◌≤◌, List, [], ◌∷◌, ◌++◌, length, take, drop, map, refl, sym, ap, subst, ◌∙◌, inl, inr, append_assoc, arith}
 use Rattle.std.proofs.lemmas.List.{append-nil, drop_at, length-append, length-take-le, map_push, take-append-drop}
 use Rattle.std.proofs.Math.Seq.{take-append-add}
 use Rattle.ldap_msg.specs.ldap_ber.Element.{IsElement, IsLength}
@@ -42,7 +42,7 @@ of_frame : (o h rest : List ℕ) (f n : ℕ) → BeginsFrame o → IsHeader h f 
 of_frame o h rest f n begins is e = subst (λ (k : ℕ). IsHeader h k n) (first_is o h rest f n begins is e) is
 
 -- the content behind a header makes a whole element with it
-framed_by : (h content : List ℕ) (n : ℕ) → IsHeader h 48 n → length content ≡ n → IsElement (h ++ content) 48 content
+pub framed_by : (h content : List ℕ) (n : ℕ) → IsHeader h 48 n → length content ≡ n → IsElement (h ++ content) 48 content
 framed_by h content n is e = record {
   low_tag = is.low_tag;
   len_octets = is.len_octets;
@@ -66,9 +66,6 @@ bad_frame f o size within small is fault = record {
   small = omega (arith, length-take-le size o within);
   is_fault = fault;
 }
-
-pub not_large : (o : List ℕ) (size : ℕ) → size ≤ length o → size ≤ 4194304 → 4194304 < length (take size o) → ⊥
-not_large o size within small large = omega (arith, length-take-le size o within)
 
 pub awaited_short : (o : List ℕ) → BeginsFrame o → IsHeaderFront o → IsAwaited o
 awaited_short [] begins front = tt

@@ -16,6 +16,7 @@ use Rattle.ldap_msg.specs.Limits.{IsFault}
 use Rattle.ldap_msg.proofs.Unique.{one as one_message}
 use Rattle.ldap_msg.proofs.Whole.{no_fault}
 use Rattle.ldap_framer.specs.Stream.{IsFrame, IsWhole, IsAwaited, StatesTooLarge, BeginsNoFrame, HasBadFrame, IsStop, Ending, awaits, stops, EndsIn, Reads, IsSameEnding}
+use Rattle.ldap_framer.proofs.Frames.{framed_by as element_of}
 
 -- ---- headers
 
@@ -38,14 +39,6 @@ same_header h k x y f g n m is₁ is₂ e =
 
 header_of : (frame content : List ℕ) (is : IsElement frame 48 content) → IsHeader (48 ∷ is.len_octets) 48 (length content)
 header_of frame content is = record { low_tag = is.low_tag; len_octets = is.len_octets; len = is.len; whole = refl }
-
-element_of : (h content : List ℕ) (n : ℕ) → IsHeader h 48 n → length content ≡ n → IsElement (h ++ content) 48 content
-element_of h content n is e = record {
-  low_tag = is.low_tag;
-  len_octets = is.len_octets;
-  len = subst (IsLength is.len_octets) (sym e) is.len;
-  whole = ap (λ (s : List ℕ). s ++ content) is.whole;
-}
 
 some_octets : (x y : List ℕ) → x ++ y ≡ [] → length y ≡ 0
 some_octets x y e = omega (arith, ap length e, length-append x y)

@@ -79,10 +79,3 @@ seen_err (Err Failed) old new piece stream handed h seen = inr (failed old new p
 seen_err (Err NoRoom) old new piece stream handed h seen = inl refl
 
 -- ---- one message handed out
-
-pub handed_out : (old new : Framed) (stream : List ℕ) (handed : List MessageValue) (m : MessageValue) → old.ready ≡ m ∷ new.ready → new.rest ≡ old.rest → new.fault ≡ old.fault → HasSeen old stream handed → HasSeen new stream (handed ++ m ∷ [])
-handed_out old new stream handed m ready rest fault seen =
-    let same : handed ++ old.ready ≡ (handed ++ m ∷ []) ++ new.ready = ap (λ (l : List MessageValue). handed ++ l) ready ∙ sym (append_assoc handed (m ∷ []) new.ready) in
-    let one : Reads stream ((handed ++ m ∷ []) ++ new.ready) (ending_of old.fault old.rest) = subst (λ (l : List MessageValue). Reads stream l (ending_of old.fault old.rest)) same seen in
-    subst (λ (f : Option MsgFault). Reads stream ((handed ++ m ∷ []) ++ new.ready) (ending_of f new.rest)) (sym fault)
-    (subst (λ (r : List ℕ). Reads stream ((handed ++ m ∷ []) ++ new.ready) (ending_of old.fault r)) (sym rest) one)

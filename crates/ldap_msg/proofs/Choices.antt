@@ -58,12 +58,6 @@ request_stands (extended_request x) o h = (x, h)
 pub request_at : (n : ℕ) (o : List ℕ) → (r : RequestValue) × (request_octet r ≡ n) × IsRequestContent r o → RequestAt n o
 request_at n o (r, e, h) = subst (λ (m : ℕ). RequestAt m o) e (request_stands r o h)
 
-pub is_bind : (o : List ℕ) → (r : RequestValue) × (request_octet r ≡ 96) × IsRequestContent r o → (x : BindRequestValue) × IsBindRequest x o
-is_bind o = request_at 96 o
-
-pub is_unbind : (o : List ℕ) → (r : RequestValue) × (request_octet r ≡ 66) × IsRequestContent r o → IsUnbindRequest o
-is_unbind o = request_at 66 o
-
 pub is_search : (o : List ℕ) → (r : RequestValue) × (request_octet r ≡ 99) × IsRequestContent r o → (x : SearchRequestValue) × IsSearchRequest x o
 is_search o = request_at 99 o
 
@@ -78,15 +72,6 @@ is_delete o = request_at 74 o
 
 pub is_modify_dn : (o : List ℕ) → (r : RequestValue) × (request_octet r ≡ 108) × IsRequestContent r o → (x : ModifyDnRequestValue) × IsModifyDnRequest x o
 is_modify_dn o = request_at 108 o
-
-pub is_compare : (o : List ℕ) → (r : RequestValue) × (request_octet r ≡ 110) × IsRequestContent r o → (x : CompareRequestValue) × IsCompareRequest x o
-is_compare o = request_at 110 o
-
-pub is_abandon : (o : List ℕ) → (r : RequestValue) × (request_octet r ≡ 80) × IsRequestContent r o → (x : ℤ) × IsAbandonRequest x o
-is_abandon o = request_at 80 o
-
-pub is_extended_request : (o : List ℕ) → (r : RequestValue) × (request_octet r ≡ 119) × IsRequestContent r o → (x : ExtendedRequestValue) × IsExtendedRequest x o
-is_extended_request o = request_at 119 o
 
 -- whatever has this first octet and content is this request
 abbrev RequestSame : ℕ → RequestValue → List ℕ → Type 0
@@ -131,62 +116,6 @@ pub request_same : (v w : RequestValue) (o : List ℕ) → request_octet v ≡ r
 request_same v w o e p q = request_other w v o q (subst (λ (n : ℕ). RequestSame n v o) e (request_own v o p))
 
 -- ---- responses
-
--- what the content of a response of this first octet is
-abbrev ResponseAt : ℕ → List ℕ → Type 0
-ResponseAt n o =
-    (choose (eqb n 97) ((x : LdapResultValue) × IsLdapResult x o)
-    (choose (eqb n 100) ((x : SearchResultEntryValue) × IsSearchResultEntry x o)
-    (choose (eqb n 101) ((x : LdapResultValue) × IsLdapResult x o)
-    (choose (eqb n 103) ((x : LdapResultValue) × IsLdapResult x o)
-    (choose (eqb n 105) ((x : LdapResultValue) × IsLdapResult x o)
-    (choose (eqb n 107) ((x : LdapResultValue) × IsLdapResult x o)
-    (choose (eqb n 109) ((x : LdapResultValue) × IsLdapResult x o)
-    (choose (eqb n 111) ((x : LdapResultValue) × IsLdapResult x o)
-    (choose (eqb n 120) ((x : ExtendedResponseValue) × IsExtendedResponse x o)
-    (⊥))))))))))
-
-response_stands : (r : ResponseValue) (o : List ℕ) → IsResponseContent r o → ResponseAt (response_octet r) o
-response_stands (bind_response x) o h = (x, h)
-response_stands (search_entry x) o h = (x, h)
-response_stands (search_done x) o h = (x, h)
-response_stands (modify_response x) o h = (x, h)
-response_stands (add_response x) o h = (x, h)
-response_stands (delete_response x) o h = (x, h)
-response_stands (modify_dn_response x) o h = (x, h)
-response_stands (compare_response x) o h = (x, h)
-response_stands (extended x) o h = (x, h)
-
--- a response of a first octet has the content of that octet
-pub response_at : (n : ℕ) (o : List ℕ) → (r : ResponseValue) × (response_octet r ≡ n) × IsResponseContent r o → ResponseAt n o
-response_at n o (r, e, h) = subst (λ (m : ℕ). ResponseAt m o) e (response_stands r o h)
-
-pub is_bind_response : (o : List ℕ) → (r : ResponseValue) × (response_octet r ≡ 97) × IsResponseContent r o → (x : LdapResultValue) × IsLdapResult x o
-is_bind_response o = response_at 97 o
-
-pub is_search_entry : (o : List ℕ) → (r : ResponseValue) × (response_octet r ≡ 100) × IsResponseContent r o → (x : SearchResultEntryValue) × IsSearchResultEntry x o
-is_search_entry o = response_at 100 o
-
-pub is_search_done : (o : List ℕ) → (r : ResponseValue) × (response_octet r ≡ 101) × IsResponseContent r o → (x : LdapResultValue) × IsLdapResult x o
-is_search_done o = response_at 101 o
-
-pub is_modify_response : (o : List ℕ) → (r : ResponseValue) × (response_octet r ≡ 103) × IsResponseContent r o → (x : LdapResultValue) × IsLdapResult x o
-is_modify_response o = response_at 103 o
-
-pub is_add_response : (o : List ℕ) → (r : ResponseValue) × (response_octet r ≡ 105) × IsResponseContent r o → (x : LdapResultValue) × IsLdapResult x o
-is_add_response o = response_at 105 o
-
-pub is_delete_response : (o : List ℕ) → (r : ResponseValue) × (response_octet r ≡ 107) × IsResponseContent r o → (x : LdapResultValue) × IsLdapResult x o
-is_delete_response o = response_at 107 o
-
-pub is_modify_dn_response : (o : List ℕ) → (r : ResponseValue) × (response_octet r ≡ 109) × IsResponseContent r o → (x : LdapResultValue) × IsLdapResult x o
-is_modify_dn_response o = response_at 109 o
-
-pub is_compare_response : (o : List ℕ) → (r : ResponseValue) × (response_octet r ≡ 111) × IsResponseContent r o → (x : LdapResultValue) × IsLdapResult x o
-is_compare_response o = response_at 111 o
-
-pub is_extended : (o : List ℕ) → (r : ResponseValue) × (response_octet r ≡ 120) × IsResponseContent r o → (x : ExtendedResponseValue) × IsExtendedResponse x o
-is_extended o = response_at 120 o
 
 -- whatever has this first octet and content is this response
 abbrev ResponseSame : ℕ → ResponseValue → List ℕ → Type 0
@@ -272,11 +201,3 @@ operation_same (request v) (request w) o e p q = ap request (request_same v w o 
 operation_same (response v) (response w) o e p q = ap response (response_same v w o e p q)
 operation_same (request v) (response w) o e p q = absurd (not_both v w e)
 operation_same (response v) (request w) o e p q = absurd (not_both w v (sym e))
-
-pub op_request : (n : ℕ) (o : List ℕ) → ((r : ResponseValue) → response_octet r ≡ n → ⊥) → (op : OperationValue) × (operation_octet op ≡ n) × IsOperation op o → (r : RequestValue) × (request_octet r ≡ n) × IsRequestContent r o
-op_request n o none (request r, e, h) = (r, e, h)
-op_request n o none (response r, e, h) = absurd (none r e)
-
-pub op_response : (n : ℕ) (o : List ℕ) → ((r : RequestValue) → request_octet r ≡ n → ⊥) → (op : OperationValue) × (operation_octet op ≡ n) × IsOperation op o → (r : ResponseValue) × (response_octet r ≡ n) × IsResponseContent r o
-op_response n o none (request r, e, h) = absurd (none r e)
-op_response n o none (response r, e, h) = (r, e, h)

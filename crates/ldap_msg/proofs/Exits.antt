@@ -39,9 +39,6 @@ content_controls o x y id op p q (m, h) =
     let t = step HasOperation operation_unique _ op m.op x y q s.next in
     (m.controls, t.next)
 
-pub message_field : (o : List ℕ) → (m : MessageValue) × IsMessage o m → (content rest : List ℕ) × HasField o 48 content rest
-message_field o (m, h) = (h.content, [], h.field)
-
 pub message_whole : (o content rest : List ℕ) → HasField o 48 content rest → (rest ≡ [] → ⊥) → (m : MessageValue) × IsMessage o m → ⊥
 message_whole o content rest p some (m, h) = some (same_field o content h.content rest [] 48 48 p h.field).rest
 

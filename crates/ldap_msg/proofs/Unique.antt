@@ -1,5 +1,5 @@
 -- Wire, messages: each part of a message has one value at the front of octets, and one rest.
-use Rattle.std.proofs.Common.{◌≡◌, ◌^◌, ℕ, List, [], ◌++◌, sym, ap, subst, ◌∙◌}
+use Rattle.std.proofs.Common.{◌≡◌, ◌^◌, ℕ, List, ◌++◌, sym, ap, subst, ◌∙◌}
 use Rattle.std.proofs.lemmas.List.{append-nil, append_cancel_right}
 use Rattle.ldap_requests.specs.ldap_fields.Fields.{HasPart}
 use Rattle.ldap_requests.proofs.ldap_fields.Same.{IsUnique, step, same_field, number_unique}
@@ -27,9 +27,6 @@ content_one v w o p q =
     let s = step (number_part 2 (2 ^ 31)) (number_unique 2 (2 ^ 31)) _ v.id w.id o p.parts.rest p.parts.first q.parts in
     let t = step HasOperation operation_unique _ v.op w.op p.parts.rest p.parts.next.rest p.parts.next.first s.next in
     message_same v w s.value t.value (controls_one v.controls w.controls p.parts.next.rest p.parts.next.next t.next)
-
-pub message_unique : (m n : MessageValue) (o : List ℕ) → IsMessage o m → IsMessage o n → m ≡ n
-message_unique m n o p q = (part_unique IsMessageContent content_one 48 m n o [] [] p q).value
 
 behind_message : (a x : List ℕ) (m : MessageValue) → IsMessage a m → HasPart (IsMessageContent m) (a ++ x) 48 x
 behind_message a x m p = record {

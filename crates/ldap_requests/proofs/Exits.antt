@@ -68,9 +68,6 @@ question_end o x y t ts p q (f, attributes, h) =
     let s = step HasFilter filter_unique _ t f o x p h in
     (step (texts_part 48) (texts_part_unique 48) _ ts attributes x y q s.next).next
 
-pub search_target : (o : List ℕ) → (s : SearchRequestValue) × IsSearchRequest s o → (base : List ℕ) × (scope : Scope) × (deref : DerefAliases) × (rest : List ℕ) × IsTarget base scope deref o rest
-search_target o (s, h) = (s.base, s.scope, s.deref_aliases, h.rest, h.first)
-
 behind_target : (o x base : List ℕ) (scope : Scope) (deref : DerefAliases) → IsTarget base scope deref o x → (s : SearchRequestValue) → IsSearchRequest s o → Seq (IsBounds s.size_limit s.time_limit s.types_only x) (IsQuestion s.filter s.attributes)
 behind_target o x base scope deref p s h =
     let v : Target = record { base = base; scope = scope; deref = deref } in

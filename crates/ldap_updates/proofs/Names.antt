@@ -80,9 +80,6 @@ modify_dn_end o x y entry newrdn b t p q (v, h) =
     let s = step new_name_part new_name_unique _ n (new_name_of v) o x p h in
     (step (text_or_none_part 128) (text_or_none_unique 128) _ t v.new_superior x y q s.next).next
 
-pub delete_text : (o : List ℕ) → (name : List ℕ) × IsDelRequest name o → IsUtf8 o
-delete_text o (name, h) = h.is_text
-
 -- ---- what is written
 
 pub modify_dn_written : (d : ModifyDnRequestValue) → IsModifyDnInRange d → IsShort (modify_dn_content d) → IsModifyDnRequest d (modify_dn_content d)

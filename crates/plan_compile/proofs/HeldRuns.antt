@@ -16,18 +16,17 @@ use Rattle.ldap_eval.specs.ldap_match.Meaning.{meaning}
 use Rattle.ldap_eval.specs.ldap_match.Parts.{PartsModel}
 use Rattle.ldap_eval.specs.ldap_match.Item.{Item, present, equal, at_least, at_most, substrings, is_meant, is_at_least, is_at_most, has_prepared, of_family, beside, ordering_of, substrings_in, substrings_of, some_of, end_by, put_before, each_by, three_parts, prepared_parts, answered, by_rule, item_on_attribute, is_valid_by, are_valid_by, is_answerable}
 use Rattle.ldap_eval.specs.ldap_match.Keyed.{key_at, part_keys_at, test_of, test_by_rule, test_for, test_value, AreKeysBy, AreKeysOf}
-use Rattle.ldap_eval.specs.ldap_match.declared.truth.Truth.{Truth}
-use Rattle.ldap_eval.specs.ldap_match.declared.truth.Truth.TheVariants.{True, False, Undefined}
+use Rattle.ldap_eval.specs.ldap_match.declared.truth.Truth.TheVariants.{False, Undefined}
 use Rattle.ldap_eval.specs.ldap_match.declared.testing.Test.{Test}
 use Rattle.ldap_eval.specs.ldap_match.declared.testing.Test.TheVariants as test
-use Rattle.ldap_eval.specs.dir_entry.Entry.{KeyedAttribute, AttributeModel, attributes_of, IsKeyedBy}
+use Rattle.ldap_eval.specs.dir_entry.Entry.{KeyedAttribute, attributes_of, IsKeyedBy}
 use Rattle.plan_sets.specs.index_choice.declared.kinds.Kinds.{Kinds}
 use Rattle.plan_sets.specs.index_choice.Choice.{kinds_of}
 use Rattle.plan_sets.specs.dir_index.Postings.{some_key, stands_in}
 use Rattle.plan_compile.specs.Bounds.{is_test_decided}
 use Rattle.plan_compile.specs.Decided.{has_index_for, is_decided_on}
-use Rattle.plan_compile.specs.Held.{utf8_parts, stands_in_text, stands_in_some, has_part_runs, has_prepared_runs, has_runs_by, has_runs_on}
-use Rattle.plan_compile.specs.Runs.{has_runs, has_runs_of_test, runs_of_all}
+use Rattle.plan_compile.specs.Held.{utf8_parts, stands_in_text, stands_in_some, has_prepared_runs, has_runs_by, has_runs_on}
+use Rattle.plan_compile.specs.Runs.{has_runs_of_test, runs_of_all}
 use Rattle.plan_compile.specs.Runs as runs
 use Rattle.ldap_eval.specs.ldap_syntax.Octets.{utf8_of}
 

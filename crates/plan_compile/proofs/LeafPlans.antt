@@ -2,7 +2,6 @@
 use Rattle.std.proofs.Common.{◌≡◌, ℕ, Bool, true, false, ◌&&◌, ◌||◌, not, List, [], ◌∷◌, Some, None, refl, sym, ap, ap₂, ◌∙◌}
 use Rattle.std.specs.List.{list_any}
 use Rattle.ldap_eval.specs.ldap_match.Keyed.{is_same_key, is_key_at_least, is_key_at_most}
-use Rattle.ldap_eval.specs.ldap_match.declared.truth.Truth.{Truth}
 use Rattle.ldap_eval.specs.ldap_match.declared.truth.Truth.TheVariants.{True, False}
 use Rattle.ldap_eval.specs.ldap_match.declared.testing.Test.{Test}
 use Rattle.ldap_eval.specs.ldap_match.declared.testing.Test.TheVariants as test
@@ -14,11 +13,11 @@ use Rattle.plan_sets.specs.dir_index.declared.posting.Posting.TheVariants as pos
 use Rattle.plan_sets.specs.Sets.{holds}
 use Rattle.plan_sets.specs.declared.plan.Plan.{Plan}
 use Rattle.plan_sets.specs.declared.plan.Plan.TheVariants as plan
-use Rattle.plan_compile.proofs.PlanEquations.{in_plan-Posting, in_plan-Range, in_plan-Empty, in_plan-Scope}
+use Rattle.plan_compile.proofs.PlanEquations.{in_plan-Posting, in_plan-Range, in_plan-Empty}
 use Rattle.ldap_eval.specs.Bound.{leaf_value}
 use Rattle.ldap_eval.specs.declared.bound.Leaf.{Leaf}
 use Rattle.plan_compile.specs.Bounds.{is_test_decided, Bounds}
-use Rattle.plan_compile.proofs.LeafValues.{leaf_as, leaf_unknown, unknown_of, leaf_has_type, bounds_by}
+use Rattle.plan_compile.proofs.LeafValues.{leaf_as, leaf_unknown, unknown_of, leaf_has_type, bounds_by, not_true}
 
 pub decided_as : (ix : List Kinds) (leaf : Leaf) (x : Test) → leaf.test ≡ x → is_test_decided ix leaf.type_id leaf.test ≡ true → is_test_decided ix leaf.type_id x ≡ true
 decided_as ix leaf x is d = sym (ap (is_test_decided ix leaf.type_id) is) ∙ d
@@ -87,13 +86,6 @@ possible_present ix leaf kept e = record {
   exact = λ d h. let k : false ≡ true = d in cc;
 }
 
-pub possible_scope : (ix : List Kinds) (value : List KeyedAttribute → Truth) (wanted : Truth) → Bounds ix value wanted false plan.Empty plan.Scope
-possible_scope ix value wanted e = record {
-  sound = λ h. let k : true ≡ false = sym h ∙ in_plan-Empty _ _ _ in cc;
-  complete = λ h. in_plan-Scope _ _ _;
-  exact = λ d h. let k : false ≡ true = d in cc;
-}
-
 unknown_is_false : (b : Bool) → b ≡ false → unknown_of b ≡ False
 unknown_is_false true h = cc
 unknown_is_false false h = refl
@@ -101,10 +93,6 @@ unknown_is_false false h = refl
 not_false : (a : Bool) → a ≡ false → not a ≡ true
 not_false true h = cc
 not_false false h = refl
-
-not_true : (a : Bool) → not a ≡ true → a ≡ false
-not_true true h = cc
-not_true false h = refl
 
 -- all but the entries that have the type
 pub unknown_bounds : (ix : List Kinds) (t : ℕ) (m y : Plan) (d : Bool) → (kinds_of ix t).presence ≡ true

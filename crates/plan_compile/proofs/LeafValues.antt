@@ -115,15 +115,7 @@ bounds_by ix value p b is said e = record {
   exact = λ d h. h;
 }
 
-pub bounds_join : (ix : List Kinds) (value : List KeyedAttribute → Truth) (m y : Plan) (d : Bool) → Bounds ix value True true m m → Bounds ix value True true y y
-    → Bounds ix value True d m y
-bounds_join ix value m y d bm by e = record {
-  sound = (bm e).sound;
-  complete = (by e).complete;
-  exact = λ k h. (bm e).complete ((by e).sound h);
-}
-
-not_true : (a : Bool) → not a ≡ true → a ≡ false
+pub not_true : (a : Bool) → not a ≡ true → a ≡ false
 not_true true h = cc
 not_true false h = refl
 

@@ -15,26 +15,11 @@ use Rattle.ldap_eval.specs.declared.bound.BoundFilter.{BoundFilter}
 use Rattle.plan_compile.specs.Bounds.{is_decided, IsBetween, DecidedAreTrue}
 use Rattle.plan_compile.specs.Runs.{has_runs_for}
 use Rattle.plan_compile.specs.Sides.{IsSide, EachSide, none, one_more}
-
-pub and_parts : (a b : Bool) → (a && b) ≡ true → (a ≡ true) × (b ≡ true)
-and_parts true b h = (refl, h)
-and_parts false b h = cc
-
-pub and_from : (a b : Bool) → a ≡ true → b ≡ true → (a && b) ≡ true
-and_from true b g h = h
-and_from false b g h = cc
-
-pub or_parts : (a b : Bool) → (a || b) ≡ true → (a ≡ true) ⊎ (b ≡ true)
-or_parts true b h = inl refl
-or_parts false b h = inr h
-
-pub or_left : (a b : Bool) → a ≡ true → (a || b) ≡ true
-or_left true b h = refl
-or_left false b h = cc
-
-pub or_right : (a b : Bool) → b ≡ true → (a || b) ≡ true
-or_right true b h = refl
-or_right false b h = h
+pub use Rattle.plan_compile.proofs.Standing.{and_parts}
+pub use Rattle.plan_compile.proofs.Standing.{and_from}
+pub use Rattle.plan_compile.proofs.Standing.{or_parts}
+pub use Rattle.plan_compile.proofs.Standing.{or_left}
+pub use Rattle.plan_compile.proofs.Standing.{or_right}
 
 and-true : (v w : Truth) → truth_and v w ≡ True → (v ≡ True) × (w ≡ True)
 and-true True w h = (refl, h)

@@ -1,5 +1,5 @@
 -- Lists of runs that grow, and the plan of an assertion's runs.
-use Rattle.std.proofs.Common.{◌≡◌, ℕ, ◌<◌, Bool, true, false, ◌&&◌, ◌||◌, not, List, [], ◌∷◌, ◌++◌, length, get_or, take, ◌+◌, nat_eq, map, Vec, Global, refl, sym, ap, ap₂, subst, ◌∙◌, append_assoc, arith, Result, Ok, Err, IfOk}
+use Rattle.std.proofs.Common.{◌≡◌, ℕ, ◌<◌, Bool, true, false, ◌&&◌, not, List, [], ◌∷◌, ◌++◌, length, get_or, take, ◌+◌, nat_eq, map, Vec, Global, refl, sym, ap, ap₂, subst, ◌∙◌, append_assoc, arith, Result, Ok, Err, IfOk}
 use Rattle.std.proofs.lemmas.List.{append-nil, take_more}
 use Rattle.std.specs.List.{list_all}
 use Rattle.ldap_eval.specs.ldap_syntax.Parts.{part_or_nothing}
@@ -24,7 +24,7 @@ use Rattle.plan_compile.specs.Runs.{runs_of, runs_of_all, run_plans, parts_of, h
 use Rattle.plan_compile.proofs.LeafValues.{leaf_as, of_true, leaf_unknown, leaf_two_valued, test_holds, bounds_flip}
 use Rattle.plan_compile.proofs.LeafPlans.{and_kept, unknown_not_true}
 use Rattle.plan_compile.proofs.PartRuns.{parts_entry}
-use Rattle.plan_compile.proofs.Standing.{and_parts, and_from}
+use Rattle.plan_compile.proofs.Standing.{and_parts, and_from, or_right as or_late}
 
 runs_short : (x : List ℕ) → length x < 3 → runs_of x ≡ []
 runs_short [] h = refl
@@ -103,10 +103,6 @@ run_bounds ix leaf p y is held e = record {
   complete = λ h. held e ∙ parts_entry leaf.type_id p e (of_true _ (sym (leaf_as leaf (test.Parts p) is (λ h. cc) e) ∙ h));
   exact = λ d h. let k : false ≡ true = d in cc;
 }
-
-or_late : (a b : Bool) → b ≡ true → (a || b) ≡ true
-or_late true b h = refl
-or_late false b h = h
 
 test_runs : (ix : List Kinds) (leaf : Leaf) (e : List KeyedAttribute) (x : Test) → leaf.test ≡ x → leaf_value e leaf ≡ True → has_runs_of_test ix leaf.type_id x e ≡ true
 test_runs ix leaf e test.Present is h = refl

@@ -1,6 +1,5 @@
 -- The sides of a filter, by its variant.
 use Rattle.std.proofs.Common.{◌≡◌, Bool, true, false, not, List, Vec, Box, Global, sym, ap, ◌∙◌}
-use Rattle.ldap_eval.specs.ldap_match.Truth.{truth_of}
 use Rattle.ldap_eval.specs.ldap_match.declared.truth.Truth.{Truth}
 use Rattle.ldap_eval.specs.ldap_match.declared.truth.Truth.TheVariants.{True, Undefined}
 use Rattle.ldap_eval.specs.dir_entry.Entry.{KeyedAttribute}
@@ -9,18 +8,16 @@ use Rattle.plan_sets.specs.index_choice.declared.kinds.Kinds.{Kinds}
 use Rattle.plan_sets.specs.Sets.{holds, SetsAreOfEntries}
 use Rattle.plan_sets.specs.declared.plan.Plan.{Plan}
 use Rattle.plan_sets.specs.declared.plan.Plan.TheVariants as plan
-use Rattle.plan_compile.proofs.PlanEquations.{in_plan-Inter, in_plan-Union, in_plan-Empty, in_plan-Scope}
-use Rattle.ldap_eval.specs.Bound.{leaf_value}
+use Rattle.plan_compile.proofs.PlanEquations.{in_plan-Inter, in_plan-Union}
 use Rattle.ldap_eval.specs.declared.bound.Leaf.{Leaf}
 use Rattle.ldap_eval.specs.declared.bound.Match.{Match}
 use Rattle.ldap_eval.specs.declared.bound.BoundFilter.{BoundFilter, out-BoundFilter, out-roll-BoundFilter}
 use Rattle.ldap_eval.specs.declared.bound.BoundFilter.TheVariants.{rolls-And}
 use Rattle.ldap_eval.specs.declared.bound.BoundFilter.TheOpen.{BoundFilter-F}
 use Rattle.ldap_eval.specs.declared.bound.BoundFilter.TheVariants as bound
-use Rattle.plan_compile.specs.Bounds.{is_test_decided, Bounds, BoundsSets, DecidedAreTrue, GuidesRuns}
-use Rattle.plan_compile.specs.Runs.{has_runs_of_test}
+use Rattle.plan_compile.specs.Bounds.{Bounds, BoundsSets, DecidedAreTrue, GuidesRuns}
 use Rattle.plan_compile.specs.Sides.{IsSide, IsEvery, IsAny, EachSide}
-use Rattle.plan_compile.proofs.Equations.{value-And, value-Or, value-Not, value-Undefined, value-Leaf, decided-And, decided-Or, decided-Not, decided-Leaf, decided-Match, runs-And, runs-Or, runs-Not, runs-Leaf, runs-Match}
+use Rattle.plan_compile.proofs.Equations.{value-And, value-Or, value-Not, decided-And, decided-Or, decided-Not, runs-And, runs-Or, runs-Not}
 use Rattle.plan_compile.proofs.Rows.{and_of_true, and_of_false, or_of_true, or_of_false, runs_of_every, runs_of_some, negated, decided_parts}
 
 every_true : (ix : List Kinds) (v : Vec BoundFilter Global) (ms ys : Vec Plan Global) → EachSide ix true v.items ms.items ys.items → IsSide ix true (bound.And v) (plan.Inter ms) (plan.Inter ys)
@@ -68,42 +65,6 @@ side_of_not ix wanted f b m y is s =
     rw is (record {
       bounds = λ n e. simp (value-Not, decided-Not) (negated _ _ _ _ wanted (s.bounds n e));
       runs = λ w e h. runs-Not ix e b;
-    })
-
-undefined_is_not : (wanted : Bool) → Undefined ≡ truth_of wanted → ⊥
-undefined_is_not true h = cc
-undefined_is_not false h = cc
-
-pub side_of_undefined : (ix : List Kinds) (wanted : Bool) (f : BoundFilter) → f ≡ bound.Undefined → IsSide ix wanted f plan.Empty plan.Empty
-side_of_undefined ix wanted f is =
-    rw is (record {
-      bounds = λ n e. record {
-        sound = λ h. let k : true ≡ false = sym h ∙ in_plan-Empty _ _ _ in cc;
-        complete = λ h. absurd (undefined_is_not wanted (sym (value-Undefined n e) ∙ h));
-        exact = λ d h. h;
-      };
-      runs = λ w e h. let k : true ≡ false = sym h ∙ in_plan-Empty _ _ _ in cc;
-    })
-
-pub side_of_leaf : (ix : List Kinds) (wanted : Bool) (f : BoundFilter) (leaf : Leaf) (m y : Plan) → f ≡ bound.Leaf leaf
-    → Bounds ix (λ e. leaf_value e leaf) (truth_of wanted) (is_test_decided ix leaf.type_id leaf.test) m y
-    → (wanted ≡ true → (e : List KeyedAttribute) → holds ix e y ≡ true → has_runs_of_test ix leaf.type_id leaf.test e ≡ true) → IsSide ix wanted f m y
-side_of_leaf ix wanted f leaf m y is bounds runs =
-    rw is (record {
-      bounds = λ n e. simp (value-Leaf, decided-Leaf) (bounds e);
-      runs = λ w e h. runs-Leaf ix e leaf ∙ runs w e h;
-    })
-
--- a match may have any value on any entry
-pub side_of_match : (ix : List Kinds) (wanted : Bool) (f : BoundFilter) (m : Match) → f ≡ bound.Match m → IsSide ix wanted f plan.Empty plan.Scope
-side_of_match ix wanted f m is =
-    rw is (record {
-      bounds = λ n e. record {
-        sound = λ h. let k : true ≡ false = sym h ∙ in_plan-Empty _ _ _ in cc;
-        complete = λ h. in_plan-Scope _ _ _;
-        exact = λ d h. let k : true ≡ false = sym d ∙ decided-Match ix m in cc;
-      };
-      runs = λ w e h. runs-Match ix e m;
     })
 
 -- what may be true of an `and` is true of each decided part

@@ -11,16 +11,10 @@ use Rattle.dir_index.specs.declared.posting.Posting.{Posting}
 use Rattle.dir_index.specs.declared.posting.Range.{Range}
 use Rattle.plan_sets.specs.Sets.{holds, in_plan, is_in, AreNumbered, HasEntry}
 use Rattle.plan_sets.specs.declared.plan.Plan.{Plan}
+use Rattle.plan_sets.proofs.Rising.{differs as not_eq}
 
 nat_eq_self : (n : ℕ) → nat_eq n n ≡ true
 nat_eq_self n = eq-eqb n n refl
-
-not_eq : (n m : ℕ) → n < m → nat_eq n m ≡ false
-not_eq n m h =
-    (elim (nat_eq n m) as (λ v. nat_eq n m ≡ v → v ≡ false) [
-      | true ↦ λ e. let same : n ≡ m = eqb-true n m e in absurd (omega arith)
-      | false ↦ λ e. refl
-    ]) refl
 
 -- an entry above all that is looked for is not there
 above : (n : ℕ) (es : List Indexed) (p : List KeyedAttribute → Bool) → AllByRecursion (λ y. n < y.number) es → has_number n (numbers_where p es) ≡ false

@@ -132,16 +132,6 @@ not_asked must may scope rest h t left rises within fails =
           (subst (λ (xs : List ℕ). AllByRecursion (λ y. h < y) xs) (sym back) (all_asked (λ y. h < y) (is_asked must may scope) rest (all_behind (take t u) rest h rises)));
     }
 
--- a candidate that is to be asked for leaves room for it
-pub room_to_ask : (must may : ℕ → Bool) (value : ℕ → Truth) (scope rest : List ℕ) (h t l : ℕ) → IsUnderWay must may value scope (h ∷ rest) t l → is_asked must may scope h ≡ true
-    → (l + 1 < 2 ^ 64) × (t + 1 < 2 ^ 64)
-room_to_ask must may value scope rest h t l w holds =
-    let p = asked must may scope rest h t w.left w.rises holds in
-    let within : suc t ≤ length (filter (is_open must may) scope) = p.within in
-    let fits : length (filter (is_open must may) scope) < 2 ^ 64 = w.fits in
-    let room : l + length (filter (is_open must may) scope) < 2 ^ 64 + t = w.room in
-    (omega arith, omega arith)
-
 -- what a run keeps when it passes a candidate
 pub record IsStep (must may : ℕ → Bool) (value : ℕ → Truth) (scope rest : List ℕ) (h t' l' : ℕ) : Type 0 where
   pub under_way : IsUnderWay must may value scope rest t' l'

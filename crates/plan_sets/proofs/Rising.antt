@@ -1,18 +1,14 @@
 -- Rising lists, and how far a run has come.
-use Rattle.std.proofs.Common.{◌≡◌, ℕ, ◌<◌, Bool, true, false, ◌&&◌, ◌||◌, List, [], ◌∷◌, length, map, cond, nat_eq, refl, sym, ap, ap₂, subst, ◌∙◌, eqb-true, eq-eqb, arith}
-use Rattle.std.specs.Prelude.{filter, count_by}
+use Rattle.std.proofs.Common.{◌≡◌, ℕ, ◌<◌, Bool, true, false, ◌&&◌, ◌||◌, List, [], ◌∷◌, map, cond, nat_eq, refl, sym, ap, ap₂, subst, ◌∙◌, eqb-true, eq-eqb, arith}
+use Rattle.std.specs.Prelude.{filter}
 use Rattle.std.specs.List.{list_any, AllByRecursion}
-use Rattle.std.proofs.lemmas.List.Sums.{length-filter}
 use Rattle.dir_index.specs.Postings.{has_number, IsRising}
 use Rattle.plan_sets.specs.Streams.{Covers, Draws}
+pub use Rattle.plan_sets.proofs.Searching.{both_false as or_none}
 
 pub any_map : {X Y : Type 0} (p : Y → Bool) (h : X → Y) (xs : List X) → list_any p (map h xs) ≡ list_any (λ x. p (h x)) xs
 any_map p h [] = refl
 any_map p h (x ∷ xs) = ap (λ (b : Bool). p (h x) || b) (any_map p h xs)
-
-pub or_none : (a b : Bool) → a ≡ false → b ≡ false → (a || b) ≡ false
-or_none true b h k = cc
-or_none false b h k = k
 
 pub differs : (n m : ℕ) → n < m → nat_eq n m ≡ false
 differs n m h =
@@ -125,11 +121,6 @@ pub filters_agree : (p : ℕ → Bool) (scope candidates : List ℕ) → IsRisin
 filters_agree p scope candidates rs rc covers =
     rising_same _ _ (filter_rising _ candidates rc) (filter_rising p scope rs)
     (λ n. has_filter (λ m. has_number m scope && p m) n candidates ∙ covered (has_number n candidates) (has_number n scope) (p n) (covers n) ∙ sym (has_filter p n scope))
-
-pub counts_agree : (p : ℕ → Bool) (scope candidates : List ℕ) → IsRising scope → IsRising candidates → Covers p scope candidates
-    → count_by (λ n. has_number n scope && p n) candidates ≡ count_by p scope
-counts_agree p scope candidates rs rc covers =
-    sym (length-filter _ candidates) ∙ ap length (filters_agree p scope candidates rs rc covers) ∙ length-filter p scope
 
 -- rising candidates that have all that may be found draw it from the scope
 pub drawn : (may : ℕ → Bool) (scope candidates : List ℕ) → IsRising scope → IsRising candidates → Covers may scope candidates → Draws may scope candidates

@@ -19,7 +19,7 @@ rising_at (x ∷ xs) h zero (suc j) le lt = let below : x < get_or xs j 0 = all_
 rising_at (x ∷ xs) h (suc i) zero le lt = absurd (omega arith)
 rising_at (x ∷ xs) h (suc i) (suc j) le lt = rising_at xs h.1 i j (omega arith) (omega arith)
 
-or_late : (a b : Bool) → b ≡ true → (a || b) ≡ true
+pub or_late : (a b : Bool) → b ≡ true → (a || b) ≡ true
 or_late true b h = refl
 or_late false b h = h
 
@@ -28,7 +28,7 @@ has_at n [] i lt is = absurd (omega arith)
 has_at n (x ∷ xs) zero lt is = ap (λ (b : Bool). b || has_number n xs) (eq-eqb n x (sym is))
 has_at n (x ∷ xs) (suc i) lt is = or_late _ _ (has_at n xs i (omega arith) is)
 
-both_false : (a b : Bool) → a ≡ false → b ≡ false → (a || b) ≡ false
+pub both_false : (a b : Bool) → a ≡ false → b ≡ false → (a || b) ≡ false
 both_false true b h k = cc
 both_false false b h k = k
 

@@ -1,6 +1,6 @@
 -- One step of the loops over borrowed lists.
-use Rattle.std.proofs.Common.{◌≡◌, ℕ, ◌+◌, ◌<◌, ◌≤◌, List, [], ◌∷◌, ◌++◌, length, map, take, drop, get_or, set, sym, ap, subst, ◌∙◌, Option, Bor, arith}
-use Rattle.std.proofs.lemmas.List.{map_more, map-set, get_or-map, take_all, drop_all, append-nil}
+use Rattle.std.proofs.Common.{◌≡◌, ℕ, ◌+◌, ◌<◌, List, [], ◌∷◌, ◌++◌, length, map, take, drop, get_or, set, sym, ap, subst, ◌∙◌, Option, Bor}
+use Rattle.std.proofs.lemmas.List.{map_more, map-set, get_or-map}
 use Rattle.std.proofs.lemmas.List.Edits.{map_over_more}
 use Rattle.plan_sets.specs.Streams.{behind, IsLeastHead, lesser}
 use Rattle.plan_sets.proofs.Together.{least_push}
@@ -22,6 +22,3 @@ skip_step n old ls i d r lt same so_far is =
     map-set (λ (x : Bor (List ℕ)). x.now) ls i r ∙ ap (set (lists_of ls) i) is
     ∙ map_over_more (behind n) old (lists_of ls) i (get_or ls i d).now (subst (λ (k : ℕ). i < k) same lt) so_far
     (sym (get_or-map (λ (x : Bor (List ℕ)). x.now) ls i d (get_or ls i d).now lt))
-
-pub skip_all : (n : ℕ) (old : List (List ℕ)) (i : ℕ) → length old ≤ i → map (behind n) (take i old) ++ drop i old ≡ map (behind n) old
-skip_all n old i h = rw (take_all i old (omega arith), drop_all i old (omega arith)) (append-nil (map (behind n) old))

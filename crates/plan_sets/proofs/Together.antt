@@ -6,6 +6,7 @@ use Rattle.std.specs.List.{list_any, AllByRecursion}
 use Rattle.dir_index.specs.Postings.{has_number, IsRising, AreRising}
 use Rattle.plan_sets.specs.Streams.{put, put_all, together, behind, begins_with, BeginsFrom, IsLeastHead, lesser}
 use Rattle.plan_sets.proofs.Rising.{all_above, rising_same}
+use Rattle.plan_sets.proofs.Searching.{or_late}
 
 put_above : (b n : ℕ) (xs : List ℕ) → b < n → AllByRecursion (λ y. b < y) xs → AllByRecursion (λ y. b < y) (put n xs)
 put_above b n [] lt h = (lt, tt)
@@ -128,13 +129,9 @@ all_above_behind n [] r from = tt
 all_above_behind n (xs ∷ ls) r from =
     put_all_above n (behind n xs) (together (map (behind n) ls)) (above_behind n xs r.0 from.0) (all_above_behind n ls r.1 from.1)
 
-or_true : (a b : Bool) → a ≡ true → (a || b) ≡ true
+pub or_true : (a b : Bool) → a ≡ true → (a || b) ≡ true
 or_true true b h = refl
 or_true false b h = cc
-
-or_late : (a b : Bool) → b ≡ true → (a || b) ≡ true
-or_late true b h = refl
-or_late false b h = h
 
 or_none : (b : Bool) → b ≡ (b || false)
 or_none true = refl

@@ -18,7 +18,7 @@ use Rattle.schema_laws.specs.Chains.{IsInEffect, has_no_superior, is_below}
 use Rattle.schema_laws.specs.FirstFaults.{IsBadIn, is_no_description, type_repeats, type_is_unfit, class_repeats, RefusedAtFirstBadLine, NamesUnknown, no_such_superior, no_such_equality, no_such_ordering, no_such_substrings, no_such_syntax, CallsNone, ClassNamesUnknown, no_such_superclass, no_such_required, no_such_allowed, HasUnknownIn, in_a_type, in_a_class, is_incomplete, RefusedAtFirstUnknown, HasEquality, has_its_own, inherits_one, RefusedAtFirstLack}
 use Rattle.schema_laws.proofs.Joined.{left_true, right_true}
 use Rattle.schema_laws.proofs.SoundTexts.{AreRising, text_is_sound, classes_are_sound}
-use Rattle.schema_laws.proofs.FirstFound.{first_none}
+use Rattle.schema_laws.proofs.FirstFound.{first_none, dot_by as right_or}
 use Rattle.schema_laws.proofs.FirstLoops.{false_true, IsFoundAt, found, not_before, one_of, lower, no_later_one, no_later_two, refused_is, other}
 use Rattle.schema_laws.proofs.InEffect.{IsChained, chained_by, none_of_all, not_not, found_effect}
 use Rattle.schema_laws.proofs.Looped.{type_is}
@@ -115,10 +115,6 @@ bad_type_by t i d n at line false b e f h = type_is_unfit i d at line (f ∙ h)
 left_or : (a b : Bool) → a ≡ true → (a || b) ≡ true
 left_or true b h = refl
 left_or false b h = absurd (false_true h)
-
-right_or : (a b : Bool) → b ≡ true → (a || b) ≡ true
-right_or true b h = refl
-right_or false b h = h
 
 bad_at : (t : SchemaTextModel) (n : ℕ) → (t.bad ≡ Some n) ⊎ ((first_of_types (is_bad_type t) 0 t.types ≡ Some n) ⊎ (first_of_all (is_repeated t.types t.classes) t.classes ≡ Some n)) → IsBadIn t n
 bad_at t n (inl e) = is_no_description e

@@ -14,6 +14,7 @@ use Rattle.schema_reader.specs.schema_text.Texts.{SchemaTextModel, read_text}
 use Rattle.schema_reader.specs.schema_meaning.Naming.{names_of, is_name_among, share_a_name, is_before, is_repeated, has_twice}
 use Rattle.schema_reader.specs.schema_meaning.Inheriting.{effect_of, is_unfit}
 use Rattle.schema_reader.specs.schema_meaning.Faults.{is_bad_type, first_of_types, first_of_all, earlier, bad_line}
+use Rattle.ldap_match.specs.ldap_syntax.Identifiers.{has_dot, are_numbers}
 use Rattle.ldap_match.specs.ldap_schema.Schema.{SchemaModel, TypeModel, find, is_called, is_same_name, first_name_of}
 use Rattle.schema_reader.specs.Described.{as_text, type_with, types_from, schema_of}
 use Rattle.schema_reader.specs.Reading.{refused_at, fault_of, unknown_of, loop_fault, unless_refused, schema_of_text}
@@ -44,7 +45,7 @@ digit_by false false z h = cc
 digit_is_key : (c : ℕ) → is_digit c ≡ true → is_key_octet c ≡ true
 digit_is_key c h = digit_by (is_alpha c) (is_digit c) (nat_eq c 45) h
 
-dot_by : (a b : Bool) → b ≡ true → (a || b) ≡ true
+pub dot_by : (a b : Bool) → b ≡ true → (a || b) ≡ true
 dot_by true b h = refl
 dot_by false b h = h
 
@@ -76,22 +77,19 @@ first_part : (c : ℕ) (ps : List (List ℕ)) → AllByRecursion (λ p. list_all
 first_part c [] h = record { digit = left_true (is_digit c) true h.0; rest = tt }
 first_part c (p ∷ ps) h = record { digit = left_true (is_digit c) (list_all is_digit p) h.0; rest = (right_true (is_digit c) (list_all is_digit p) h.0, h.1) }
 
-dotted_octets : (w : List ℕ) → AllByRecursion (λ p. list_all is_digit p ≡ true) (slice_split (nat_eq 46) w) → AllByRecursion (λ c. is_name_octet c ≡ true) w
+dotted_octets : (w : List ℕ) → AllByRecursion (λ p. list_all is_digit p ≡ true) (slice_split (λ c. nat_eq c 46) w) → AllByRecursion (λ c. is_name_octet c ≡ true) w
 dotted_octets [] h = tt
-dotted_octets (c ∷ cs) h = by (nat_eq 46 c) c cs refl h (λ g. dotted_octets cs g) where
-  turned : (c : ℕ) (b : Bool) → nat_eq 46 c ≡ b → nat_eq c 46 ≡ b
-  turned c b e = grind (arith, nat_tests)
+dotted_octets (c ∷ cs) h = by (nat_eq c 46) c cs refl h (λ g. dotted_octets cs g) where
+  by : (b : Bool) (c : ℕ) (cs : List ℕ) → nat_eq c 46 ≡ b → AllByRecursion (λ p. list_all is_digit p ≡ true) (cond b ([] ∷ slice_split (λ c. nat_eq c 46) cs) (onto_first c (slice_split (λ c. nat_eq c 46) cs)))
+      → (AllByRecursion (λ p. list_all is_digit p ≡ true) (slice_split (λ c. nat_eq c 46) cs) → AllByRecursion (λ c. is_name_octet c ≡ true) cs) → (is_name_octet c ≡ true) × AllByRecursion (λ c. is_name_octet c ≡ true) cs
+  by true c cs e h more = (dot_by (is_key_octet c) (nat_eq c 46) e, more h.1)
+  by false c cs e h more = let f = first_part c (slice_split (λ c. nat_eq c 46) cs) h in (key_is_name c (digit_is_key c f.digit), more f.rest)
 
-  by : (b : Bool) (c : ℕ) (cs : List ℕ) → nat_eq 46 c ≡ b → AllByRecursion (λ p. list_all is_digit p ≡ true) (cond b ([] ∷ slice_split (nat_eq 46) cs) (onto_first c (slice_split (nat_eq 46) cs)))
-      → (AllByRecursion (λ p. list_all is_digit p ≡ true) (slice_split (nat_eq 46) cs) → AllByRecursion (λ c. is_name_octet c ≡ true) cs) → (is_name_octet c ≡ true) × AllByRecursion (λ c. is_name_octet c ≡ true) cs
-  by true c cs e h more = (dot_by (is_key_octet c) (nat_eq c 46) (turned c true e), more h.1)
-  by false c cs e h more = let f = first_part c (slice_split (nat_eq 46) cs) h in (key_is_name c (digit_is_key c f.digit), more f.rest)
-
-numbers_in : (w : List ℕ) → is_numericoid w ≡ true → list_all is_number (slice_split (nat_eq 46) w) ≡ true
-numbers_in w h = right_true (nat_lt 1 (length (slice_split (nat_eq 46) w))) (list_all is_number (slice_split (nat_eq 46) w)) h
+numbers_in : (w : List ℕ) → is_numericoid w ≡ true → list_all is_number (slice_split (λ c. nat_eq c 46) w) ≡ true
+numbers_in w h = right_true (has_dot w) (are_numbers w) h
 
 oid_octets : (w : List ℕ) → is_numericoid w ≡ true → AllByRecursion (λ c. is_name_octet c ≡ true) w
-oid_octets w h = dotted_octets w (each_digits (slice_split (nat_eq 46) w) (numbers_in w h))
+oid_octets w h = dotted_octets w (each_digits (slice_split (λ c. nat_eq c 46) w) (numbers_in w h))
 
 -- the first octet
 abbrev BeginsWithDigit : List ℕ → Type 0
@@ -100,7 +98,7 @@ BeginsWithDigit (c ∷ cs) = is_digit c ≡ true
 
 begins_digit : (w : List ℕ) → is_numericoid w ≡ true → BeginsWithDigit w
 begins_digit [] h = cc
-begins_digit (c ∷ cs) h = by (nat_eq 46 c) c (slice_split (nat_eq 46) cs) (numbers_in (c ∷ cs) h) where
+begins_digit (c ∷ cs) h = by (nat_eq c 46) c (slice_split (λ c. nat_eq c 46) cs) (numbers_in (c ∷ cs) h) where
   by : (b : Bool) (c : ℕ) (ps : List (List ℕ)) → list_all is_number (cond b ([] ∷ ps) (onto_first c ps)) ≡ true → is_digit c ≡ true
   by true c ps h = cc
   by false c [] h = left_true (is_digit c) true (digits_of (c ∷ []) (left_true (is_number (c ∷ [])) true h))

@@ -2,7 +2,7 @@
 use Rattle.std.proofs.Common.{ℕ, ◌+◌, ◌<◌, zero, suc, List, [], ◌∷◌, ◌++◌, Bool, true, false, not, ◌&&◌, Option, None, Some, Ok, is_some, ◌≡◌, refl, sym, ap, ap₂, ◌∙◌, subst, length, reverse, slice_get, append-nil, arith}
 use Rattle.std.proofs.lemmas.List.{reverse-append}
 use Rattle.ldap_match.specs.ldap_syntax.declared.rule.Family.{Family}
-use Rattle.ldap_match.specs.ldap_schema.Schema.{SchemaModel, TypeModel}
+use Rattle.ldap_match.specs.ldap_schema.Schema.{SchemaModel}
 use Rattle.ldap_match.specs.ldap_schema.Schema as schema
 use Rattle.schema_reader.specs.schema_text.Descriptions.{DescriptionModel, first_text_at}
 use Rattle.schema_reader.specs.schema_text.Texts.{SchemaTextModel, read_text}

@@ -18,14 +18,11 @@ use Rattle.ldap_dn.specs.declared.token.Token.TheVariants.{Plain}
 use Rattle.schema_laws.specs.PrintedRead.{is_name_octet, IsReadable}
 use Rattle.schema_laws.proofs.Lettered.{not_left, not_right, plain_octets}
 use Rattle.schema_laws.proofs.Valued.{spelled_append, all_append, all_map, ends_of, kept_whole, tokens_of_value, value_spelled, value_allowed, value_read}
+pub use Rattle.schema_laws.proofs.Lettered.{right_of as right_true}
 
 pub left_true : (a b : Bool) → (a && b) ≡ true → a ≡ true
 left_true true b h = refl
 left_true false b h = cc
-
-pub right_true : (a b : Bool) → (a && b) ≡ true → b ≡ true
-right_true true b h = h
-right_true false b h = cc
 
 pub all_tests : {A : Type 0} (p : A → Bool) (xs : List A) → list_all p xs ≡ true → AllByRecursion (λ x. p x ≡ true) xs
 all_tests p [] h = tt

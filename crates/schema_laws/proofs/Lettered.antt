@@ -145,11 +145,11 @@ record IsSmall (c : ℕ) : Type 0 where
 small_at : (c k : ℕ) → nat_eq c k ≡ true → k < 128 → is_escapable k ≡ true → IsSmall c
 small_at c k e l h = let s : c ≡ k = eqb-true c k e in record { low = omega arith; escapable = ap is_escapable s ∙ h }
 
-either : {P : Type 0} (a b : Bool) → (a || b) ≡ true → (a ≡ true → P) → (b ≡ true → P) → P
+pub either : {P : Type 0} (a b : Bool) → (a || b) ≡ true → (a ≡ true → P) → (b ≡ true → P) → P
 either true b h f g = f refl
 either false b h f g = g h
 
-right_of : (a b : Bool) → (a && b) ≡ true → b ≡ true
+pub right_of : (a b : Bool) → (a && b) ≡ true → b ≡ true
 right_of true b h = h
 right_of false b h = cc
 

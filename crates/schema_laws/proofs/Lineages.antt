@@ -20,21 +20,13 @@ use Rattle.schema_reader.specs.Reading.{fault_of, schema_of_text}
 use Rattle.schema_reader.proofs.Judged.{known_of}
 use Rattle.ldap_dn.proofs.Spelled.{none_some, some_same}
 use Rattle.schema_laws.specs.Chains.{LoopsOfClassesLeadBack, IsAbove, IsMissing, MissingAreAbove, MissingStandOnce, MissingComeInTurn}
-use Rattle.schema_laws.proofs.FirstFound.{no_fault}
+use Rattle.schema_laws.proofs.FirstFound.{no_fault, dot_by as or_second}
 use Rattle.schema_laws.proofs.Joined.{left_true, right_true}
-use Rattle.schema_laws.proofs.Lettered.{not_left, not_right}
-
-or_cases : {P : Type 0} (a b : Bool) → (a || b) ≡ true → (a ≡ true → P) → (b ≡ true → P) → P
-or_cases true b h f g = f refl
-or_cases false b h f g = g h
+use Rattle.schema_laws.proofs.Lettered.{not_left, not_right, either as or_cases}
 
 or_first : (a b : Bool) → a ≡ true → (a || b) ≡ true
 or_first true b h = refl
 or_first false b h = absurd (cc)
-
-or_second : (a b : Bool) → b ≡ true → (a || b) ≡ true
-or_second true b h = refl
-or_second false b h = h
 
 false_true : false ≡ true → ⊥
 false_true h = cc

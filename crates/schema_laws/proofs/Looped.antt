@@ -1,9 +1,9 @@
 -- The types of a text whose chains of SUPs come back. Descriptions flow in; rules are not here.
-use Rattle.std.proofs.Common.{ℕ, ◌+◌, ◌<◌, zero, suc, List, [], ◌∷◌, Option, None, Some, ◌≡◌, sym, ap, ◌∙◌, length, slice_get, arith}
-use Rattle.ldap_match.specs.ldap_schema.Schema.{TypeModel, superior_in, superior_of}
+use Rattle.std.proofs.Common.{ℕ, ◌+◌, ◌<◌, suc, List, Option, None, Some, ◌≡◌, sym, ap, ◌∙◌, length, slice_get, arith}
+use Rattle.ldap_match.specs.ldap_schema.Schema.{superior_in, superior_of}
 use Rattle.schema_reader.specs.schema_text.Descriptions.{DescriptionModel}
 use Rattle.schema_reader.specs.schema_text.Texts.{read_text}
-use Rattle.schema_reader.specs.schema_meaning.Naming.{calls, superior_text, find, found_by}
+use Rattle.schema_reader.specs.schema_meaning.Naming.{calls, superior_text, found_by}
 use Rattle.schema_reader.specs.schema_meaning.Naming as naming
 use Rattle.schema_reader.specs.schema_meaning.Inheriting.{effect_of}
 use Rattle.schema_reader.specs.Described.{type_with, types_from, schema_of}
@@ -11,7 +11,7 @@ use Rattle.schema_laws.specs.Chains.{LoopsOfTypesLeadBack}
 use Rattle.ldap_dn.proofs.Spelled.{none_some}
 use Rattle.schema_laws.proofs.FirstFound.{type_at, some_at, count_types}
 use Rattle.schema_laws.proofs.ReadNames.{found_low}
-use Rattle.schema_laws.proofs.Walks.{AreWithin, first_step, goes_back, is_looping, under_from, from_under}
+use Rattle.schema_laws.proofs.Walks.{AreWithin, first_step, goes_back, is_looping, under_from, from_under, low_in}
 
 -- the type of a description
 pub type_is : (all : List DescriptionModel) (t : ℕ) (d : DescriptionModel) → slice_get all t ≡ Some d → slice_get (types_from all 0 all) t ≡ Some (type_with all d (effect_of all t))
@@ -23,11 +23,6 @@ superior_is all t d e = ap superior_in (type_is all t d e)
 found_within : (all : List DescriptionModel) (o : Option (List ℕ)) (u : ℕ) → found_by all o ≡ Some u → u < length all
 found_within all None u h = absurd (none_some h)
 found_within all (Some w) u h = omega (arith, found_low (calls w) 0 all u h)
-
-low_in : (ts : List TypeModel) (t u : ℕ) → superior_of ts t ≡ Some u → t < length ts
-low_in [] t u e = absurd (none_some e)
-low_in (x ∷ ts) zero u e = omega arith
-low_in (x ∷ ts) (suc t) u e = omega (arith, low_in ts t u e)
 
 pub are_within : (all : List DescriptionModel) → AreWithin (types_from all 0 all)
 are_within all t u h =

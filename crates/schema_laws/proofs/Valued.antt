@@ -10,7 +10,7 @@ use Rattle.ldap_dn.specs.Grammar.{IsSpelled, nothing, as_it_stands, by_itself, b
 use Rattle.ldap_dn.specs.Printed.{is_escaped, printed_from}
 use Rattle.ldap_dn.specs.Texts.{is_value_octet, begins_with_hash, text_of, value_of}
 use Rattle.ldap_dn.specs.declared.token.Token.{Token}
-use Rattle.schema_laws.proofs.Lettered.{IsGood, tokens_of_character, character_is_well}
+use Rattle.schema_laws.proofs.Lettered.{IsGood, tokens_of_character, character_is_well, right_of as right_true}
 
 pub spelled_append : {a b : List ℕ} {ts us : List Token} → IsSpelled a ts → IsSpelled b us → IsSpelled (a ++ b) (ts ++ us)
 spelled_append nothing q = q
@@ -124,10 +124,6 @@ whole_value (c ∷ cs) = kept_whole (tokens_from true (c ∷ cs)) (value_begins 
 pub all_true : {A : Type 0} (p : A → Bool) (xs : List A) → AllByRecursion (λ x. p x ≡ true) xs → list_all p xs ≡ true
 all_true p [] h = refl
 all_true p (x ∷ xs) h = ap (λ b. b && list_all p xs) h.0 ∙ all_true p xs h.1
-
-right_true : (a b : Bool) → (a && b) ≡ true → b ≡ true
-right_true true b h = h
-right_true false b h = cc
 
 -- the octets of the characters of a text are the text's
 text_again : (v : List ℕ) → is_utf8 v ≡ true → encode_utf8_all (chars v) ≡ v

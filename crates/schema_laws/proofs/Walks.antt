@@ -9,6 +9,7 @@ use Rattle.std.specs.List.{AllByRecursion, IsDistinct, list_any}
 use Rattle.ldap_match.specs.ldap_schema.Schema.{SchemaModel, TypeModel, led, superior_of, superiors, IsUnder, is_itself, goes_up}
 use Rattle.ldap_dn.proofs.Spelled.{none_some, some_same}
 use Rattle.schema_laws.proofs.Lettered.{not_left, not_right}
+use Rattle.schema_laws.proofs.FirstFound.{dot_by as or_second}
 
 -- ---- so many steps up
 
@@ -182,7 +183,7 @@ soon_from : (ts : List TypeModel) (f m t : ℕ) → AreWithin ts → t < length 
 soon_from ts zero m t w lt le b = absurd (omega (arith, le, b.some))
 soon_from ts (suc f) m t w lt le b = soon_by ts m t w lt b (cases_lt (length ts) m) (λ n less c. soon_from ts f n t w lt (omega (arith, le, less)) c)
 
-low_in : (ts : List TypeModel) (t u : ℕ) → superior_of ts t ≡ Some u → t < length ts
+pub low_in : (ts : List TypeModel) (t u : ℕ) → superior_of ts t ≡ Some u → t < length ts
 low_in [] t u e = absurd (none_some e)
 low_in (x ∷ ts) zero u e = omega arith
 low_in (x ∷ ts) (suc t) u e = omega (arith, low_in ts t u e)
@@ -196,10 +197,6 @@ pub soon : (ts : List TypeModel) (m t : ℕ) → AreWithin ts → IsBackIn ts m 
 soon ts m t w b = soon_from ts m m t w (back_low ts m t b) (omega arith) b
 
 -- ---- the test for a loop
-
-or_second : (a b : Bool) → b ≡ true → (a || b) ≡ true
-or_second true b h = refl
-or_second false b h = h
 
 hit_here : (q u : ℕ) (us : List ℕ) → u ≡ q → list_any (λ x. nat_eq x q) (u ∷ us) ≡ true
 hit_here q u us e = ap (λ b. b || list_any (λ x. nat_eq x q) us) (eq-eqb u q e)

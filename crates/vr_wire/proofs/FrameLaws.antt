@@ -1,14 +1,14 @@
 -- Frames: what is read is the message of the octets, and a frame is refused only for want of memory.
-use Rattle.std.proofs.Common.{◌≡◌, ◌≤◌, ℕ, List, length, Option, Some, None, sym, ap, subst, ◌∙◌}
+use Rattle.std.proofs.Common.{◌≡◌, ◌≤◌, ℕ, List, length, Some, sym, ap, subst, ◌∙◌}
 use Rattle.ldap_op.specs.Values.{OpValue}
 use Rattle.vr_state.specs.declared.message.PeerMessage.{PeerMessage}
 use Rattle.vr_wire.specs.declared.error.WireError.{WireError}
 use Rattle.vr_wire.specs.declared.error.WireError.TheVariants as error
 use Rattle.vr_wire.specs.Cutting.{Fails, cut_frame}
 use Rattle.vr_wire.specs.Frames.{limit}
-use Rattle.vr_wire.specs.Payloads.{Refuses, RefusesFrame, IsMessageOf, IsFrame, IsFrameOf, IsForeign}
+use Rattle.vr_wire.specs.Payloads.{Refuses, RefusesFrame, IsMessageOf, IsFrame, IsFrameOf}
 use Rattle.vr_wire.proofs.Fields.{IsBytes, some_is}
-use Rattle.vr_wire.proofs.Messages.{frame_takes, frame_again}
+use Rattle.vr_wire.proofs.Messages.{frame_takes, frame_again, not_some as nothing_is}
 
 pub frame_read : (bytes : List ℕ) (x : ℕ × (ℕ × PeerMessage (List ℕ))) (m : PeerMessage OpValue) → IsBytes bytes → cut_frame bytes ≡ Some x → IsMessageOf m x.1.1 → IsFrameOf (x.0, (x.1.0, m)) bytes
 frame_read bytes x m fits e h =
@@ -17,10 +17,6 @@ frame_read bytes x m fits e h =
 
 pub is_cut : (bytes : List ℕ) (cluster sender : ℕ) (m : PeerMessage OpValue) (f : IsFrame cluster sender m bytes) → cut_frame bytes ≡ Some (cluster, (sender, f.raw))
 is_cut bytes cluster sender m f = ap cut_frame f.spelled ∙ frame_again cluster sender f.raw f.cluster_is f.range (subst (λ (l : List ℕ). length l ≤ limit) f.spelled f.small)
-
-nothing_is : {A : Type 0} (x : A) (o : Option A) → o ≡ None → o ≡ Some x → ⊥
-nothing_is x None p q = absurd cc
-nothing_is x (Some y) p q = absurd cc
 
 pub frame_refused : (e : WireError) (bytes : List ℕ) → Fails e (cut_frame bytes) → Refuses IsFrameOf e bytes
 frame_refused error.BadFrame bytes none = λ p f. nothing_is (p.0, (p.1.0, f.raw)) (cut_frame bytes) none (is_cut bytes p.0 p.1.0 p.1.1 f)
@@ -38,12 +34,6 @@ payload_refused error.ForeignFrame bytes x e r = r
 payload_refused error.NoMemory bytes x e r = tt
 
 -- ---- whose frame it is
-
-pub own_frame : (cluster other : ℕ) (said : ℕ × PeerMessage OpValue) (bytes : List ℕ) → IsFrameOf (other, said) bytes → other ≡ cluster → IsFrame cluster said.0 said.1 bytes
-own_frame cluster other said bytes f e = subst (λ (n : ℕ). IsFrame n said.0 said.1 bytes) e f
-
-pub foreign_frame : (cluster other : ℕ) (said : ℕ × PeerMessage OpValue) (bytes : List ℕ) → IsFrameOf (other, said) bytes → (other ≡ cluster → ⊥) → IsForeign cluster bytes
-foreign_frame cluster other said bytes f e = record { other = other; sender = said.0; message = said.1; frame = f; differs = e }
 
 pub refused_so : (cluster : ℕ) (e : WireError) (bytes : List ℕ) → Refuses IsFrameOf e bytes → RefusesFrame cluster e bytes
 refused_so cluster error.BadFrame bytes r = λ other sender m f. r (other, (sender, m)) f

@@ -173,7 +173,7 @@ perhaps_some bytes x tag rest t one-is h =
     subst (λ (y : Option (Snapshot (List ℕ)) × List ℕ). Takes bytes (perhaps_octets y.0) y.1 × IsPerhapsInRange y.0) (some_is (Some b.0.0, b.0.1) x b.2)
     (Takes-then bytes (1 ∷ []) rest (held_octets b.0.0) b.0.1 first u.0, u.1)
 
-not_some : {A : Type 0} (x : A) (o : Option A) → o ≡ None → o ≡ Some x → ⊥
+pub not_some : {A : Type 0} (x : A) (o : Option A) → o ≡ None → o ≡ Some x → ⊥
 not_some x None p q = absurd cc
 not_some x (Some y) p q = absurd cc
 

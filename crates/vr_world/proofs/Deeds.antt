@@ -1,6 +1,6 @@
 -- One place of a cluster is written. In: a replica that goes or comes. Out: the world at every index.
 -- Nothing of what is sent is here.
-use Rattle.std.proofs.Common.{◌≡◌, ◌≢◌, ℕ, zero, suc, ◌<◌, ◌==◌, Bool, true, false, cond, ◌||◌, List, [], ◌∷◌, ◌++◌, Vec, reverse, is_some, length, get_or, set, slice_get, slice_index, Option, Some, None, IfSome, refl, sym, ap, ◌∙◌, arith, eqb-true, eq-eqb, true≢false}
+use Rattle.std.proofs.Common.{◌≡◌, ◌≢◌, ℕ, zero, suc, ◌<◌, ◌==◌, Bool, true, false, cond, ◌||◌, List, [], ◌∷◌, ◌++◌, Vec, reverse, length, get_or, set, slice_get, slice_index, Option, Some, None, IfSome, refl, sym, ap, ◌∙◌, arith, eqb-true, eq-eqb, true≢false}
 use Rattle.std.specs.List.{list_any}
 use Rattle.std.proofs.lemmas.List.{get_or-set_same, get_or-set_other, reverse-append}
 use Rattle.std.proofs.lemmas.List.Folds.{list_any-append}
@@ -120,15 +120,3 @@ noted_nonce {B} nonces i x u v is h e =
     put_is (λ j. used (slice_get nonces j)) (λ j. used (slice_get (set nonces i v) j)) i (x ∷ used (slice_get nonces i))
     (λ j q. ap used (get_written nonces i j v q h) ∙ (ap reverse e ∙ reverse-append u.items (x ∷ [])) ∙ ap (λ (o : Option (Vec ℕ B)). x ∷ used o) (ap Some is ∙ sym (slice_get-get_or nonces i u h)))
     (λ j ne. ap used (get_kept nonces i j v ne))
-
--- Whether one is up.
-pub is_up_there : {P : Type 0} (up : List (Option (Replica P))) (i : ℕ) (o : Option (Replica P)) (b : Bool) → o ≡ get_or up i o → i < length up → b ≡ is_some o → b ≡ is_some (up_state (slice_get up i))
-is_up_there {P} up i o b is h e = e ∙ same o ∙ ap (λ (z : Option (Option (Replica P))). is_some (up_state z)) (ap Some is ∙ sym (slice_get-get_or up i o h))
-  where
-    same : (z : Option (Replica P)) → is_some z ≡ is_some (up_state (Some z))
-    same None = refl
-    same (Some r) = refl
-
--- The state of what is at a place.
-pub state_there : {P : Type 0} (o : Option (Option (Replica P))) → (r : Replica P) → o ≡ Some (Some r) → Some (state r) ≡ up_state o
-state_there o r e = sym (ap up_state e)

@@ -30,22 +30,6 @@ stepped_is {P} w new i j r act d h e up hd =
     ∙ (λ t. record (made i (act r) w) { replicas = put_over i (Some (act r).state) None w.replicas t })
     ∙ ap (λ o. stepped i act o w) up
 
--- A replica that is down makes none.
-pub down_is : {P : Type 0} (w new : World P) (i : ℕ) (act : State P → Outcome P) → new ≡ crashed i w → None ≡ w.replicas i → new ≡ stepped i act (w.replicas i) w
-down_is {P} w new i act h e = h ∙ (λ t. record w { replicas = put_same i None w.replicas e t }) ∙ ap (λ o. stepped i act o w) e
-
--- A replica that isn't there makes none.
-pub absent_is : {P : Type 0} (w : World P) (i : ℕ) (act : State P → Outcome P) → w.replicas i ≡ None → w ≡ stepped i act (w.replicas i) w
-absent_is w i act e = sym (ap (λ o. stepped i act o w) e)
-
--- So it is all one whether its index is looked at first.
-pub test_first : {P : Type 0} (w : World P) (n i : ℕ) (act : State P → Outcome P) → (n ≤ i → w.replicas i ≡ None) → stepped i act (w.replicas i) w ≡ cond (nat_lt i n) (stepped i act (w.replicas i) w) w
-test_first {P} w n i act h = by_test (λ z. stepped i act (w.replicas i) w ≡ z) (nat_lt i n) (stepped i act (w.replicas i) w) w (λ e. refl) (λ e. past e (cases_lt i n))
-  where
-    past : nat_lt i n ≡ false → (i < n) ⊎ (n ≤ i) → stepped i act (w.replicas i) w ≡ w
-    past e (inl lt) = absurd (true≢false (sym (lt-ltb i n lt) ∙ e))
-    past e (inr le) = sym (absent_is w i act (h le))
-
 -- The stored view after a step is the replica's.
 pub stored_is : {P : Type 0} (n i v : ℕ) (e : Event P) (old new : State P) (store : Option ℕ) → store ≡ view_to_store old new → new ≡ (step n i old e).state → old.view_number ≡ v → new.view_number ≡ unwrap_or store v
 stored_is {P} n i v e old new store hs hn hv =

@@ -1,4 +1,3 @@
-use Rattle.std.proofs.Common.{sym, ◌∙◌}
 use Rattle.std.proofs.lemmas.Result.{IfOk-weaker}
 use Rattle.ldap_filter.specs.ItemView.{extensible_view}
 use Rattle.ldap_eval.proofs.Matches.{bound_equality, bound_match}

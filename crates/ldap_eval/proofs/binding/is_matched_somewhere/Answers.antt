@@ -1,4 +1,4 @@
-use Rattle.std.proofs.Common.{ℕ, ◌+◌, ◌<◌, ◌≤◌, ◌||◌, List, Bool, true, false, Some, Option, suc, length, drop, slice_get, ap, sym, subst, ◌∙◌, ◌≡◌, add-one, arith}
+use Rattle.std.proofs.Common.{ℕ, ◌<◌, ◌≤◌, ◌||◌, Bool, true, false, Some, Option, suc, length, drop, slice_get, ap, sym, subst, ◌∙◌, ◌≡◌, add-one, arith}
 use Rattle.std.proofs.lemmas.List.{drop_all}
 use Rattle.std.specs.List.{list_any}
 use Rattle.dir_entry.specs.ldap_schema.Schema.{TypeModel}

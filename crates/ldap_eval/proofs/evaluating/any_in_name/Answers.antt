@@ -1,4 +1,4 @@
-use Rattle.std.proofs.Common.{ℕ, ◌+◌, ◌<◌, ◌≤◌, List, map, length, drop, ap, sym, subst, ◌∙◌, add-one, arith}
+use Rattle.std.proofs.Common.{ℕ, ◌<◌, ◌≤◌, List, map, length, drop, ap, sym, subst, ◌∙◌, add-one, arith}
 use Rattle.std.proofs.lemmas.List.{drop_all}
 use Rattle.dir_entry.specs.ldap_dn.Names.{RdnModel}
 use Rattle.dir_entry.specs.ldap_dn.Pairs.{pairs_of}

@@ -6,7 +6,7 @@ use Rattle.ldap_filter.specs.Tree.{negation}
 use Rattle.ldap_fields.specs.Fields.{HasField}
 use Rattle.ldap_filter.specs.Limits.{here}
 use Rattle.ldap_filter.specs.declared.tree.Filter.{Not, the_lemmas}
-use Rattle.ldap_filter.proofs.Faults.{row_fault, not_fault, trailing, item_fault, item_reads, not_reads}
+use Rattle.ldap_filter.proofs.Faults.{row_fault, not_fault, trailing, item_fault, not_reads}
 use Rattle.ldap_fields.proofs.RowLemmas.{some_left, none_left}
 use Rattle.ldap_filter.proofs.Rows.{goes_on, fails, views_push}
 use Rattle.ldap_filter.proofs.reading.+filter.Goals as goal
