@@ -35,11 +35,10 @@ fn written(alloc: Global, id: u32, item: &Record) -> Result<Vec<u8>, ImportError
         op: ProtocolOp::Request(Request::Add(add_of(alloc, item)?)),
         controls: Vec::new(alloc),
     };
-    match encode(alloc, &message) {
-        Ok(octets) => Ok(octets),
-        Err(EncodeError::TooLong) => Err(ImportError::TooLong),
-        Err(EncodeError::NoMemory) => Err(ImportError::NoMemory),
-    }
+    encode(alloc, &message).map_err(|error| match error {
+        EncodeError::TooLong => ImportError::TooLong,
+        EncodeError::NoMemory => ImportError::NoMemory,
+    })
 }
 
 /// Puts the line of a record's add.

@@ -118,11 +118,10 @@ fn write_message(
         op: ProtocolOp::Response(response),
         controls,
     };
-    match encode(alloc, &message) {
-        Ok(octets) => Ok(octets),
-        Err(EncodeError::TooLong) => Err(AnswerError::TooLong),
-        Err(EncodeError::NoMemory) => Err(AnswerError::NoMemory),
-    }
+    encode(alloc, &message).map_err(|error| match error {
+        EncodeError::TooLong => AnswerError::TooLong,
+        EncodeError::NoMemory => AnswerError::NoMemory,
+    })
 }
 
 /// A response without controls, written.
