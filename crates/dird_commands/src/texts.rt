@@ -4,6 +4,9 @@ ghost use Rattle.std.specs.Io.KnownBytes.{Appends};
 ghost use Rattle.local_directory.specs.ldap_msg.View.{search_view};
 ghost use Rattle.local_directory.specs.ldif_messages.Imports.{IsImport};
 ghost use Rattle.local_directory.specs.ldif_messages.Exports.{IsExport};
+ghost use Rattle.local_directory.specs.Searched.{IsSearched};
+ghost use Rattle.schema_reader.specs.BuiltIn.{built_in};
+ghost use Rattle.dird_commands.specs.Begun.{empty_directory};
 ghost use Rattle.dird_commands.specs.Texts.{Turns, IsRequestOf, IsAnswerTo};
 
 use crate::fault::Fault;
@@ -94,7 +97,16 @@ fn request_of(alloc: Global, question: &Question<'_>) -> Result<SearchRequest, F
     })
 }
 
-/// Searches the directory of an LDIF text, whose records are added in order to one without entries, under the built-in schema.
+/// What is shown of the directory of an LDIF text, whose records are added in order to one without entries, under the built-in schema.
+fn searched(alloc: Global, text: &[u8], request: &SearchRequest) -> Result<Vec<u8>, Fault>
+    ensures { IfOk result (λ v. IsSearched (empty_directory built_in) text.now (search_view request.now) v.items) }
+{
+    let schema = Arc::new(alloc, built_in_schema(alloc)?)?;
+    let store = empty(alloc, schema, Indexes::none(alloc))?;
+    Ok(search_text(alloc, store, text, request)?)
+}
+
+/// Searches the directory of an LDIF text.
 pub fn search_input<R: BufRead, W: Write>(
     alloc: Global,
     question: &Question<'_>,
@@ -105,8 +117,6 @@ pub fn search_input<R: BufRead, W: Write>(
 {
     let request = request_of(alloc, question)?;
     let text = read_all(alloc, input)?;
-    let schema = Arc::new(alloc, built_in_schema(alloc)?)?;
-    let store = empty(alloc, schema, Indexes::none(alloc))?;
-    let written = search_text(alloc, store, &text, &request)?;
+    let written = searched(alloc, &text, &request)?;
     write_out(&written, output)
 }
