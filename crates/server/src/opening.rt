@@ -17,9 +17,11 @@ pub fn open_node<'a, R: Files<File = File> + Wait>(
     is_fresh: bool,
     seats: usize,
 ) -> Result<Opened<'a, R, FileDevice>, ServerError>
-    requires within { config.index < config.count }
     requires seats { (0 < seats) × (seats ≤ 32) }
 {
+    if config.index >= config.count {
+        return Err(ServerError::CannotListen);
+    }
     let device = FileDevice::open(rt, alloc, store)?;
     Ok(open(rt, alloc, device, config, is_fresh, seats)?)
 }

@@ -321,6 +321,7 @@ struct Rooms {
     boxes: Vec<Outbox>,
     uris: Vec<String>,
     crew: Crew,
+    sender: u8,
 }
 
 /// The listeners of the replica of this index, and all that its threads share.
@@ -332,6 +333,9 @@ fn make_rooms<R: Net<Listener = TcpListener, Stream = TcpStream>>(
     limits: Limits,
 ) -> Result<Rooms, ServerError> {
     let Some(place) = places.get(index as usize) else {
+        return Err(ServerError::CannotListen);
+    };
+    let Ok(sender) = u8::try_from(index) else {
         return Err(ServerError::CannotListen);
     };
     let boxes = outboxes(alloc, places.len())?;
@@ -346,6 +350,7 @@ fn make_rooms<R: Net<Listener = TcpListener, Stream = TcpStream>>(
         boxes,
         uris,
         crew: Crew::new(places.len()),
+        sender,
     })
 }
 
@@ -390,6 +395,70 @@ where
     server.run(&clock, ways, terms.waiting.max(1), &terms.config)
 }
 
+/// Opens the node, says where clients are heard, and runs all threads over what they share.
+fn serve_in<R, W: Write>(
+    rt: &R,
+    alloc: Global,
+    rooms: &Rooms,
+    options: Options<'_>,
+    output: &mut W,
+) -> Result<(), ServerError>
+where
+    R: Net<Listener = TcpListener, Stream = TcpStream>
+        + Files<File = File>
+        + Threads
+        + Wait
+        + Clock
+        + Eprint
+        + Sync,
+{
+    let schema = Arc::try_clone(&options.node.schema)?;
+    let Options {
+        node,
+        manager,
+        password,
+        store,
+        is_fresh,
+        seats,
+        waiting,
+        times,
+        places,
+        ..
+    } = options;
+    let cluster = node.cluster;
+    let Opened {
+        running,
+        seats,
+        outputs,
+        restarts,
+    } = open_node(rt, alloc, store, node, is_fresh, seats.clamp(1, SEATS))?;
+    let posts = Posts {
+        rt,
+        alloc,
+        cluster,
+        sender: rooms.sender,
+        boxes: &rooms.boxes,
+    };
+    for send in outputs.sends {
+        posts.send(send.to, send.message);
+    }
+    announce(output, &rooms.clients)?;
+    let config = Config {
+        schema: &schema,
+        manager: &manager,
+        password: password.as_bytes(),
+        replica: rooms.sender,
+        restarts,
+        session: 0,
+    };
+    let terms = Terms {
+        config,
+        waiting,
+        times,
+    };
+    run_in(rt, alloc, rooms, seats, &running, &posts, places, terms)
+}
+
 /// Serves as a replica: listens, opens its node, says so, and serves clients and the other replicas until the node has stopped for good. It
 /// ends only with an error; where the process is ended from outside, its replica has crashed in the protocol's sense.
 pub fn serve<R, W: Write>(
@@ -407,57 +476,7 @@ where
         + Eprint
         + Sync,
 {
-    let Options {
-        node,
-        manager,
-        password,
-        store,
-        is_fresh,
-        seats,
-        waiting,
-        times,
-        limits,
-        places,
-    } = options;
-    if node.index >= node.count {
-        return Err(ServerError::CannotListen);
-    }
-    let Ok(sender) = u8::try_from(node.index) else {
-        return Err(ServerError::CannotListen);
-    };
-    let schema = Arc::try_clone(&node.schema)?;
-    let places = places.to_vec(alloc)?;
-    let (index, cluster) = (node.index, node.cluster);
-    let rooms = make_rooms(rt, alloc, &places, index, limits)?;
-    let Opened {
-        running,
-        seats,
-        outputs,
-        restarts,
-    } = open_node(rt, alloc, store, node, is_fresh, seats.clamp(1, SEATS))?;
-    let posts = Posts {
-        rt,
-        alloc,
-        cluster,
-        sender,
-        boxes: &rooms.boxes,
-    };
-    for send in outputs.sends {
-        posts.send(send.to, send.message);
-    }
-    announce(output, &rooms.clients)?;
-    let config = Config {
-        schema: &schema,
-        manager: &manager,
-        password: password.as_bytes(),
-        replica: sender,
-        restarts,
-        session: 0,
-    };
-    let terms = Terms {
-        config,
-        waiting,
-        times,
-    };
-    run_in(rt, alloc, &rooms, seats, &running, &posts, &places, terms)
+    let index = options.node.index;
+    let rooms = make_rooms(rt, alloc, options.places, index, options.limits)?;
+    serve_in(rt, alloc, &rooms, options, output)
 }
