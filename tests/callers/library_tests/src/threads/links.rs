@@ -1,0 +1,154 @@
+//! Links over this machine's loopback, and the frames of streams in memory. Frames flow out and in, and are compared.
+
+use crate::threads::signal::Signal;
+use peer_link::{Bytes, FrameEnd, Outbox, SocketDialer, read_head, read_rest, send_all};
+use std::alloc::{AllocError, Global};
+use std::net::{Net, TcpListener, TcpStream};
+use std::process::Abort;
+use std::sync::Wait;
+use std::test::*;
+use std::thread::Threads;
+use std::time::{Clock, Duration};
+use std::{io, thread};
+
+/// A frame of one octet.
+fn frame(alloc: Global, octet: u8) -> Result<Bytes, AllocError> {
+    Ok(Bytes::from_vec(vec![in alloc; 0, 0, 0, 1, octet]?)?)
+}
+
+/// Takes a connection and one frame of it, and closes it: the frame's octet.
+fn take_one(alloc: Global, listener: &TcpListener) -> io::Result<u8> {
+    let (mut stream, _) = listener.accept()?;
+    let Ok(head) = read_head(&mut stream) else {
+        return Ok(0);
+    };
+    match read_rest(alloc, &mut stream, head, u32::from_be_bytes(head)) {
+        Ok(frame) => Ok(frame.last().copied().unwrap_or(0)),
+        Err(_) => Ok(0),
+    }
+}
+
+/// Puts a frame now and then, until that is no longer needed.
+fn put_until<R: Wait + Clock>(
+    rt: &R,
+    alloc: Global,
+    outbox: &Outbox,
+    taken: &Signal,
+) -> Result<(), AllocError> {
+    for _ in rt.forever() {
+        if taken.has_come(rt) {
+            break;
+        }
+        outbox.put(rt, frame(alloc, 2)?);
+        thread::sleep(rt, Duration::from_millis(5));
+    }
+    Ok(())
+}
+
+/// Takes a frame, and says so.
+fn take_and_tell<R: Wait>(
+    rt: &R,
+    alloc: Global,
+    listener: &TcpListener,
+    taken: &Signal,
+) -> io::Result<u8> {
+    let octet = take_one(alloc, listener);
+    taken.give(rt);
+    octet
+}
+
+/// Takes one frame of a link, closes it, and takes a frame of the next while frames are put.
+fn take_two<R: Wait + Clock + Threads + Sync>(
+    rt: &R,
+    alloc: Global,
+    listener: &TcpListener,
+    outbox: &Outbox,
+) -> io::Result<(u8, u8)> {
+    let first = take_one(alloc, listener)?;
+    let taken = Signal::new();
+    let (second, put) = thread::join(
+        rt,
+        || take_and_tell(rt, alloc, listener, &taken),
+        || put_until(rt, alloc, outbox, &taken),
+    );
+    put?;
+    Ok((first, second?))
+}
+
+/// Takes one frame of a link, closes it, and takes the one that is put long after.
+fn take_late<R: Wait + Clock>(
+    rt: &R,
+    alloc: Global,
+    listener: &TcpListener,
+    outbox: &Outbox,
+) -> io::Result<(u8, u8)> {
+    let first = take_one(alloc, listener)?;
+    thread::sleep(rt, Duration::from_millis(1100));
+    outbox.put(rt, frame(alloc, 3)?);
+    Ok((first, take_one(alloc, listener)?))
+}
+
+/// Stops a link when this is done.
+fn and_stop<R: Wait, T>(rt: &R, outbox: &Outbox, done: T) -> T {
+    outbox.stop(rt);
+    done
+}
+
+#[test]
+fn a_closed_link_is_made_again(rt: HostRuntime) -> Result<(), Fail> {
+    let listener = TcpListener::bind(&rt, "127.0.0.1:0")?;
+    let at = listener.local_addr()?;
+    let outbox = Outbox::new(rt.alloc(), 8, 1000)?;
+    outbox.put(&rt, frame(rt.alloc(), 1)?);
+    let (taken, ()) = thread::join(
+        &rt,
+        || and_stop(&rt, &outbox, take_two(&rt, rt.alloc(), &listener, &outbox)),
+        || {
+            let mut dialer = SocketDialer::new(&rt, at, Duration::from_secs(5));
+            send_all(&rt, &outbox, &mut dialer);
+        },
+    );
+    let (first, second) = taken?;
+    assert_eq!(rt; first, 1);
+    assert_eq!(rt; second, 2);
+    Ok(())
+}
+
+#[test]
+fn an_idle_link_that_was_closed_loses_no_frame(rt: HostRuntime) -> Result<(), Fail> {
+    let listener = TcpListener::bind(&rt, "127.0.0.1:0")?;
+    let at = listener.local_addr()?;
+    let outbox = Outbox::new(rt.alloc(), 8, 1000)?;
+    outbox.put(&rt, frame(rt.alloc(), 1)?);
+    let (taken, ()) = thread::join(
+        &rt,
+        || and_stop(&rt, &outbox, take_late(&rt, rt.alloc(), &listener, &outbox)),
+        || {
+            let mut dialer = SocketDialer::new(&rt, at, Duration::from_secs(5));
+            send_all(&rt, &outbox, &mut dialer);
+        },
+    );
+    let (first, second) = taken?;
+    assert_eq!(rt; first, 1);
+    assert_eq!(rt; second, 3);
+    Ok(())
+}
+
+/// The next frame of a stream in memory.
+fn next(alloc: Global, stream: &mut &[u8]) -> Result<Vec<u8>, FrameEnd> {
+    let head = read_head(stream)?;
+    read_rest(alloc, stream, head, u32::from_be_bytes(head))
+}
+
+#[test]
+fn frames_end_with_their_stream(rt: HostRuntime) -> Result<(), Fail> {
+    let octets = b"\x00\x00\x00\x02ab\x00\x00\x00\x00\x00\x00\x00\x03ab";
+    let mut stream: &[u8] = &octets[..];
+    assert!(rt; next(rt.alloc(), &mut stream)?.as_slice() == &b"\x00\x00\x00\x02ab"[..]);
+    assert!(rt; next(rt.alloc(), &mut stream)?.as_slice() == &b"\x00\x00\x00\x00"[..]);
+    assert!(rt; next(rt.alloc(), &mut stream).err() == Some(FrameEnd::Cut));
+    assert!(rt; next(rt.alloc(), &mut stream).err() == Some(FrameEnd::Closed));
+    let mut head: &[u8] = &octets[..3];
+    assert!(rt; next(rt.alloc(), &mut head).err() == Some(FrameEnd::Cut));
+    Ok(())
+}

@@ -1,5 +1,0 @@
-//! Tests of frames: outside vectors both ways, each kind read and written again, octets that are no frame, and frames of other clusters.
-#![tactic(auto)]
-
-#[cfg(test)]
-mod tests;
