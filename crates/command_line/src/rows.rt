@@ -1,6 +1,7 @@
 //! Words of commands as rows of data, and those that several commands take. A row flows in, a command that takes its words flows out.
 //! The words of one command alone are not here.
-use clap::{Arg, ArgAction, Command, value_parser};
+use clap::error::ErrorKind;
+use clap::{Arg, ArgAction, Command, Error, value_parser};
 use std::alloc::{AllocError, Global};
 
 /// What a word takes.
@@ -100,4 +101,17 @@ pub fn command_of<'a>(alloc: Global, order: &Order) -> Result<Command<'a>, Alloc
         command = command.arg(argument(alloc, word))?;
     }
     Ok(command)
+}
+
+/// The error of a command, unless memory ran out for it.
+fn error_of(command: Result<Command<'_>, AllocError>, message: &str) -> Result<Error, AllocError> {
+    command?.error(ErrorKind::ValueValidation, message)
+}
+
+/// The error by which a command refuses words that it has matched.
+pub fn refusal_by(command: Result<Command<'_>, AllocError>, message: &str) -> Error {
+    match error_of(command, message) {
+        Ok(error) => error,
+        Err(error) => Error::from(error),
+    }
 }

@@ -1,8 +1,7 @@
 //! The words of `serve`: what a replica is told. Matched words flow in, and a replica's settings flow out, or why they are none. What a
 //! replica does with them is not here.
-use crate::rows::{INDEX_WORD, Order, SCHEMA_WORD, Takes, Word, command_of};
+use crate::rows::{INDEX_WORD, Order, SCHEMA_WORD, Takes, Word, command_of, refusal_by};
 use crate::words::as_text;
-use clap::error::ErrorKind;
 use clap::{ArgMatches, Error};
 use std::alloc::Global;
 use std::net::SocketAddr;
@@ -196,14 +195,7 @@ fn peer_of(word: &str) -> Option<Peer> {
 
 /// An error in the words of `serve`.
 fn refused(alloc: Global, message: &str) -> Error {
-    let made = match command_of(alloc, &SERVE) {
-        Ok(mut command) => command.error(ErrorKind::ValueValidation, message),
-        Err(error) => Err(error),
-    };
-    match made {
-        Ok(error) => error,
-        Err(error) => Error::from(error),
-    }
+    refusal_by(command_of(alloc, &SERVE), message)
 }
 
 /// The replicas of a cluster, by their words.
@@ -236,6 +228,17 @@ fn text_in<'a>(matches: &ArgMatches<'a>, name: &str) -> &'a str {
     }
 }
 
+/// The suffix, the manager's name and the password.
+fn names_in<'a>(
+    alloc: Global,
+    matches: &ArgMatches<'a>,
+) -> Result<(&'a str, &'a str, &'a str), Error> {
+    let suffix = as_text(alloc, text_in(matches, "suffix"))?;
+    let manager = as_text(alloc, text_in(matches, "manager"))?;
+    let password = as_text(alloc, text_in(matches, "password"))?;
+    Ok((suffix, manager, password))
+}
+
 /// What `serve` is told.
 pub fn serving_in<'a>(alloc: Global, matches: &ArgMatches<'a>) -> Result<Serving<'a>, Error> {
     let peers = peers_in(alloc, matches.get_strs("PEER").unwrap_or(&[]))?;
@@ -243,13 +246,14 @@ pub fn serving_in<'a>(alloc: Global, matches: &ArgMatches<'a>) -> Result<Serving
     if index >= peers.len() as u64 {
         return Err(refused(alloc, "the id is not below the number of PEERs"));
     }
+    let (suffix, manager, password) = names_in(alloc, matches)?;
     Ok(Serving {
         cluster: number_in(matches, "cluster"),
         index,
         store: text_in(matches, "store"),
-        suffix: as_text(alloc, text_in(matches, "suffix"))?,
-        manager: as_text(alloc, text_in(matches, "manager"))?,
-        password: as_text(alloc, text_in(matches, "password"))?,
+        suffix,
+        manager,
+        password,
         schema: matches.get_str("schema"),
         indexes: matches.get_str("index"),
         seats: number_in(matches, "seats"),

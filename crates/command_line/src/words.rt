@@ -1,7 +1,6 @@
 //! The words of the command line: they flow in, a job flows out, or a text for the user. What a job does is not here.
-use crate::rows::{INDEX_WORD, Order, SCHEMA_WORD, Takes, Word, command_of};
+use crate::rows::{INDEX_WORD, Order, SCHEMA_WORD, Takes, Word, command_of, refusal_by};
 use crate::serving::{SERVE, Serving, serving_in};
-use clap::error::ErrorKind;
 use clap::{ArgMatches, Command, Error};
 use ldap_msg::Scope;
 use std::alloc::{AllocError, Global};
@@ -127,12 +126,20 @@ fn program<'a>(alloc: Global) -> Command<'a> {
         .arg_required_else_help(true)
 }
 
+/// The program's words with one command more.
+fn with_order<'a>(
+    alloc: Global,
+    command: Command<'a>,
+    order: &Order,
+) -> Result<Command<'a>, AllocError> {
+    command.subcommand(command_of(alloc, order)?)
+}
+
 /// All words.
 fn command<'a>(alloc: Global) -> Result<Command<'a>, AllocError> {
     let mut command = program(alloc);
     for order in ORDERS {
-        let taken = command_of(alloc, order)?;
-        command = command.subcommand(taken)?;
+        command = with_order(alloc, command, order)?;
     }
     Ok(command)
 }
@@ -157,19 +164,7 @@ fn scope_of(word: &str) -> Scope {
 
 /// The error of a word that is no text.
 fn not_text(alloc: Global) -> Error {
-    let made = match command(alloc) {
-        Ok(mut command) => {
-            command.error(
-                ErrorKind::ValueValidation,
-                "a word of the command line is not UTF-8",
-            )
-        }
-        Err(error) => Err(error),
-    };
-    match made {
-        Ok(error) => error,
-        Err(error) => Error::from(error),
-    }
+    refusal_by(command(alloc), "a word of the command line is not UTF-8")
 }
 
 /// A word that has to be a text, as the system's words that are none have a NUL; only the name of a file may be none.
@@ -200,10 +195,13 @@ fn question_in<'a>(alloc: Global, matches: &ArgMatches<'a>) -> Result<Question<'
     })
 }
 
-/// Reads the words of the command line, the program's name first. One that isn't UTF-8 comes with a NUL in it, and is refused anywhere but as the
-/// name of a file, which then can't be read.
-pub fn read_words<'a>(alloc: Global, words: &'a [String]) -> Result<Job<'a>, Error> {
-    let matches = command(alloc)?.try_get_matches_from(words)?;
+/// The words as they were matched.
+fn matched<'a>(alloc: Global, words: &'a [String]) -> Result<ArgMatches<'a>, Error> {
+    command(alloc)?.try_get_matches_from(words)
+}
+
+/// What matched words ask for.
+fn job_in<'a>(alloc: Global, matches: &ArgMatches<'a>) -> Result<Job<'a>, Error> {
     match matches.subcommand() {
         Some(("search", inner)) => Ok(Job::Search(question_in(alloc, inner)?)),
         Some(("import", _)) => Ok(Job::Import),
@@ -211,6 +209,13 @@ pub fn read_words<'a>(alloc: Global, words: &'a [String]) -> Result<Job<'a>, Err
         Some(("lab", inner)) => Ok(Job::Lab(inner.get_str("index"))),
         Some(("serve", inner)) => Ok(Job::Serve(serving_in(alloc, inner)?)),
         Some((_, inner)) => Ok(Job::Answer(opening_in(inner))),
-        None => Ok(Job::Answer(opening_in(&matches))),
+        None => Ok(Job::Answer(opening_in(matches))),
     }
+}
+
+/// Reads the words of the command line, the program's name first. One that isn't UTF-8 comes with a NUL in it, and is refused anywhere but as the
+/// name of a file, which then can't be read.
+pub fn read_words<'a>(alloc: Global, words: &'a [String]) -> Result<Job<'a>, Error> {
+    let matches = matched(alloc, words)?;
+    job_in(alloc, &matches)
 }
