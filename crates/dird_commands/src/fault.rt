@@ -11,23 +11,13 @@ use schema_reader::SchemaError;
 use std::alloc::{AllocError, AllocFailed};
 use thiserror::Error;
 
-/// Why a job stopped; each ends the run with status 1. A refusal without a text of its own prints its number, and its line or place.
+/// Why a job stopped; each ends the run with status 1. A refusal without a text of its own prints its number, and the line or the place that it is of.
 #[derive(Clone, Copy, Debug, PartialEq, Eq, Error)]
 pub enum Fault {
-    #[error("E12 {0}")]
-    BadDescription(usize),
-    #[error("E13 {0}")]
-    UnknownName(usize),
-    #[error("E14 {0}")]
-    LoopInSup(usize),
-    #[error("E15 {0}")]
-    NoEquality(usize),
-    #[error("E16 {0}")]
-    IndexWithoutRule(usize),
+    #[error("E{number} {place}")]
+    Placed { number: u32, place: usize },
     #[error("bad name")]
     BadName,
-    #[error("E18 {0}")]
-    BadFilterText(usize),
     #[error("E9")]
     TooDeep,
     #[error("E10")]
@@ -85,13 +75,18 @@ impl From<ScriptError> for Fault {
     }
 }
 
+/// The refusal of this number at a line or a place.
+fn placed(number: u32, place: usize) -> Fault {
+    Fault::Placed { number, place }
+}
+
 impl From<SchemaError> for Fault {
     fn from(error: SchemaError) -> Fault {
         match error {
-            SchemaError::BadDescription { line } => Fault::BadDescription(line),
-            SchemaError::UnknownName { line } => Fault::UnknownName(line),
-            SchemaError::LoopInSup { line } => Fault::LoopInSup(line),
-            SchemaError::NoEquality { line } => Fault::NoEquality(line),
+            SchemaError::BadDescription { line } => placed(12, line),
+            SchemaError::UnknownName { line } => placed(13, line),
+            SchemaError::LoopInSup { line } => placed(14, line),
+            SchemaError::NoEquality { line } => placed(15, line),
             SchemaError::NoMemory => Fault::NoMemory,
         }
     }
@@ -100,9 +95,9 @@ impl From<SchemaError> for Fault {
 impl From<IndexError> for Fault {
     fn from(error: IndexError) -> Fault {
         match error {
-            IndexError::BadDescription { line } => Fault::BadDescription(line),
-            IndexError::UnknownName { line } => Fault::UnknownName(line),
-            IndexError::IndexWithoutRule { line } => Fault::IndexWithoutRule(line),
+            IndexError::BadDescription { line } => placed(12, line),
+            IndexError::UnknownName { line } => placed(13, line),
+            IndexError::IndexWithoutRule { line } => placed(16, line),
             IndexError::NoMemory => Fault::NoMemory,
         }
     }
@@ -111,7 +106,7 @@ impl From<IndexError> for Fault {
 impl From<FilterTextError> for Fault {
     fn from(error: FilterTextError) -> Fault {
         match error {
-            FilterTextError::BadFilterText { at } => Fault::BadFilterText(at),
+            FilterTextError::BadFilterText { at } => placed(18, at),
             FilterTextError::TooDeep => Fault::TooDeep,
             FilterTextError::TooManyItems => Fault::TooManyItems,
             FilterTextError::NoMemory => Fault::NoMemory,

@@ -2,7 +2,9 @@
 ghost use Rattle.std.specs.Prelude.{◌≡◌, ◌+◌, codes, IfOk};
 ghost use Rattle.std.specs.Arc.{arc_value};
 ghost use Rattle.local_directory.specs.dir_store.Stored.{NumbersBelow};
-ghost use Rattle.dird_commands.specs.Begun.{name_of, empty_directory, directory_at_first, number_at_first, AnswersFrom};
+ghost use Rattle.local_directory.specs.Allows.{allows};
+ghost use Rattle.hex_session.specs.Answered.{Answers};
+ghost use Rattle.dird_commands.specs.Begun.{name_of, config_of, empty_directory, directory_at_first, number_at_first, AnswersFrom};
 
 use crate::fault::Fault;
 use crate::sample::add_sample;
@@ -88,6 +90,30 @@ fn manager_name(alloc: Global, schema: &Schema) -> Result<Name, Fault>
     name_of_text(alloc, schema, MANAGER)
 }
 
+/// One session over a directory, by the schema that its names are read by.
+fn answer_over<R: BufRead, W: Write>(
+    alloc: Global,
+    schema: &Schema,
+    directory: &mut LocalDirectory,
+    input: &mut R,
+    output: &mut W,
+) -> Result<SessionEnd, Fault>
+    ensures { IfOk result (λ end. Answers allows (config_of schema.now) directory.old directory.new (R.remaining input.old) (R.remaining input.new)
+        (W.contents output.old) (W.contents output.new) end) }
+{
+    let manager = manager_name(alloc, schema)?;
+    let config = Config {
+        schema,
+        manager: &manager,
+        password: PASSWORD.as_bytes(),
+        replica: 0,
+        restarts: 0,
+        session: 1,
+    };
+    let end = answer_lines(alloc, &config, directory, input, output)?;
+    Ok(end)
+}
+
 /// One session over a directory of its own: each line of the input is a piece of the stream in hex, each response a line of the output.
 pub fn answer_session<R: BufRead, W: Write>(
     alloc: Global,
@@ -104,19 +130,8 @@ pub fn answer_session<R: BufRead, W: Write>(
         indexes,
         sample,
     } = options;
-    let names: &Schema = &schema;
-    let manager = manager_name(alloc, names)?;
     let shared = Arc::try_clone(&schema)?;
     let (store, number) = opened(alloc, shared, indexes, sample)?;
     let mut directory = LocalDirectory::new(alloc, store, number);
-    let config = Config {
-        schema: names,
-        manager: &manager,
-        password: PASSWORD.as_bytes(),
-        replica: 0,
-        restarts: 0,
-        session: 1,
-    };
-    let end = answer_lines(alloc, &config, &mut directory, input, output)?;
-    Ok(end)
+    answer_over(alloc, &schema, &mut directory, input, output)
 }

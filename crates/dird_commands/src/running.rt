@@ -95,27 +95,29 @@ fn perform<'a, S: ReadFiles, R: BufRead, W: Write>(
     output: &mut W,
 ) -> Result<Ran<'a>, Fault> {
     match job {
-        Job::Answer(opening) => {
-            let end = answer(system, alloc, opening, input, output)?;
-            return Ok(Ran::Ended(status_of(end)));
-        }
-        Job::Search(question) => search_input(alloc, &question, input, output)?,
-        Job::Import => import_input(alloc, input, output)?,
-        Job::Export => export_input(alloc, input, output)?,
-        Job::Lab(index) => lab(system, alloc, index, input, output)?,
-        Job::Serve(words) => return Ok(Ran::Serves(service_of(system, alloc, words)?)),
+        Job::Answer(opening) => answer(system, alloc, opening, input, output),
+        Job::Search(question) => done(search_input(alloc, &question, input, output)),
+        Job::Import => done(import_input(alloc, input, output)),
+        Job::Export => done(export_input(alloc, input, output)),
+        Job::Lab(index) => done(lab(system, alloc, index, input, output)),
+        Job::Serve(words) => Ok(Ran::Serves(service_of(system, alloc, words)?)),
     }
+}
+
+/// What became of a run whose job has no status of its own.
+fn done<'a>(told: Result<(), Fault>) -> Result<Ran<'a>, Fault> {
+    told?;
     Ok(Ran::Ended(Status::Done))
 }
 
 /// One session, once the schema and the index choice are read.
-fn answer<S: ReadFiles, R: BufRead, W: Write>(
+fn answer<'a, S: ReadFiles, R: BufRead, W: Write>(
     system: &S,
     alloc: Global,
     opening: Opening<'_>,
     input: &mut R,
     output: &mut W,
-) -> Result<SessionEnd, Fault> {
+) -> Result<Ran<'a>, Fault> {
     let schema = schema_of(system, alloc, opening.schema)?;
     let indexes = indexes_of(system, alloc, &schema, opening.index)?;
     let options = Options {
@@ -123,7 +125,8 @@ fn answer<S: ReadFiles, R: BufRead, W: Write>(
         indexes,
         sample: opening.sample,
     };
-    answer_session(alloc, options, input, output)
+    let end = answer_session(alloc, options, input, output)?;
+    Ok(Ran::Ended(status_of(end)))
 }
 
 /// One script, once the index choice is read, under the built-in schema.

@@ -16,17 +16,21 @@ pub struct Posts<'a, R> {
     pub boxes: &'a [Outbox],
 }
 
+impl<'a, R: Wait> Posts<'a, R> {
+    /// Puts the frame of a message into a queue. Without memory, or over the limit of a frame, the message is lost, as the network may lose one.
+    fn put(&self, outbox: &Outbox, message: &PeerMessage<Op>) {
+        if let Ok(written) = write(self.alloc, self.cluster, self.sender, message) {
+            if let Ok(frame) = Bytes::from_vec(written) {
+                outbox.put(self.rt, frame);
+            }
+        }
+    }
+}
+
 impl<'a, R: Wait> Peers for Posts<'a, R> {
     fn send(&self, to: u64, message: PeerMessage<Op>) {
-        let Some(outbox) = self.boxes.get(to as usize) else {
-            return;
-        };
-        // Without memory, or over the limit of a frame, the message is lost, as the network may lose one.
-        let Ok(written) = write(self.alloc, self.cluster, self.sender, &message) else {
-            return;
-        };
-        if let Ok(frame) = Bytes::from_vec(written) {
-            outbox.put(self.rt, frame);
+        if let Some(outbox) = self.boxes.get(to as usize) {
+            self.put(outbox, &message);
         }
     }
 }
