@@ -27,17 +27,12 @@ content_operation o x id p (m, h) = let s = step (number_part 2 (2 ^ 31)) (numbe
 pub content_at : (o x : List ℕ) (id : ℕ) → HasNumber o 2 (2 ^ 31) id x → (place : List ℕ) → OperationHasFilterAt x place → ContentHasFilterAt o place
 content_at o x id p place at = record { id = id; rest = x; id_field = p; operation = at }
 
-pub content_id : (o x y : List ℕ) (id : ℕ) (op : OperationValue) → HasNumber o 2 (2 ^ 31) id x → HasOperation op x y → (IsIdFor op id → ⊥) → (m : MessageValue) × IsMessageContent m o → ⊥
-content_id o x y id op p q bad (m, h) =
+pub content_behind : (o x y : List ℕ) (id : ℕ) (op : OperationValue) → HasNumber o 2 (2 ^ 31) id x → HasOperation op x y → (m : MessageValue) × IsMessageContent m o →
+    IsIdFor op id × ((row : List ControlValue) × AreControls row y)
+content_behind o x y id op p q (m, h) =
     let s = step (number_part 2 (2 ^ 31)) (number_unique 2 (2 ^ 31)) _ id m.id o x p h.parts in
     let t = step HasOperation operation_unique _ op m.op x y q s.next in
-    bad (subst (λ (u : OperationValue). IsIdFor u id) (sym t.value) (subst (λ (n : ℕ). IsIdFor m.op n) (sym s.value) h.id_for))
-
-pub content_controls : (o x y : List ℕ) (id : ℕ) (op : OperationValue) → HasNumber o 2 (2 ^ 31) id x → HasOperation op x y → (m : MessageValue) × IsMessageContent m o → (row : List ControlValue) × AreControls row y
-content_controls o x y id op p q (m, h) =
-    let s = step (number_part 2 (2 ^ 31)) (number_unique 2 (2 ^ 31)) _ id m.id o x p h.parts in
-    let t = step HasOperation operation_unique _ op m.op x y q s.next in
-    (m.controls, t.next)
+    (subst (λ (u : OperationValue). IsIdFor u id) (sym t.value) (subst (λ (n : ℕ). IsIdFor m.op n) (sym s.value) h.id_for), (m.controls, t.next))
 
 pub message_whole : (o content rest : List ℕ) → HasField o 48 content rest → (rest ≡ [] → ⊥) → (m : MessageValue) × IsMessage o m → ⊥
 message_whole o content rest p some (m, h) = some (same_field o content h.content rest [] 48 48 p h.field).rest

@@ -1,8 +1,12 @@
 //! Wire, messages: reading a whole message.
 //! In: its octets. Out: the message, or a fault. Not here: streams, the parts of each operation.
 
-ghost use Rattle.std.specs.Prelude.{◌≡◌, ◌≤◌, ◌++◌, ℕ, List, length, IfOk, IfErr, MatchResult};
+ghost use Rattle.std.specs.Prelude.{◌≡◌, ◌≤◌, ◌++◌, ℕ, List, length, map, IfOk, IfErr, OnOk, MatchResult};
 ghost use Rattle.std.specs.Bool.{OnTrue, OnFalse};
+ghost use Rattle.ldap_requests.specs.ldap_fields.Faults.{IsPlainFault};
+ghost use Rattle.ldap_updates.specs.ldap_parts.Values.{ControlValue};
+ghost use Rattle.ldap_updates.specs.ldap_parts.View.{control_view};
+ghost use Rattle.ldap_updates.specs.ldap_parts.Grammar.{AreControls};
 ghost use Rattle.ldap_msg.specs.Messages.{OperationValue, MessageValue};
 ghost use Rattle.ldap_msg.specs.View.{operation_view, view};
 ghost use Rattle.ldap_msg.specs.Grammar.{operation_octet, IsOperation, HasOperation, IsIdFor, IsMessageContent, IsMessage};
@@ -13,7 +17,7 @@ use crate::decoding_request::{is_request, request_of};
 use crate::decoding_response::response_of;
 use crate::message::{Message, ProtocolOp};
 use ldap_requests::{MsgFault, element, field, number_field};
-use ldap_updates::controls_of;
+use ldap_updates::{Control, controls_of};
 use std::alloc::Global;
 
 /// How many octets a message may have, its header included.
@@ -58,6 +62,24 @@ fn is_id_for(op: &ProtocolOp, id: u32) -> bool
     }
 }
 
+/// The controls behind an operation, with which its messageID has to be one that may stand.
+fn controls_behind(
+    alloc: Global,
+    op: &ProtocolOp,
+    id: u32,
+    octets: &[u8],
+) -> Result<Vec<Control>, MsgFault>
+    ensures id_for { OnOk result (IsIdFor (operation_view op.now) id) }
+    ensures found { IfOk result (λ v. AreControls (map control_view v.items) octets.now) }
+    ensures fault { IfErr result (λ e. IsPlainFault e (IsIdFor (operation_view op.now) id
+        × ((row : List ControlValue) × AreControls row octets.now))) }
+{
+    if !is_id_for(op, id) {
+        return Err(MsgFault::NotAMessage);
+    }
+    controls_of(alloc, octets)
+}
+
 /// The message whose content this is.
 fn message_of(alloc: Global, content: &[u8]) -> Result<Message, MsgFault>
     ensures found { IfOk result (λ m. IsMessageContent (view m) content.now) }
@@ -67,10 +89,7 @@ fn message_of(alloc: Global, content: &[u8]) -> Result<Message, MsgFault>
 {
     let (id, rest) = number_field(0x02, 0x8000_0000, content)?;
     let (op, rest) = operation_field(alloc, rest)?;
-    if !is_id_for(&op, id) {
-        return Err(MsgFault::NotAMessage);
-    }
-    let controls = controls_of(alloc, rest)?;
+    let controls = controls_behind(alloc, &op, id, rest)?;
     Ok(Message { id, op, controls })
 }
 

@@ -2,6 +2,7 @@
 //! In: a request. Out: the content of its element. Not here: the envelope.
 
 ghost use Rattle.std.specs.Prelude.{◌≡◌, ◌^◌, ◌≤◌, ◌<◌, ◌++◌, length, IfOk, OnOk, OnErr, IsErrOf};
+ghost use Rattle.ldap_filter.specs.ldap_ber.Element.{element_bytes};
 ghost use Rattle.ldap_filter.specs.ldap_fields.Rows.{row_bytes};
 ghost use Rattle.ldap_requests.specs.View.{search_view};
 ghost use Rattle.ldap_requests.specs.Grammar.{scope_number, deref_number};
@@ -57,6 +58,21 @@ fn put_bounds(request: &SearchRequest, out: &mut Vec<u8>) -> Result<(), WriteErr
     put_flag(request.types_only, out)
 }
 
+/// Writes which attributes are asked for.
+fn put_attributes(
+    alloc: Global,
+    request: &SearchRequest,
+    out: &mut Vec<u8>,
+) -> Result<(), WriteError>
+    ensures ok { OnOk result (out.new.items ≡ out.old.items ++ element_bytes 48 (row_bytes (element_bytes 4) (search_view request.now).attributes)) }
+    ensures too_long { IsErrOf result WriteError.TooLong
+        → 2 ^ 32 ≤ length (element_bytes 48 (row_bytes (element_bytes 4) (search_view request.now).attributes)) }
+{
+    let mut attributes = Vec::new(alloc);
+    put_texts(&request.attributes, &mut attributes)?;
+    write(0x30, &attributes, out)
+}
+
 /// The content of a search request.
 pub fn search_content(alloc: Global, request: &SearchRequest) -> Result<Vec<u8>, WriteError>
     ensures ok { IfOk result (λ v. v.items ≡ search_content (search_view request.now)) }
@@ -67,8 +83,6 @@ pub fn search_content(alloc: Global, request: &SearchRequest) -> Result<Vec<u8>,
     put_target(request, &mut content)?;
     put_bounds(request, &mut content)?;
     write_filter(alloc, &request.filter, &mut content)?;
-    let mut attributes = Vec::new(alloc);
-    put_texts(&request.attributes, &mut attributes)?;
-    write(0x30, &attributes, &mut content)?;
+    put_attributes(alloc, request, &mut content)?;
     Ok(content)
 }
