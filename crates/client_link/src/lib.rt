@@ -20,4 +20,4 @@ pub use headings::{ElementHeading, FrameHeading};
 pub use limits::Limits;
 pub use peer::Peer;
 pub use pieces::PieceReader;
-pub use session_threads::{Config, Connection, SessionEnd, serve_all};
+pub use session_threads::{Config, Connection, Directory, SessionEnd, serve_all};

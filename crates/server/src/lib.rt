@@ -3,6 +3,7 @@
 #![tactic(auto)]
 
 mod crew;
+mod engine;
 mod fault;
 mod guests;
 mod opening;

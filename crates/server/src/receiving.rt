@@ -1,10 +1,9 @@
 //! What other replicas send. Connections and the frames on them flow in; events flow to the node. What an event makes is not here.
-use crate::posts::Posts;
+use crate::engine::Engine;
 use crate::telling::{tell_peer_came, tell_peer_went};
 use client_link::Peer;
 use crossbeam_channel::Receiver;
-use file_device::FileDevice;
-use node_gate::{Event, NodeError, Running};
+use node_gate::{Cluster, NodeError};
 use peer_link::{FrameEnd, read_head, read_rest};
 use std::alloc::Global;
 use std::io::{Eprint, Read};
@@ -14,11 +13,11 @@ use vr_wire::{WireError, read, rest};
 
 /// What all readers of peers share.
 #[derive(Drop)]
-pub struct Hall<'a, 'r, R: Wait> {
+pub struct Hall<'a, R, E> {
     pub rt: &'a R,
     pub alloc: Global,
-    pub running: &'a Running<'r, R, FileDevice>,
-    pub posts: &'a Posts<'a, R>,
+    pub cluster: Cluster,
+    pub engine: &'a E,
 }
 
 /// Why a connection ended, as it is told.
@@ -47,13 +46,12 @@ fn next_frame<S: Read>(alloc: Global, reader: &mut S) -> Result<Vec<u8>, &'stati
     read_rest(alloc, reader, head, count).map_err(reason_of)
 }
 
-impl<'a, 'r, R: Wait + Clock + Eprint> Hall<'a, 'r, R> {
+impl<'a, R: Wait + Clock + Eprint, E: Engine> Hall<'a, R, E> {
     /// Hands the message of a frame to the node, and gives its sender; else why the connection ends.
     fn take_frame(&self, frame: &[u8]) -> Result<u64, &'static str> {
-        let (sender, message) = read(self.alloc, frame, self.posts.cluster).map_err(refusal_of)?;
+        let (sender, message) = read(self.alloc, frame, self.cluster).map_err(refusal_of)?;
         let from = u64::from(sender);
-        let event = Event::Message { from, message };
-        match self.running.handle(self.rt, self.alloc, self.posts, event) {
+        match self.engine.hear(from, message) {
             // Without memory the message is lost, as the network may lose one.
             Ok(()) | Err(NodeError::NoMemory) => Ok(from),
             Err(NodeError::Store(_) | NodeError::Halted) => Err("the node has stopped"),

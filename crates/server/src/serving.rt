@@ -1,6 +1,7 @@
 //! A replica put together: its listeners, its threads, and how they end. Settings flow in; clients and replicas are served until the node has
 //! stopped for good.
 use crate::crew::Crew;
+use crate::engine::Engine;
 use crate::fault::ServerError;
 use crate::guests::Guest;
 use crate::opening::open_node;
@@ -8,10 +9,10 @@ use crate::options::{Options, Place, Times};
 use crate::posts::Posts;
 use crate::receiving::Hall;
 use crate::ticking::Clockwork;
-use client_link::{Config, Door, Limits, Peer, accept_all, close, serve_all};
+use client_link::{Config, Directory, Door, Limits, Peer, accept_all, close, serve_all};
 use crossbeam_channel::{Receiver, Sender, bounded};
 use file_device::FileDevice;
-use node_gate::{Here, NodeGate, Opened, Peers, Running, Seat};
+use node_gate::{Cluster, Here, NodeGate, Opened, Peers, Running, Seat};
 use peer_link::{Outbox, SocketDialer, send_all};
 use std::alloc::{AllocError, Global};
 use std::fs::{File, Files};
@@ -38,19 +39,13 @@ type Way<'a, 'r, R> = (Seat<Here>, NodeGate<'a, 'r, R, FileDevice, Posts<'a, R>>
 
 /// A server: what its threads share.
 #[derive(Drop)]
-struct Server<'a, 'r, R: Wait> {
+struct Server<'a, R, E> {
     rt: &'a R,
     alloc: Global,
-    clients: &'a TcpListener,
-    peers: &'a TcpListener,
-    client_door: &'a Door,
-    peer_door: &'a Door,
-    running: &'a Running<'r, R, FileDevice>,
-    posts: &'a Posts<'a, R>,
+    rooms: &'a Rooms,
+    engine: &'a E,
+    cluster: Cluster,
     places: &'a [Place],
-    uris: &'a [String],
-    crew: &'a Crew,
-    index: usize,
 }
 
 /// The queues to all replicas.
@@ -71,23 +66,28 @@ fn uris(alloc: Global, places: &[Place]) -> Result<Vec<String>, AllocError> {
     Ok(uris)
 }
 
-impl<'a, 'r, R> Server<'a, 'r, R>
+/// A gate beside each seat.
+fn ways<'a, 'r, R: Wait>(
+    clock: &Clockwork<'a, 'r, R>,
+    uris: &'a [String],
+    seats: Vec<Seat<Here>>,
+) -> Result<Vec<Way<'a, 'r, R>>, AllocError> {
+    let mut ways = Vec::new(clock.alloc);
+    for seat in seats {
+        let gate = NodeGate::new(clock.rt, clock.running, clock.posts, uris);
+        ways.push((seat, gate))?;
+    }
+    Ok(ways)
+}
+
+impl<'a, R, E> Server<'a, R, E>
 where
     R: Net<Listener = TcpListener, Stream = TcpStream> + Threads + Wait + Clock + Eprint + Sync,
+    E: Engine + Sync,
 {
-    /// A gate beside each seat.
-    fn ways(&self, seats: Vec<Seat<Here>>) -> Result<Vec<Way<'a, 'r, R>>, AllocError> {
-        let mut ways = Vec::new(self.alloc);
-        for seat in seats {
-            let gate = NodeGate::new(self.rt, self.running, self.posts, self.uris);
-            ways.push((seat, gate))?;
-        }
-        Ok(ways)
-    }
-
     /// Sends frames to one replica, until its queue is stopped.
     fn send_to(&self, to: usize) {
-        if let (Some(outbox), Some(place)) = (self.posts.boxes.get(to), self.places.get(to)) {
+        if let (Some(outbox), Some(place)) = (self.rooms.boxes.get(to), self.places.get(to)) {
             let limit = Duration::from_millis(DIAL_LIMIT);
             let mut dialer = SocketDialer::new(self.rt, place.peer_address, limit);
             send_all(self.rt, outbox, &mut dialer);
@@ -97,9 +97,10 @@ where
     /// The indices of the other replicas, each so many times.
     fn others(&self, times: usize) -> Result<Vec<usize>, AllocError> {
         let mut others = Vec::new(self.alloc);
+        let own = usize::from(self.rooms.sender);
         for _ in 0..times {
             for index in 0..self.places.len() {
-                if index != self.index {
+                if index != own {
                     others.push(index)?;
                 }
             }
@@ -109,37 +110,35 @@ where
 
     /// Takes the connections of other replicas, until the server closes.
     fn take_peers(&self, to: Sender<(u64, Peer<'a, R>)>) {
-        self.crew.begin();
-        accept_all(self.rt, self.alloc, self.peers, self.peer_door, to);
+        self.rooms.crew.begin();
+        accept_all(
+            self.rt,
+            self.alloc,
+            &self.rooms.peers,
+            &self.rooms.peer_door,
+            to,
+        );
     }
 
     /// Takes the connections of clients, until the server closes.
     fn take_clients(&self, to: Sender<(u64, Guest<'a, R>)>) {
-        self.crew.begin();
-        accept_all(self.rt, self.alloc, self.clients, self.client_door, to);
-    }
-
-    /// The clock of the node.
-    fn clock(&self, times: Times) -> Clockwork<'a, 'r, R> {
-        Clockwork {
-            rt: self.rt,
-            alloc: self.alloc,
-            running: self.running,
-            posts: self.posts,
-            crew: self.crew,
-            times,
-            index: self.index as u64,
-            count: self.places.len() as u64,
-        }
+        self.rooms.crew.begin();
+        accept_all(
+            self.rt,
+            self.alloc,
+            &self.rooms.clients,
+            &self.rooms.client_door,
+            to,
+        );
     }
 
     /// What all readers of other replicas share.
-    fn hall(&self) -> Hall<'a, 'r, R> {
+    fn hall(&self) -> Hall<'a, R, E> {
         Hall {
             rt: self.rt,
             alloc: self.alloc,
-            running: self.running,
-            posts: self.posts,
+            cluster: self.cluster,
+            engine: self.engine,
         }
     }
 
@@ -150,7 +149,7 @@ where
         waiting: Receiver<(u64, Peer<'a, R>)>,
     ) -> Result<(), AllocError> {
         let hall = self.hall();
-        let crew = self.crew;
+        let crew = &self.rooms.crew;
         let shared = &waiting;
         let hears = |_index: usize| {
             crew.begin();
@@ -163,7 +162,7 @@ where
     /// Sends to other replicas, to one in each thread.
     fn send_frames(&self, writers: Vec<usize>) -> Result<(), AllocError> {
         let sends = |to: usize| {
-            self.crew.begin();
+            self.rooms.crew.begin();
             self.send_to(to);
         };
         let _sent = thread::map_vec(self.rt, writers, &sends)?;
@@ -188,7 +187,7 @@ where
 
     /// Sends to the other replicas and hears them, until the server closes.
     fn link(&self) -> Result<(), AllocError> {
-        self.crew.begin();
+        self.rooms.crew.begin();
         let writers = self.others(1)?;
         let readers = self.others(2)?;
         let (to_readers, waiting) = bounded(self.alloc, readers.len().max(1))?;
@@ -201,10 +200,10 @@ where
     }
 
     /// Serves the clients that were taken, each in a seat.
-    fn seat_clients(
+    fn seat_clients<D: Directory + Send + Drop>(
         &self,
         connections: Receiver<(u64, Guest<'a, R>)>,
-        ways: Vec<Way<'a, 'r, R>>,
+        ways: Vec<D>,
         config: &Config<'_>,
     ) -> Result<(), AllocError> {
         let _ways = serve_all(self.rt, self.alloc, connections, ways, config)?;
@@ -212,13 +211,13 @@ where
     }
 
     /// Serves clients, until the server closes.
-    fn serve_clients(
+    fn serve_clients<D: Directory + Send + Drop>(
         &self,
-        ways: Vec<Way<'a, 'r, R>>,
+        ways: Vec<D>,
         waiting: usize,
         config: &Config<'_>,
     ) -> Result<(), AllocError> {
-        self.crew.begin();
+        self.rooms.crew.begin();
         let (to_seats, connections) = bounded(self.alloc, waiting)?;
         let ((), served) = thread::join(
             self.rt,
@@ -234,7 +233,7 @@ where
     /// Whatever ended badly ends the server.
     fn end_with(&self, ended: Result<(), AllocError>) -> Result<(), AllocError> {
         if ended.is_err() {
-            self.running.stop(self.rt);
+            self.engine.stop();
         }
         ended
     }
@@ -249,12 +248,12 @@ where
 
     /// Ends all threads.
     fn stop(&self) {
-        self.running.stop(self.rt);
-        for outbox in self.posts.boxes {
+        self.engine.stop();
+        for outbox in &self.rooms.boxes {
             outbox.stop(self.rt);
         }
-        self.shut(self.client_door, self.clients);
-        self.shut(self.peer_door, self.peers);
+        self.shut(&self.rooms.client_door, &self.rooms.clients);
+        self.shut(&self.rooms.peer_door, &self.rooms.peers);
     }
 }
 
@@ -277,15 +276,15 @@ fn announce<W: Write>(output: &mut W, listener: &TcpListener) -> Result<(), Serv
     }
 }
 
-impl<'a, 'r, R> Server<'a, 'r, R>
+impl<'a, R, E> Server<'a, R, E>
 where
     R: Net<Listener = TcpListener, Stream = TcpStream> + Threads + Wait + Clock + Eprint + Sync,
+    E: Engine + Sync,
 {
-    /// All threads, to the end of the last: clients, replicas, and the clock, in the thread that calls.
-    fn run(
+    /// All threads, to the end of the last: clients, replicas, and the node's clock, in the thread that calls.
+    fn run<D: Directory + Send + Drop>(
         &self,
-        clock: &Clockwork<'a, 'r, R>,
-        ways: Vec<Way<'a, 'r, R>>,
+        ways: Vec<D>,
         waiting: usize,
         config: &Config<'_>,
     ) -> Result<(), ServerError> {
@@ -297,7 +296,7 @@ where
                     self.rt,
                     || self.end_with(self.serve_clients(ways, waiting, config)),
                     || {
-                        let ticked = clock.tick_all();
+                        let ticked = self.engine.run();
                         self.stop();
                         ticked
                     },
@@ -376,23 +375,26 @@ fn run_in<'a, 'r, R>(
 where
     R: Net<Listener = TcpListener, Stream = TcpStream> + Threads + Wait + Clock + Eprint + Sync,
 {
+    let clock = Clockwork {
+        rt,
+        alloc,
+        running,
+        posts,
+        crew: &rooms.crew,
+        times: terms.times,
+        index: u64::from(rooms.sender),
+        count: places.len() as u64,
+    };
+    let ways = ways(&clock, &rooms.uris, seats)?;
     let server = Server {
         rt,
         alloc,
-        clients: &rooms.clients,
-        peers: &rooms.peers,
-        client_door: &rooms.client_door,
-        peer_door: &rooms.peer_door,
-        running,
-        posts,
+        rooms,
+        engine: &clock,
+        cluster: posts.cluster,
         places,
-        uris: &rooms.uris,
-        crew: &rooms.crew,
-        index: usize::from(posts.sender),
     };
-    let clock = server.clock(terms.times);
-    let ways = server.ways(seats)?;
-    server.run(&clock, ways, terms.waiting.max(1), &terms.config)
+    server.run(ways, terms.waiting.max(1), &terms.config)
 }
 
 /// Opens the node, says where clients are heard, and runs all threads over what they share.

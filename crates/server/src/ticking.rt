@@ -1,12 +1,13 @@
-//! What a replica does by itself: beats and suspicion, by a monotonic clock. Time flows in; events flow to the node. What an event makes is not
-//! here.
+//! A node with its clock: what other replicas sent, and what a replica does by itself, beats and suspicion. Messages and time flow in; events flow to
+//! the node. What an event makes is not here.
 use crate::crew::Crew;
+use crate::engine::Engine;
 use crate::fault::ServerError;
 use crate::options::Times;
 use crate::posts::Posts;
 use crate::telling::tell_pulse;
 use file_device::FileDevice;
-use node_gate::{Event, Pulse, Running, Standing};
+use node_gate::{Event, NodeError, Op, PeerMessage, Pulse, Running, Standing};
 use std::alloc::Global;
 use std::io::Eprint;
 use std::sync::Wait;
@@ -87,7 +88,7 @@ impl Watch {
     }
 }
 
-/// The clock of a node.
+/// A node with its clock.
 #[derive(Drop)]
 pub struct Clockwork<'a, 'r, R: Wait> {
     pub rt: &'a R,
@@ -101,6 +102,11 @@ pub struct Clockwork<'a, 'r, R: Wait> {
 }
 
 impl<'a, 'r, R: Wait + Clock + Eprint> Clockwork<'a, 'r, R> {
+    /// Hands an event to the node.
+    fn handle(&self, event: Event<Op>) -> Result<(), NodeError> {
+        self.running.handle(self.rt, self.alloc, self.posts, event)
+    }
+
     /// Does what is due at one moment.
     fn tick(&self, watch: &mut Watch) {
         let Ok(now) = Instant::now(self.rt) else {
@@ -119,10 +125,7 @@ impl<'a, 'r, R: Wait + Clock + Eprint> Clockwork<'a, 'r, R> {
             Due::Suspect => Event::Suspect,
         };
         // What it gives out is lost without memory, and a node that stopped shows at the next moment.
-        let _done = self
-            .running
-            .handle(self.rt, self.alloc, self.posts, event)
-            .is_ok();
+        let _done = self.handle(event).is_ok();
     }
 
     /// Whether threads are missing that should have begun long ago.
@@ -135,9 +138,14 @@ impl<'a, 'r, R: Wait + Clock + Eprint> Clockwork<'a, 'r, R> {
             Err(_) => false,
         }
     }
+}
 
-    /// Does what is due, moment by moment, until the node is stopped, or has stopped for good.
-    pub fn tick_all(&self) -> Result<(), ServerError> {
+impl<'a, 'r, R: Wait + Clock + Eprint> Engine for Clockwork<'a, 'r, R> {
+    fn hear(&self, from: u64, message: PeerMessage<Op>) -> Result<(), NodeError> {
+        self.handle(Event::Message { from, message })
+    }
+
+    fn run(&self) -> Result<(), ServerError> {
         let Ok(since) = Instant::now(self.rt) else {
             return Ok(());
         };
@@ -161,5 +169,9 @@ impl<'a, 'r, R: Wait + Clock + Eprint> Clockwork<'a, 'r, R> {
             }
         }
         Ok(())
+    }
+
+    fn stop(&self) {
+        self.running.stop(self.rt);
     }
 }

@@ -1,0 +1,15 @@
+//! What the threads of a server ask of its node. Messages of other replicas flow in; what the node makes of them is not here, nor what a node is.
+use crate::fault::ServerError;
+use node_gate::{NodeError, Op, PeerMessage};
+
+/// The node behind a server's threads.
+pub trait Engine {
+    /// Hands on a message of the replica of this index.
+    fn hear(&self, from: u64, message: PeerMessage<Op>) -> Result<(), NodeError>;
+
+    /// Does what is due, moment by moment, until the node is stopped, or has stopped for good.
+    fn run(&self) -> Result<(), ServerError>;
+
+    /// Stops the node.
+    fn stop(&self);
+}
