@@ -62,7 +62,7 @@ fn is_id_for(op: &ProtocolOp, id: u32) -> bool
     }
 }
 
-/// The controls behind an operation, with which its messageID has to be one that may stand.
+/// The controls behind an operation; a messageID that may not stand with it is refused first.
 fn controls_behind(
     alloc: Global,
     op: &ProtocolOp,
