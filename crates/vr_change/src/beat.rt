@@ -12,7 +12,6 @@ use vr_state::payload::Payload;
 use vr_state::replica::Replica;
 use vr_state::sending::{join, sending};
 
-#[tactic(auto, using(vr_state::proofs::Stores::none_to_store))]
 /// The beat of a replica that changes: its STARTVIEWCHANGE again, and its DOVIEWCHANGE if that was sent. Its only error is want
 /// of memory.
 pub fn beat_changing<P: Payload>(

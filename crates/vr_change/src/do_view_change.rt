@@ -15,7 +15,6 @@ use vr_state::replica::Replica;
 use vr_state::sending::{sending, storing};
 use vr_state::standing::is_recovering;
 
-#[tactic(auto, using(crate::proofs::Changing::do_in_view, crate::proofs::Changing::do_entering, vr_state::proofs::Stores::none_to_store))]
 /// What comes with a DOVIEWCHANGE of the replica with index `from`. At an error, which is want of memory, nothing has changed.
 pub fn on_do_view_change<P: Payload>(
     alloc: Global,

@@ -14,7 +14,6 @@ use vr_state::replica::Replica;
 use vr_state::sending::{sending, storing};
 use vr_state::standing::is_recovering;
 
-#[tactic(auto, using(crate::proofs::Changing::start_in_view, crate::proofs::Changing::start_entering, vr_state::proofs::Stores::none_to_store))]
 /// What comes with a STARTVIEWCHANGE of the replica with index `from`. At an error, which is want of memory, nothing has
 /// changed.
 pub fn on_start_view_change<P: Payload>(
