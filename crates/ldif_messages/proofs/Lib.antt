@@ -1,3 +1,4 @@
+pub mod Puts
 pub mod TooLong
 pub mod Meanings
 pub mod Wrongs

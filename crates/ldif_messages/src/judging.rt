@@ -1,7 +1,7 @@
 //! LDIF and messages: what messages are among the responses to a search.
 //! In: octets of messages. Out: what each means there. Not here: what comes of them together.
 
-ghost use Rattle.std.specs.Prelude.{◌≡◌, map, IfOk};
+ghost use Rattle.std.specs.Prelude.{◌≡◌, ◌≢◌, map, IfOk};
 ghost use Rattle.std.specs.List.{list_all};
 ghost use Rattle.ldap_msg.specs.View.{operation_view, response_view, entry_view};
 ghost use Rattle.ldif_messages.specs.Entries.{record_of as record_of_entry};
@@ -65,17 +65,24 @@ fn meant_by(alloc: Global, op: &ProtocolOp) -> Result<Meant, AllocError>
     }
 }
 
+/// What octets mean that are no message, by what is wrong with them.
+fn meant_by_none(fault: MsgFault) -> Result<Meant, AllocError>
+    ensures { IfOk result (λ m. (m ≡ Meant.Other) × (fault ≢ MsgFault.NoMemory)) }
+{
+    match fault {
+        MsgFault::NoMemory => Err(AllocError),
+        MsgFault::TooLarge | MsgFault::NotAMessage | MsgFault::TooDeep | MsgFault::TooManyItems =>
+            Ok(Meant::Other),
+    }
+}
+
 /// What octets mean.
 fn meant(alloc: Global, octets: &[u8]) -> Result<Meant, AllocError>
     ensures { IfOk result (λ m. Means octets.now m) }
 {
     match decode(alloc, octets) {
         Ok(message) => meant_by(alloc, &message.op),
-        Err(MsgFault::NoMemory) => Err(AllocError),
-        Err(MsgFault::TooLarge) => Ok(Meant::Other),
-        Err(MsgFault::NotAMessage) => Ok(Meant::Other),
-        Err(MsgFault::TooDeep) => Ok(Meant::Other),
-        Err(MsgFault::TooManyItems) => Ok(Meant::Other),
+        Err(fault) => meant_by_none(fault),
     }
 }
 
