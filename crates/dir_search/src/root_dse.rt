@@ -3,6 +3,9 @@
 ghost use Rattle.std.specs.Prelude.{◌≡◌, ◌++◌, ◌∷◌, [], Some, map, codes, IfOk, OnOk, string_bytes};
 ghost use Rattle.std.specs.List.{list_any};
 ghost use Rattle.std.specs.Str.{str_eq_ignore_ascii_case};
+ghost use Rattle.ldap_filter.specs.View.{view as filter_view};
+ghost use Rattle.ldap_eval.specs.Value.{filter_value};
+ghost use Rattle.plan_compile.specs.plan_sets.Runs.{is_true};
 ghost use Rattle.ldap_msg.specs.View.{attribute_view, entry_view, search_view};
 ghost use Rattle.dir_store.specs.dir_entry.Entry.{attributes_of, IsKeyedBy};
 ghost use Rattle.dir_search.specs.Answer.{dse_matching};
@@ -16,6 +19,7 @@ use crate::searching::matches;
 use crate::selecting::Showing;
 use dir_store::{Entry, EntryError, Name, Schema, Store, TypeId};
 use ldap_eval::bind;
+use ldap_filter::Filter;
 use ldap_msg::{PartialAttribute, ResultCode, SearchRequest, SearchResultEntry};
 use std::alloc::{AllocError, Global};
 
@@ -149,6 +153,22 @@ fn shown_root(
     })
 }
 
+/// Whether a filter's value on the root DSE is True.
+fn takes_root(
+    alloc: Global,
+    schema: &Schema,
+    entry: &Entry,
+    filter: &Filter,
+) -> Result<bool, AllocError>
+    requires attributes { attributes_of entry.now ≡ dse_attributes schema.now }
+    requires keyed { IsKeyedBy schema.now entry.now }
+    ensures { IfOk result (λ b. b ≡ is_true (filter_value schema.now (filter_view filter.now) [] (dse_attributes schema.now))) }
+{
+    let bound = bind(alloc, schema, filter)?;
+    let unnamed = Name::from_rdns(Vec::new(alloc));
+    Ok(matches(&bound, entry, &unnamed))
+}
+
 /// The search of the empty name alone (RFC 4512 5.1).
 pub fn show_root(
     alloc: Global,
@@ -159,10 +179,8 @@ pub fn show_root(
     ensures counted { IfOk result (λ a. a.tests ≡ 1) }
 {
     let entry = root_entry(alloc, store.schema())?;
-    let bound = bind(alloc, store.schema(), &request.filter)?;
     let mut entries = Vec::new(alloc);
-    let unnamed = Name::from_rdns(Vec::new(alloc));
-    if matches(&bound, &entry, &unnamed) {
+    if takes_root(alloc, store.schema(), &entry, &request.filter)? {
         entries.push(shown_root(alloc, store, &entry, request)?)?;
     }
     Ok(SearchAnswer {
