@@ -43,9 +43,17 @@ fn schema_of_descriptions(alloc: Global, text: &SchemaText) -> Result<Schema, Sc
     ensures refused { IfErr result (λ e. IsRefusalOf (schema_of_lines text.now) e) }
 {
     let text = IndexedText::of(alloc, text)?;
+    schema_of_indexed(alloc, &text)
+}
+
+/// The schema of descriptions that are found by their names.
+fn schema_of_indexed(alloc: Global, text: &IndexedText) -> Result<Schema, SchemaError>
+    ensures found { IfOk result (λ s. schema_of_lines text.now ≡ Ok s) }
+    ensures refused { IfErr result (λ e. IsRefusalOf (schema_of_lines text.now) e) }
+{
     let types = types_of(alloc, text.types())?;
-    let classes = classes_of(alloc, &text)?;
-    let object_class = judged(alloc, &text, types.as_slice(), classes.as_slice())?;
+    let classes = classes_of(alloc, text)?;
+    let object_class = judged(alloc, text, types.as_slice(), classes.as_slice())?;
     let schema = Schema::of_parts(alloc, types, classes, object_class)?;
     Ok(schema)
 }
