@@ -18,6 +18,10 @@ only_before r before sends replies hs hr =
     let e : sends ≡ before ++ [] = hs ∙ sym (append-nil before) in
     λ j. record { state = r; sends = e j; replies = hr j }
 
+-- What a test lets happen, with nothing to be sent before.
+pub when : {P : Type 0} (b : Bool) (x y : Outcome P) (before : List (Send P)) {made : Outcome P} → true ≡ b → before ≡ [] → made ≡ after_sends before x → made ≡ cond b x y
+when b x y before is none e = e ∙ ap (λ l. after_sends l x) none ∙ ap (λ t. cond t x y) is
+
 -- A DOVIEWCHANGE that is sent.
 pub declared_is : {P : Type 0} (n i : ℕ) (r : State P) (before declared all sends : List (Send P)) (replies : List Reply) → primary n r.view_number ≢ i → declared ≡ send_change n i r → all ≡ before ++ declared → sends ≡ all → replies ≡ [] → ◌≡◌ {A = Outcome P} (record { state = r; sends = sends; replies = replies }) (after_sends before (declare n i r))
 declared_is {P} n i r before declared all sends replies ne hd ha hs hr =
