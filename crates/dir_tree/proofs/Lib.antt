@@ -17,6 +17,7 @@ pub mod Moves
 pub mod MovedEntries
 pub mod Scoped
 pub mod RisingLists
+pub mod RisingSteps
 pub mod Relabelled
 pub mod Putting
 pub mod Resetting

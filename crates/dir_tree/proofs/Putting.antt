@@ -1,11 +1,11 @@
 -- Places put in, set and forgotten, one after the other.
-use Rattle.std.proofs.Common.{◌≡◌, ℕ, ◌+◌, ◌<◌, ◌≤◌, Bool, true, false, cond, List, [], ◌∷◌, ◌++◌, length, take, drop, Option, Some, None, refl, sym, ap, ◌∙◌, append-nil, slice_index_or, Vec, Global}
+use Rattle.std.proofs.Common.{◌≡◌, ℕ, ◌+◌, ◌<◌, ◌≤◌, Bool, true, false, cond, List, [], ◌∷◌, ◌++◌, length, take, drop, Option, Some, None, refl, sym, ap, ◌∙◌, append-nil, slice_index_or, Vec, Global, arith, nat_lt}
 use Rattle.std.specs.Prelude.{◌&&◌, ◌||◌}
 use Rattle.std.specs.List.{list_any}
 use Rattle.std.specs.Option.{option_map}
 use Rattle.std.proofs.lemmas.List.{take_more, drop_more, append_assoc}
 use Rattle.dir_entry.specs.ldap_dn.Names.{RdnModel, rdns}
-use Rattle.dir_tree.specs.Directory.{NameKey, Entered, name_eq, entry_at, name_after}
+use Rattle.dir_tree.specs.Directory.{NameKey, Entered, name_eq, begins, entry_at, name_after}
 use Rattle.dir_tree.specs.Places.{Shown, is_above, relist}
 use Rattle.dir_tree.specs.Kept.{NameEntries, named}
 use Rattle.dir_tree.specs.declared.relisted.Relisted.{Relisted}
@@ -79,6 +79,17 @@ changed-kept m ch r q x off = by (name_eq q m) refl
     by : (b : Bool) → name_eq q m ≡ b → x ≡ cond (b && ch q) (replaced_by (r q) x) x
     by true e = sym (ap (λ (b : Bool). cond b (replaced_by (r q) x) x) (ap ch ((name_decides q m).0 e) ∙ off))
     by false e = refl
+
+-- no name is above a name at its front of length 0
+pub above-none : (n q : NameKey) → is_above 0 n q ≡ false
+above-none n q = ap (λ (b : Bool). begins q n && b) (less (length q)) ∙ off (begins q n)
+  where
+    less : (k : ℕ) → nat_lt k 0 ≡ false
+    less k = grind arith
+
+    off : (b : Bool) → (b && false) ≡ false
+    off true = refl
+    off false = refl
 
 -- one name further
 pub above-changed : (q n : NameKey) (i : ℕ) (ch : NameKey → Bool) (r : Kept) (o x y : Option Shown) → i ≤ length n

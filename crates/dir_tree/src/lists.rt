@@ -120,7 +120,6 @@ pub fn enlist_next(
 }
 
 /// Keeps a place under a number. An `Err` changes nothing.
-#[tactic(auto, using(crate::proofs::HeldLemmas::held_insert))]
 pub fn put_lists(lists: &mut Lists, number: u64, place: Place) -> Result<(), AllocError>
     ensures ok { OnOk result ((j : ℕ) → held lists.new.entries j ≡ cond (nat_eq j number) (Some place) (held lists.old.entries j)) }
     ensures err { OnErr result ((j : ℕ) → held lists.new.entries j ≡ held lists.old.entries j) }

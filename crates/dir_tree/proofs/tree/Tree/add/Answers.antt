@@ -1,4 +1,4 @@
-use Rattle.std.proofs.Common.{◌≡◌, ℕ, Bool, Option, Some, None, List, [], ◌∷◌, ◌++◌, true, false, cond, length, sym, ap, subst, ◌∙◌, refl, nat_eq, BTreeMap, Vec, Global}
+use Rattle.std.proofs.Common.{◌≡◌, ℕ, Bool, Option, Result, Ok, Err, OnErr, Some, None, List, [], ◌∷◌, ◌++◌, true, false, cond, length, sym, ap, subst, ◌∙◌, refl, nat_eq, BTreeMap, Vec, Global}
 use Rattle.std.specs.Option.{option_map}
 use Rattle.dir_entry.specs.ldap_dn.Names.{RdnModel, rdns}
 use Rattle.dir_tree.specs.Directory.{NameKey, Entered, TreeModel, AllBelow, name_eq, find, has_footing, unnumbered}
@@ -159,3 +159,21 @@ invariant_of-self-in-Err-put_place c =
     (λ q j h. c.strike_above.ensures.links j
     ∙ links_back s d es c.enlist_above.new.places c.put_place.new.places k c.self.invariant (below_now k s d c.args.self.now c.self.view_is c.requires.above) c.enlist_above.ensures.names c.enlist_above.ensures.links
     c.in-Err-put_place.ensures.err c.in-Err-put_place.ensures.stay q j h)
+
+-- what holds anyway, where an error is told
+told : {A E P : Type 0} (r : Result A E) → P → OnErr r P
+told (Ok a) p = tt
+told (Err e) p = p
+
+pub invariant_of-self : goal.invariant_of-self
+invariant_of-self c = subst (λ (d : List Entered). IsTree c.self.inside.suffix d c.self.inside.places) (sym c.in_err-put_entry.ensures.err) c.self.invariant
+
+pub returns-in_err-put_entry-clause-err : goal.returns-in_err-put_entry-clause-err
+returns-in_err-put_entry-clause-err c =
+    told c.from_residual-in_err-put_entry.result (ap (λ (l : List Entered). let t : TreeModel = record { suffix = c.self.inside.suffix; entries = l } in t) c.in_err-put_entry.ensures.err ∙ c.self.view_is)
+
+pub returns-in-Ok-put_place-clause-ok : goal.returns-in-Ok-put_place-clause-ok
+returns-in-Ok-put_place-clause-ok c =
+    let e : Entered = record { number = c.args.number; name = c.args.name; entry = c.args.entry } in
+    ap (λ (l : List Entered). let t : TreeModel = record { suffix = c.self.inside.suffix; entries = l } in t) c.in_ok-put_entry.ensures.ok
+    ∙ ap (λ (v : TreeModel). let t : TreeModel = record { suffix = v.suffix; entries = v.entries ++ e ∷ [] } in t) c.self.view_is
