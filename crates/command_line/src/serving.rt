@@ -22,7 +22,7 @@ pub struct Peer {
 }
 
 /// What a replica is told. Times are in milliseconds.
-#[derive(Debug, Drop)]
+#[derive(Debug)]
 pub struct Serving<'a> {
     /// The number of the cluster, from 1.
     pub cluster: u64,
@@ -55,6 +55,13 @@ pub struct Serving<'a> {
     pub fresh: bool,
     /// All replicas, by index.
     pub peers: Vec<Peer>,
+}
+
+// Not derived: see "What the gate takes" in docs/ARCHITECTURE.md.
+impl<'a> Drop for Serving<'a> {
+    fn drop(self) {
+        let Serving { cluster: _, index: _, store: _, suffix: _, manager: _, password: _, schema: _, indexes: _, seats: _, waiting: _, beat: _, suspect: _, stall: _, idle: _, take: _, fresh: _, peers: _ } = self;
+    }
 }
 
 /// What each word of `serve` is, in the order of its help.

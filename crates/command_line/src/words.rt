@@ -34,12 +34,19 @@ pub struct Opening<'a> {
 }
 
 /// A search, as it is asked for.
-#[derive(Debug, Drop)]
+#[derive(Debug)]
 pub struct Question<'a> {
     pub base: &'a str,
     pub scope: Scope,
     pub filter: &'a str,
     pub attributes: Vec<&'a str>,
+}
+
+// Not derived: see "What the gate takes" in docs/ARCHITECTURE.md.
+impl<'a> Drop for Question<'a> {
+    fn drop(self) {
+        let Question { base: _, scope: _, filter: _, attributes: _ } = self;
+    }
 }
 
 /// The words for scopes.

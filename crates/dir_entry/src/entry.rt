@@ -15,9 +15,15 @@ use std::marker::Model;
 
 /// The attributes of an entry, in order (RFC 4512 2.2), with the keys of their values, so that evaluating a filter takes no
 /// memory.
-#[derive(Drop)]
 pub struct Entry {
     attributes: Vec<Attribute>,
+}
+
+// Not derived: see "What the gate takes" in docs/ARCHITECTURE.md.
+impl Drop for Entry {
+    fn drop(self) {
+        let Entry { attributes: _ } = self;
+    }
 }
 
 impl Model for Entry {
@@ -157,6 +163,7 @@ impl Entry {
     pub fn into_attributes(self) -> Vec<Attribute>
         ensures { result.items ≡ self }
     {
-        self.attributes
+        let Entry { attributes } = self;
+        attributes
     }
 }

@@ -14,7 +14,6 @@ use std::alloc::{AllocError, Global};
 use std::sync::Arc;
 
 /// So many replicas of a directory, to play schedules with.
-#[derive(Drop)]
 pub struct Lab {
     pub schema: Arc<Schema>,
     /// Which indexes each replica has. What is shown doesn't depend on it.
@@ -23,6 +22,13 @@ pub struct Lab {
     pub suffix: Name,
     /// How many replicas there are.
     pub count: u64,
+}
+
+// Not derived: see "What the gate takes" in docs/ARCHITECTURE.md.
+impl Drop for Lab {
+    fn drop(self) {
+        let Lab { schema: _, indexes: _, suffix: _, count: _ } = self;
+    }
 }
 
 impl Lab {

@@ -33,13 +33,19 @@ use vr_state::standing::leads;
 use vr_state::words::{Client, Entry, Status};
 
 /// A running replica. It is `Drop` where its device is; whoever shares it puts it into a lock.
-#[derive(Drop)]
 pub struct Node<D: Device> {
     replica: Replica<Op>,
     executed: Executed,
     views: ViewStore<D>,
     restarts: u64,
     is_halted: bool,
+}
+
+// Not derived: see "What the gate takes" in docs/ARCHITECTURE.md.
+impl<D: Device + Drop> Drop for Node<D> {
+    fn drop(self) {
+        let Node { replica: _, executed: _, views: _, restarts: _, is_halted: _ } = self;
+    }
 }
 
 impl<D: Device> Model for Node<D> {

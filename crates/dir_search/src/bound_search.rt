@@ -54,7 +54,6 @@ fn guide(
 }
 
 /// A search at a base that stands, its filter bound.
-#[derive(Drop)]
 pub struct BoundSearch<'a> {
     pub alloc: Global,
     pub schema: &'a Schema,
@@ -65,6 +64,13 @@ pub struct BoundSearch<'a> {
     pub request: &'a SearchRequest,
     ghost bound_on: { IsBoundOn schema.now (filter_view request.now.filter) bound.now indexed.now.tree.entries },
     ghost base_stands: { stands (directory schema.now indexed.now.tree) base.now ≡ true },
+}
+
+// Not derived: see "What the gate takes" in docs/ARCHITECTURE.md.
+impl<'a> Drop for BoundSearch<'a> {
+    fn drop(self) {
+        let BoundSearch { alloc: _, schema: _, indexed: _, bound: _, base: _, request: _ } = self;
+    }
 }
 
 impl BoundSearch<'_> {

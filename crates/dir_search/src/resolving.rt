@@ -11,12 +11,18 @@ use std::alloc::{AllocError, Global};
 use std::collections::BTreeSet;
 
 /// What selectors select (RFC 4511 4.5.1.8), so that a type costs its chain of SUPs and not a walk over the selectors.
-#[derive(Drop)]
 pub struct Selection {
     /// Whether every type is selected.
     pub all: bool,
     /// The numbers of the types that are named.
     pub types: BTreeSet<usize>,
+}
+
+// Not derived: see "What the gate takes" in docs/ARCHITECTURE.md.
+impl Drop for Selection {
+    fn drop(self) {
+        let Selection { all: _, types: _ } = self;
+    }
 }
 
 /// The type that the type's SUP names.

@@ -20,11 +20,17 @@ use std::alloc::Global;
 use std::marker::{Model, PhantomData};
 
 /// Reads what a node published. Contracts see it as its floor, the longest list that it saw or was told of; N names the node.
-#[derive(Drop)]
 pub struct Seat<N> {
     reader: ShownReader,
     at: u64,
     of: PhantomData<N>,
+}
+
+// Not derived: see "What the gate takes" in docs/ARCHITECTURE.md.
+impl<N> Drop for Seat<N> {
+    fn drop(self) {
+        let Seat { reader: _, at: _, of: _ } = self;
+    }
 }
 
 impl<N> Model for Seat<N> {

@@ -16,10 +16,16 @@ use std::mem::replace;
 
 /// A tree and the posting lists of its entries. The lists are those of the entries at each moment between calls; an
 /// update looks up what lists the entry, as it was and as it is, and nothing else.
-#[derive(Drop)]
 pub struct IndexedTree {
     tree: Tree,
     postings: Postings,
+}
+
+// Not derived: see "What the gate takes" in docs/ARCHITECTURE.md.
+impl Drop for IndexedTree {
+    fn drop(self) {
+        let IndexedTree { tree: _, postings: _ } = self;
+    }
 }
 
 impl Model for IndexedTree {

@@ -34,10 +34,16 @@ use std::sync::Arc;
 
 /// The directory under one schema: entries, each with the number of the update that added it, at and below one name; and the index choice under
 /// which they are listed.
-#[derive(Drop)]
 pub struct Store {
     schema: Arc<Schema>,
     held: IndexedTree,
+}
+
+// Not derived: see "What the gate takes" in docs/ARCHITECTURE.md.
+impl Drop for Store {
+    fn drop(self) {
+        let Store { schema: _, held: _ } = self;
+    }
 }
 
 impl Model for Store {

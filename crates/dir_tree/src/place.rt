@@ -9,11 +9,17 @@ use std::collections::BTreeMap;
 
 /// What is kept under the number of a name's entry: the number of the entry right above it, those of the entries right under it, and
 /// those of the entries at or below it, each list in rising order.
-#[derive(Drop)]
 pub struct Place {
     pub above: Option<u64>,
     pub children: Vec<u64>,
     pub within: Vec<u64>,
+}
+
+// Not derived: see "What the gate takes" in docs/ARCHITECTURE.md.
+impl Drop for Place {
+    fn drop(self) {
+        let Place { above: _, children: _, within: _ } = self;
+    }
 }
 
 /// The number of each name that an entry has.
@@ -23,10 +29,16 @@ pub type Names = BTreeMap<Vec<Rdn>, u64>;
 pub type Lists = BTreeMap<u64, Place>;
 
 /// The number of each name, and what is kept under each number.
-#[derive(Drop)]
 pub struct Places {
     pub names: Names,
     pub lists: Lists,
+}
+
+// Not derived: see "What the gate takes" in docs/ARCHITECTURE.md.
+impl Drop for Places {
+    fn drop(self) {
+        let Places { names: _, lists: _ } = self;
+    }
 }
 
 /// Takes a number out of a list.

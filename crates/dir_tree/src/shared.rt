@@ -11,9 +11,15 @@ use std::ops::Deref;
 use std::sync::Arc;
 
 /// The attributes of an entry; a contract sees what they are, not where they lie in memory, nor who else has them.
-#[derive(Drop)]
 pub struct SharedEntry {
     entry: Arc<Entry>,
+}
+
+// Not derived: see "What the gate takes" in docs/ARCHITECTURE.md.
+impl Drop for SharedEntry {
+    fn drop(self) {
+        let SharedEntry { entry: _ } = self;
+    }
 }
 
 impl Model for SharedEntry {

@@ -12,12 +12,18 @@ use std::alloc::{AllocError, Global};
 use std::collections::BTreeMap;
 
 /// Which values of an attribute are held.
-#[derive(Drop)]
 pub struct Index {
     /// Whether values are compared by their keys, else by their octets.
     pub by_keys: bool,
     /// Since which place values of some octets are held.
     pub held: Since,
+}
+
+// Not derived: see "What the gate takes" in docs/ARCHITECTURE.md.
+impl Drop for Index {
+    fn drop(self) {
+        let Index { by_keys: _, held: _ } = self;
+    }
 }
 
 /// An attribute with every value that was ever there, and an index of those that are held.

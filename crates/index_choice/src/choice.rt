@@ -14,10 +14,16 @@ use std::alloc::{AllocError, Global};
 use std::marker::Model;
 
 /// Which indexes each type of a schema has.
-#[derive(Drop)]
 pub struct Indexes {
     /// By the number of the type; a type behind the end has none.
     kinds: Vec<Kinds>,
+}
+
+// Not derived: see "What the gate takes" in docs/ARCHITECTURE.md.
+impl Drop for Indexes {
+    fn drop(self) {
+        let Indexes { kinds: _ } = self;
+    }
 }
 
 impl Model for Indexes {

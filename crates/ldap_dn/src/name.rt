@@ -20,9 +20,15 @@ use std::alloc::{AllocError, Global};
 use std::marker::Model;
 
 /// A name (RFC 4512 2.3.2): its relative names, the root's first.
-#[derive(Drop)]
 pub struct Name {
     rdns: Vec<Rdn>,
+}
+
+// Not derived: see "What the gate takes" in docs/ARCHITECTURE.md.
+impl Drop for Name {
+    fn drop(self) {
+        let Name { rdns: _ } = self;
+    }
 }
 
 impl Model for Name {
@@ -59,7 +65,8 @@ impl Name {
     pub fn into_rdns(self) -> Vec<Rdn>
         ensures { result.items ≡ self }
     {
-        self.rdns
+        let Name { rdns } = self;
+        rdns
     }
 
     /// A copy.
@@ -126,7 +133,7 @@ impl Name {
     pub fn parent(self) -> Option<Name>
         ensures { MatchOption result (self ≡ []) (λ p. p ≡ take (length self - 1) self) }
     {
-        let mut rdns = self.rdns;
+        let Name { mut rdns } = self;
         match rdns.pop() {
             Some(_) => Some(Name { rdns }),
             None => None,

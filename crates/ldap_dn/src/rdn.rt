@@ -86,12 +86,18 @@ impl Model for TypeAndKey {
 }
 
 /// A relative name (RFC 4512 2.3.1).
-#[derive(Drop)]
 pub struct Rdn {
     /// In rising order of type, each type once.
     pub(crate) keys: Vec<TypeAndKey>,
     /// In the order written.
     pub(crate) spelling: Vec<TypeAndValue>,
+}
+
+// Not derived: see "What the gate takes" in docs/ARCHITECTURE.md.
+impl Drop for Rdn {
+    fn drop(self) {
+        let Rdn { keys: _, spelling: _ } = self;
+    }
 }
 
 impl Model for Rdn {

@@ -4,7 +4,7 @@
 use crate::item::{MatchingRuleAssertion, SubstringFilter};
 
 /// A filter (RFC 4511 4.5.1.7): an item, or filters under `and`, `or` and `not`.
-#[derive(Clone, Debug, PartialEq, Eq, Drop)]
+#[derive(Clone, Debug, PartialEq, Eq)]
 pub enum Filter {
     /// True where each filter is; an empty one is true (RFC 4526).
     And(Vec<Filter>),
@@ -38,4 +38,22 @@ pub enum Filter {
     },
     /// `extensibleMatch`: a value satisfies a rule that the filter names.
     Extensible(MatchingRuleAssertion),
+}
+
+// Not derived: see "What the gate takes" in docs/ARCHITECTURE.md.
+impl Drop for Filter {
+    fn drop(self) {
+        match self {
+            Filter::And(_) => {}
+            Filter::Or(_) => {}
+            Filter::Not(_) => {}
+            Filter::Equal { description: _, assertion: _ } => {}
+            Filter::Substrings(_) => {}
+            Filter::AtLeast { description: _, assertion: _ } => {}
+            Filter::AtMost { description: _, assertion: _ } => {}
+            Filter::Present(_) => {}
+            Filter::Approx { description: _, assertion: _ } => {}
+            Filter::Extensible(_) => {}
+        }
+    }
 }

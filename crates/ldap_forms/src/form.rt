@@ -12,9 +12,15 @@ use std::marker::Model;
 
 /// What is kept of a value's texts, by which it is compared under rules of text (RFC 4517 4.2) that its type may lack: nothing, where each text is
 /// made of the value's octets alone.
-#[derive(Drop)]
 pub struct Form {
     kept: Option<Box<Texts>>,
+}
+
+// Not derived: see "What the gate takes" in docs/ARCHITECTURE.md.
+impl Drop for Form {
+    fn drop(self) {
+        let Form { kept: _ } = self;
+    }
 }
 
 impl Model for Form {

@@ -4,7 +4,7 @@
 use ldap_filter::Filter;
 
 /// SearchRequest (RFC 4511 4.5.1).
-#[derive(Debug, Drop)]
+#[derive(Debug)]
 pub struct SearchRequest {
     /// baseObject, a name as text.
     pub base: String,
@@ -18,6 +18,13 @@ pub struct SearchRequest {
     pub filter: Filter,
     /// AttributeSelection: descriptions, `*` and `1.1`; none asks for all user attributes.
     pub attributes: Vec<String>,
+}
+
+// Not derived: see "What the gate takes" in docs/ARCHITECTURE.md.
+impl Drop for SearchRequest {
+    fn drop(self) {
+        let SearchRequest { base: _, scope: _, deref_aliases: _, size_limit: _, time_limit: _, types_only: _, filter: _, attributes: _ } = self;
+    }
 }
 
 /// The scope of a search (RFC 4511 4.5.1.2), 0 to 3 on the wire.

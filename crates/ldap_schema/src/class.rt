@@ -49,7 +49,6 @@ impl ClassId {
 }
 
 /// An object class (RFC 4512 4.1.1).
-#[derive(Drop)]
 pub struct ObjectClass {
     /// The object identifier in dotted form.
     pub oid: String,
@@ -63,6 +62,13 @@ pub struct ObjectClass {
     pub required: Vec<TypeId>,
     /// The types that its entries may have.
     pub allowed: Vec<TypeId>,
+}
+
+// Not derived: see "What the gate takes" in docs/ARCHITECTURE.md.
+impl Drop for ObjectClass {
+    fn drop(self) {
+        let ObjectClass { oid: _, names: _, superiors: _, kind: _, required: _, allowed: _ } = self;
+    }
 }
 
 impl Model for ObjectClass {

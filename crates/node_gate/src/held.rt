@@ -33,7 +33,6 @@ impl Pulse {
 
 /// The node, what its seats see of it, what it heard, and whether those who wait are to go on. What its seats see, and what they are to see next, is
 /// a beginning of what it has executed.
-#[derive(Drop)]
 pub struct Held<'a, R: Wait, D: Device> {
     node: Node<D>,
     publisher: Publisher<Here, &'a R>,
@@ -42,6 +41,13 @@ pub struct Held<'a, R: Wait, D: Device> {
     heard: u64,
     pub is_stopping: bool,
     ghost shows: { IsGiven node.executed publisher given },
+}
+
+// Not derived: see "What the gate takes" in docs/ARCHITECTURE.md.
+impl<'a, R: Wait, D: Device + Drop> Drop for Held<'a, R, D> {
+    fn drop(self) {
+        let Held { node: _, publisher: _, given: _, heard: _, is_stopping: _ } = self;
+    }
 }
 
 /// Who sent the message of an event; none, where it is another event.

@@ -15,13 +15,19 @@ use std::sync::{Condvar, CondvarTimeouts, Mutex, Wait};
 use std::time::{Clock, Duration};
 
 /// A node under its lock, with a condition that is told of each change, and one that is told of the stop.
-#[derive(Drop)]
 pub struct Running<'a, R: Wait, D: Device> {
     held: Mutex<Held<'a, R, D>>,
     /// The standing after the last event, for who doesn't wait for the lock.
     standing: LastStanding,
     changed: Condvar,
     stopping: Condvar,
+}
+
+// Not derived: see "What the gate takes" in docs/ARCHITECTURE.md.
+impl<'a, R: Wait, D: Device + Drop> Drop for Running<'a, R, D> {
+    fn drop(self) {
+        let Running { held: _, standing: _, changed: _, stopping: _ } = self;
+    }
 }
 
 impl<'a, R: Wait, D: Device> Running<'a, R, D> {
@@ -63,7 +69,7 @@ impl<'a, R: Wait, D: Device> Running<'a, R, D> {
             replies: _,
         } = outputs;
         for send in sends {
-            peers.send(send.to, send.message);
+            peers.send(send.to, send.into_message());
         }
         Ok(())
     }

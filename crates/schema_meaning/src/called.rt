@@ -71,12 +71,18 @@ fn lower(first: Option<usize>, second: Option<usize>) -> Option<usize>
 }
 
 /// Descriptions that are found by the words that call them.
-#[derive(Drop)]
 pub struct Called<'a> {
     descriptions: &'a [Description],
     /// By names in lower case.
     by_name: Ordered,
     by_oid: Numbers,
+}
+
+// Not derived: see "What the gate takes" in docs/ARCHITECTURE.md.
+impl<'a> Drop for Called<'a> {
+    fn drop(self) {
+        let Called { descriptions: _, by_name: _, by_oid: _ } = self;
+    }
 }
 
 impl<'a> Model for Called<'a> {

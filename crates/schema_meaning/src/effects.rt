@@ -188,11 +188,17 @@ fn table_of(
 }
 
 /// What is in effect for types, by their numbers.
-#[derive(Drop)]
 pub struct Effects<'a> {
     types: &'a [Description],
     /// None, where the chain of SUPs does not lead to an end.
     table: Vec<Option<Effect>>,
+}
+
+// Not derived: see "What the gate takes" in docs/ARCHITECTURE.md.
+impl<'a> Drop for Effects<'a> {
+    fn drop(self) {
+        let Effects { types: _, table: _ } = self;
+    }
 }
 
 impl<'a> Model for Effects<'a> {

@@ -9,10 +9,16 @@ use crate::keyword::{Keyword, place};
 use std::marker::Model;
 
 /// A field of a description: its keyword, and the texts of its argument.
-#[derive(Drop)]
 pub struct Field {
     pub(crate) keyword: Keyword,
     pub(crate) texts: Vec<Vec<u8>>,
+}
+
+// Not derived: see "What the gate takes" in docs/ARCHITECTURE.md.
+impl Drop for Field {
+    fn drop(self) {
+        let Field { keyword: _, texts: _ } = self;
+    }
 }
 
 impl Model for Field {
@@ -41,11 +47,17 @@ impl Field {
 }
 
 /// A description of an attribute type or an object class (RFC 4512 4.1.1, 4.1.2).
-#[derive(Drop)]
 pub struct Description {
     pub(crate) line: usize,
     pub(crate) oid: Vec<u8>,
     pub(crate) fields: Vec<Field>,
+}
+
+// Not derived: see "What the gate takes" in docs/ARCHITECTURE.md.
+impl Drop for Description {
+    fn drop(self) {
+        let Description { line: _, oid: _, fields: _ } = self;
+    }
 }
 
 impl Model for Description {

@@ -311,7 +311,6 @@ where
 }
 
 /// What a server's threads share, as it is made before they begin.
-#[derive(Drop)]
 struct Rooms {
     clients: TcpListener,
     peers: TcpListener,
@@ -321,6 +320,13 @@ struct Rooms {
     uris: Vec<String>,
     crew: Crew,
     sender: u8,
+}
+
+// Not derived: see "What the gate takes" in docs/ARCHITECTURE.md.
+impl Drop for Rooms {
+    fn drop(self) {
+        let Rooms { clients: _, peers: _, client_door: _, peer_door: _, boxes: _, uris: _, crew: _, sender: _ } = self;
+    }
 }
 
 /// The listeners of the replica of this index, and all that its threads share.
@@ -442,7 +448,7 @@ where
         boxes: &rooms.boxes,
     };
     for send in outputs.sends {
-        posts.send(send.to, send.message);
+        posts.send(send.to, send.into_message());
     }
     announce(output, &rooms.clients)?;
     let config = Config {

@@ -5,6 +5,8 @@
 use crate::log::Log;
 use crate::words::{Entry, Reply};
 
+ghost use Rattle.std.specs.Prelude.{◌≡◌};
+
 /// A log and how much of it is committed.
 #[derive(Drop)]
 pub struct Snapshot<P> {
@@ -22,11 +24,17 @@ pub struct Change<P> {
 }
 
 /// What a RECOVERYRESPONSE tells of its sender (VRR 4.3, step 2).
-#[derive(Drop)]
 pub struct Response<P> {
     pub view_number: u64,
     /// Its log, if it is the primary of that view.
     pub held: Option<Snapshot<P>>,
+}
+
+// Not derived: see "What the gate takes" in docs/ARCHITECTURE.md.
+impl<P: Drop> Drop for Response<P> {
+    fn drop(self) {
+        let Response { view_number: _, held: _ } = self;
+    }
 }
 
 /// A message to another replica. The sender comes with it.
@@ -86,10 +94,26 @@ pub enum PeerMessage<P> {
 }
 
 /// A message and the index of its receiver.
-#[derive(Drop)]
 pub struct Send<P> {
     pub to: u64,
     pub message: PeerMessage<P>,
+}
+
+// Not derived: see "What the gate takes" in docs/ARCHITECTURE.md.
+impl<P: Drop> Drop for Send<P> {
+    fn drop(self) {
+        let Send { to: _, message: _ } = self;
+    }
+}
+
+impl<P> Send<P> {
+    /// The message alone.
+    pub fn into_message(self) -> PeerMessage<P>
+        ensures { result ≡ self.message }
+    {
+        let Send { to: _, message } = self;
+        message
+    }
 }
 
 /// What a step gives out: the view is stored first, where one is named, and then the messages are sent.
