@@ -13,7 +13,7 @@ const LAST_CLUSTER: i64 = 281_474_976_710_655;
 const LONGEST: i64 = 86_400_000;
 
 /// Where one replica is found.
-#[derive(Clone, Copy, Debug, PartialEq, Eq)]
+#[derive(Clone, Copy)]
 pub struct Peer {
     /// Where the other replicas find it.
     pub peer_address: SocketAddr,
@@ -22,7 +22,6 @@ pub struct Peer {
 }
 
 /// What a replica is told. Times are in milliseconds.
-#[derive(Debug)]
 pub struct Serving<'a> {
     /// The number of the cluster, from 1.
     pub cluster: u64,
@@ -60,7 +59,25 @@ pub struct Serving<'a> {
 // Not derived: see "What the gate takes" in docs/ARCHITECTURE.md.
 impl<'a> Drop for Serving<'a> {
     fn drop(self) {
-        let Serving { cluster: _, index: _, store: _, suffix: _, manager: _, password: _, schema: _, indexes: _, seats: _, waiting: _, beat: _, suspect: _, stall: _, idle: _, take: _, fresh: _, peers: _ } = self;
+        let Serving {
+            cluster: _,
+            index: _,
+            store: _,
+            suffix: _,
+            manager: _,
+            password: _,
+            schema: _,
+            indexes: _,
+            seats: _,
+            waiting: _,
+            beat: _,
+            suspect: _,
+            stall: _,
+            idle: _,
+            take: _,
+            fresh: _,
+            peers: _,
+        } = self;
     }
 }
 

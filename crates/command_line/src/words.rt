@@ -6,7 +6,7 @@ use ldap_msg::Scope;
 use std::alloc::{AllocError, Global};
 
 /// What the words ask for.
-#[derive(Debug, Drop)]
+#[derive(Drop)]
 pub enum Job<'a> {
     /// One session over one local directory.
     Answer(Opening<'a>),
@@ -23,7 +23,7 @@ pub enum Job<'a> {
 }
 
 /// What a session's directory begins with.
-#[derive(Clone, Copy, Debug, PartialEq, Eq)]
+#[derive(Clone, Copy)]
 pub struct Opening<'a> {
     /// Whether it holds the built-in sample.
     pub sample: bool,
@@ -34,7 +34,6 @@ pub struct Opening<'a> {
 }
 
 /// A search, as it is asked for.
-#[derive(Debug)]
 pub struct Question<'a> {
     pub base: &'a str,
     pub scope: Scope,
@@ -45,7 +44,12 @@ pub struct Question<'a> {
 // Not derived: see "What the gate takes" in docs/ARCHITECTURE.md.
 impl<'a> Drop for Question<'a> {
     fn drop(self) {
-        let Question { base: _, scope: _, filter: _, attributes: _ } = self;
+        let Question {
+            base: _,
+            scope: _,
+            filter: _,
+            attributes: _,
+        } = self;
     }
 }
 

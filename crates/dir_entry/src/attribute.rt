@@ -34,7 +34,12 @@ pub struct Attribute {
 // Not derived: see "What the gate takes" in docs/ARCHITECTURE.md.
 impl Drop for Attribute {
     fn drop(self) {
-        let Attribute { type_id: _, values: _, keys: _, forms: _ } = self;
+        let Attribute {
+            type_id: _,
+            values: _,
+            keys: _,
+            forms: _,
+        } = self;
     }
 }
 

@@ -21,7 +21,11 @@ pub struct Executed {
 // Not derived: see "What the gate takes" in docs/ARCHITECTURE.md.
 impl Drop for Executed {
     fn drop(self) {
-        let Executed { records: _, replies: _, store: _ } = self;
+        let Executed {
+            records: _,
+            replies: _,
+            store: _,
+        } = self;
     }
 }
 

@@ -28,7 +28,12 @@ pub struct Postings {
 // Not derived: see "What the gate takes" in docs/ARCHITECTURE.md.
 impl Drop for Postings {
     fn drop(self) {
-        let Postings { alloc: _, indexes: _, lists: _, columns: _ } = self;
+        let Postings {
+            alloc: _,
+            indexes: _,
+            lists: _,
+            columns: _,
+        } = self;
     }
 }
 

@@ -25,7 +25,6 @@ pub enum LabEvent {
 }
 
 /// One thing that a lab shows.
-#[derive(Debug)]
 pub enum LabReply {
     /// A reply to an update, with its result code.
     Replied {
@@ -66,7 +65,13 @@ impl Drop for LabReply {
             LabReply::Unavailable => {}
             LabReply::NotYet { at: _ } => {}
             LabReply::Answered { at: _, answer: _ } => {}
-            LabReply::Standing { replica: _, view_number: _, status: _, op_number: _, commit_number: _ } => {}
+            LabReply::Standing {
+                replica: _,
+                view_number: _,
+                status: _,
+                op_number: _,
+                commit_number: _,
+            } => {}
             LabReply::Down { replica: _ } => {}
         }
     }

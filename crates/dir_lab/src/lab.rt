@@ -27,7 +27,12 @@ pub struct Lab {
 // Not derived: see "What the gate takes" in docs/ARCHITECTURE.md.
 impl Drop for Lab {
     fn drop(self) {
-        let Lab { schema: _, indexes: _, suffix: _, count: _ } = self;
+        let Lab {
+            schema: _,
+            indexes: _,
+            suffix: _,
+            count: _,
+        } = self;
     }
 }
 

@@ -44,7 +44,13 @@ pub struct Node<D: Device> {
 // Not derived: see "What the gate takes" in docs/ARCHITECTURE.md.
 impl<D: Device + Drop> Drop for Node<D> {
     fn drop(self) {
-        let Node { replica: _, executed: _, views: _, restarts: _, is_halted: _ } = self;
+        let Node {
+            replica: _,
+            executed: _,
+            views: _,
+            restarts: _,
+            is_halted: _,
+        } = self;
     }
 }
 

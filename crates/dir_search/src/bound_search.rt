@@ -69,7 +69,14 @@ pub struct BoundSearch<'a> {
 // Not derived: see "What the gate takes" in docs/ARCHITECTURE.md.
 impl<'a> Drop for BoundSearch<'a> {
     fn drop(self) {
-        let BoundSearch { alloc: _, schema: _, indexed: _, bound: _, base: _, request: _ } = self;
+        let BoundSearch {
+            alloc: _,
+            schema: _,
+            indexed: _,
+            bound: _,
+            base: _,
+            request: _,
+        } = self;
     }
 }
 

@@ -37,7 +37,12 @@ pub struct Showing<'a> {
 // Not derived: see "What the gate takes" in docs/ARCHITECTURE.md.
 impl<'a> Drop for Showing<'a> {
     fn drop(self) {
-        let Showing { alloc: _, schema: _, request: _, selection: _ } = self;
+        let Showing {
+            alloc: _,
+            schema: _,
+            request: _,
+            selection: _,
+        } = self;
     }
 }
 

@@ -15,7 +15,11 @@ pub struct Evaluated<'a> {
 // Not derived: see "What the gate takes" in docs/ARCHITECTURE.md.
 impl<'a> Drop for Evaluated<'a> {
     fn drop(self) {
-        let Evaluated { tree: _, bound: _, looks: _ } = self;
+        let Evaluated {
+            tree: _,
+            bound: _,
+            looks: _,
+        } = self;
     }
 }
 

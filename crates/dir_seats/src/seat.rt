@@ -29,7 +29,11 @@ pub struct Seat<N> {
 // Not derived: see "What the gate takes" in docs/ARCHITECTURE.md.
 impl<N> Drop for Seat<N> {
     fn drop(self) {
-        let Seat { reader: _, at: _, of: _ } = self;
+        let Seat {
+            reader: _,
+            at: _,
+            of: _,
+        } = self;
     }
 }
 

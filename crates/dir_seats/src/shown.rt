@@ -21,7 +21,11 @@ pub struct Shown {
 // Not derived: see "What the gate takes" in docs/ARCHITECTURE.md.
 impl Drop for Shown {
     fn drop(self) {
-        let Shown { alloc: _, records: _, store: _ } = self;
+        let Shown {
+            alloc: _,
+            records: _,
+            store: _,
+        } = self;
     }
 }
 

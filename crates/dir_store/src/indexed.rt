@@ -24,7 +24,10 @@ pub struct IndexedTree {
 // Not derived: see "What the gate takes" in docs/ARCHITECTURE.md.
 impl Drop for IndexedTree {
     fn drop(self) {
-        let IndexedTree { tree: _, postings: _ } = self;
+        let IndexedTree {
+            tree: _,
+            postings: _,
+        } = self;
     }
 }
 

@@ -18,7 +18,11 @@ pub struct Place {
 // Not derived: see "What the gate takes" in docs/ARCHITECTURE.md.
 impl Drop for Place {
     fn drop(self) {
-        let Place { above: _, children: _, within: _ } = self;
+        let Place {
+            above: _,
+            children: _,
+            within: _,
+        } = self;
     }
 }
 

@@ -34,7 +34,12 @@ pub struct Tree {
 // Not derived: see "What the gate takes" in docs/ARCHITECTURE.md.
 impl Drop for Tree {
     fn drop(self) {
-        let Tree { alloc: _, suffix: _, entries: _, places: _ } = self;
+        let Tree {
+            alloc: _,
+            suffix: _,
+            entries: _,
+            places: _,
+        } = self;
     }
 }
 

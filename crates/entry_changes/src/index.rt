@@ -22,7 +22,10 @@ pub struct Index {
 // Not derived: see "What the gate takes" in docs/ARCHITECTURE.md.
 impl Drop for Index {
     fn drop(self) {
-        let Index { by_keys: _, held: _ } = self;
+        let Index {
+            by_keys: _,
+            held: _,
+        } = self;
     }
 }
 

@@ -96,7 +96,10 @@ pub struct Rdn {
 // Not derived: see "What the gate takes" in docs/ARCHITECTURE.md.
 impl Drop for Rdn {
     fn drop(self) {
-        let Rdn { keys: _, spelling: _ } = self;
+        let Rdn {
+            keys: _,
+            spelling: _,
+        } = self;
     }
 }
 

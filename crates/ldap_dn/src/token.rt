@@ -2,14 +2,14 @@
 // What must not be here: texts, types, values.
 
 /// An octet of a name's text, as it stands there or spelled by an escape (RFC 4514 3).
-#[derive(Clone, Copy, Debug, PartialEq, Eq)]
+#[derive(Clone, Copy)]
 pub enum Token {
     Plain(u8),
     Escaped(u8),
 }
 
 /// Where a reader of octets stands between tokens, or inside one.
-#[derive(Clone, Copy, Debug, PartialEq, Eq)]
+#[derive(Clone, Copy)]
 pub enum Scan {
     Between,
     /// Behind a backslash.
@@ -19,7 +19,7 @@ pub enum Scan {
 }
 
 /// What the next octet does to a reader.
-#[derive(Clone, Copy, Debug, PartialEq, Eq)]
+#[derive(Clone, Copy)]
 pub enum Step {
     Refuses,
     Reads(Scan),

@@ -12,7 +12,10 @@ pub struct Leaf {
 // Not derived: see "What the gate takes" in docs/ARCHITECTURE.md.
 impl Drop for Leaf {
     fn drop(self) {
-        let Leaf { type_id: _, test: _ } = self;
+        let Leaf {
+            type_id: _,
+            test: _,
+        } = self;
     }
 }
 
@@ -26,7 +29,11 @@ pub struct Match {
 // Not derived: see "What the gate takes" in docs/ARCHITECTURE.md.
 impl Drop for Match {
     fn drop(self) {
-        let Match { type_id: _, test: _, in_name: _ } = self;
+        let Match {
+            type_id: _,
+            test: _,
+            in_name: _,
+        } = self;
     }
 }
 

@@ -17,7 +17,12 @@ pub struct SubstringFilter {
 // Not derived: see "What the gate takes" in docs/ARCHITECTURE.md.
 impl Drop for SubstringFilter {
     fn drop(self) {
-        let SubstringFilter { description: _, initial: _, any: _, last: _ } = self;
+        let SubstringFilter {
+            description: _,
+            initial: _,
+            any: _,
+            last: _,
+        } = self;
     }
 }
 
@@ -34,6 +39,11 @@ pub struct MatchingRuleAssertion {
 // Not derived: see "What the gate takes" in docs/ARCHITECTURE.md.
 impl Drop for MatchingRuleAssertion {
     fn drop(self) {
-        let MatchingRuleAssertion { matching_rule: _, description: _, match_value: _, dn_attributes: _ } = self;
+        let MatchingRuleAssertion {
+            matching_rule: _,
+            description: _,
+            match_value: _,
+            dn_attributes: _,
+        } = self;
     }
 }

@@ -47,12 +47,24 @@ impl Drop for Filter {
             Filter::And(_) => {}
             Filter::Or(_) => {}
             Filter::Not(_) => {}
-            Filter::Equal { description: _, assertion: _ } => {}
+            Filter::Equal {
+                description: _,
+                assertion: _,
+            } => {}
             Filter::Substrings(_) => {}
-            Filter::AtLeast { description: _, assertion: _ } => {}
-            Filter::AtMost { description: _, assertion: _ } => {}
+            Filter::AtLeast {
+                description: _,
+                assertion: _,
+            } => {}
+            Filter::AtMost {
+                description: _,
+                assertion: _,
+            } => {}
             Filter::Present(_) => {}
-            Filter::Approx { description: _, assertion: _ } => {}
+            Filter::Approx {
+                description: _,
+                assertion: _,
+            } => {}
             Filter::Extensible(_) => {}
         }
     }

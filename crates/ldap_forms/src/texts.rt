@@ -22,7 +22,12 @@ pub struct Texts {
 // Not derived: see "What the gate takes" in docs/ARCHITECTURE.md.
 impl Drop for Texts {
     fn drop(self) {
-        let Texts { exact: _, ignore: _, numeric: _, telephone: _ } = self;
+        let Texts {
+            exact: _,
+            ignore: _,
+            numeric: _,
+            telephone: _,
+        } = self;
     }
 }
 

@@ -30,7 +30,12 @@ pub struct Framer {
 // Not derived: see "What the gate takes" in docs/ARCHITECTURE.md.
 impl Drop for Framer {
     fn drop(self) {
-        let Framer { alloc: _, buffer: _, ready: _, fault: _ } = self;
+        let Framer {
+            alloc: _,
+            buffer: _,
+            ready: _,
+            fault: _,
+        } = self;
     }
 }
 

@@ -23,7 +23,11 @@ pub struct PartKeys {
 // Not derived: see "What the gate takes" in docs/ARCHITECTURE.md.
 impl Drop for PartKeys {
     fn drop(self) {
-        let PartKeys { initial: _, any: _, last: _ } = self;
+        let PartKeys {
+            initial: _,
+            any: _,
+            last: _,
+        } = self;
     }
 }
 

@@ -11,7 +11,10 @@ pub struct PartialAttribute {
 // Not derived: see "What the gate takes" in docs/ARCHITECTURE.md.
 impl Drop for PartialAttribute {
     fn drop(self) {
-        let PartialAttribute { description: _, values: _ } = self;
+        let PartialAttribute {
+            description: _,
+            values: _,
+        } = self;
     }
 }
 

@@ -13,6 +13,10 @@ pub struct Control {
 // Not derived: see "What the gate takes" in docs/ARCHITECTURE.md.
 impl Drop for Control {
     fn drop(self) {
-        let Control { control_type: _, criticality: _, value: _ } = self;
+        let Control {
+            control_type: _,
+            criticality: _,
+            value: _,
+        } = self;
     }
 }

@@ -103,6 +103,11 @@ pub struct LdapResult {
 // Not derived: see "What the gate takes" in docs/ARCHITECTURE.md.
 impl Drop for LdapResult {
     fn drop(self) {
-        let LdapResult { code: _, matched_dn: _, diagnostic_message: _, referral: _ } = self;
+        let LdapResult {
+            code: _,
+            matched_dn: _,
+            diagnostic_message: _,
+            referral: _,
+        } = self;
     }
 }

@@ -14,7 +14,11 @@ pub struct BindRequest {
 // Not derived: see "What the gate takes" in docs/ARCHITECTURE.md.
 impl Drop for BindRequest {
     fn drop(self) {
-        let BindRequest { version: _, name: _, authentication: _ } = self;
+        let BindRequest {
+            version: _,
+            name: _,
+            authentication: _,
+        } = self;
     }
 }
 

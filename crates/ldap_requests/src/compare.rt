@@ -27,6 +27,9 @@ pub struct AttributeValueAssertion {
 // Not derived: see "What the gate takes" in docs/ARCHITECTURE.md.
 impl Drop for AttributeValueAssertion {
     fn drop(self) {
-        let AttributeValueAssertion { attribute_desc: _, assertion_value: _ } = self;
+        let AttributeValueAssertion {
+            attribute_desc: _,
+            assertion_value: _,
+        } = self;
     }
 }

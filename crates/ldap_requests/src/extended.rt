@@ -12,6 +12,9 @@ pub struct ExtendedRequest {
 // Not derived: see "What the gate takes" in docs/ARCHITECTURE.md.
 impl Drop for ExtendedRequest {
     fn drop(self) {
-        let ExtendedRequest { request_name: _, request_value: _ } = self;
+        let ExtendedRequest {
+            request_name: _,
+            request_value: _,
+        } = self;
     }
 }

@@ -23,7 +23,16 @@ pub struct SearchRequest {
 // Not derived: see "What the gate takes" in docs/ARCHITECTURE.md.
 impl Drop for SearchRequest {
     fn drop(self) {
-        let SearchRequest { base: _, scope: _, deref_aliases: _, size_limit: _, time_limit: _, types_only: _, filter: _, attributes: _ } = self;
+        let SearchRequest {
+            base: _,
+            scope: _,
+            deref_aliases: _,
+            size_limit: _,
+            time_limit: _,
+            types_only: _,
+            filter: _,
+            attributes: _,
+        } = self;
     }
 }
 

@@ -14,6 +14,9 @@ pub struct SearchResultEntry {
 // Not derived: see "What the gate takes" in docs/ARCHITECTURE.md.
 impl Drop for SearchResultEntry {
     fn drop(self) {
-        let SearchResultEntry { object_name: _, attributes: _ } = self;
+        let SearchResultEntry {
+            object_name: _,
+            attributes: _,
+        } = self;
     }
 }

@@ -15,6 +15,10 @@ pub struct ExtendedResponse {
 // Not derived: see "What the gate takes" in docs/ARCHITECTURE.md.
 impl Drop for ExtendedResponse {
     fn drop(self) {
-        let ExtendedResponse { result: _, response_name: _, response_value: _ } = self;
+        let ExtendedResponse {
+            result: _,
+            response_name: _,
+            response_value: _,
+        } = self;
     }
 }

@@ -62,7 +62,16 @@ pub struct AttributeType {
 // Not derived: see "What the gate takes" in docs/ARCHITECTURE.md.
 impl Drop for AttributeType {
     fn drop(self) {
-        let AttributeType { oid: _, names: _, superior: _, syntax: _, equality: _, ordering: _, substrings: _, is_single_value: _ } = self;
+        let AttributeType {
+            oid: _,
+            names: _,
+            superior: _,
+            syntax: _,
+            equality: _,
+            ordering: _,
+            substrings: _,
+            is_single_value: _,
+        } = self;
     }
 }
 

@@ -67,7 +67,14 @@ pub struct ObjectClass {
 // Not derived: see "What the gate takes" in docs/ARCHITECTURE.md.
 impl Drop for ObjectClass {
     fn drop(self) {
-        let ObjectClass { oid: _, names: _, superiors: _, kind: _, required: _, allowed: _ } = self;
+        let ObjectClass {
+            oid: _,
+            names: _,
+            superiors: _,
+            kind: _,
+            required: _,
+            allowed: _,
+        } = self;
     }
 }
 

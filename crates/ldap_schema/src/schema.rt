@@ -40,7 +40,15 @@ pub struct Schema {
 // Not derived: see "What the gate takes" in docs/ARCHITECTURE.md.
 impl Drop for Schema {
     fn drop(self) {
-        let Schema { types: _, classes: _, ranks: _, is_ranked: _, object_class: _, type_index: _, class_index: _ } = self;
+        let Schema {
+            types: _,
+            classes: _,
+            ranks: _,
+            is_ranked: _,
+            object_class: _,
+            type_index: _,
+            class_index: _,
+        } = self;
     }
 }
 

@@ -34,7 +34,10 @@ pub struct Session {
 // Not derived: see "What the gate takes" in docs/ARCHITECTURE.md.
 impl Drop for Session {
     fn drop(self) {
-        let Session { framer: _, state: _ } = self;
+        let Session {
+            framer: _,
+            state: _,
+        } = self;
     }
 }
 

@@ -15,6 +15,9 @@ pub struct AddRequest {
 // Not derived: see "What the gate takes" in docs/ARCHITECTURE.md.
 impl Drop for AddRequest {
     fn drop(self) {
-        let AddRequest { entry: _, attributes: _ } = self;
+        let AddRequest {
+            entry: _,
+            attributes: _,
+        } = self;
     }
 }

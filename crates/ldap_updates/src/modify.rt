@@ -15,7 +15,10 @@ pub struct ModifyRequest {
 // Not derived: see "What the gate takes" in docs/ARCHITECTURE.md.
 impl Drop for ModifyRequest {
     fn drop(self) {
-        let ModifyRequest { object: _, changes: _ } = self;
+        let ModifyRequest {
+            object: _,
+            changes: _,
+        } = self;
     }
 }
 
@@ -29,7 +32,10 @@ pub struct Change {
 // Not derived: see "What the gate takes" in docs/ARCHITECTURE.md.
 impl Drop for Change {
     fn drop(self) {
-        let Change { operation: _, modification: _ } = self;
+        let Change {
+            operation: _,
+            modification: _,
+        } = self;
     }
 }
 

@@ -16,6 +16,11 @@ pub struct ModifyDnRequest {
 // Not derived: see "What the gate takes" in docs/ARCHITECTURE.md.
 impl Drop for ModifyDnRequest {
     fn drop(self) {
-        let ModifyDnRequest { entry: _, newrdn: _, deleteoldrdn: _, new_superior: _ } = self;
+        let ModifyDnRequest {
+            entry: _,
+            newrdn: _,
+            deleteoldrdn: _,
+            new_superior: _,
+        } = self;
     }
 }

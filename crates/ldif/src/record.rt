@@ -15,7 +15,10 @@ pub struct AttributeValue {
 // Not derived: see "What the gate takes" in docs/ARCHITECTURE.md.
 impl Drop for AttributeValue {
     fn drop(self) {
-        let AttributeValue { description: _, octets: _ } = self;
+        let AttributeValue {
+            description: _,
+            octets: _,
+        } = self;
     }
 }
 

@@ -7,7 +7,7 @@ ghost use Rattle.session_talk.specs.dir_store.View.{reply_view};
 use session_talk::{Reply, ResultCode};
 
 /// What a client's latest request was answered with.
-#[derive(Debug, Drop)]
+#[derive(Drop)]
 pub struct Kept {
     /// The request's number.
     pub request: u64,

@@ -31,7 +31,11 @@ pub struct LocalDirectory {
 // Not derived: see "What the gate takes" in docs/ARCHITECTURE.md.
 impl Drop for LocalDirectory {
     fn drop(self) {
-        let LocalDirectory { store: _, number: _, clients: _ } = self;
+        let LocalDirectory {
+            store: _,
+            number: _,
+            clients: _,
+        } = self;
     }
 }
 

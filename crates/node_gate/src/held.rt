@@ -46,7 +46,13 @@ pub struct Held<'a, R: Wait, D: Device> {
 // Not derived: see "What the gate takes" in docs/ARCHITECTURE.md.
 impl<'a, R: Wait, D: Device + Drop> Drop for Held<'a, R, D> {
     fn drop(self) {
-        let Held { node: _, publisher: _, given: _, heard: _, is_stopping: _ } = self;
+        let Held {
+            node: _,
+            publisher: _,
+            given: _,
+            heard: _,
+            is_stopping: _,
+        } = self;
     }
 }
 

@@ -26,7 +26,12 @@ pub struct Running<'a, R: Wait, D: Device> {
 // Not derived: see "What the gate takes" in docs/ARCHITECTURE.md.
 impl<'a, R: Wait, D: Device + Drop> Drop for Running<'a, R, D> {
     fn drop(self) {
-        let Running { held: _, standing: _, changed: _, stopping: _ } = self;
+        let Running {
+            held: _,
+            standing: _,
+            changed: _,
+            stopping: _,
+        } = self;
     }
 }
 

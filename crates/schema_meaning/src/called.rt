@@ -81,7 +81,11 @@ pub struct Called<'a> {
 // Not derived: see "What the gate takes" in docs/ARCHITECTURE.md.
 impl<'a> Drop for Called<'a> {
     fn drop(self) {
-        let Called { descriptions: _, by_name: _, by_oid: _ } = self;
+        let Called {
+            descriptions: _,
+            by_name: _,
+            by_oid: _,
+        } = self;
     }
 }
 

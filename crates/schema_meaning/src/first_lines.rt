@@ -168,7 +168,11 @@ pub struct FirstLines<'a> {
 // Not derived: see "What the gate takes" in docs/ARCHITECTURE.md.
 impl<'a> Drop for FirstLines<'a> {
     fn drop(self) {
-        let FirstLines { text: _, by_name: _, by_oid: _ } = self;
+        let FirstLines {
+            text: _,
+            by_name: _,
+            by_oid: _,
+        } = self;
     }
 }
 

@@ -19,7 +19,11 @@ pub struct IndexedText<'a> {
 // Not derived: see "What the gate takes" in docs/ARCHITECTURE.md.
 impl<'a> Drop for IndexedText<'a> {
     fn drop(self) {
-        let IndexedText { text: _, types: _, classes: _ } = self;
+        let IndexedText {
+            text: _,
+            types: _,
+            classes: _,
+        } = self;
     }
 }
 

@@ -17,7 +17,10 @@ pub struct Field {
 // Not derived: see "What the gate takes" in docs/ARCHITECTURE.md.
 impl Drop for Field {
     fn drop(self) {
-        let Field { keyword: _, texts: _ } = self;
+        let Field {
+            keyword: _,
+            texts: _,
+        } = self;
     }
 }
 
@@ -56,7 +59,11 @@ pub struct Description {
 // Not derived: see "What the gate takes" in docs/ARCHITECTURE.md.
 impl Drop for Description {
     fn drop(self) {
-        let Description { line: _, oid: _, fields: _ } = self;
+        let Description {
+            line: _,
+            oid: _,
+            fields: _,
+        } = self;
     }
 }
 

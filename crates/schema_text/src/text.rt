@@ -26,7 +26,12 @@ pub struct SchemaText {
 // Not derived: see "What the gate takes" in docs/ARCHITECTURE.md.
 impl Drop for SchemaText {
     fn drop(self) {
-        let SchemaText { types: _, classes: _, bad: _, behind: _ } = self;
+        let SchemaText {
+            types: _,
+            classes: _,
+            bad: _,
+            behind: _,
+        } = self;
     }
 }
 

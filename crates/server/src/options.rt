@@ -5,7 +5,7 @@ use std::net::SocketAddr;
 use std::time::Duration;
 
 /// Where one replica is found.
-#[derive(Clone, Copy, Debug, PartialEq, Eq)]
+#[derive(Clone, Copy)]
 pub struct Place {
     /// Where the other replicas find it.
     pub peer_address: SocketAddr,
@@ -14,7 +14,7 @@ pub struct Place {
 }
 
 /// When a replica moves by itself.
-#[derive(Clone, Copy, Debug, PartialEq, Eq)]
+#[derive(Clone, Copy)]
 pub struct Times {
     /// How often it sends again what others may have missed.
     pub beat: Duration,

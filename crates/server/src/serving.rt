@@ -325,7 +325,16 @@ struct Rooms {
 // Not derived: see "What the gate takes" in docs/ARCHITECTURE.md.
 impl Drop for Rooms {
     fn drop(self) {
-        let Rooms { clients: _, peers: _, client_door: _, peer_door: _, boxes: _, uris: _, crew: _, sender: _ } = self;
+        let Rooms {
+            clients: _,
+            peers: _,
+            client_door: _,
+            peer_door: _,
+            boxes: _,
+            uris: _,
+            crew: _,
+            sender: _,
+        } = self;
     }
 }
 

@@ -20,7 +20,7 @@ const LATEST: u32 = 8;
 const THREADS_LIMIT: u64 = 2_000;
 
 /// What is due.
-#[derive(Clone, Copy, Debug, PartialEq, Eq)]
+#[derive(Clone, Copy)]
 enum Due {
     Nothing,
     Beat,
@@ -28,7 +28,7 @@ enum Due {
 }
 
 /// What a clock knows of a node.
-#[derive(Debug, Drop)]
+#[derive(Drop)]
 struct Watch {
     pulse: Pulse,
     /// When something was heard last.

@@ -1,7 +1,7 @@
 //! What one message is answered with. Octets of responses, and whether the session goes on. How they come about is not here.
 
 /// Whether the session goes on after a message.
-#[derive(Clone, Copy, Debug, PartialEq, Eq)]
+#[derive(Clone, Copy)]
 pub enum Next {
     GoesOn,
     /// The client unbound.
@@ -11,7 +11,6 @@ pub enum Next {
 }
 
 /// What a message is answered with.
-#[derive(Debug)]
 pub struct Answered {
     /// The octets of the responses, in order.
     pub responses: Vec<Vec<u8>>,
@@ -21,6 +20,9 @@ pub struct Answered {
 // Not derived: see "What the gate takes" in docs/ARCHITECTURE.md.
 impl Drop for Answered {
     fn drop(self) {
-        let Answered { responses: _, next: _ } = self;
+        let Answered {
+            responses: _,
+            next: _,
+        } = self;
     }
 }

@@ -13,7 +13,7 @@ use message_rules::{
 };
 
 /// What a message is before anything is asked.
-#[derive(Debug, Drop)]
+#[derive(Drop)]
 pub enum Heard {
     /// It is no request.
     NoRequest,

@@ -3,7 +3,7 @@
 use message_rules::{Answering, Named};
 
 /// A request that waits for its answer: what its response needs.
-#[derive(Clone, Copy, Debug)]
+#[derive(Clone, Copy)]
 pub struct Pending {
     /// messageID.
     pub id: u32,

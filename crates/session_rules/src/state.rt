@@ -5,7 +5,7 @@ ghost use Rattle.session_rules.specs.Session.{at_first, named_number};
 use message_rules::{Identity, Named};
 
 /// A session's state.
-#[derive(Clone, Copy, Debug, PartialEq, Eq)]
+#[derive(Clone, Copy)]
 pub struct State {
     /// Who it is bound as.
     pub identity: Identity,

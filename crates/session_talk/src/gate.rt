@@ -11,7 +11,7 @@ use std::alloc::Global;
 use vr_state::words::Client;
 
 /// What a replica is to an update.
-#[derive(Debug, Drop)]
+#[derive(Drop)]
 pub enum Role {
     /// Updates are made here.
     Primary,
@@ -24,7 +24,7 @@ pub enum Role {
 }
 
 /// How an update ended.
-#[derive(Debug, Drop)]
+#[derive(Drop)]
 pub enum Ended {
     /// It was made or refused as the update of this number, with this reply.
     Done { number: u64, reply: Reply },

@@ -1,7 +1,7 @@
 // What a read comes to. Nothing flows in; plain data flows out. What must not be here: how it is found.
 
 /// What a read found, and the number of the last update that it saw.
-#[derive(Debug, Drop)]
+#[derive(Drop)]
 pub struct Found<A> {
     /// The number of the last update of the directory that the answer is of.
     pub at: u64,

@@ -24,7 +24,11 @@ pub struct ViewStore<D: Device> {
 // Not derived: see "What the gate takes" in docs/ARCHITECTURE.md.
 impl<D: Device + Drop> Drop for ViewStore<D> {
     fn drop(self) {
-        let ViewStore { device: _, cluster: _, state: _ } = self;
+        let ViewStore {
+            device: _,
+            cluster: _,
+            state: _,
+        } = self;
     }
 }
 

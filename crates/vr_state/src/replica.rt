@@ -42,7 +42,21 @@ pub struct Replica<P> {
 // Not derived: see "What the gate takes" in docs/ARCHITECTURE.md.
 impl<P: Drop> Drop for Replica<P> {
     fn drop(self) {
-        let Replica { index: _, count: _, view_number: _, status: _, last_normal_view: _, log: _, commit_number: _, client_table: _, acknowledged: _, start_view_changes: _, do_view_changes: _, nonce: _, responses: _ } = self;
+        let Replica {
+            index: _,
+            count: _,
+            view_number: _,
+            status: _,
+            last_normal_view: _,
+            log: _,
+            commit_number: _,
+            client_table: _,
+            acknowledged: _,
+            start_view_changes: _,
+            do_view_changes: _,
+            nonce: _,
+            responses: _,
+        } = self;
     }
 }
 

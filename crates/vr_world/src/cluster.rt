@@ -30,6 +30,13 @@ pub struct Cluster<P> {
 // Not derived: see "What the gate takes" in docs/ARCHITECTURE.md.
 impl<P: Drop> Drop for Cluster<P> {
     fn drop(self) {
-        let Cluster { count: _, up: _, stored: _, nonces: _, messages: _, replies: _ } = self;
+        let Cluster {
+            count: _,
+            up: _,
+            stored: _,
+            nonces: _,
+            messages: _,
+            replies: _,
+        } = self;
     }
 }
