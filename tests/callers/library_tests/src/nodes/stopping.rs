@@ -1,7 +1,9 @@
 //! Each device call of an event that must store fails, and stops, in turn; then comes a crash, and the replica recovers. Events flow in; what it gives
 //! out is compared.
 
-use crate::nodes::frames::{CHANGE_OF_1, LATER_BY_0, LATER_BY_2, RECOVERY_OF_1, TOLD_BY_0, TOLD_BY_2};
+use crate::nodes::frames::{
+    CHANGE_OF_1, LATER_BY_0, LATER_BY_2, RECOVERY_OF_1, TOLD_BY_0, TOLD_BY_2,
+};
 use crate::nodes::player::{Given, Row, joined, play};
 use crate::nodes::sample::{ADD, ROOM, device, fresh, octets, reopen};
 use crate::nodes::telling::words_of;

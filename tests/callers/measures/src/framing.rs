@@ -9,7 +9,7 @@ use vr_wire::{Cluster, read, write};
 
 /// What writing a message and reading it again took.
 #[derive(Clone, Copy, Debug)]
-pub struct Measured {
+pub struct Framed {
     pub octets: usize,
     /// How many records were read.
     pub records: usize,
@@ -26,20 +26,20 @@ fn records(message: &PeerMessage<Op>) -> usize {
 }
 
 /// Writes a message of a cluster, and reads the frame; times are in microseconds.
-pub fn measure(
+pub fn frame(
     clock: &impl Clock,
     alloc: Global,
     cluster: Cluster,
     message: &PeerMessage<Op>,
-) -> Result<Measured, Fault> {
+) -> Result<Framed, Fault> {
     let began = Instant::now(clock)?;
-    let frame = write(alloc, cluster, 0, message)?;
+    let octets = write(alloc, cluster, 0, message)?;
     let writing = began.elapsed(clock)?.as_micros();
     let began = Instant::now(clock)?;
-    let (_sender, again) = read(alloc, &frame, cluster)?;
+    let (_sender, again) = read(alloc, &octets, cluster)?;
     let reading = began.elapsed(clock)?.as_micros();
-    Ok(Measured {
-        octets: frame.len(),
+    Ok(Framed {
+        octets: octets.len(),
         records: records(&again),
         writing,
         reading,

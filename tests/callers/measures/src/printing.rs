@@ -1,6 +1,7 @@
 //! What is printed: counts as output, and times, which differ from run to run, beside them. How they were measured is not here.
 use crate::fault::Fault;
-use crate::measuring::Measured;
+use crate::framing::Framed;
+use crate::searching::Measured;
 use std::io::{Eprint, Print};
 
 /// Prints how long adding items took.
@@ -52,4 +53,22 @@ pub fn print_events(
 pub fn print_executed(rt: &impl Print, executed: usize) -> Result<(), Fault> {
     println!(rt; "executed={executed}")?;
     Ok(())
+}
+
+/// Prints how many records were read of a frame of so many octets.
+fn print_records(rt: &impl Print, kind: &str, records: usize, octets: usize) -> Result<(), Fault> {
+    println!(rt; "{kind} records={records} octets={octets}")?;
+    Ok(())
+}
+
+/// Prints how long a frame took.
+fn print_times(rt: &impl Eprint, writing: u128, reading: u128) -> Result<(), Fault> {
+    eprintln!(rt; "  written in {writing} us, read in {reading} us")?;
+    Ok(())
+}
+
+/// Prints what was measured of a log of one kind of records.
+pub fn print_frame(rt: &(impl Print + Eprint), kind: &str, framed: &Framed) -> Result<(), Fault> {
+    print_records(rt, kind, framed.records, framed.octets)?;
+    print_times(rt, framed.writing, framed.reading)
 }

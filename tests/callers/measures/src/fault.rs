@@ -3,16 +3,19 @@ use dir_search::{IndexError, NameError};
 use filter_text_reader::FilterTextError;
 use std::alloc::{AllocError, AllocFailed};
 use thiserror::Error;
+use vr_wire::WireError;
 
 /// Why nothing, or no more, is measured.
 #[derive(Clone, Copy, Debug, PartialEq, Eq, Error)]
 pub enum Fault {
-    #[error("usage: bench ITEMS, or: bench events RECORDS")]
+    #[error("usage: bench ITEMS, or: bench events RECORDS, or: bench frames RECORDS")]
     BadCommandLine,
     #[error("the add of number {number} was refused")]
     AddRefused { number: u64 },
     #[error("a name, a filter or the index choice is no such text")]
     BadText,
+    #[error("{0}")]
+    Wire(WireError),
     #[error("a node was refused, or gave other replies than it should")]
     NoNode,
     #[error("cannot print or tell the time")]
@@ -49,6 +52,12 @@ impl From<IndexError> for Fault {
             | IndexError::UnknownName { .. }
             | IndexError::IndexWithoutRule { .. } => Fault::BadText,
         }
+    }
+}
+
+impl From<WireError> for Fault {
+    fn from(error: WireError) -> Fault {
+        Fault::Wire(error)
     }
 }
 
