@@ -412,7 +412,41 @@ where
     server.run(ways, terms.waiting.max(1), &terms.config)
 }
 
-/// Opens the node, says where clients are heard, and runs all threads over what they share.
+/// Sends what an opened node sends first, says where clients are heard, and runs all threads over what they share.
+fn serve_opened<R, W: Write>(
+    rt: &R,
+    alloc: Global,
+    rooms: &Rooms,
+    opened: Opened<'_, R, FileDevice>,
+    cluster: Cluster,
+    places: &[Place],
+    terms: Terms<'_>,
+    output: &mut W,
+) -> Result<(), ServerError>
+where
+    R: Net<Listener = TcpListener, Stream = TcpStream> + Threads + Wait + Clock + Eprint + Sync,
+{
+    let Opened {
+        running,
+        seats,
+        outputs,
+        restarts: _,
+    } = opened;
+    let posts = Posts {
+        rt,
+        alloc,
+        cluster,
+        sender: rooms.sender,
+        boxes: &rooms.boxes,
+    };
+    for send in outputs.sends {
+        posts.send(send.to, send.into_message());
+    }
+    announce(output, &rooms.clients)?;
+    run_in(rt, alloc, rooms, seats, &running, &posts, places, terms)
+}
+
+/// Opens the node, and serves by it.
 fn serve_in<R, W: Write>(
     rt: &R,
     alloc: Global,
@@ -443,29 +477,13 @@ where
         ..
     } = options;
     let cluster = node.cluster;
-    let Opened {
-        running,
-        seats,
-        outputs,
-        restarts,
-    } = open_node(rt, alloc, store, node, is_fresh, seats.clamp(1, SEATS))?;
-    let posts = Posts {
-        rt,
-        alloc,
-        cluster,
-        sender: rooms.sender,
-        boxes: &rooms.boxes,
-    };
-    for send in outputs.sends {
-        posts.send(send.to, send.into_message());
-    }
-    announce(output, &rooms.clients)?;
+    let opened = open_node(rt, alloc, store, node, is_fresh, seats.clamp(1, SEATS))?;
     let config = Config {
         schema: &schema,
         manager: &manager,
         password: password.as_bytes(),
         replica: rooms.sender,
-        restarts,
+        restarts: opened.restarts,
         session: 0,
     };
     let terms = Terms {
@@ -473,7 +491,7 @@ where
         waiting,
         times,
     };
-    run_in(rt, alloc, rooms, seats, &running, &posts, places, terms)
+    serve_opened(rt, alloc, rooms, opened, cluster, places, terms, output)
 }
 
 /// Serves as a replica: listens, opens its node, says so, and serves clients and the other replicas until the node has stopped for good. It

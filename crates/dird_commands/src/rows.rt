@@ -1,0 +1,117 @@
+//! Words of commands as rows of data, and those that several commands take. A row flows in, a command that takes its words flows out.
+//! The words of one command alone are not here.
+use clap::error::ErrorKind;
+use clap::{Arg, ArgAction, Command, Error, value_parser};
+use std::alloc::{AllocError, Global};
+
+/// What a word takes.
+#[derive(Clone, Copy)]
+pub enum Takes {
+    /// Nothing: it is there or it isn't.
+    Nothing,
+    /// The text behind it; it may be left out.
+    Text,
+    /// The text behind it; it can't be left out.
+    Wanted,
+    /// The number behind it, between these two; it can't be left out.
+    Number { first: i64, last: i64 },
+    /// The number behind it, from 1 to this one; the other one, where it is left out.
+    Count { last: i64, default: &'static str },
+    /// It has no name before it, and can't be left out.
+    Place,
+    /// It has no name before it, is one of these, and can't be left out.
+    OneOf(&'static [&'static str]),
+    /// It has no name before it; there are any number of it, or at least one.
+    Many { at_least_one: bool },
+}
+
+/// A word of a command.
+#[derive(Clone, Copy)]
+pub struct Word {
+    pub name: &'static str,
+    /// What its help calls its value, where it has one.
+    pub value: &'static str,
+    pub takes: Takes,
+    pub help: &'static str,
+}
+
+/// The word for a schema.
+pub const SCHEMA_WORD: Word = Word {
+    name: "schema",
+    value: "FILE",
+    takes: Takes::Text,
+    help: "Read the schema from this file, in place of the built-in one",
+};
+
+/// The word for an index choice.
+pub const INDEX_WORD: Word = Word {
+    name: "index",
+    value: "FILE",
+    takes: Takes::Text,
+    help: "Read from this file which indexes each attribute type has, in place of none",
+};
+
+/// A word without a name before it.
+fn placed<'a>(alloc: Global, word: &Word) -> Arg<'a> {
+    Arg::new(alloc, word.name).help(word.help)
+}
+
+/// A word with its name before its value.
+fn named<'a>(alloc: Global, word: &Word) -> Arg<'a> {
+    placed(alloc, word).long(word.name).value_name(word.value)
+}
+
+/// A word with a number between two others.
+fn number<'a>(alloc: Global, word: &Word, first: i64, last: i64) -> Arg<'a> {
+    named(alloc, word).value_parser(value_parser!(u64).range(first..=last))
+}
+
+/// A word as it is told the parser.
+fn argument<'a>(alloc: Global, word: &Word) -> Arg<'a> {
+    match word.takes {
+        Takes::Nothing => {
+            placed(alloc, word)
+                .long(word.name)
+                .action(ArgAction::SetTrue)
+        }
+        Takes::Text => named(alloc, word),
+        Takes::Wanted => named(alloc, word).required(true),
+        Takes::Number { first, last } => number(alloc, word, first, last).required(true),
+        Takes::Count { last, default } => number(alloc, word, 1, last).default_value(default),
+        Takes::Place => placed(alloc, word).required(true),
+        Takes::OneOf(words) => placed(alloc, word).required(true).value_parser(words),
+        Takes::Many { at_least_one: true } => { placed(alloc, word).required(true).num_args(1..) }
+        Takes::Many { .. } => placed(alloc, word).num_args(0..),
+    }
+}
+
+/// A command that takes words.
+#[derive(Clone, Copy)]
+pub struct Order {
+    pub name: &'static str,
+    /// What it is for.
+    pub about: &'static str,
+    pub words: &'static [Word],
+}
+
+/// A command as it is told the parser.
+pub fn command_of<'a>(alloc: Global, order: &Order) -> Result<Command<'a>, AllocError> {
+    let mut command = Command::new(alloc, order.name).about(order.about);
+    for word in order.words {
+        command = command.arg(argument(alloc, word))?;
+    }
+    Ok(command)
+}
+
+/// The error of a command, unless memory ran out for it.
+fn error_of(command: Result<Command<'_>, AllocError>, message: &str) -> Result<Error, AllocError> {
+    command?.error(ErrorKind::ValueValidation, message)
+}
+
+/// The error by which a command refuses words that it has matched.
+pub fn refusal_by(command: Result<Command<'_>, AllocError>, message: &str) -> Error {
+    match error_of(command, message) {
+        Ok(error) => error,
+        Err(error) => Error::from(error),
+    }
+}

@@ -1,0 +1,293 @@
+//! The words of `serve`: what a replica is told. Matched words flow in, and a replica's settings flow out, or why they are none. What a
+//! replica does with them is not here.
+use crate::rows::{INDEX_WORD, Order, SCHEMA_WORD, Takes, Word, command_of, refusal_by};
+use crate::words::as_text;
+use clap::{ArgMatches, Error};
+use std::alloc::Global;
+use std::net::SocketAddr;
+
+/// The greatest number of a cluster.
+const LAST_CLUSTER: i64 = 281_474_976_710_655;
+
+/// The greatest number of milliseconds that may be asked for, a day.
+const LONGEST: i64 = 86_400_000;
+
+/// Where one replica is found.
+#[derive(Clone, Copy)]
+pub struct Peer {
+    /// Where the other replicas find it.
+    pub peer_address: SocketAddr,
+    /// Where clients find it.
+    pub ldap_address: SocketAddr,
+}
+
+/// What a replica is told. Times are in milliseconds.
+pub struct Serving<'a> {
+    /// The number of the cluster, from 1.
+    pub cluster: u64,
+    /// The replica's place among the peers, from 0.
+    pub index: u64,
+    /// The name of the file of its stored view.
+    pub store: &'a str,
+    pub suffix: &'a str,
+    pub manager: &'a str,
+    pub password: &'a str,
+    /// The name of the schema's file; none for the built-in schema.
+    pub schema: Option<&'a str>,
+    /// The name of the index choice's file; none for no index.
+    pub indexes: Option<&'a str>,
+    /// How many sessions are served at once.
+    pub seats: u64,
+    /// How many connections wait for a seat, at most, beside those that the system keeps.
+    pub waiting: u64,
+    /// How often it sends again.
+    pub beat: u64,
+    /// How long a backup hears nothing of its primary before it suspects it.
+    pub suspect: u64,
+    /// How long a client may be silent in the middle of a message.
+    pub stall: u64,
+    /// How long a client may ask nothing while others wait for a seat.
+    pub idle: u64,
+    /// How long a client may take nothing of what it is sent.
+    pub take: u64,
+    /// Whether this is the first start of its life.
+    pub fresh: bool,
+    /// All replicas, by index.
+    pub peers: Vec<Peer>,
+}
+
+// Not derived: see "What the gate takes" in docs/ARCHITECTURE.md.
+impl<'a> Drop for Serving<'a> {
+    fn drop(self) {
+        let Serving {
+            cluster: _,
+            index: _,
+            store: _,
+            suffix: _,
+            manager: _,
+            password: _,
+            schema: _,
+            indexes: _,
+            seats: _,
+            waiting: _,
+            beat: _,
+            suspect: _,
+            stall: _,
+            idle: _,
+            take: _,
+            fresh: _,
+            peers: _,
+        } = self;
+    }
+}
+
+/// What each word of `serve` is, in the order of its help.
+const WORDS: &[Word] = &[
+    Word {
+        name: "cluster",
+        value: "C",
+        takes: Takes::Number {
+            first: 1,
+            last: LAST_CLUSTER,
+        },
+        help: "The number of the cluster, the same at each of its replicas and at no other cluster's",
+    },
+    Word {
+        name: "id",
+        value: "I",
+        takes: Takes::Number { first: 0, last: 6 },
+        help: "Which of the PEERs this replica is, counted from 0",
+    },
+    Word {
+        name: "store",
+        value: "FILE",
+        takes: Takes::Wanted,
+        help: "The file of the replica's stored view, its own for its whole life",
+    },
+    Word {
+        name: "fresh",
+        value: "",
+        takes: Takes::Nothing,
+        help: "The first start of the replica's life: its file is made, and no other start may be given this",
+    },
+    Word {
+        name: "suffix",
+        value: "DN",
+        takes: Takes::Wanted,
+        help: "The name of the directory's root",
+    },
+    Word {
+        name: "manager",
+        value: "DN",
+        takes: Takes::Wanted,
+        help: "The name that may bind and update",
+    },
+    Word {
+        name: "password",
+        value: "TEXT",
+        takes: Takes::Wanted,
+        help: "The manager's password",
+    },
+    SCHEMA_WORD,
+    INDEX_WORD,
+    Word {
+        name: "seats",
+        value: "N",
+        takes: Takes::Count {
+            last: 32,
+            default: "8",
+        },
+        help: "How many sessions are served at once, at most 32",
+    },
+    Word {
+        name: "waiting",
+        value: "N",
+        takes: Takes::Count {
+            last: 4096,
+            default: "64",
+        },
+        help: "How many connections wait for a seat, at most; more wait in the system",
+    },
+    Word {
+        name: "stall",
+        value: "MS",
+        takes: Takes::Count {
+            last: LONGEST,
+            default: "10000",
+        },
+        help: "How long a client may be silent in the middle of a message",
+    },
+    Word {
+        name: "idle",
+        value: "MS",
+        takes: Takes::Count {
+            last: LONGEST,
+            default: "60000",
+        },
+        help: "How long a client may ask nothing while others wait for a seat",
+    },
+    Word {
+        name: "take",
+        value: "MS",
+        takes: Takes::Count {
+            last: LONGEST,
+            default: "20000",
+        },
+        help: "How long a client may take nothing of what it is sent",
+    },
+    Word {
+        name: "beat",
+        value: "MS",
+        takes: Takes::Count {
+            last: LONGEST,
+            default: "500",
+        },
+        help: "How often the replica sends again what others may have missed",
+    },
+    Word {
+        name: "suspect",
+        value: "MS",
+        takes: Takes::Count {
+            last: LONGEST,
+            default: "3000",
+        },
+        help: "How long a backup hears nothing of its primary before it suspects it",
+    },
+    Word {
+        name: "PEER",
+        value: "",
+        takes: Takes::Many { at_least_one: true },
+        help: "Each replica of the cluster in order, 3, 5 or 7: where replicas find it and where clients do, as 127.0.0.1:4000,127.0.0.1:3890",
+    },
+];
+
+/// The command `serve`.
+pub const SERVE: Order = Order {
+    name: "serve",
+    about: "Serve LDAP as one replica of a cluster, until it is stopped",
+    words: WORDS,
+};
+
+/// Where a replica is found, by its word; none, where that isn't two addresses with a comma between them.
+fn peer_of(word: &str) -> Option<Peer> {
+    let (peer, ldap) = word.split_once(',')?;
+    Some(Peer {
+        peer_address: peer.parse::<SocketAddr>().ok()?,
+        ldap_address: ldap.parse::<SocketAddr>().ok()?,
+    })
+}
+
+/// An error in the words of `serve`.
+fn refused(alloc: Global, message: &str) -> Error {
+    refusal_by(command_of(alloc, &SERVE), message)
+}
+
+/// The replicas of a cluster, by their words.
+fn peers_in(alloc: Global, words: &[&str]) -> Result<Vec<Peer>, Error> {
+    if !matches!(words.len(), 3 | 5 | 7) {
+        return Err(refused(alloc, "a cluster has 3, 5 or 7 replicas"));
+    }
+    let mut peers = Vec::new(alloc);
+    for word in words {
+        match peer_of(word) {
+            Some(peer) => peers.push(peer)?,
+            None => {
+                return Err(refused(alloc, "a PEER is two addresses with a comma between them"));
+            }
+        }
+    }
+    Ok(peers)
+}
+
+/// The number behind a word, which is there.
+fn number_in(matches: &ArgMatches<'_>, name: &str) -> u64 {
+    matches.get_one::<u64>(name).unwrap_or(0)
+}
+
+/// The text behind a word, which is there.
+fn text_in<'a>(matches: &ArgMatches<'a>, name: &str) -> &'a str {
+    match matches.get_str(name) {
+        Some(text) => text,
+        None => "",
+    }
+}
+
+/// The suffix, the manager's name and the password.
+fn names_in<'a>(
+    alloc: Global,
+    matches: &ArgMatches<'a>,
+) -> Result<(&'a str, &'a str, &'a str), Error> {
+    let suffix = as_text(alloc, text_in(matches, "suffix"))?;
+    let manager = as_text(alloc, text_in(matches, "manager"))?;
+    let password = as_text(alloc, text_in(matches, "password"))?;
+    Ok((suffix, manager, password))
+}
+
+/// What `serve` is told.
+pub fn serving_in<'a>(alloc: Global, matches: &ArgMatches<'a>) -> Result<Serving<'a>, Error> {
+    let peers = peers_in(alloc, matches.get_strs("PEER").unwrap_or(&[]))?;
+    let index = number_in(matches, "id");
+    if index >= peers.len() as u64 {
+        return Err(refused(alloc, "the id is not below the number of PEERs"));
+    }
+    let (suffix, manager, password) = names_in(alloc, matches)?;
+    Ok(Serving {
+        cluster: number_in(matches, "cluster"),
+        index,
+        store: text_in(matches, "store"),
+        suffix,
+        manager,
+        password,
+        schema: matches.get_str("schema"),
+        indexes: matches.get_str("index"),
+        seats: number_in(matches, "seats"),
+        waiting: number_in(matches, "waiting"),
+        beat: number_in(matches, "beat"),
+        suspect: number_in(matches, "suspect"),
+        stall: number_in(matches, "stall"),
+        idle: number_in(matches, "idle"),
+        take: number_in(matches, "take"),
+        fresh: matches.get_flag("fresh"),
+        peers,
+    })
+}

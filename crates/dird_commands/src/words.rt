@@ -1,0 +1,232 @@
+//! The words of the command line: they flow in, a job flows out, or a text for the user. What a job does is not here.
+use crate::rows::{INDEX_WORD, Order, SCHEMA_WORD, Takes, Word, command_of, refusal_by};
+use crate::serving::{SERVE, Serving, serving_in};
+use clap::{ArgMatches, Command, Error};
+use ldap_msg::Scope;
+use std::alloc::{AllocError, Global};
+
+/// What the words ask for.
+#[derive(Drop)]
+pub enum Job<'a> {
+    /// One session over one local directory.
+    Answer(Opening<'a>),
+    /// One search of the directory of an LDIF text.
+    Search(Question<'a>),
+    /// An LDIF text becomes lines of adds.
+    Import,
+    /// Lines of a search's responses become an LDIF text.
+    Export,
+    /// A lab script over replicas in memory, with the index choice of a file's name; none for no index.
+    Lab(Option<&'a str>),
+    /// One replica of a cluster, over the network.
+    Serve(Serving<'a>),
+}
+
+/// What a session's directory begins with.
+#[derive(Clone, Copy)]
+pub struct Opening<'a> {
+    /// Whether it holds the built-in sample.
+    pub sample: bool,
+    /// The name of the schema's file; none for the built-in schema.
+    pub schema: Option<&'a str>,
+    /// The name of the index choice's file; none for no index.
+    pub index: Option<&'a str>,
+}
+
+/// A search, as it is asked for.
+pub struct Question<'a> {
+    pub base: &'a str,
+    pub scope: Scope,
+    pub filter: &'a str,
+    pub attributes: Vec<&'a str>,
+}
+
+// Not derived: see "What the gate takes" in docs/ARCHITECTURE.md.
+impl<'a> Drop for Question<'a> {
+    fn drop(self) {
+        let Question {
+            base: _,
+            scope: _,
+            filter: _,
+            attributes: _,
+        } = self;
+    }
+}
+
+/// The words for scopes.
+const SCOPES: &[&str] = &["base", "one", "sub"];
+
+/// The words of `answer`.
+const ANSWER_WORDS: &[Word] = &[
+    Word {
+        name: "sample",
+        value: "",
+        takes: Takes::Nothing,
+        help: "Answer over the built-in sample of six entries",
+    },
+    SCHEMA_WORD,
+    INDEX_WORD,
+];
+
+/// The words of `search`.
+const SEARCH_WORDS: &[Word] = &[
+    Word {
+        name: "BASE",
+        value: "",
+        takes: Takes::Place,
+        help: "The name of the entry where the search begins",
+    },
+    Word {
+        name: "SCOPE",
+        value: "",
+        takes: Takes::OneOf(SCOPES),
+        help: "The base alone, the entries right under it, or all at or below it",
+    },
+    Word {
+        name: "FILTER",
+        value: "",
+        takes: Takes::Place,
+        help: "Which entries are shown, as in (cn=Ana)",
+    },
+    Word {
+        name: "ATTR",
+        value: "",
+        takes: Takes::Many {
+            at_least_one: false,
+        },
+        help: "Which attributes are shown: all for none or *, no attribute for 1.1 alone",
+    },
+];
+
+/// All commands, in the order of the help.
+const ORDERS: &[Order] = &[
+    Order {
+        name: "answer",
+        about: "Answer one client: the input is its stream of LDAP messages, lines of hex cut anywhere; each response is a line of hex",
+        words: ANSWER_WORDS,
+    },
+    Order {
+        name: "search",
+        about: "Search the entries of an LDIF text: the input is LDIF, the answer is LDIF",
+        words: SEARCH_WORDS,
+    },
+    Order {
+        name: "import",
+        about: "Turn LDIF into messages: each record becomes an AddRequest, a line of hex, with ids from 1",
+        words: &[],
+    },
+    Order {
+        name: "export",
+        about: "Turn the responses to a search, lines of hex, into LDIF of the entries",
+        words: &[],
+    },
+    Order {
+        name: "lab",
+        about: "Play a script of updates, searches, deliveries, view changes, crashes and recoveries with real replicas",
+        words: &[INDEX_WORD],
+    },
+    SERVE,
+];
+
+/// The program's own words.
+fn program<'a>(alloc: Global) -> Command<'a> {
+    Command::new(alloc, "dird")
+        .version("0.1.0")
+        .about("An LDAPv3 directory server whose answers are proved")
+        .subcommand_required(true)
+        .arg_required_else_help(true)
+}
+
+/// The program's words with one command more.
+fn with_order<'a>(
+    alloc: Global,
+    command: Command<'a>,
+    order: &Order,
+) -> Result<Command<'a>, AllocError> {
+    command.subcommand(command_of(alloc, order)?)
+}
+
+/// All words.
+fn command<'a>(alloc: Global) -> Result<Command<'a>, AllocError> {
+    let mut command = program(alloc);
+    for order in ORDERS {
+        command = with_order(alloc, command, order)?;
+    }
+    Ok(command)
+}
+
+/// What `answer` is told.
+fn opening_in<'a>(matches: &ArgMatches<'a>) -> Opening<'a> {
+    Opening {
+        sample: matches.get_flag("sample"),
+        schema: matches.get_str("schema"),
+        index: matches.get_str("index"),
+    }
+}
+
+/// The scope of a word, which is one of the three.
+fn scope_of(word: &str) -> Scope {
+    match word {
+        "base" => Scope::BaseObject,
+        "one" => Scope::SingleLevel,
+        _ => Scope::WholeSubtree,
+    }
+}
+
+/// The error of a word that is no text.
+fn not_text(alloc: Global) -> Error {
+    refusal_by(command(alloc), "a word of the command line is not UTF-8")
+}
+
+/// A word that has to be a text, as the system's words that are none have a NUL; only the name of a file may be none.
+pub fn as_text<'a>(alloc: Global, word: &'a str) -> Result<&'a str, Error> {
+    if word.as_bytes().contains(&0) {
+        return Err(not_text(alloc));
+    }
+    Ok(word)
+}
+
+/// The words for what is shown of each entry.
+fn attributes_in<'a>(alloc: Global, matches: &ArgMatches<'a>) -> Result<Vec<&'a str>, Error> {
+    let mut attributes = Vec::new(alloc);
+    for word in matches.get_strs("ATTR").unwrap_or(&[]) {
+        attributes.push(as_text(alloc, *word)?)?;
+    }
+    Ok(attributes)
+}
+
+/// What `search` is told.
+fn question_in<'a>(alloc: Global, matches: &ArgMatches<'a>) -> Result<Question<'a>, Error> {
+    let attributes = attributes_in(alloc, matches)?;
+    Ok(Question {
+        base: as_text(alloc, matches.get_str("BASE").unwrap_or(""))?,
+        scope: scope_of(matches.get_str("SCOPE").unwrap_or("")),
+        filter: as_text(alloc, matches.get_str("FILTER").unwrap_or(""))?,
+        attributes,
+    })
+}
+
+/// The words as they were matched.
+fn matched<'a>(alloc: Global, words: &'a [String]) -> Result<ArgMatches<'a>, Error> {
+    command(alloc)?.try_get_matches_from(words)
+}
+
+/// What matched words ask for.
+fn job_in<'a>(alloc: Global, matches: &ArgMatches<'a>) -> Result<Job<'a>, Error> {
+    match matches.subcommand() {
+        Some(("search", inner)) => Ok(Job::Search(question_in(alloc, inner)?)),
+        Some(("import", _)) => Ok(Job::Import),
+        Some(("export", _)) => Ok(Job::Export),
+        Some(("lab", inner)) => Ok(Job::Lab(inner.get_str("index"))),
+        Some(("serve", inner)) => Ok(Job::Serve(serving_in(alloc, inner)?)),
+        Some((_, inner)) => Ok(Job::Answer(opening_in(inner))),
+        None => Ok(Job::Answer(opening_in(matches))),
+    }
+}
+
+/// Reads the words of the command line, the program's name first. One that isn't UTF-8 comes with a NUL in it, and is refused anywhere but as the
+/// name of a file, which then can't be read.
+pub fn read_words<'a>(alloc: Global, words: &'a [String]) -> Result<Job<'a>, Error> {
+    let matches = matched(alloc, words)?;
+    job_in(alloc, &matches)
+}
