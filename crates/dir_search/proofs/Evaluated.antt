@@ -17,10 +17,10 @@ use Rattle.dir_store.specs.index_choice.declared.kinds.Kinds.{Kinds}
 use Rattle.dir_store.specs.dir_tree.Directory.{Entered, TreeModel, NumbersRise, entry_at, numbers}
 use Rattle.dir_store.specs.Directory.{NamedEntry}
 use Rattle.dir_store.specs.Stored.{named, directory, AreKeyedBy}
-use Rattle.plan_compile.specs.Bounds.{is_decided as is_bound_decided}
-use Rattle.plan_compile.specs.Held.{has_runs}
-use Rattle.plan_compile.proofs.Decided.{decided_same, runs_same}
-use Rattle.plan_compile.proofs.HeldRuns.{TestsAreItems}
+use Rattle.search_plans.specs.Bounds.{is_decided as is_bound_decided}
+use Rattle.search_plans.specs.Held.{has_runs}
+use Rattle.search_plans.proofs.Decided.{decided_same, runs_same}
+use Rattle.search_plans.proofs.HeldRuns.{TestsAreItems}
 use Rattle.dir_search.specs.Answer.{is_match, in_scope, matching}
 use Rattle.dir_search.specs.Counted.{leaves_open, first_past, keyed_in_scope, up_to_entry, IsCountAtBase}
 use Rattle.dir_search.specs.Evaluated.{IsFewOf, IsWithinParts, IsFewAtBase}

@@ -17,10 +17,10 @@ use Rattle.dir_store.specs.dir_index.Postings.{has_number, IsRising}
 use Rattle.dir_store.specs.dir_tree.Directory.{Entered, entry_at, numbers}
 use Rattle.dir_store.specs.Directory.{NamedEntry}
 use Rattle.dir_store.specs.Stored.{named, AreKeyedBy}
-use Rattle.plan_compile.specs.Bounds.{is_decided}
-use Rattle.plan_compile.specs.Planned.{ArePlansFor}
-use Rattle.plan_compile.specs.plan_sets.declared.plan.Plan.{Plan}
-use Rattle.plan_compile.specs.plan_sets.Runs.{is_true as is_true_value}
+use Rattle.search_plans.specs.Bounds.{is_decided}
+use Rattle.search_plans.specs.Planned.{ArePlansFor}
+use Rattle.search_plans.specs.declared.plan.Plan.{Plan}
+use Rattle.search_plans.specs.Runs.{is_true as is_true_value}
 use Rattle.dir_store.specs.Listed.{listed_of}
 use Rattle.dir_search.specs.Answer.{is_true, is_match, limited}
 use Rattle.dir_search.specs.Counted.{first_past}

@@ -16,11 +16,11 @@ use Rattle.dir_store.specs.dir_index.declared.posting.Posting.{Posting}
 use Rattle.dir_store.specs.dir_index.declared.posting.Range.{Range}
 use Rattle.dir_store.specs.dir_tree.Directory.{Entered, entry_at, numbers}
 use Rattle.dir_store.specs.Listed.{listed_of}
-use Rattle.plan_compile.specs.plan_sets.Sets.{is_in, holds, AreNumbered, HasEntry, Guides, SetsAreOfEntries}
-use Rattle.plan_compile.specs.plan_sets.declared.plan.Plan.{Plan}
-use Rattle.plan_compile.specs.Bounds.{is_decided, BoundsSets, DecidedAreTrue}
-use Rattle.plan_compile.specs.Runs.{has_runs_for}
-use Rattle.plan_compile.specs.plan_sets.Runs.{is_open}
+use Rattle.search_plans.specs.Sets.{is_in, holds, AreNumbered, HasEntry, Guides, SetsAreOfEntries}
+use Rattle.search_plans.specs.declared.plan.Plan.{Plan}
+use Rattle.search_plans.specs.Bounds.{is_decided, BoundsSets, DecidedAreTrue}
+use Rattle.search_plans.specs.OctetRuns.{has_runs_for}
+use Rattle.search_plans.specs.Runs.{is_open}
 use Rattle.dir_search.specs.Looks.{value_on, value_in, has_runs_on, leaves_open_on, AreNumbersOf, LeavesFew}
 
 -- lists that answer alike are the same

@@ -15,7 +15,7 @@ use Rattle.dir_store.specs.Replies.{ReplyModel, only, not_found}
 use Rattle.dir_search.specs.Scopes.{is_in_scope}
 use Rattle.dir_search.specs.Selection.{selected}
 use Rattle.dir_search.specs.RootDse.{dse_attributes, dse_selected}
-pub use Rattle.plan_compile.specs.plan_sets.Runs.{is_true}
+pub use Rattle.search_plans.specs.Runs.{is_true}
 
 -- a result code, matchedDN, and the entries that are shown
 pub record Answer : Type 0 where

@@ -11,9 +11,9 @@ use Rattle.dir_store.specs.dir_tree.Directory.{Entered}
 use Rattle.dir_store.specs.Directory.{Directory, NamedEntry}
 use Rattle.dir_store.specs.Listed.{StoreModel}
 use Rattle.dir_store.specs.Stored.{named, AreKeyedBy}
-use Rattle.plan_compile.specs.plan_sets.Sets.{holds}
-use Rattle.plan_compile.specs.plan_sets.declared.plan.Plan.{Plan}
-use Rattle.plan_compile.specs.Planned.{ArePlansFor}
+use Rattle.search_plans.specs.Sets.{holds}
+use Rattle.search_plans.specs.declared.plan.Plan.{Plan}
+use Rattle.search_plans.specs.Planned.{ArePlansFor}
 use Rattle.dir_search.specs.Answer.{matching, is_empty, is_base}
 use Rattle.dir_search.specs.Evaluated.{goes_over}
 use Rattle.dir_search.specs.Scopes.{is_in_scope}

@@ -10,8 +10,8 @@ use Rattle.ldap_msg.specs.Messages.{SearchRequestValue}
 use Rattle.dir_store.specs.index_choice.declared.kinds.Kinds.{Kinds}
 use Rattle.dir_store.specs.Directory.{Directory, NamedEntry}
 use Rattle.dir_store.specs.Listed.{StoreModel}
-use Rattle.plan_compile.specs.Decided.{is_decided}
-use Rattle.plan_compile.specs.Held.{has_runs}
+use Rattle.search_plans.specs.Decided.{is_decided}
+use Rattle.search_plans.specs.Held.{has_runs}
 use Rattle.dir_search.specs.Answer.{is_match, in_scope, matching, is_empty, is_base, is_subordinate, stands}
 
 -- no more than each of these filters that the indexes decide is True on, among these entries

@@ -18,11 +18,11 @@ use Rattle.dir_store.specs.dir_index.Postings.{has_number}
 use Rattle.dir_store.specs.dir_tree.Directory.{Entered, entry_at, numbers}
 use Rattle.dir_store.specs.Directory.{Directory}
 use Rattle.dir_store.specs.Stored.{named}
-use Rattle.plan_compile.specs.Bounds.{is_decided}
-use Rattle.plan_compile.specs.Runs.{has_runs_for}
-use Rattle.plan_compile.specs.Planned.{ArePlansFor}
-use Rattle.plan_compile.specs.plan_sets.declared.plan.Plan.{Plan}
-use Rattle.plan_compile.specs.plan_sets.Runs.{true_set}
+use Rattle.search_plans.specs.Bounds.{is_decided}
+use Rattle.search_plans.specs.OctetRuns.{has_runs_for}
+use Rattle.search_plans.specs.Planned.{ArePlansFor}
+use Rattle.search_plans.specs.declared.plan.Plan.{Plan}
+use Rattle.search_plans.specs.Runs.{true_set}
 use Rattle.dir_search.specs.Answer.{is_true, is_match}
 use Rattle.dir_search.specs.Counted.{leaves_open, first_past}
 use Rattle.dir_search.specs.Scopes.{is_in_scope}

@@ -12,9 +12,9 @@ ghost use Rattle.dir_store.specs.dir_index.Postings.{has_number};
 ghost use Rattle.dir_store.specs.dir_tree.Directory.{name_eq, begins, entry_at};
 ghost use Rattle.dir_store.specs.Listed.{listed_of};
 ghost use Rattle.dir_store.specs.Stored.{directory};
-ghost use Rattle.plan_compile.specs.plan_sets.Sets.{is_in};
-ghost use Rattle.plan_compile.specs.Planned.{ArePlansFor};
-ghost use Rattle.plan_compile.specs.plan_sets.Runs.{AreGuides, is_open};
+ghost use Rattle.search_plans.specs.Sets.{is_in};
+ghost use Rattle.search_plans.specs.Planned.{ArePlansFor};
+ghost use Rattle.search_plans.specs.Runs.{AreGuides, is_open};
 ghost use Rattle.dir_search.specs.Answer.{stands};
 ghost use Rattle.dir_search.specs.Looks.{AreNumbersOf, IsBoundOn, LeavesFew, leaves_open_on, value_in};
 ghost use Rattle.dir_search.specs.Scopes.{is_right_under, is_in_scope};
@@ -26,7 +26,7 @@ use crate::values::Evaluated;
 use dir_store::{IndexedTree, Postings, Rdn, Schema, Tree};
 use ldap_eval::BoundFilter;
 use ldap_msg::{Scope, SearchRequest};
-use plan_compile::{Sided, compile, sets_are_of_entries, start};
+use search_plans::{Sided, compile, sets_are_of_entries, start};
 use std::alloc::{AllocError, Global};
 
 /// The plans that bound where a filter is True, over the posting lists of a tree's entries.

@@ -5,7 +5,7 @@ ghost use Rattle.std.specs.List.{list_any};
 ghost use Rattle.std.specs.Str.{str_eq_ignore_ascii_case};
 ghost use Rattle.ldap_filter.specs.View.{view as filter_view};
 ghost use Rattle.ldap_eval.specs.Value.{filter_value};
-ghost use Rattle.plan_compile.specs.plan_sets.Runs.{is_true};
+ghost use Rattle.search_plans.specs.Runs.{is_true};
 ghost use Rattle.ldap_msg.specs.View.{attribute_view, entry_view, search_view};
 ghost use Rattle.dir_store.specs.dir_entry.Entry.{attributes_of, IsKeyedBy};
 ghost use Rattle.dir_search.specs.Answer.{dse_matching};

@@ -22,7 +22,7 @@ use crate::scoping::is_unnamed;
 use dir_store::{Entry, IndexedTree, Name, NameError, Rdn, Reply, Schema, Store, Truth};
 use ldap_eval::{BoundFilter, bind, value};
 use ldap_msg::{ResultCode, Scope, SearchRequest};
-use plan_compile::tests_are_items;
+use search_plans::tests_are_items;
 use std::alloc::{AllocError, Global};
 
 /// Whether a filter is True on an entry of a name.

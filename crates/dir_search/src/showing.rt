@@ -16,7 +16,7 @@ use crate::selecting::Showing;
 use crate::values::Evaluated;
 use dir_store::{Postings, Schema, Tree};
 use ldap_msg::{ResultCode, SearchRequest, SearchResultEntry};
-use plan_compile::Running;
+use search_plans::Running;
 use std::alloc::{AllocError, Global};
 
 /// Whether so many entries are all that the limit lets through; 0 is no limit.

@@ -2,7 +2,7 @@
 //! out, and each look is counted. Plans are not here.
 use dir_store::{Tree, Truth};
 use ldap_eval::{BoundFilter, value};
-use plan_compile::Values;
+use search_plans::Values;
 
 /// The values of a bound filter on the entries of a tree.
 pub struct Evaluated<'a> {

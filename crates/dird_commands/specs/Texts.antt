@@ -1,8 +1,8 @@
 -- Jobs on whole texts: an input and an output before and after flow in, whether the job was done flows out. What is made of a text is not here.
 use Rattle.std.specs.Prelude.{◌≡◌, ℕ, List, false, Option, IfSome}
 use Rattle.std.specs.Io.KnownBytes.{Appends}
-use Rattle.filter_text_reader.specs.filter_text.Grammar.{IsFilterText}
-use Rattle.filter_text_reader.specs.ldap_filter.Tree.{Tree}
+use Rattle.filter_text.specs.Grammar.{IsFilterText}
+use Rattle.filter_text.specs.ldap_filter.Tree.{Tree}
 use Rattle.local_directory.specs.ldap_requests.declared.search.Scope.{Scope}
 use Rattle.local_directory.specs.ldap_requests.declared.search.DerefAliases.TheVariants.{NeverDerefAliases}
 use Rattle.local_directory.specs.ldap_msg.Messages.{SearchRequestValue}

@@ -3,7 +3,7 @@
 ghost use Rattle.std.specs.Prelude.{◌≡◌};
 ghost use Rattle.dird_commands.specs.declared.fault.Fault.TheVariants.{NoMemory};
 
-use filter_text_reader::FilterTextError;
+use filter_text::FilterTextError;
 use hex_session::LineFault;
 use lab_script::ScriptError;
 use local_directory::{ExportError, ImportError, IndexError, SearchError};

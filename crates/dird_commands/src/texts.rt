@@ -2,8 +2,8 @@
 ghost use Rattle.std.specs.Prelude.{◌≡◌, map, string_bytes, IfOk, IfSome, OnOk};
 ghost use Rattle.std.specs.Io.KnownBytes.{Appends};
 ghost use Rattle.local_directory.specs.ldap_msg.View.{search_view};
-ghost use Rattle.local_directory.specs.ldif_messages.Imports.{IsImport};
-ghost use Rattle.local_directory.specs.ldif_messages.Exports.{IsExport};
+ghost use Rattle.local_directory.specs.ldif.Imports.{IsImport};
+ghost use Rattle.local_directory.specs.ldif.Exports.{IsExport};
 ghost use Rattle.local_directory.specs.Searched.{IsSearched};
 ghost use Rattle.schema_reader.specs.BuiltIn.{built_in};
 ghost use Rattle.dird_commands.specs.Begun.{empty_directory};
@@ -13,7 +13,7 @@ use crate::fault::Fault;
 use crate::files::read_fault;
 use crate::local::empty;
 use crate::words::Question;
-use filter_text_reader::read_text;
+use filter_text::read_text;
 use local_directory::{
     DerefAliases, Indexes, SearchRequest, export_text, import_text, search_text,
 };

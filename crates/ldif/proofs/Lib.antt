@@ -6,3 +6,7 @@ pub mod Quiet
 pub mod Back
 pub mod RoundTrips
 pub mod Grammar
+pub mod Puts
+pub mod TooLong
+pub mod Meanings
+pub mod Wrongs

@@ -9,5 +9,12 @@ pub mod Reading
 pub mod Faults
 pub mod Content
 pub mod RoundTrip
+pub mod Adds
+pub mod HexLines
+pub mod HexFaults
+pub mod Imports
+pub mod Entries
+pub mod Exports
 -- what layers above name of the crates below
 pub use Rattle.ldap_syntax.specs as ldap_syntax
+pub use Rattle.ldap_msg.specs as ldap_msg

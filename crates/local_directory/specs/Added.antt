@@ -1,8 +1,8 @@
 -- LDIF and the directory: records added to a directory.
 -- In: a directory and records. Out: their adds, and the first that is refused. Not here: how an add is judged, texts.
 use Rattle.std.specs.Prelude.{◌≡◌, ℕ, ◌+◌, List, [], ◌∷◌, Bool, false, cond, nat_eq, Option, None, Some}
-use Rattle.ldif_messages.specs.ldif.Records.{RecordModel}
-use Rattle.ldif_messages.specs.Adds.{add_of}
+use Rattle.ldif.specs.Records.{RecordModel}
+use Rattle.ldif.specs.Adds.{add_of}
 use Rattle.session_talk.specs.ldap_op.Values.{OpValue, add}
 use Rattle.session_talk.specs.dir_store.Directory.{Directory}
 use Rattle.session_talk.specs.dir_store.Updates.{applied, reply_to}

@@ -16,4 +16,4 @@ pub use Rattle.session_talk.specs.ldap_dn as ldap_dn
 pub use Rattle.session_talk.specs.index_choice as index_choice
 pub use Rattle.session_talk.specs.dir_store as dir_store
 pub use Rattle.session_talk.specs as session_talk
-pub use Rattle.ldif_messages.specs as ldif_messages
+pub use Rattle.ldif.specs as ldif

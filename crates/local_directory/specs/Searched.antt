@@ -1,10 +1,10 @@
 -- LDIF and the directory: searches of what a text adds.
 -- In: a directory, a text, a search. Out: what is written, or why nothing is. Not here: what a search finds, how LDIF is spelled.
 use Rattle.std.specs.Prelude.{◌≡◌, ◌≢◌, ℕ, List, map, None, Some, Ok, Err}
-use Rattle.ldif_messages.specs.ldif.Records.{RecordModel}
-use Rattle.ldif_messages.specs.ldif.Reading.{records_of}
-use Rattle.ldif_messages.specs.ldif.Written.{ldif_text}
-use Rattle.ldif_messages.specs.Entries.{record_of}
+use Rattle.ldif.specs.Records.{RecordModel}
+use Rattle.ldif.specs.Reading.{records_of}
+use Rattle.ldif.specs.Written.{ldif_text}
+use Rattle.ldif.specs.Entries.{record_of}
 use Rattle.session_talk.specs.ldap_msg.Messages.{SearchRequestValue}
 use Rattle.session_talk.specs.dir_store.Directory.{Directory}
 use Rattle.session_talk.specs.dir_store.Updates.{directory_after}

@@ -5,11 +5,11 @@ ghost use Rattle.std.specs.Prelude.{◌≡◌, ◌+◌, None, IfOk, IfErr, OnOk}
 ghost use Rattle.session_talk.specs.ldap_op.Values.{add as add_op};
 ghost use Rattle.session_talk.specs.dir_store.Stored.{NumbersBelow};
 ghost use Rattle.session_talk.specs.dir_store.Updates.{applied, reply_to, directory_after};
-ghost use Rattle.ldif_messages.specs.Adds.{add_of as add_value};
+ghost use Rattle.ldif.specs.Adds.{add_of as add_value};
 ghost use Rattle.local_directory.specs.Added.{adds, first_refused, IsPutFault, IsAddFault};
 
 use crate::fault::SearchError;
-use ldif_messages::{Record, add_of};
+use ldif::{Record, add_of};
 use session_talk::{Op, Store, Update};
 use std::alloc::{AllocError, Global};
 

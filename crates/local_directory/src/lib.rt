@@ -15,7 +15,7 @@ mod searching;
 
 pub use fault::SearchError;
 pub use laws::{directory_is_fold, requests_are_made_once};
-pub use ldif_messages::{ExportError, ImportError, export_text, import_text};
+pub use ldif::{ExportError, ImportError, export_text, import_text};
 pub use local::LocalDirectory;
 pub use searching::search_text;
 pub use session_talk::{

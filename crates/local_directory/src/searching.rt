@@ -2,7 +2,7 @@
 //! In: a directory, a text of LDIF, a search request. Out: a text of LDIF, or why there is none. Not here: where the text comes from.
 
 ghost use Rattle.std.specs.Prelude.{◌≡◌, Ok, IfOk, IfErr};
-ghost use Rattle.ldif_messages.specs.ldif.Reading.{records_of as records_of_text};
+ghost use Rattle.ldif.specs.Reading.{records_of as records_of_text};
 ghost use Rattle.session_talk.specs.ldap_msg.View.{search_view};
 ghost use Rattle.session_talk.specs.dir_store.Stored.{NumbersBelow};
 ghost use Rattle.session_talk.specs.dir_search.Answer.{answer as answer_of};
@@ -10,7 +10,7 @@ ghost use Rattle.local_directory.specs.Searched.{IsShown, IsShowFault, IsReadFau
 
 use crate::adding::add_records;
 use crate::fault::SearchError;
-use ldif_messages::{LdifError, Record, read, records_of, write};
+use ldif::{LdifError, Record, read, records_of, write};
 use session_talk::{SearchRequest, Store, search};
 use std::alloc::Global;
 

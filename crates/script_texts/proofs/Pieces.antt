@@ -1,6 +1,6 @@
 -- The lines of an add, one by one. In: what is read so far, and what is left. Out: the same with one more. Octets are not here.
 use Rattle.std.proofs.Common.{◌≡◌, ℕ, ◌+◌, ◌<◌, Bor, List, [], ◌∷◌, ◌++◌, length, drop, get_or, Option, Some, None}
-use Rattle.ldif_messages.specs.ldif.Records.{ValueModel}
+use Rattle.ldif.specs.Records.{ValueModel}
 use Rattle.script_texts.specs.Each.{all_of}
 use Rattle.script_texts.specs.Updates.{line_in}
 use Rattle.script_texts.proofs.Each.{after, text_more, text_none}

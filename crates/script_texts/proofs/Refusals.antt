@@ -1,9 +1,9 @@
 -- What no text writes. In: that a part of it writes none. Out: that all of it writes none. Code is not here.
 use Rattle.std.proofs.Common.{◌≡◌, ℕ, List, Some, None, Ok, ap, ◌∙◌, subst}
 use Rattle.hex.specs.Hex.{decode_of}
-use Rattle.ldif_messages.specs.ldap_msg.Messages.{MessageValue, SearchRequestValue}
+use Rattle.ldif.specs.ldap_msg.Messages.{MessageValue, SearchRequestValue}
 use Rattle.ldap_op.specs.Values.{OpValue}
-use Rattle.ldif_messages.specs.Exports.{IsWhole}
+use Rattle.ldif.specs.Exports.{IsWhole}
 use Rattle.script_texts.specs.Updates.{update_by, IsUpdateIn, IsHexText}
 use Rattle.script_texts.specs.Searches.{Parts, parts_of, IsSearchOf, IsSearchText}
 

@@ -1,6 +1,6 @@
 -- Worked rows. In: texts. Out: what they write, by computation. Nothing is proved over all texts here.
 use Rattle.std.proofs.Common.{◌≡◌, Some, None, codes, refl}
-use Rattle.ldif_messages.specs.ldap_msg.ldap_requests.declared.search.Scope.TheVariants.{SingleLevel}
+use Rattle.ldif.specs.ldap_msg.ldap_requests.declared.search.Scope.TheVariants.{SingleLevel}
 use Rattle.script_texts.specs.Updates.{line_in, kind_of, add_kind}
 use Rattle.script_texts.specs.Searches.{parts_of}
 

@@ -2,9 +2,9 @@
 use Rattle.std.proofs.Common.{◌≡◌, ℕ, List, [], ◌++◌, Some, Ok, refl, sym, ap, ◌∙◌, subst}
 use Rattle.hex.specs.Hex.{decode_of}
 use Rattle.ldap_filter.specs.Tree.{Tree}
-use Rattle.filter_text_reader.specs.filter_text.Grammar.{IsFilterText}
-use Rattle.ldif_messages.specs.ldap_msg.Grammar.{IsMessage}
-use Rattle.ldif_messages.specs.ldap_msg.Messages.{MessageValue, SearchRequestValue}
+use Rattle.filter_text.specs.Grammar.{IsFilterText}
+use Rattle.ldif.specs.ldap_msg.Grammar.{IsMessage}
+use Rattle.ldif.specs.ldap_msg.Messages.{MessageValue, SearchRequestValue}
 use Rattle.ldap_op.specs.Values.{OpValue}
 use Rattle.script_texts.specs.Updates.{update_by, IsUpdateIn, IsHexText, Kind, noop_kind, add_kind, delete_kind, hex_kind, no_kind, IsUpdateOf}
 use Rattle.script_texts.specs.Searches.{Parts, parts_of, search_of, IsSearchOf, IsSearchText}

@@ -4,4 +4,4 @@ pub mod Updates
 pub mod Searches
 pub mod Kinds
 -- what layers above name of the crates below
-pub use Rattle.filter_text_reader.specs.filter_text.ldap_syntax as ldap_syntax
+pub use Rattle.filter_text.specs.ldap_syntax as ldap_syntax

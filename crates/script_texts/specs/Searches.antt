@@ -3,11 +3,11 @@
 use Rattle.std.specs.Prelude.{◌≡◌, ◌≤◌, ℕ, List, [], cond, codes, Bool, true, false, Option, None, Some, option_map}
 use Rattle.std.specs.Str.{bytes_eq, is_utf8}
 use Rattle.ldap_filter.specs.Tree.{Tree, depth, count}
-use Rattle.filter_text_reader.specs.filter_text.Grammar.{IsFilterText}
-use Rattle.ldif_messages.specs.ldap_msg.Messages.{SearchRequestValue}
-use Rattle.ldif_messages.specs.ldap_msg.ldap_requests.declared.search.Scope.{Scope}
-use Rattle.ldif_messages.specs.ldap_msg.ldap_requests.declared.search.Scope.TheVariants.{BaseObject, SingleLevel, WholeSubtree}
-use Rattle.ldif_messages.specs.ldap_msg.ldap_requests.declared.search.DerefAliases.TheVariants.{NeverDerefAliases}
+use Rattle.filter_text.specs.Grammar.{IsFilterText}
+use Rattle.ldif.specs.ldap_msg.Messages.{SearchRequestValue}
+use Rattle.ldif.specs.ldap_msg.ldap_requests.declared.search.Scope.{Scope}
+use Rattle.ldif.specs.ldap_msg.ldap_requests.declared.search.Scope.TheVariants.{BaseObject, SingleLevel, WholeSubtree}
+use Rattle.ldif.specs.ldap_msg.ldap_requests.declared.search.DerefAliases.TheVariants.{NeverDerefAliases}
 use Rattle.script_texts.specs.Cuts.{Cut, cut}
 
 -- what stands between the first two bars, before them and behind them

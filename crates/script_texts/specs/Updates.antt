@@ -4,11 +4,11 @@ use Rattle.std.specs.Prelude.{◌≡◌, ℕ, List, [], cond, codes, nat_eq, Opt
 use Rattle.std.specs.List.{slice_split}
 use Rattle.std.specs.Str.{bytes_eq, is_utf8}
 use Rattle.hex.specs.Hex.{decode_of}
-use Rattle.ldif_messages.specs.ldif.Records.{ValueModel, RecordModel}
-use Rattle.ldif_messages.specs.Adds.{add_of}
-use Rattle.ldif_messages.specs.Exports.{IsWhole}
-use Rattle.ldif_messages.specs.ldap_msg.Messages.{RequestValue, OperationValue, request, response, MessageValue}
-use Rattle.ldif_messages.specs.ldap_msg.Messages as messages
+use Rattle.ldif.specs.Records.{ValueModel, RecordModel}
+use Rattle.ldif.specs.Adds.{add_of}
+use Rattle.ldif.specs.Exports.{IsWhole}
+use Rattle.ldif.specs.ldap_msg.Messages.{RequestValue, OperationValue, request, response, MessageValue}
+use Rattle.ldif.specs.ldap_msg.Messages as messages
 use Rattle.ldap_op.specs.Values.{OpValue, add, delete, modify, modify_dn, noop}
 use Rattle.script_texts.specs.Cuts.{Cut, cut, cut_pair}
 use Rattle.script_texts.specs.Each.{all_of}

@@ -8,7 +8,7 @@ ghost use Rattle.script_texts.specs.Updates as updates;
 
 use crate::cutting::{cut_pair, cut_text, text_of};
 use crate::fault::TextError;
-use ldif_messages::{AttributeValue, Record};
+use ldif::{AttributeValue, Record};
 use std::alloc::{AllocError, Global};
 
 /// A name, which is UTF-8.

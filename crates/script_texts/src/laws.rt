@@ -2,13 +2,13 @@
 //! In: nothing. Out: what holds of all texts. Not here: code that runs.
 
 ghost use Rattle.std.specs.Prelude.{◌≡◌, ℕ, List};
-ghost use Rattle.ldif_messages.specs.ldap_msg.Messages.{SearchRequestValue};
+ghost use Rattle.ldif.specs.ldap_msg.Messages.{SearchRequestValue};
 ghost use Rattle.ldap_op.specs.Values.{OpValue};
 ghost use Rattle.script_texts.specs.Searches.{IsSearchText};
 ghost use Rattle.script_texts.specs.Updates.{IsUpdateText};
 
-use filter_text_reader::one_filter_text;
-use ldif_messages::one_message;
+use filter_text::one_filter_text;
+use ldif::one_message;
 
 /// A text writes one update at most.
 pub fn one_update()

@@ -13,9 +13,9 @@ mod updates;
 
 pub use cutting::{Cut, cut_text};
 pub use fault::TextError;
-pub use filter_text_reader::number_of_digits;
+pub use filter_text::number_of_digits;
 pub use laws::{one_search, one_update};
 pub use ldap_op::Op;
-pub use ldif_messages::SearchRequest;
+pub use ldif::SearchRequest;
 pub use searches::read_search;
 pub use updates::read_update;

@@ -3,16 +3,16 @@
 
 ghost use Rattle.std.specs.Prelude.{◌≡◌, ℕ, List, Ok, Some, IfOk, IsErrOf, MatchOption};
 ghost use Rattle.hex.specs.Hex.{decode_of};
-ghost use Rattle.ldif_messages.specs.ldap_msg.Messages.{MessageValue};
-ghost use Rattle.ldif_messages.specs.ldap_msg.View.{view, operation_view, request_view};
+ghost use Rattle.ldif.specs.ldap_msg.Messages.{MessageValue};
+ghost use Rattle.ldif.specs.ldap_msg.View.{view, operation_view, request_view};
 ghost use Rattle.ldap_op.specs.Values.{OpValue};
 ghost use Rattle.ldap_op.specs.View.{update_view};
-ghost use Rattle.ldif_messages.specs.Exports.{IsWhole};
+ghost use Rattle.ldif.specs.Exports.{IsWhole};
 ghost use Rattle.script_texts.specs.Updates as updates;
 
 use crate::fault::TextError;
 use ldap_op::Update;
-use ldif_messages::{Message, MsgFault, ProtocolOp, Request, decode};
+use ldif::{Message, MsgFault, ProtocolOp, Request, decode};
 use std::alloc::Global;
 
 /// The octets that digits spell, two an octet.

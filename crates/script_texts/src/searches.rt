@@ -4,8 +4,8 @@
 ghost use Rattle.std.specs.Prelude.{◌≡◌, ◌≤◌, IfOk, IsErrOf, MatchOption};
 ghost use Rattle.ldap_filter.specs.Tree.{Tree};
 ghost use Rattle.ldap_filter.specs.View.{view};
-ghost use Rattle.ldif_messages.specs.ldap_msg.Messages.{SearchRequestValue};
-ghost use Rattle.ldif_messages.specs.ldap_msg.View.{search_view};
+ghost use Rattle.ldif.specs.ldap_msg.Messages.{SearchRequestValue};
+ghost use Rattle.ldif.specs.ldap_msg.View.{search_view};
 ghost use Rattle.script_texts.specs.Cuts.{cut};
 ghost use Rattle.script_texts.specs.Searches as searches;
 ghost use Rattle.script_texts.specs.Searches.{IsFilterOf, IsSearchText};
@@ -14,9 +14,9 @@ use crate::adds::name_of;
 use crate::cutting::{Cut, cut_text, text_of};
 use crate::fault::TextError;
 use crate::kinds::is_word;
-use filter_text_reader::{FilterTextError, read_text};
+use filter_text::{FilterTextError, read_text};
 use ldap_filter::Filter;
-use ldif_messages::{DerefAliases, Scope, SearchRequest};
+use ldif::{DerefAliases, Scope, SearchRequest};
 use std::alloc::Global;
 
 /// The parts of a search's text.

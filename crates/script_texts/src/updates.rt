@@ -12,7 +12,7 @@ use crate::fault::TextError;
 use crate::kinds::{Kind, kind_of};
 use crate::messages::hex_update;
 use ldap_op::{Op, Update};
-use ldif_messages::add_of;
+use ldif::add_of;
 use std::alloc::Global;
 
 /// The add that stands behind its word.

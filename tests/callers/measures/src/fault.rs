@@ -1,6 +1,6 @@
 //! What ends a measurement early, with the text that goes to standard error.
 use dir_search::{IndexError, NameError};
-use filter_text_reader::FilterTextError;
+use filter_text::FilterTextError;
 use std::alloc::{AllocError, AllocFailed};
 use thiserror::Error;
 use vr_wire::WireError;

@@ -2,7 +2,7 @@
 //! out. How entries are made is not here.
 use crate::fault::Fault;
 use dir_search::{DerefAliases, Scope, SearchRequest, Store, search};
-use filter_text_reader::read_text;
+use filter_text::read_text;
 use std::alloc::{AllocError, Global};
 use std::time::{Clock, Instant};
 

@@ -1,6 +1,6 @@
 use Rattle.std.proofs.Common.{ℕ, Bor, List, nat_eq, ap₂, ◌∙◌}
 use Rattle.std.specs.List.{slice_split}
-use Rattle.ldif_messages.specs.ldif.Records.{ValueModel}
+use Rattle.ldif.specs.Records.{ValueModel}
 use Rattle.script_texts.specs.Each.{all_of}
 use Rattle.script_texts.specs.Updates.{line_in}
 use Rattle.script_texts.proofs.Each.{after, texts_begin}

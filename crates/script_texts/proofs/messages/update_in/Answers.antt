@@ -1,5 +1,5 @@
 use Rattle.std.proofs.Common.{◌≡◌, Err, ap}
-use Rattle.ldif_messages.specs.ldap_msg.View.{view}
+use Rattle.ldif.specs.ldap_msg.View.{view}
 use Rattle.script_texts.specs.declared.fault.TextError.TheVariants.{BadText}
 use Rattle.script_texts.proofs.Refusals.{no_message, no_update}
 use Rattle.script_texts.proofs.messages.update_in.Goals as goal

@@ -2,10 +2,10 @@
 // What must not be here: entries.
 
 ghost use Rattle.std.specs.Prelude.{◌≡◌, IfOk};
-ghost use Rattle.plan_sets.specs.dir_index.Postings.{IsRising};
+ghost use Rattle.search_plans.specs.dir_index.Postings.{IsRising};
 
-use plan_compile::Truth;
-use plan_sets::{Kept, Posting, Range, Values, has};
+use search_plans::Truth;
+use search_plans::{Kept, Posting, Range, Values, has};
 use std::alloc::{AllocError, Global};
 use std::marker::Model;
 
@@ -17,7 +17,7 @@ pub struct Shelf {
 }
 
 impl Model for Shelf {
-    ghost use Rattle.plan_sets.specs.dir_index.Postings.{IsRising};
+    ghost use Rattle.search_plans.specs.dir_index.Postings.{IsRising};
     ghost use Rattle.library_tests.specs.Shelf.{TwoLists};
 
     ghost Value = { TwoLists };

@@ -2,11 +2,11 @@
 // What must not be here: expected values that the program gave.
 
 ghost use Rattle.std.specs.Prelude.{◌≡◌};
-ghost use Rattle.plan_sets.specs.dir_index.Postings.{IsRising};
+ghost use Rattle.search_plans.specs.dir_index.Postings.{IsRising};
 
 use crate::plans::shelf::{Always, Shelf, make_shelf, scope};
-use plan_compile::{BoundFilter, Key, Leaf, Test, Truth, TypeId, compile};
-use plan_sets::{Indexes, Plan, Posting, Ran, Range, Sided, contains, run, start};
+use search_plans::{BoundFilter, Key, Leaf, Test, Truth, TypeId, compile};
+use search_plans::{Indexes, Plan, Posting, Ran, Range, Sided, contains, run, start};
 use std::alloc::{AllocError, Global};
 use std::process::Abort;
 use std::test::Fail;

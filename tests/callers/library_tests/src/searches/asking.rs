@@ -2,7 +2,7 @@
 //! compared. No expectation is here.
 use crate::searches::sample::{TWO, add, sampled};
 use dir_search::{DerefAliases, ResultCode, Scope, SearchAnswer, SearchRequest, Store, search};
-use filter_text_reader::read_text;
+use filter_text::read_text;
 use std::alloc::Global;
 use std::process::Abort;
 use std::test::*;

@@ -1,7 +1,7 @@
 //! Questions to seats, and what they are answered as text. Names, filters and values flow in; lines flow out. No expectation is here.
 use crate::seats::sample::Node;
 use dir_seats::{CompareRequest, Found, LookError, Reply, SearchAnswer, SearchRequest, Seat};
-use filter_text_reader::read_text;
+use filter_text::read_text;
 use ldap_msg::{AttributeValueAssertion, DerefAliases, Scope};
 use std::alloc::Global;
 use std::test::*;

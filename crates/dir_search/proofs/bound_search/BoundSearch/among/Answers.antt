@@ -3,8 +3,8 @@ use Rattle.std.specs.Prelude.{IfOk}
 use Rattle.std.proofs.lemmas.Result.{IfOk-weaker}
 use Rattle.ldap_msg.specs.View.{search_view}
 use Rattle.dir_store.specs.dir_index.Whole.{lists_of}
-use Rattle.plan_compile.specs.plan_sets.Sets.{is_in}
-use Rattle.plan_compile.specs.plan_sets.Runs.{is_open}
+use Rattle.search_plans.specs.Sets.{is_in}
+use Rattle.search_plans.specs.Runs.{is_open}
 use Rattle.dir_search.specs.Looks.{AreHere, AreNumbersOf}
 use Rattle.dir_search.specs.View.{FindsAmong}
 use Rattle.dir_search.proofs.Few.{among as found_among, scope_rises, true_here}

@@ -1,4 +1,0 @@
-pub mod Puts
-pub mod TooLong
-pub mod Meanings
-pub mod Wrongs

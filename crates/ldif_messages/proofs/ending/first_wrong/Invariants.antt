@@ -1,7 +1,0 @@
--- LDIF and messages: what the loop of `first_wrong` keeps.
-use Rattle.std.proofs.Common.{◌≡◌, drop}
-use Rattle.ldif_messages.specs.Exports.{first_wrong}
-use Rattle.ldif_messages.proofs.ending.first_wrong.Given as goal
-
-abbrev pub invariant-loop-index : goal.invariant-loop-index
-invariant-loop-index l = first_wrong (drop l.index l.meant) ≡ first_wrong l.meant

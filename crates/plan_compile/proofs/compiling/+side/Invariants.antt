@@ -1,6 +1,0 @@
-use Rattle.std.proofs.Common.{take}
-use Rattle.plan_compile.specs.Sides.{EachSide}
-use Rattle.plan_compile.proofs.compiling.+side.Given as goal
-
-abbrev pub invariant-sides-loop-filter : goal.invariant-sides-loop-filter
-invariant-sides-loop-filter l = EachSide l.indexes l.wanted (take l.filter-index l.filters) l.musts.items l.mays.items

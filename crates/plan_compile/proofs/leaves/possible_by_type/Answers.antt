@@ -1,7 +1,0 @@
-use Rattle.std.proofs.Common.{sym, ap, ◌∙◌}
-use Rattle.plan_sets.specs.index_choice.declared.kinds.Kinds.{Kinds}
-use Rattle.plan_compile.proofs.LeafPlans.{possible_present}
-use Rattle.plan_compile.proofs.leaves.possible_by_type.Goals as goal
-
-pub returns-then-kinds : goal.returns-then-kinds
-returns-then-kinds c = possible_present c.args.indexes.now c.args.leaf.now (sym (ap (λ (k : Kinds). k.presence) c.kinds.ensures) ∙ c.if-kinds.true)

@@ -1,6 +1,0 @@
-use Rattle.std.proofs.Common.{◌≡◌, ◌++◌, take}
-use Rattle.plan_compile.specs.Runs.{run_plans, runs_of_all}
-use Rattle.plan_compile.proofs.runs.push_all_runs.Given as goal
-
-abbrev pub invariant-loop-part : goal.invariant-loop-part
-invariant-loop-part l = l.plans.items ≡ l.fn.plans.items ++ run_plans l.type_id (runs_of_all (take l.part-index l.parts))

@@ -1,9 +1,0 @@
-use Rattle.std.proofs.Common.{◌≡◌, ◌++◌, length}
-use Rattle.plan_compile.specs.Runs.{runs_of, run_plans}
-use Rattle.plan_compile.proofs.runs.push_runs.Given as goal
-
-abbrev pub invariant-loop-rest : goal.invariant-loop-rest
-invariant-loop-rest l = l.plans.items ++ run_plans l.type_id (runs_of l.rest) ≡ l.initial.plans.items ++ run_plans l.type_id (runs_of l.part)
-
-abbrev pub decreases-loop-rest : goal.decreases-loop-rest
-decreases-loop-rest l = length l.rest

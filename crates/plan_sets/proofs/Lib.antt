@@ -1,9 +1,0 @@
-pub mod Equations
-pub mod Gathered
-pub mod Numbers
-pub mod Passing
-pub mod Rising
-pub mod Searching
-pub mod Started
-pub mod StreamSteps
-pub mod Together

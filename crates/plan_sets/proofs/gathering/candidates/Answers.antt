@@ -1,5 +1,0 @@
-use Rattle.plan_sets.proofs.Rising.{drawn}
-use Rattle.plan_sets.proofs.gathering.candidates.Goals as goal
-
-pub returns-clause-draws : goal.returns-clause-draws
-returns-clause-draws g c = drawn _ c.args.scope.now c.in_ok-stream.stream c.requires c.in_ok-stream.ensures.rising c.in_ok-stream.ensures.covers

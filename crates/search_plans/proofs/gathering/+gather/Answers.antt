@@ -1,0 +1,41 @@
+use Rattle.std.proofs.Common.{sym, ap, ◌∙◌}
+use Rattle.std.proofs.lemmas.List.Folds.{list_all-map}
+use Rattle.search_plans.specs.Sets.{is_in}
+use Rattle.search_plans.specs.declared.plan.Plan.{Plan}
+use Rattle.search_plans.proofs.Equations.{in_plan-Range, in_plan-Union, in_plan-Inter}
+use Rattle.search_plans.proofs.Gathered.{on_ok_weaker, gathers_range, gathers_weaker, any_map, all_at}
+use Rattle.search_plans.proofs.gathering.+gather.Goals as goal
+
+pub push_lists-returns-in-Range-clause-gathers : goal.push_lists-returns-in-Range-clause-gathers
+push_lists-returns-in-Range-clause-gathers g t c =
+    on_ok_weaker _ _
+    (λ h. gathers_range _ c.args.scope.now _ _ _ h
+    (λ n. ap (λ (p : Plan). is_in (g.K.Kept.lists c.args.kept.now) c.args.scope.now p n) c.in-Range.is ∙ in_plan-Range _ _ _ c.in-Range.range))
+    c.push_range.result c.push_range.ensures.covered
+
+pub push_lists-returns-in-Union-clause-gathers : goal.push_lists-returns-in-Union-clause-gathers
+push_lists-returns-in-Union-clause-gathers g t c =
+    let found = rw c.deref.ensures.value at c.push_each.ensures.gathers in
+    on_ok_weaker _ _
+    (λ h. gathers_weaker _ _ c.args.scope.now _ _
+    (λ n k. sym (ap (λ (p : Plan). is_in (g.K.Kept.lists c.args.kept.now) c.args.scope.now p n) c.in-Union.is ∙ in_plan-Union _ _ _ c.in-Union.plans ∙ any_map _ _ c.in-Union.plans.items) ∙ k) h)
+    c.push_each.result found
+
+pub push_lists-returns-in-Inter-clause-gathers : goal.push_lists-returns-in-Inter-clause-gathers
+push_lists-returns-in-Inter-clause-gathers g t c =
+    let found = rw c.deref-in-Inter.ensures.value at c.push_one.ensures.gathers in
+    on_ok_weaker _ _
+    (λ h. gathers_weaker _ _ c.args.scope.now _ _
+    (λ n k. sym (ap (λ (p : Plan). is_in (g.K.Kept.lists c.args.kept.now) c.args.scope.now p n) c.in-Inter.is ∙ in_plan-Inter _ _ _ c.in-Inter.plans ∙ list_all-map _ _ c.in-Inter.plans.items) ∙ k) h)
+    c.push_one.result found
+
+pub push_one-returns-then-i-best-clause-gathers : goal.push_one-returns-then-i-best-clause-gathers
+push_one-returns-then-i-best-clause-gathers g t c =
+    let found = rw c.loop-i.invariant at c.push_lists.ensures.gathers in
+    on_ok_weaker _ _
+    (λ h. gathers_weaker _ _ c.args.scope.now _ _
+    (λ n k. ap (λ (p : Plan). is_in (g.K.Kept.lists c.args.kept.now) c.args.scope.now p n) c.index-plans-i.is ∙ all_at (λ (p : Plan). is_in (g.K.Kept.lists c.args.kept.now) c.args.scope.now p n) c.args.plans.now c.loop-i.i c.index-plans-i.result c.loop-i-test.true k) h)
+    c.push_lists.result found
+
+pub push_one-returns-then-i-best-clause-rising : goal.push_one-returns-then-i-best-clause-rising
+push_one-returns-then-i-best-clause-rising g t c = rw c.loop-i.invariant at c.push_lists.ensures.rising

@@ -1,0 +1,65 @@
+-- Runs of three octets. A substrings assertion's parts and an entry flow in; which runs the entry has to hold flows
+-- out. How the runs are found is not here.
+use Rattle.std.specs.Prelude.{ℕ, List, [], ◌∷◌, ◌++◌, map, Bool, true, false, not, ◌||◌}
+use Rattle.std.specs.List.{list_any, list_all}
+use Rattle.ldap_eval.specs.ldap_syntax.Parts.{part_or_nothing}
+use Rattle.ldap_eval.specs.ldap_match.Parts.{PartsModel}
+use Rattle.ldap_eval.specs.ldap_match.declared.testing.Test.{Test}
+use Rattle.ldap_eval.specs.ldap_match.declared.testing.Test.TheVariants as test
+use Rattle.ldap_eval.specs.dir_entry.Entry.{KeyedAttribute}
+use Rattle.dir_index.specs.index_choice.declared.kinds.Kinds.{Kinds}
+use Rattle.dir_index.specs.index_choice.Choice.{kinds_of}
+use Rattle.dir_index.specs.Postings.{some_key, stands_in}
+use Rattle.dir_index.specs.declared.posting.Posting.TheVariants as posting
+use Rattle.search_plans.specs.declared.plan.Plan.{Plan}
+use Rattle.search_plans.specs.declared.plan.Plan.TheVariants as plan
+use Rattle.ldap_eval.specs.declared.bound.BoundFilter.{BoundFilter, fold-BoundFilter}
+use Rattle.ldap_eval.specs.declared.bound.BoundFilter.TheOpen.{BoundFilter-F}
+
+-- the runs of three octets of a text, in order
+abbrev pub runs_of : List ℕ → List (List ℕ)
+runs_of [] = []
+runs_of (a ∷ []) = []
+runs_of (a ∷ b ∷ []) = []
+runs_of (a ∷ b ∷ c ∷ x) = (a ∷ b ∷ c ∷ []) ∷ runs_of (b ∷ c ∷ x)
+
+-- the runs of each text
+abbrev pub runs_of_all : List (List ℕ) → List (List ℕ)
+runs_of_all [] = []
+runs_of_all (x ∷ xs) = runs_of x ++ runs_of_all xs
+
+-- all parts of an assertion
+abbrev pub parts_of : PartsModel → List (List ℕ)
+parts_of p = part_or_nothing p.initial ∷ (p.any ++ part_or_nothing p.last ∷ [])
+
+-- for each run the posting list of the entries that hold it
+abbrev pub run_plans : ℕ → List (List ℕ) → List Plan
+run_plans t gs = map (λ g. plan.Posting (posting.Run t g)) gs
+
+-- an entry has values of the type that hold each run of three octets of each part
+abbrev pub has_runs : ℕ → PartsModel → List KeyedAttribute → Bool
+has_runs t p e = list_all (λ g. some_key t (stands_in g) e) (runs_of_all (parts_of p))
+
+-- Whether an entry holds the runs that a test of a type asks for, as far as there is a substrings index for the
+-- type; nothing passes a test that nobody can tell.
+abbrev pub has_runs_of_test : List Kinds → ℕ → Test → List KeyedAttribute → Bool
+has_runs_of_test ix t test.Present e = true
+has_runs_of_test ix t test.Unknown e = false
+has_runs_of_test ix t (test.Equal k) e = true
+has_runs_of_test ix t (test.AtLeast k) e = true
+has_runs_of_test ix t (test.AtMost k) e = true
+has_runs_of_test ix t (test.Parts p) e = not (kinds_of ix t).substrings || has_runs t p e
+
+-- one level, with each part already told
+abbrev pub runs_step : List Kinds → List KeyedAttribute → BoundFilter-F Bool → Bool
+runs_step ix e (BoundFilter-F.And v) = list_all (λ b. b) v.items
+runs_step ix e (BoundFilter-F.Or v) = list_any (λ b. b) v.items
+runs_step ix e (BoundFilter-F.Not b) = true
+runs_step ix e BoundFilter-F.Undefined = false
+runs_step ix e (BoundFilter-F.Leaf leaf) = has_runs_of_test ix leaf.type_id leaf.test e
+runs_step ix e (BoundFilter-F.Match m) = true
+
+-- Whether an entry holds the runs that a filter asks for: of an `and` those of each part, of an `or` those of some
+-- part.
+abbrev pub has_runs_for : List Kinds → List KeyedAttribute → BoundFilter → Bool
+has_runs_for ix e = fold-BoundFilter Bool (runs_step ix e)

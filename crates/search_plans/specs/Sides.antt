@@ -1,0 +1,43 @@
+-- The two plans of one side of a filter, and of each filter of a row. The recursion over a filter says what it makes
+-- by them.
+use Rattle.std.specs.Prelude.{◌≡◌, Bool, true, List, [], ◌∷◌, Vec}
+use Rattle.std.specs.Global.{Global}
+use Rattle.ldap_eval.specs.ldap_match.Truth.{truth_of}
+use Rattle.ldap_eval.specs.dir_entry.Entry.{KeyedAttribute}
+use Rattle.ldap_eval.specs.dir_entry.ldap_dn.Names.{RdnModel}
+use Rattle.dir_index.specs.index_choice.declared.kinds.Kinds.{Kinds}
+use Rattle.search_plans.specs.Sets.{holds}
+use Rattle.search_plans.specs.declared.plan.Plan.{Plan}
+use Rattle.search_plans.specs.declared.plan.Plan.TheVariants as plan
+use Rattle.ldap_eval.specs.Bound.{bound_value}
+use Rattle.ldap_eval.specs.declared.bound.BoundFilter.{BoundFilter}
+use Rattle.search_plans.specs.Bounds.{Bounds, is_decided}
+use Rattle.search_plans.specs.OctetRuns.{has_runs_for}
+
+-- Two plans bound where a filter has the wanted value, whatever the entry's name; and where that is True, what may be holds the runs that the
+-- filter asks for.
+pub record IsSide (ix : List Kinds) (wanted : Bool) (f : BoundFilter) (must may : Plan) : Type 0 where
+  pub bounds : (n : List RdnModel) → Bounds ix (λ e. bound_value n e f) (truth_of wanted) (is_decided ix f) must may
+  pub runs : wanted ≡ true → (e : List KeyedAttribute) → holds ix e may ≡ true → has_runs_for ix e f ≡ true
+
+-- the same of each filter of a row
+pub data EachSide (ix : List Kinds) (wanted : Bool) : List BoundFilter → List Plan → List Plan → Type 0 where
+  none : EachSide ix wanted [] [] []
+  one_more : {f : BoundFilter} {m y : Plan} {fs : List BoundFilter} {ms ys : List Plan} → IsSide ix wanted f m y
+      → EachSide ix wanted fs ms ys → EachSide ix wanted (f ∷ fs) (m ∷ ms) (y ∷ ys)
+
+-- The plans are the intersections of those of each filter of a row.
+pub record IsEvery (ix : List Kinds) (wanted : Bool) (fs : List BoundFilter) (must may : Plan) : Type 0 where
+  pub musts : Vec Plan Global
+  pub mays : Vec Plan Global
+  pub each : EachSide ix wanted fs musts.items mays.items
+  pub must_is : must ≡ plan.Inter musts
+  pub may_is : may ≡ plan.Inter mays
+
+-- The plans are the unions of those of each filter of a row.
+pub record IsAny (ix : List Kinds) (wanted : Bool) (fs : List BoundFilter) (must may : Plan) : Type 0 where
+  pub musts : Vec Plan Global
+  pub mays : Vec Plan Global
+  pub each : EachSide ix wanted fs musts.items mays.items
+  pub must_is : must ≡ plan.Union musts
+  pub may_is : may ≡ plan.Union mays

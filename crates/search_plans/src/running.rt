@@ -1,0 +1,159 @@
+// Runs of plans. Candidates of the plan that has all that may be found flow in, the numbers that are found flow out.
+// What must not be here: how one candidate is told.
+
+ghost use Rattle.std.specs.Prelude.{◌≡◌, ◌+◌, ◌^◌, ◌<◌, ◌≤◌, [], ◌∷◌, filter, length, nat_le, IfOk, MatchOption};
+ghost use Rattle.dir_index.specs.Postings.{IsRising};
+ghost use Rattle.search_plans.specs.Runs.{AreGuides, left_open, true_set};
+
+use crate::gathering::candidates;
+use crate::plan::Sided;
+use crate::stream::Stream;
+use crate::telling::is_found;
+use crate::values::Values;
+use dir_index::Kept;
+use std::alloc::{AllocError, Global};
+use std::marker::Model;
+
+/// A run under way: the numbers that it still has to give, and how many values it has asked for.
+#[derive(Drop)]
+pub struct Running<'a, K: Kept, V: Values> {
+    sided: &'a Sided,
+    kept: &'a K,
+    scope: &'a [u64],
+    stream: Stream<'a>,
+    values: V,
+    tests: u64,
+}
+
+impl<'a, K: Kept, V: Values> Model for Running<'a, K, V> {
+    ghost use Rattle.search_plans.specs.Sets.{is_in};
+    ghost use Rattle.search_plans.specs.Runs.{Progress, progress_of, IsUnderWay};
+
+    ghost Value = { Progress };
+
+    ghost view = { λ r. progress_of (is_in (K.lists r.kept.now) r.scope.now r.sided.now.must)
+        (is_in (K.lists r.kept.now) r.scope.now r.sided.now.may) (V.value_at r.values) r.scope.now r.stream
+        r.tests (V.looks r.values) };
+
+    ghost invariant = { λ r. IsUnderWay (is_in (K.lists r.kept.now) r.scope.now r.sided.now.must)
+        (is_in (K.lists r.kept.now) r.scope.now r.sided.now.may) (V.value_at r.values) r.scope.now r.stream
+        r.tests (V.looks r.values) };
+}
+
+/// Starts a run of two plans that bound the entries whose value is True, within a scope. It takes the memory for the
+/// candidates; the run takes none.
+pub fn start<'a, K: Kept, V: Values + Drop>(
+    alloc: Global,
+    sided: &'a Sided,
+    kept: &'a K,
+    scope: &'a [u64],
+    values: V,
+) -> Result<Running<'a, K, V>, AllocError>
+    requires rising { IsRising scope.now }
+    requires guides { AreGuides (K.lists kept.now) sided.now (V.value_at values) scope.now }
+    requires room { V.looks values + length scope.now < 2 ^ 64 }
+    ensures numbers { IfOk result (λ r. r.to_come ≡ true_set (V.value_at values) scope.now) }
+    ensures undecided { IfOk result (λ r. r.open_numbers ≡ left_open (K.lists kept.now) sided.now scope.now) }
+    ensures none_yet { IfOk result (λ r. r.tests ≡ 0) }
+    ensures looks { IfOk result (λ r. r.looks ≡ V.looks values) }
+{
+    let stream = candidates(alloc, &sided.may, kept, scope)?;
+    Ok(Running {
+        sided,
+        kept,
+        scope,
+        stream,
+        values,
+        tests: 0,
+    })
+}
+
+impl<'a, K: Kept, V: Values> Running<'a, K, V> {
+    /// The next number of the scope whose value is True, in order. It takes no memory.
+    pub fn next(&mut self) -> Option<u64>
+        ensures gives { MatchOption result ((self.old.to_come ≡ []) × (self.new.to_come ≡ []))
+            (λ n. self.old.to_come ≡ n ∷ self.new.to_come) }
+        ensures same { self.new.open_numbers ≡ self.old.open_numbers }
+        ensures few { self.new.tests ≤ length self.new.open_numbers }
+        // Those left open up to the number that is given were asked for, and no others; all of them, where none is given.
+        ensures asked { MatchOption result (self.new.tests ≡ length self.new.open_numbers)
+            (λ m. self.new.tests ≡ length (filter (λ n. nat_le n m) self.new.open_numbers)) }
+        ensures counted { self.new.looks + self.old.tests ≡ self.old.looks + self.new.tests }
+    {
+        while let Some(number) = self.stream.next() {
+            if is_found(
+                self.sided,
+                self.kept,
+                self.scope,
+                &mut self.values,
+                &mut self.tests,
+                number,
+            ) {
+                return Some(number);
+            }
+        }
+        None
+    }
+
+    /// How many values were asked for.
+    pub fn tests(&self) -> u64
+        ensures { result ≡ self.now.tests }
+    {
+        self.tests
+    }
+
+    /// The values, as the run leaves them.
+    pub fn into_values(self) -> V
+        ensures { V.looks result ≡ self.entry.looks }
+    {
+        let Running {
+            sided: _,
+            kept: _,
+            scope: _,
+            stream: _,
+            values,
+            tests: _,
+        } = self;
+        values
+    }
+}
+
+/// What a run found.
+#[derive(Drop)]
+pub struct Ran<V> {
+    /// The numbers of the scope whose value is True, in order.
+    pub numbers: Vec<u64>,
+    /// How many values were asked for.
+    pub tests: u64,
+    /// The values, as the run left them.
+    pub values: V,
+}
+
+/// A whole run: its start, and all its numbers.
+pub fn run<K: Kept, V: Values + Drop>(
+    alloc: Global,
+    sided: &Sided,
+    kept: &K,
+    scope: &[u64],
+    values: V,
+) -> Result<Ran<V>, AllocError>
+    requires rising { IsRising scope.now }
+    requires guides { AreGuides (K.lists kept.now) sided.now (V.value_at values) scope.now }
+    requires room { V.looks values + length scope.now < 2 ^ 64 }
+    ensures numbers { IfOk result (λ r. r.numbers.items ≡ true_set (V.value_at values) scope.now) }
+    ensures few { IfOk result (λ r. r.tests ≤ length (left_open (K.lists kept.now) sided.now scope.now)) }
+    ensures asked { IfOk result (λ r. r.tests ≡ length (left_open (K.lists kept.now) sided.now scope.now)) }
+    ensures counted { IfOk result (λ r. V.looks r.values ≡ V.looks values + r.tests) }
+{
+    let mut running = start(alloc, sided, kept, scope, values)?;
+    let mut numbers = Vec::new(alloc);
+    while let Some(number) = running.next() {
+        numbers.push(number)?;
+    }
+    let tests = running.tests();
+    Ok(Ran {
+        numbers,
+        tests,
+        values: running.into_values(),
+    })
+}
