@@ -1,6 +1,6 @@
 //! What the words of `serve` ask for becomes a running replica: the settings flow on to the server, and why it ended flows back. What a word or
 //! a file means is not here.
-use dird_commands::{Fault, Service};
+use dird_commands::Service;
 use server::{Cluster, Limits, NodeConfig, Options, Place, ServerError, Times, serve};
 use std::alloc::{AllocError, Global};
 use std::fs::{File, Files};
@@ -22,27 +22,13 @@ fn places_of(alloc: Global, service: &Service<'_>) -> Result<Vec<Place>, AllocEr
     Ok(places)
 }
 
-/// The text of a server's end.
-fn fault_of(error: ServerError) -> Fault {
-    match error {
-        ServerError::CannotOpen => Fault::CannotOpen,
-        ServerError::CannotListen => Fault::CannotListen,
-        ServerError::NoStoredView => Fault::NoStoredView,
-        ServerError::ForeignCluster => Fault::ForeignCluster,
-        ServerError::DeviceFailed => Fault::DeviceFailed,
-        ServerError::NoThread => Fault::NoThread,
-        ServerError::CannotWrite => Fault::CannotWrite,
-        ServerError::NoMemory => Fault::NoMemory,
-    }
-}
-
 /// Serves as a replica, until it is stopped.
 pub fn serve_as_replica<R, W: Write>(
     rt: &R,
     alloc: Global,
     service: Service<'_>,
     output: &mut W,
-) -> Result<(), Fault>
+) -> Result<(), ServerError>
 where
     R: Net<Listener = TcpListener, Stream = TcpStream>
         + Files<File = File>
@@ -61,7 +47,7 @@ where
         words,
     } = service;
     let Some(cluster) = Cluster::new(words.cluster) else {
-        return Err(Fault::ForeignCluster);
+        return Err(ServerError::ForeignCluster);
     };
     let options = Options {
         node: NodeConfig {
@@ -89,5 +75,5 @@ where
         },
         places: &places,
     };
-    serve(rt, alloc, options, output).map_err(fault_of)
+    serve(rt, alloc, options, output)
 }

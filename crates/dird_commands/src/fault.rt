@@ -30,18 +30,6 @@ pub enum Fault {
     CannotRead,
     #[error("cannot write")]
     CannotWrite,
-    #[error("cannot open the stored view")]
-    CannotOpen,
-    #[error("cannot listen")]
-    CannotListen,
-    #[error("no stored view")]
-    NoStoredView,
-    #[error("foreign cluster")]
-    ForeignCluster,
-    #[error("E21")]
-    DeviceFailed,
-    #[error("no thread")]
-    NoThread,
     #[error("E3")]
     TooLong,
     #[error("{0}")]
