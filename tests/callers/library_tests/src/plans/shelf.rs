@@ -4,8 +4,7 @@
 ghost use Rattle.std.specs.Prelude.{◌≡◌, IfOk};
 ghost use Rattle.search_plans.specs.dir_index.Postings.{IsRising};
 
-use search_plans::Truth;
-use search_plans::{Kept, Posting, Range, Values, has};
+use search_plans::{Kept, Posting, Range, Truth, Values, has};
 use std::alloc::{AllocError, Global};
 use std::marker::Model;
 

@@ -5,8 +5,10 @@ ghost use Rattle.std.specs.Prelude.{◌≡◌};
 ghost use Rattle.search_plans.specs.dir_index.Postings.{IsRising};
 
 use crate::plans::shelf::{Always, Shelf, make_shelf, scope};
-use search_plans::{BoundFilter, Key, Leaf, Test, Truth, TypeId, compile};
-use search_plans::{Indexes, Plan, Posting, Ran, Range, Sided, contains, run, start};
+use search_plans::{
+    BoundFilter, Indexes, Key, Leaf, Plan, Posting, Ran, Range, Sided, Test, Truth, TypeId, compile,
+    contains, run, start,
+};
 use std::alloc::{AllocError, Global};
 use std::process::Abort;
 use std::test::Fail;
