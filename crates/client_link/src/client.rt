@@ -1,10 +1,10 @@
 //! A client's socket, with the patience that a server has with it. A socket flows in; a reader and a writer are lent out. Sessions and
 //! listeners are not here.
 use crate::accepting::Arrives;
+use crate::connection::Connection;
 use crate::door::Door;
 use crate::headings::ElementHeading;
 use crate::pieces::PieceReader;
-use session_threads::Connection;
 use std::alloc::Global;
 use std::io;
 use std::io::{BufWriter, Write};

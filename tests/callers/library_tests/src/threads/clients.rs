@@ -3,10 +3,10 @@
 
 use crate::threads::sessions::directory;
 use crate::threads::signal::Signal;
-use client_link::{Client, Door, Limits, accept_all, close};
+use client_link::{Client, Door, Limits, accept_all, close, serve_all};
 use crossbeam_channel::{Receiver, Sender};
+use ldap_session::{Config, Name};
 use schema_reader::built_in_schema;
-use session_threads::{Config, Name, serve_all};
 use std::alloc::Global;
 use std::io::{Read, Write};
 use std::net::{Net, SocketAddr, TcpListener, TcpStream};

@@ -2,11 +2,12 @@
 //! each gate served is compared.
 
 use crate::threads::signal::Signal;
-use schema_reader::built_in_schema;
-use session_threads::{
-    Client, CompareRequest, Config, Connection, Ended, Found, Gate, Look, LookError, Name, Reply,
-    Role, SearchAnswer, SearchRequest, Update, serve_all,
+use client_link::{Connection, serve_all};
+use ldap_session::{
+    Client, CompareRequest, Config, Ended, Found, Gate, Look, LookError, Name, Reply,
+    Role, SearchAnswer, SearchRequest, Update,
 };
+use schema_reader::built_in_schema;
 use std::alloc::Global;
 use std::io;
 use std::io::Write;
@@ -65,7 +66,7 @@ pub struct Holding<'a, R> {
 
 impl<'a, R: Wait + Clock> Gate<()> for Holding<'a, R> {
     ghost use Rattle.std.specs.Prelude.{◌≡◌, ◌+◌, min};
-    ghost use Rattle.session_threads.specs.session_talk.Counting.{updates_of, greatest_count};
+    ghost use Rattle.client_link.specs.session_talk.Counting.{updates_of, greatest_count};
 
     ghost allows = { λ d x e. e.asked ≡ min (d.asked + updates_of x) greatest_count };
 

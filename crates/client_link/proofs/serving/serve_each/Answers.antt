@@ -1,6 +1,6 @@
 use Rattle.ldap_session.specs.session_rules.View.{config_view}
-use Rattle.session_threads.proofs.Turns.{none_served, one_more_served}
-use Rattle.session_threads.proofs.serving.serve_each.Goals as goal
+use Rattle.client_link.proofs.Turns.{none_served, one_more_served}
+use Rattle.client_link.proofs.serving.serve_each.Goals as goal
 
 pub loop-init : goal.loop-init
 loop-init g c = none_served g.D.Directory.allows (config_view c.args.config.now) c.args.directory

@@ -1,6 +1,6 @@
 //! Laws of directories that serve one session after the other. Nothing flows in; what holds of all of them flows out. Code that runs is not
 //! here.
-ghost use Rattle.session_threads.specs.Served.{GoesAlong};
+ghost use Rattle.client_link.specs.Served.{GoesAlong};
 
 use ldap_session::Directory;
 

@@ -3,7 +3,7 @@
 ghost use Rattle.std.specs.Prelude.{◌≡◌, ℕ, ◌<◌, IfOk, vec_len, length, slice_index_or};
 ghost use denote.Param.Send.{IsSend, IsSync};
 ghost use Rattle.ldap_session.specs.session_rules.View.{config_view};
-ghost use Rattle.session_threads.specs.Served.{HasServed, HasServedSome, config_of};
+ghost use Rattle.client_link.specs.Served.{HasServed, HasServedSome, config_of};
 
 use crate::connection::Connection;
 use crossbeam_channel::Receiver;

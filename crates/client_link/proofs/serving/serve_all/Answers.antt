@@ -1,7 +1,7 @@
 use Rattle.ldap_session.specs.session_rules.View.{config_view}
-use Rattle.session_threads.specs.Served.{HasServedSome}
-use Rattle.session_threads.proofs.Jobs.{each_gives, if_ok}
-use Rattle.session_threads.proofs.serving.serve_all.Goals as goal
+use Rattle.client_link.specs.Served.{HasServedSome}
+use Rattle.client_link.proofs.Jobs.{each_gives, if_ok}
+use Rattle.client_link.proofs.serving.serve_all.Goals as goal
 
 pub returns-clause-served : goal.returns-clause-served
 returns-clause-served g c =
