@@ -3,8 +3,8 @@
 use Rattle.std.proofs.Common.{◌≡◌, ℕ, ◌+◌, ◌<◌, ◌≤◌, Bor, List, [], ◌∷◌, ◌++◌, map, length, drop, get_or, Option, Some, None, refl, sym, ap, ◌∙◌, arith}
 use Rattle.std.proofs.lemmas.List.{map-append}
 use Rattle.dir_lab.specs.declared.events.LabEvent.{LabEvent}
-use Rattle.script_texts.specs.Each.{all_of}
-use Rattle.script_texts.proofs.Each.{after, more, nothing, all_read, text_more, text_none}
+use Rattle.lab_script.specs.Each.{all_of}
+use Rattle.lab_script.proofs.OneByOne.{after, more, nothing, all_read, text_more, text_none}
 use Rattle.lab_script.specs.Events.{EventValue, event_view}
 use Rattle.lab_script.specs.Lines.{delivery_of, deliveries_of}
 use Rattle.lab_script.specs.Words.{token_of}

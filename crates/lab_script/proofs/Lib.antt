@@ -1,3 +1,9 @@
+pub mod Pairs
+pub mod OneByOne
+pub mod Pieces
+pub mod NoText
+pub mod Unique
+mod Rows
 pub mod Each
 pub mod Lines
 pub mod Refusals

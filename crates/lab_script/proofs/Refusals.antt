@@ -1,7 +1,7 @@
 -- What no line names. In: that a part of it names nothing. Out: that all of it names nothing. Code is not here.
 use Rattle.std.proofs.Common.{◌≡◌, ℕ, List, Some, subst}
 use Rattle.dir_lab.specs.dir_search.ldap_msg.Messages.{SearchRequestValue}
-use Rattle.script_texts.specs.Searches.{IsSearchText}
+use Rattle.lab_script.specs.Searches.{IsSearchText}
 use Rattle.lab_script.specs.Events.{EventValue}
 use Rattle.lab_script.specs.Lines.{RequestParts, request_parts, IsRequestOf, IsRequest, SearchParts, search_parts, IsSearchOf, IsSearch, IsOne}
 

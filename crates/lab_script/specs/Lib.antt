@@ -1,6 +1,13 @@
+pub mod Cuts
+pub mod Each
+pub mod Updates
+pub mod Searches
+pub mod Kinds
 pub mod Events
 pub mod Words
 pub mod Lines
 pub mod LineKinds
 pub mod Script
 pub mod Played
+-- what layers above name of the crates below
+pub use Rattle.filter_text.specs.ldap_syntax as ldap_syntax

@@ -4,10 +4,10 @@ use Rattle.std.specs.Prelude.{◌≡◌, ℕ, ◌==◌, ◌||◌, cond, List, []
 use Rattle.dir_lab.specs.dir_search.ldap_op.Values.{OpValue}
 use Rattle.dir_lab.specs.dir_search.ldap_msg.Messages.{SearchRequestValue}
 use Rattle.dir_lab.specs.vr_world.declared.events.WorldEvent.TheVariants as world
-use Rattle.script_texts.specs.Cuts.{Cut, cut}
-use Rattle.script_texts.specs.Each.{all_of}
-use Rattle.script_texts.specs.Updates.{IsUpdateText}
-use Rattle.script_texts.specs.Searches.{IsSearchText}
+use Rattle.lab_script.specs.Cuts.{Cut, cut}
+use Rattle.lab_script.specs.Each.{all_of}
+use Rattle.lab_script.specs.Updates.{IsUpdateText}
+use Rattle.lab_script.specs.Searches.{IsSearchText}
 use Rattle.lab_script.specs.declared.token.Token.{Token}
 use Rattle.lab_script.specs.declared.token.Token.TheVariants.{Replicas, Deliver, Suspect, Beat, Crash, Recover, State, Number}
 use Rattle.lab_script.specs.Events.{EventValue, happens, search, state}

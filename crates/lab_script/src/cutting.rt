@@ -7,8 +7,9 @@ ghost use Rattle.lab_script.specs.Lines as lines;
 ghost use Rattle.lab_script.specs.LineKinds.{kind_view};
 ghost use Rattle.lab_script.specs.Words as words;
 
+use crate::cuts::cut_text;
 use crate::token::is_text;
-use script_texts::{cut_text, number_of_digits};
+use filter_text::number_of_digits;
 
 /// What a line is by its first word, and what stands behind that and one space.
 #[derive(Clone, Copy)]

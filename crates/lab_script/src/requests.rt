@@ -6,12 +6,13 @@ ghost use Rattle.std.specs.Prelude.{◌≡◌, IfOk, IsErrOf};
 ghost use Rattle.dir_lab.specs.dir_search.ldap_op.Values.{OpValue};
 ghost use Rattle.lab_script.specs.Events.{EventValue, event_view};
 ghost use Rattle.lab_script.specs.Lines.{IsRequest, IsRequestOf, requested};
-ghost use Rattle.script_texts.specs.Updates.{IsUpdateText};
+ghost use Rattle.lab_script.specs.Updates.{IsUpdateText};
 
 use crate::cutting::request_parts;
 use crate::fault::LineError;
+use crate::text_fault::TextError;
+use crate::updates::read_update;
 use dir_lab::{Client, Entry, LabEvent, Op, WorldEvent};
-use script_texts::{TextError, read_update};
 use std::alloc::Global;
 
 /// The update that a text writes.

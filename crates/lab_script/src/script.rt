@@ -75,7 +75,7 @@ fn read_words(alloc: Global, line: &[u8]) -> Result<Vec<LabEvent>, LineError>
     events_of(alloc, &tokens)
 }
 
-#[tactic(auto, using(crate::proofs::Each::word_more, crate::proofs::Each::word_none, script_texts::proofs::Each::all_read))]
+#[tactic(auto, using(crate::proofs::Each::word_more, crate::proofs::Each::word_none, crate::proofs::OneByOne::all_read))]
 /// The words and numbers of a line.
 fn read_tokens(alloc: Global, line: &[u8]) -> Result<Vec<Token>, LineError>
     ensures found { IfOk result (λ tokens. Some tokens.items ≡ tokens_of (words_of line.now)) }

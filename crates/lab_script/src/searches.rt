@@ -7,12 +7,13 @@ ghost use Rattle.dir_lab.specs.dir_search.ldap_msg.Messages.{SearchRequestValue}
 ghost use Rattle.dir_lab.specs.dir_search.ldap_msg.View.{search_view};
 ghost use Rattle.lab_script.specs.Events.{EventValue, event_view};
 ghost use Rattle.lab_script.specs.Lines.{IsSearch, IsSearchOf};
-ghost use Rattle.script_texts.specs.Searches.{IsSearchText};
+ghost use Rattle.lab_script.specs.Searches.{IsSearchText};
 
 use crate::cutting::search_parts;
 use crate::fault::LineError;
+use crate::search_texts::read_search;
+use crate::text_fault::TextError;
 use dir_lab::{LabEvent, SearchRequest};
-use script_texts::{TextError, read_search};
 use std::alloc::Global;
 
 /// The search that a text writes.

@@ -5,7 +5,7 @@
 ghost use Rattle.std.specs.Prelude.{◌≡◌, ◌==◌, bytes_eq, map, IfOk};
 ghost use Rattle.lab_script.specs.Words.{token_of, words_of};
 
-use script_texts::number_of_digits;
+use filter_text::number_of_digits;
 use std::alloc::{AllocError, Global};
 
 /// A word of the language, or a number.

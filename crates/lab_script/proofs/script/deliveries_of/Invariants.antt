@@ -1,6 +1,6 @@
 use Rattle.std.proofs.Common.{◌≡◌, drop}
-use Rattle.script_texts.specs.Each.{all_of}
-use Rattle.script_texts.proofs.Each.{after}
+use Rattle.lab_script.specs.Each.{all_of}
+use Rattle.lab_script.proofs.OneByOne.{after}
 use Rattle.lab_script.specs.Lines.{delivery_of}
 use Rattle.lab_script.proofs.Each.{views}
 use Rattle.lab_script.proofs.script.deliveries_of.Given as goal

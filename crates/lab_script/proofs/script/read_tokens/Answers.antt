@@ -1,6 +1,6 @@
 use Rattle.std.proofs.Common.{ℕ, Bor, List, ap₂, ◌∙◌}
-use Rattle.script_texts.specs.Each.{all_of}
-use Rattle.script_texts.proofs.Each.{after, texts_begin}
+use Rattle.lab_script.specs.Each.{all_of}
+use Rattle.lab_script.proofs.OneByOne.{after, texts_begin}
 use Rattle.lab_script.specs.Words.{token_of, words_of}
 use Rattle.lab_script.specs.declared.token.Token.{Token}
 use Rattle.lab_script.proofs.script.read_tokens.Goals as goal

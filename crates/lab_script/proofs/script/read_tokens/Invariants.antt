@@ -1,6 +1,6 @@
 use Rattle.std.proofs.Common.{◌≡◌, ℕ, Bor, List, drop}
-use Rattle.script_texts.specs.Each.{all_of}
-use Rattle.script_texts.proofs.Each.{after}
+use Rattle.lab_script.specs.Each.{all_of}
+use Rattle.lab_script.proofs.OneByOne.{after}
 use Rattle.lab_script.specs.Words.{token_of, tokens_of, words_of}
 use Rattle.lab_script.proofs.script.read_tokens.Given as goal
 

@@ -1,0 +1,14 @@
+use Rattle.std.proofs.Common.{◌≡◌, Bool, true, false, refl}
+use Rattle.std.specs.Str.{is_utf8}
+use Rattle.std.proofs.lemmas.Str.{is_utf8-from_IsUtf8, IsUtf8-from_is_utf8}
+use Rattle.lab_script.proofs.cuts.text_of.Goals as goal
+
+not_true : (b : Bool) → (b ≡ true → ⊥) → b ≡ false
+not_true true h = absurd (h refl)
+not_true false h = refl
+
+pub returns-in-Ok : goal.returns-in-Ok
+returns-in-Ok c = (is_utf8-from_IsUtf8 c.args.octets.now c.in-Ok.ensures.cases.1, c.in-Ok.ensures.cases.0)
+
+pub returns-in-Err : goal.returns-in-Err
+returns-in-Err c = not_true (is_utf8 c.args.octets.now) (λ e. c.in-Err.ensures.cases.0 (IsUtf8-from_is_utf8 c.args.octets.now e))

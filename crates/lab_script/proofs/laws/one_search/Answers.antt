@@ -1,0 +1,5 @@
+use Rattle.lab_script.proofs.Unique.{one_text}
+use Rattle.lab_script.proofs.laws.one_search.Goals as goal
+
+pub returns : goal.returns
+returns c = one_text c.one_filter_text.ensures.unique

@@ -1,6 +1,0 @@
-pub mod Pairs
-pub mod Each
-pub mod Pieces
-pub mod Refusals
-pub mod Unique
-mod Rows

@@ -1,5 +1,0 @@
-use Rattle.script_texts.proofs.Unique.{one_text}
-use Rattle.script_texts.proofs.laws.one_search.Goals as goal
-
-pub returns : goal.returns
-returns c = one_text c.one_filter_text.ensures.unique

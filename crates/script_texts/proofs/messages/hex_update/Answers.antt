@@ -1,6 +1,0 @@
-use Rattle.std.proofs.Common.{Ok, ap, sym, ◌∙◌}
-use Rattle.script_texts.proofs.Refusals.{no_hex}
-use Rattle.script_texts.proofs.messages.hex_update.Goals as goal
-
-pub returns-clause-bad : goal.returns-clause-bad
-returns-clause-bad c = λ e op. no_hex c.args.digits.now c.deref.result.now op (c.in_ok-octets.ensures.found ∙ ap Ok (sym c.deref.ensures.value)) (c.update_in.ensures.bad e op)

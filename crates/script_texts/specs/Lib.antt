@@ -1,7 +1,0 @@
-pub mod Cuts
-pub mod Each
-pub mod Updates
-pub mod Searches
-pub mod Kinds
--- what layers above name of the crates below
-pub use Rattle.filter_text.specs.ldap_syntax as ldap_syntax
