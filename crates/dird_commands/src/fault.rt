@@ -12,7 +12,7 @@ use std::alloc::{AllocError, AllocFailed};
 use thiserror::Error;
 
 /// Why a job stopped; each ends the run with status 1. A refusal without a text of its own prints its number, and the line or the place that it is of.
-#[derive(Clone, Copy, Debug, PartialEq, Eq, Error)]
+#[derive(Clone, Copy, Debug, Error)]
 pub enum Fault {
     #[error("E{number} {place}")]
     Placed { number: u32, place: usize },

@@ -20,13 +20,11 @@ pub fn play_script<R: BufRead, W: Write>(
 ) -> Result<(), Fault> {
     let suffix = root_name(alloc, &schema)?;
     let lines = read_lines(alloc, input)?;
-    for reply in &play(alloc, schema, indexes, suffix, &lines)? {
-        match write_reply(reply, output) {
-            Ok(()) => {}
-            Err(_) => return Err(Fault::CannotWrite),
-        }
+    let replies = play(alloc, schema, indexes, suffix, &lines)?;
+    match write_replies(&replies, output) {
+        Ok(()) => Ok(()),
+        Err(_) => Err(Fault::CannotWrite),
     }
-    Ok(())
 }
 
 /// All lines, without their ends.
@@ -39,6 +37,14 @@ fn read_lines<R: BufRead>(alloc: Global, input: &mut R) -> Result<Vec<Vec<u8>>, 
         }
     }
     Ok(lines)
+}
+
+/// Writes what a lab shows, in order.
+fn write_replies<W: Write>(replies: &[LabReply], output: &mut W) -> std::io::Result<()> {
+    for reply in replies {
+        write_reply(reply, output)?;
+    }
+    Ok(())
 }
 
 /// Writes what a lab shows at once: a line, and one more for each entry of an answer.
