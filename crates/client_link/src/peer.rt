@@ -11,9 +11,15 @@ use std::sync::Wait;
 use std::time::Clock;
 
 /// A stream that another replica, or a stranger, has opened.
-#[derive(Drop)]
 pub struct Peer<'a, R> {
     reader: PieceReader<'a, R, FrameHeading>,
+}
+
+// Not derived: see "What the gate takes" in docs/ARCHITECTURE.md.
+impl<'a, R> Drop for Peer<'a, R> {
+    fn drop(self) {
+        let Peer { reader: _ } = self;
+    }
 }
 
 impl<'a, R: Wait + Clock> Arrives<'a, R> for Peer<'a, R> {
@@ -30,11 +36,9 @@ impl<'a, R: Wait + Clock> Arrives<'a, R> for Peer<'a, R> {
 
 impl<'a, R: Wait + Clock> Peer<'a, R> {
     /// It is given a place: what frames are read from.
-    pub fn seated(
-        mut self,
-        alloc: Global,
-    ) -> io::Result<BufReader<PieceReader<'a, R, FrameHeading>>> {
-        self.reader.sit();
-        BufReader::new(alloc, self.reader)
+    pub fn seated(self, alloc: Global) -> io::Result<BufReader<PieceReader<'a, R, FrameHeading>>> {
+        let Peer { mut reader } = self;
+        reader.sit();
+        BufReader::new(alloc, reader)
     }
 }

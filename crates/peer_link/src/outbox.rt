@@ -16,10 +16,19 @@ struct Held {
 
 /// The frames that wait for one other replica, under a lock, with a condition to wait for the next. At most so many wait, of at most so many
 /// octets; the newest always does.
-#[derive(Drop)]
 pub struct Outbox {
     held: Mutex<Held>,
     changed: Condvar,
+}
+
+// Not derived: see "What the gate takes" in docs/ARCHITECTURE.md.
+impl Drop for Outbox {
+    fn drop(self) {
+        let Outbox {
+            held: _,
+            changed: _,
+        } = self;
+    }
 }
 
 impl Outbox {

@@ -23,5 +23,5 @@ pub fn open_node<'a, R: Files<File = File> + Wait>(
         return Err(ServerError::CannotListen);
     }
     let device = FileDevice::open(rt, alloc, store)?;
-    Ok(open(rt, alloc, device, config, is_fresh, seats)?)
+    open(rt, alloc, device, config, is_fresh, seats).map_err(ServerError::from)
 }
