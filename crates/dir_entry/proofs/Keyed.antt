@@ -1,7 +1,7 @@
 -- Keys of values, and entries with one attribute more. Facts on lists flow in and out; no value of the program is here.
 use Rattle.std.proofs.Common.{ℕ, List, [], ◌∷◌, ◌++◌, Bool, ◌&&◌, Option, None, Some, ◌≡◌, refl, ap, ap₂, sym, subst, ◌∙◌, map}
 use Rattle.std.specs.List.{list_all}
-use Rattle.ldap_match.specs.ldap_syntax.declared.rule.Rule.{Rule}
+use Rattle.ldap_match.specs.ldap_words.declared.rule.Rule.{Rule}
 use Rattle.ldap_match.specs.ldap_schema.Schema.{SchemaModel}
 use Rattle.ldap_match.specs.ldap_schema.Rules.{equality_of}
 use Rattle.ldap_match.specs.Keyed.{key_at, AreKeysBy, AreKeysOf}

@@ -3,4 +3,4 @@ pub mod Shown
 pub mod Twice
 pub mod Equivalents
 pub mod Picked
-pub use Rattle.ldap_match.proofs.ldap_syntax as ldap_syntax
+pub use Rattle.ldap_match.proofs.ldap_words as ldap_words

@@ -3,6 +3,7 @@ pub mod Values
 pub mod Adding
 pub mod Picked
 -- what layers above name of the crates below
+pub use Rattle.ldap_match.specs.ldap_words as ldap_words
 pub use Rattle.ldap_match.specs.ldap_syntax as ldap_syntax
 pub use Rattle.ldap_match.specs.ldap_schema as ldap_schema
 pub use Rattle.ldap_match.specs.ldap_dn as ldap_dn

@@ -3,7 +3,7 @@ use Rattle.std.specs.Prelude.{ℕ, List, [], ◌∷◌, Bool, false, ◌||◌, O
 use Rattle.std.specs.List.{list_any}
 use Rattle.std.specs.Str.{bytes_eq}
 use Rattle.ldap_match.specs.ldap_syntax.Meaning.{Meaning}
-use Rattle.ldap_match.specs.ldap_syntax.declared.rule.Rule.{Rule}
+use Rattle.ldap_match.specs.ldap_words.declared.rule.Rule.{Rule}
 use Rattle.ldap_match.specs.ldap_schema.Schema.{SchemaModel}
 use Rattle.ldap_match.specs.ldap_schema.Rules.{equality_of}
 use Rattle.ldap_match.specs.Item.{is_meant}

@@ -7,7 +7,7 @@ ghost use Rattle.ldap_match.specs.Meaning.{meaning};
 ghost use Rattle.ldap_match.specs.Item.{is_of_syntax as is_of_type_syntax};
 ghost use Rattle.ldap_match.specs.Keyed.{key_at, AreKeysOf};
 ghost use Rattle.ldap_match.specs.Matched.{match_value};
-ghost use Rattle.ldap_match.specs.ldap_forms.Forms.{form_of};
+ghost use Rattle.ldap_match.specs.ldap_syntax.Forms.{form_of};
 ghost use Rattle.std.specs.Str.{bytes_eq};
 ghost use Rattle.dir_entry.specs.Picked.{picked};
 ghost use Rattle.dir_entry.specs.Entry.{are_in_syntax};
@@ -52,7 +52,7 @@ impl Model for Attribute {
     ghost view = { λ a. record { kind = a.type_id; values = map (λ v. v.items) a.values.items; keys = a.keys.items } };
 
     ghost use Rattle.std.specs.Prelude.{◌≡◌};
-    ghost use Rattle.ldap_match.specs.ldap_forms.Forms.{form_of};
+    ghost use Rattle.ldap_match.specs.ldap_syntax.Forms.{form_of};
 
     ghost invariant = { λ a. a.forms.items ≡ map (λ v. form_of v.items) a.values.items };
 }

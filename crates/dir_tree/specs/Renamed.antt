@@ -8,7 +8,7 @@ use Rattle.dir_tree.specs.Directory.{NameKey, Entered, name_eq, begins, entry_at
 use Rattle.dir_tree.specs.Labelled.{Label, Labels}
 use Rattle.dir_tree.specs.Places.{Shown, is_above, relist}
 use Rattle.dir_tree.specs.declared.relisted.Relisted.{Relisted}
-pub use Rattle.dir_entry.specs.ldap_syntax.Octets.{begins_with}
+pub use Rattle.dir_entry.specs.ldap_words.Octets.{begins_with}
 
 abbrev pub put_some : Option Entered → List Entered → List Entered
 put_some None es = es

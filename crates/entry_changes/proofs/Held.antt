@@ -3,7 +3,7 @@ use Rattle.std.proofs.Common.{ℕ, List, [], ◌∷◌, Bool, false, Option, Non
 use Rattle.std.specs.List.{list_any}
 use Rattle.std.specs.Str.{bytes_eq}
 use Rattle.dir_entry.specs.ldap_syntax.Meaning.{Meaning}
-use Rattle.dir_entry.specs.ldap_syntax.declared.rule.Rule.{Rule}
+use Rattle.dir_entry.specs.ldap_words.declared.rule.Rule.{Rule}
 use Rattle.dir_entry.specs.ldap_schema.Schema.{SchemaModel}
 use Rattle.dir_entry.specs.ldap_match.Meaning.{meaning}
 use Rattle.dir_entry.specs.ldap_schema.Rules.{equality_of}

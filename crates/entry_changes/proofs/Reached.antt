@@ -12,7 +12,7 @@ use Rattle.std.proofs.lemmas.Map.Text.{is_eq-slice_cmp}
 use Rattle.std.proofs.lemmas.List.{take_more}
 use Rattle.std.proofs.lemmas.List.Folds.{list_any-append}
 use Rattle.entry_changes.specs.Opening.{since}
-pub use Rattle.dir_entry.proofs.ldap_syntax.NumbersKept.{number_lookup as since_lookup, number_put as since_put}
+pub use Rattle.dir_entry.proofs.ldap_words.NumbersKept.{number_lookup as since_lookup, number_put as since_put}
 
 abbrev Reached : Type 0
 Reached = List (Vec ℕ Global × ℕ)

@@ -1,6 +1,6 @@
 -- What the values of an attribute are compared by, and what a refusal says of one test. No contract above names it.
 use Rattle.std.specs.Prelude.{ℕ, List, [], Bool, true, ◌≡◌, Option, None, Some}
-use Rattle.dir_entry.specs.ldap_syntax.declared.rule.Rule.{Rule}
+use Rattle.dir_entry.specs.ldap_words.declared.rule.Rule.{Rule}
 use Rattle.dir_entry.specs.ldap_schema.Schema.{SchemaModel}
 use Rattle.dir_entry.specs.ldap_schema.Rules.{equality_of}
 use Rattle.dir_entry.specs.Entry.{KeyedAttribute}

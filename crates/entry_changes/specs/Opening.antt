@@ -8,7 +8,7 @@ use Rattle.dir_entry.specs.Entry.{KeyedAttribute}
 use Rattle.dir_entry.specs.Picked.{picked}
 use Rattle.entry_changes.specs.declared.index.Index.{Index}
 use Rattle.entry_changes.specs.declared.index.Indexed.{Indexed}
-pub use Rattle.dir_entry.specs.ldap_syntax.NameOrder.{number_at as since}
+pub use Rattle.dir_entry.specs.ldap_words.NameOrder.{number_at as since}
 
 abbrev pub is_since : Option ℕ → ℕ → Bool
 is_since None place = false

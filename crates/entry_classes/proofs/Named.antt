@@ -1,11 +1,11 @@
 -- Names of classes as values of objectClass. Facts on lists flow in and out; no value of the program is here.
 use Rattle.std.proofs.Common.{ℕ, ◌+◌, suc, List, [], ◌∷◌, Bool, true, false, cond, ◌&&◌, Option, None, Some, is_some, ◌≡◌, refl, ap, sym, ◌∙◌, map, arith}
 use Rattle.std.specs.List.{list_all, position_from, slice_get}
-use Rattle.dir_entry.specs.ldap_syntax.Identifiers.{is_numericoid}
-use Rattle.dir_entry.specs.ldap_syntax.declared.rule.Rule.{Rule}
+use Rattle.dir_entry.specs.ldap_words.Identifiers.{is_numericoid}
+use Rattle.dir_entry.specs.ldap_words.declared.rule.Rule.{Rule}
 use Rattle.dir_entry.specs.ldap_schema.Schema.{SchemaModel, TypeModel, ClassModel, find, class_named}
 use Rattle.dir_entry.specs.ldap_schema.ObjectClassType.{IsObjectClassType}
-use Rattle.dir_entry.specs.ldap_schema.Meaning.{oid_of_type, oid_of_class, class_oid, type_or_class_oid, named_oid, dotted, identified}
+use Rattle.dir_entry.specs.ldap_dn.Meaning.{oid_of_type, oid_of_class, class_oid, type_or_class_oid, named_oid, dotted, identified}
 use Rattle.dir_entry.specs.ldap_match.Item.{is_of_rule, is_of_type, is_of_syntax}
 use Rattle.dir_entry.specs.Entry.{are_in_syntax}
 

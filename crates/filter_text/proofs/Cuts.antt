@@ -3,7 +3,7 @@ use Rattle.std.proofs.Common.{◌≡◌, ℕ, ◌+◌, ◌<◌, List, [], ◌∷
 use Rattle.std.specs.List.{list_all, prefix_len, slice_split, onto_first}
 use Rattle.std.specs.Option.{option_map, option_and_then}
 use Rattle.std.proofs.lemmas.Bool.{eqb-true}
-use Rattle.ldap_syntax.specs.Numbers.{is_digit}
+use Rattle.ldap_words.specs.Numbers.{is_digit}
 use Rattle.ldap_filter.specs.Item.{Comparison, equal, at_least, at_most, approximate, Item, comparison, substrings, presence, extensible}
 use Rattle.filter_text.specs.Descriptions.{is_alpha, is_key_octet, is_oid, is_description, is_dn}
 use Rattle.filter_text.specs.Values.{is_normal, hex_digit, with_high, IsValue, nothing, normal, escaped}

@@ -2,7 +2,7 @@
 use Rattle.std.proofs.Common.{◌≡◌, ℕ, List, [], ◌∷◌, ◌++◌, Bool, true, false, cond, not, ◌&&◌, ◌||◌, Option, None, Some, nat_eq, refl, sym, ap, subst, ◌∙◌, append-nil}
 use Rattle.std.specs.Option.{option_map}
 use Rattle.std.proofs.lemmas.Bool.{eqb-true}
-use Rattle.ldap_syntax.specs.Numbers.{is_digit}
+use Rattle.ldap_words.specs.Numbers.{is_digit}
 use Rattle.ldap_filter.specs.Item.{Comparison, equal, at_least, at_most, approximate, Item, comparison, substrings, presence, extensible}
 use Rattle.filter_text.specs.Descriptions.{is_key_octet, is_oid, is_description, is_dn}
 use Rattle.filter_text.specs.Values.{IsValue}

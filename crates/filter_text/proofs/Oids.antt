@@ -2,8 +2,8 @@
 use Rattle.std.proofs.Common.{◌≡◌, ℕ, List, [], ◌∷◌, Bool, true, false, cond, ◌&&◌, ◌||◌, Option, None, Some, nat_eq, nat_lt, nat_le, refl, sym, ap, ◌∙◌, arith}
 use Rattle.std.specs.List.{list_all, slice_split, onto_first}
 use Rattle.std.proofs.lemmas.Bool.{eqb-true, eqb-false, lt-ltb, leb-true, le-leb}
-use Rattle.ldap_syntax.specs.Numbers.{is_digit, are_digits, is_number}
-use Rattle.ldap_syntax.specs.Identifiers.{has_dot}
+use Rattle.ldap_words.specs.Numbers.{is_digit, are_digits, is_number}
+use Rattle.ldap_words.specs.Identifiers.{has_dot}
 use Rattle.filter_text.specs.Descriptions.{is_alpha, is_key_octet, is_oid}
 use Rattle.filter_text.specs.Machine.{holds, run, accepts}
 use Rattle.filter_text.specs.ItemScan.{oid_first, oid_step, oid_ends}
@@ -12,7 +12,7 @@ use Rattle.filter_text.specs.declared.place.OidPlace.TheVariants.{Letters, Zero,
 use Rattle.filter_text.proofs.Booleans.{left, right, both, either}
 use Rattle.filter_text.proofs.Machines.{false_true, takes}
 use Rattle.filter_text.proofs.Parts.{parts, onto, onto_never, parts_all}
-use Rattle.ldap_syntax.specs.Octets.{is_empty}
+use Rattle.ldap_words.specs.Octets.{is_empty}
 use Rattle.std.specs.Option.{option_and_then}
 
 -- accepted from a place of an oid

@@ -7,7 +7,7 @@ use Rattle.std.specs.Option.{option_map, option_and_then}
 use Rattle.ldap_filter.specs.Item.{Comparison, equal, at_least, at_most, approximate, Item, comparison, substrings, presence, extensible}
 use Rattle.filter_text.specs.Descriptions.{is_key_octet, is_dn}
 use Rattle.filter_text.specs.Scanned.{value_of}
-pub use Rattle.ldap_syntax.specs.Octets.{begins_with, is_empty}
+pub use Rattle.ldap_words.specs.Octets.{begins_with, is_empty}
 
 -- an octet that a description or a rule may have
 abbrev pub is_name_octet : ℕ → Bool

@@ -4,7 +4,7 @@
 use Rattle.std.specs.Prelude.{ℕ, Bool, true, false, cond, ◌&&◌, ◌||◌, Option, None, Some, nat_eq}
 use Rattle.std.specs.Option.{option_map, is_some}
 use Rattle.std.specs.Char.{to_ascii_lowercase}
-use Rattle.ldap_syntax.specs.Numbers.{is_digit}
+use Rattle.ldap_words.specs.Numbers.{is_digit}
 use Rattle.filter_text.specs.Descriptions.{is_alpha, is_key_octet}
 use Rattle.filter_text.specs.Values.{is_normal, hex_digit}
 use Rattle.filter_text.specs.Machine.{within}

@@ -6,7 +6,7 @@ use Rattle.std.specs.List.{list_all}
 use Rattle.ldap_filter.specs.Item.{Comparison, equal, at_least, at_most, approximate, SubstringsValue, ExtensibleValue, Item, comparison, substrings, presence, extensible}
 use Rattle.filter_text.specs.Descriptions.{is_description, is_oid, is_dn}
 use Rattle.filter_text.specs.Values.{IsValue, are_octets, printed_value}
-pub use Rattle.ldap_syntax.specs.Parts.{part_or_nothing}
+pub use Rattle.ldap_words.specs.Words.{part_or_nothing}
 
 -- filtertype: `=`, `>=`, `<=` and `~=`
 abbrev pub operator : Comparison → List ℕ

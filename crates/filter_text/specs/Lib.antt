@@ -14,4 +14,4 @@ pub mod Cuts
 pub mod Reads
 -- what layers above name of the crates below
 pub use Rattle.ldap_filter.specs as ldap_filter
-pub use Rattle.ldap_syntax.specs as ldap_syntax
+pub use Rattle.ldap_words.specs as ldap_words

@@ -13,7 +13,7 @@ ghost use Rattle.filter_text.specs.Items as items;
 ghost use Rattle.filter_text.specs.Grammar as grammar;
 
 use ldap_filter::{Filter, MatchingRuleAssertion, SubstringFilter};
-use ldap_syntax::{is_description, is_oid};
+use ldap_words::{is_description, is_oid};
 
 /// Whether the octets are `dn`, in any case.
 fn is_dn(octets: &[u8]) -> bool

@@ -5,7 +5,7 @@ ghost use Rattle.std.specs.Prelude.{◌≡◌, ◌∷◌, ◌≤◌, length, Lis
 ghost use Rattle.std.specs.List.{list_all, prefix_len};
 ghost use Rattle.filter_text.specs.Cuts as cuts;
 
-use ldap_syntax::is_key_octet;
+use ldap_words::is_key_octet;
 
 /// Whether a description or a rule may have the octet.
 fn is_name_octet(octet: u8) -> bool

@@ -20,7 +20,7 @@ mod value_reading;
 
 pub use fault::FilterTextError;
 pub use ldap_filter::{Filter, MAX_DEPTH, MAX_ITEMS, MatchingRuleAssertion, SubstringFilter};
-pub use ldap_syntax::{hex_digit, hex_octet, is_alpha, is_digit, is_key_octet, number_of_digits};
+pub use ldap_words::{hex_digit, hex_octet, is_alpha, is_digit, is_key_octet, number_of_digits};
 pub use printing::{print_text, printed_is_a_text};
 pub use printing_value::is_normal;
 pub use reading::{one_filter_text, read_text};

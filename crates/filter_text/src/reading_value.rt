@@ -11,7 +11,7 @@ ghost use Rattle.filter_text.specs.declared.value_reading.Reading.TheVariants.{B
 use crate::fault::FilterTextError;
 use crate::printing_value::is_normal;
 use crate::value_reading::{Reading, Turn};
-use ldap_syntax::hex_octet;
+use ldap_words::hex_octet;
 use std::alloc::{AllocError, Global};
 
 /// What an octet does between octets of the value.

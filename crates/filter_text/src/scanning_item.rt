@@ -8,7 +8,7 @@ ghost use Rattle.filter_text.specs.ItemScan as scan;
 
 use crate::place::{ItemPlace, NamePlace, OidPlace, ValuePlace, Word};
 use crate::printing_value::is_normal;
-use ldap_syntax::{hex_digit, is_alpha, is_digit, is_key_octet};
+use ldap_words::{hex_digit, is_alpha, is_digit, is_key_octet};
 
 /// Whether the octet is a hexadecimal digit.
 fn is_hex(octet: u8) -> bool

@@ -10,4 +10,4 @@ pub mod LineKinds
 pub mod Script
 pub mod Played
 -- what layers above name of the crates below
-pub use Rattle.filter_text.specs.ldap_syntax as ldap_syntax
+pub use Rattle.filter_text.specs.ldap_words as ldap_words

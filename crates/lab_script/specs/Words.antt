@@ -6,7 +6,7 @@ use Rattle.lab_script.specs.Cuts.{Cut, cut}
 use Rattle.lab_script.specs.Each.{all_of}
 use Rattle.lab_script.specs.declared.token.Token.{Token}
 use Rattle.lab_script.specs.declared.token.Token.TheVariants.{Replicas, Deliver, Suspect, Beat, Crash, Recover, State, Number}
-pub use Rattle.lab_script.specs.ldap_syntax.Numbers.{greatest, with_digit, number_after, number_of_digits}
+pub use Rattle.lab_script.specs.ldap_words.Numbers.{greatest, with_digit, number_after, number_of_digits}
 
 -- What a word says: one of these seven, or a number.
 abbrev pub token_of : List ℕ → Option Token

@@ -2,7 +2,7 @@
 use Rattle.std.proofs.Common.{ℕ, List, Option, None, Some, Result, Err, IsOk, Bool, true, false, IsUtf8, ◌≡◌, refl, ap, sym}
 use Rattle.std.proofs.lemmas.Str.{is_utf8-from_IsUtf8, IsUtf8-from_is_utf8}
 use Rattle.std.specs.Str.{is_utf8}
-use Rattle.ldap_schema.specs.ldap_syntax.Meaning.{Meaning}
+use Rattle.ldap_syntax.specs.Meaning.{Meaning}
 use Rattle.ldap_dn.specs.Texts.{meant, text_of}
 
 pub meant_found : (m : Option Meaning) (k : Option (List ℕ)) (x : List ℕ) → (m ≡ None → ⊥) → k ≡ Some x → meant m k ≡ Some x

@@ -5,4 +5,4 @@ pub mod Parted
 pub mod NameTexts
 pub mod Rising
 pub mod KeysTold
-pub use Rattle.ldap_schema.proofs.ldap_syntax as ldap_syntax
+pub use Rattle.ldap_schema.proofs.ldap_words as ldap_words

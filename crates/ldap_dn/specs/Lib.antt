@@ -1,3 +1,5 @@
+pub mod Meaning
+pub mod Keyed
 pub mod Names
 pub mod Tokens
 pub mod Texts
@@ -11,6 +13,6 @@ pub mod OrderLaws
 pub mod NameKeys
 pub mod Pairs
 -- what layers above name of the crates below
-pub use Rattle.ldap_schema.specs.ldap_syntax as ldap_syntax
+pub use Rattle.ldap_schema.specs.ldap_words as ldap_words
+pub use Rattle.ldap_syntax.specs as ldap_syntax
 pub use Rattle.ldap_schema.specs as ldap_schema
-pub use Rattle.ldap_forms.specs as ldap_forms

@@ -3,13 +3,13 @@
 use Rattle.std.specs.Prelude.{ℕ, ◌+◌, take, drop, insert, slice_get, position, List, [], ◌∷◌, ◌++◌, map, reverse, Bool, false, not, cond, ◌||◌, Option, None, Some, nat_eq, nat_lt}
 use Rattle.std.specs.List.{list_all, slice_split, prefix_len}
 use Rattle.std.specs.Str.{is_utf8}
-use Rattle.ldap_schema.specs.ldap_syntax.Meaning.{Meaning}
-use Rattle.ldap_schema.specs.ldap_syntax.declared.rule.Family.{Family}
-use Rattle.ldap_schema.specs.ldap_syntax.declared.rule.Family.TheVariants as family
-use Rattle.ldap_schema.specs.ldap_syntax.declared.rule.Rule.{Rule}
+use Rattle.ldap_syntax.specs.Meaning.{Meaning}
+use Rattle.ldap_schema.specs.ldap_words.declared.rule.Family.{Family}
+use Rattle.ldap_schema.specs.ldap_words.declared.rule.Family.TheVariants as family
+use Rattle.ldap_schema.specs.ldap_words.declared.rule.Rule.{Rule}
 use Rattle.ldap_schema.specs.Schema.{SchemaModel, find}
-use Rattle.ldap_schema.specs.Meaning.{meaning}
-use Rattle.ldap_schema.specs.Keyed.{key_at}
+use Rattle.ldap_dn.specs.Meaning.{meaning}
+use Rattle.ldap_dn.specs.Keyed.{key_at}
 use Rattle.ldap_schema.specs.Rules.{equality_of}
 use Rattle.ldap_dn.specs.Names.{TypeAndValue, TypeAndKey, RdnModel}
 use Rattle.ldap_dn.specs.Tokens.{is_escapable, hex_octet, octet_of, is_plain, is_unescaped, is_space, trimmed}

@@ -15,7 +15,8 @@ use crate::printing::print;
 use crate::rdn::{Rdn, copy_rdns};
 use crate::reading::rdns as rdns_of_tokens;
 use crate::scanning::tokens;
-use ldap_schema::{Key, Schema};
+use ldap_schema::Schema;
+use ldap_syntax::Key;
 use std::alloc::{AllocError, Global};
 use std::marker::Model;
 

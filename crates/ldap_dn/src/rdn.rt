@@ -3,12 +3,12 @@
 
 ghost use Rattle.std.specs.Prelude.{◌≡◌, IfOk, string_bytes};
 ghost use Rattle.std.specs.Option.{option_copied};
-ghost use Rattle.ldap_forms.specs.Forms.{form_of};
+ghost use Rattle.ldap_syntax.specs.Forms.{form_of};
 ghost use Rattle.ldap_dn.specs.Pairs.{key_for};
 ghost use Rattle.ldap_dn.specs.Rising.{KeysAreRising};
 
-use ldap_forms::Form;
-use ldap_schema::{Key, TypeId};
+use ldap_schema::TypeId;
+use ldap_syntax::{Form, Key};
 use std::alloc::{AllocError, Global};
 use std::marker::Model;
 
@@ -30,7 +30,7 @@ impl Model for TypeAndValue {
     ghost view = { λ t. record { kind = t.type_id; value = string_bytes t.value } };
 
     ghost use Rattle.std.specs.Prelude.{◌≡◌};
-    ghost use Rattle.ldap_forms.specs.Forms.{form_of};
+    ghost use Rattle.ldap_syntax.specs.Forms.{form_of};
 
     ghost invariant = { λ t. t.form ≡ form_of (string_bytes t.value) };
 }

@@ -10,7 +10,9 @@ use crate::cutting::{is_plain, is_space, is_unescaped, octet_of, pieces, trimmed
 use crate::fault::NameError;
 use crate::rdn::{Rdn, TypeAndKey, TypeAndValue, written_of};
 use crate::token::Token;
-use ldap_schema::{Family, Key, Rule, Schema, TypeId, ValueError, equality_rule, key};
+use crate::value_keys::key;
+use ldap_schema::{Family, Rule, Schema, TypeId, equality_rule};
+use ldap_syntax::{Key, ValueError};
 use std::alloc::{AllocError, Global};
 
 /// The octets of the tokens.

@@ -5,7 +5,7 @@ use Rattle.std.proofs.lemmas.Option.{slice_get_past}
 use Rattle.std.specs.List.{list_any}
 use Rattle.dir_entry.specs.ldap_schema.Schema.{TypeModel, SchemaModel, find}
 use Rattle.dir_entry.specs.ldap_schema.Rules.{equality_in, equality_of}
-use Rattle.dir_entry.specs.ldap_syntax.declared.rule.Rule.{Rule}
+use Rattle.dir_entry.specs.ldap_words.declared.rule.Rule.{Rule}
 use Rattle.dir_entry.specs.ldap_match.Item.{equal, is_valid_by, is_of_rule, is_of_type}
 use Rattle.ldap_filter.specs.Item.{ExtensibleValue}
 use Rattle.dir_entry.specs.ldap_match.Truth.{truth_or, disjunction}

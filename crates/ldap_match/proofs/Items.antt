@@ -7,18 +7,18 @@ use Rattle.std.specs.Str.{bytes_eq}
 use Rattle.std.proofs.lemmas.Int.{ints}
 use Rattle.std.proofs.lemmas.Bool.Decides.{same_from_decides, Decides-int_eq}
 use Rattle.std.proofs.lemmas.Slice.Eq.{bytes_eq-Decides}
-use Rattle.ldap_dn.specs.ldap_syntax.Families.{is_ordering, has_substrings}
+use Rattle.ldap_dn.specs.ldap_words.Families.{is_ordering, has_substrings}
 use Rattle.ldap_dn.specs.ldap_syntax.Meaning as syntax_meaning
 use Rattle.ldap_dn.specs.ldap_syntax.Meaning.{Meaning, number, text, truth, octets, identifier, name, is_before, part_meaning, IsLessMeaning}
 use Rattle.ldap_dn.specs.ldap_syntax.Parts.{HasParts, MeaningHasParts}
 use Rattle.ldap_dn.specs.ldap_syntax.Keys as syntax_keys
 use Rattle.ldap_dn.specs.ldap_syntax.Keys.{KeysArePresentAsMeanings, KeysAreEqualAsMeanings, KeysAreOrderedAsMeanings, PartsStandAsMeanings}
 use Rattle.ldap_dn.specs.ldap_syntax.declared.preparing.Part.TheVariants.{Initial, Any, Final}
-use Rattle.ldap_dn.specs.ldap_syntax.declared.rule.Family.{Family}
-use Rattle.ldap_dn.specs.ldap_syntax.declared.rule.Family.TheVariants as family
-use Rattle.ldap_dn.specs.ldap_syntax.declared.rule.Rule.{Rule}
+use Rattle.ldap_dn.specs.ldap_words.declared.rule.Family.{Family}
+use Rattle.ldap_dn.specs.ldap_words.declared.rule.Family.TheVariants as family
+use Rattle.ldap_dn.specs.ldap_words.declared.rule.Rule.{Rule}
 use Rattle.ldap_dn.specs.ldap_schema.Schema.{SchemaModel, TypeModel}
-use Rattle.ldap_dn.specs.ldap_schema.Meaning.{dotted, identified}
+use Rattle.ldap_dn.specs.Meaning.{dotted, identified}
 use Rattle.ldap_dn.specs.ldap_schema.Rules.{equality_in, equality_of}
 use Rattle.ldap_dn.specs.NameKeys.{NameKeysAreOfNames}
 use Rattle.ldap_match.specs.Meaning.{meaning, meaning_by, name_of}
@@ -30,7 +30,7 @@ use Rattle.ldap_match.specs.declared.testing.Test.TheVariants as test
 use Rattle.ldap_match.specs.Keyed.{key_at, key_by, part_keys_at, test_of, test_by_rule, test_for, test_value, is_same_key, is_key_at_least, is_key_at_most, AreKeysBy, AreKeysOf}
 use Rattle.ldap_match.proofs.Decided.{parts_decides}
 use Rattle.ldap_match.proofs.Named.{names_decide, named_some, named_equal}
-use Rattle.ldap_dn.specs.ldap_syntax.Octets.{utf8_of}
+use Rattle.ldap_dn.specs.ldap_words.Octets.{utf8_of}
 
 -- whether meanings are equal, decided
 pub equal_decides : (m n : Meaning) → Decides (is_equal_meaning m n) (m ≡ n)

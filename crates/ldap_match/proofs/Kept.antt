@@ -1,12 +1,12 @@
 -- The rules that a type supports, against its EQUALITY rule. Facts on types flow in and out; no value of the program is here.
 use Rattle.std.proofs.Common.{ℕ, List, Bool, true, false, cond, ◌&&◌, ◌||◌, not, Option, None, Some, slice_get, ◌≡◌, refl, ap, ap₂, sym, ◌∙◌}
-use Rattle.ldap_dn.specs.ldap_syntax.Families.{is_used_on, is_textual, is_ordering}
+use Rattle.ldap_dn.specs.ldap_words.Families.{is_used_on, is_textual, is_ordering}
 use Rattle.ldap_dn.specs.ldap_syntax.Keys as syntax_keys
-use Rattle.ldap_dn.specs.ldap_syntax.declared.rule.Family.{Family}
-use Rattle.ldap_dn.specs.ldap_syntax.declared.rule.Family.TheVariants as family
-use Rattle.ldap_dn.specs.ldap_syntax.declared.rule.Rule.{Rule}
-use Rattle.ldap_dn.specs.ldap_syntax.declared.rule.Syntax.{Syntax}
-use Rattle.ldap_dn.specs.ldap_syntax.declared.rule.Syntax.TheVariants as syntax
+use Rattle.ldap_dn.specs.ldap_words.declared.rule.Family.{Family}
+use Rattle.ldap_dn.specs.ldap_words.declared.rule.Family.TheVariants as family
+use Rattle.ldap_dn.specs.ldap_words.declared.rule.Rule.{Rule}
+use Rattle.ldap_dn.specs.ldap_words.declared.rule.Syntax.{Syntax}
+use Rattle.ldap_dn.specs.ldap_words.declared.rule.Syntax.TheVariants as syntax
 use Rattle.ldap_dn.specs.ldap_schema.Schema.{SchemaModel, TypeModel}
 use Rattle.ldap_dn.specs.ldap_schema.Rules.{equality_in, equality_of}
 use Rattle.ldap_match.specs.Keyed.{key_at}

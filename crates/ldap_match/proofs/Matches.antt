@@ -1,10 +1,10 @@
 -- Tests made of items that name a rule, against the items. Facts on lists flow in and out; no value of the program is here.
 use Rattle.std.proofs.Common.{ℕ, List, [], ◌∷◌, Bool, true, false, cond, ◌||◌, Option, None, Some, is_some, ◌≡◌, refl, ap, ap₂, sym, subst, ◌∙◌, map}
 use Rattle.std.specs.List.{list_any}
-use Rattle.ldap_dn.specs.ldap_syntax.Families.{is_used_on, is_textual, is_ordering}
+use Rattle.ldap_dn.specs.ldap_words.Families.{is_used_on, is_textual, is_ordering}
 use Rattle.ldap_dn.specs.ldap_syntax.Meaning.{Meaning}
-use Rattle.ldap_dn.specs.ldap_syntax.declared.rule.Rule.{Rule}
-use Rattle.ldap_dn.specs.ldap_forms.Forms.{is_met, is_met_by, is_text_met, TextsTell}
+use Rattle.ldap_dn.specs.ldap_words.declared.rule.Rule.{Rule}
+use Rattle.ldap_dn.specs.ldap_syntax.Forms.{is_met, is_met_by, is_text_met, TextsTell}
 use Rattle.ldap_dn.specs.ldap_schema.Schema.{SchemaModel}
 use Rattle.ldap_dn.specs.Pairs.{PairModel}
 use Rattle.ldap_match.specs.Meaning.{meaning}

@@ -1,14 +1,14 @@
 -- Rules that are of another family than names. Facts on values flow in and out; names are not here.
 use Rattle.std.proofs.Common.{ℕ, List, true, Option, None, Some, is_some, Result, Ok, Err, OnOk, ◌≡◌, refl}
 use Rattle.ldap_dn.specs.ldap_syntax.Meaning.{Meaning}
-use Rattle.ldap_dn.specs.ldap_syntax.declared.rule.Family.{Family}
-use Rattle.ldap_dn.specs.ldap_syntax.declared.rule.Family.TheVariants as family
-use Rattle.ldap_dn.specs.ldap_syntax.declared.rule.Rule.{Rule}
+use Rattle.ldap_dn.specs.ldap_words.declared.rule.Family.{Family}
+use Rattle.ldap_dn.specs.ldap_words.declared.rule.Family.TheVariants as family
+use Rattle.ldap_dn.specs.ldap_words.declared.rule.Rule.{Rule}
 use Rattle.ldap_dn.specs.ldap_syntax.declared.fault.ValueError.{ValueError}
 use Rattle.ldap_dn.specs.ldap_syntax.declared.fault.ValueError.TheVariants.{NotInSyntax}
 use Rattle.ldap_dn.specs.ldap_schema.Schema.{SchemaModel}
-use Rattle.ldap_dn.specs.ldap_schema.Meaning as plain
-use Rattle.ldap_dn.specs.ldap_schema.Keyed as plain_keys
+use Rattle.ldap_dn.specs.Meaning as plain
+use Rattle.ldap_dn.specs.Keyed as plain_keys
 use Rattle.ldap_match.specs.Meaning.{meaning, meaning_by}
 use Rattle.ldap_match.specs.Keyed.{key_at, key_by}
 

@@ -7,15 +7,15 @@ use Rattle.std.specs.List.{list_any}
 use Rattle.std.specs.Str.{bytes_eq}
 use Rattle.std.specs.Ordering.{int_eq}
 use Rattle.ldap_dn.specs.ldap_syntax.Syntaxes as syntax
-use Rattle.ldap_dn.specs.ldap_syntax.Families.{is_ordering, has_substrings}
+use Rattle.ldap_dn.specs.ldap_words.Families.{is_ordering, has_substrings}
 use Rattle.ldap_dn.specs.ldap_syntax.Meaning.{Meaning, number, text, truth, octets, identifier, name, is_before, part_meaning}
 use Rattle.ldap_dn.specs.ldap_syntax.declared.preparing.Part.TheVariants.{Initial, Any, Final}
-use Rattle.ldap_dn.specs.ldap_syntax.declared.rule.Family.{Family}
-use Rattle.ldap_dn.specs.ldap_syntax.declared.rule.Rule.{Rule}
-use Rattle.ldap_dn.specs.ldap_syntax.declared.rule.Syntax.{Syntax}
-use Rattle.ldap_dn.specs.ldap_syntax.declared.rule.Syntax.TheVariants as syntax_of
+use Rattle.ldap_dn.specs.ldap_words.declared.rule.Family.{Family}
+use Rattle.ldap_dn.specs.ldap_words.declared.rule.Rule.{Rule}
+use Rattle.ldap_dn.specs.ldap_words.declared.rule.Syntax.{Syntax}
+use Rattle.ldap_dn.specs.ldap_words.declared.rule.Syntax.TheVariants as syntax_of
 use Rattle.ldap_dn.specs.ldap_schema.Schema.{SchemaModel, TypeModel}
-use Rattle.ldap_dn.specs.ldap_schema.Meaning.{dotted}
+use Rattle.ldap_dn.specs.Meaning.{dotted}
 use Rattle.ldap_dn.specs.ldap_schema.Rules.{equality_of}
 use Rattle.ldap_match.specs.Meaning.{name_of, meaning}
 use Rattle.ldap_match.specs.Parts.{PartsModel, has_parts}

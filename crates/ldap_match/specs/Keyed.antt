@@ -5,11 +5,11 @@ use Rattle.std.specs.Str.{bytes_eq}
 use Rattle.ldap_dn.specs.ldap_syntax.Keys as syntax
 use Rattle.ldap_dn.specs.ldap_syntax.Meaning.{is_before}
 use Rattle.ldap_dn.specs.ldap_syntax.declared.preparing.Part.TheVariants.{Initial, Any, Final}
-use Rattle.ldap_dn.specs.ldap_syntax.declared.rule.Family.{Family}
-use Rattle.ldap_dn.specs.ldap_syntax.declared.rule.Family.TheVariants as family
-use Rattle.ldap_dn.specs.ldap_syntax.declared.rule.Rule.{Rule}
+use Rattle.ldap_dn.specs.ldap_words.declared.rule.Family.{Family}
+use Rattle.ldap_dn.specs.ldap_words.declared.rule.Family.TheVariants as family
+use Rattle.ldap_dn.specs.ldap_words.declared.rule.Rule.{Rule}
 use Rattle.ldap_dn.specs.ldap_schema.Schema.{SchemaModel}
-use Rattle.ldap_dn.specs.ldap_schema.Keyed as plain
+use Rattle.ldap_dn.specs.Keyed as plain
 use Rattle.ldap_dn.specs.ldap_schema.Rules.{equality_of}
 use Rattle.ldap_dn.specs.Names.{RdnModel, rdns}
 use Rattle.ldap_dn.specs.NameKeys.{name_key}

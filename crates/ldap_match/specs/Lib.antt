@@ -7,7 +7,7 @@ pub mod NameValues
 pub mod Matching
 pub mod Matched
 -- what layers above name of the crates below
+pub use Rattle.ldap_dn.specs.ldap_words as ldap_words
 pub use Rattle.ldap_dn.specs.ldap_syntax as ldap_syntax
 pub use Rattle.ldap_dn.specs.ldap_schema as ldap_schema
-pub use Rattle.ldap_dn.specs.ldap_forms as ldap_forms
 pub use Rattle.ldap_dn.specs as ldap_dn

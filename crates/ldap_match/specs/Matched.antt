@@ -1,8 +1,8 @@
 -- Tests made of items that name a rule, on the keys and the texts of values. Only the evaluation of filters names them.
 use Rattle.std.specs.Prelude.{ℕ, List, Bool, cond, Option, None, Some}
 use Rattle.std.specs.List.{list_any}
-use Rattle.ldap_dn.specs.ldap_syntax.declared.rule.Rule.{Rule}
-use Rattle.ldap_dn.specs.ldap_forms.Forms.{is_met, is_met_by, is_text_met}
+use Rattle.ldap_dn.specs.ldap_words.declared.rule.Rule.{Rule}
+use Rattle.ldap_dn.specs.ldap_syntax.Forms.{is_met, is_met_by, is_text_met}
 use Rattle.ldap_dn.specs.ldap_schema.Schema.{SchemaModel}
 use Rattle.ldap_dn.specs.Pairs.{PairModel}
 use Rattle.ldap_match.specs.Truth.{truth_of}

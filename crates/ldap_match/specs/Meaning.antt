@@ -3,11 +3,11 @@
 use Rattle.std.specs.Prelude.{ℕ, List, map, cond, Option, None, option_map}
 use Rattle.std.specs.Str.{is_utf8}
 use Rattle.ldap_dn.specs.ldap_syntax.Meaning.{Meaning, name}
-use Rattle.ldap_dn.specs.ldap_syntax.declared.rule.Family.{Family}
-use Rattle.ldap_dn.specs.ldap_syntax.declared.rule.Family.TheVariants as family
-use Rattle.ldap_dn.specs.ldap_syntax.declared.rule.Rule.{Rule}
+use Rattle.ldap_dn.specs.ldap_words.declared.rule.Family.{Family}
+use Rattle.ldap_dn.specs.ldap_words.declared.rule.Family.TheVariants as family
+use Rattle.ldap_dn.specs.ldap_words.declared.rule.Rule.{Rule}
 use Rattle.ldap_dn.specs.ldap_schema.Schema.{SchemaModel}
-use Rattle.ldap_dn.specs.ldap_schema.Meaning as plain
+use Rattle.ldap_dn.specs.Meaning as plain
 use Rattle.ldap_dn.specs.Names.{TypeAndKey, RdnModel, rdns}
 use Rattle.ldap_dn.specs.Texts.{name_of_text}
 

@@ -2,7 +2,7 @@
 // that it is not in the syntax, flows out. What must not be here: attributes, entries.
 
 ghost use Rattle.std.specs.Prelude.{◌≡◌, ◌≢◌, true, IfOk, OnOk, IsErrOf, None, Some, is_some};
-ghost use Rattle.ldap_dn.specs.ldap_syntax.declared.rule.Family.TheVariants as family_of;
+ghost use Rattle.ldap_dn.specs.ldap_words.declared.rule.Family.TheVariants as family_of;
 ghost use Rattle.ldap_match.specs.Meaning.{meaning};
 ghost use Rattle.ldap_match.specs.Item.{equal, at_least, at_most, is_answerable, is_of_syntax as is_of_type_syntax, is_in_syntax as is_in_schema_syntax};
 ghost use Rattle.ldap_match.specs.Keyed.{key_at};

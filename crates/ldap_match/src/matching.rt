@@ -5,7 +5,7 @@ ghost use Rattle.std.specs.Prelude.{◌≡◌, ℕ, List, IfOk, map};
 ghost use Rattle.std.specs.List.{list_any};
 ghost use Rattle.std.specs.Option.{option_copied};
 ghost use Rattle.ldap_dn.specs.ldap_schema.Schema.{SchemaModel};
-ghost use Rattle.ldap_dn.specs.ldap_forms.Forms.{form_of, is_met, is_met_by, is_text_met};
+ghost use Rattle.ldap_dn.specs.ldap_syntax.Forms.{form_of, is_met, is_met_by, is_text_met};
 ghost use Rattle.ldap_dn.specs.Pairs.{PairModel};
 ghost use Rattle.ldap_match.specs.Truth.{truth_of};
 ghost use Rattle.ldap_match.specs.Item.{is_valid_by};

@@ -2,7 +2,7 @@
 // What must not be here: values, keys, entries.
 
 ghost use Rattle.std.specs.Prelude.{◌≡◌, ◌&&◌};
-ghost use Rattle.ldap_dn.specs.ldap_syntax.Families.{is_textual, is_used_on as is_family_used_on};
+ghost use Rattle.ldap_dn.specs.ldap_words.Families.{is_textual, is_used_on as is_family_used_on};
 ghost use Rattle.ldap_match.specs.Matching as matching;
 
 use ldap_dn::{

@@ -7,4 +7,4 @@ pub mod Sought
 pub mod Indexed
 pub mod Ordered
 pub mod Ranked
-pub use Rattle.ldap_syntax.proofs as ldap_syntax
+pub use Rattle.ldap_words.proofs as ldap_words

@@ -11,7 +11,7 @@ use Rattle.std.proofs.lemmas.Cmp.{nat_list_cmp_total, nat_list_eq_equiv, alike_r
 use Rattle.std.proofs.lemmas.List.Sorted.{searchable_from_sorted}
 use Rattle.std.proofs.lemmas.Map.{NonePasses, lookup-none, lookup-insert}
 use Rattle.ldap_schema.specs.NameOrder.{order, number_at, kept_or, IsBefore, IsInOrder}
-pub use Rattle.ldap_syntax.proofs.OctetOrder.{all_at, turned, turned_back, same_is, other_is, above_is}
+pub use Rattle.ldap_words.proofs.OctetOrder.{all_at, turned, turned_back, same_is, other_is, above_is}
 
 abbrev pub Entries : Type 0
 Entries = List (List ℕ × ℕ)

@@ -2,7 +2,7 @@
 use Rattle.std.proofs.Common.{ℕ, ◌+◌, ◌-◌, ◌<◌, zero, suc, List, [], ◌∷◌, ◌++◌, Bool, true, false, ◌||◌, None, Some, ◌≡◌, refl, ap, sym, ◌∙◌, map, length, nat_eq, drop, get_or, append_assoc, arith}
 use Rattle.std.specs.List.{list_any, position_from}
 use Rattle.ldap_schema.specs.Schema.{TypeModel, superior_of, superiors}
-pub use Rattle.ldap_syntax.proofs.NumbersKept.{opened}
+pub use Rattle.ldap_words.proofs.NumbersKept.{opened}
 
 pub found_here : {A : Type 0} (p : A → Bool) (xs : List A) (i : ℕ) (x : A) → i < length xs → x ≡ get_or xs i x → p x ≡ true → position_from p i (drop i xs) ≡ Some i
 found_here p xs i x lt is h = rw (opened xs i x lt is, h) refl

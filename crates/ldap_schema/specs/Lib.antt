@@ -5,8 +5,6 @@ pub mod ObjectClassType
 pub mod Marks
 pub mod Lines
 pub mod Tables
-pub mod Meaning
-pub mod Keyed
 pub mod Rules
 -- what layers above name of the crates below
-pub use Rattle.ldap_syntax.specs as ldap_syntax
+pub use Rattle.ldap_words.specs as ldap_words

@@ -5,7 +5,7 @@ use Rattle.std.specs.Map.{lookup}
 use Rattle.std.specs.Str.{bytes_eq}
 use Rattle.std.specs.List.{AllByRecursion}
 use Rattle.std.specs.Char.{to_ascii_lowercase}
-pub use Rattle.ldap_syntax.specs.NameOrder.{order, kept_or, lower, has_name}
+pub use Rattle.ldap_words.specs.NameOrder.{order, kept_or, lower, has_name}
 
 -- the number that is kept at a name
 abbrev pub number_at : List (List ℕ × ℕ) → List ℕ → Option ℕ

@@ -1,8 +1,8 @@
 -- The type objectClass: RFC 4512 3.3. A schema flows in, the number of the type flows out; the classes of an entry are not here.
 use Rattle.std.specs.Prelude.{ℕ, codes, Option, Some, ◌≡◌, slice_get}
-use Rattle.ldap_syntax.specs.declared.rule.Rule.{Rule}
-use Rattle.ldap_syntax.specs.declared.rule.Family.TheVariants as family
-use Rattle.ldap_syntax.specs.declared.rule.Syntax.TheVariants as syntax
+use Rattle.ldap_words.specs.declared.rule.Rule.{Rule}
+use Rattle.ldap_words.specs.declared.rule.Family.TheVariants as family
+use Rattle.ldap_words.specs.declared.rule.Syntax.TheVariants as syntax
 use Rattle.ldap_schema.specs.Schema.{TypeModel, SchemaModel, find}
 
 -- the type objectClass

@@ -3,10 +3,10 @@
 use Rattle.std.specs.Prelude.{ℕ, zero, suc, ◌+◌, List, [], ◌∷◌, Bool, true, false, ◌&&◌, ◌||◌, Option, None, Some, ◌≡◌, nat_eq, length, slice_get}
 use Rattle.std.specs.List.{list_any, position_from}
 use Rattle.std.specs.Str.{bytes_eq}
-use Rattle.ldap_syntax.specs.declared.rule.Rule.{Rule}
-use Rattle.ldap_syntax.specs.declared.rule.Syntax.{Syntax}
+use Rattle.ldap_words.specs.declared.rule.Rule.{Rule}
+use Rattle.ldap_words.specs.declared.rule.Syntax.{Syntax}
 use Rattle.ldap_schema.specs.declared.class.ClassKind.{ClassKind}
-pub use Rattle.ldap_syntax.specs.Words.{is_same_word as is_same_name}
+pub use Rattle.ldap_words.specs.Words.{is_same_word as is_same_name}
 
 -- An attribute type: its names with the first one first, the number of its superior type, and what is in effect for it,
 -- own or inherited (RFC 4512 4.1.2).

@@ -4,7 +4,7 @@
 ghost use Rattle.std.specs.Prelude.{◌≡◌, map, ℕ};
 ghost use Rattle.std.specs.String.{string_bytes};
 
-use ldap_syntax::{Rule, Syntax};
+use ldap_words::{Rule, Syntax};
 use std::marker::Model;
 
 /// A type by its number in one schema.

@@ -13,7 +13,7 @@ ghost use Rattle.ldap_schema.specs.Schema.{is_called};
 use crate::attribute_type::AttributeType;
 use crate::class::ObjectClass;
 use crate::name_table::NameTable;
-use ldap_syntax::lower_case;
+use ldap_words::lower_case;
 use std::alloc::{AllocError, Global};
 use std::marker::Model;
 

@@ -6,7 +6,7 @@ ghost use Rattle.std.specs.Char.{to_ascii_lowercase};
 ghost use Rattle.std.specs.Str.{bytes_eq};
 ghost use Rattle.ldap_schema.specs.NameOrder.{order, number_at, kept_or};
 
-use ldap_syntax::compare_folded;
+use ldap_words::compare_folded;
 use std::alloc::{AllocError, Global};
 use std::cmp::Ordering;
 use std::marker::Model;

@@ -7,21 +7,21 @@ use Rattle.std.proofs.lemmas.Int.Digits.{number_after_ge}
 use Rattle.std.proofs.lemmas.Slice.Eq.{bytes_eq-Decides}
 use Rattle.std.proofs.lemmas.Str.{encodes_same}
 use Rattle.std.specs.Str.{bytes_eq}
-use Rattle.ldap_syntax.specs.Numbers.{is_integer, is_whole, is_number, are_digits, number_of, decimal}
-use Rattle.ldap_syntax.specs.Identifiers.{is_numericoid}
+use Rattle.ldap_words.specs.Numbers.{is_integer, is_whole, is_number, are_digits, number_of, decimal}
+use Rattle.ldap_words.specs.Identifiers.{is_numericoid}
 use Rattle.ldap_syntax.specs.Times.{is_time}
 use Rattle.ldap_syntax.specs.Syntaxes.{is_in_syntax, is_boolean, true_octets, false_octets}
-use Rattle.ldap_syntax.specs.Families.{is_ordering, has_substrings}
+use Rattle.ldap_words.specs.Families.{is_ordering, has_substrings}
 use Rattle.ldap_syntax.specs.Meaning.{Meaning, number, text, truth, octets, identifier, as_text, spelled, meaning_in, is_before, IsLessMeaning}
 use Rattle.ldap_syntax.specs.Parts.{HasParts, MeaningHasParts}
 use Rattle.ldap_syntax.specs.Keys.{counted, turned, number_key, key_in, KeysArePresentAsMeanings, KeysAreEqualAsMeanings, KeysAreOrderedAsMeanings, PartsStandAsMeanings}
 use Rattle.ldap_syntax.specs.declared.preparing.Part.TheVariants.{Whole}
-use Rattle.ldap_syntax.specs.declared.rule.Family.{Family}
-use Rattle.ldap_syntax.specs.declared.rule.Family.TheVariants as family
+use Rattle.ldap_words.specs.declared.rule.Family.{Family}
+use Rattle.ldap_words.specs.declared.rule.Family.TheVariants as family
 use Rattle.ldap_syntax.proofs.Digits.{Numbers, less, same, more, numbers, whole_is_written, number_is_written, not_before_itself, not_both_before, and_left, head_same}
 use Rattle.ldap_syntax.proofs.Utf8.{octets_in_order}
 use Rattle.ldap_syntax.proofs.Seams.{parts}
-use Rattle.ldap_syntax.specs.Octets.{utf8_of}
+use Rattle.ldap_words.specs.Octets.{utf8_of}
 
 -- what stands behind a test that passed
 pub passed : {A : Type 0} (b : Bool) (o : Option A) (x : A) → cond b o None ≡ Some x → o ≡ Some x

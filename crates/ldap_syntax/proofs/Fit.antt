@@ -5,15 +5,15 @@ use Rattle.std.proofs.lemmas.Bool.Decides.{nat_tests}
 use Rattle.std.proofs.lemmas.Str.{IsUtf8-from_ascii, is_utf8-from_IsUtf8}
 use Rattle.std.specs.List.{list_all}
 use Rattle.std.specs.Str.{is_utf8}
-use Rattle.ldap_syntax.specs.Numbers.{is_digit}
+use Rattle.ldap_words.specs.Numbers.{is_digit}
 use Rattle.ldap_syntax.specs.Syntaxes.{is_in_syntax, has_octets, is_ascii, is_all_ascii, are_digits_or_spaces, is_printable, are_printable}
-use Rattle.ldap_syntax.specs.Families.{is_textual, is_used_on}
+use Rattle.ldap_words.specs.Families.{is_textual, is_used_on}
 use Rattle.ldap_syntax.specs.Meaning.{Meaning, as_text, spelled, meaning_in, ValuesOfTheSyntaxMean}
 use Rattle.ldap_syntax.specs.declared.preparing.Part.TheVariants.{Whole}
-use Rattle.ldap_syntax.specs.declared.rule.Family.{Family}
-use Rattle.ldap_syntax.specs.declared.rule.Family.TheVariants as family
-use Rattle.ldap_syntax.specs.declared.rule.Syntax.{Syntax}
-use Rattle.ldap_syntax.specs.declared.rule.Syntax.TheVariants as syntax
+use Rattle.ldap_words.specs.declared.rule.Family.{Family}
+use Rattle.ldap_words.specs.declared.rule.Family.TheVariants as family
+use Rattle.ldap_words.specs.declared.rule.Syntax.{Syntax}
+use Rattle.ldap_words.specs.declared.rule.Syntax.TheVariants as syntax
 use Rattle.ldap_syntax.proofs.Digits.{and_left, and_right}
 
 small_octet : (v : List ℕ) → is_all_ascii v ≡ true → (i : ℕ) → get_or v i 0 < 128

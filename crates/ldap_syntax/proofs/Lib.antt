@@ -8,6 +8,5 @@ pub mod Present
 pub mod Compare
 pub mod Search
 pub mod Seams
-pub mod Numbers
-pub mod NumbersKept
-pub mod OctetOrder
+pub mod Told
+pub mod Orders

@@ -1,14 +1,14 @@
 -- Keys that are there because a meaning is. Facts on values flow in and out; how keys compare is not here.
 use Rattle.std.proofs.Common.{ℕ, List, Bool, true, false, cond, Option, None, Some, is_some, ◌≡◌, refl, sym, subst, ◌⊎◌, inl, inr}
-use Rattle.ldap_syntax.specs.Numbers.{is_integer}
-use Rattle.ldap_syntax.specs.Identifiers.{is_numericoid}
+use Rattle.ldap_words.specs.Numbers.{is_integer}
+use Rattle.ldap_words.specs.Identifiers.{is_numericoid}
 use Rattle.ldap_syntax.specs.Times.{is_time}
 use Rattle.ldap_syntax.specs.Syntaxes.{is_in_syntax, is_boolean}
 use Rattle.ldap_syntax.specs.Meaning.{Meaning, meaning_in, meaning}
 use Rattle.ldap_syntax.specs.Keys.{number_key, key_in, key_at}
-use Rattle.ldap_syntax.specs.declared.rule.Family.{Family}
-use Rattle.ldap_syntax.specs.declared.rule.Family.TheVariants as family
-use Rattle.ldap_syntax.specs.declared.rule.Rule.{Rule}
+use Rattle.ldap_words.specs.declared.rule.Family.{Family}
+use Rattle.ldap_words.specs.declared.rule.Family.TheVariants as family
+use Rattle.ldap_words.specs.declared.rule.Rule.{Rule}
 
 pub none_is : {A : Type 0} (o : Option A) → is_some o ≡ false → o ≡ None
 none_is None e = refl

@@ -5,7 +5,7 @@ use lib.Utf8.{encode}
 use Rattle.ldap_syntax.specs.Parts.{StandInOrder, HasParts, part_or_nothing}
 use Rattle.ldap_syntax.proofs.Search.{later}
 use Rattle.ldap_syntax.proofs.Utf8.{Spelled, in_one, in_two, in_three, in_four, spelled}
-use Rattle.ldap_syntax.specs.Octets.{utf8_of}
+use Rattle.ldap_words.specs.Octets.{utf8_of}
 
 -- an octet that begins no character
 pub record IsNext (b : ℕ) : Type 0 where

@@ -1,18 +1,18 @@
 -- Keys: octets that are equal, and in byte order, as meanings are. No statement above the evaluation of filters names them.
 use Rattle.std.specs.Prelude.{ℕ, ◌-◌, List, [], ◌∷◌, ◌++◌, true, cond, nat_eq, map, Option, None, Some, is_some, encode_utf8_all, ◌≡◌, ◌↔◌}
-use Rattle.ldap_syntax.specs.Numbers.{is_integer}
-use Rattle.ldap_syntax.specs.Identifiers.{is_numericoid}
+use Rattle.ldap_words.specs.Numbers.{is_integer}
+use Rattle.ldap_words.specs.Identifiers.{is_numericoid}
 use Rattle.ldap_syntax.specs.Times.{is_time}
 use Rattle.ldap_syntax.specs.Syntaxes.{is_in_syntax, is_boolean}
-use Rattle.ldap_syntax.specs.Families.{is_ordering, has_substrings}
+use Rattle.ldap_words.specs.Families.{is_ordering, has_substrings}
 use Rattle.ldap_syntax.specs.Meaning.{Meaning, spelled, meaning, part_meaning, is_before, IsLessMeaning}
 use Rattle.ldap_syntax.specs.Parts.{HasParts, MeaningHasParts}
 use Rattle.ldap_syntax.specs.declared.preparing.Part.{Part}
 use Rattle.ldap_syntax.specs.declared.preparing.Part.TheVariants.{Whole}
-use Rattle.ldap_syntax.specs.declared.rule.Family.{Family}
-use Rattle.ldap_syntax.specs.declared.rule.Family.TheVariants as family
-use Rattle.ldap_syntax.specs.declared.rule.Rule.{Rule}
-use Rattle.ldap_syntax.specs.Octets.{utf8_of}
+use Rattle.ldap_words.specs.declared.rule.Family.{Family}
+use Rattle.ldap_words.specs.declared.rule.Family.TheVariants as family
+use Rattle.ldap_words.specs.declared.rule.Rule.{Rule}
+use Rattle.ldap_words.specs.Octets.{utf8_of}
 
 -- digits behind their count, written as so many ones and a zero
 abbrev pub counted : List ℕ → List ℕ

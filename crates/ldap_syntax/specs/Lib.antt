@@ -1,14 +1,10 @@
 pub mod Text
-pub mod Numbers
-pub mod Octets
-pub mod Words
-pub mod Hexadecimal
-pub mod NameOrder
-pub mod Identifiers
 pub mod Times
 pub mod Syntaxes
-pub mod Families
 pub mod Meaning
 pub mod Parts
 pub mod Keys
-pub mod RulesByName
+pub mod Forms
+pub mod Styles
+-- what layers above name of the crates below
+pub use Rattle.ldap_words.specs as ldap_words

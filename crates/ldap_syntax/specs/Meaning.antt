@@ -2,16 +2,16 @@
 use Rattle.std.specs.Prelude.{ℕ, ℤ, ◌<ℤ◌, List, [], ◌∷◌, Bool, true, false, cond, ◌&&◌, ◌||◌, nat_eq, nat_lt, Option, None, Some, is_some, chars, ◌≡◌}
 use Rattle.std.specs.Str.{bytes_eq, is_utf8}
 use Rattle.ldap_syntax.specs.Text.{prepared}
-use Rattle.ldap_syntax.specs.Numbers.{is_integer, number_of}
-use Rattle.ldap_syntax.specs.Identifiers.{is_numericoid}
+use Rattle.ldap_words.specs.Numbers.{is_integer, number_of}
+use Rattle.ldap_words.specs.Identifiers.{is_numericoid}
 use Rattle.ldap_syntax.specs.Times.{is_time}
 use Rattle.ldap_syntax.specs.Syntaxes.{is_in_syntax, is_part_of, is_boolean, true_octets}
-use Rattle.ldap_syntax.specs.Families.{has_substrings, is_used_on}
+use Rattle.ldap_words.specs.Families.{has_substrings, is_used_on}
 use Rattle.ldap_syntax.specs.declared.preparing.Part.{Part}
 use Rattle.ldap_syntax.specs.declared.preparing.Part.TheVariants.{Whole}
-use Rattle.ldap_syntax.specs.declared.rule.Family.{Family}
-use Rattle.ldap_syntax.specs.declared.rule.Family.TheVariants as family
-use Rattle.ldap_syntax.specs.declared.rule.Rule.{Rule}
+use Rattle.ldap_words.specs.declared.rule.Family.{Family}
+use Rattle.ldap_words.specs.declared.rule.Family.TheVariants as family
+use Rattle.ldap_words.specs.declared.rule.Rule.{Rule}
 
 -- what a value means: a whole number of any size, a prepared text as its characters, a truth value, octets, an object
 -- identifier, or a name: its relative names, root first, each its types in rising order with the keys of their values

@@ -1,6 +1,7 @@
 -- Parts of a text: RFC 4517 4.2.6 and its kin. Texts flow in, a statement flows out; how parts are looked for is not here.
-use Rattle.std.specs.Prelude.{ℕ, List, [], ◌∷◌, ◌++◌, Option, None, Some, ◌≡◌}
+use Rattle.std.specs.Prelude.{ℕ, List, [], ◌∷◌, ◌++◌, Option, ◌≡◌}
 use Rattle.ldap_syntax.specs.Meaning.{Meaning, text}
+pub use Rattle.ldap_words.specs.Words.{part_or_nothing}
 
 -- a part stands in the text, and what follows it is as it has to be
 pub record Stands (part : List ℕ) (Rest : List ℕ → Type 0) (whole : List ℕ) : Type 0 where
@@ -13,10 +14,6 @@ pub record Stands (part : List ℕ) (Rest : List ℕ → Type 0) (whole : List �
 abbrev pub StandInOrder : List (List ℕ) → List ℕ → Type 0
 StandInOrder [] whole = Unit {0}
 StandInOrder (p ∷ ps) whole = Stands p (StandInOrder ps) whole
-
-abbrev pub part_or_nothing : Option (List ℕ) → List ℕ
-part_or_nothing None = []
-part_or_nothing (Some p) = p
 
 -- The initial part stands at the start, the final part at the end, and the others between them in order, none over another.
 pub record HasParts (initial : Option (List ℕ)) (any : List (List ℕ)) (final : Option (List ℕ)) (whole : List ℕ) : Type 0 where

@@ -2,11 +2,11 @@
 use Rattle.std.specs.Prelude.{ℕ, List, [], ◌∷◌, Bool, true, false, ◌&&◌, ◌||◌, nat_eq, nat_lt, nat_le}
 use Rattle.std.specs.List.{list_all}
 use Rattle.std.specs.Str.{bytes_eq, is_utf8}
-use Rattle.ldap_syntax.specs.Numbers.{is_digit, is_integer}
-use Rattle.ldap_syntax.specs.Identifiers.{is_numericoid}
+use Rattle.ldap_words.specs.Numbers.{is_digit, is_integer}
+use Rattle.ldap_words.specs.Identifiers.{is_numericoid}
 use Rattle.ldap_syntax.specs.Times.{is_time}
-use Rattle.ldap_syntax.specs.declared.rule.Syntax.{Syntax}
-use Rattle.ldap_syntax.specs.declared.rule.Syntax.TheVariants as syntax
+use Rattle.ldap_words.specs.declared.rule.Syntax.{Syntax}
+use Rattle.ldap_words.specs.declared.rule.Syntax.TheVariants as syntax
 
 abbrev pub has_octets : List ℕ → Bool
 has_octets [] = false

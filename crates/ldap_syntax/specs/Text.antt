@@ -3,8 +3,8 @@
 use Rattle.std.specs.Prelude.{ℕ, List, [], ◌∷◌, ◌++◌, Bool, true, false, cond, ◌&&◌, ◌||◌, not, nat_eq, nat_le, map, filter}
 use Rattle.unicode_normalization.specs.Forms.{nfkc}
 use Rattle.caseless.specs.Caseless.{default_case_fold}
-use Rattle.ldap_syntax.specs.declared.rule.Family.{Family}
-use Rattle.ldap_syntax.specs.declared.rule.Family.TheVariants.{Identifier, Name, Ignore, Exact, Numeric, Boolean, Integer, Octet, Telephone, Time, Ia5, Ia5Exact}
+use Rattle.ldap_words.specs.declared.rule.Family.{Family}
+use Rattle.ldap_words.specs.declared.rule.Family.TheVariants.{Identifier, Name, Ignore, Exact, Numeric, Boolean, Integer, Octet, Telephone, Time, Ia5, Ia5Exact}
 use Rattle.ldap_syntax.specs.declared.preparing.Part.{Part}
 use Rattle.ldap_syntax.specs.declared.preparing.Part.TheVariants.{Whole, Initial, Any, Final}
 

@@ -1,6 +1,6 @@
 -- Times as they are written: RFC 4517 3.3.13, of which this project takes one form. Octets flow in, a yes or no flows out.
 use Rattle.std.specs.Prelude.{ℕ, ◌+◌, ◌*◌, ◌-◌, List, [], ◌∷◌, Bool, false, ◌&&◌, nat_eq, nat_le}
-use Rattle.ldap_syntax.specs.Numbers.{is_digit}
+use Rattle.ldap_words.specs.Numbers.{is_digit}
 
 -- two digits that write a number from low to high
 abbrev pub is_field : ℕ → ℕ → ℕ → ℕ → Bool

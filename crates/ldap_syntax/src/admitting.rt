@@ -5,10 +5,8 @@ ghost use Rattle.std.specs.Prelude.{◌≡◌, cond, Some, None, option_map};
 ghost use Rattle.std.specs.Str.{is_utf8};
 ghost use Rattle.ldap_syntax.specs.Syntaxes.{is_in_syntax as is_in_the_syntax, is_part_of as is_part_of_syntax, has_characters_of as has_its_characters, is_all_ascii, are_digits_or_spaces as are_all_digits_or_spaces, is_printable as is_printable_octet, are_printable as are_all_printable, is_boolean as is_boolean_text};
 
-use crate::identifying::is_numericoid;
-use crate::numbering::{is_digit, is_integer};
-use crate::rule::Syntax;
 use crate::timing::is_time;
+use ldap_words::{Syntax, is_digit, is_integer, is_numericoid};
 use std::str;
 
 /// Whether the value is in the syntax (RFC 4517 3.3). Without a schema no value is a distinguished name, and only a dotted

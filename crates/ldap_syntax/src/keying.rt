@@ -3,18 +3,16 @@
 
 ghost use Rattle.std.specs.Prelude.{◌≡◌, ◌↔◌, None, Some, IfOk, IsErrOf, is_some};
 ghost use Rattle.ldap_syntax.specs.Meaning.{spelled, meaning, part_meaning, ValuesOfTheSyntaxMean};
-ghost use Rattle.ldap_syntax.specs.Octets.{utf8_of};
+ghost use Rattle.ldap_words.specs.Octets.{utf8_of};
 ghost use Rattle.ldap_syntax.specs.Keys.{key_at, key_in, part_key_at, KeysArePresentAsMeanings, KeysAreEqualAsMeanings, KeysAreOrderedAsMeanings, PartsStandAsMeanings};
 
 use crate::admitting::{is_boolean, is_in_syntax, is_part_of, text_of};
 use crate::fault::ValueError;
-use crate::identifying::is_numericoid;
 use crate::key::Key;
-use crate::numbering::{is_integer, number_key};
-use crate::offering::has_substrings;
+use crate::number_keys::number_key;
 use crate::preparing::{Part, prepare};
-use crate::rule::{Family, Rule};
 use crate::timing::is_time;
+use ldap_words::{Family, Rule, has_substrings, is_integer, is_numericoid};
 use std::alloc::Global;
 
 /// The value's key under the rule: keys of one rule compare as the meanings of the values do (`keys_compare`). Time grows with

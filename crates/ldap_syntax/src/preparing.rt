@@ -5,8 +5,8 @@ ghost use Rattle.std.specs.Prelude.{◌≡◌, chars, string_bytes, encode_utf8_
 ghost use Rattle.ldap_syntax.specs.Text.{prepared};
 
 use crate::mapping::{folded, normal};
-use crate::rule::Family;
 use crate::spacing::{spaced, without_separators, without_spaces};
+use ldap_words::Family;
 use std::alloc::{AllocError, Global};
 
 /// Which part of a value a text is: the whole of it, or one of the parts of a substring assertion.

@@ -4,7 +4,7 @@
 ghost use Rattle.std.specs.Prelude.{◌≡◌};
 ghost use Rattle.ldap_syntax.specs.Times.{is_time as is_time_text, is_field as is_field_text, is_year as is_year_text, is_day as is_day_text, is_clock as is_clock_text};
 
-use crate::numbering::is_digit;
+use ldap_words::is_digit;
 
 /// Whether the octets are a time, `YYYYMMDDHHMMSSZ` (RFC 4517 3.3.13): a month from 01 to 12, a day from 01 to 31, an hour
 /// from 00 to 23, a minute from 00 to 59, a second from 00 to 60.

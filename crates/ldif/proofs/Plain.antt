@@ -7,12 +7,12 @@ use Rattle.std.proofs.lemmas.List.Folds.{list_all-append}
 use Rattle.std.proofs.lemmas.List.Quantifiers.{position-Some}
 use Rattle.std.proofs.lemmas.Str.{IsUtf8-from_ascii, is_utf8-from_IsUtf8}
 use Rattle.std.proofs.lemmas.Str.Ascii.{IsAscii-nil, IsAscii-cons}
-use Rattle.ldap_syntax.specs.Identifiers.{has_dot, are_numbers, is_numericoid}
-use Rattle.ldap_syntax.specs.Numbers.{is_digit, is_number}
-use Rattle.ldap_syntax.specs.Words.{is_alpha, is_key_octet, is_descr, is_oid, is_option, is_described, is_description}
+use Rattle.ldap_words.specs.Identifiers.{has_dot, are_numbers, is_numericoid}
+use Rattle.ldap_words.specs.Numbers.{is_digit, is_number}
+use Rattle.ldap_words.specs.Words.{is_alpha, is_key_octet, is_descr, is_oid, is_option, is_described, is_description}
 use Rattle.ldif.specs.Descriptions.{is_dn, begins_change, is_type}
 use Rattle.ldif.proofs.Booleans.{left, right, both, either}
-use Rattle.ldap_syntax.proofs.Digits.{number_digits}
+use Rattle.ldap_words.proofs.Written.{number_digits}
 
 -- an octet of a description: a keychar, `.` or `;`
 abbrev pub is_plain : ℕ → Bool

@@ -1,7 +1,7 @@
 -- LDIF: attribute descriptions (RFC 4512).
 -- In: octets. Out: whether they are a description, or a word in any case. Not here: values, lines.
 use Rattle.std.specs.Prelude.{ℕ, List, Bool, not, ◌&&◌, ◌||◌, codes}
-pub use Rattle.ldap_syntax.specs.Words.{is_same_word, is_description}
+pub use Rattle.ldap_words.specs.Words.{is_same_word, is_description}
 
 -- `dn`, in any case (RFC 2849, distinguishedName)
 abbrev pub is_dn : List ℕ → Bool

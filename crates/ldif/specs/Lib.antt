@@ -16,5 +16,5 @@ pub mod Imports
 pub mod Entries
 pub mod Exports
 -- what layers above name of the crates below
-pub use Rattle.ldap_syntax.specs as ldap_syntax
+pub use Rattle.ldap_words.specs as ldap_words
 pub use Rattle.ldap_msg.specs as ldap_msg

@@ -8,7 +8,7 @@ use Rattle.ldif.specs.Descriptions.{is_type}
 use Rattle.ldif.specs.Records.{ValueModel, RecordModel}
 use Rattle.ldif.specs.Written.{ldif_text}
 use Rattle.ldif.specs.Reading.{records_of}
-pub use Rattle.ldap_syntax.specs.Octets.{are_octets}
+pub use Rattle.ldap_words.specs.Octets.{are_octets}
 
 -- a value whose type is a description other than `dn`, `changetype` and `control`
 abbrev pub is_typed : ValueModel → Bool

@@ -4,7 +4,7 @@
 ghost use Rattle.std.specs.Prelude.{◌≡◌};
 ghost use Rattle.ldif.specs.Descriptions as descriptions;
 
-use ldap_syntax::{is_description, is_same_word};
+use ldap_words::{is_description, is_same_word};
 
 /// Whether the octets are `dn`, in any case.
 pub fn is_dn(octets: &[u8]) -> bool

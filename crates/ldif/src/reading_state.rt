@@ -9,7 +9,7 @@ ghost use Rattle.ldif.specs.Faults.{IsLineFault};
 use crate::fault::LdifError;
 use crate::record::{AttributeValue, Record};
 use crate::saying::Said;
-use ldap_syntax::is_same_word;
+use ldap_words::is_same_word;
 use std::alloc::{AllocError, Global};
 use std::marker::Model;
 

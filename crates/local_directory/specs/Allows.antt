@@ -14,7 +14,7 @@ use Rattle.session_talk.specs.Talk.{EndedValue, done, stale, lost, refused_memor
 use Rattle.session_talk.specs.Talk.{Exchange, asked_role, learned, searched, compared, updated}
 use Rattle.local_directory.specs.Latest.{kept_as, Standing, older, repeated, newer, standing}
 use Rattle.local_directory.specs.Local.{LocalValue}
-pub use Rattle.ldif.specs.ldap_syntax.Numbers.{greatest}
+pub use Rattle.ldif.specs.ldap_words.Numbers.{greatest}
 
 -- how an update ends where there is memory, and the directory after it
 pub record Outcome : Type 0 where

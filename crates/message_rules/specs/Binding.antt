@@ -10,7 +10,7 @@ use Rattle.ldap_msg.specs.Messages.{BindRequestValue}
 use Rattle.dir_tree.specs.Directory.{name_eq}
 use Rattle.message_rules.specs.declared.identity.Identity.TheVariants.{Anonymous, Manager}
 use Rattle.message_rules.specs.declared.bound.Bound.{Bound}
-pub use Rattle.dir_tree.specs.dir_entry.ldap_syntax.Octets.{is_empty}
+pub use Rattle.dir_tree.specs.dir_entry.ldap_words.Octets.{is_empty}
 
 -- without a password: anonymous with success (0) without a name, else unwillingToPerform (53) (RFC 4513 5.1.1, 5.1.2)
 abbrev pub bound_without_password : List ℕ → Bound

@@ -1,9 +1,9 @@
 -- The first line with a fault: E12, E13 and E15. Texts of schemas flow in; loops and names of entries are not here.
 use Rattle.std.proofs.Common.{ℕ, ◌+◌, ◌≤◌, zero, suc, List, [], ◌∷◌, Bool, true, false, cond, not, ◌&&◌, ◌||◌, Option, None, Some, Err, is_some, nat_lt, ◌≡◌, ◌⊎◌, inl, inr, refl, sym, ap, ◌∙◌, subst, slice_get, arith}
-use Rattle.ldap_match.specs.ldap_syntax.declared.rule.Family.{Family}
+use Rattle.ldap_match.specs.ldap_words.declared.rule.Family.{Family}
 use Rattle.schema_reader.specs.schema_text.Descriptions.{DescriptionModel, first_text_at, texts_at}
 use Rattle.schema_reader.specs.schema_text.Texts.{SchemaTextModel, read_text}
-use Rattle.schema_reader.specs.schema_meaning.ldap_syntax.RulesByName.{equality_family, ordering_family, substrings_family, syntax_of}
+use Rattle.schema_reader.specs.schema_meaning.ldap_words.RulesByName.{equality_family, ordering_family, substrings_family, syntax_of}
 use Rattle.schema_reader.specs.schema_meaning.Naming.{superior_text, superior_texts, superior_of, find, found_by, is_repeated}
 use Rattle.schema_reader.specs.schema_meaning.Inheriting.{own, or_family, family_by, is_unfit, effect_of}
 use Rattle.schema_reader.specs.schema_meaning.Faults.{is_bad_type, first_of_types, first_of_all, earlier, bad_line, is_known_by, names_known_type, are_known, names_known_class, unknown_line}

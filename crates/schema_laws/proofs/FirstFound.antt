@@ -14,7 +14,7 @@ use Rattle.schema_reader.specs.schema_text.Texts.{SchemaTextModel, read_text}
 use Rattle.schema_reader.specs.schema_meaning.Naming.{names_of, is_name_among, share_a_name, is_before, is_repeated, has_twice}
 use Rattle.schema_reader.specs.schema_meaning.Inheriting.{effect_of, is_unfit}
 use Rattle.schema_reader.specs.schema_meaning.Faults.{is_bad_type, first_of_types, first_of_all, earlier, bad_line}
-use Rattle.ldap_match.specs.ldap_syntax.Identifiers.{has_dot, are_numbers}
+use Rattle.ldap_match.specs.ldap_words.Identifiers.{has_dot, are_numbers}
 use Rattle.ldap_match.specs.ldap_schema.Schema.{SchemaModel, TypeModel, find, is_called, is_same_name, first_name_of}
 use Rattle.schema_reader.specs.Described.{as_text, type_with, types_from, schema_of}
 use Rattle.schema_reader.specs.Reading.{refused_at, fault_of, unknown_of, loop_fault, unless_refused, schema_of_text}

@@ -1,12 +1,12 @@
 -- What is in effect for a type, along its chain of SUPs. Descriptions of a text without faults flow in; names are not here.
 use Rattle.std.proofs.Common.{ℕ, ◌+◌, ◌<◌, zero, suc, List, [], ◌∷◌, ◌++◌, Bool, true, false, not, ◌&&◌, Option, None, Some, Ok, is_some, ◌≡◌, refl, sym, ap, ap₂, ◌∙◌, subst, length, reverse, slice_get, append-nil, arith}
 use Rattle.std.proofs.lemmas.List.{reverse-append}
-use Rattle.ldap_match.specs.ldap_syntax.declared.rule.Family.{Family}
+use Rattle.ldap_match.specs.ldap_words.declared.rule.Family.{Family}
 use Rattle.ldap_match.specs.ldap_schema.Schema.{SchemaModel}
 use Rattle.ldap_match.specs.ldap_schema.Schema as schema
 use Rattle.schema_reader.specs.schema_text.Descriptions.{DescriptionModel, first_text_at}
 use Rattle.schema_reader.specs.schema_text.Texts.{SchemaTextModel, read_text}
-use Rattle.schema_reader.specs.schema_meaning.ldap_syntax.RulesByName.{equality_family, ordering_family, substrings_family, syntax_of}
+use Rattle.schema_reader.specs.schema_meaning.ldap_words.RulesByName.{equality_family, ordering_family, substrings_family, syntax_of}
 use Rattle.schema_reader.specs.schema_meaning.Naming.{calls, superior_text, superior_of, find, found_by}
 use Rattle.schema_reader.specs.schema_meaning.Inheriting.{way_to, way_by, way_of, way_from, gone, lineage_from, own, or_family, or_syntax, kept, agree, family_of, inherited, nothing, own_in, own_at, effect_down, effect_along, effect_of}
 use Rattle.schema_reader.specs.schema_meaning.Faults.{first_of_types, first_of_all, bad_line, is_known_by, names_known_type, names_known_class, unknown_line}

@@ -4,13 +4,13 @@ use Rattle.std.proofs.lemmas.Bool.{ltb-true}
 use Rattle.std.proofs.lemmas.List.{take-append-drop}
 use Rattle.std.specs.List.{AllByRecursion, list_all}
 use Rattle.ldap_match.specs.ldap_syntax.Meaning.{Meaning}
-use Rattle.ldap_match.specs.ldap_syntax.declared.rule.Family.{Family}
-use Rattle.ldap_match.specs.ldap_syntax.declared.rule.Family.TheVariants as family
-use Rattle.ldap_match.specs.ldap_syntax.declared.rule.Rule.{Rule}
+use Rattle.ldap_match.specs.ldap_words.declared.rule.Family.{Family}
+use Rattle.ldap_match.specs.ldap_words.declared.rule.Family.TheVariants as family
+use Rattle.ldap_match.specs.ldap_words.declared.rule.Rule.{Rule}
 use Rattle.ldap_match.specs.ldap_schema.Schema.{SchemaModel}
 use Rattle.ldap_match.specs.ldap_schema.Rules.{equality_of}
-use Rattle.ldap_match.specs.ldap_schema.Meaning as plain
-use Rattle.ldap_match.specs.ldap_schema.Keyed as plain_keys
+use Rattle.ldap_match.specs.ldap_dn.Meaning as plain
+use Rattle.ldap_match.specs.ldap_dn.Keyed as plain_keys
 use Rattle.ldap_match.specs.Meaning.{meaning}
 use Rattle.ldap_match.specs.Keyed.{key_at}
 use Rattle.ldap_match.proofs.Items.{KeyLaws, KeysMean, keys_mean}

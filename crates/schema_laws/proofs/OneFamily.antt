@@ -2,15 +2,15 @@
 use Rattle.std.proofs.Common.{ℕ, ◌+◌, ◌<◌, zero, suc, List, [], ◌∷◌, Bool, true, false, cond, not, ◌&&◌, Option, None, Some, ◌≡◌, refl, sym, ap, ◌∙◌, subst, length, reverse, slice_get, nat_eq, arith}
 use Rattle.std.proofs.lemmas.Bool.{eqb-true}
 use Rattle.std.specs.List.{AllByRecursion}
-use Rattle.ldap_match.specs.ldap_syntax.Families.{is_ordering, has_substrings}
-use Rattle.ldap_match.specs.ldap_syntax.declared.rule.Family.{Family}
-use Rattle.ldap_match.specs.ldap_syntax.declared.rule.Family.TheVariants as family
-use Rattle.ldap_match.specs.ldap_syntax.declared.rule.Rule.{Rule}
+use Rattle.ldap_match.specs.ldap_words.Families.{is_ordering, has_substrings}
+use Rattle.ldap_match.specs.ldap_words.declared.rule.Family.{Family}
+use Rattle.ldap_match.specs.ldap_words.declared.rule.Family.TheVariants as family
+use Rattle.ldap_match.specs.ldap_words.declared.rule.Rule.{Rule}
 use Rattle.ldap_match.specs.ldap_schema.Schema.{SchemaModel, TypeModel}
 use Rattle.ldap_match.specs.Item.{of_family, beside}
 use Rattle.schema_reader.specs.schema_text.Descriptions.{DescriptionModel, first_text_at}
 use Rattle.schema_reader.specs.schema_text.Texts.{SchemaTextModel, read_text}
-use Rattle.schema_reader.specs.schema_meaning.ldap_syntax.RulesByName.{ordering_family, substrings_family, family_number}
+use Rattle.schema_reader.specs.schema_meaning.ldap_words.RulesByName.{ordering_family, substrings_family, family_number}
 use Rattle.schema_reader.specs.schema_meaning.Naming.{is_repeated}
 use Rattle.schema_reader.specs.schema_meaning.Inheriting.{lineage, family_by, or_family, kept, agree, family_of, is_of_family, inherited, nothing, own_in, own_at, effect_down, effect_along, effect_of, has_lineage, differs, is_mixed, lacks_syntax, is_unfit}
 use Rattle.schema_reader.specs.schema_meaning.Faults.{is_bad_type, first_of_types, first_of_all, bad_line}

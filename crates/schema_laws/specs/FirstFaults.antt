@@ -3,7 +3,7 @@
 use Rattle.std.specs.Prelude.{ℕ, List, ◌≤◌, None, Some, Err, slice_get, true, ◌≡◌}
 use Rattle.schema_reader.specs.schema_text.Descriptions.{DescriptionModel, first_text_at, texts_at}
 use Rattle.schema_reader.specs.schema_text.Texts.{SchemaTextModel, read_text}
-use Rattle.schema_reader.specs.schema_meaning.ldap_syntax.RulesByName.{equality_family, ordering_family, substrings_family, syntax_of}
+use Rattle.schema_reader.specs.schema_meaning.ldap_words.RulesByName.{equality_family, ordering_family, substrings_family, syntax_of}
 use Rattle.schema_reader.specs.schema_meaning.Naming.{superior_text, superior_texts, superior_of, find, is_repeated}
 use Rattle.schema_reader.specs.schema_meaning.Inheriting.{is_unfit}
 use Rattle.schema_reader.specs.Described.{schema_of}

@@ -1,9 +1,9 @@
 -- Names by what they mean: RFC 4517 4.2.15, RFC 4512 2.3.1. Names and a schema flow in, a statement flows out; keys and texts are not here.
 use Rattle.std.specs.Prelude.{ℕ, List, [], ◌∷◌, Option, None, Some, ◌≡◌, ◌↔◌}
 use Rattle.ldap_match.specs.ldap_syntax.Meaning.{Meaning}
-use Rattle.ldap_match.specs.ldap_syntax.declared.rule.Rule.{Rule}
+use Rattle.ldap_match.specs.ldap_words.declared.rule.Rule.{Rule}
 use Rattle.ldap_match.specs.ldap_schema.Schema.{SchemaModel}
-use Rattle.ldap_match.specs.ldap_schema.Meaning.{meaning}
+use Rattle.ldap_match.specs.ldap_dn.Meaning.{meaning}
 use Rattle.ldap_match.specs.ldap_schema.Rules.{equality_of}
 use Rattle.ldap_dn.specs.Names.{TypeAndValue, RdnModel, IsSameName}
 use Rattle.ldap_dn.specs.Texts.{name_of_text}

@@ -1,8 +1,8 @@
 -- Types whose rules are of one family: RFC 4512 4.1.2, RFC 4517 4.2. Types flow in, a statement flows out; values are not here.
 use Rattle.std.specs.Prelude.{ℕ, List, Option, None, Some, Ok, ◌≡◌}
 use Rattle.std.specs.List.{AllByRecursion}
-use Rattle.ldap_match.specs.ldap_syntax.Families.{is_ordering, has_substrings}
-use Rattle.ldap_match.specs.ldap_syntax.declared.rule.Rule.{Rule}
+use Rattle.ldap_match.specs.ldap_words.Families.{is_ordering, has_substrings}
+use Rattle.ldap_match.specs.ldap_words.declared.rule.Rule.{Rule}
 use Rattle.ldap_match.specs.ldap_schema.Schema.{SchemaModel, TypeModel}
 use Rattle.ldap_match.specs.Item.{of_family, beside}
 use Rattle.schema_reader.specs.Reading.{schema_of_text}

@@ -12,7 +12,7 @@ use Rattle.schema_meaning.specs.Octets.{has_folded}
 use Rattle.schema_meaning.specs.Naming.{names_of, is_name_among, has_twice, share_a_name, is_before}
 use Rattle.schema_meaning.specs.Faults.{earlier_of}
 use Rattle.schema_meaning.specs.FirstLines.{noted, first_line, line_in, is_less}
-pub use Rattle.schema_text.proofs.ldap_syntax.NumbersKept.{opened, number_lookup as line_lookup, number_put as line_put}
+pub use Rattle.schema_text.proofs.ldap_words.NumbersKept.{opened, number_lookup as line_lookup, number_put as line_put}
 
 -- the lower line is put
 noted_by : (f : List ℕ → Option ℕ) (k q : List ℕ) (line first : ℕ) (b : Bool) → bytes_eq q k ≡ b → Some first ≡ earlier_of line (f k) → cond b (Some first) (f q) ≡ noted b line (f q)

@@ -8,7 +8,7 @@ use Rattle.schema_text.specs.Descriptions.{DescriptionModel}
 use Rattle.schema_text.specs.Words.{is_same_word}
 use Rattle.schema_meaning.specs.Octets.{kept_or, has_folded, lower}
 use Rattle.schema_meaning.specs.Naming.{names_of, find}
-pub use Rattle.schema_text.proofs.ldap_syntax.NumbersKept.{or_else, kept_not, name_more, names_done, number_more, numbers_done, first_of_either}
+pub use Rattle.schema_text.proofs.ldap_words.NumbersKept.{or_else, kept_not, name_more, names_done, number_more, numbers_done, first_of_either}
 
 -- a number that is there stays
 some_kept : (o : Option ℕ) (m : ℕ) (b : Bool) (n : ℕ) → o ≡ Some m → o ≡ kept_or o b n

@@ -4,10 +4,10 @@ use Rattle.std.specs.Prelude.{ℕ, ◌+◌, List, [], ◌∷◌, Bool, true, not
 use Rattle.std.specs.List.{list_all}
 use Rattle.schema_text.specs.Descriptions.{DescriptionModel, first_text_at, texts_at}
 use Rattle.schema_text.specs.Texts.{SchemaTextModel}
-use Rattle.schema_text.specs.ldap_syntax.RulesByName.{equality_family, ordering_family, substrings_family, syntax_of}
+use Rattle.schema_text.specs.ldap_words.RulesByName.{equality_family, ordering_family, substrings_family, syntax_of}
 use Rattle.schema_meaning.specs.Naming.{superior_text, superior_texts, find, is_repeated}
 use Rattle.schema_meaning.specs.Inheriting.{is_unfit}
-pub use Rattle.schema_text.specs.ldap_syntax.NameOrder.{lower as earlier, lower_than as earlier_of}
+pub use Rattle.schema_text.specs.ldap_words.NameOrder.{lower as earlier, lower_than as earlier_of}
 
 -- a description of a type is bad together with the others
 abbrev pub is_bad_type : SchemaTextModel → ℕ → DescriptionModel → Bool

@@ -2,14 +2,14 @@
 -- rules flow out; faults are not here.
 use Rattle.std.specs.Prelude.{ℕ, List, [], ◌∷◌, ◌++◌, map, reverse, slice_get, Bool, true, false, not, ◌&&◌, ◌||◌, Option, None, Some, is_some, nat_eq}
 use Rattle.schema_text.specs.Descriptions.{DescriptionModel, first_text_at}
-use Rattle.schema_text.specs.ldap_syntax.RulesByName.{equality_family, ordering_family, substrings_family, syntax_of, family_number}
+use Rattle.schema_text.specs.ldap_words.RulesByName.{equality_family, ordering_family, substrings_family, syntax_of, family_number}
 use Rattle.schema_meaning.specs.Naming.{superior_text, find}
 use Rattle.schema_meaning.specs.declared.inheriting.Way.{Way}
 use Rattle.schema_meaning.specs.declared.inheriting.Way.TheVariants.{Ends, IsLost, GoesTo}
 use Rattle.schema_meaning.specs.declared.inheriting.Effect.{Effect}
-use Rattle.schema_text.specs.ldap_syntax.declared.rule.Family.{Family}
-use Rattle.schema_text.specs.ldap_syntax.declared.rule.Syntax.{Syntax}
-use Rattle.schema_text.specs.ldap_syntax.Families.{is_used_on}
+use Rattle.schema_text.specs.ldap_words.declared.rule.Family.{Family}
+use Rattle.schema_text.specs.ldap_words.declared.rule.Syntax.{Syntax}
+use Rattle.schema_text.specs.ldap_words.Families.{is_used_on}
 use Rattle.schema_meaning.specs.declared.inheriting.Given.{Given}
 use Rattle.schema_meaning.specs.declared.inheriting.Given.TheVariants.{Missing, Unknown, Known}
 

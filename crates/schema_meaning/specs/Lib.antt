@@ -5,5 +5,5 @@ pub mod Settling
 pub mod Faults
 pub mod FirstLines
 -- what layers above name of the crates below
-pub use Rattle.schema_text.specs.ldap_syntax as ldap_syntax
+pub use Rattle.schema_text.specs.ldap_words as ldap_words
 pub use Rattle.schema_text.specs as schema_text

@@ -4,7 +4,7 @@ use Rattle.std.specs.declared.cmp.Ordering.TheVariants.{Less}
 use Rattle.std.specs.List.{AllByRecursion}
 use Rattle.std.specs.Char.{to_ascii_lowercase}
 use Rattle.std.specs.declared.alloc.Global.{Global}
-pub use Rattle.schema_text.specs.ldap_syntax.NameOrder.{order, number_at, kept_or, lower, has_name as has_folded}
+pub use Rattle.schema_text.specs.ldap_words.NameOrder.{order, number_at, kept_or, lower, has_name as has_folded}
 
 -- the lower one of the numbers that a word has as a name and as an object identifier (RFC 4512 1.4)
 abbrev pub found_in : List (Vec ℕ Global × ℕ) → List (Vec ℕ Global × ℕ) → List ℕ → Option ℕ

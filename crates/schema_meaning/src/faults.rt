@@ -4,7 +4,7 @@
 ghost use Rattle.std.specs.Prelude.{◌≡◌, not, map, is_some, IfOk};
 ghost use Rattle.std.specs.List.{list_all};
 ghost use Rattle.schema_text.specs.Descriptions.{first_text_at};
-ghost use Rattle.schema_text.specs.ldap_syntax.RulesByName as rules;
+ghost use Rattle.schema_text.specs.ldap_words.RulesByName as rules;
 ghost use Rattle.schema_meaning.specs.Naming as naming;
 ghost use Rattle.schema_meaning.specs.Faults as faults;
 ghost use Rattle.schema_meaning.specs.Inheriting as inheriting;

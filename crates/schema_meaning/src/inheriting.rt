@@ -3,7 +3,7 @@
 
 ghost use Rattle.std.specs.Prelude.{◌≡◌, IfOk};
 ghost use Rattle.schema_text.specs.Descriptions.{first_text_at};
-ghost use Rattle.schema_text.specs.ldap_syntax.RulesByName as rules;
+ghost use Rattle.schema_text.specs.ldap_words.RulesByName as rules;
 ghost use Rattle.schema_meaning.specs.Naming.{superior_text};
 ghost use Rattle.schema_meaning.specs.Inheriting as inheriting;
 

@@ -19,7 +19,5 @@ pub use indexed::IndexedText;
 pub use inheriting::{Effect, Given};
 pub use naming::{names, superior_of};
 pub use schema_text::{
-    Description, Family, Field, Key, Keyword, Part, Rule, SchemaText, Syntax, ValueError,
-    has_meaning, has_ordering, has_substrings, is_in_syntax, is_numericoid, key_of, keys_compare,
-    part_key_of, parts_compare, read_text,
+    Description, Family, Field, Keyword, Rule, SchemaText, Syntax, is_numericoid, read_text,
 };

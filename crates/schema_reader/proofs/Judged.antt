@@ -3,11 +3,11 @@ use Rattle.std.proofs.Common.{ℕ, ◌+◌, ◌<◌, zero, suc, List, [], ◌∷
 use Rattle.std.specs.List.{list_all, position_from, slice_get}
 use Rattle.std.proofs.lemmas.List.{length-map}
 use Rattle.std.proofs.lemmas.Bool.Decides.{nat_tests}
-use Rattle.schema_meaning.specs.ldap_syntax.declared.rule.Rule.{Rule}
-use Rattle.schema_meaning.specs.ldap_syntax.declared.rule.Family.{Family}
-use Rattle.schema_meaning.specs.ldap_syntax.declared.rule.Family.TheVariants as family
-use Rattle.schema_meaning.specs.ldap_syntax.declared.rule.Syntax.{Syntax}
-use Rattle.schema_meaning.specs.ldap_syntax.declared.rule.Syntax.TheVariants as syntax
+use Rattle.schema_meaning.specs.ldap_words.declared.rule.Rule.{Rule}
+use Rattle.schema_meaning.specs.ldap_words.declared.rule.Family.{Family}
+use Rattle.schema_meaning.specs.ldap_words.declared.rule.Family.TheVariants as family
+use Rattle.schema_meaning.specs.ldap_words.declared.rule.Syntax.{Syntax}
+use Rattle.schema_meaning.specs.ldap_words.declared.rule.Syntax.TheVariants as syntax
 use Rattle.schema_meaning.specs.schema_text.Descriptions.{DescriptionModel}
 use Rattle.schema_meaning.specs.schema_text.Texts.{SchemaTextModel}
 use Rattle.schema_meaning.specs.Naming.{calls, find, superior_texts}

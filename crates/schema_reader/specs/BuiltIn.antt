@@ -1,8 +1,8 @@
 -- The built-in schema: types and classes in the order of their numbers. RFC 4519 2 and 3, and this server's own types.
 use Rattle.std.specs.Prelude.{ℕ, List, [], ◌∷◌, ◌++◌, true, false, None, Some, codes}
-use Rattle.schema_meaning.specs.ldap_syntax.declared.rule.Rule.{Rule}
-use Rattle.schema_meaning.specs.ldap_syntax.declared.rule.Family.TheVariants as family
-use Rattle.schema_meaning.specs.ldap_syntax.declared.rule.Syntax.TheVariants as syntax
+use Rattle.schema_meaning.specs.ldap_words.declared.rule.Rule.{Rule}
+use Rattle.schema_meaning.specs.ldap_words.declared.rule.Family.TheVariants as family
+use Rattle.schema_meaning.specs.ldap_words.declared.rule.Syntax.TheVariants as syntax
 use Rattle.ldap_schema.specs.Schema.{TypeModel, ClassModel, SchemaModel}
 use Rattle.schema_reader.specs.declared.built_in.TheConstants.{BUILT_IN}
 use Rattle.ldap_schema.specs.declared.class.ClassKind.TheVariants.{Abstract, Structural}

@@ -1,10 +1,10 @@
 -- The types and classes that descriptions stand for: RFC 4512 4.1. Descriptions flow in, a schema flows out; faults are not here.
 use Rattle.std.specs.Prelude.{ℕ, ◌+◌, List, [], ◌∷◌, map, cond, Option, None, Some}
 use Rattle.std.specs.Str.{is_utf8}
-use Rattle.schema_meaning.specs.ldap_syntax.declared.rule.Family.{Family}
-use Rattle.schema_meaning.specs.ldap_syntax.declared.rule.Rule.{Rule}
-use Rattle.schema_meaning.specs.ldap_syntax.declared.rule.Syntax.{Syntax}
-use Rattle.schema_meaning.specs.ldap_syntax.declared.rule.Syntax.TheVariants.{OctetString}
+use Rattle.schema_meaning.specs.ldap_words.declared.rule.Family.{Family}
+use Rattle.schema_meaning.specs.ldap_words.declared.rule.Rule.{Rule}
+use Rattle.schema_meaning.specs.ldap_words.declared.rule.Syntax.{Syntax}
+use Rattle.schema_meaning.specs.ldap_words.declared.rule.Syntax.TheVariants.{OctetString}
 use Rattle.schema_meaning.specs.schema_text.declared.keyword.Keyword.{Keyword}
 use Rattle.schema_meaning.specs.schema_text.declared.keyword.Keyword.TheVariants as keyword
 use Rattle.schema_meaning.specs.schema_text.Descriptions.{FieldModel, DescriptionModel, texts_at, has_field_at}

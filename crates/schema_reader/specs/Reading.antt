@@ -2,11 +2,11 @@
 -- flows out; how it is read is not here.
 use Rattle.std.specs.Prelude.{ℕ, List, length, Bool, true, false, cond, not, Option, None, Some, is_some, Result, Ok, Err, nat_eq, slice_get, codes, ◌≡◌}
 use Rattle.std.specs.List.{list_any, position_from}
-use Rattle.schema_meaning.specs.ldap_syntax.declared.rule.Family.{Family}
-use Rattle.schema_meaning.specs.ldap_syntax.declared.rule.Family.TheVariants as family
-use Rattle.schema_meaning.specs.ldap_syntax.declared.rule.Syntax.{Syntax}
-use Rattle.schema_meaning.specs.ldap_syntax.declared.rule.Syntax.TheVariants as syntax
-use Rattle.schema_meaning.specs.ldap_syntax.declared.rule.Rule.{Rule}
+use Rattle.schema_meaning.specs.ldap_words.declared.rule.Family.{Family}
+use Rattle.schema_meaning.specs.ldap_words.declared.rule.Family.TheVariants as family
+use Rattle.schema_meaning.specs.ldap_words.declared.rule.Syntax.{Syntax}
+use Rattle.schema_meaning.specs.ldap_words.declared.rule.Syntax.TheVariants as syntax
+use Rattle.schema_meaning.specs.ldap_words.declared.rule.Rule.{Rule}
 use Rattle.schema_meaning.specs.schema_text.Texts.{SchemaTextModel, read_text}
 use Rattle.schema_meaning.specs.Faults.{first_of_types, earlier, bad_line, unknown_line}
 use Rattle.ldap_schema.specs.Schema.{TypeModel, ClassModel, SchemaModel, is_called, class_named, superiors}

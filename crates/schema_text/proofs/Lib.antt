@@ -2,4 +2,4 @@ pub mod Spelled
 pub mod Spaced
 pub mod Described
 pub mod Lined
-pub use Rattle.ldap_syntax.proofs as ldap_syntax
+pub use Rattle.ldap_words.proofs as ldap_words

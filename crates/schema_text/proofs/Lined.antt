@@ -7,7 +7,7 @@ use Rattle.std.proofs.lemmas.Bool.{eqb-true}
 use Rattle.std.proofs.lemmas.List.Splits.{slice_split_none, slice_split_at}
 use Rattle.schema_text.specs.Texts.{without_return, one_line, lines_of_parts, lines_of}
 use Rattle.schema_text.specs.Lines.{LacksFeed, AreLines, no_line, last_line, a_line, LinesAreOfText}
-use Rattle.ldap_syntax.specs.Parts.{part_or_nothing}
+use Rattle.ldap_words.specs.Words.{part_or_nothing}
 
 -- one more part before parts is one more line
 more_parts : (p q : List ℕ) (ps : List (List ℕ)) → lines_of_parts (p ∷ q ∷ ps) ≡ without_return p ∷ lines_of_parts (q ∷ ps)

@@ -8,4 +8,4 @@ pub mod Lines
 pub mod Spelling
 pub mod Grammar
 -- what layers above name of the crates below
-pub use Rattle.ldap_syntax.specs as ldap_syntax
+pub use Rattle.ldap_words.specs as ldap_words

@@ -6,7 +6,7 @@ use Rattle.schema_text.specs.Words.{is_same_word, ends_with}
 use Rattle.schema_text.specs.Descriptions.{DescriptionModel, description_of}
 use Rattle.schema_text.specs.declared.keyword.Section.{Section}
 use Rattle.schema_text.specs.declared.keyword.Section.TheVariants.{AttributeTypes, ObjectClasses}
-use Rattle.ldap_syntax.specs.Parts.{part_or_nothing}
+use Rattle.ldap_words.specs.Words.{part_or_nothing}
 
 -- less one CR at the end
 abbrev pub without_return : List ℕ → List ℕ

@@ -1,9 +1,9 @@
 -- The words of a description: RFC 4512 1.4. Octets flow in, a yes or no flows out; spaces, quotes and fields are not here.
 use Rattle.std.specs.Prelude.{ℕ, ◌+◌, ◌-◌, List, [], ◌∷◌, length, take, drop, position, slice_get, Bool, false, cond, ◌&&◌, ◌||◌, Option, None, Some, nat_eq, nat_lt}
 use Rattle.std.specs.List.{list_all}
-pub use Rattle.ldap_syntax.specs.Identifiers.{is_numericoid}
-pub use Rattle.ldap_syntax.specs.Numbers.{is_digit, is_number}
-pub use Rattle.ldap_syntax.specs.Words.{is_same_word, is_alpha, is_key_octet, is_descr, is_oid}
+pub use Rattle.ldap_words.specs.Identifiers.{is_numericoid}
+pub use Rattle.ldap_words.specs.Numbers.{is_digit, is_number}
+pub use Rattle.ldap_words.specs.Words.{is_same_word, is_alpha, is_key_octet, is_descr, is_oid}
 
 abbrev pub is_octet : ℕ → Option ℕ → Bool
 is_octet c None = false

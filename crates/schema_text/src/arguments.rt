@@ -11,7 +11,7 @@ use crate::pieces::{
 };
 use crate::token::Token;
 use crate::words::bounded_oid;
-use ldap_syntax::{is_descr, is_oid, is_same_word};
+use ldap_words::{is_descr, is_oid, is_same_word};
 use std::alloc::{AllocError, Global};
 
 /// The text of tokens between quotes.

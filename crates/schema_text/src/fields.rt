@@ -12,7 +12,7 @@ use crate::pieces::pieces;
 use crate::scanning::tokens;
 use crate::token::Token;
 use crate::words::ends_with;
-use ldap_syntax::is_numericoid;
+use ldap_words::is_numericoid;
 use std::alloc::{AllocError, Global};
 
 /// The keyword that the tokens are.

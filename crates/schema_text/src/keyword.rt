@@ -5,7 +5,7 @@ ghost use Rattle.std.specs.Prelude.{◌≡◌};
 ghost use Rattle.schema_text.specs.Keywords as keywords;
 
 use crate::words::is_extension;
-use ldap_syntax::is_same_word;
+use ldap_words::is_same_word;
 
 /// Which descriptions a line has (RFC 4512 4.2.1, 4.2.2).
 #[derive(Clone, Copy, Debug, PartialEq, Eq)]

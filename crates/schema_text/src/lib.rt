@@ -16,11 +16,10 @@ mod words;
 pub use description::{Description, Field};
 pub use grammar::{descriptions_are_of_octets, lines_are_of_text, tokens_are_spelled};
 pub use keyword::{Keyword, Section};
-pub use ldap_syntax::{
-    Family, Key, Part, Rule, Syntax, ValueError, compare_folded, equality_family, family_number,
-    has_meaning, has_ordering, has_substrings, is_in_syntax, is_number, is_numericoid, is_oid,
-    is_same_word, is_used_on, key_of, keys_compare, lower_case, ordering_family, part_key_of,
-    parts_compare, substrings_family, syntax_of,
+pub use ldap_words::{
+    Family, Rule, Syntax, compare_folded, equality_family, family_number, has_ordering,
+    has_substrings, is_number, is_numericoid, is_oid, is_same_word, is_used_on, lower_case,
+    ordering_family, substrings_family, syntax_of,
 };
 pub use text::{SchemaText, is_skipped, lines, read_text};
 pub use words::ends_with;

@@ -10,7 +10,7 @@ use crate::description::Description;
 use crate::fields::description;
 use crate::keyword::Section;
 use crate::words::ends_with;
-use ldap_syntax::is_same_word;
+use ldap_words::is_same_word;
 use std::alloc::{AllocError, Global};
 use std::marker::Model;
 

@@ -5,7 +5,7 @@ ghost use Rattle.std.specs.Prelude.{◌≡◌, option_map, nat_eq, position};
 ghost use Rattle.std.specs.List.{list_all};
 ghost use Rattle.schema_text.specs.Words as words;
 
-use ldap_syntax::{is_alpha, is_number, is_numericoid};
+use ldap_words::{is_alpha, is_number, is_numericoid};
 
 /// Whether the last octet is this one.
 pub fn ends_with(octet: u8, word: &[u8]) -> bool

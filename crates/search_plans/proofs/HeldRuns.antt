@@ -2,14 +2,14 @@
 use Rattle.std.proofs.Common.{◌≡◌, ℕ, Bool, true, false, not, ◌&&◌, ◌||◌, List, [], ◌∷◌, cond, nat_eq, Option, None, Some, is_some, map, encode_utf8_all, refl, sym, ap, ap₂, subst, ◌∙◌, eqb-true, slice_get}
 use Rattle.std.specs.List.{list_any, list_all}
 use mathlib.Core.Path.{fun_ext}
-use Rattle.ldap_eval.specs.ldap_syntax.Families.{has_substrings}
+use Rattle.ldap_eval.specs.ldap_words.Families.{has_substrings}
 use Rattle.ldap_eval.specs.ldap_syntax.Meaning.{Meaning, text, as_text, part_meaning}
 use Rattle.ldap_eval.specs.ldap_syntax.Keys as syntax_keys
 use Rattle.ldap_eval.specs.ldap_syntax.declared.preparing.Part.TheVariants.{Initial, Any, Final}
-use Rattle.ldap_eval.specs.ldap_syntax.declared.rule.Family.{Family}
-use Rattle.ldap_eval.specs.ldap_syntax.declared.rule.Family.TheVariants as family
-use Rattle.ldap_eval.specs.ldap_syntax.declared.rule.Syntax.{Syntax}
-use Rattle.ldap_eval.specs.ldap_syntax.declared.rule.Rule.{Rule}
+use Rattle.ldap_eval.specs.ldap_words.declared.rule.Family.{Family}
+use Rattle.ldap_eval.specs.ldap_words.declared.rule.Family.TheVariants as family
+use Rattle.ldap_eval.specs.ldap_words.declared.rule.Syntax.{Syntax}
+use Rattle.ldap_eval.specs.ldap_words.declared.rule.Rule.{Rule}
 use Rattle.ldap_eval.specs.dir_entry.ldap_schema.Schema.{SchemaModel, TypeModel}
 use Rattle.ldap_eval.specs.dir_entry.ldap_schema.Rules.{equality_in, equality_of}
 use Rattle.ldap_eval.specs.ldap_match.Meaning.{meaning}
@@ -28,7 +28,7 @@ use Rattle.search_plans.specs.Decided.{has_index_for, is_decided_on}
 use Rattle.search_plans.specs.Held.{utf8_parts, stands_in_text, stands_in_some, has_prepared_runs, has_runs_by, has_runs_on}
 use Rattle.search_plans.specs.OctetRuns.{has_runs_of_test, runs_of_all}
 use Rattle.search_plans.specs.OctetRuns as runs
-use Rattle.ldap_eval.specs.ldap_syntax.Octets.{utf8_of}
+use Rattle.ldap_eval.specs.ldap_words.Octets.{utf8_of}
 
 -- what a test on keys says is what the item says
 abbrev pub TestsAreItems : Type 0

@@ -3,7 +3,7 @@
 use Rattle.std.specs.Prelude.{ℕ, List, Bool, true, false, not, cond, ◌&&◌, ◌||◌, nat_eq, map, encode_utf8_all, Option, None, Some}
 use Rattle.std.specs.List.{list_any, list_all}
 use Rattle.ldap_eval.specs.ldap_syntax.Meaning.{Meaning, number, text, truth, octets, identifier, name}
-use Rattle.ldap_eval.specs.ldap_syntax.declared.rule.Rule.{Rule}
+use Rattle.ldap_eval.specs.ldap_words.declared.rule.Rule.{Rule}
 use Rattle.ldap_eval.specs.dir_entry.ldap_schema.Schema.{SchemaModel, find}
 use Rattle.ldap_eval.specs.ldap_filter.Item as filter_item
 use Rattle.ldap_eval.specs.ldap_filter.Item.{ExtensibleValue}
@@ -21,7 +21,7 @@ use Rattle.dir_index.specs.Postings.{stands_in}
 use Rattle.search_plans.specs.OctetRuns.{runs_of_all}
 use Rattle.search_plans.specs.OctetRuns as runs
 use Rattle.search_plans.specs.Decided.{types_under, is_left_open}
-use Rattle.ldap_eval.specs.ldap_syntax.Octets.{utf8_of}
+use Rattle.ldap_eval.specs.ldap_words.Octets.{utf8_of}
 use Rattle.std.specs.Option.{option_flatten}
 
 -- prepared parts, each in UTF-8

@@ -1,5 +1,5 @@
 use Rattle.std.proofs.Common.{ℕ, Vec, Global, ◌≡◌, ◌++◌, drop, map}
-use Rattle.ldap_match.specs.ldap_forms.Forms.{form_of}
+use Rattle.ldap_match.specs.ldap_syntax.Forms.{form_of}
 use Rattle.dir_entry.proofs.attribute.forms_of.Given as goal
 
 abbrev pub invariant-loop-value : goal.invariant-loop-value

@@ -1,5 +1,5 @@
 use Rattle.std.proofs.Common.{ℕ, Vec, Global, map, ap, sym, ◌∙◌}
-use Rattle.ldap_dn.specs.ldap_forms.Forms.{is_text_met}
+use Rattle.ldap_dn.specs.ldap_syntax.Forms.{is_text_met}
 use Rattle.ldap_match.specs.Truth.{truth_of}
 use Rattle.ldap_match.specs.Matched.{match_value}
 use Rattle.ldap_match.specs.declared.matching.MatchTest.{MatchTest}

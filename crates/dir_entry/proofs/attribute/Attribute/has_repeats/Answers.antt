@@ -1,5 +1,5 @@
 use Rattle.std.proofs.Common.{ℕ, Option, Vec, Global, map, ◌≡◌, ap, sym, ◌∙◌}
-use Rattle.ldap_match.specs.ldap_syntax.declared.rule.Rule.{Rule}
+use Rattle.ldap_match.specs.ldap_words.declared.rule.Rule.{Rule}
 use Rattle.ldap_match.specs.ldap_schema.Schema.{SchemaModel}
 use Rattle.ldap_match.specs.ldap_schema.Rules.{equality_of}
 use Rattle.std.proofs.lemmas.Result.{IfOk-weaker}

@@ -1,5 +1,5 @@
 use Rattle.std.proofs.Common.{ℕ, Vec, Global, map, ap, sym, ◌∙◌}
-use Rattle.ldap_match.specs.ldap_forms.Forms.{form_of}
+use Rattle.ldap_match.specs.ldap_syntax.Forms.{form_of}
 use Rattle.dir_entry.specs.Entry.{KeyedAttribute}
 use Rattle.dir_entry.specs.Picked.{picked}
 use Rattle.dir_entry.proofs.Picked.{map_picked}

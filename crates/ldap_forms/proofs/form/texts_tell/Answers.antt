@@ -1,5 +1,0 @@
-use Rattle.ldap_forms.proofs.Told.{told}
-use Rattle.ldap_forms.proofs.form.texts_tell.Goals as goal
-
-pub returns : goal.returns
-returns c = λ r less k v u t. told r.family r.syntax less k v u t

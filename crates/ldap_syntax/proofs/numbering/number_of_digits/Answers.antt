@@ -1,5 +1,0 @@
-use Rattle.ldap_syntax.proofs.Numbers.{digit_none}
-use Rattle.ldap_syntax.proofs.numbering.number_of_digits.Goals as goal
-
-pub returns-in-None : goal.returns-in-None
-returns-in-None c = digit_none c.args.text.now c.loop-octet.number c.loop-octet.octet-index c.loop-octet.invariant.read c.loop-octet-test.true c.in-None.ensures.longer

@@ -1,0 +1,23 @@
+//! Words: what schemas, filters and names are spelled with (RFC 4512 1.4), and which syntaxes and matching rules there are (RFC 4517). Octets flow
+//! in; whether they are a word of some kind, a number, or the rule of a name flows out. Values, their keys and schemas are not here.
+#![tactic(auto)]
+
+mod describing;
+mod folding;
+mod hexadecimal;
+mod identifying;
+mod numbering;
+mod offering;
+mod rule;
+mod rules_by_name;
+
+pub use describing::{is_alpha, is_descr, is_description, is_key_octet, is_oid, is_same_word};
+pub use folding::{compare_folded, lower_case};
+pub use hexadecimal::{hex_digit, hex_octet};
+pub use identifying::is_numericoid;
+pub use numbering::{is_digit, is_integer, is_number, number_of_digits};
+pub use offering::{has_ordering, has_substrings, is_used_on};
+pub use rule::{Family, Rule, Syntax};
+pub use rules_by_name::{
+    equality_family, family_number, ordering_family, substrings_family, syntax_of,
+};
