@@ -16,7 +16,7 @@ use Rattle.std.proofs.lemmas.Bool.{cases_order, eqb-true, eq-eqb, ne_eqb, lt-ltb
 use Rattle.std.proofs.lemmas.Cmp.{tied_itself, upto as le_trans}
 use Rattle.std.proofs.lemmas.Slice.Eq.{bytes_eq-Decides}
 use Rattle.std.proofs.lemmas.List.Elements.{recursion_from_All}
-use Rattle.index_choice.specs.ldap_syntax.Meaning.{is_before}
+use Rattle.dir_entry.specs.ldap_syntax.Meaning.{is_before}
 use Rattle.dir_index.specs.declared.posting.Posting.{Posting}
 use Rattle.dir_index.specs.declared.posting.Posting.TheVariants.{Present, Equal, Run}
 use Rattle.dir_index.specs.declared.posting.Range.{Range}

@@ -2,7 +2,7 @@
 -- How lists are changed is not here.
 use Rattle.std.specs.Prelude.{◌≡◌, ℕ, List, Bool, ◌&&◌, ◌||◌, not, filter, nat_eq}
 use Rattle.std.specs.List.{list_any}
-use Rattle.index_choice.specs.dir_entry.Entry.{KeyedAttribute}
+use Rattle.dir_entry.specs.Entry.{KeyedAttribute}
 use Rattle.index_choice.specs.declared.kinds.Kinds.{Kinds}
 use Rattle.dir_index.specs.declared.posting.Posting.{Posting}
 use Rattle.dir_index.specs.declared.sides.Side.{Side}

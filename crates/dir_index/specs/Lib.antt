@@ -9,6 +9,6 @@ pub mod Ranges
 pub mod Stored
 pub mod Whole
 -- what layers above name of the crates below
-pub use Rattle.index_choice.specs.ldap_match as ldap_match
-pub use Rattle.index_choice.specs.dir_entry as dir_entry
+pub use Rattle.dir_entry.specs.ldap_match as ldap_match
+pub use Rattle.dir_entry.specs as dir_entry
 pub use Rattle.index_choice.specs as index_choice

@@ -7,7 +7,7 @@ use Rattle.std.specs.Cmp.{IsEquivalence, IsTotalOrder, nat_cmp_total, on_total, 
 use Rattle.std.specs.Cmp.Lexicographic.{slice_cmp, nat_list_cmp_total, texts_ties}
 use Rattle.dir_index.specs.declared.posting.Posting.{Posting}
 use Rattle.dir_index.specs.Ordered.{type_of, rank_of, octets_of, posting_order, is_same_posting}
-use Rattle.index_choice.specs.dir_entry.ldap_dn.OrderLaws.{is_eq-then, tied}
+use Rattle.dir_entry.specs.ldap_dn.OrderLaws.{is_eq-then, tied}
 
 pub posting_total : IsTotalOrder posting_order
 posting_total = then_total (on_total type_of nat_cmp_total) (then_total (on_total rank_of nat_cmp_total) (on_total octets_of nat_list_cmp_total))

@@ -8,7 +8,7 @@ ghost use Rattle.dir_index.specs.Begun.{lists_before, lists_after};
 
 use crate::postings::Postings;
 use crate::sides::{Side, Sides};
-use index_choice::Entry;
+use dir_entry::Entry;
 use std::alloc::AllocError;
 use std::marker::Model;
 

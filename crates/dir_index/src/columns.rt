@@ -11,7 +11,8 @@ ghost use Rattle.dir_index.specs.Columns.{shown, column_at, column_numbers, is_o
 use crate::marks::Marks;
 use crate::posting::{Posting, Range};
 use crate::tables::copy_posting;
-use index_choice::{Indexes, Key};
+use dir_entry::Key;
+use index_choice::Indexes;
 use std::alloc::{AllocError, Global};
 use std::collections::BTreeMap;
 

@@ -18,7 +18,8 @@ mod sides;
 mod tables;
 
 pub use begun::Begun;
-pub use index_choice::{IndexError, Indexes, Truth};
+pub use dir_entry::Truth;
+pub use index_choice::{IndexError, Indexes};
 pub use kept::Kept;
 pub use posting::{Posting, Range};
 pub use postings::Postings;

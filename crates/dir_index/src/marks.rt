@@ -8,7 +8,8 @@ ghost use Rattle.dir_index.specs.Ordered.{is_same_posting};
 ghost use Rattle.dir_index.specs.Marked.{is_marked, lists_entry, is_of_key, is_first_run, is_run_of, is_from_key, is_from_presence, is_from_attribute};
 
 use crate::posting::Posting;
-use index_choice::{Attribute, Indexes, Key, Kinds, TypeId};
+use dir_entry::{Attribute, Key, TypeId};
+use index_choice::{Indexes, Kinds};
 use std::alloc::{AllocError, Global};
 use std::collections::BTreeSet;
 

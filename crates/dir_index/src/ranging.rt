@@ -14,7 +14,7 @@ ghost use Rattle.dir_index.specs.Ranges.{lists_in};
 use crate::columns::is_posting_in;
 use crate::posting::{Posting, Range};
 use crate::tables::Table;
-use index_choice::Key;
+use dir_entry::Key;
 use std::alloc::{AllocError, Global};
 use std::ops::Bound;
 

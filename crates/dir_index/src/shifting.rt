@@ -11,7 +11,7 @@ use crate::columns::{column_of, put_column};
 use crate::marks::{Marks, apart, marks_of, marks_of_both};
 use crate::postings::Postings;
 use crate::sides::{Sides, sides_of};
-use index_choice::Attribute;
+use dir_entry::Attribute;
 use std::alloc::AllocError;
 
 impl Postings {

@@ -7,7 +7,8 @@ ghost use Rattle.dir_index.specs.Begun.{side_shown, IsSideOf};
 use crate::columns::column_of;
 use crate::marks::{Marks, marks_of};
 use crate::posting::Posting;
-use index_choice::{Attribute, Indexes};
+use dir_entry::Attribute;
+use index_choice::Indexes;
 use std::alloc::{AllocError, Global};
 
 /// The postings that list an entry, and those of them that are kept in order.

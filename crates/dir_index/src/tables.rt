@@ -8,7 +8,7 @@ ghost use Rattle.dir_index.specs.Stored.{seen, list_at, is_in, AllRise};
 
 use crate::numbers::{put_in, take_out};
 use crate::posting::Posting;
-use index_choice::Key;
+use dir_entry::Key;
 use std::alloc::{AllocError, Global};
 use std::collections::BTreeMap;
 

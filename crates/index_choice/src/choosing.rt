@@ -7,7 +7,7 @@ ghost use Rattle.index_choice.specs.Texts.{chosen, joined as joined_kinds, one_m
 
 use crate::kinds::Kinds;
 use crate::line::{IndexLine, Named};
-use dir_entry::TypeId;
+use ldap_match::TypeId;
 use std::alloc::{AllocError, Global};
 
 /// The kinds of both.

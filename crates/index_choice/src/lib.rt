@@ -11,6 +11,5 @@ mod reading;
 mod words;
 
 pub use choice::Indexes;
-pub use dir_entry::{Attribute, Entry, Key, Truth, TypeId};
 pub use error::IndexError;
 pub use kinds::Kinds;

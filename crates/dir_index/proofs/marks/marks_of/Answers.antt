@@ -1,7 +1,7 @@
 use Rattle.std.proofs.Common.{List, ap, ◌∙◌}
 use Rattle.std.specs.List.{list_any}
 use Rattle.std.proofs.lemmas.List.{take_all}
-use Rattle.index_choice.specs.dir_entry.Entry.{KeyedAttribute}
+use Rattle.dir_entry.specs.Entry.{KeyedAttribute}
 use Rattle.dir_index.specs.Marked.{is_from_attribute}
 use Rattle.dir_index.proofs.Marking.{entry_lists}
 use Rattle.dir_index.proofs.marks.marks_of.Goals as goal

@@ -6,8 +6,8 @@ ghost use Rattle.search_plans.specs.dir_index.Postings.{IsRising};
 
 use crate::plans::shelf::{Always, Shelf, make_shelf, scope};
 use search_plans::{
-    BoundFilter, Indexes, Key, Leaf, Plan, Posting, Ran, Range, Sided, Test, Truth, TypeId, compile,
-    contains, run, start,
+    BoundFilter, Indexes, Key, Leaf, Plan, Posting, Ran, Range, Sided, Test, Truth, TypeId,
+    compile, contains, run, start,
 };
 use std::alloc::{AllocError, Global};
 use std::process::Abort;

@@ -4,8 +4,8 @@
 use crate::threads::signal::Signal;
 use client_link::{Connection, serve_all};
 use ldap_session::{
-    Client, CompareRequest, Config, Ended, Found, Gate, Look, LookError, Name, Reply,
-    Role, SearchAnswer, SearchRequest, Update,
+    Client, CompareRequest, Config, Ended, Found, Gate, Look, LookError, Name, Reply, Role,
+    SearchAnswer, SearchRequest, Update,
 };
 use schema_reader::built_in_schema;
 use std::alloc::Global;

@@ -1,5 +1,5 @@
 use Rattle.std.proofs.Common.{List, subst}
-use Rattle.index_choice.specs.dir_entry.Entry.{KeyedAttribute}
+use Rattle.dir_entry.specs.Entry.{KeyedAttribute}
 use Rattle.dir_index.specs.Marked.{lists_entry}
 use Rattle.dir_index.specs.Whole.{IsMoved}
 use Rattle.dir_index.proofs.Rows.{on_ok}
