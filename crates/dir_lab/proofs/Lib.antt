@@ -4,3 +4,4 @@ pub mod Schedules
 pub mod Searches
 pub mod Replies
 pub mod Committed
+pub mod Exact

@@ -20,7 +20,7 @@ use Rattle.dir_executed.specs.Executing.{ops_of}
 use Rattle.dir_executed.specs.dir_store.ldap_schema.Schema.{SchemaModel}
 use Rattle.dir_executed.specs.dir_store.ldap_dn.Names.{RdnModel}
 use Rattle.dir_executed.specs.dir_store.ldap_op.Values.{OpValue}
-use Rattle.dir_executed.specs.dir_store.Directory.{Directory}
+use Rattle.dir_executed.specs.dir_kept.Directory.{Directory}
 use Rattle.dir_executed.specs.dir_store.Updates.{applied, directory_after, directory_of, empty_directory, replies_after, replies_of}
 use Rattle.dir_executed.proofs.dir_store.Joins.{replies_join}
 use Rattle.dir_search.specs.Answer.{answer}

@@ -17,7 +17,7 @@ use Rattle.dir_executed.specs.dir_store.ldap_dn.Names.{RdnModel}
 use Rattle.dir_executed.specs.dir_store.ldap_op.Values.{OpValue}
 use Rattle.dir_executed.specs.dir_store.Updates.{directory_of}
 use Rattle.dir_search.specs.Answer.{answer}
-use Rattle.dir_search.proofs.Exact.{success_is_exact}
+use Rattle.dir_lab.proofs.Exact.{success_is_exact}
 use Rattle.dir_lab.specs.Headline.{committed_by, IsAway, IsAnswerAt, IsTold, SearchesAreTold}
 use Rattle.dir_lab.specs.Schedule.{happenings, executed, executions, found, shown_by, shown_from}
 use Rattle.dir_lab.specs.Shown.{Shown, Unavailable, NotYet, Answered}

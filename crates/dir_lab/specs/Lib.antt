@@ -2,6 +2,7 @@ pub mod Shown
 pub mod Schedule
 pub mod Executions
 pub mod Headline
+pub mod Exact
 -- what layers above name of the crates below
 pub use Rattle.vr_world.specs as vr_world
 pub use Rattle.dir_search.specs as dir_search

@@ -40,7 +40,7 @@ fn answer_over(
 ) -> Result<LabReply, AllocError>
     ensures { IfOk result (λ t. shown_view t ≡ Answered at (answer (directory_at executed.now) (search_view request.now))) }
 {
-    let answer = search(alloc, executed.store(), request)?;
+    let answer = search(alloc, &executed.store().reading(), request)?;
     Ok(LabReply::Answered { at, answer })
 }
 

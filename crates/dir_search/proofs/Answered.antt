@@ -2,15 +2,15 @@
 use Rattle.std.proofs.Common.{◌≡◌, ◌∙◌, ◌≤◌, ℕ, List, length, Result, sym, subst}
 use Rattle.std.specs.Prelude.{IfOk}
 use Rattle.std.proofs.Common.{Bool, true, false, ◌&&◌, not, Option, None, Some, ap}
-use Rattle.dir_store.specs.ldap_schema.Schema.{SchemaModel}
+use Rattle.dir_kept.specs.ldap_schema.Schema.{SchemaModel}
 use Rattle.ldap_eval.specs.declared.bound.BoundFilter.{BoundFilter}
 use Rattle.ldap_msg.specs.Messages.{SearchRequestValue}
 use Rattle.ldap_msg.specs.ldap_requests.declared.search.Scope.{Scope}
 use Rattle.ldap_msg.specs.ldap_requests.declared.search.Scope.TheVariants.{BaseObject, SingleLevel, WholeSubtree, SubordinateSubtree}
-use Rattle.dir_store.specs.index_choice.declared.kinds.Kinds.{Kinds}
-use Rattle.dir_store.specs.ldap_dn.Names.{RdnModel, rdns}
-use Rattle.dir_store.specs.dir_tree.Directory.{Entered}
-use Rattle.dir_store.specs.Listed.{StoreModel}
+use Rattle.dir_kept.specs.index_choice.declared.kinds.Kinds.{Kinds}
+use Rattle.dir_kept.specs.ldap_dn.Names.{RdnModel, rdns}
+use Rattle.dir_kept.specs.dir_tree.Directory.{Entered}
+use Rattle.dir_kept.specs.Listed.{StoreModel}
 use Rattle.dir_search.specs.Among.{FindsOf, FindsWhere}
 use Rattle.dir_search.specs.Answer.{Answer, is_subordinate, is_empty, is_base, stands}
 use Rattle.dir_search.specs.Counted.{IsCountAtBase, IsCountFrom, IsCountAt}

@@ -5,18 +5,18 @@ use Rattle.std.specs.Option.{option_map}
 use Rattle.std.specs.List.{AllByRecursion, slice_get}
 use Rattle.std.proofs.lemmas.List.{length-map}
 use Rattle.std.proofs.lemmas.Option.{slice_get-map}
-use Rattle.dir_store.specs.ldap_schema.Schema.{SchemaModel}
-use Rattle.dir_store.specs.dir_entry.Entry.{attributes_of}
-use Rattle.dir_store.specs.ldap_dn.Names.{RdnModel, rdns}
+use Rattle.dir_kept.specs.ldap_schema.Schema.{SchemaModel}
+use Rattle.dir_kept.specs.dir_entry.Entry.{attributes_of}
+use Rattle.dir_kept.specs.ldap_dn.Names.{RdnModel, rdns}
 use Rattle.ldap_filter.specs.Tree.{Tree, Trees, no_trees, tree}
 use Rattle.ldap_msg.specs.Messages.{SearchRequestValue}
 use Rattle.ldap_eval.specs.Bound.{IsBoundTo}
 use Rattle.ldap_eval.specs.Made.{IsMadeOf, AreMadeOf}
 use Rattle.ldap_eval.specs.declared.bound.BoundFilter.{BoundFilter}
-use Rattle.dir_store.specs.index_choice.declared.kinds.Kinds.{Kinds}
-use Rattle.dir_store.specs.dir_tree.Directory.{Entered, TreeModel, NumbersRise, entry_at, numbers}
-use Rattle.dir_store.specs.Directory.{NamedEntry}
-use Rattle.dir_store.specs.Stored.{named, directory, AreKeyedBy}
+use Rattle.dir_kept.specs.index_choice.declared.kinds.Kinds.{Kinds}
+use Rattle.dir_kept.specs.dir_tree.Directory.{Entered, TreeModel, NumbersRise, entry_at, numbers}
+use Rattle.dir_kept.specs.Directory.{NamedEntry}
+use Rattle.dir_kept.specs.Stored.{named, directory, AreKeyedBy}
 use Rattle.search_plans.specs.Bounds.{is_decided as is_bound_decided}
 use Rattle.search_plans.specs.Held.{has_runs}
 use Rattle.search_plans.proofs.Decided.{decided_same, runs_same}

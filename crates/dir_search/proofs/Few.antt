@@ -5,23 +5,23 @@ use Rattle.std.specs.List.{AllByRecursion, slice_get}
 use Rattle.std.proofs.lemmas.Bool.{or_right}
 use Rattle.std.proofs.lemmas.Bool.Decides.{nat_tests}
 use Rattle.std.proofs.lemmas.List.Sums.{count_by-le-length, length-filter}
-use Rattle.dir_store.specs.ldap_match.declared.truth.Truth.TheVariants.{True}
-use Rattle.dir_store.specs.ldap_schema.Schema.{SchemaModel}
+use Rattle.dir_kept.specs.ldap_match.declared.truth.Truth.TheVariants.{True}
+use Rattle.dir_kept.specs.ldap_schema.Schema.{SchemaModel}
 use Rattle.ldap_filter.specs.Tree.{Tree}
 use Rattle.ldap_msg.specs.Messages.{SearchRequestValue}
 use Rattle.ldap_eval.specs.Bound.{bound_value, IsBoundTo}
 use Rattle.ldap_eval.specs.Made.{IsMadeOf}
 use Rattle.ldap_eval.specs.declared.bound.BoundFilter.{BoundFilter}
-use Rattle.dir_store.specs.index_choice.declared.kinds.Kinds.{Kinds}
-use Rattle.dir_store.specs.dir_index.Postings.{has_number, IsRising}
-use Rattle.dir_store.specs.dir_tree.Directory.{Entered, entry_at, numbers}
-use Rattle.dir_store.specs.Directory.{NamedEntry}
-use Rattle.dir_store.specs.Stored.{named, AreKeyedBy}
+use Rattle.dir_kept.specs.index_choice.declared.kinds.Kinds.{Kinds}
+use Rattle.dir_kept.specs.dir_index.Postings.{has_number, IsRising}
+use Rattle.dir_kept.specs.dir_tree.Directory.{Entered, entry_at, numbers}
+use Rattle.dir_kept.specs.Directory.{NamedEntry}
+use Rattle.dir_kept.specs.Stored.{named, AreKeyedBy}
 use Rattle.search_plans.specs.Bounds.{is_decided}
 use Rattle.search_plans.specs.Planned.{ArePlansFor}
 use Rattle.search_plans.specs.declared.plan.Plan.{Plan}
 use Rattle.search_plans.specs.Runs.{is_true as is_true_value}
-use Rattle.dir_store.specs.Listed.{listed_of}
+use Rattle.dir_kept.specs.Listed.{listed_of}
 use Rattle.dir_search.specs.Answer.{is_true, is_match, limited}
 use Rattle.dir_search.specs.Counted.{first_past}
 use Rattle.dir_search.specs.Looks.{value_on, value_in, IsBoundOn, true_numbers, has_runs_on, leaves_open_on, up_to, AreNumbersOf, AreHere, IsFew, LeavesFew}

@@ -3,19 +3,19 @@
 use Rattle.std.proofs.Common.{◌≡◌, ◌<◌, ℕ, Bool, true, false, cond, not, ◌||◌, ◌&&◌, List, [], ◌∷◌, Some, Vec, Global, map, nat_eq, refl, sym, ap, ap₂, ◌∙◌, subst, inl, inr, eqb-true}
 use mathlib.Core.Path.{fun_ext}
 use Rattle.std.specs.List.{AllByRecursion}
-use Rattle.dir_store.specs.ldap_match.declared.truth.Truth.TheVariants.{True}
-use Rattle.dir_store.specs.dir_entry.Entry.{KeyedAttribute}
-use Rattle.dir_store.specs.ldap_dn.Names.{RdnModel}
+use Rattle.dir_kept.specs.ldap_match.declared.truth.Truth.TheVariants.{True}
+use Rattle.dir_kept.specs.dir_entry.Entry.{KeyedAttribute}
+use Rattle.dir_kept.specs.ldap_dn.Names.{RdnModel}
 use Rattle.ldap_eval.specs.Bound.{bound_value}
 use Rattle.ldap_eval.specs.declared.bound.BoundFilter.{BoundFilter}
 use Rattle.ldap_eval.specs.declared.bound.BoundFilter.TheVariants as bound
-use Rattle.dir_store.specs.index_choice.declared.kinds.Kinds.{Kinds}
-use Rattle.dir_store.specs.dir_index.Postings.{Indexed, Lists, has_number, IsRising, postings_of}
-use Rattle.dir_store.specs.dir_index.Whole.{ArePostingsOf}
-use Rattle.dir_store.specs.dir_index.declared.posting.Posting.{Posting}
-use Rattle.dir_store.specs.dir_index.declared.posting.Range.{Range}
-use Rattle.dir_store.specs.dir_tree.Directory.{Entered, entry_at, numbers}
-use Rattle.dir_store.specs.Listed.{listed_of}
+use Rattle.dir_kept.specs.index_choice.declared.kinds.Kinds.{Kinds}
+use Rattle.dir_kept.specs.dir_index.Postings.{Indexed, Lists, has_number, IsRising, postings_of}
+use Rattle.dir_kept.specs.dir_index.Whole.{ArePostingsOf}
+use Rattle.dir_kept.specs.dir_index.declared.posting.Posting.{Posting}
+use Rattle.dir_kept.specs.dir_index.declared.posting.Range.{Range}
+use Rattle.dir_kept.specs.dir_tree.Directory.{Entered, entry_at, numbers}
+use Rattle.dir_kept.specs.Listed.{listed_of}
 use Rattle.search_plans.specs.Sets.{is_in, holds, AreNumbered, HasEntry, Guides, SetsAreOfEntries}
 use Rattle.search_plans.specs.declared.plan.Plan.{Plan}
 use Rattle.search_plans.specs.Bounds.{is_decided, BoundsSets, DecidedAreTrue}

@@ -1,6 +1,6 @@
 -- The entries of the numbers that the tree keeps. Facts on lists flow in and out; no value of the program is here.
 use Rattle.std.proofs.Common.{◌≡◌, ◌<◌, ℕ, List, [], ◌∷◌, refl, ap, ◌∙◌, arith, Bool, true, false, cond, filter, Some, nat_eq}
-use Rattle.dir_store.specs.dir_tree.Directory.{Entered, entry_at, numbers, AllAbove, NumbersRise}
+use Rattle.dir_kept.specs.dir_tree.Directory.{Entered, entry_at, numbers, AllAbove, NumbersRise}
 use Rattle.dir_search.specs.Numbered.{put_some, entries_of}
 
 -- each of the numbers is above one

@@ -2,15 +2,15 @@
 use Rattle.std.proofs.Common.{◌≡◌, ℕ, suc, length, Bool, true, false, cond, List, [], ◌∷◌, Option, Some, None, map, filter, refl, sym, ap, ◌∙◌}
 use Rattle.std.specs.Prelude.{is_some}
 use Rattle.std.specs.Option.{option_map}
-use Rattle.dir_store.specs.ldap_schema.Schema.{SchemaModel}
-use Rattle.dir_store.specs.ldap_dn.Names.{RdnModel, rdns}
+use Rattle.dir_kept.specs.ldap_schema.Schema.{SchemaModel}
+use Rattle.dir_kept.specs.ldap_dn.Names.{RdnModel, rdns}
 use Rattle.ldap_msg.specs.ldap_requests.declared.search.Scope.{Scope}
 use Rattle.ldap_msg.specs.Messages.{SearchRequestValue}
-use Rattle.dir_store.specs.dir_tree.Directory as tree
-use Rattle.dir_store.specs.dir_tree.Directory.{NameKey, Entered, TreeModel, NumbersRise, name_eq, begins, find, numbers, is_at_or_below}
-use Rattle.dir_store.specs.Directory.{NamedEntry}
-use Rattle.dir_store.specs.Places.{entry_named}
-use Rattle.dir_store.specs.Stored.{named, directory}
+use Rattle.dir_kept.specs.dir_tree.Directory as tree
+use Rattle.dir_kept.specs.dir_tree.Directory.{NameKey, Entered, TreeModel, NumbersRise, name_eq, begins, find, numbers, is_at_or_below}
+use Rattle.dir_kept.specs.Directory.{NamedEntry}
+use Rattle.dir_kept.specs.Places.{entry_named}
+use Rattle.dir_kept.specs.Stored.{named, directory}
 use Rattle.dir_search.specs.Answer.{is_empty, is_match, in_scope, limited, stands, found_at}
 use Rattle.dir_search.specs.Numbered.{found_of}
 use Rattle.dir_search.specs.Scopes.{is_right_under, is_in_scope}

@@ -4,8 +4,8 @@ use Rattle.std.specs.Prelude.{filter, nat_le}
 use Rattle.std.specs.List.{slice_get}
 use Rattle.std.proofs.lemmas.Bool.Decides.{nat_tests}
 use Rattle.ldap_msg.specs.Messages.{SearchResultEntryValue}
-use Rattle.dir_store.specs.dir_tree.Directory.{Entered}
-use Rattle.dir_store.specs.Directory.{NamedEntry}
+use Rattle.dir_kept.specs.dir_tree.Directory.{Entered}
+use Rattle.dir_kept.specs.Directory.{NamedEntry}
 use Rattle.dir_search.specs.Counted.{first_past}
 use Rattle.dir_search.specs.Looks.{up_to}
 use Rattle.dir_search.specs.View.{answer_view, Shows}

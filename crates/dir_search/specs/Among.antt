@@ -1,9 +1,9 @@
 -- What a search finds whose filter is bound. The search, and numbers or a test of names, flow in; whether an answer is what it finds among the entries
 -- of these flows out. Only this crate's own contracts speak of it.
 use Rattle.std.specs.Prelude.{ℕ, List, Bool}
-use Rattle.dir_store.specs.ldap_dn.Names.{rdns}
+use Rattle.dir_kept.specs.ldap_dn.Names.{rdns}
 use Rattle.ldap_msg.specs.View.{search_view}
-use Rattle.dir_store.specs.dir_tree.Directory.{NameKey, numbers}
+use Rattle.dir_kept.specs.dir_tree.Directory.{NameKey, numbers}
 use Rattle.dir_search.specs.View.{FindsAmong}
 use Rattle.dir_search.specs.declared.bound_search.BoundSearch.{BoundSearch}
 use Rattle.dir_search.specs.declared.found.SearchAnswer.{SearchAnswer}

@@ -1,17 +1,17 @@
 -- The answer of a search: RFC 4511 4.5.1, 4.5.2 and 4.1.9. A directory and a search request flow in; the result code, matchedDN and what is
 -- shown of each entry flow out.
 use Rattle.std.specs.Prelude.{ℕ, List, [], ◌∷◌, Bool, true, false, ◌&&◌, ◌||◌, cond, map, filter, take, length, nat_lt, Option, None, Some, is_some}
-use Rattle.dir_store.specs.ldap_schema.Schema.{SchemaModel}
+use Rattle.dir_kept.specs.ldap_schema.Schema.{SchemaModel}
 use Rattle.ldap_filter.specs.Tree.{Tree}
-use Rattle.dir_store.specs.ldap_dn.Names.{RdnModel, rdns}
-use Rattle.dir_store.specs.ldap_dn.Texts.{name_of_text}
+use Rattle.dir_kept.specs.ldap_dn.Names.{RdnModel, rdns}
+use Rattle.dir_kept.specs.ldap_dn.Texts.{name_of_text}
 use Rattle.ldap_msg.specs.ldap_requests.declared.search.Scope.{Scope}
 use Rattle.ldap_msg.specs.ldap_requests.declared.search.Scope.TheVariants.{BaseObject, SingleLevel, WholeSubtree, SubordinateSubtree}
 use Rattle.ldap_msg.specs.Messages.{SearchRequestValue, SearchResultEntryValue}
 use Rattle.ldap_eval.specs.Value.{filter_value}
-use Rattle.dir_store.specs.Directory.{Directory, NamedEntry}
-use Rattle.dir_store.specs.Places.{entry_named}
-use Rattle.dir_store.specs.Replies.{ReplyModel, only, not_found}
+use Rattle.dir_kept.specs.Directory.{Directory, NamedEntry}
+use Rattle.dir_kept.specs.Places.{entry_named}
+use Rattle.dir_kept.specs.Replies.{ReplyModel, only, not_found}
 use Rattle.dir_search.specs.Scopes.{is_in_scope}
 use Rattle.dir_search.specs.Selection.{selected}
 use Rattle.dir_search.specs.RootDse.{dse_attributes, dse_selected}

@@ -1,17 +1,17 @@
 -- The reply to a compare: RFC 4511 4.10. A directory and a request flow in; a code and matchedDN flow out.
 use Rattle.std.specs.Prelude.{ℕ, List, Bool, cond, not, Option, None, Some, Result, Ok, Err}
 use Rattle.std.specs.List.{list_any}
-use Rattle.dir_store.specs.ldap_schema.Schema.{SchemaModel, find, is_under}
-use Rattle.dir_store.specs.ldap_match.Item.{equal, is_of_syntax}
-use Rattle.dir_store.specs.ldap_match.declared.truth.Truth.{Truth}
-use Rattle.dir_store.specs.ldap_match.declared.truth.Truth.TheVariants.{True, False, Undefined}
+use Rattle.dir_kept.specs.ldap_schema.Schema.{SchemaModel, find, is_under}
+use Rattle.dir_kept.specs.ldap_match.Item.{equal, is_of_syntax}
+use Rattle.dir_kept.specs.ldap_match.declared.truth.Truth.{Truth}
+use Rattle.dir_kept.specs.ldap_match.declared.truth.Truth.TheVariants.{True, False, Undefined}
 use Rattle.ldap_eval.specs.Value.{item_on_type}
 use Rattle.ldap_msg.specs.ldap_requests.Values.{AssertionValue}
 use Rattle.ldap_msg.specs.Messages.{CompareRequestValue}
-use Rattle.dir_store.specs.dir_entry.Entry.{AttributeModel}
-use Rattle.dir_store.specs.Directory.{Directory, NamedEntry}
-use Rattle.dir_store.specs.Replies.{ReplyModel, only, then}
-use Rattle.dir_store.specs.Updates.{name_asked, entry_asked}
+use Rattle.dir_kept.specs.dir_entry.Entry.{AttributeModel}
+use Rattle.dir_kept.specs.Directory.{Directory, NamedEntry}
+use Rattle.dir_kept.specs.Replies.{ReplyModel, only, then}
+use Rattle.dir_kept.specs.Replies.{name_asked, entry_asked}
 
 -- compareTrue (6), compareFalse (5), and invalidAttributeSyntax (21) where nobody can tell
 abbrev pub code_of_truth : Truth → ℕ

@@ -3,7 +3,6 @@ pub mod Selection
 pub mod Resolved
 pub mod RootDse
 pub mod Answer
-pub mod Exact
 pub mod Compared
 pub mod Numbered
 pub mod Looks
@@ -12,10 +11,9 @@ pub mod Evaluated
 pub mod View
 pub mod Among
 -- what layers above name of the crates below
-pub use Rattle.dir_store.specs.ldap_op as ldap_op
 pub use Rattle.ldap_msg.specs as ldap_msg
-pub use Rattle.dir_store.specs.ldap_schema as ldap_schema
-pub use Rattle.dir_store.specs.ldap_dn as ldap_dn
-pub use Rattle.dir_store.specs.index_choice as index_choice
-pub use Rattle.dir_store.specs.dir_tree as dir_tree
-pub use Rattle.dir_store.specs as dir_store
+pub use Rattle.dir_kept.specs.ldap_schema as ldap_schema
+pub use Rattle.dir_kept.specs.ldap_dn as ldap_dn
+pub use Rattle.dir_kept.specs.index_choice as index_choice
+pub use Rattle.dir_kept.specs.dir_tree as dir_tree
+pub use Rattle.dir_kept.specs as dir_kept

@@ -1,13 +1,13 @@
 -- Entries by their numbers. Numbers and entries flow in; the entries of the numbers flow out, and what a search shows of them. Scopes are not
 -- here.
 use Rattle.std.specs.Prelude.{ℕ, List, map, filter}
-use Rattle.dir_store.specs.ldap_schema.Schema.{SchemaModel}
+use Rattle.dir_kept.specs.ldap_schema.Schema.{SchemaModel}
 use Rattle.ldap_msg.specs.Messages.{SearchRequestValue}
-use Rattle.dir_store.specs.dir_tree.Directory.{Entered}
-use Rattle.dir_store.specs.Stored.{named}
+use Rattle.dir_kept.specs.dir_tree.Directory.{Entered}
+use Rattle.dir_kept.specs.Stored.{named}
 use Rattle.dir_search.specs.Answer.{Answer, is_match, limited}
 use Rattle.dir_search.specs.Selection.{selected}
-pub use Rattle.dir_store.specs.dir_tree.Renamed.{put_some, entries_of}
+pub use Rattle.dir_kept.specs.dir_tree.Renamed.{put_some, entries_of}
 
 -- what a search shows of the entries of these numbers that match, up to the limit
 abbrev pub found_of : SchemaModel → SearchRequestValue → List ℕ → List Entered → Answer

@@ -2,13 +2,13 @@
 use Rattle.std.specs.Prelude.{ℕ, List, [], ◌∷◌, ◌++◌, Bool, cond, codes, Result, Ok, Err, Option, Some, None}
 use Rattle.std.specs.List.{list_any}
 use Rattle.std.specs.Str.{str_eq_ignore_ascii_case}
-use Rattle.dir_store.specs.ldap_schema.Schema.{SchemaModel, find}
-use Rattle.dir_store.specs.ldap_dn.Printed.{printed_name}
-use Rattle.dir_store.specs.dir_entry.Entry.{AttributeModel}
-use Rattle.dir_store.specs.dir_entry.Adding.{with_attribute}
-use Rattle.dir_store.specs.ldap_parts.Values.{PartialAttributeValue}
+use Rattle.dir_kept.specs.ldap_schema.Schema.{SchemaModel, find}
+use Rattle.dir_kept.specs.ldap_dn.Printed.{printed_name}
+use Rattle.dir_kept.specs.dir_entry.Entry.{AttributeModel}
+use Rattle.dir_kept.specs.dir_entry.Adding.{with_attribute}
+use Rattle.dir_kept.specs.ldap_parts.Values.{PartialAttributeValue}
 use Rattle.ldap_msg.specs.Messages.{SearchResultEntryValue}
-use Rattle.dir_store.specs.Directory.{Directory}
+use Rattle.dir_kept.specs.Directory.{Directory}
 use Rattle.dir_search.specs.Selection.{attributes_selected}
 
 abbrev pub or_nothing : Result (List AttributeModel) ℕ → List AttributeModel

@@ -2,7 +2,7 @@
 use Rattle.std.specs.Prelude.{Bool, false, [], ◌∷◌}
 use Rattle.ldap_msg.specs.ldap_requests.declared.search.Scope.{Scope}
 use Rattle.ldap_msg.specs.ldap_requests.declared.search.Scope.TheVariants.{BaseObject, SingleLevel, WholeSubtree, SubordinateSubtree}
-use Rattle.dir_store.specs.dir_tree.Directory.{NameKey, name_eq, begins, is_child}
+use Rattle.dir_kept.specs.dir_tree.Directory.{NameKey, name_eq, begins, is_child}
 
 -- whether a name stands right under a base; right under the empty name stands the directory's root alone (RFC 4512 5.1)
 abbrev pub is_right_under : NameKey → NameKey → NameKey → Bool

@@ -3,12 +3,12 @@
 use Rattle.std.specs.Prelude.{ℕ, List, [], ◌∷◌, Bool, true, false, not, ◌&&◌, ◌||◌, if◌then◌else◌, map, filter, codes, Option, Some, None}
 use Rattle.std.specs.List.{list_any}
 use Rattle.std.specs.Str.{bytes_eq}
-use Rattle.dir_store.specs.ldap_schema.Schema.{SchemaModel, find, is_under, type_at}
-use Rattle.dir_store.specs.dir_entry.Entry.{AttributeModel}
+use Rattle.dir_kept.specs.ldap_schema.Schema.{SchemaModel, find, is_under, type_at}
+use Rattle.dir_kept.specs.dir_entry.Entry.{AttributeModel}
 use Rattle.ldap_msg.specs.Messages.{PartialAttributeValue, SearchResultEntryValue}
-use Rattle.dir_store.specs.ldap_dn.Printed.{printed_name}
-use Rattle.dir_store.specs.Directory.{NamedEntry}
-pub use Rattle.dir_store.specs.ldap_dn.Printed.{name_of_type}
+use Rattle.dir_kept.specs.ldap_dn.Printed.{printed_name}
+use Rattle.dir_kept.specs.Directory.{NamedEntry}
+pub use Rattle.dir_kept.specs.ldap_dn.Printed.{name_of_type}
 
 -- a recognised description selects its type and the subtypes (RFC 4512 2.5.1); another one selects nothing
 abbrev pub is_named_by : SchemaModel → ℕ → Option ℕ → Bool

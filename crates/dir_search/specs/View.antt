@@ -1,14 +1,14 @@
 -- What an answer in memory stands for, and how many entries it tells of.
 use Rattle.std.specs.Prelude.{◌≡◌, ℕ, ◌<◌, ◌≤◌, List, length, map, filter, nat_le, Some, string_bytes}
 use Rattle.std.specs.List.{slice_get}
-use Rattle.dir_store.specs.ldap_schema.Schema.{SchemaModel}
+use Rattle.dir_kept.specs.ldap_schema.Schema.{SchemaModel}
 use Rattle.ldap_eval.specs.declared.bound.BoundFilter.{BoundFilter}
 use Rattle.ldap_msg.specs.Messages.{SearchRequestValue, SearchResultEntryValue}
 use Rattle.ldap_msg.specs.View.{entry_view}
-use Rattle.dir_store.specs.index_choice.declared.kinds.Kinds.{Kinds}
-use Rattle.dir_store.specs.dir_tree.Directory.{Entered}
-use Rattle.dir_store.specs.Directory.{NamedEntry}
-use Rattle.dir_store.specs.Stored.{named}
+use Rattle.dir_kept.specs.index_choice.declared.kinds.Kinds.{Kinds}
+use Rattle.dir_kept.specs.dir_tree.Directory.{Entered}
+use Rattle.dir_kept.specs.Directory.{NamedEntry}
+use Rattle.dir_kept.specs.Stored.{named}
 use Rattle.dir_search.specs.Answer.{Answer, limited}
 use Rattle.dir_search.specs.Counted.{first_past}
 use Rattle.dir_search.specs.Looks.{true_numbers, up_to, IsFew, IsCountAmong}

@@ -1,17 +1,17 @@
 //! A search whose filter is bound: the numbers in scope of the entries whose filter value is True are drawn from plans, in order, up to the size
 //! limit. A tree and a request flow in, what is shown of the entries flows out. How a filter is bound, and how plans are made, is not here.
 ghost use Rattle.std.specs.Prelude.{◌≡◌, ℕ, List, true, false, IfOk};
-ghost use Rattle.dir_store.specs.ldap_schema.Schema.{SchemaModel};
+ghost use Rattle.dir_kept.specs.ldap_schema.Schema.{SchemaModel};
 ghost use Rattle.ldap_filter.specs.Tree.{Tree as FilterTree};
 ghost use Rattle.ldap_filter.specs.View.{view as filter_view};
-ghost use Rattle.dir_store.specs.ldap_dn.Names.{rdns};
+ghost use Rattle.dir_kept.specs.ldap_dn.Names.{rdns};
 ghost use Rattle.ldap_eval.specs.Bound.{IsBoundTo};
 ghost use Rattle.ldap_eval.specs.Made.{IsMadeOf};
-ghost use Rattle.dir_store.specs.dir_index.Whole.{lists_of, ArePostingsOf};
-ghost use Rattle.dir_store.specs.dir_index.Postings.{has_number};
-ghost use Rattle.dir_store.specs.dir_tree.Directory.{name_eq, begins, entry_at};
-ghost use Rattle.dir_store.specs.Listed.{listed_of};
-ghost use Rattle.dir_store.specs.Stored.{directory};
+ghost use Rattle.dir_kept.specs.dir_index.Whole.{lists_of, ArePostingsOf};
+ghost use Rattle.dir_kept.specs.dir_index.Postings.{has_number};
+ghost use Rattle.dir_kept.specs.dir_tree.Directory.{name_eq, begins, entry_at};
+ghost use Rattle.dir_kept.specs.Listed.{listed_of};
+ghost use Rattle.dir_kept.specs.Stored.{directory};
 ghost use Rattle.search_plans.specs.Sets.{is_in};
 ghost use Rattle.search_plans.specs.Planned.{ArePlansFor};
 ghost use Rattle.search_plans.specs.Runs.{AreGuides, is_open};
@@ -23,7 +23,7 @@ use crate::found::SearchAnswer;
 use crate::scoping::{is_unnamed, numbers_right_under, numbers_within};
 use crate::showing::show_found;
 use crate::values::Evaluated;
-use dir_store::{IndexedTree, Postings, Rdn, Schema, Tree};
+use dir_kept::{IndexedTree, Postings, Rdn, Schema, Tree};
 use ldap_eval::BoundFilter;
 use ldap_msg::{Scope, SearchRequest};
 use search_plans::{Sided, compile, sets_are_of_entries, start};

@@ -5,16 +5,16 @@ ghost use Rattle.ldap_filter.specs.Tree.{item};
 ghost use Rattle.ldap_filter.specs.View.{view as filter_view};
 ghost use Rattle.ldap_msg.specs.View.{compare_view};
 ghost use Rattle.ldap_msg.specs.ldap_requests.View.{ava_view};
-ghost use Rattle.dir_store.specs.dir_entry.Entry.{attributes_of, IsKeyedBy};
+ghost use Rattle.dir_kept.specs.dir_entry.Entry.{attributes_of, IsKeyedBy};
 ghost use Rattle.std.specs.List.{list_any};
-ghost use Rattle.dir_store.specs.ldap_schema.Schema.{find, is_under};
-ghost use Rattle.dir_store.specs.View.{reply_view};
-ghost use Rattle.dir_store.specs.Replies.{only};
-ghost use Rattle.dir_store.specs.Updates.{entry_asked};
+ghost use Rattle.dir_kept.specs.ldap_schema.Schema.{find, is_under};
+ghost use Rattle.dir_kept.specs.View.{reply_view};
+ghost use Rattle.dir_kept.specs.Replies.{only};
+ghost use Rattle.dir_kept.specs.Replies.{entry_asked};
 ghost use Rattle.dir_search.specs.Compared.{code_of_truth, has_under as has_type_under, code_on_type, code_on, reply_on, compared};
 
-use dir_store::{
-    Attribute, Entry, Name, NameError, Rdn, Reply, Schema, Store, Truth, TypeId, is_of_syntax,
+use dir_kept::{
+    Attribute, Entry, Name, NameError, Rdn, Reading, Reply, Schema, Truth, TypeId, is_of_syntax,
 };
 use ldap_eval::{bind, value};
 use ldap_filter::Filter;
@@ -110,7 +110,7 @@ fn compare_entry(
 /// The reply of an assertion on the entry of a name.
 fn compare_at(
     alloc: Global,
-    store: &Store,
+    store: &Reading<'_>,
     name: &[Rdn],
     ava: &AttributeValueAssertion,
 ) -> Result<Reply, AllocError>
@@ -128,7 +128,11 @@ fn compare_at(
 /// The reply to a compare (RFC 4511 4.10): 34 for a text that is no name, 32 for a name without an entry, 17 for a description that is no type's,
 /// 21 for an assertion that is not in the type's syntax, 16 where the entry has no such attribute, then 6 or 5; 21 where the type has
 /// no EQUALITY rule. Only want of memory is an error.
-pub fn compare(alloc: Global, store: &Store, request: &CompareRequest) -> Result<Reply, AllocError>
+pub fn compare(
+    alloc: Global,
+    store: &Reading<'_>,
+    request: &CompareRequest,
+) -> Result<Reply, AllocError>
     ensures { IfOk result (λ r. reply_view r ≡ compared store.now.directory (compare_view request.now)) }
 {
     match Name::read(alloc, store.schema(), &request.entry) {

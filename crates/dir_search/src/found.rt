@@ -1,9 +1,9 @@
 //! What a search finds. A reply flows in where there is nothing to find; plain data flows out.
-ghost use Rattle.dir_store.specs.View.{reply_view};
+ghost use Rattle.dir_kept.specs.View.{reply_view};
 ghost use Rattle.dir_search.specs.Answer.{refused as refused_answer};
 ghost use Rattle.dir_search.specs.View.{Finds};
 
-use dir_store::Reply;
+use dir_kept::Reply;
 use ldap_msg::{ResultCode, SearchResultEntry};
 use std::alloc::Global;
 

@@ -5,7 +5,6 @@
 mod bound_search;
 mod comparing;
 mod found;
-mod laws;
 mod resolving;
 mod root_dse;
 mod scoping;
@@ -15,11 +14,8 @@ mod showing;
 mod values;
 
 pub use comparing::compare;
-pub use dir_store::{
-    IndexError, Indexes, Name, NameError, Op, Reply, Schema, Store, Update, are_same,
-};
+pub use dir_kept::{IndexError, Indexes, Name, NameError, Reading, Reply, Schema, are_same};
 pub use found::SearchAnswer;
-pub use laws::success_is_exact;
 pub use ldap_msg::{
     AddRequest, Attribute, CompareRequest, DerefAliases, ResultCode, Scope, SearchRequest,
 };

@@ -7,7 +7,7 @@ ghost use Rattle.ldap_filter.specs.View.{view as filter_view};
 ghost use Rattle.ldap_eval.specs.Value.{filter_value};
 ghost use Rattle.search_plans.specs.Runs.{is_true};
 ghost use Rattle.ldap_msg.specs.View.{attribute_view, entry_view, search_view};
-ghost use Rattle.dir_store.specs.dir_entry.Entry.{attributes_of, IsKeyedBy};
+ghost use Rattle.dir_kept.specs.dir_entry.Entry.{attributes_of, IsKeyedBy};
 ghost use Rattle.dir_search.specs.Answer.{dse_matching};
 ghost use Rattle.dir_search.specs.Resolved.{selectors_of};
 ghost use Rattle.dir_search.specs.RootDse.{class_top, dse_attributes, dse_selected, where_named, without_values};
@@ -17,7 +17,7 @@ use crate::found::SearchAnswer;
 use crate::resolving::Selection;
 use crate::searching::matches;
 use crate::selecting::Showing;
-use dir_store::{Entry, EntryError, Name, Schema, Store, TypeId};
+use dir_kept::{Entry, EntryError, Name, Reading, Schema, TypeId};
 use ldap_eval::bind;
 use ldap_filter::Filter;
 use ldap_msg::{PartialAttribute, ResultCode, SearchRequest, SearchResultEntry};
@@ -125,7 +125,7 @@ impl Showing<'_> {
 /// What is shown of the root DSE.
 fn shown_root(
     alloc: Global,
-    store: &Store,
+    store: &Reading<'_>,
     entry: &Entry,
     request: &SearchRequest,
 ) -> Result<SearchResultEntry, AllocError>
@@ -172,7 +172,7 @@ fn takes_root(
 /// The search of the empty name alone (RFC 4512 5.1).
 pub fn show_root(
     alloc: Global,
-    store: &Store,
+    store: &Reading<'_>,
     request: &SearchRequest,
 ) -> Result<SearchAnswer, AllocError>
     ensures found { IfOk result (λ a. Finds a (record { code = 0; matched = []; entries = dse_matching store.now.directory (search_view request.now) }) 1) }

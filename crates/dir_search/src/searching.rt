@@ -1,15 +1,15 @@
 //! The search itself: what a request's base stands for, the root DSE, entries or nothing, and the answer. A directory and a request flow in, the
 //! result code and what is shown of the entries flow out. How the entries in scope are gone over is not here.
 ghost use Rattle.std.specs.Prelude.{◌≡◌, ◌≤◌, ◌&&◌, length, true, IfOk};
-ghost use Rattle.dir_store.specs.ldap_schema.Schema.{SchemaModel};
+ghost use Rattle.dir_kept.specs.ldap_schema.Schema.{SchemaModel};
 ghost use Rattle.ldap_filter.specs.Tree.{Tree as FilterTree};
-ghost use Rattle.dir_store.specs.ldap_dn.Texts.{name_of_text};
+ghost use Rattle.dir_kept.specs.ldap_dn.Texts.{name_of_text};
 ghost use Rattle.ldap_eval.specs.Bound.{IsBoundTo};
 ghost use Rattle.ldap_eval.specs.Value.{filter_value};
 ghost use Rattle.ldap_msg.specs.View.{search_view};
-ghost use Rattle.dir_store.specs.dir_entry.Entry.{attributes_of, IsKeyedBy};
-ghost use Rattle.dir_store.specs.Replies.{only};
-ghost use Rattle.dir_store.specs.Stored.{directory, AreKeyedBy};
+ghost use Rattle.dir_kept.specs.dir_entry.Entry.{attributes_of, IsKeyedBy};
+ghost use Rattle.dir_kept.specs.Replies.{only};
+ghost use Rattle.dir_kept.specs.Stored.{directory, AreKeyedBy};
 ghost use Rattle.dir_search.specs.Answer.{answer, answer_of, answer_at, found_at, in_scope, tried, tried_of, tried_at, refused as refused_answer, is_true, is_base, stands, is_empty};
 ghost use Rattle.dir_search.specs.Counted.{IsCountAtBase, IsCountFrom, IsCountOf};
 ghost use Rattle.dir_search.specs.Evaluated.{IsFewAtBase, LooksAtFew, goes_over};
@@ -19,7 +19,7 @@ use crate::bound_search::BoundSearch;
 use crate::found::{SearchAnswer, refused};
 use crate::root_dse::show_root;
 use crate::scoping::is_unnamed;
-use dir_store::{Entry, IndexedTree, Name, NameError, Rdn, Reply, Schema, Store, Truth};
+use dir_kept::{Entry, IndexedTree, Name, NameError, Rdn, Reading, Reply, Schema, Truth};
 use ldap_eval::{BoundFilter, bind, value};
 use ldap_msg::{ResultCode, Scope, SearchRequest};
 use search_plans::tests_are_items;
@@ -76,7 +76,7 @@ fn asks_for_root(scope: Scope, base: &[Rdn]) -> bool
 }
 
 /// Whether a base stands: the empty name, or an entry's.
-fn is_standing(store: &Store, base: &[Rdn]) -> bool
+fn is_standing(store: &Reading<'_>, base: &[Rdn]) -> bool
     ensures { result ≡ stands store.now.directory base.now }
 {
     is_unnamed(base) || store.find(base).is_some()
@@ -85,7 +85,7 @@ fn is_standing(store: &Store, base: &[Rdn]) -> bool
 /// The search at a base.
 fn search_at(
     alloc: Global,
-    store: &Store,
+    store: &Reading<'_>,
     base: &[Rdn],
     request: &SearchRequest,
 ) -> Result<SearchAnswer, AllocError>
@@ -114,7 +114,7 @@ fn refused_with(alloc: Global, code: ResultCode) -> SearchAnswer
 /// The search at the base of a text.
 fn search_text(
     alloc: Global,
-    store: &Store,
+    store: &Reading<'_>,
     request: &SearchRequest,
 ) -> Result<SearchAnswer, AllocError>
     ensures found { IfOk result (λ a. Finds a (answer_of store.now.directory (search_view request.now) (name_of_text store.now.directory.schema (search_view request.now).base))
@@ -134,7 +134,7 @@ fn search_text(
 /// is no name, 32 for one that has no entry. Only want of memory is an error.
 pub fn search(
     alloc: Global,
-    store: &Store,
+    store: &Reading<'_>,
     request: &SearchRequest,
 ) -> Result<SearchAnswer, AllocError>
     ensures answer { IfOk result (λ a. answer_view a ≡ answer store.now.directory (search_view request.now)) }

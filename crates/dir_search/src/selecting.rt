@@ -2,13 +2,13 @@
 //! A schema, a request and an entry flow in. Filters are not here.
 ghost use Rattle.std.specs.Prelude.{◌≡◌, map, IfOk};
 ghost use Rattle.ldap_msg.specs.View.{attribute_view, entry_view};
-ghost use Rattle.dir_store.specs.ldap_dn.Printed.{printed_name};
-ghost use Rattle.dir_store.specs.dir_entry.Entry.{shown as without_keys, attributes_of};
+ghost use Rattle.dir_kept.specs.ldap_dn.Printed.{printed_name};
+ghost use Rattle.dir_kept.specs.dir_entry.Entry.{shown as without_keys, attributes_of};
 ghost use Rattle.dir_search.specs.Resolved.{Resolves, selectors_of};
 ghost use Rattle.dir_search.specs.Selection.{is_selected, first_name, shown, attributes_selected};
 
 use crate::resolving::Selection;
-use dir_store::{Attribute, NamedEntry, Schema, TypeId, copy_values};
+use dir_kept::{Attribute, NamedEntry, Schema, TypeId, copy_values};
 use ldap_msg::{PartialAttribute, SearchRequest, SearchResultEntry};
 use std::alloc::{AllocError, Global};
 

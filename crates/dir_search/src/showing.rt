@@ -3,7 +3,7 @@
 ghost use Rattle.std.specs.Prelude.{◌≡◌, ◌<◌, ◌++◌, ◌∷◌, [], map, IfOk, OnOk};
 ghost use Rattle.std.specs.Bool.{OnTrue, OnFalse};
 ghost use Rattle.ldap_msg.specs.View.{entry_view};
-ghost use Rattle.dir_store.specs.Stored.{named};
+ghost use Rattle.dir_kept.specs.Stored.{named};
 ghost use Rattle.dir_search.specs.Looks.{AreHere};
 ghost use Rattle.dir_search.specs.Numbered.{entries_of};
 ghost use Rattle.dir_search.specs.Resolved.{selectors_of};
@@ -14,7 +14,7 @@ use crate::found::SearchAnswer;
 use crate::resolving::Selection;
 use crate::selecting::Showing;
 use crate::values::Evaluated;
-use dir_store::{Postings, Schema, Tree};
+use dir_kept::{Postings, Schema, Tree};
 use ldap_msg::{ResultCode, SearchRequest, SearchResultEntry};
 use search_plans::Running;
 use std::alloc::{AllocError, Global};

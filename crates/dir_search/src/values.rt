@@ -1,6 +1,6 @@
 //! The values of a filter on the entries of a tree, each asked for by its number. A tree and a bound filter flow in; values flow
 //! out, and each look is counted. Plans are not here.
-use dir_store::{Tree, Truth};
+use dir_kept::{Tree, Truth};
 use ldap_eval::{BoundFilter, value};
 use search_plans::Values;
 

@@ -4,9 +4,9 @@ use Rattle.vr_state.specs.declared.words.Entry.{Entry}
 use Rattle.dir_seats.specs.dir_executed.dir_store.ldap_schema.Schema.{SchemaModel}
 use Rattle.dir_seats.specs.dir_executed.dir_store.ldap_dn.Names.{RdnModel}
 use Rattle.dir_seats.specs.dir_executed.dir_store.ldap_op.Values.{OpValue}
-use Rattle.dir_seats.specs.dir_executed.dir_store.Directory.{Directory}
-use Rattle.dir_seats.specs.dir_executed.dir_store.Replies.{ReplyModel}
-use Rattle.dir_seats.specs.dir_executed.dir_store.Stored.{NumbersBelow}
+use Rattle.dir_seats.specs.dir_executed.dir_kept.Directory.{Directory}
+use Rattle.dir_seats.specs.dir_executed.dir_kept.Replies.{ReplyModel}
+use Rattle.dir_seats.specs.dir_executed.dir_kept.Stored.{NumbersBelow}
 use Rattle.dir_seats.specs.dir_executed.dir_store.Updates.{applied, reply_to, replies_of}
 use Rattle.dir_seats.specs.dir_executed.Executing.{IsFold, ops_of}
 use Rattle.dir_executed.proofs.Folds.{fold_more, same_schema, same_suffix}

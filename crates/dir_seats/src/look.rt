@@ -2,7 +2,7 @@
 //! out, with the reader. Floors are kept above.
 ghost use Rattle.std.specs.Prelude.{◌≡◌, length, IfSome, IfNone};
 ghost use Rattle.session_talk.specs.ldap_msg.View.{search_view, compare_view};
-ghost use Rattle.session_talk.specs.dir_store.View.{reply_view};
+ghost use Rattle.session_talk.specs.dir_kept.View.{reply_view};
 ghost use Rattle.session_talk.specs.dir_search.Answer.{answer};
 ghost use Rattle.session_talk.specs.dir_search.Compared.{compared};
 ghost use Rattle.session_talk.specs.dir_search.View.{answer_view};
@@ -38,7 +38,7 @@ fn search_shown(
     ensures read { IsReadAt (length shown.now.records) named (answer (directory_at shown.now) (search_view request.now)) (looked answer_view result.read) }
 {
     let at = shown.len() as u64;
-    let read = search_at(alloc, shown.store(), at, named, request);
+    let read = search_at(alloc, &shown.store().reading(), at, named, request);
     Seen { at, read }
 }
 
@@ -48,7 +48,7 @@ fn compare_shown(alloc: Global, shown: &Shown, named: u64, request: &CompareRequ
     ensures read { IsReadAt (length shown.now.records) named (compared (directory_at shown.now) (compare_view request.now)) (looked reply_view result.read) }
 {
     let at = shown.len() as u64;
-    let read = compare_at(alloc, shown.store(), at, named, request);
+    let read = compare_at(alloc, &shown.store().reading(), at, named, request);
     Seen { at, read }
 }
 

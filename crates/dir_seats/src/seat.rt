@@ -3,7 +3,7 @@
 ghost use Rattle.std.specs.Prelude.{◌≡◌, true, length};
 ghost use Rattle.left_right.specs.Sides.{view as known};
 ghost use Rattle.session_talk.specs.ldap_msg.View.{search_view, compare_view};
-ghost use Rattle.session_talk.specs.dir_store.View.{reply_view};
+ghost use Rattle.session_talk.specs.dir_kept.View.{reply_view};
 ghost use Rattle.session_talk.specs.dir_search.Answer.{answer};
 ghost use Rattle.session_talk.specs.dir_search.Compared.{compared};
 ghost use Rattle.session_talk.specs.dir_search.View.{answer_view};

@@ -1,7 +1,5 @@
-pub mod Found
-pub mod Listed
+pub mod Others
 pub mod Moves
-pub mod Shown
 pub mod Below
 pub mod Joins
 pub mod Placed

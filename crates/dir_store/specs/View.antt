@@ -1,18 +1,15 @@
--- What replies and refusals in memory stand for.
-use Rattle.std.specs.Prelude.{◌≡◌, Result, Err, string_bytes}
-use Rattle.dir_tree.specs.dir_entry.Entry.{attributes_of}
-use Rattle.dir_store.specs.Replies.{ReplyModel}
+-- What refusals, and what updates ask for, stand for in memory.
+use Rattle.std.specs.Prelude.{◌≡◌, Result, Err}
+use Rattle.dir_kept.specs.dir_entry.Entry.{attributes_of}
+use Rattle.dir_kept.specs.Replies.{ReplyModel}
 use Rattle.dir_store.specs.Updates.{PlacedModel, KeptModel, MoveModel, MoveNamesModel}
 use Rattle.dir_store.specs.declared.adding.Placed.{Placed}
 use Rattle.dir_store.specs.declared.modifying.Kept.{Kept}
 use Rattle.dir_store.specs.declared.renaming.Moved.{Moved}
 use Rattle.dir_store.specs.declared.renaming.MoveNames.{MoveNames}
-use Rattle.dir_store.specs.declared.reply.Reply.{Reply}
+use Rattle.dir_kept.specs.View.{reply_view}
 use Rattle.dir_store.specs.declared.fault.StoreError.{StoreError}
 use Rattle.dir_store.specs.declared.fault.StoreError.TheVariants.{Refused, NoMemory}
-
-abbrev pub reply_view : Reply → ReplyModel
-reply_view r = record { code = r.code; matched = string_bytes r.matched }
 
 -- it is refused with this reply; of want of memory nothing
 abbrev pub RefusedWith : {A : Type 0} → StoreError → Result A ReplyModel → Type 0

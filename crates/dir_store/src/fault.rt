@@ -1,12 +1,12 @@
 //! Why an update changes nothing: within this crate alone, since what flows out of it is a reply.
 ghost use Rattle.std.specs.Prelude.{◌≡◌, ℕ, List, Result, IfOk};
-ghost use Rattle.dir_tree.specs.dir_entry.Entry.{AttributeModel};
+ghost use Rattle.dir_kept.specs.dir_entry.Entry.{AttributeModel};
 ghost use Rattle.entry_updates.specs.Refused.{RefusedAs};
-ghost use Rattle.dir_store.specs.Replies.{with_reply};
+ghost use Rattle.dir_kept.specs.Replies.{with_reply};
 ghost use Rattle.dir_store.specs.View.{RefusedWith};
 ghost use Rattle.dir_store.specs.declared.fault.StoreError.TheVariants.{NoMemory};
 
-use crate::reply::Reply;
+use dir_kept::Reply;
 use entry_updates::UpdateError;
 use std::alloc::{AllocError, AllocFailed, Global};
 

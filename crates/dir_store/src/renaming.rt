@@ -1,21 +1,20 @@
 //! What a modifyDN asks for. A schema, a tree and a request flow in; the entry under its new name, or a refusal, flows out. The tree stays
 //! as it is.
 ghost use Rattle.std.specs.Prelude.{◌≡◌, ◌++◌, ◌∷◌, [], true, false, Ok, IfOk, IfErr, OnOk, is_some, map};
-ghost use Rattle.dir_tree.specs.ldap_dn.Names.{rdns};
+ghost use Rattle.dir_kept.specs.ldap_dn.Names.{rdns};
 ghost use Rattle.entry_updates.specs.ldap_updates.View.{modify_dn_view};
-ghost use Rattle.dir_tree.specs.dir_entry.Entry.{IsKeyedBy};
-ghost use Rattle.dir_tree.specs.Directory.{find, name_eq, begins};
-ghost use Rattle.dir_store.specs.Places.{parent_of, entry_named};
-ghost use Rattle.dir_store.specs.Stored.{named, directory, AreKeyedBy};
+ghost use Rattle.dir_kept.specs.dir_entry.Entry.{IsKeyedBy};
+ghost use Rattle.dir_kept.specs.dir_tree.Directory.{find, name_eq, begins};
+ghost use Rattle.dir_kept.specs.Places.{parent_of, entry_named};
+ghost use Rattle.dir_kept.specs.Stored.{named, directory, AreKeyedBy};
 ghost use Rattle.dir_store.specs.Updates.{is_at_or_below as is_name_at_or_below, is_misplaced as is_move_misplaced, superior_of, is_other_than, moved_entry, move_names, move_to, move_under, move_asked as move_that_is_asked};
-ghost use Rattle.dir_store.specs.Moving.{MayMove};
+ghost use Rattle.dir_kept.specs.Moving.{MayMove};
 ghost use Rattle.dir_store.specs.View.{names_view, moved_view, RefusedWith};
 
 use crate::fault::{StoreError, refused_attributes};
-use crate::finding::{asked_entry, is_front, is_same};
+use crate::finding::asked_entry;
 use crate::names::{asked_name, asked_rdn, asked_superior, own_rdn};
-use crate::reply::Reply;
-use dir_tree::{Entry, Name, NamedEntry, Rdn, Schema, Tree};
+use dir_kept::{Entry, Name, NamedEntry, Rdn, Reply, Schema, Tree, is_front, is_same};
 use entry_updates::{ModifyDnRequest, ResultCode, entry_renamed};
 use std::alloc::{AllocError, Global};
 use std::marker::Model;
@@ -88,7 +87,7 @@ fn with_rdn(alloc: Global, superior: Name, rdn: &Rdn) -> Result<Name, AllocError
 }
 
 /// Whether another entry than that of a number has the name.
-#[tactic(auto, using(crate::proofs::Shown::other_none, crate::proofs::Shown::other_some))]
+#[tactic(auto, using(crate::proofs::Others::other_none, crate::proofs::Others::other_some))]
 fn is_taken_by_other(tree: &Tree, number: u64, name: &[Rdn]) -> bool
     ensures { result ≡ is_other_than number (entry_named (rdns name.now) (map named tree.now.entries)) }
 {
@@ -111,8 +110,8 @@ struct Move<'a> {
 }
 
 impl<'a> Model for Move<'a> {
-    ghost use Rattle.dir_tree.specs.Stored.{entered_of};
-    ghost use Rattle.dir_store.specs.Moving.{MoveAsked, IsOfTree};
+    ghost use Rattle.dir_kept.specs.dir_tree.Stored.{entered_of};
+    ghost use Rattle.dir_kept.specs.Moving.{MoveAsked, IsOfTree};
 
     ghost Value = { MoveAsked };
 

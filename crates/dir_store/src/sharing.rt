@@ -2,7 +2,7 @@
 //! equal where there is one. Which entries are made is not here.
 ghost use Rattle.std.specs.Prelude.{◌≡◌, IfOk};
 
-use dir_tree::{Entry, SharedEntry, Tree};
+use dir_kept::{Entry, SharedEntry, Tree};
 use std::alloc::{AllocError, Global};
 
 /// Where the very entry may stand that an update makes: what it makes is the same, wherever that is.

@@ -1,32 +1,22 @@
 //! The directory: a schema and a tree of entries, whose keys are those of the schema. Updates flow in; replies flow out, and the
 //! directory after them stays. What each update asks for is judged before anything changes.
-ghost use Rattle.std.specs.Prelude.{◌≡◌, ◌+◌, ◌++◌, ◌∷◌, [], map, Ok, IfOk, IfErr, IfSome, OnOk, OnErr, string_bytes};
+ghost use Rattle.std.specs.Prelude.{◌≡◌, ◌+◌, [], Ok, IfOk, IfErr, OnOk, OnErr};
 ghost use Rattle.std.specs.Arc.{arc_value};
-ghost use Rattle.std.specs.Option.{option_map};
-ghost use Rattle.dir_tree.specs.ldap_dn.Names.{rdns};
-ghost use Rattle.dir_tree.specs.ldap_dn.Printed.{printed_name};
-ghost use Rattle.dir_tree.specs.dir_entry.Entry.{IsKeyedBy};
-ghost use Rattle.dir_tree.specs.Stored.{entered_of};
-ghost use Rattle.dir_store.specs.Places.{entry_named};
-ghost use Rattle.dir_store.specs.Replies.{not_found as not_found_reply};
+ghost use Rattle.dir_kept.specs.Stored.{directory, AreKeyedBy, NumbersBelow};
+ghost use Rattle.dir_kept.specs.View.{reply_view};
 ghost use Rattle.entry_updates.specs.ldap_updates.View.{add_view, modify_view, modify_dn_view};
 ghost use Rattle.entry_updates.specs.ldap_op.View.{update_view};
-ghost use Rattle.dir_store.specs.Stored.{named, directory, AreKeyedBy, NumbersBelow};
 ghost use Rattle.dir_store.specs.Updates.{added, deleted, modified, renamed_all, updated, applied, reply_to};
-ghost use Rattle.dir_store.specs.View.{reply_view, RefusedWith};
+ghost use Rattle.dir_store.specs.View.{RefusedWith};
 
 use crate::adding::{Placed, addition};
 use crate::deleting::asked_leaf;
 use crate::fault::{StoreError, reply_of_refusal};
-use crate::finding::{not_found, standing};
-use crate::indexed::IndexedTree;
 use crate::modifying::{Kept, asked_change};
 use crate::names::asked_name;
 use crate::renaming::{Moved, asked_move};
-use crate::reply::Reply;
 use crate::sharing::{Beside, shared};
-use dir_index::Indexes;
-use dir_tree::{Name, NamedEntry, Rdn, Schema, Tree};
+use dir_kept::{IndexedTree, Indexes, Name, Reading, Reply, Schema, Tree};
 use entry_updates::{AddRequest, ModifyDnRequest, ModifyRequest, Op, ResultCode, Update};
 use std::alloc::{AllocError, Global};
 use std::marker::Model;
@@ -47,8 +37,8 @@ impl Drop for Store {
 }
 
 impl Model for Store {
-    ghost use Rattle.dir_store.specs.Listed.{StoreModel};
-    ghost use Rattle.dir_store.specs.Stored.{directory, AreKeyedBy};
+    ghost use Rattle.dir_kept.specs.Listed.{StoreModel};
+    ghost use Rattle.dir_kept.specs.Stored.{directory, AreKeyedBy};
 
     ghost Value = { StoreModel };
 
@@ -85,41 +75,11 @@ impl Store {
         self.held.tree()
     }
 
-    /// The entries as the tree has them, and their posting lists under an index choice.
-    pub fn indexed(&self) -> &IndexedTree
-        ensures shown { directory self.now.directory.schema result.now.tree ≡ self.now.directory }
-        ensures indexes { result.now.indexes ≡ self.now.indexes }
-        ensures keyed { AreKeyedBy self.now.directory.schema result.now.tree.entries }
+    /// The store as searches read it.
+    pub fn reading(&self) -> Reading<'_>
+        ensures { result ≡ self.now }
     {
-        &self.held
-    }
-
-    /// The name of the root, as it is printed.
-    pub fn printed_suffix(&self, alloc: Global) -> Result<String, AllocError>
-        ensures { IfOk result (λ t. string_bytes t ≡ printed_name self.now.directory.schema self.now.directory.suffix) }
-    {
-        self.held.tree().suffix().print(alloc, &self.schema)
-    }
-
-    /// The number of a name's entry, and the entry with its keys; none, where the name has none. It takes a logarithm of comparisons,
-    /// and no memory.
-    #[tactic(auto, using(crate::proofs::Shown::found_shown, crate::proofs::Shown::none_shown, crate::proofs::Found::found_keyed))]
-    pub fn find<'a>(&'a self, name: &[Rdn]) -> Option<(u64, &'a NamedEntry)>
-        ensures found { option_map (λ p. named (entered_of p.0 p.1.now)) result ≡ entry_named (rdns name.now) self.now.directory.entries }
-        ensures keyed { IfSome result (λ p. IsKeyedBy self.now.directory.schema p.1.now.entry) }
-    {
-        match standing(self.held.tree(), name) {
-            Some((number, held)) => Some((number, held)),
-            None => None,
-        }
-    }
-
-    /// The reply where a name has no entry: noSuchObject (32), with the printed name of the entry of its longest front that has one
-    /// (RFC 4511 4.1.9).
-    pub fn not_found(&self, alloc: Global, name: &[Rdn]) -> Result<Reply, AllocError>
-        ensures { IfOk result (λ r. reply_view r ≡ not_found_reply self.now.directory name.now) }
-    {
-        not_found(alloc, &self.schema, self.held.tree(), name)
+        Reading::new(&self.schema, &self.held)
     }
 
     /// Makes an update under a number above those of all entries (RFC 4511 4.6 to 4.9), or refuses it with the reply of the first check
@@ -183,7 +143,7 @@ impl Store {
     }
 
     /// Adds an entry at the end, or refuses it and changes nothing.
-    #[tactic(auto, using(crate::proofs::Shown::numbers_shown, crate::proofs::Shown::pushed_shown, crate::proofs::Shown::keyed_push))]
+    #[tactic(auto, using(dir_kept::proofs::Shown::numbers_shown, dir_kept::proofs::Shown::pushed_shown, dir_kept::proofs::Shown::keyed_push))]
     fn add(
         &mut self,
         alloc: Global,
@@ -206,7 +166,7 @@ impl Store {
     }
 
     /// Takes an entry out, or refuses it and changes nothing.
-    #[tactic(auto, using(crate::proofs::Shown::deleted_shown, crate::proofs::Shown::keyed_unnumbered))]
+    #[tactic(auto, using(dir_kept::proofs::Shown::deleted_shown, dir_kept::proofs::Shown::keyed_unnumbered))]
     fn delete(&mut self, alloc: Global, text: &str) -> Result<(), StoreError>
         ensures ok { OnOk result (deleted self.old.directory text.now ≡ Ok self.new.directory.entries) }
         ensures schema { self.new.directory.schema ≡ self.old.directory.schema }
@@ -222,7 +182,7 @@ impl Store {
     }
 
     /// Changes an entry's attributes, or refuses it and changes nothing.
-    #[tactic(auto, using(crate::proofs::Shown::replaced_shown, crate::proofs::Shown::keyed_replaced))]
+    #[tactic(auto, using(dir_kept::proofs::Shown::replaced_shown, dir_kept::proofs::Shown::keyed_replaced))]
     fn modify(
         &mut self,
         alloc: Global,
@@ -243,7 +203,7 @@ impl Store {
     }
 
     /// Gives an entry, and those below it, other names, or refuses it and changes nothing.
-    #[tactic(auto, using(crate::proofs::Shown::moved_shown, crate::proofs::Shown::keyed_moved))]
+    #[tactic(auto, using(dir_kept::proofs::Shown::moved_shown, dir_kept::proofs::Shown::keyed_moved))]
     fn rename(
         &mut self,
         alloc: Global,

@@ -3,7 +3,7 @@ use Rattle.std.specs.Prelude.{ℕ, List, [], Bool, true, false, codes, Option, N
 use Rattle.local_directory.specs.ldap_schema.Schema.{SchemaModel}
 use Rattle.local_directory.specs.ldap_dn.Names.{RdnModel}
 use Rattle.local_directory.specs.ldap_dn.Texts.{name_of_text}
-use Rattle.local_directory.specs.dir_store.Directory.{Directory}
+use Rattle.local_directory.specs.dir_kept.Directory.{Directory}
 use Rattle.local_directory.specs.dir_store.Updates.{directory_after}
 use Rattle.std.specs.FinMap as map
 use Rattle.local_directory.specs.session_talk.Clients.{session_client}

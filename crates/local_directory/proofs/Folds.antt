@@ -6,9 +6,9 @@ use Rattle.std.specs.Ordering.{eq_by_cmp}
 use Rattle.std.proofs.lemmas.List.{map-append}
 use Rattle.std.proofs.lemmas.Bool.Decides.{nat_tests}
 use Rattle.session_talk.specs.ldap_op.Values.{OpValue}
-use Rattle.session_talk.specs.dir_store.Directory.{Directory}
-use Rattle.session_talk.specs.dir_store.Replies.{ReplyModel}
-use Rattle.session_talk.specs.dir_store.Updates.{reply_to, directory_after, replies_after}
+use Rattle.session_talk.specs.dir_kept.Directory.{Directory}
+use Rattle.session_talk.specs.dir_kept.Replies.{ReplyModel}
+use Rattle.dir_store.specs.Updates.{reply_to, directory_after, replies_after}
 use Rattle.session_talk.specs.vr_state.declared.words.Client.{Client}
 use Rattle.session_talk.specs.Talk.{EndedValue, done, stale, lost, refused_memory, Exchange, asked_role, learned, searched, compared, updated, Along, ends, goes}
 use Rattle.local_directory.specs.ClientOrder.{client_cmp}
@@ -16,9 +16,9 @@ use Rattle.local_directory.specs.Latest.{KeptValue, Standing, older, repeated, n
 use Rattle.local_directory.specs.Local.{LocalValue}
 use Rattle.local_directory.specs.Allows.{allows, Ends, outcome_by, made_as, unchanged, greatest}
 use Rattle.local_directory.specs.Made.{MadeUpdate, made_if, made_in, made_along, ops_of, IsFold, IsKept, DirectoryIsFold}
-use Rattle.session_talk.proofs.dir_search.dir_store.Joins.{after_join, replies_join}
-use Rattle.session_talk.proofs.dir_search.dir_store.Placed.{placed}
-use Rattle.session_talk.specs.dir_store.Placed.{reply_at}
+use Rattle.dir_store.proofs.Joins.{after_join, replies_join}
+use Rattle.dir_store.proofs.Placed.{placed}
+use Rattle.dir_store.specs.Placed.{reply_at}
 use Rattle.local_directory.proofs.Clients.{clients_total}
 use Rattle.local_directory.proofs.Ends.{same_number, same_reply, not_stale, not_lost}
 

@@ -4,8 +4,8 @@ use Rattle.std.specs.Prelude.{◌≡◌, ℕ, ◌+◌, List, [], ◌∷◌, Bool
 use Rattle.ldif.specs.Records.{RecordModel}
 use Rattle.ldif.specs.Adds.{add_of}
 use Rattle.session_talk.specs.ldap_op.Values.{OpValue, add}
-use Rattle.session_talk.specs.dir_store.Directory.{Directory}
-use Rattle.session_talk.specs.dir_store.Updates.{applied, reply_to}
+use Rattle.session_talk.specs.dir_kept.Directory.{Directory}
+use Rattle.dir_store.specs.Updates.{applied, reply_to}
 use Rattle.local_directory.specs.declared.fault.SearchError.{SearchError}
 use Rattle.local_directory.specs.declared.fault.SearchError.TheVariants.{BadLdif, Refused, Code, NoMemory}
 

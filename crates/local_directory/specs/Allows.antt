@@ -4,7 +4,7 @@
 use Rattle.std.specs.Prelude.{◌≡◌, ℕ, ◌+◌, cond, nat_lt}
 use Rattle.std.specs.FinMap as map
 use Rattle.session_talk.specs.ldap_op.Values.{OpValue}
-use Rattle.session_talk.specs.dir_store.Updates.{applied, reply_to}
+use Rattle.dir_store.specs.Updates.{applied, reply_to}
 use Rattle.session_talk.specs.dir_search.Answer.{answer}
 use Rattle.session_talk.specs.dir_search.Compared.{compared as compared_reply}
 use Rattle.session_talk.specs.vr_state.declared.words.Client.{Client}

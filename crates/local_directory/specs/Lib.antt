@@ -14,6 +14,7 @@ pub use Rattle.session_talk.specs.ldap_msg as ldap_msg
 pub use Rattle.session_talk.specs.ldap_schema as ldap_schema
 pub use Rattle.session_talk.specs.ldap_dn as ldap_dn
 pub use Rattle.session_talk.specs.index_choice as index_choice
-pub use Rattle.session_talk.specs.dir_store as dir_store
+pub use Rattle.session_talk.specs.dir_kept as dir_kept
+pub use Rattle.dir_store.specs as dir_store
 pub use Rattle.session_talk.specs as session_talk
 pub use Rattle.ldif.specs as ldif

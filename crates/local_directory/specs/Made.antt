@@ -4,9 +4,9 @@ use Rattle.std.specs.Prelude.{◌≡◌, ℕ, ◌+◌, ◌≤◌, List, [], ◌�
 use Rattle.std.specs.List.{slice_get}
 use Rattle.std.specs.FinMap as fin
 use Rattle.session_talk.specs.ldap_op.Values.{OpValue}
-use Rattle.session_talk.specs.dir_store.Replies.{ReplyModel}
-use Rattle.session_talk.specs.dir_store.Updates.{directory_after, replies_after}
-use Rattle.session_talk.specs.dir_store.Placed.{reply_at}
+use Rattle.session_talk.specs.dir_kept.Replies.{ReplyModel}
+use Rattle.dir_store.specs.Updates.{directory_after, replies_after}
+use Rattle.dir_store.specs.Placed.{reply_at}
 use Rattle.session_talk.specs.vr_state.declared.words.Client.{Client}
 use Rattle.session_talk.specs.Talk.{EndedValue, done, stale, lost, refused_memory}
 use Rattle.session_talk.specs.Talk.{Exchange, asked_role, learned, searched, compared, updated, Along}

@@ -2,15 +2,16 @@
 // directory after the update and the table that keeps the reply stay. What must not be here: which requests are new.
 ghost use Rattle.std.specs.Prelude.{◌≡◌, ◌+◌, Some, IfOk, OnOk, OnErr};
 ghost use Rattle.std.specs.FinMap as map;
-ghost use Rattle.session_talk.specs.dir_store.Replies.{only as only_code};
-ghost use Rattle.session_talk.specs.dir_store.Stored.{NumbersBelow};
-ghost use Rattle.session_talk.specs.dir_store.Updates.{applied, reply_to};
-ghost use Rattle.session_talk.specs.dir_store.View.{reply_view};
+ghost use Rattle.session_talk.specs.dir_kept.Replies.{only as only_code};
+ghost use Rattle.session_talk.specs.dir_kept.Stored.{NumbersBelow};
+ghost use Rattle.dir_store.specs.Updates.{applied, reply_to};
+ghost use Rattle.session_talk.specs.dir_kept.View.{reply_view};
 ghost use Rattle.local_directory.specs.Latest.{kept_as};
 
 use crate::client_table::ClientTable;
 use crate::kept::{Kept, is_success};
-use session_talk::{Client, Op, Reply, ResultCode, Store};
+use dir_store::Store;
+use session_talk::{Client, Op, Reply, ResultCode};
 use std::alloc::{AllocError, Global};
 
 /// Keeps a reply as that of a client's latest request, which the table has as a success, and gives it back. Success

@@ -4,14 +4,15 @@
 ghost use Rattle.std.specs.Prelude.{◌≡◌, Ok, IfOk, IfErr};
 ghost use Rattle.ldif.specs.Reading.{records_of as records_of_text};
 ghost use Rattle.session_talk.specs.ldap_msg.View.{search_view};
-ghost use Rattle.session_talk.specs.dir_store.Stored.{NumbersBelow};
+ghost use Rattle.session_talk.specs.dir_kept.Stored.{NumbersBelow};
 ghost use Rattle.session_talk.specs.dir_search.Answer.{answer as answer_of};
 ghost use Rattle.local_directory.specs.Searched.{IsShown, IsShowFault, IsReadFault, IsSearched, IsSearchFault};
 
 use crate::adding::add_records;
 use crate::fault::SearchError;
+use dir_store::Store;
 use ldif::{LdifError, Record, read, records_of, write};
-use session_talk::{SearchRequest, Store, search};
+use session_talk::{SearchRequest, search};
 use std::alloc::Global;
 
 /// The records of a text.
@@ -31,7 +32,7 @@ fn shown(alloc: Global, store: &Store, request: &SearchRequest) -> Result<Vec<u8
     ensures written { IfOk result (λ v. IsShown (answer_of store.now.directory (search_view request.now)) v.items) }
     ensures refused { IfErr result (λ e. IsShowFault e (answer_of store.now.directory (search_view request.now))) }
 {
-    let answer = search(alloc, store, request)?;
+    let answer = search(alloc, &store.reading(), request)?;
     let number = answer.code.number();
     if number != 0 {
         return Err(SearchError::Code { number });

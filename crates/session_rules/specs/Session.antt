@@ -5,7 +5,7 @@ use Rattle.session_talk.specs.ldap_schema.Schema.{SchemaModel}
 use Rattle.session_talk.specs.ldap_dn.Names.{RdnModel}
 use Rattle.message_rules.specs.ldap_msg.Messages.{SearchRequestValue, CompareRequestValue, LdapResultValue, RequestValue, bind, unbind, search, modify, add, delete, modify_dn, compare, abandon, extended_request, OperationValue, request, response, MessageValue}
 use Rattle.session_talk.specs.ldap_op.Values.{OpValue}
-use Rattle.session_talk.specs.dir_store.Replies.{ReplyModel, only}
+use Rattle.session_talk.specs.dir_kept.Replies.{ReplyModel, only}
 use Rattle.session_talk.specs.dir_search.Answer.{Answer}
 use Rattle.session_talk.specs.Clients.{named_client}
 use Rattle.session_talk.specs.Talk.{Looked, RoleValue, primary, backup, changing, recovering, EndedValue, done, stale, lost, refused_memory}

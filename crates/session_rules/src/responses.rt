@@ -5,7 +5,7 @@ ghost use Rattle.message_rules.specs.ldap_msg.View.{response_view, result_view};
 ghost use Rattle.message_rules.specs.ldap_msg.Written.{message_bytes, message_content};
 ghost use Rattle.message_rules.specs.Messages.{message, number_told};
 ghost use Rattle.message_rules.specs.Requests.{response_to};
-ghost use Rattle.session_talk.specs.dir_store.View.{reply_view};
+ghost use Rattle.session_talk.specs.dir_kept.View.{reply_view};
 ghost use Rattle.session_talk.specs.dir_search.View.{answer_view};
 ghost use Rattle.session_talk.specs.Talk.{looked};
 ghost use Rattle.session_rules.specs.Responses.{result_of, code_message, reply_message, search_messages, compare_messages, notice};

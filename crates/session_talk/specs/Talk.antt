@@ -2,8 +2,8 @@
 -- directory allows is its own.
 use Rattle.std.specs.Prelude.{ℕ, List, [], ◌∷◌, ◌++◌, Result, Ok, Err}
 use Rattle.dir_search.specs.ldap_msg.Messages.{SearchRequestValue, CompareRequestValue}
-use Rattle.dir_search.specs.ldap_op.Values.{OpValue}
-use Rattle.dir_search.specs.dir_store.Replies.{ReplyModel}
+use Rattle.ldap_op.specs.Values.{OpValue}
+use Rattle.dir_search.specs.dir_kept.Replies.{ReplyModel}
 use Rattle.dir_search.specs.Answer.{Answer}
 use Rattle.vr_state.specs.declared.words.Client.{Client}
 use Rattle.session_talk.specs.declared.outcomes.Found.{Found}

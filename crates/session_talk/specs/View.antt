@@ -1,6 +1,6 @@
 -- What roles and ends of updates in memory stand for.
 use Rattle.std.specs.Prelude.{string_bytes}
-use Rattle.dir_search.specs.dir_store.View.{reply_view}
+use Rattle.dir_search.specs.dir_kept.View.{reply_view}
 use Rattle.session_talk.specs.Talk.{RoleValue, primary, backup, changing, recovering, EndedValue, done, stale, lost, refused_memory}
 use Rattle.session_talk.specs.declared.gate.Role.{Role}
 use Rattle.session_talk.specs.declared.gate.Role.TheVariants.{Primary, Backup, Changing, Recovering}

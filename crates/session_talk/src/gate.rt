@@ -1,12 +1,13 @@
 // A gate: the way that updates take into a directory. An update flows in, with who asks for it; how it ended flows out, and what a reader
 // is told. What must not be here: reads, messages, how replicas agree.
 ghost use Rattle.std.specs.Prelude.{◌≡◌, ℕ};
-ghost use Rattle.dir_search.specs.ldap_op.View.{update_view};
+ghost use Rattle.ldap_op.specs.View.{update_view};
 ghost use Rattle.session_talk.specs.Counting.{Counts};
 ghost use Rattle.session_talk.specs.Talk.{Exchange, asked_role, updated};
 ghost use Rattle.session_talk.specs.View.{role_view, ended_view};
 
-use dir_search::{Reply, Update};
+use dir_search::Reply;
+use ldap_op::Update;
 use std::alloc::Global;
 use vr_state::words::Client;
 

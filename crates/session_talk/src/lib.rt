@@ -12,12 +12,13 @@ mod reading;
 
 pub use client::{named_client, session_client};
 pub use dir_search::{
-    AddRequest, Attribute, CompareRequest, DerefAliases, IndexError, Indexes, Name, NameError, Op,
-    Reply, ResultCode, Schema, Scope, SearchAnswer, SearchRequest, Store, Update, are_same,
-    compare, search,
+    AddRequest, Attribute, CompareRequest, DerefAliases, IndexError, Indexes, Name, NameError,
+    Reading, Reply, ResultCode, Schema, Scope, SearchAnswer, SearchRequest, are_same, compare,
+    search,
 };
 pub use directory::Directory;
 pub use gate::{Ended, Gate, Role};
+pub use ldap_op::{Op, Update};
 pub use look::Look;
 pub use outcomes::{Found, LookError};
 pub use pair::{pair_counts, pair_goes_along};

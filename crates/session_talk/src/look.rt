@@ -3,7 +3,7 @@
 ghost use Rattle.std.specs.Prelude.{Result};
 ghost use Rattle.dir_search.specs.ldap_msg.View.{search_view, compare_view};
 ghost use Rattle.dir_search.specs.View.{answer_view};
-ghost use Rattle.dir_search.specs.dir_store.View.{reply_view};
+ghost use Rattle.dir_search.specs.dir_kept.View.{reply_view};
 ghost use Rattle.session_talk.specs.Talk.{Exchange, learned, searched, compared, looked};
 
 use crate::outcomes::{Found, LookError};

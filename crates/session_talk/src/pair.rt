@@ -6,7 +6,8 @@ use crate::directory::Directory;
 use crate::gate::{Ended, Gate, Role};
 use crate::look::Look;
 use crate::outcomes::{Found, LookError};
-use dir_search::{CompareRequest, Reply, SearchAnswer, SearchRequest, Update};
+use dir_search::{CompareRequest, Reply, SearchAnswer, SearchRequest};
+use ldap_op::Update;
 use std::alloc::Global;
 use vr_state::words::Client;
 

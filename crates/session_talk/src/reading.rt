@@ -1,7 +1,7 @@
 // Reads of one state of a directory, as whoever holds a store answers them. A directory, its number and a request flow in; the answer flows
 // out. What must not be here: updates, which state it is.
 ghost use Rattle.dir_search.specs.ldap_msg.View.{search_view, compare_view};
-ghost use Rattle.dir_search.specs.dir_store.View.{reply_view};
+ghost use Rattle.dir_search.specs.dir_kept.View.{reply_view};
 ghost use Rattle.dir_search.specs.Answer.{answer};
 ghost use Rattle.dir_search.specs.Compared.{compared};
 ghost use Rattle.dir_search.specs.View.{answer_view};
@@ -9,13 +9,13 @@ ghost use Rattle.session_talk.specs.Talk.{looked};
 ghost use Rattle.session_talk.specs.Reading.{IsReadAt};
 
 use crate::outcomes::{Found, LookError};
-use dir_search::{CompareRequest, Reply, SearchAnswer, SearchRequest, Store, compare, search};
+use dir_search::{CompareRequest, Reading, Reply, SearchAnswer, SearchRequest, compare, search};
 use std::alloc::Global;
 
 /// A search of a directory that is at this number, no older than one that is named.
 pub fn search_at(
     alloc: Global,
-    store: &Store,
+    store: &Reading<'_>,
     number: u64,
     named: u64,
     request: &SearchRequest,
@@ -34,7 +34,7 @@ pub fn search_at(
 /// A compare in a directory that is at this number, no older than one that is named.
 pub fn compare_at(
     alloc: Global,
-    store: &Store,
+    store: &Reading<'_>,
     number: u64,
     named: u64,
     request: &CompareRequest,

@@ -8,7 +8,7 @@ use dir_node::{
     Client, Cluster, Device, Entry, Event, Handled, Indexes, Name, Node, NodeConfig, NodeError, Op,
     PeerMessage,
 };
-use dir_search::Update;
+use dir_store::Update;
 use schema_reader::built_in_schema;
 use std::alloc::Global;
 use std::io::{Eprint, Print};

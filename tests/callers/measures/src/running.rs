@@ -6,7 +6,7 @@ use crate::handling::measure_events;
 use crate::logs::{Kind, start_view};
 use crate::printing::{print_adds, print_frame, print_search};
 use crate::searching::{FILTERS, measure, narrow, range};
-use dir_search::Store;
+use dir_store::Store;
 use std::alloc::Global;
 use std::io::{Eprint, Print};
 use std::time::{Clock, Instant};

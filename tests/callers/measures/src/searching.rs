@@ -1,7 +1,8 @@
 //! One search that is measured. A directory and a filter flow in; how many entries were found, how many were evaluated, and the time flow
 //! out. How entries are made is not here.
 use crate::fault::Fault;
-use dir_search::{DerefAliases, Scope, SearchRequest, Store, search};
+use dir_search::{DerefAliases, Scope, SearchRequest, search};
+use dir_store::Store;
 use filter_text::read_text;
 use std::alloc::{AllocError, Global};
 use std::time::{Clock, Instant};
@@ -64,7 +65,7 @@ fn counts_of(
     store: &Store,
     request: &SearchRequest,
 ) -> Result<(usize, usize), AllocError> {
-    let answer = search(alloc, store, request)?;
+    let answer = search(alloc, &store.reading(), request)?;
     Ok((answer.entries.len(), answer.tests))
 }
 

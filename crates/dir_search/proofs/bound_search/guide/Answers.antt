@@ -1,4 +1,4 @@
-use Rattle.dir_store.specs.dir_index.Whole.{lists_of}
+use Rattle.dir_kept.specs.dir_index.Whole.{lists_of}
 use Rattle.dir_search.proofs.Guided.{guided, leaves_few, told_open}
 use Rattle.dir_search.proofs.bound_search.guide.Goals as goal
 

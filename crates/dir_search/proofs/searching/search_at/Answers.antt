@@ -1,10 +1,10 @@
 use Rattle.std.proofs.Common.{◌∙◌, sym, ap, subst}
 use Rattle.std.specs.Prelude.{IfOk}
 use Rattle.std.proofs.lemmas.Result.{IfOk-weaker}
-use Rattle.dir_store.specs.ldap_schema.Schema.{SchemaModel}
+use Rattle.dir_kept.specs.ldap_schema.Schema.{SchemaModel}
 use Rattle.ldap_msg.specs.View.{search_view}
-use Rattle.dir_store.specs.Directory.{Directory}
-use Rattle.dir_store.specs.Stored.{directory}
+use Rattle.dir_kept.specs.Directory.{Directory}
+use Rattle.dir_kept.specs.Stored.{directory}
 use Rattle.dir_search.specs.Counted.{IsCountAtBase}
 use Rattle.dir_search.specs.Evaluated.{IsFewAtBase}
 use Rattle.dir_search.proofs.Answered.{not_root, not_standing, count_root, count_over, count_none}

@@ -1,8 +1,8 @@
 use Rattle.std.proofs.Common.{sym}
-use Rattle.dir_tree.specs.ldap_dn.Names.{rdns}
-use Rattle.dir_tree.specs.Stored.{entered_of}
-use Rattle.dir_store.proofs.Found.{found_own, found_same}
-use Rattle.dir_store.proofs.Shown.{asked_some}
+use Rattle.dir_kept.specs.ldap_dn.Names.{rdns}
+use Rattle.dir_kept.specs.dir_tree.Stored.{entered_of}
+use Rattle.dir_kept.proofs.Found.{found_own, found_same}
+use Rattle.dir_kept.proofs.Shown.{asked_some}
 use Rattle.dir_store.proofs.finding.asked_entry.Goals as goal
 
 -- the entry that is found

@@ -2,7 +2,7 @@ use Rattle.std.proofs.Common.{ℕ, ap, ap₂, ◌∙◌}
 use Rattle.std.proofs.lemmas.Result.{IfOk-weaker}
 use Rattle.std.specs.Arc.{arc_value}
 use Rattle.std.specs.FinMap as map
-use Rattle.local_directory.specs.dir_store.Directory.{Directory}
+use Rattle.local_directory.specs.dir_kept.Directory.{Directory}
 use Rattle.local_directory.specs.Local.{LocalValue}
 use Rattle.local_directory.specs.Allows.{allows}
 use Rattle.local_directory.specs.ldap_schema.Schema.{SchemaModel}

@@ -1,7 +1,8 @@
 //! Searches of the items of a directory, row by row. A directory and rows flow in; what is found, and how many entries were evaluated, is
 //! compared. No expectation is here.
 use crate::searches::sample::{TWO, add, sampled};
-use dir_search::{DerefAliases, ResultCode, Scope, SearchAnswer, SearchRequest, Store, search};
+use dir_search::{DerefAliases, ResultCode, Scope, SearchAnswer, SearchRequest, search};
+use dir_store::Store;
 use filter_text::read_text;
 use std::alloc::Global;
 use std::process::Abort;
@@ -59,7 +60,7 @@ fn expected(alloc: Global, row: &Row) -> Result<String, Fail> {
 /// Searches by each row, and compares.
 fn check_rows(rt: &impl Abort, alloc: Global, store: &Store, rows: &Rows) -> Result<(), Fail> {
     for row in rows.rows {
-        let answer = search(alloc, store, &asked(alloc, row.0, rows.limit)?)?;
+        let answer = search(alloc, &store.reading(), &asked(alloc, row.0, rows.limit)?)?;
         let found = written(alloc, row.0, &answer)?;
         assert_eq!(rt; found.as_str(), expected(alloc, row)?.as_str());
         assert_eq!(rt; answer.code, rows.code);

@@ -1,8 +1,9 @@
 //! A directory of the sample's entries under an index choice. The text of a choice flows in, a directory flows out. No expectation is here.
 ghost use Rattle.std.specs.Prelude.{◌+◌, IfOk, OnOk};
-ghost use Rattle.dir_search.specs.dir_store.Stored.{NumbersBelow};
+ghost use Rattle.dir_search.specs.dir_kept.Stored.{NumbersBelow};
 
-use dir_search::{AddRequest, Attribute, Indexes, Name, Op, ResultCode, Store, Update};
+use dir_search::{AddRequest, Attribute, Indexes, Name, ResultCode};
+use dir_store::{Op, Store, Update};
 use schema_reader::built_in_schema;
 use std::alloc::{AllocError, Global};
 use std::process::Abort;

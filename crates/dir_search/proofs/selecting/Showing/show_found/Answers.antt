@@ -2,7 +2,7 @@ use Rattle.std.proofs.Common.{◌∙◌, refl, sym, ap, subst, List, ℕ, length
 use Rattle.std.proofs.lemmas.List.{length-map}
 use Rattle.ldap_msg.specs.Messages.{SearchResultEntryValue}
 use Rattle.ldap_msg.specs.View.{entry_view}
-use Rattle.dir_store.specs.Directory.{NamedEntry}
+use Rattle.dir_kept.specs.Directory.{NamedEntry}
 use Rattle.ldap_msg.specs.ldap_responses.declared.entry.SearchResultEntry.{SearchResultEntry}
 use Rattle.dir_search.specs.Selection.{selected}
 use Rattle.dir_search.proofs.Limits.{SoFar, begins, shows}

@@ -1,0 +1,5 @@
+use Rattle.dir_lab.proofs.Exact as exact
+use Rattle.dir_lab.proofs.laws.success_is_exact.Goals as goal
+
+pub returns : goal.returns
+returns c = exact.success_is_exact

@@ -1,5 +1,0 @@
-use Rattle.dir_search.proofs.Exact as exact
-use Rattle.dir_search.proofs.laws.success_is_exact.Goals as goal
-
-pub returns : goal.returns
-returns c = exact.success_is_exact
