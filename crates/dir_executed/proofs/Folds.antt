@@ -6,11 +6,11 @@ use Rattle.dir_store.specs.ldap_schema.Schema.{SchemaModel}
 use Rattle.dir_store.specs.ldap_dn.Names.{RdnModel}
 use Rattle.dir_store.specs.ldap_op.Values.{OpValue}
 use Rattle.dir_store.specs.dir_kept.Directory.{Directory, NamedEntry}
-use Rattle.dir_store.specs.dir_kept.Replies.{ReplyModel}
+use Rattle.dir_store.specs.session_talk.Answers.{ReplyModel}
 use Rattle.dir_store.specs.dir_kept.Stored.{NumbersBelow}
 use Rattle.dir_store.specs.Updates.{updated, with_entries, applied, reply_to, directory_after, replies_after, empty_directory}
-use Rattle.dir_store.specs.dir_kept.View.{reply_view}
-use Rattle.dir_store.specs.dir_kept.declared.reply.Reply.{Reply}
+use Rattle.dir_store.specs.session_talk.View.{reply_view}
+use Rattle.dir_store.specs.session_talk.declared.reply.Reply.{Reply}
 use Rattle.dir_store.proofs.Joins.{after_join, replies_join}
 use Rattle.dir_executed.specs.Executing.{IsFold, ops_of, replies_view}
 

@@ -7,11 +7,11 @@ use Rattle.dir_store.specs.ldap_dn.Names.{RdnModel}
 use Rattle.dir_store.specs.index_choice.declared.kinds.Kinds.{Kinds}
 use Rattle.dir_store.specs.ldap_op.Values.{OpValue}
 use Rattle.dir_store.specs.dir_kept.Directory.{Directory}
-use Rattle.dir_store.specs.dir_kept.Replies.{ReplyModel}
+use Rattle.dir_store.specs.session_talk.Answers.{ReplyModel}
 use Rattle.dir_store.specs.dir_kept.Stored.{NumbersBelow}
 use Rattle.dir_store.specs.Updates.{directory_of, replies_of}
-use Rattle.dir_store.specs.dir_kept.View.{reply_view}
-use Rattle.dir_store.specs.dir_kept.declared.reply.Reply.{Reply}
+use Rattle.dir_store.specs.session_talk.View.{reply_view}
+use Rattle.dir_store.specs.session_talk.declared.reply.Reply.{Reply}
 
 -- what was executed, and over what: a schema, the name of the root, an index choice
 pub record ExecutedValue : Type 0 where

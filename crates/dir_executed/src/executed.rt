@@ -3,7 +3,7 @@
 ghost use Rattle.std.specs.Prelude.{◌≡◌, [], ◌∷◌, ◌++◌, length, slice_get, OnOk, OnErr};
 ghost use Rattle.std.specs.Option.{option_map};
 ghost use Rattle.dir_executed.specs.Executing.{IsFront, directory_at, replies_at, due_after};
-ghost use Rattle.dir_store.specs.dir_kept.View.{reply_view};
+ghost use Rattle.dir_store.specs.session_talk.View.{reply_view};
 
 use crate::coming::due;
 use dir_store::{Op, Reply, Store};

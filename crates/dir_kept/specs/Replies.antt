@@ -4,17 +4,9 @@ use Rattle.dir_tree.specs.ldap_dn.Names.{RdnModel, rdns}
 use Rattle.dir_tree.specs.ldap_dn.Printed.{printed_name}
 use Rattle.dir_tree.specs.ldap_dn.Texts.{name_of_text}
 use Rattle.dir_tree.specs.ldap_schema.Schema.{SchemaModel}
+use Rattle.session_talk.specs.Answers.{ReplyModel, only}
 use Rattle.dir_kept.specs.Directory.{Directory, NamedEntry}
 use Rattle.dir_kept.specs.Places.{entry_named, nearest}
-
--- a result code, and matchedDN
-pub record ReplyModel : Type 0 where
-  pub code : ℕ
-  pub matched : List ℕ
-
--- a code, and no name
-abbrev pub only : ℕ → ReplyModel
-only code = record { code = code; matched = [] }
 
 abbrev pub printed_in : SchemaModel → Option NamedEntry → List ℕ
 printed_in s None = []

@@ -7,11 +7,10 @@ ghost use Rattle.dir_tree.specs.Stored.{entered_of};
 ghost use Rattle.dir_kept.specs.Places.{nearest as nearest_entry};
 ghost use Rattle.dir_kept.specs.Replies.{not_found as not_found_reply, printed_in};
 ghost use Rattle.dir_kept.specs.Stored.{directory};
-ghost use Rattle.dir_kept.specs.View.{reply_view};
+ghost use Rattle.session_talk.specs.View.{reply_view};
 
-use crate::reply::Reply;
 use dir_tree::{NamedEntry, Rdn, Schema, Tree};
-use ldap_parts::ResultCode;
+use session_talk::{Reply, ResultCode};
 use std::alloc::{AllocError, Global};
 
 /// The number of a name's entry, and the entry.

@@ -6,7 +6,6 @@ mod finding;
 mod indexed;
 mod listing;
 mod reading;
-mod reply;
 
 pub use dir_index::{IndexError, Indexes, Postings};
 pub use dir_tree::{
@@ -15,6 +14,5 @@ pub use dir_tree::{
 };
 pub use finding::{is_front, is_same, is_taken, not_found, standing};
 pub use indexed::IndexedTree;
-pub use ldap_parts::ResultCode;
 pub use reading::Reading;
-pub use reply::Reply;
+pub use session_talk::{Reply, ResultCode};

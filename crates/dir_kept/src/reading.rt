@@ -9,12 +9,12 @@ ghost use Rattle.dir_tree.specs.Stored.{entered_of};
 ghost use Rattle.dir_kept.specs.Places.{entry_named};
 ghost use Rattle.dir_kept.specs.Replies.{not_found as not_found_reply};
 ghost use Rattle.dir_kept.specs.Stored.{named, directory, AreKeyedBy};
-ghost use Rattle.dir_kept.specs.View.{reply_view};
+ghost use Rattle.session_talk.specs.View.{reply_view};
 
 use crate::finding::{not_found, standing};
 use crate::indexed::IndexedTree;
-use crate::reply::Reply;
 use dir_tree::{NamedEntry, Rdn, Schema};
+use session_talk::Reply;
 use std::alloc::{AllocError, Global};
 use std::marker::Model;
 

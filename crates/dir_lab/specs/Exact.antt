@@ -9,7 +9,8 @@ use Rattle.dir_search.specs.dir_kept.Directory.{Directory, NamedEntry}
 use Rattle.dir_executed.specs.dir_store.Order.{NumbersAreRising}
 use Rattle.dir_executed.specs.dir_store.Updates.{directory_of}
 use Rattle.dir_search.specs.ldap_msg.Messages.{SearchRequestValue, SearchResultEntryValue}
-use Rattle.dir_search.specs.Answer.{Answer, answer, is_match, is_base, is_empty}
+use Rattle.dir_search.specs.Answer.{answer, is_match, is_base, is_empty}
+use Rattle.dir_search.specs.session_talk.Answers.{Answer}
 use Rattle.dir_search.specs.Scopes.{is_in_scope}
 use Rattle.dir_search.specs.Selection.{selected}
 

@@ -15,9 +15,10 @@ use Rattle.dir_executed.specs.Executing.{ops_of}
 use Rattle.dir_executed.specs.dir_store.ldap_schema.Schema.{SchemaModel}
 use Rattle.dir_executed.specs.dir_store.ldap_dn.Names.{RdnModel}
 use Rattle.dir_executed.specs.dir_store.ldap_op.Values.{OpValue}
-use Rattle.dir_executed.specs.dir_kept.Replies.{ReplyModel}
+use Rattle.dir_search.specs.session_talk.Answers.{ReplyModel}
 use Rattle.dir_executed.specs.dir_store.Updates.{directory_of, replies_of}
-use Rattle.dir_search.specs.Answer.{Answer, answer}
+use Rattle.dir_search.specs.Answer.{answer}
+use Rattle.dir_search.specs.session_talk.Answers.{Answer}
 use Rattle.dir_lab.specs.Exact.{IsExact}
 use Rattle.dir_lab.specs.Shown.{Shown, Replied, Unavailable, NotYet, Answered}
 use Rattle.dir_lab.specs.Schedule.{happenings, shown_by}

@@ -2,8 +2,8 @@
 -- The client table and the reply to each record are defined below.
 use Rattle.std.specs.Prelude.{ℕ, ◌-◌, ◌&&◌, not, cond, nat_lt, ◌==◌, Option, Some, None, slice_get}
 use Rattle.dir_executed.specs.Executing.{replies_at}
-use Rattle.dir_executed.specs.dir_kept.Replies.{ReplyModel}
-use Rattle.dir_executed.specs.dir_kept.View.{reply_view}
+use Rattle.dir_executed.specs.session_talk.Answers.{ReplyModel}
+use Rattle.dir_executed.specs.session_talk.View.{reply_view}
 use Rattle.vr_state.specs.ClientTable.{latest}
 use Rattle.vr_state.specs.declared.words.Client.{Client}
 use Rattle.vr_state.specs.declared.words.Latest.{Latest}

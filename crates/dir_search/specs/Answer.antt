@@ -5,23 +5,18 @@ use Rattle.dir_kept.specs.ldap_schema.Schema.{SchemaModel}
 use Rattle.ldap_filter.specs.Tree.{Tree}
 use Rattle.dir_kept.specs.ldap_dn.Names.{RdnModel, rdns}
 use Rattle.dir_kept.specs.ldap_dn.Texts.{name_of_text}
-use Rattle.ldap_msg.specs.ldap_requests.declared.search.Scope.{Scope}
-use Rattle.ldap_msg.specs.ldap_requests.declared.search.Scope.TheVariants.{BaseObject, SingleLevel, WholeSubtree, SubordinateSubtree}
-use Rattle.ldap_msg.specs.Messages.{SearchRequestValue, SearchResultEntryValue}
+use Rattle.session_talk.specs.ldap_msg.ldap_requests.declared.search.Scope.{Scope}
+use Rattle.session_talk.specs.ldap_msg.ldap_requests.declared.search.Scope.TheVariants.{BaseObject, SingleLevel, WholeSubtree, SubordinateSubtree}
+use Rattle.session_talk.specs.ldap_msg.Messages.{SearchRequestValue, SearchResultEntryValue}
 use Rattle.ldap_eval.specs.Value.{filter_value}
 use Rattle.dir_kept.specs.Directory.{Directory, NamedEntry}
 use Rattle.dir_kept.specs.Places.{entry_named}
-use Rattle.dir_kept.specs.Replies.{ReplyModel, only, not_found}
+use Rattle.dir_kept.specs.Replies.{not_found}
+use Rattle.session_talk.specs.Answers.{Answer, only, refused}
 use Rattle.dir_search.specs.Scopes.{is_in_scope}
 use Rattle.dir_search.specs.Selection.{selected}
 use Rattle.dir_search.specs.RootDse.{dse_attributes, dse_selected}
 pub use Rattle.search_plans.specs.Runs.{is_true}
-
--- a result code, matchedDN, and the entries that are shown
-pub record Answer : Type 0 where
-  pub code : ℕ
-  pub matched : List ℕ
-  pub entries : List SearchResultEntryValue
 
 -- whether a filter's value on an entry is True (RFC 4511 4.5.1.7)
 abbrev pub is_match : SchemaModel → Tree → NamedEntry → Bool
@@ -39,10 +34,6 @@ matching d q base = filter (is_match d.schema q.filter) (in_scope d q.scope base
 abbrev pub limited : ℕ → List SearchResultEntryValue → Answer
 limited limit shown =
     cond (nat_lt 0 limit && nat_lt limit (length shown)) (record { code = 4; matched = []; entries = take limit shown }) (record { code = 0; matched = []; entries = shown })
-
--- no entries, and a reply
-abbrev pub refused : ReplyModel → Answer
-refused r = record { code = r.code; matched = r.matched; entries = [] }
 
 -- the root DSE, where the filter's value on it is True (RFC 4512 5.1)
 abbrev pub dse_matching : Directory → SearchRequestValue → List SearchResultEntryValue

@@ -2,10 +2,11 @@
 -- here.
 use Rattle.std.specs.Prelude.{ℕ, List, map, filter}
 use Rattle.dir_kept.specs.ldap_schema.Schema.{SchemaModel}
-use Rattle.ldap_msg.specs.Messages.{SearchRequestValue}
+use Rattle.session_talk.specs.ldap_msg.Messages.{SearchRequestValue}
 use Rattle.dir_kept.specs.dir_tree.Directory.{Entered}
 use Rattle.dir_kept.specs.Stored.{named}
-use Rattle.dir_search.specs.Answer.{Answer, is_match, limited}
+use Rattle.dir_search.specs.Answer.{is_match, limited}
+use Rattle.session_talk.specs.Answers.{Answer}
 use Rattle.dir_search.specs.Selection.{selected}
 pub use Rattle.dir_kept.specs.dir_tree.Renamed.{put_some, entries_of}
 

@@ -1,22 +1,20 @@
 -- What an answer in memory stands for, and how many entries it tells of.
-use Rattle.std.specs.Prelude.{◌≡◌, ℕ, ◌<◌, ◌≤◌, List, length, map, filter, nat_le, Some, string_bytes}
+use Rattle.std.specs.Prelude.{◌≡◌, ℕ, ◌<◌, ◌≤◌, List, length, map, filter, nat_le, Some}
 use Rattle.std.specs.List.{slice_get}
 use Rattle.dir_kept.specs.ldap_schema.Schema.{SchemaModel}
 use Rattle.ldap_eval.specs.declared.bound.BoundFilter.{BoundFilter}
-use Rattle.ldap_msg.specs.Messages.{SearchRequestValue, SearchResultEntryValue}
-use Rattle.ldap_msg.specs.View.{entry_view}
+use Rattle.session_talk.specs.ldap_msg.Messages.{SearchRequestValue, SearchResultEntryValue}
 use Rattle.dir_kept.specs.index_choice.declared.kinds.Kinds.{Kinds}
 use Rattle.dir_kept.specs.dir_tree.Directory.{Entered}
 use Rattle.dir_kept.specs.Directory.{NamedEntry}
 use Rattle.dir_kept.specs.Stored.{named}
-use Rattle.dir_search.specs.Answer.{Answer, limited}
+use Rattle.session_talk.specs.Answers.{Answer}
+use Rattle.session_talk.specs.View.{answer_view}
+use Rattle.dir_search.specs.Answer.{limited}
 use Rattle.dir_search.specs.Counted.{first_past}
 use Rattle.dir_search.specs.Looks.{true_numbers, up_to, IsFew, IsCountAmong}
 use Rattle.dir_search.specs.Numbered.{entries_of, found_of}
-use Rattle.dir_search.specs.declared.found.SearchAnswer.{SearchAnswer}
-
-abbrev pub answer_view : SearchAnswer → Answer
-answer_view a = record { code = a.code; matched = string_bytes a.matched; entries = map entry_view a.entries.items }
+use Rattle.session_talk.specs.declared.search_answer.SearchAnswer.{SearchAnswer}
 
 -- An answer in memory stands for this one, and tells of no more evaluations of the filter than so many.
 pub record Finds (a : SearchAnswer) (x : Answer) (most : ℕ) : Type 0 where

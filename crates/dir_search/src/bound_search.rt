@@ -19,14 +19,13 @@ ghost use Rattle.dir_search.specs.Answer.{stands};
 ghost use Rattle.dir_search.specs.Looks.{AreNumbersOf, IsBoundOn, LeavesFew, leaves_open_on, value_in};
 ghost use Rattle.dir_search.specs.Scopes.{is_right_under, is_in_scope};
 
-use crate::found::SearchAnswer;
 use crate::scoping::{is_unnamed, numbers_right_under, numbers_within};
 use crate::showing::show_found;
 use crate::values::Evaluated;
 use dir_kept::{IndexedTree, Postings, Rdn, Schema, Tree};
 use ldap_eval::BoundFilter;
-use ldap_msg::{Scope, SearchRequest};
 use search_plans::{Sided, compile, sets_are_of_entries, start};
+use session_talk::{Scope, SearchAnswer, SearchRequest};
 use std::alloc::{AllocError, Global};
 
 /// The plans that bound where a filter is True, over the posting lists of a tree's entries.

@@ -3,13 +3,13 @@ ghost use Rattle.std.specs.Prelude.{◌≡◌, Ok, Some, IfOk, string_bytes};
 ghost use Rattle.ldap_filter.specs.Item.{comparison, equal as equal_to};
 ghost use Rattle.ldap_filter.specs.Tree.{item};
 ghost use Rattle.ldap_filter.specs.View.{view as filter_view};
-ghost use Rattle.ldap_msg.specs.View.{compare_view};
-ghost use Rattle.ldap_msg.specs.ldap_requests.View.{ava_view};
+ghost use Rattle.session_talk.specs.ldap_msg.View.{compare_view};
+ghost use Rattle.session_talk.specs.ldap_msg.ldap_requests.View.{ava_view};
 ghost use Rattle.dir_kept.specs.dir_entry.Entry.{attributes_of, IsKeyedBy};
 ghost use Rattle.std.specs.List.{list_any};
 ghost use Rattle.dir_kept.specs.ldap_schema.Schema.{find, is_under};
-ghost use Rattle.dir_kept.specs.View.{reply_view};
-ghost use Rattle.dir_kept.specs.Replies.{only};
+ghost use Rattle.session_talk.specs.View.{reply_view};
+ghost use Rattle.session_talk.specs.Answers.{only};
 ghost use Rattle.dir_kept.specs.Replies.{entry_asked};
 ghost use Rattle.dir_search.specs.Compared.{code_of_truth, has_under as has_type_under, code_on_type, code_on, reply_on, compared};
 
@@ -18,7 +18,7 @@ use dir_kept::{
 };
 use ldap_eval::{bind, value};
 use ldap_filter::Filter;
-use ldap_msg::{AttributeValueAssertion, CompareRequest, ResultCode};
+use session_talk::{AttributeValueAssertion, CompareRequest, ResultCode};
 use std::alloc::{AllocError, Global};
 
 /// The code of a truth.

@@ -4,7 +4,8 @@
 
 mod bound_search;
 mod comparing;
-mod found;
+mod reading;
+mod refusing;
 mod resolving;
 mod root_dse;
 mod scoping;
@@ -14,9 +15,10 @@ mod showing;
 mod values;
 
 pub use comparing::compare;
-pub use dir_kept::{IndexError, Indexes, Name, NameError, Reading, Reply, Schema, are_same};
-pub use found::SearchAnswer;
-pub use ldap_msg::{
-    AddRequest, Attribute, CompareRequest, DerefAliases, ResultCode, Scope, SearchRequest,
-};
+pub use dir_kept::{IndexError, Indexes, Name, NameError, Reading, Schema, are_same};
+pub use reading::{compare_at, search_at};
 pub use searching::search;
+pub use session_talk::{
+    AddRequest, Attribute, CompareRequest, DerefAliases, Reply, ResultCode, Scope, SearchAnswer,
+    SearchRequest,
+};

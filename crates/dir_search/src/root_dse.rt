@@ -6,21 +6,20 @@ ghost use Rattle.std.specs.Str.{str_eq_ignore_ascii_case};
 ghost use Rattle.ldap_filter.specs.View.{view as filter_view};
 ghost use Rattle.ldap_eval.specs.Value.{filter_value};
 ghost use Rattle.search_plans.specs.Runs.{is_true};
-ghost use Rattle.ldap_msg.specs.View.{attribute_view, entry_view, search_view};
+ghost use Rattle.session_talk.specs.ldap_msg.View.{attribute_view, entry_view, search_view};
 ghost use Rattle.dir_kept.specs.dir_entry.Entry.{attributes_of, IsKeyedBy};
 ghost use Rattle.dir_search.specs.Answer.{dse_matching};
 ghost use Rattle.dir_search.specs.Resolved.{selectors_of};
 ghost use Rattle.dir_search.specs.RootDse.{class_top, dse_attributes, dse_selected, where_named, without_values};
 ghost use Rattle.dir_search.specs.View.{Finds};
 
-use crate::found::SearchAnswer;
 use crate::resolving::Selection;
 use crate::searching::matches;
 use crate::selecting::Showing;
 use dir_kept::{Entry, EntryError, Name, Reading, Schema, TypeId};
 use ldap_eval::bind;
 use ldap_filter::Filter;
-use ldap_msg::{PartialAttribute, ResultCode, SearchRequest, SearchResultEntry};
+use session_talk::{PartialAttribute, ResultCode, SearchAnswer, SearchRequest, SearchResultEntry};
 use std::alloc::{AllocError, Global};
 
 /// The values of objectClass.

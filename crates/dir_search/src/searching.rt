@@ -6,23 +6,25 @@ ghost use Rattle.ldap_filter.specs.Tree.{Tree as FilterTree};
 ghost use Rattle.dir_kept.specs.ldap_dn.Texts.{name_of_text};
 ghost use Rattle.ldap_eval.specs.Bound.{IsBoundTo};
 ghost use Rattle.ldap_eval.specs.Value.{filter_value};
-ghost use Rattle.ldap_msg.specs.View.{search_view};
+ghost use Rattle.session_talk.specs.ldap_msg.View.{search_view};
 ghost use Rattle.dir_kept.specs.dir_entry.Entry.{attributes_of, IsKeyedBy};
-ghost use Rattle.dir_kept.specs.Replies.{only};
+ghost use Rattle.session_talk.specs.Answers.{only};
 ghost use Rattle.dir_kept.specs.Stored.{directory, AreKeyedBy};
-ghost use Rattle.dir_search.specs.Answer.{answer, answer_of, answer_at, found_at, in_scope, tried, tried_of, tried_at, refused as refused_answer, is_true, is_base, stands, is_empty};
+ghost use Rattle.dir_search.specs.Answer.{answer, answer_of, answer_at, found_at, in_scope, tried, tried_of, tried_at, is_true, is_base, stands, is_empty};
+ghost use Rattle.session_talk.specs.Answers.{refused as refused_answer};
 ghost use Rattle.dir_search.specs.Counted.{IsCountAtBase, IsCountFrom, IsCountOf};
 ghost use Rattle.dir_search.specs.Evaluated.{IsFewAtBase, LooksAtFew, goes_over};
-ghost use Rattle.dir_search.specs.View.{answer_view, Finds};
+ghost use Rattle.dir_search.specs.View.{Finds};
+ghost use Rattle.session_talk.specs.View.{answer_view};
 
 use crate::bound_search::BoundSearch;
-use crate::found::{SearchAnswer, refused};
+use crate::refusing::refused;
 use crate::root_dse::show_root;
 use crate::scoping::is_unnamed;
-use dir_kept::{Entry, IndexedTree, Name, NameError, Rdn, Reading, Reply, Schema, Truth};
+use dir_kept::{Entry, IndexedTree, Name, NameError, Rdn, Reading, Schema, Truth};
 use ldap_eval::{BoundFilter, bind, value};
-use ldap_msg::{ResultCode, Scope, SearchRequest};
 use search_plans::tests_are_items;
+use session_talk::{Reply, ResultCode, Scope, SearchAnswer, SearchRequest};
 use std::alloc::{AllocError, Global};
 
 /// Whether a filter is True on an entry of a name.

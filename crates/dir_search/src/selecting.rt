@@ -1,7 +1,7 @@
 //! What is shown of an entry: the selected attributes in its order, each by its type's first name, each octet copied once.
 //! A schema, a request and an entry flow in. Filters are not here.
 ghost use Rattle.std.specs.Prelude.{◌≡◌, map, IfOk};
-ghost use Rattle.ldap_msg.specs.View.{attribute_view, entry_view};
+ghost use Rattle.session_talk.specs.ldap_msg.View.{attribute_view, entry_view};
 ghost use Rattle.dir_kept.specs.ldap_dn.Printed.{printed_name};
 ghost use Rattle.dir_kept.specs.dir_entry.Entry.{shown as without_keys, attributes_of};
 ghost use Rattle.dir_search.specs.Resolved.{Resolves, selectors_of};
@@ -9,7 +9,7 @@ ghost use Rattle.dir_search.specs.Selection.{is_selected, first_name, shown, att
 
 use crate::resolving::Selection;
 use dir_kept::{Attribute, NamedEntry, Schema, TypeId, copy_values};
-use ldap_msg::{PartialAttribute, SearchRequest, SearchResultEntry};
+use session_talk::{PartialAttribute, SearchRequest, SearchResultEntry};
 use std::alloc::{AllocError, Global};
 
 /// The name that a type goes by.

@@ -2,21 +2,21 @@
 //! out. Which numbers are found is not told here.
 ghost use Rattle.std.specs.Prelude.{◌≡◌, ◌<◌, ◌++◌, ◌∷◌, [], map, IfOk, OnOk};
 ghost use Rattle.std.specs.Bool.{OnTrue, OnFalse};
-ghost use Rattle.ldap_msg.specs.View.{entry_view};
+ghost use Rattle.session_talk.specs.ldap_msg.View.{entry_view};
 ghost use Rattle.dir_kept.specs.Stored.{named};
 ghost use Rattle.dir_search.specs.Looks.{AreHere};
 ghost use Rattle.dir_search.specs.Numbered.{entries_of};
 ghost use Rattle.dir_search.specs.Resolved.{selectors_of};
 ghost use Rattle.dir_search.specs.Selection.{selected};
-ghost use Rattle.dir_search.specs.View.{answer_view, Shows};
+ghost use Rattle.dir_search.specs.View.{Shows};
+ghost use Rattle.session_talk.specs.View.{answer_view};
 
-use crate::found::SearchAnswer;
 use crate::resolving::Selection;
 use crate::selecting::Showing;
 use crate::values::Evaluated;
 use dir_kept::{Postings, Schema, Tree};
-use ldap_msg::{ResultCode, SearchRequest, SearchResultEntry};
 use search_plans::Running;
+use session_talk::{ResultCode, SearchAnswer, SearchRequest, SearchResultEntry};
 use std::alloc::{AllocError, Global};
 
 /// Whether so many entries are all that the limit lets through; 0 is no limit.

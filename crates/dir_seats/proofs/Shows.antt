@@ -5,7 +5,7 @@ use Rattle.dir_seats.specs.dir_executed.dir_store.ldap_schema.Schema.{SchemaMode
 use Rattle.dir_seats.specs.dir_executed.dir_store.ldap_dn.Names.{RdnModel}
 use Rattle.dir_seats.specs.dir_executed.dir_store.ldap_op.Values.{OpValue}
 use Rattle.dir_seats.specs.dir_executed.dir_kept.Directory.{Directory}
-use Rattle.dir_seats.specs.dir_executed.dir_kept.Replies.{ReplyModel}
+use Rattle.session_talk.specs.Answers.{ReplyModel}
 use Rattle.dir_seats.specs.dir_executed.dir_kept.Stored.{NumbersBelow}
 use Rattle.dir_seats.specs.dir_executed.dir_store.Updates.{applied, reply_to, replies_of}
 use Rattle.dir_seats.specs.dir_executed.Executing.{IsFold, ops_of}

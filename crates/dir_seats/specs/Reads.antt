@@ -1,8 +1,8 @@
 -- What a read through a seat comes to, and what a session may be told by one. A seat's floor before and after, a question and its answer flow in;
 -- whether they go together flows out. How a seat comes to its list is not here.
 use Rattle.std.specs.Prelude.{◌≡◌, ℕ, length, Option, Some, None}
-use Rattle.session_talk.specs.dir_search.Answer.{answer}
-use Rattle.session_talk.specs.dir_search.Compared.{compared as compared_reply}
+use Rattle.dir_search.specs.Answer.{answer}
+use Rattle.dir_search.specs.Compared.{compared as compared_reply}
 use Rattle.session_talk.specs.Reading.{IsReadAt}
 use Rattle.session_talk.specs.Talk.{Looked, found, not_yet, gone, no_memory, Exchange, asked_role, learned, searched, compared, updated}
 use Rattle.dir_executed.specs.Executing.{ExecutedValue, directory_at}

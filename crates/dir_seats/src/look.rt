@@ -2,10 +2,10 @@
 //! out, with the reader. Floors are kept above.
 ghost use Rattle.std.specs.Prelude.{◌≡◌, length, IfSome, IfNone};
 ghost use Rattle.session_talk.specs.ldap_msg.View.{search_view, compare_view};
-ghost use Rattle.session_talk.specs.dir_kept.View.{reply_view};
-ghost use Rattle.session_talk.specs.dir_search.Answer.{answer};
-ghost use Rattle.session_talk.specs.dir_search.Compared.{compared};
-ghost use Rattle.session_talk.specs.dir_search.View.{answer_view};
+ghost use Rattle.session_talk.specs.View.{reply_view};
+ghost use Rattle.dir_search.specs.Answer.{answer};
+ghost use Rattle.dir_search.specs.Compared.{compared};
+ghost use Rattle.session_talk.specs.View.{answer_view};
 ghost use Rattle.session_talk.specs.Reading.{IsReadAt};
 ghost use Rattle.session_talk.specs.Talk.{looked};
 ghost use Rattle.dir_executed.specs.Executing.{directory_at};
@@ -15,9 +15,8 @@ ghost use Rattle.std.specs.Prelude.{true};
 
 use crate::rule::{ShownReader, Sight};
 use crate::shown::Shown;
-use session_talk::{
-    CompareRequest, Found, LookError, Reply, SearchAnswer, SearchRequest, compare_at, search_at,
-};
+use dir_search::{compare_at, search_at};
+use session_talk::{CompareRequest, Found, LookError, Reply, SearchAnswer, SearchRequest};
 use std::alloc::Global;
 
 /// What was read of a published list, and how many records the list has.

@@ -3,10 +3,10 @@
 ghost use Rattle.std.specs.Prelude.{◌≡◌, true, length};
 ghost use Rattle.left_right.specs.Sides.{view as known};
 ghost use Rattle.session_talk.specs.ldap_msg.View.{search_view, compare_view};
-ghost use Rattle.session_talk.specs.dir_kept.View.{reply_view};
-ghost use Rattle.session_talk.specs.dir_search.Answer.{answer};
-ghost use Rattle.session_talk.specs.dir_search.Compared.{compared};
-ghost use Rattle.session_talk.specs.dir_search.View.{answer_view};
+ghost use Rattle.session_talk.specs.View.{reply_view};
+ghost use Rattle.dir_search.specs.Answer.{answer};
+ghost use Rattle.dir_search.specs.Compared.{compared};
+ghost use Rattle.session_talk.specs.View.{answer_view};
 ghost use Rattle.session_talk.specs.Talk.{looked};
 ghost use Rattle.dir_executed.specs.Executing.{directory_at};
 ghost use Rattle.dir_seats.specs.Lists.{longer};

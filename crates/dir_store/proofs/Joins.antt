@@ -2,7 +2,7 @@
 use Rattle.std.proofs.Common.{◌≡◌, ℕ, suc, ◌+◌, List, [], ◌∷◌, ◌++◌, length, ap, ◌∙◌, arith}
 use Rattle.entry_updates.specs.ldap_op.Values.{OpValue}
 use Rattle.dir_kept.specs.Directory.{Directory}
-use Rattle.dir_kept.specs.Replies.{ReplyModel}
+use Rattle.dir_kept.specs.session_talk.Answers.{ReplyModel}
 use Rattle.dir_store.specs.Updates.{applied, reply_to, directory_after, replies_after}
 
 plus_none : (m : ℕ) → m ≡ m + 0

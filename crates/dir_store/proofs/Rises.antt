@@ -7,7 +7,8 @@ use Rattle.dir_kept.specs.dir_tree.Directory.{NameKey}
 use Rattle.dir_kept.specs.Directory.{Directory, NamedEntry}
 use Rattle.dir_store.specs.Order.{NumbersAbove, NumbersAreRising, EntriesRise}
 use Rattle.dir_kept.specs.Places.{without_entry, with_attributes, moved}
-use Rattle.dir_kept.specs.Replies.{ReplyModel, then}
+use Rattle.dir_kept.specs.Replies.{then}
+use Rattle.dir_kept.specs.session_talk.Answers.{ReplyModel}
 use Rattle.dir_kept.specs.Stored.{NumbersBelow}
 use Rattle.dir_store.specs.Updates.{PlacedModel, KeptModel, MoveModel, name_asked, leaf_asked, addition, change_asked, move_asked, with_entries, applied, directory_after, empty_directory}
 use Rattle.dir_store.proofs.Below.{below_applied}

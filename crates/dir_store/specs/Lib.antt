@@ -14,3 +14,4 @@ pub use Rattle.dir_kept.specs.index_choice as index_choice
 pub use Rattle.dir_kept.specs.dir_index as dir_index
 pub use Rattle.dir_kept.specs.dir_tree as dir_tree
 pub use Rattle.dir_kept.specs as dir_kept
+pub use Rattle.dir_kept.specs.session_talk as session_talk

@@ -15,7 +15,8 @@ use Rattle.dir_kept.specs.dir_tree.Directory.{name_eq, begins}
 use Rattle.dir_kept.specs.Directory.{Directory, NamedEntry}
 use Rattle.dir_kept.specs.Places.{entry_named, has_subordinate, parent_of, last_of, own_rdn, without_entry, with_attributes, moved}
 pub use Rattle.dir_kept.specs.Replies.{name_asked, entry_asked}
-use Rattle.dir_kept.specs.Replies.{ReplyModel, only, not_found, then, refuse, or_refused, with_reply}
+use Rattle.dir_kept.specs.Replies.{not_found, then, refuse, or_refused, with_reply}
+use Rattle.dir_kept.specs.session_talk.Answers.{ReplyModel, only}
 
 -- a name and attributes that an entry gets
 pub record PlacedModel : Type 0 where

@@ -3,7 +3,7 @@
 ghost use Rattle.std.specs.Prelude.{◌≡◌, ◌+◌, [], Ok, IfOk, IfErr, OnOk, OnErr};
 ghost use Rattle.std.specs.Arc.{arc_value};
 ghost use Rattle.dir_kept.specs.Stored.{directory, AreKeyedBy, NumbersBelow};
-ghost use Rattle.dir_kept.specs.View.{reply_view};
+ghost use Rattle.dir_kept.specs.session_talk.View.{reply_view};
 ghost use Rattle.entry_updates.specs.ldap_updates.View.{add_view, modify_view, modify_dn_view};
 ghost use Rattle.entry_updates.specs.ldap_op.View.{update_view};
 ghost use Rattle.dir_store.specs.Updates.{added, deleted, modified, renamed_all, updated, applied, reply_to};

@@ -6,8 +6,8 @@ use Rattle.std.specs.Ordering.{eq_by_cmp}
 use Rattle.std.proofs.lemmas.List.{map-append}
 use Rattle.std.proofs.lemmas.Bool.Decides.{nat_tests}
 use Rattle.session_talk.specs.ldap_op.Values.{OpValue}
-use Rattle.session_talk.specs.dir_kept.Directory.{Directory}
-use Rattle.session_talk.specs.dir_kept.Replies.{ReplyModel}
+use Rattle.dir_store.specs.dir_kept.Directory.{Directory}
+use Rattle.session_talk.specs.Answers.{ReplyModel}
 use Rattle.dir_store.specs.Updates.{reply_to, directory_after, replies_after}
 use Rattle.session_talk.specs.vr_state.declared.words.Client.{Client}
 use Rattle.session_talk.specs.Talk.{EndedValue, done, stale, lost, refused_memory, Exchange, asked_role, learned, searched, compared, updated, Along, ends, goes}

@@ -4,7 +4,7 @@ use Rattle.std.specs.Prelude.{◌≡◌, ℕ, ◌+◌, List, [], ◌∷◌, Bool
 use Rattle.ldif.specs.Records.{RecordModel}
 use Rattle.ldif.specs.Adds.{add_of}
 use Rattle.session_talk.specs.ldap_op.Values.{OpValue, add}
-use Rattle.session_talk.specs.dir_kept.Directory.{Directory}
+use Rattle.dir_store.specs.dir_kept.Directory.{Directory}
 use Rattle.dir_store.specs.Updates.{applied, reply_to}
 use Rattle.local_directory.specs.declared.fault.SearchError.{SearchError}
 use Rattle.local_directory.specs.declared.fault.SearchError.TheVariants.{BadLdif, Refused, Code, NoMemory}

@@ -5,8 +5,8 @@ use Rattle.std.specs.Prelude.{◌≡◌, ℕ, ◌+◌, cond, nat_lt}
 use Rattle.std.specs.FinMap as map
 use Rattle.session_talk.specs.ldap_op.Values.{OpValue}
 use Rattle.dir_store.specs.Updates.{applied, reply_to}
-use Rattle.session_talk.specs.dir_search.Answer.{answer}
-use Rattle.session_talk.specs.dir_search.Compared.{compared as compared_reply}
+use Rattle.dir_search.specs.Answer.{answer}
+use Rattle.dir_search.specs.Compared.{compared as compared_reply}
 use Rattle.session_talk.specs.vr_state.declared.words.Client.{Client}
 use Rattle.session_talk.specs.Reading.{IsReadAt}
 use Rattle.session_talk.specs.Talk.{primary}

@@ -11,10 +11,10 @@ pub mod Searched
 pub use Rattle.session_talk.specs.ldap_requests as ldap_requests
 pub use Rattle.session_talk.specs.ldap_op as ldap_op
 pub use Rattle.session_talk.specs.ldap_msg as ldap_msg
-pub use Rattle.session_talk.specs.ldap_schema as ldap_schema
-pub use Rattle.session_talk.specs.ldap_dn as ldap_dn
-pub use Rattle.session_talk.specs.index_choice as index_choice
-pub use Rattle.session_talk.specs.dir_kept as dir_kept
+pub use Rattle.dir_store.specs.ldap_schema as ldap_schema
+pub use Rattle.dir_store.specs.ldap_dn as ldap_dn
+pub use Rattle.dir_store.specs.index_choice as index_choice
+pub use Rattle.dir_store.specs.dir_kept as dir_kept
 pub use Rattle.dir_store.specs as dir_store
 pub use Rattle.session_talk.specs as session_talk
 pub use Rattle.ldif.specs as ldif

@@ -4,7 +4,7 @@ use Rattle.std.specs.Prelude.{◌≡◌, ℕ, ◌+◌, ◌≤◌, List, [], ◌�
 use Rattle.std.specs.List.{slice_get}
 use Rattle.std.specs.FinMap as fin
 use Rattle.session_talk.specs.ldap_op.Values.{OpValue}
-use Rattle.session_talk.specs.dir_kept.Replies.{ReplyModel}
+use Rattle.session_talk.specs.Answers.{ReplyModel}
 use Rattle.dir_store.specs.Updates.{directory_after, replies_after}
 use Rattle.dir_store.specs.Placed.{reply_at}
 use Rattle.session_talk.specs.vr_state.declared.words.Client.{Client}

@@ -3,7 +3,7 @@
 
 ghost use Rattle.std.specs.Prelude.{◌≡◌, ◌+◌, None, IfOk, IfErr, OnOk};
 ghost use Rattle.session_talk.specs.ldap_op.Values.{add as add_op};
-ghost use Rattle.session_talk.specs.dir_kept.Stored.{NumbersBelow};
+ghost use Rattle.dir_store.specs.dir_kept.Stored.{NumbersBelow};
 ghost use Rattle.dir_store.specs.Updates.{applied, reply_to, directory_after};
 ghost use Rattle.ldif.specs.Adds.{add_of as add_value};
 ghost use Rattle.local_directory.specs.Added.{adds, first_refused, IsPutFault, IsAddFault};

@@ -3,7 +3,7 @@
 ghost use Rattle.std.specs.Prelude.{◌≡◌, IfSome, IfNone};
 ghost use Rattle.std.specs.FinMap as map;
 ghost use Rattle.session_talk.specs.ldap_op.Values.{OpValue};
-ghost use Rattle.session_talk.specs.dir_kept.View.{reply_view};
+ghost use Rattle.session_talk.specs.View.{reply_view};
 ghost use Rattle.session_talk.specs.Talk.{done};
 ghost use Rattle.session_talk.specs.View.{ended_view};
 ghost use Rattle.local_directory.specs.Allows.{Ends, unchanged, outcome_by};

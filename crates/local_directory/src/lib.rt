@@ -13,6 +13,7 @@ mod local;
 mod making;
 mod searching;
 
+pub use dir_search::{IndexError, Indexes, Name, NameError, Schema};
 pub use dir_store::Store;
 pub use fault::SearchError;
 pub use laws::{directory_is_fold, requests_are_made_once};
@@ -20,6 +21,6 @@ pub use ldif::{ExportError, ImportError, export_text, import_text};
 pub use local::LocalDirectory;
 pub use searching::search_text;
 pub use session_talk::{
-    AddRequest, Attribute, CompareRequest, DerefAliases, IndexError, Indexes, Name, NameError, Op,
-    Reply, Schema, Scope, SearchAnswer, SearchRequest, Update,
+    AddRequest, Attribute, CompareRequest, DerefAliases, Op, Reply, Scope, SearchAnswer,
+    SearchRequest, Update,
 };

@@ -2,10 +2,10 @@
 // directory after the update and the table that keeps the reply stay. What must not be here: which requests are new.
 ghost use Rattle.std.specs.Prelude.{◌≡◌, ◌+◌, Some, IfOk, OnOk, OnErr};
 ghost use Rattle.std.specs.FinMap as map;
-ghost use Rattle.session_talk.specs.dir_kept.Replies.{only as only_code};
-ghost use Rattle.session_talk.specs.dir_kept.Stored.{NumbersBelow};
+ghost use Rattle.session_talk.specs.Answers.{only as only_code};
+ghost use Rattle.dir_store.specs.dir_kept.Stored.{NumbersBelow};
 ghost use Rattle.dir_store.specs.Updates.{applied, reply_to};
-ghost use Rattle.session_talk.specs.dir_kept.View.{reply_view};
+ghost use Rattle.session_talk.specs.View.{reply_view};
 ghost use Rattle.local_directory.specs.Latest.{kept_as};
 
 use crate::client_table::ClientTable;

@@ -4,15 +4,16 @@
 ghost use Rattle.std.specs.Prelude.{◌≡◌, Ok, IfOk, IfErr};
 ghost use Rattle.ldif.specs.Reading.{records_of as records_of_text};
 ghost use Rattle.session_talk.specs.ldap_msg.View.{search_view};
-ghost use Rattle.session_talk.specs.dir_kept.Stored.{NumbersBelow};
-ghost use Rattle.session_talk.specs.dir_search.Answer.{answer as answer_of};
+ghost use Rattle.dir_store.specs.dir_kept.Stored.{NumbersBelow};
+ghost use Rattle.dir_search.specs.Answer.{answer as answer_of};
 ghost use Rattle.local_directory.specs.Searched.{IsShown, IsShowFault, IsReadFault, IsSearched, IsSearchFault};
 
 use crate::adding::add_records;
 use crate::fault::SearchError;
+use dir_search::search;
 use dir_store::Store;
 use ldif::{LdifError, Record, read, records_of, write};
-use session_talk::{SearchRequest, search};
+use session_talk::SearchRequest;
 use std::alloc::Global;
 
 /// The records of a text.

@@ -14,6 +14,7 @@ mod writing;
 pub use binding::bind;
 pub use bound::Bound;
 pub use controls::{Kind, Named, judge};
+pub use dir_tree::{Name, Schema};
 pub use fault::AnswerError;
 pub use identity::Identity;
 pub use ldap_msg::{

@@ -1,7 +1,7 @@
 -- What a session is told by a node that threads share. Updates and how they ended flow in; what that may be flows out. Reads are the seats', and are
 -- not here; nor is of which moment the state is.
 use Rattle.std.specs.Prelude.{◌≡◌, ◌⊎◌, ℕ, Option}
-use Rattle.dir_seats.specs.session_talk.dir_kept.Replies.{ReplyModel}
+use Rattle.dir_seats.specs.session_talk.Answers.{ReplyModel}
 use Rattle.dir_seats.specs.session_talk.Talk.{Exchange, asked_role, learned, searched, compared, updated}
 use Rattle.dir_seats.specs.session_talk.Talk.{EndedValue}
 use Rattle.dir_seats.specs.session_talk.Talk as talk

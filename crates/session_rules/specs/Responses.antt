@@ -1,8 +1,7 @@
 -- The messages that answer a request: RFC 4511 4.1.1 and 4.1.9. Results flow in; messages flow out.
 use Rattle.std.specs.Prelude.{ℕ, List, [], ◌∷◌, ◌++◌, codes, Option, None, Some}
 use Rattle.message_rules.specs.ldap_msg.Messages.{LdapResultValue, extended, MessageValue}
-use Rattle.session_talk.specs.dir_kept.Replies.{ReplyModel, only}
-use Rattle.session_talk.specs.dir_search.Answer.{Answer}
+use Rattle.session_talk.specs.Answers.{ReplyModel, only, Answer}
 use Rattle.session_talk.specs.Talk.{Looked, found, not_yet, gone, no_memory}
 use Rattle.message_rules.specs.Messages.{message, number_told, value_for, entry_messages}
 use Rattle.message_rules.specs.Requests.{response_to}

@@ -1,12 +1,11 @@
 -- What each request makes of a session, what it asks of the directory, and what answers it: RFC 4511 4.1.1 to 4.12. A session's state, a
 -- message and what the directory answered flow in; the state after it and the responses flow out. Octets are not here.
 use Rattle.std.specs.Prelude.{ℕ, ◌+◌, max, List, [], ◌∷◌, Bool, false, true, cond, nat_lt, Option, None, Some, Result, Ok, Err}
-use Rattle.session_talk.specs.ldap_schema.Schema.{SchemaModel}
-use Rattle.session_talk.specs.ldap_dn.Names.{RdnModel}
+use Rattle.message_rules.specs.ldap_schema.Schema.{SchemaModel}
+use Rattle.message_rules.specs.ldap_dn.Names.{RdnModel}
 use Rattle.message_rules.specs.ldap_msg.Messages.{SearchRequestValue, CompareRequestValue, LdapResultValue, RequestValue, bind, unbind, search, modify, add, delete, modify_dn, compare, abandon, extended_request, OperationValue, request, response, MessageValue}
 use Rattle.session_talk.specs.ldap_op.Values.{OpValue}
-use Rattle.session_talk.specs.dir_kept.Replies.{ReplyModel, only}
-use Rattle.session_talk.specs.dir_search.Answer.{Answer}
+use Rattle.session_talk.specs.Answers.{ReplyModel, only, Answer}
 use Rattle.session_talk.specs.Clients.{named_client}
 use Rattle.session_talk.specs.Talk.{Looked, RoleValue, primary, backup, changing, recovering, EndedValue, done, stale, lost, refused_memory}
 use Rattle.session_talk.specs.vr_state.declared.words.Client.{Client}

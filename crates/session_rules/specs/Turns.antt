@@ -2,8 +2,7 @@
 use Rattle.std.specs.Prelude.{◌≡◌, ◌⊎◌, ℕ, List, [], ◌∷◌, ◌++◌}
 use Rattle.message_rules.specs.ldap_msg.Messages.{SearchRequestValue, CompareRequestValue, RequestValue, MessageValue}
 use Rattle.session_talk.specs.ldap_op.Values.{OpValue}
-use Rattle.session_talk.specs.dir_kept.Replies.{ReplyModel}
-use Rattle.session_talk.specs.dir_search.Answer.{Answer}
+use Rattle.session_talk.specs.Answers.{ReplyModel, Answer}
 use Rattle.session_talk.specs.Talk.{Looked, RoleValue, EndedValue, Exchange, asked_role, learned, searched, compared, updated}
 use Rattle.session_talk.specs.vr_state.declared.words.Client.{Client}
 use Rattle.message_rules.specs.Requests.{answering_of}

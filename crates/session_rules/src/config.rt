@@ -2,7 +2,8 @@
 ghost use Rattle.std.specs.Prelude.{◌≡◌};
 ghost use Rattle.session_rules.specs.View.{config_view};
 
-use session_talk::{Client, Name, Schema, session_client};
+use message_rules::{Name, Schema};
+use session_talk::{Client, session_client};
 
 /// What all sessions of a server share, and which of them a session is.
 #[derive(Clone, Copy)]

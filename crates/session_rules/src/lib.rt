@@ -16,10 +16,10 @@ mod updating;
 pub use answered::{Answered, Next};
 pub use config::Config;
 pub use laws::{role_is_first, sessions_join};
-pub use message_rules::AnswerError;
+pub use message_rules::{AnswerError, Name, Schema};
 pub use responses::disconnect;
 pub use session_talk::{
-    Client, CompareRequest, Directory, Ended, Found, Gate, Look, LookError, Name, Reply, Role,
+    Client, CompareRequest, Directory, Ended, Found, Gate, Look, LookError, Reply, Role,
     SearchAnswer, SearchRequest, Update,
 };
 pub use state::State;

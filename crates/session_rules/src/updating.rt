@@ -1,7 +1,7 @@
 //! An update, asked for and answered. An update and the role of the replica flow in; the octets of the response flow out, and the session's
 //! state after it stays. Reads are not here.
 ghost use Rattle.std.specs.Prelude.{◌≡◌, ◌∷◌, [], None};
-ghost use Rattle.session_talk.specs.dir_kept.View.{reply_view};
+ghost use Rattle.session_talk.specs.View.{reply_view};
 ghost use Rattle.session_talk.specs.ldap_op.View.{update_view};
 ghost use Rattle.session_talk.specs.View.{role_view, ended_view};
 ghost use Rattle.session_rules.specs.Responses.{done_message};

@@ -1,10 +1,9 @@
 -- What is asked of a directory and what it answers, in turn. A session's questions and the answers to them flow in; which of them a
 -- directory allows is its own.
 use Rattle.std.specs.Prelude.{ℕ, List, [], ◌∷◌, ◌++◌, Result, Ok, Err}
-use Rattle.dir_search.specs.ldap_msg.Messages.{SearchRequestValue, CompareRequestValue}
+use Rattle.ldap_msg.specs.Messages.{SearchRequestValue, CompareRequestValue}
 use Rattle.ldap_op.specs.Values.{OpValue}
-use Rattle.dir_search.specs.dir_kept.Replies.{ReplyModel}
-use Rattle.dir_search.specs.Answer.{Answer}
+use Rattle.session_talk.specs.Answers.{ReplyModel, Answer}
 use Rattle.vr_state.specs.declared.words.Client.{Client}
 use Rattle.session_talk.specs.declared.outcomes.Found.{Found}
 use Rattle.session_talk.specs.declared.outcomes.LookError.{LookError}

@@ -1,11 +1,20 @@
--- What roles and ends of updates in memory stand for.
-use Rattle.std.specs.Prelude.{string_bytes}
-use Rattle.dir_search.specs.dir_kept.View.{reply_view}
+-- What replies, answers, roles and ends of updates in memory stand for.
+use Rattle.std.specs.Prelude.{map, string_bytes}
+use Rattle.ldap_msg.specs.View.{entry_view}
+use Rattle.session_talk.specs.Answers.{ReplyModel, Answer}
+use Rattle.session_talk.specs.declared.reply.Reply.{Reply}
+use Rattle.session_talk.specs.declared.search_answer.SearchAnswer.{SearchAnswer}
 use Rattle.session_talk.specs.Talk.{RoleValue, primary, backup, changing, recovering, EndedValue, done, stale, lost, refused_memory}
 use Rattle.session_talk.specs.declared.gate.Role.{Role}
 use Rattle.session_talk.specs.declared.gate.Role.TheVariants.{Primary, Backup, Changing, Recovering}
 use Rattle.session_talk.specs.declared.gate.Ended.{Ended}
 use Rattle.session_talk.specs.declared.gate.Ended.TheVariants.{Done, Stale, Lost, NoMemory}
+
+abbrev pub reply_view : Reply → ReplyModel
+reply_view r = record { code = r.code; matched = string_bytes r.matched }
+
+abbrev pub answer_view : SearchAnswer → Answer
+answer_view a = record { code = a.code; matched = string_bytes a.matched; entries = map entry_view a.entries.items }
 
 abbrev pub role_view : Role → RoleValue
 role_view Primary = primary

@@ -1,16 +1,17 @@
 // A directory, as a session asks it: what is read of it and what is updated in it, one question at a time. Requests and updates flow in;
 // answers flow out. What must not be here: messages, how a directory answers.
 ghost use Rattle.std.specs.Prelude.{Result};
-ghost use Rattle.dir_search.specs.ldap_msg.View.{search_view, compare_view};
+ghost use Rattle.ldap_msg.specs.View.{search_view, compare_view};
 ghost use Rattle.ldap_op.specs.View.{update_view};
-ghost use Rattle.dir_search.specs.View.{answer_view};
-ghost use Rattle.dir_search.specs.dir_kept.View.{reply_view};
+ghost use Rattle.session_talk.specs.View.{answer_view, reply_view};
 ghost use Rattle.session_talk.specs.Talk.{Exchange, asked_role, learned, searched, compared, looked, updated};
 ghost use Rattle.session_talk.specs.View.{role_view, ended_view};
 
 use crate::gate::{Ended, Role};
 use crate::outcomes::{Found, LookError};
-use dir_search::{CompareRequest, Reply, SearchAnswer, SearchRequest};
+use crate::reply::Reply;
+use crate::search_answer::SearchAnswer;
+use ldap_msg::{CompareRequest, SearchRequest};
 use ldap_op::Update;
 use std::alloc::Global;
 use vr_state::words::Client;

@@ -6,7 +6,7 @@ ghost use Rattle.session_talk.specs.Counting.{Counts};
 ghost use Rattle.session_talk.specs.Talk.{Exchange, asked_role, updated};
 ghost use Rattle.session_talk.specs.View.{role_view, ended_view};
 
-use dir_search::Reply;
+use crate::reply::Reply;
 use ldap_op::Update;
 use std::alloc::Global;
 use vr_state::words::Client;

@@ -8,19 +8,20 @@ mod gate;
 mod look;
 mod outcomes;
 mod pair;
-mod reading;
+mod reply;
+mod search_answer;
 
 pub use client::{named_client, session_client};
-pub use dir_search::{
-    AddRequest, Attribute, CompareRequest, DerefAliases, IndexError, Indexes, Name, NameError,
-    Reading, Reply, ResultCode, Schema, Scope, SearchAnswer, SearchRequest, are_same, compare,
-    search,
-};
 pub use directory::Directory;
 pub use gate::{Ended, Gate, Role};
+pub use ldap_msg::{
+    AddRequest, Attribute, AttributeValueAssertion, CompareRequest, DerefAliases, PartialAttribute,
+    ResultCode, Scope, SearchRequest, SearchResultEntry,
+};
 pub use ldap_op::{Op, Update};
 pub use look::Look;
 pub use outcomes::{Found, LookError};
 pub use pair::{pair_counts, pair_goes_along};
-pub use reading::{compare_at, search_at};
+pub use reply::Reply;
+pub use search_answer::SearchAnswer;
 pub use vr_state::words::Client;

@@ -1,7 +1,7 @@
 use Rattle.std.proofs.Common.{subst, sym, List, ℕ}
 use Rattle.std.specs.Prelude.{IfOk}
 use Rattle.std.proofs.lemmas.Result.{IfOk-weaker}
-use Rattle.ldap_msg.specs.View.{search_view}
+use Rattle.session_talk.specs.ldap_msg.View.{search_view}
 use Rattle.dir_kept.specs.dir_index.Whole.{lists_of}
 use Rattle.search_plans.specs.Sets.{is_in}
 use Rattle.search_plans.specs.Runs.{is_open}

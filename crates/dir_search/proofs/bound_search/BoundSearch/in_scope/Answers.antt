@@ -1,6 +1,6 @@
 -- In each scope the numbers are those of the definition.
 use Rattle.std.proofs.Common.{false}
-use Rattle.ldap_msg.specs.ldap_requests.declared.search.Scope.TheVariants.{BaseObject, SingleLevel, WholeSubtree, SubordinateSubtree}
+use Rattle.session_talk.specs.ldap_msg.ldap_requests.declared.search.Scope.TheVariants.{BaseObject, SingleLevel, WholeSubtree, SubordinateSubtree}
 use Rattle.dir_search.proofs.Answered.{among_same, among_scope}
 use Rattle.dir_search.proofs.Scoped.{numbers_nowhere}
 use Rattle.dir_search.proofs.bound_search.BoundSearch.in_scope.Goals as goal

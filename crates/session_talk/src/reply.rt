@@ -1,9 +1,9 @@
 //! Replies of updates and compares. Nothing flows in; plain data flows out. Which check gives which reply is not here.
 ghost use Rattle.std.specs.Prelude.{◌≡◌, IfOk};
-ghost use Rattle.dir_kept.specs.Replies.{only as only_code};
-ghost use Rattle.dir_kept.specs.View.{reply_view};
+ghost use Rattle.session_talk.specs.Answers.{only as only_code};
+ghost use Rattle.session_talk.specs.View.{reply_view};
 
-use ldap_parts::ResultCode;
+use ldap_msg::ResultCode;
 use std::alloc::{AllocError, Global};
 
 /// What an update or a compare is answered with (RFC 4511 4.1.9).

@@ -1,0 +1,20 @@
+// Searches with nothing to find. A reply flows in; the answer that says so flows out. What must not be here: which search that is.
+ghost use Rattle.session_talk.specs.View.{reply_view};
+ghost use Rattle.session_talk.specs.Answers.{refused as refused_answer};
+ghost use Rattle.dir_search.specs.View.{Finds};
+
+use session_talk::{Reply, SearchAnswer};
+use std::alloc::Global;
+
+/// No entries, and a reply that is not success.
+pub fn refused(alloc: Global, reply: Reply) -> SearchAnswer
+    ensures { Finds result (refused_answer (reply_view reply)) 0 }
+{
+    let Reply { code, matched } = reply;
+    SearchAnswer {
+        code,
+        matched,
+        entries: Vec::new(alloc),
+        tests: 0,
+    }
+}
