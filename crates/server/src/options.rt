@@ -1,17 +1,7 @@
 //! What a server is told. Plain data flows in and out. What is done with it is not here.
-use client_link::Limits;
 use node_gate::{Name, NodeConfig};
-use std::net::SocketAddr;
+use server_threads::{Limits, Place};
 use std::time::Duration;
-
-/// Where one replica is found.
-#[derive(Clone, Copy)]
-pub struct Place {
-    /// Where the other replicas find it.
-    pub peer_address: SocketAddr,
-    /// Where clients find it.
-    pub ldap_address: SocketAddr,
-}
 
 /// When a replica moves by itself.
 #[derive(Clone, Copy)]

@@ -1,5 +1,4 @@
-//! What a server says of itself on standard error, a line an event. Events flow in. That nobody reads it stops nothing.
-use client_link::SessionEnd;
+//! What a server says of its node on standard error, a line an event. Events flow in. That nobody reads it stops nothing.
 use node_gate::{Pulse, Standing};
 use std::io::Eprint;
 
@@ -12,30 +11,4 @@ pub fn tell_pulse<R: Eprint>(rt: &R, pulse: &Pulse) {
         Standing::Changing => eprintln!(rt; "view {view}: beginning"),
         Standing::Recovering => eprintln!(rt; "view {view}: recovering"),
     };
-}
-
-/// A peer that was heard on a connection for the first time.
-pub fn tell_peer_came<R: Eprint>(rt: &R, sender: u64) {
-    let _ = eprintln!(rt; "replica {sender} came");
-}
-
-/// A connection to a peer that ended.
-pub fn tell_peer_went<R: Eprint>(rt: &R, sender: Option<u64>, why: &str) {
-    let _ = match sender {
-        Some(sender) => eprintln!(rt; "replica {sender} went: {why}"),
-        None => eprintln!(rt; "a stranger went: {why}"),
-    };
-}
-
-/// A session that ended badly.
-pub fn tell_session<R: Eprint>(rt: &R, session: u64, end: SessionEnd) {
-    let why = match end {
-        SessionEnd::Unbound | SessionEnd::EndOfInput => return,
-        SessionEnd::Truncated => "its stream ended inside a message",
-        SessionEnd::Disconnected => "it sent what is no request",
-        SessionEnd::ReadFailed => "its stream failed, or it was silent for too long",
-        SessionEnd::WriteFailed => "its answers couldn't be written",
-        SessionEnd::NoMemory => "out of memory",
-    };
-    let _ = eprintln!(rt; "session {session} ended: {why}");
 }

@@ -1,13 +1,11 @@
 //! A node with its clock: what other replicas sent, and what a replica does by itself, beats and suspicion. Messages and time flow in; events flow to
 //! the node. What an event makes is not here.
-use crate::crew::Crew;
-use crate::engine::Engine;
-use crate::fault::ServerError;
 use crate::options::Times;
 use crate::posts::Posts;
 use crate::telling::tell_pulse;
 use file_device::FileDevice;
 use node_gate::{Event, NodeError, Op, PeerMessage, Pulse, Running, Standing};
+use server_threads::{Crew, Engine, ServerError};
 use std::alloc::Global;
 use std::io::Eprint;
 use std::sync::Wait;
@@ -141,8 +139,12 @@ impl<'a, 'r, R: Wait + Clock + Eprint> Clockwork<'a, 'r, R> {
 }
 
 impl<'a, 'r, R: Wait + Clock + Eprint> Engine for Clockwork<'a, 'r, R> {
-    fn hear(&self, from: u64, message: PeerMessage<Op>) -> Result<(), NodeError> {
-        self.handle(Event::Message { from, message })
+    fn hear(&self, from: u64, message: PeerMessage<Op>) -> bool {
+        match self.handle(Event::Message { from, message }) {
+            // Without memory the message is lost, as the network may lose one.
+            Ok(()) | Err(NodeError::NoMemory) => true,
+            Err(NodeError::Store(_) | NodeError::Halted) => false,
+        }
     }
 
     fn run(&self) -> Result<(), ServerError> {

@@ -18,4 +18,5 @@ pub use laws::{is_frame, no_beginning, one_frame};
 pub use ldap_op::Op;
 pub use reading::{read, rest};
 pub use view_store::Cluster;
+pub use vr_state::message::PeerMessage;
 pub use writing::write;

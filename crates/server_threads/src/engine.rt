@@ -1,11 +1,12 @@
 //! What the threads of a server ask of its node. Messages of other replicas flow in; what the node makes of them is not here, nor what a node is.
 use crate::fault::ServerError;
-use node_gate::{NodeError, Op, PeerMessage};
+use vr_wire::{Op, PeerMessage};
 
 /// The node behind a server's threads.
 pub trait Engine {
-    /// Hands on a message of the replica of this index.
-    fn hear(&self, from: u64, message: PeerMessage<Op>) -> Result<(), NodeError>;
+    /// Hands on a message of the replica of this index; whether the node goes on. A message that finds no memory is lost, as the network may
+    /// lose one, and the node goes on.
+    fn hear(&self, from: u64, message: PeerMessage<Op>) -> bool;
 
     /// Does what is due, moment by moment, until the node is stopped, or has stopped for good.
     fn run(&self) -> Result<(), ServerError>;

@@ -3,13 +3,12 @@ use crate::engine::Engine;
 use crate::telling::{tell_peer_came, tell_peer_went};
 use client_link::Peer;
 use crossbeam_channel::Receiver;
-use node_gate::{Cluster, NodeError};
 use peer_link::{FrameEnd, read_head, read_rest};
 use std::alloc::Global;
 use std::io::{Eprint, Read};
 use std::sync::Wait;
 use std::time::Clock;
-use vr_wire::{WireError, read, rest};
+use vr_wire::{Cluster, WireError, read, rest};
 
 /// What all readers of peers share.
 #[derive(Drop)]
@@ -51,10 +50,10 @@ impl<'a, R: Wait + Clock + Eprint, E: Engine> Hall<'a, R, E> {
     fn take_frame(&self, frame: &[u8]) -> Result<u64, &'static str> {
         let (sender, message) = read(self.alloc, frame, self.cluster).map_err(refusal_of)?;
         let from = u64::from(sender);
-        match self.engine.hear(from, message) {
-            // Without memory the message is lost, as the network may lose one.
-            Ok(()) | Err(NodeError::NoMemory) => Ok(from),
-            Err(NodeError::Store(_) | NodeError::Halted) => Err("the node has stopped"),
+        if self.engine.hear(from, message) {
+            Ok(from)
+        } else {
+            Err("the node has stopped")
         }
     }
 

@@ -1,6 +1,4 @@
 //! Why a server doesn't run, or stopped. Nothing flows in; plain data flows out.
-use file_device::FileDeviceError;
-use node_gate::{NodeError, ViewStoreError};
 use std::alloc::{AllocError, AllocFailed};
 use thiserror::Error;
 
@@ -41,25 +39,5 @@ impl From<AllocError> for ServerError {
 impl<T: Drop> From<AllocFailed<T>> for ServerError {
     fn from(_: AllocFailed<T>) -> ServerError {
         ServerError::NoMemory
-    }
-}
-
-impl From<FileDeviceError> for ServerError {
-    fn from(error: FileDeviceError) -> ServerError {
-        match error {
-            FileDeviceError::NoMemory => ServerError::NoMemory,
-            _ => ServerError::CannotOpen,
-        }
-    }
-}
-
-impl From<NodeError> for ServerError {
-    fn from(error: NodeError) -> ServerError {
-        match error {
-            NodeError::NoMemory => ServerError::NoMemory,
-            NodeError::Store(ViewStoreError::NoPair) => ServerError::NoStoredView,
-            NodeError::Store(ViewStoreError::ForeignCluster) => ServerError::ForeignCluster,
-            NodeError::Store(_) | NodeError::Halted => ServerError::DeviceFailed,
-        }
     }
 }

@@ -1,0 +1,23 @@
+//! The threads of a server: its listeners, its queues to other replicas, the threads that take connections, serve clients, hear and send; and how
+//! they end. Sockets and a node behind a small trait flow in; octets of clients and frames of replicas flow through. What a node is, its clock and
+//! its stored view are not here.
+#![tactic(auto)]
+
+mod crew;
+mod engine;
+mod fault;
+mod guests;
+mod places;
+mod posting;
+mod receiving;
+mod rooms;
+mod serving;
+mod telling;
+
+pub use client_link::{Config, Limits};
+pub use crew::Crew;
+pub use engine::Engine;
+pub use fault::ServerError;
+pub use places::Place;
+pub use rooms::{Rooms, announce, make_rooms};
+pub use serving::Server;

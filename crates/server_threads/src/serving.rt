@@ -1,0 +1,237 @@
+//! The threads of a server, and how they end. What they share flows in, with a directory for each seat; clients and replicas are served until the
+//! node behind them ends. What the node does is not here.
+use crate::engine::Engine;
+use crate::fault::ServerError;
+use crate::guests::Guest;
+use crate::places::Place;
+use crate::receiving::Hall;
+use crate::rooms::Rooms;
+use client_link::{Config, Directory, Door, Peer, accept_all, close, serve_all};
+use crossbeam_channel::{Receiver, Sender, bounded};
+use peer_link::{SocketDialer, send_all};
+use std::alloc::{AllocError, Global};
+use std::io::Eprint;
+use std::net::{Net, TcpListener, TcpStream};
+use std::sync::Wait;
+use std::thread::{self, Threads};
+use std::time::{Clock, Duration};
+use vr_wire::Cluster;
+
+/// How long a connection to a replica may take to be made, in milliseconds.
+const DIAL_LIMIT: u64 = 2_000;
+
+/// A server: what its threads share.
+#[derive(Drop)]
+pub struct Server<'a, R, E> {
+    pub rt: &'a R,
+    pub alloc: Global,
+    pub rooms: &'a Rooms,
+    pub engine: &'a E,
+    pub cluster: Cluster,
+    pub places: &'a [Place],
+}
+
+impl<'a, R, E> Server<'a, R, E>
+where
+    R: Net<Listener = TcpListener, Stream = TcpStream> + Threads + Wait + Clock + Eprint + Sync,
+    E: Engine + Sync,
+{
+    /// Sends frames to one replica, until its queue is stopped.
+    fn send_to(&self, to: usize) {
+        if let (Some(outbox), Some(place)) = (self.rooms.boxes.get(to), self.places.get(to)) {
+            let limit = Duration::from_millis(DIAL_LIMIT);
+            let mut dialer = SocketDialer::new(self.rt, place.peer_address, limit);
+            send_all(self.rt, outbox, &mut dialer);
+        }
+    }
+
+    /// The indices of the other replicas, each so many times.
+    fn others(&self, times: usize) -> Result<Vec<usize>, AllocError> {
+        let mut others = Vec::new(self.alloc);
+        let own = usize::from(self.rooms.sender);
+        for _ in 0..times {
+            for index in 0..self.places.len() {
+                if index != own {
+                    others.push(index)?;
+                }
+            }
+        }
+        Ok(others)
+    }
+
+    /// Takes the connections of other replicas, until the server closes.
+    fn take_peers(&self, to: Sender<(u64, Peer<'a, R>)>) {
+        self.rooms.crew.begin();
+        accept_all(
+            self.rt,
+            self.alloc,
+            &self.rooms.peers,
+            &self.rooms.peer_door,
+            to,
+        );
+    }
+
+    /// Takes the connections of clients, until the server closes.
+    fn take_clients(&self, to: Sender<(u64, Guest<'a, R>)>) {
+        self.rooms.crew.begin();
+        accept_all(
+            self.rt,
+            self.alloc,
+            &self.rooms.clients,
+            &self.rooms.client_door,
+            to,
+        );
+    }
+
+    /// What all readers of other replicas share.
+    fn hall(&self) -> Hall<'a, R, E> {
+        Hall {
+            rt: self.rt,
+            alloc: self.alloc,
+            cluster: self.cluster,
+            engine: self.engine,
+        }
+    }
+
+    /// Hears other replicas, a connection in each thread.
+    fn hear_peers(
+        &self,
+        readers: Vec<usize>,
+        waiting: Receiver<(u64, Peer<'a, R>)>,
+    ) -> Result<(), AllocError> {
+        let hall = self.hall();
+        let crew = &self.rooms.crew;
+        let shared = &waiting;
+        let hears = |_index: usize| {
+            crew.begin();
+            hall.hear_each(shared);
+        };
+        let _heard = thread::map_vec(self.rt, readers, &hears)?;
+        Ok(())
+    }
+
+    /// Sends to other replicas, to one in each thread.
+    fn send_frames(&self, writers: Vec<usize>) -> Result<(), AllocError> {
+        let sends = |to: usize| {
+            self.rooms.crew.begin();
+            self.send_to(to);
+        };
+        let _sent = thread::map_vec(self.rt, writers, &sends)?;
+        Ok(())
+    }
+
+    /// Hears and sends, side by side.
+    fn pass_frames(
+        &self,
+        readers: Vec<usize>,
+        writers: Vec<usize>,
+        waiting: Receiver<(u64, Peer<'a, R>)>,
+    ) -> Result<(), AllocError> {
+        let (heard, sent) = thread::join(
+            self.rt,
+            || self.hear_peers(readers, waiting),
+            || self.send_frames(writers),
+        );
+        heard?;
+        sent
+    }
+
+    /// Sends to the other replicas and hears them, until the server closes.
+    fn link(&self) -> Result<(), AllocError> {
+        self.rooms.crew.begin();
+        let writers = self.others(1)?;
+        let readers = self.others(2)?;
+        let (to_readers, waiting) = bounded(self.alloc, readers.len().max(1))?;
+        let ((), passed) = thread::join(
+            self.rt,
+            || self.take_peers(to_readers),
+            || self.pass_frames(readers, writers, waiting),
+        );
+        passed
+    }
+
+    /// Serves the clients that were taken, each in a seat.
+    fn seat_clients<D: Directory + Send + Drop>(
+        &self,
+        connections: Receiver<(u64, Guest<'a, R>)>,
+        ways: Vec<D>,
+        config: &Config<'_>,
+    ) -> Result<(), AllocError> {
+        let _ways = serve_all(self.rt, self.alloc, connections, ways, config)?;
+        Ok(())
+    }
+
+    /// Serves clients, until the server closes.
+    fn serve_clients<D: Directory + Send + Drop>(
+        &self,
+        ways: Vec<D>,
+        waiting: usize,
+        config: &Config<'_>,
+    ) -> Result<(), AllocError> {
+        self.rooms.crew.begin();
+        let (to_seats, connections) = bounded(self.alloc, waiting)?;
+        let ((), served) = thread::join(
+            self.rt,
+            || {
+                self.take_clients(to_seats);
+            },
+            || self.seat_clients(connections, ways, config),
+        );
+        served?;
+        Ok(())
+    }
+
+    /// Whatever ended badly ends the server.
+    fn end_with(&self, ended: Result<(), AllocError>) -> Result<(), AllocError> {
+        if ended.is_err() {
+            self.engine.stop();
+        }
+        ended
+    }
+
+    /// Lets nobody in at this door any more, and wakes who waits for a connection.
+    fn shut(&self, door: &Door, listener: &TcpListener) {
+        match listener.local_addr() {
+            Ok(address) => close(self.rt, door, address),
+            Err(_) => door.shut(),
+        }
+    }
+
+    /// Ends all threads.
+    fn stop(&self) {
+        self.engine.stop();
+        for outbox in &self.rooms.boxes {
+            outbox.stop(self.rt);
+        }
+        self.shut(&self.rooms.client_door, &self.rooms.clients);
+        self.shut(&self.rooms.peer_door, &self.rooms.peers);
+    }
+
+    /// All threads, to the end of the last: clients, replicas, and the node's clock, in the thread that calls.
+    pub fn run<D: Directory + Send + Drop>(
+        &self,
+        ways: Vec<D>,
+        waiting: usize,
+        config: &Config<'_>,
+    ) -> Result<(), ServerError> {
+        let (linked, (served, ticked)) = thread::join(
+            self.rt,
+            || self.end_with(self.link()),
+            || {
+                thread::join(
+                    self.rt,
+                    || self.end_with(self.serve_clients(ways, waiting, config)),
+                    || {
+                        let ticked = self.engine.run();
+                        self.stop();
+                        ticked
+                    },
+                )
+            },
+        );
+        ticked?;
+        linked?;
+        served?;
+        Ok(())
+    }
+}
