@@ -1,5 +1,5 @@
-//! The program's commands: words, which are read here, named files, an input and two outputs flow in, an exit status flows out, or what a replica is to serve.
-//! The system's words, files, streams, sockets and threads are not here: who calls this brings them.
+//! The program's commands: words, named files, an input and two outputs flow in, an exit status flows out, or what a replica is to serve.
+//! What the words are is not here, nor are the system's words, files, streams, sockets and threads: who calls this brings them.
 #![tactic(auto)]
 
 mod fault;
@@ -7,19 +7,16 @@ mod files;
 mod lab;
 mod local;
 mod opening;
-mod rows;
 mod running;
 mod sample;
 mod service;
-mod serving;
 mod status;
 mod texts;
-mod words;
 
+pub use command_line::{Peer, Serving};
 pub use fault::Fault;
 pub use files::{ReadFiles, SystemFiles};
 pub use local_directory::{Indexes, Name, Schema};
 pub use running::{Ran, run};
 pub use service::Service;
-pub use serving::{Peer, Serving};
 pub use status::Status;

@@ -5,7 +5,7 @@ use crate::fault::Fault;
 use crate::files::ReadFiles;
 use crate::local::name_of_text;
 use crate::opening::{indexes_of, schema_of};
-use crate::serving::Serving;
+use command_line::Serving;
 use local_directory::{Indexes, Name, Schema};
 use std::alloc::Global;
 use std::sync::Arc;

@@ -12,7 +12,7 @@ ghost use Rattle.dird_commands.specs.Texts.{Turns, IsRequestOf, IsAnswerTo};
 use crate::fault::Fault;
 use crate::files::read_fault;
 use crate::local::empty;
-use crate::words::Question;
+use command_line::Question;
 use filter_text::read_text;
 use local_directory::{
     DerefAliases, Indexes, SearchRequest, export_text, import_text, search_text,

@@ -2,7 +2,7 @@
 use crate::rows::{INDEX_WORD, Order, SCHEMA_WORD, Takes, Word, command_of, refusal_by};
 use crate::serving::{SERVE, Serving, serving_in};
 use clap::{ArgMatches, Command, Error};
-use ldap_msg::Scope;
+use ldap_requests::Scope;
 use std::alloc::{AllocError, Global};
 
 /// What the words ask for.

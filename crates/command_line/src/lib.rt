@@ -1,0 +1,12 @@
+//! The command line: the system's words flow in, and a job with all that it is told flows out, or a text for the user. What a job does, and
+//! what a text in it means (a name, a filter), is not here.
+#![tactic(auto)]
+
+mod rows;
+mod serving;
+mod words;
+
+pub use clap::Error;
+pub use ldap_requests::Scope;
+pub use serving::{Peer, Serving};
+pub use words::{Job, Opening, Question, read_words};
