@@ -4,3 +4,4 @@ pub mod Twice
 pub mod Equivalents
 pub mod Picked
 pub use Rattle.ldap_match.proofs.ldap_words as ldap_words
+pub use Rattle.ldap_match.proofs as ldap_match

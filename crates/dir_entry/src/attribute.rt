@@ -6,7 +6,6 @@ ghost use Rattle.std.specs.List.{list_all};
 ghost use Rattle.ldap_match.specs.Meaning.{meaning};
 ghost use Rattle.ldap_match.specs.Item.{is_of_syntax as is_of_type_syntax};
 ghost use Rattle.ldap_match.specs.Keyed.{key_at, AreKeysOf};
-ghost use Rattle.ldap_match.specs.Matched.{match_value};
 ghost use Rattle.ldap_match.specs.ldap_syntax.Forms.{form_of};
 ghost use Rattle.std.specs.Str.{bytes_eq};
 ghost use Rattle.dir_entry.specs.Picked.{picked};
@@ -15,8 +14,7 @@ ghost use Rattle.dir_entry.specs.Values.{has_repeats, has_twice as has_some_twic
 
 use crate::repeats::has_twice;
 use ldap_match::{
-    Form, Key, MatchTest, Rule, Schema, Truth, TypeId, ValueError, equality_rule, is_of_syntax,
-    key, match_on_values, tests_are_items,
+    Form, Key, Rule, Schema, TypeId, ValueError, equality_rule, is_of_syntax, key, tests_are_items,
 };
 use std::alloc::{AllocError, Global};
 use std::marker::Model;
@@ -219,16 +217,11 @@ impl Attribute {
         self.keys.as_slice()
     }
 
-    /// A test that names a rule, on the values. Takes no memory.
-    pub fn matched(&self, test: &MatchTest) -> Truth
-        ensures { result ≡ match_value test.now self.now.values self.now.keys }
+    /// The texts of the values, for the evaluation of filters.
+    pub fn forms(&self) -> &[Form]
+        ensures { result.now ≡ map form_of self.now.values }
     {
-        match_on_values(
-            test,
-            self.values.as_slice(),
-            self.forms.as_slice(),
-            self.keys.as_slice(),
-        )
+        self.forms.as_slice()
     }
 }
 

@@ -5,4 +5,6 @@ pub mod Rows
 pub mod Made
 pub mod Across
 pub mod Matches
+pub mod Kept
+pub mod MatchValues
 pub mod Named

@@ -12,8 +12,8 @@ use Rattle.ldap_filter.specs.declared.tree.Filter.TheOpen.{Filter-F}
 use Rattle.ldap_filter.specs.declared.tree.Filter.TheFolds.{fold-roll-Filter}
 use Rattle.dir_entry.specs.ldap_schema.Schema.{SchemaModel, find}
 use Rattle.dir_entry.specs.ldap_match.Item.{Item, equal, is_answerable}
-use Rattle.dir_entry.specs.ldap_match.declared.naming_rules.How.{How}
-use Rattle.dir_entry.specs.ldap_match.declared.naming_rules.How.TheVariants as how
+use Rattle.ldap_eval.specs.declared.naming_rules.How.{How}
+use Rattle.ldap_eval.specs.declared.naming_rules.How.TheVariants as how
 use Rattle.ldap_eval.specs.Value.{how_of, type_of, is_matched}
 use Rattle.ldap_eval.specs.Bound.{leaves_for, matches_with, IsBoundTo}
 use Rattle.ldap_eval.specs.Made.{IsMadeOf, AreMadeOf, IsItemFor, IsItemOn, IsMatchOn, IsExtensible, is_equality_item}

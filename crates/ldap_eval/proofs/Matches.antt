@@ -10,12 +10,12 @@ use Rattle.dir_entry.specs.ldap_match.Item.{equal, is_valid_by, is_of_rule, is_o
 use Rattle.ldap_filter.specs.Item.{ExtensibleValue}
 use Rattle.dir_entry.specs.ldap_match.Truth.{truth_or, disjunction}
 use Rattle.dir_entry.specs.ldap_match.Keyed.{AreKeysOf}
-use Rattle.dir_entry.specs.ldap_match.Matching.{rule_for, supported_in, match_on_values, match_on_pair}
-use Rattle.dir_entry.specs.ldap_match.Matched.{match_for, match_value, match_pair}
+use Rattle.ldap_eval.specs.Matching.{rule_for, supported_in, match_on_values, match_on_pair}
+use Rattle.ldap_eval.specs.Matched.{match_for, match_value, match_pair}
 use Rattle.dir_entry.specs.ldap_match.declared.truth.Truth.{Truth}
 use Rattle.dir_entry.specs.ldap_match.declared.truth.Truth.TheVariants.{False, Undefined}
-use Rattle.dir_entry.specs.ldap_match.declared.naming_rules.How.{How}
-use Rattle.dir_entry.specs.ldap_match.declared.naming_rules.How.TheVariants as how
+use Rattle.ldap_eval.specs.declared.naming_rules.How.{How}
+use Rattle.ldap_eval.specs.declared.naming_rules.How.TheVariants as how
 use Rattle.dir_entry.specs.ldap_dn.Names.{RdnModel}
 use Rattle.dir_entry.specs.ldap_dn.Pairs.{PairModel, pairs_of}
 use Rattle.dir_entry.specs.Entry.{AttributeModel, KeyedAttribute, shown, attributes_of, IsKeyedBy}

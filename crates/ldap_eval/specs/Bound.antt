@@ -9,8 +9,8 @@ use Rattle.dir_entry.specs.ldap_match.declared.truth.Truth.{Truth}
 use Rattle.dir_entry.specs.ldap_match.declared.truth.Truth.TheVariants.{False, Undefined}
 use Rattle.dir_entry.specs.Entry.{KeyedAttribute, attributes_of, IsKeyedBy}
 use Rattle.ldap_filter.specs.Tree.{Tree, Trees, no_trees, tree}
-use Rattle.dir_entry.specs.ldap_match.Matched.{match_for, match_value, match_pair}
-use Rattle.dir_entry.specs.ldap_match.declared.naming_rules.How.{How}
+use Rattle.ldap_eval.specs.Matched.{match_for, match_value, match_pair}
+use Rattle.ldap_eval.specs.declared.naming_rules.How.{How}
 use Rattle.dir_entry.specs.ldap_dn.Names.{RdnModel}
 use Rattle.dir_entry.specs.ldap_dn.Pairs.{PairModel, pairs_of}
 use Rattle.ldap_filter.specs.Item.{ExtensibleValue}

@@ -1,3 +1,5 @@
+pub mod Matching
+pub mod Matched
 pub mod Value
 pub mod Asked
 pub mod Bound

@@ -4,8 +4,8 @@ use Rattle.std.specs.Prelude.{◌≡◌, ℕ, List, [], ◌∷◌, Bool, true, f
 use Rattle.std.specs.Global.{Global}
 use Rattle.dir_entry.specs.ldap_schema.Schema.{SchemaModel, find}
 use Rattle.dir_entry.specs.ldap_match.Item.{Item, present, equal, substrings, is_answerable}
-use Rattle.dir_entry.specs.ldap_match.declared.naming_rules.How.{How}
-use Rattle.dir_entry.specs.ldap_match.declared.naming_rules.How.TheVariants as how
+use Rattle.ldap_eval.specs.declared.naming_rules.How.{How}
+use Rattle.ldap_eval.specs.declared.naming_rules.How.TheVariants as how
 use Rattle.dir_entry.specs.ldap_schema.Rules.{equality_of}
 use Rattle.ldap_filter.specs.Item as filter_item
 use Rattle.ldap_filter.specs.Item.{ExtensibleValue}

@@ -6,10 +6,10 @@ use Rattle.dir_entry.specs.ldap_schema.Schema.{SchemaModel, find, is_under}
 use Rattle.dir_entry.specs.ldap_match.Truth.{truth_and, truth_or, truth_not, disjunction}
 use Rattle.dir_entry.specs.ldap_match.Parts.{PartsModel}
 use Rattle.dir_entry.specs.ldap_match.Item.{Item, present, equal, at_least, at_most, substrings, is_answerable, item_on_attribute, is_of_syntax, is_valid_by}
-use Rattle.dir_entry.specs.ldap_match.Matching.{named_rule, supported_in, rule_for, match_on_values, match_on_pair}
-use Rattle.dir_entry.specs.ldap_match.declared.naming_rules.How.{How}
-use Rattle.dir_entry.specs.ldap_match.declared.naming_rules.How.TheVariants as how
-use Rattle.dir_entry.specs.ldap_match.declared.naming_rules.NamedRule.{NamedRule}
+use Rattle.ldap_eval.specs.Matching.{named_rule, supported_in, rule_for, match_on_values, match_on_pair}
+use Rattle.ldap_eval.specs.declared.naming_rules.How.{How}
+use Rattle.ldap_eval.specs.declared.naming_rules.How.TheVariants as how
+use Rattle.ldap_eval.specs.declared.naming_rules.NamedRule.{NamedRule}
 use Rattle.dir_entry.specs.ldap_dn.Names.{RdnModel}
 use Rattle.dir_entry.specs.ldap_dn.Pairs.{PairModel, pairs_of}
 use Rattle.dir_entry.specs.ldap_match.declared.truth.Truth.{Truth}

@@ -18,10 +18,11 @@ ghost use Rattle.dir_entry.specs.Entry.{KeyedAttribute, IsKeyedBy, attributes_of
 
 use crate::asking::Asked;
 use crate::bound::{BoundFilter, Leaf, Match};
+use crate::matching::{is_matchable, match_test, matches_are_items};
+use crate::naming_rules::{How, NamedRule, named_rule, rule_for};
 use dir_entry::{
-    How, NamedRule, Schema, Test, TypeId, at_least_test, at_most_test, equality_rule,
-    equality_test, has_parts_of, is_comparable, is_matchable, is_of_syntax, is_ordered, match_test,
-    matches_are_items, named_rule, rule_for, substrings_test, tests_are_items,
+    Schema, Test, TypeId, at_least_test, at_most_test, equality_rule, equality_test, has_parts_of,
+    is_comparable, is_of_syntax, is_ordered, substrings_test, tests_are_items,
 };
 use ldap_filter::{Filter, MatchingRuleAssertion};
 use std::alloc::{AllocError, Global};

@@ -1,7 +1,8 @@
 // Bound filters. Plain data, for evaluation and for plans.
 // What must not be here: how a filter is bound, and what it says of an entry.
 
-use dir_entry::{MatchTest, Test, TypeId};
+use crate::matching::MatchTest;
+use dir_entry::{Test, TypeId};
 
 /// A test on the attributes of one type, and not of its subtypes.
 pub struct Leaf {

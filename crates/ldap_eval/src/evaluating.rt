@@ -12,8 +12,9 @@ ghost use Rattle.dir_entry.specs.ldap_dn.Names.{RdnModel};
 ghost use Rattle.dir_entry.specs.ldap_dn.Pairs.{pair_in, pairs_in, pairs_of};
 
 use crate::bound::{BoundFilter, Leaf, Match};
+use crate::matching::{match_on_pair, match_on_values};
 use crate::name_pairs::NamePairs;
-use dir_entry::{Attribute, Entry, Rdn, Truth, TypeAndValue, item_on_attribute, match_on_pair};
+use dir_entry::{Attribute, Entry, Rdn, Truth, TypeAndValue, item_on_attribute};
 
 /// The value of a bound filter on an entry, by its name and its attributes (RFC 4511 4.5.1.7). Takes no memory.
 pub fn value<N: NamePairs>(bound: &BoundFilter, entry: &Entry, name: &N) -> Truth
@@ -92,7 +93,12 @@ fn match_on(matching: &Match, attribute: &Attribute) -> Truth
     if attribute.type_id() != matching.type_id {
         return Truth::False;
     }
-    attribute.matched(&matching.test)
+    match_on_values(
+        &matching.test,
+        attribute.values(),
+        attribute.forms(),
+        attribute.keys(),
+    )
 }
 
 /// The `or` of the match over the pairs of the name.

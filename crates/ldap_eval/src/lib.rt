@@ -6,7 +6,9 @@ mod asking;
 mod binding;
 mod bound;
 mod evaluating;
+mod matching;
 mod name_pairs;
+mod naming_rules;
 
 pub use binding::bind;
 pub use bound::{BoundFilter, Leaf, Match};

@@ -7,7 +7,15 @@ use Rattle.std.specs.List.{list_any}
 use Rattle.std.proofs.lemmas.Slice.Eq.{bytes_eq-Decides}
 use Rattle.ldap_dn.specs.ldap_syntax.Parts.{StandInOrder, HasParts, part_or_nothing}
 use Rattle.ldap_match.specs.Parts.{PartsModel, is_at_start, is_at_end, tails, are_in_order, has_parts}
-use Rattle.ldap_match.proofs.Kept.{and_left, and_right}
+
+-- a conjunction that is true, taken apart
+pub and_left : (a b : Bool) → (a && b) ≡ true → a ≡ true
+and_left true b h = refl
+and_left false b h = absurd (cc)
+
+pub and_right : (a b : Bool) → (a && b) ≡ true → b ≡ true
+and_right true b h = h
+and_right false b h = absurd (cc)
 
 start_yes : (p w : List ℕ) → is_at_start p w ≡ true → w ≡ p ++ drop (length p) w
 start_yes p w h = sym (take-append-drop (length p) w) ∙ ap (λ (x : List ℕ). x ++ drop (length p) w) ((bytes_eq-Decides (take (length p) w) p).0 h)

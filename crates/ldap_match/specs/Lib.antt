@@ -4,8 +4,6 @@ pub mod Parts
 pub mod Item
 pub mod Keyed
 pub mod NameValues
-pub mod Matching
-pub mod Matched
 -- what layers above name of the crates below
 pub use Rattle.ldap_dn.specs.ldap_words as ldap_words
 pub use Rattle.ldap_dn.specs.ldap_syntax as ldap_syntax

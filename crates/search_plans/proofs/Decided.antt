@@ -7,8 +7,8 @@ use Rattle.ldap_eval.specs.ldap_filter.Item as filter_item
 use Rattle.ldap_eval.specs.ldap_filter.Item.{ExtensibleValue}
 use Rattle.ldap_eval.specs.ldap_filter.Tree.{Tree, conj, disj, negation, item, Trees, no_trees, tree}
 use Rattle.ldap_eval.specs.ldap_match.Item.{Item, present, equal, substrings, is_answerable}
-use Rattle.ldap_eval.specs.ldap_match.Matched.{match_for}
-use Rattle.ldap_eval.specs.ldap_match.declared.naming_rules.How.{How}
+use Rattle.ldap_eval.specs.Matched.{match_for}
+use Rattle.ldap_eval.specs.declared.naming_rules.How.{How}
 use Rattle.ldap_eval.specs.ldap_match.Keyed.{test_for}
 use Rattle.ldap_eval.specs.dir_entry.Entry.{KeyedAttribute, attributes_of, IsKeyedBy}
 use Rattle.dir_index.specs.index_choice.declared.kinds.Kinds.{Kinds}

@@ -7,7 +7,7 @@ use Rattle.ldap_eval.specs.ldap_filter.Item as filter_item
 use Rattle.ldap_eval.specs.ldap_filter.Item.{ExtensibleValue}
 use Rattle.ldap_eval.specs.ldap_filter.Tree.{Tree, conj, disj, negation, item, Trees, no_trees, tree}
 use Rattle.ldap_eval.specs.ldap_match.Item.{Item, present, equal, at_least, at_most, substrings, is_answerable}
-use Rattle.ldap_eval.specs.ldap_match.declared.naming_rules.How.{How}
+use Rattle.ldap_eval.specs.declared.naming_rules.How.{How}
 use Rattle.ldap_eval.specs.Value.{asked_by, parts_of, how_of, type_of, is_matched, is_looked_at}
 use Rattle.ldap_eval.specs.Made.{is_equality_item}
 use Rattle.dir_index.specs.index_choice.declared.kinds.Kinds.{Kinds}

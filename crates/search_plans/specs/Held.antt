@@ -11,7 +11,7 @@ use Rattle.ldap_eval.specs.ldap_filter.Tree.{Tree, conj, disj, negation, item, T
 use Rattle.ldap_eval.specs.ldap_match.Meaning.{meaning}
 use Rattle.ldap_eval.specs.ldap_match.Parts.{PartsModel}
 use Rattle.ldap_eval.specs.ldap_match.Item.{Item, present, equal, at_least, at_most, substrings, substrings_of, prepared_parts, is_answerable}
-use Rattle.ldap_eval.specs.ldap_match.declared.naming_rules.How.{How}
+use Rattle.ldap_eval.specs.declared.naming_rules.How.{How}
 use Rattle.ldap_eval.specs.dir_entry.Entry.{AttributeModel}
 use Rattle.ldap_eval.specs.Value.{asked_by, parts_of, how_of, type_of}
 use Rattle.ldap_eval.specs.Made.{is_equality_item}

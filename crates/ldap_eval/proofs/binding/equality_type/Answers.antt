@@ -1,6 +1,6 @@
 use Rattle.std.proofs.Common.{Some, true, false, ◌≡◌, sym, subst, ◌∙◌}
 use Rattle.ldap_filter.specs.ItemView.{extensible_view}
-use Rattle.dir_entry.specs.ldap_match.declared.naming_rules.How.{How}
+use Rattle.ldap_eval.specs.declared.naming_rules.How.{How}
 use Rattle.ldap_eval.specs.Made.{is_equality_item}
 use Rattle.ldap_eval.proofs.Matches.{own_some, own_none}
 use Rattle.ldap_eval.proofs.binding.equality_type.Goals as goal

@@ -3,7 +3,7 @@ use Rattle.std.proofs.lemmas.List.{drop_all}
 use Rattle.std.specs.List.{list_any}
 use Rattle.dir_entry.specs.ldap_schema.Schema.{TypeModel}
 use Rattle.dir_entry.specs.ldap_match.Item.{is_valid_by}
-use Rattle.dir_entry.specs.ldap_match.Matching.{supported_in}
+use Rattle.ldap_eval.specs.Matching.{supported_in}
 use Rattle.ldap_eval.proofs.Matches.{some_type_step}
 use Rattle.ldap_eval.proofs.binding.is_matched_somewhere.Goals as goal
 

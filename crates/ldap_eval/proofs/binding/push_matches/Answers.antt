@@ -1,6 +1,6 @@
 use Rattle.std.proofs.Common.{Vec, Global, ◌++◌, ap, ap₂, ◌∙◌, subst, ℕ, ◌+◌, ◌<◌, drop, length}
-use Rattle.dir_entry.specs.ldap_match.Matched.{match_for}
-use Rattle.dir_entry.specs.ldap_match.declared.matching.MatchTest.{MatchTest}
+use Rattle.ldap_eval.specs.Matched.{match_for}
+use Rattle.ldap_eval.specs.declared.matching.MatchTest.{MatchTest}
 use Rattle.ldap_eval.specs.Value.{is_looked_at}
 use Rattle.ldap_eval.specs.Bound.{matches_from, matches_for}
 use Rattle.ldap_eval.specs.declared.bound.BoundFilter.{BoundFilter}

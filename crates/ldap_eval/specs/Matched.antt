@@ -1,18 +1,18 @@
 -- Tests made of items that name a rule, on the keys and the texts of values. Only the evaluation of filters names them.
 use Rattle.std.specs.Prelude.{ℕ, List, Bool, cond, Option, None, Some}
 use Rattle.std.specs.List.{list_any}
-use Rattle.ldap_dn.specs.ldap_words.declared.rule.Rule.{Rule}
-use Rattle.ldap_dn.specs.ldap_syntax.Forms.{is_met, is_met_by, is_text_met}
-use Rattle.ldap_dn.specs.ldap_schema.Schema.{SchemaModel}
-use Rattle.ldap_dn.specs.Pairs.{PairModel}
-use Rattle.ldap_match.specs.Truth.{truth_of}
-use Rattle.ldap_match.specs.Keyed.{key_at}
-use Rattle.ldap_match.specs.Matching.{rule_for, asks_less, goes_by_key}
-use Rattle.ldap_match.specs.declared.truth.Truth.{Truth}
-use Rattle.ldap_match.specs.declared.truth.Truth.TheVariants.{Undefined}
-use Rattle.ldap_match.specs.declared.naming_rules.How.{How}
-use Rattle.ldap_match.specs.declared.matching.MatchTest.{MatchTest}
-use Rattle.ldap_match.specs.declared.matching.MatchTest.TheVariants as test
+use Rattle.dir_entry.specs.ldap_words.declared.rule.Rule.{Rule}
+use Rattle.dir_entry.specs.ldap_syntax.Forms.{is_met, is_met_by, is_text_met}
+use Rattle.dir_entry.specs.ldap_schema.Schema.{SchemaModel}
+use Rattle.dir_entry.specs.ldap_dn.Pairs.{PairModel}
+use Rattle.dir_entry.specs.ldap_match.Truth.{truth_of}
+use Rattle.dir_entry.specs.ldap_match.Keyed.{key_at}
+use Rattle.ldap_eval.specs.Matching.{rule_for, asks_less, goes_by_key}
+use Rattle.dir_entry.specs.ldap_match.declared.truth.Truth.{Truth}
+use Rattle.dir_entry.specs.ldap_match.declared.truth.Truth.TheVariants.{Undefined}
+use Rattle.ldap_eval.specs.declared.naming_rules.How.{How}
+use Rattle.ldap_eval.specs.declared.matching.MatchTest.{MatchTest}
+use Rattle.ldap_eval.specs.declared.matching.MatchTest.TheVariants as test
 
 abbrev pub match_made : Bool → Rule → Bool → List ℕ → MatchTest
 match_made by_key r less k = cond by_key (test.Kept (record { less = less; key = k })) (test.Text r (record { less = less; key = k }))

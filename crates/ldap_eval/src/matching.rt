@@ -4,23 +4,20 @@
 ghost use Rattle.std.specs.Prelude.{◌≡◌, ℕ, List, IfOk, map};
 ghost use Rattle.std.specs.List.{list_any};
 ghost use Rattle.std.specs.Option.{option_copied};
-ghost use Rattle.ldap_dn.specs.ldap_schema.Schema.{SchemaModel};
-ghost use Rattle.ldap_dn.specs.ldap_syntax.Forms.{form_of, is_met, is_met_by, is_text_met};
-ghost use Rattle.ldap_dn.specs.Pairs.{PairModel};
-ghost use Rattle.ldap_match.specs.Truth.{truth_of};
-ghost use Rattle.ldap_match.specs.Item.{is_valid_by};
-ghost use Rattle.ldap_match.specs.Keyed.{AreKeysOf};
-ghost use Rattle.ldap_match.specs.Matching.{rule_for as rule_for_type, match_on_values as item_on_values, match_on_pair as item_on_pair};
-ghost use Rattle.ldap_match.specs.Matched.{match_for, match_of_key, match_value, match_pair};
-ghost use Rattle.ldap_match.specs.declared.naming_rules.How.{How};
+ghost use Rattle.dir_entry.specs.ldap_schema.Schema.{SchemaModel};
+ghost use Rattle.dir_entry.specs.ldap_syntax.Forms.{form_of, is_met, is_met_by, is_text_met};
+ghost use Rattle.dir_entry.specs.ldap_dn.Pairs.{PairModel};
+ghost use Rattle.dir_entry.specs.ldap_match.Truth.{truth_of};
+ghost use Rattle.dir_entry.specs.ldap_match.Item.{is_valid_by};
+ghost use Rattle.dir_entry.specs.ldap_match.Keyed.{AreKeysOf};
+ghost use Rattle.ldap_eval.specs.Matching.{rule_for as rule_for_type, match_on_values as item_on_values, match_on_pair as item_on_pair};
+ghost use Rattle.ldap_eval.specs.Matched.{match_for, match_of_key, match_value, match_pair};
+ghost use Rattle.ldap_eval.specs.declared.naming_rules.How.{How};
 
-use crate::keying::is_meaningful;
 use crate::naming_rules::{How, asks_less, goes_by_key, rule_for};
-use crate::testing::key_or_none;
-use crate::truth::Truth;
-use ldap_dn::{
-    Form, Key, Rule, Schema, TypeAndValue, TypeId, keys_compare, meets, name_keys_are_of_names,
-    parts_compare, texts_tell,
+use dir_entry::{
+    Form, Key, Rule, Schema, Truth, TypeAndValue, TypeId, is_meaningful, key_or_none, keys_compare,
+    meets, name_keys_are_of_names, parts_compare, texts_tell,
 };
 use std::alloc::{AllocError, Global};
 

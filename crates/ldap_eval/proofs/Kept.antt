@@ -1,19 +1,20 @@
 -- The rules that a type supports, against its EQUALITY rule. Facts on types flow in and out; no value of the program is here.
 use Rattle.std.proofs.Common.{ℕ, List, Bool, true, false, cond, ◌&&◌, ◌||◌, not, Option, None, Some, slice_get, ◌≡◌, refl, ap, ap₂, sym, ◌∙◌}
-use Rattle.ldap_dn.specs.ldap_words.Families.{is_used_on, is_textual, is_ordering}
-use Rattle.ldap_dn.specs.ldap_syntax.Keys as syntax_keys
-use Rattle.ldap_dn.specs.ldap_words.declared.rule.Family.{Family}
-use Rattle.ldap_dn.specs.ldap_words.declared.rule.Family.TheVariants as family
-use Rattle.ldap_dn.specs.ldap_words.declared.rule.Rule.{Rule}
-use Rattle.ldap_dn.specs.ldap_words.declared.rule.Syntax.{Syntax}
-use Rattle.ldap_dn.specs.ldap_words.declared.rule.Syntax.TheVariants as syntax
-use Rattle.ldap_dn.specs.ldap_schema.Schema.{SchemaModel, TypeModel}
-use Rattle.ldap_dn.specs.ldap_schema.Rules.{equality_in, equality_of}
-use Rattle.ldap_match.specs.Keyed.{key_at}
-use Rattle.ldap_match.specs.Matching.{is_rule_of, is_own_or_text, supported_in, rule_for, asks_less, is_text_in, is_text_type, goes_by_key}
-use Rattle.ldap_match.specs.declared.naming_rules.NamedRule.{NamedRule}
-use Rattle.ldap_match.specs.declared.naming_rules.How.{How}
-use Rattle.ldap_match.specs.declared.naming_rules.How.TheVariants as how
+use Rattle.dir_entry.specs.ldap_words.Families.{is_used_on, is_textual, is_ordering}
+use Rattle.dir_entry.specs.ldap_syntax.Keys as syntax_keys
+use Rattle.dir_entry.specs.ldap_words.declared.rule.Family.{Family}
+use Rattle.dir_entry.specs.ldap_words.declared.rule.Family.TheVariants as family
+use Rattle.dir_entry.specs.ldap_words.declared.rule.Rule.{Rule}
+use Rattle.dir_entry.specs.ldap_words.declared.rule.Syntax.{Syntax}
+use Rattle.dir_entry.specs.ldap_words.declared.rule.Syntax.TheVariants as syntax
+use Rattle.dir_entry.specs.ldap_schema.Schema.{SchemaModel, TypeModel}
+use Rattle.dir_entry.specs.ldap_schema.Rules.{equality_in, equality_of}
+use Rattle.dir_entry.specs.ldap_match.Keyed.{key_at}
+use Rattle.dir_entry.proofs.ldap_match.Decided.{and_left, and_right}
+use Rattle.ldap_eval.specs.Matching.{is_rule_of, is_own_or_text, supported_in, rule_for, asks_less, is_text_in, is_text_type, goes_by_key}
+use Rattle.ldap_eval.specs.declared.naming_rules.NamedRule.{NamedRule}
+use Rattle.ldap_eval.specs.declared.naming_rules.How.{How}
+use Rattle.ldap_eval.specs.declared.naming_rules.How.TheVariants as how
 
 -- the family that is used on a syntax; none, where its values are text
 abbrev pub sole_family : Syntax → Option Family
@@ -251,14 +252,6 @@ sole_used family.Ia5Exact syntax.NumericString y u t w = absurd (cc)
 sole_used family.Ia5Exact syntax.ObjectIdentifier y u t w = absurd (cc)
 sole_used family.Ia5Exact syntax.OctetString y u t w = absurd (cc)
 sole_used family.Ia5Exact syntax.TelephoneNumber y u t w = absurd (cc)
-
-pub and_left : (a b : Bool) → (a && b) ≡ true → a ≡ true
-and_left true b h = refl
-and_left false b h = absurd (cc)
-
-pub and_right : (a b : Bool) → (a && b) ≡ true → b ≡ true
-and_right true b h = h
-and_right false b h = absurd (cc)
 
 some_is : {A : Type 0} (x y : A) (o : Option A) → o ≡ Some x → o ≡ Some y → x ≡ y
 some_is x y o a b = cc

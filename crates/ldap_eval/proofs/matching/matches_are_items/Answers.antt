@@ -1,6 +1,6 @@
-use Rattle.ldap_match.proofs.Items.{KeyLaws, keys_mean}
-use Rattle.ldap_match.proofs.Matches.{on_values, on_pair}
-use Rattle.ldap_match.proofs.matching.matches_are_items.Goals as goal
+use Rattle.dir_entry.proofs.ldap_match.Items.{KeyLaws, keys_mean}
+use Rattle.ldap_eval.proofs.MatchValues.{on_values, on_pair}
+use Rattle.ldap_eval.proofs.matching.matches_are_items.Goals as goal
 
 pub returns-clause-values : goal.returns-clause-values
 returns-clause-values c = λ s h a t values keys k.

@@ -2,10 +2,10 @@
 // What must not be here: values, keys, entries.
 
 ghost use Rattle.std.specs.Prelude.{◌≡◌, ◌&&◌};
-ghost use Rattle.ldap_dn.specs.ldap_words.Families.{is_textual, is_used_on as is_family_used_on};
-ghost use Rattle.ldap_match.specs.Matching as matching;
+ghost use Rattle.dir_entry.specs.ldap_words.Families.{is_textual, is_used_on as is_family_used_on};
+ghost use Rattle.ldap_eval.specs.Matching as matching;
 
-use ldap_dn::{
+use dir_entry::{
     Family, Rule, Schema, Syntax, TypeId, equality_family, equality_rule, has_ordering, is_used_on,
     ordering_family,
 };

@@ -1,7 +1,7 @@
 use Rattle.std.proofs.Common.{ℕ, Vec, Global, ◌≡◌, drop, map}
 use Rattle.std.specs.List.{list_any}
-use Rattle.ldap_dn.specs.ldap_syntax.Forms.{form_of, is_text_met}
-use Rattle.ldap_match.proofs.matching.has_text.Given as goal
+use Rattle.dir_entry.specs.ldap_syntax.Forms.{form_of, is_text_met}
+use Rattle.ldap_eval.proofs.matching.has_text.Given as goal
 
 -- none of the values so far meets the key, and the texts of the others are left
 abbrev pub invariant-loop-value : goal.invariant-loop-value

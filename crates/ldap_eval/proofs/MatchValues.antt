@@ -1,21 +1,21 @@
 -- Tests made of items that name a rule, against the items. Facts on lists flow in and out; no value of the program is here.
 use Rattle.std.proofs.Common.{ℕ, List, [], ◌∷◌, Bool, true, false, cond, ◌||◌, Option, None, Some, is_some, ◌≡◌, refl, ap, ap₂, sym, subst, ◌∙◌, map}
 use Rattle.std.specs.List.{list_any}
-use Rattle.ldap_dn.specs.ldap_words.Families.{is_used_on, is_textual, is_ordering}
-use Rattle.ldap_dn.specs.ldap_syntax.Meaning.{Meaning}
-use Rattle.ldap_dn.specs.ldap_words.declared.rule.Rule.{Rule}
-use Rattle.ldap_dn.specs.ldap_syntax.Forms.{is_met, is_met_by, is_text_met, TextsTell}
-use Rattle.ldap_dn.specs.ldap_schema.Schema.{SchemaModel}
-use Rattle.ldap_dn.specs.Pairs.{PairModel}
-use Rattle.ldap_match.specs.Meaning.{meaning}
-use Rattle.ldap_match.specs.Truth.{truth_of}
-use Rattle.ldap_match.specs.Item.{answered, by_rule}
-use Rattle.ldap_match.specs.Keyed.{key_at, AreKeysBy, AreKeysOf}
-use Rattle.ldap_match.specs.Matching.{rule_for, asks_less, satisfies, goes_by_key, key_meets, match_on_values, pair_answered, pair_by, match_on_pair}
-use Rattle.ldap_match.specs.Matched.{match_made, match_of_key, match_of_rule, match_for, match_value, match_pair}
-use Rattle.ldap_match.specs.declared.naming_rules.How.{How}
-use Rattle.ldap_match.proofs.Items.{KeysMean, same_test, same_order}
-use Rattle.ldap_match.proofs.Kept.{RuleFits, rule_fits, text_key_is}
+use Rattle.dir_entry.specs.ldap_words.Families.{is_used_on, is_textual, is_ordering}
+use Rattle.dir_entry.specs.ldap_syntax.Meaning.{Meaning}
+use Rattle.dir_entry.specs.ldap_words.declared.rule.Rule.{Rule}
+use Rattle.dir_entry.specs.ldap_syntax.Forms.{is_met, is_met_by, is_text_met, TextsTell}
+use Rattle.dir_entry.specs.ldap_schema.Schema.{SchemaModel}
+use Rattle.dir_entry.specs.ldap_dn.Pairs.{PairModel}
+use Rattle.dir_entry.specs.ldap_match.Meaning.{meaning}
+use Rattle.dir_entry.specs.ldap_match.Truth.{truth_of}
+use Rattle.dir_entry.specs.ldap_match.Item.{answered, by_rule}
+use Rattle.dir_entry.specs.ldap_match.Keyed.{key_at, AreKeysBy, AreKeysOf}
+use Rattle.ldap_eval.specs.Matching.{rule_for, asks_less, satisfies, goes_by_key, key_meets, match_on_values, pair_answered, pair_by, match_on_pair}
+use Rattle.ldap_eval.specs.Matched.{match_made, match_of_key, match_of_rule, match_for, match_value, match_pair}
+use Rattle.ldap_eval.specs.declared.naming_rules.How.{How}
+use Rattle.dir_entry.proofs.ldap_match.Items.{KeysMean, same_test, same_order}
+use Rattle.ldap_eval.proofs.Kept.{RuleFits, rule_fits, text_key_is}
 
 -- one value: its key meets the asserted one where its meaning satisfies the rule
 met_by : (s : SchemaModel) (r : Rule) (less : Bool) (a k : List ℕ) (m : Meaning) → KeysMean s r → (less ≡ true → is_ordering r.family ≡ true) → meaning s r a ≡ Some m → key_at s r a ≡ Some k

@@ -1,10 +1,10 @@
 use Rattle.std.proofs.Common.{ℕ, Vec, Global, map, ap, sym, ◌∙◌}
-use Rattle.ldap_dn.specs.ldap_syntax.Forms.{is_text_met}
-use Rattle.ldap_match.specs.Truth.{truth_of}
-use Rattle.ldap_match.specs.Matched.{match_value}
-use Rattle.ldap_match.specs.declared.matching.MatchTest.{MatchTest}
-use Rattle.ldap_match.proofs.Matches.{any_map}
-use Rattle.ldap_match.proofs.matching.match_on_values.Goals as goal
+use Rattle.dir_entry.specs.ldap_syntax.Forms.{is_text_met}
+use Rattle.dir_entry.specs.ldap_match.Truth.{truth_of}
+use Rattle.ldap_eval.specs.Matched.{match_value}
+use Rattle.ldap_eval.specs.declared.matching.MatchTest.{MatchTest}
+use Rattle.ldap_eval.proofs.MatchValues.{any_map}
+use Rattle.ldap_eval.proofs.matching.match_on_values.Goals as goal
 
 pub returns-in-Text : goal.returns-in-Text
 returns-in-Text c =

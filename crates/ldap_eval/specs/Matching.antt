@@ -1,25 +1,25 @@
 -- An item that names a rule, on one attribute and on one pair of a name: RFC 4511 4.5.1.7.7. A rule, a type, an assertion and values flow in, a truth
 -- flows out; which attributes an item looks at is not here.
 use Rattle.std.specs.Prelude.{ℕ, List, Bool, true, false, not, cond, ◌&&◌, ◌||◌, Option, None, Some, slice_get}
-use Rattle.ldap_dn.specs.ldap_words.Families.{is_ordering, is_textual, is_used_on}
-use Rattle.ldap_dn.specs.ldap_syntax.Meaning.{Meaning}
-use Rattle.ldap_dn.specs.ldap_words.declared.rule.Family.{Family}
-use Rattle.ldap_dn.specs.ldap_words.declared.rule.Rule.{Rule}
-use Rattle.ldap_dn.specs.ldap_words.declared.rule.Syntax.{Syntax}
-use Rattle.ldap_dn.specs.ldap_syntax.Forms.{is_met_by}
-use Rattle.ldap_dn.specs.ldap_schema.Schema.{SchemaModel, TypeModel}
-use Rattle.ldap_dn.specs.ldap_schema.Rules.{equality_of}
-use Rattle.ldap_dn.specs.Pairs.{PairModel}
-use Rattle.ldap_dn.specs.ldap_words.RulesByName.{equality_family, ordering_family}
-use Rattle.ldap_match.specs.Meaning.{meaning}
-use Rattle.ldap_match.specs.Truth.{truth_of}
-use Rattle.ldap_match.specs.Item.{is_meant, is_less_meaning, by_rule}
-use Rattle.ldap_match.specs.Keyed.{key_at}
-use Rattle.ldap_match.specs.declared.truth.Truth.{Truth}
-use Rattle.ldap_match.specs.declared.truth.Truth.TheVariants.{Undefined}
-use Rattle.ldap_match.specs.declared.naming_rules.NamedRule.{NamedRule}
-use Rattle.ldap_match.specs.declared.naming_rules.How.{How}
-use Rattle.ldap_match.specs.declared.naming_rules.How.TheVariants as how
+use Rattle.dir_entry.specs.ldap_words.Families.{is_ordering, is_textual, is_used_on}
+use Rattle.dir_entry.specs.ldap_syntax.Meaning.{Meaning}
+use Rattle.dir_entry.specs.ldap_words.declared.rule.Family.{Family}
+use Rattle.dir_entry.specs.ldap_words.declared.rule.Rule.{Rule}
+use Rattle.dir_entry.specs.ldap_words.declared.rule.Syntax.{Syntax}
+use Rattle.dir_entry.specs.ldap_syntax.Forms.{is_met_by}
+use Rattle.dir_entry.specs.ldap_schema.Schema.{SchemaModel, TypeModel}
+use Rattle.dir_entry.specs.ldap_schema.Rules.{equality_of}
+use Rattle.dir_entry.specs.ldap_dn.Pairs.{PairModel}
+use Rattle.dir_entry.specs.ldap_words.RulesByName.{equality_family, ordering_family}
+use Rattle.dir_entry.specs.ldap_match.Meaning.{meaning}
+use Rattle.dir_entry.specs.ldap_match.Truth.{truth_of}
+use Rattle.dir_entry.specs.ldap_match.Item.{is_meant, is_less_meaning, by_rule}
+use Rattle.dir_entry.specs.ldap_match.Keyed.{key_at}
+use Rattle.dir_entry.specs.ldap_match.declared.truth.Truth.{Truth}
+use Rattle.dir_entry.specs.ldap_match.declared.truth.Truth.TheVariants.{Undefined}
+use Rattle.ldap_eval.specs.declared.naming_rules.NamedRule.{NamedRule}
+use Rattle.ldap_eval.specs.declared.naming_rules.How.{How}
+use Rattle.ldap_eval.specs.declared.naming_rules.How.TheVariants as how
 
 abbrev pub named_as : Bool → Option Family → Option NamedRule
 named_as less None = None
