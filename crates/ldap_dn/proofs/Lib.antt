@@ -5,4 +5,5 @@ pub mod Parted
 pub mod NameTexts
 pub mod Rising
 pub mod KeysTold
+pub mod KeysMade
 pub use Rattle.ldap_schema.proofs.ldap_words as ldap_words
