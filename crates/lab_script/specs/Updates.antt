@@ -10,7 +10,7 @@ use Rattle.ldif.specs.Exports.{IsWhole}
 use Rattle.ldif.specs.ldap_msg.Messages.{RequestValue, OperationValue, request, response, MessageValue}
 use Rattle.ldif.specs.ldap_msg.Messages as messages
 use Rattle.ldap_op.specs.Values.{OpValue, add, delete, modify, modify_dn, noop}
-use Rattle.lab_script.specs.Cuts.{Cut, cut, cut_pair}
+use Rattle.lab_script.specs.Cuts.{Cut, behind_spaces, cut, cut_pair}
 use Rattle.lab_script.specs.Each.{all_of}
 
 -- ---- `add DN|type: value|..`
@@ -22,9 +22,9 @@ line_of k = cond (is_utf8 k.front) (Some (record { description = k.front; octets
 -- the same of a piece that is cut
 abbrev pub line_cut : Option Cut → Option ValueModel
 line_cut None = None
-line_cut (Some k) = line_of k
+line_cut (Some k) = line_of (record { front = k.front; behind = behind_spaces k.behind })
 
--- `type: value`: the value is all that stands behind the first colon with a space behind it, and that space
+-- `type: value`: the value is all that stands behind the first colon with a space behind it, and behind that and further spaces
 abbrev pub line_in : List ℕ → Option ValueModel
 line_in piece = line_cut (cut_pair piece)
 
@@ -57,7 +57,11 @@ delete_in name = cond (is_utf8 name) (Some (delete name)) None
 
 -- ---- `hex MESSAGE`
 
--- the update that a request is, if it is one (RFC 4511 4.6 to 4.9)
+-- the extended request for an update that changes nothing (RFC 4511 4.12); its value isn't looked at
+abbrev pub noop_of : List ℕ → Option OpValue
+noop_of name = cond (bytes_eq name (codes "2.25.20120103")) (Some noop) None
+
+-- the update that a request is, if it is one (RFC 4511 4.6 to 4.9, 4.12)
 abbrev pub update_of : RequestValue → Option OpValue
 update_of (messages.bind b) = None
 update_of messages.unbind = None
@@ -68,7 +72,7 @@ update_of (messages.delete name) = Some (delete name)
 update_of (messages.modify_dn m) = Some (modify_dn m)
 update_of (messages.compare k) = None
 update_of (messages.abandon id) = None
-update_of (messages.extended_request x) = None
+update_of (messages.extended_request x) = noop_of x.request_name
 
 -- the update that an operation is, if it is one
 abbrev pub update_by : OperationValue → Option OpValue

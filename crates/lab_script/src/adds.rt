@@ -6,7 +6,7 @@ ghost use Rattle.std.specs.List.{slice_split};
 ghost use Rattle.std.specs.Str.{is_utf8};
 ghost use Rattle.lab_script.specs.Updates as updates;
 
-use crate::cuts::{cut_pair, cut_text, text_of};
+use crate::cuts::{behind_spaces, cut_pair, cut_text, text_of};
 use crate::text_fault::TextError;
 use ldif::{AttributeValue, Record};
 use std::alloc::{AllocError, Global};
@@ -38,7 +38,7 @@ fn line_in(alloc: Global, piece: &[u8]) -> Result<AttributeValue, TextError>
     ensures bad { IsErrOf result TextError.BadText → updates.line_in piece.now ≡ None }
 {
     match cut_pair(piece) {
-        Some(pair) => line_of(alloc, pair.front, pair.behind),
+        Some(pair) => line_of(alloc, pair.front, behind_spaces(pair.behind)),
         None => Err(TextError::BadText),
     }
 }

@@ -63,6 +63,17 @@ pub fn cut_pair(text: &[u8]) -> Option<Cut<'_>>
     None
 }
 
+/// What stands behind the spaces at the front.
+pub fn behind_spaces(text: &[u8]) -> &[u8]
+    ensures { result.now ≡ cuts.behind_spaces text.now }
+{
+    let mut rest = text;
+    while let [b' ', more @ ..] = rest {
+        rest = more;
+    }
+    rest
+}
+
 /// The octets as text; none, where they are no UTF-8.
 pub fn text_of(octets: &[u8]) -> Option<&str>
     ensures { MatchOption result (is_utf8 octets.now ≡ false) (λ t. (is_utf8 octets.now ≡ true) × (t.now ≡ octets.now)) }

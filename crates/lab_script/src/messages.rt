@@ -15,6 +15,9 @@ use ldap_op::Update;
 use ldif::{Message, MsgFault, ProtocolOp, Request, decode};
 use std::alloc::Global;
 
+/// The name of the extended request for an update that changes nothing.
+const NOOP_REQUEST: &str = "2.25.20120103";
+
 /// The octets that digits spell, two an octet.
 fn octets_of(alloc: Global, digits: &[u8]) -> Result<Vec<u8>, TextError>
     ensures found { IfOk result (λ v. decode_of digits.now ≡ Ok v.items) }
@@ -43,6 +46,17 @@ fn message_of(alloc: Global, octets: &[u8]) -> Result<Message, TextError>
     }
 }
 
+/// The update that an extended request of this name is: the one for an update that changes nothing.
+fn noop_of(name: &str) -> Option<Update>
+    ensures { MatchOption result (updates.noop_of name.now ≡ None) (λ u. updates.noop_of name.now ≡ Some (update_view u)) }
+{
+    if name == NOOP_REQUEST {
+        Some(Update::Noop)
+    } else {
+        None
+    }
+}
+
 /// The update that a request is.
 fn update_of(request: Request) -> Option<Update>
     ensures { MatchOption result (updates.update_of (request_view request) ≡ None) (λ u. updates.update_of (request_view request) ≡ Some (update_view u)) }
@@ -57,7 +71,7 @@ fn update_of(request: Request) -> Option<Update>
         Request::Search(_) => None,
         Request::Compare(_) => None,
         Request::Abandon(_) => None,
-        Request::Extended(_) => None,
+        Request::Extended(extended) => noop_of(extended.request_name.as_str()),
     }
 }
 
