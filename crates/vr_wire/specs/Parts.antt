@@ -14,7 +14,7 @@ use Rattle.vr_wire.specs.declared.error.WireError.TheVariants as error
 use Rattle.vr_wire.specs.declared.labels.Label.{Label}
 use Rattle.vr_wire.specs.declared.labels.Portion.{Portion}
 use Rattle.vr_wire.specs.Frames.{limit, number, short, kind_of, body_octets, frame_octets, IsInRange}
-use Rattle.vr_wire.specs.Cutting.{then, cut_octet, cut_octets, cut_short, cut_head, sized}
+use Rattle.vr_wire.specs.Cutting.{then, cut_octet, cut_octets, cut_short, cut_head, cut_body, sized}
 use Rattle.vr_wire.specs.Payloads.{IsMessageOf}
 
 -- what a message says, without the length, the version, the cluster and the sender: its kind, and what follows the sender's octet
@@ -73,6 +73,10 @@ abbrev pub pieces_of : ℕ → ℕ → List ℕ → List (List ℕ)
 pieces_of size zero octets = []
 pieces_of size (suc n) octets = take size octets ∷ pieces_of size n (drop size octets)
 
+-- a message, cut from what it says
+unfoldable pub cut_saying : List ℕ → Option (PeerMessage (List ℕ))
+cut_saying o = then (cut_octet o) (λ k. cut_body k.0 k.1)
+
 -- ---- a part, cut
 
 -- a number of 64 bits
@@ -106,6 +110,11 @@ cut_part_rest o = then (cut_head o) (λ c. then (cut_part_said c.1) (λ p. Some 
 unfoldable pub cut_part : List ℕ → Option (ℕ × Portion (List ℕ))
 cut_part o = then (cut_short o) (λ n. then (sized n.0 n.1) cut_part_rest)
 
+-- this is the part that is cut, if any, or memory ran out
+abbrev pub Finds : {X : Type 0} → Result (Option X) WireError → Option X → Type 0
+Finds (Ok found) cut = found ≡ cut
+Finds (Err e) cut = e ≡ error.NoMemory
+
 -- the frame is a part of this cluster
 pub record IsPart (cluster : ℕ) (p : Portion (List ℕ)) (frame : List ℕ) : Type 0 where
   pub spelled : frame ≡ part_octets cluster p.label.sender p.label.number p.place p.label.count p.piece
@@ -116,16 +125,16 @@ pub record IsPart (cluster : ℕ) (p : Portion (List ℕ)) (frame : List ℕ) : 
   pub there : 1 ≤ length p.piece
   pub small : length frame ≤ limit
 
--- a message isn't sent: it has 2 ^ 32 octets or more, or memory ran out
+-- octets aren't sent: there are 2 ^ 32 or more, or memory ran out
 abbrev pub IsNotSent : WireError → List ℕ → Type 0
-IsNotSent error.BadFrame saying = 2 ^ 32 ≤ length saying
-IsNotSent error.ForeignFrame saying = ⊥
-IsNotSent error.NoMemory saying = Unit {0}
+IsNotSent error.BadFrame octets = 2 ^ 32 ≤ length octets
+IsNotSent error.ForeignFrame octets = ⊥
+IsNotSent error.NoMemory octets = Unit {0}
 
--- the frames of a message are made, or it isn't sent
+-- the frames of a message are made; or it isn't sent, since one frame of it would have 2 ^ 32 octets or more
 abbrev pub MakesFrames : ℕ → ℕ → ℕ → ℕ → ℕ → PeerMessage (List ℕ) → Result (List (List ℕ)) WireError → Type 0
 MakesFrames most size cluster sender number m (Ok frames) = AreFramesOf most size cluster sender number m frames
-MakesFrames most size cluster sender number m (Err e) = IsNotSent e (saying_octets m)
+MakesFrames most size cluster sender number m (Err e) = IsNotSent e (frame_octets cluster sender m)
 
 -- the frames are the parts of these octets, of at most so many octets each
 pub record ArePartsWithin (size cluster sender number : ℕ) (saying : List ℕ) (frames : List (List ℕ)) : Type 0 where

@@ -1,10 +1,11 @@
 //! Frames: parts are put together. Takes the frames of one connection, one after the other; gives the message of each that completes one. What
 //! the message makes of a replica is not here.
-ghost use Rattle.std.specs.Prelude.{◌≡◌, ◌<◌, ◌^◌, ◌+◌};
+ghost use Rattle.std.specs.Prelude.{◌≡◌, ◌<◌, ◌^◌, ◌+◌, None};
 ghost use Rattle.std.specs.Option.{option_map};
-ghost use Rattle.vr_wire.specs.Gathering.{is_next, begun, with_part, gathered, ComesOfPart, Takes};
+ghost use Rattle.vr_wire.specs.Gathering.{is_next, begun, with_part, gathered, ComesOfPart, ComesOfFrame, Takes};
 ghost use Rattle.vr_wire.specs.Heap.{heap_of, Gathers, BeginsAs, AddsTo, PartTaken};
-ghost use Rattle.vr_wire.specs.Parts.{IsSaying};
+ghost use Rattle.vr_wire.specs.Cutting.{Gives};
+ghost use Rattle.vr_wire.specs.Parts.{IsSaying, Finds, cut_saying, cut_part};
 ghost use Rattle.vr_wire.specs.Payloads.{Reads};
 
 use crate::bodies::cut_body;
@@ -117,13 +118,41 @@ fn gathered(
     }
 }
 
+/// The message that these octets say, its payloads not read yet.
+#[tactic(auto, unfolding(crate::specs::Parts::cut_saying))]
+fn cut_saying(alloc: Global, octets: &[u8]) -> Result<PeerMessage<Octets<'_>>, WireError>
+    ensures { Gives (λ m. m) result (cut_saying octets.now) }
+{
+    let (kind, body) = cut_octet(octets)?;
+    cut_body(alloc, kind, body)
+}
+
 /// The message that these octets say.
 fn read_saying(alloc: Global, octets: &[u8]) -> Result<PeerMessage<Op>, WireError>
     ensures { Reads IsSaying result octets.now }
 {
-    let (kind, body) = cut_octet(octets)?;
-    let raw = cut_body(alloc, kind, body)?;
-    with_ops(alloc, &raw)
+    let raw = cut_saying(alloc, octets)?;
+    let message = with_ops(alloc, &raw)?;
+    Ok(message)
+}
+
+/// The part that a frame is, if any, and its cluster's number.
+fn part_of(frame: &[u8]) -> Result<Option<(u64, Portion<Octets<'_>>)>, WireError>
+    ensures { Finds result (cut_part frame.now) }
+{
+    match cut_part(frame) {
+        Ok(part) => Ok(Some(part)),
+        Err(WireError::BadFrame) => Ok(None),
+        Err(_) => Err(WireError::NoMemory),
+    }
+}
+
+/// What comes of octets that are no part.
+fn take_frame(alloc: Global, frame: &[u8], cluster: Cluster) -> Result<Came, WireError>
+    ensures { ComesOfFrame cluster frame.now result }
+{
+    let (sender, message) = read(alloc, frame, cluster)?;
+    Ok(Came::Message(sender, message))
 }
 
 impl Gathering {
@@ -134,12 +163,19 @@ impl Gathering {
         Gathering { begun: None }
     }
 
-    fn take_part(&mut self, alloc: Global, part: &Portion<Octets<'_>>) -> Result<Came, WireError>
-        requires { part.now.place + 1 < 2 ^ 32 }
-        ensures { PartTaken (ComesOfPart (gathered self.old part.now) part.now.label.sender result self.new) result self.new }
+    /// What comes of a part, where nothing is kept of what was gathered but `old`.
+    fn take_part(
+        &mut self,
+        alloc: Global,
+        old: Option<Begun>,
+        part: &Portion<Octets<'_>>,
+    ) -> Result<Came, WireError>
+        requires empty { self.old ≡ None }
+        requires place { part.now.place + 1 < 2 ^ 32 }
+        ensures { PartTaken (ComesOfPart (gathered (option_map heap_of old) part.now) part.now.label.sender result self.new) result self.new }
     {
         let sender = part.label.sender;
-        match gathered(alloc, self.begun.take(), part)? {
+        match gathered(alloc, old, part)? {
             None => Ok(Came::Dropped(sender)),
             Some(begun) => {
                 if begun.next < begun.label.count {
@@ -152,7 +188,9 @@ impl Gathering {
         }
     }
 
-    /// What comes of the next frame of the connection.
+    /// What comes of the next frame of the connection. A message's frame gives the message, and drops what was gathered. Part 0 of a message begins
+    /// anew; the next part of that message is added, and the last one gives the message; any other part drops what was gathered. After an error
+    /// nothing is gathered: E20 where the octets are no frame, or say no message together, E24 where they are a frame of another cluster.
     pub fn take(
         &mut self,
         alloc: Global,
@@ -161,22 +199,15 @@ impl Gathering {
     ) -> Result<Came, WireError>
         ensures { Takes cluster self.old frame.now result self.new }
     {
-        match cut_part(frame) {
-            Ok((other, part)) => {
+        let old = self.begun.take();
+        match part_of(frame)? {
+            None => take_frame(alloc, frame, cluster),
+            Some((other, part)) => {
                 if other == cluster.number() {
-                    return self.take_part(alloc, &part);
+                    self.take_part(alloc, old, &part)
+                } else {
+                    Err(WireError::ForeignFrame)
                 }
-                self.begun = None;
-                Err(WireError::ForeignFrame)
-            }
-            Err(WireError::NoMemory) => {
-                self.begun = None;
-                Err(WireError::NoMemory)
-            }
-            Err(_) => {
-                self.begun = None;
-                let (sender, message) = read(alloc, frame, cluster)?;
-                Ok(Came::Message(sender, message))
             }
         }
     }

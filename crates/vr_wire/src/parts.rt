@@ -130,6 +130,7 @@ fn next_part(alloc: Global, parts: &mut Parts) -> Result<Option<Vec<u8>>, WireEr
     requires { AreLeft parts.old }
     ensures left { AreLeft parts.new }
     ensures next { HandsFrame result (parts_left parts.old) (parts_left parts.new) }
+    ensures small { IsFrameWithin result }
 {
     if parts.place == parts.count {
         return Ok(None);
@@ -220,7 +221,8 @@ fn put_kind(octets: &mut Vec<u8>)
 impl Frames {
     /// The frames of a message of this sender in this cluster: the one that `write` gives where it has at most `most` octets, and no more than
     /// 268,435,456, and else its parts, of at most `part_size` octets of the message each. The sender gives another `number` to each message.
-    /// A `part_size` of 0 is taken as 1. E20 only where the message has 2 ^ 32 octets or more.
+    /// A `part_size` of 0 is taken as 1. E20 only where one frame of it would have 2 ^ 32 octets
+    /// or more.
     pub fn of(
         alloc: Global,
         cluster: Cluster,
