@@ -4,7 +4,6 @@ use Rattle.std.proofs.Common.{inl, inr, Result, Ok, Err}
 use Rattle.std.proofs.Math.Nat.{suc-mul, zero-mul}
 use Rattle.std.proofs.lemmas.Bool.{cases_lt}
 use Rattle.std.proofs.lemmas.List.{take-append-drop, nil_from_length, length-append, length-take, length-drop, drop-drop}
-
 use Rattle.std.specs.List.{concat, AllByRecursion}
 use Rattle.vr_state.specs.declared.message.PeerMessage.{PeerMessage}
 use Rattle.vr_wire.specs.declared.error.WireError.{WireError}

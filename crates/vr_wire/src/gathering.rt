@@ -191,12 +191,7 @@ impl Gathering {
     /// What comes of the next frame of the connection. A message's frame gives the message, and drops what was gathered. Part 0 of a message begins
     /// anew; the next part of that message is added, and the last one gives the message; any other part drops what was gathered. After an error
     /// nothing is gathered: E20 where the octets are no frame, or say no message together, E24 where they are a frame of another cluster.
-    pub fn take(
-        &mut self,
-        alloc: Global,
-        frame: &[u8],
-        cluster: Cluster,
-    ) -> Result<Came, WireError>
+    pub fn take(&mut self, alloc: Global, frame: &[u8], cluster: Cluster) -> Result<Came, WireError>
         ensures { Takes cluster self.old frame.now result self.new }
     {
         let old = self.begun.take();

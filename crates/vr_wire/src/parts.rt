@@ -150,11 +150,7 @@ fn count_of(len: usize, size: usize) -> usize
     ensures few { result ≤ len }
 {
     let whole = len / size;
-    if len % size == 0 {
-        whole
-    } else {
-        whole + 1
-    }
+    if len % size == 0 { whole } else { whole + 1 }
 }
 
 /// A message that has this one frame.
@@ -240,7 +236,13 @@ impl Frames {
             return Ok(plain(alloc, cluster, octets));
         }
         put_kind(&mut octets);
-        in_parts(cluster, sender, number, part_size.max(1).min(MAX_PIECE), octets)
+        in_parts(
+            cluster,
+            sender,
+            number,
+            part_size.max(1).min(MAX_PIECE),
+            octets,
+        )
     }
 
     /// The next frame, or none where all were handed out. Want of memory is the only error, and then the frame is still to come.

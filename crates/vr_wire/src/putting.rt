@@ -105,7 +105,11 @@ fn op_octets<const LIMIT: usize>(alloc: Global, op: &Op) -> Result<Vec<u8>, Wire
 
 /// A record, whose update is written.
 #[tactic(auto, using(crate::proofs::PutLaws::longer, crate::proofs::PutLaws::longer_by, crate::proofs::PutLaws::memory))]
-pub fn put_entry<const LIMIT: usize>(alloc: Global, out: &mut Vec<u8>, entry: &Entry<Op>) -> Result<(), WireError>
+pub fn put_entry<const LIMIT: usize>(
+    alloc: Global,
+    out: &mut Vec<u8>,
+    entry: &Entry<Op>,
+) -> Result<(), WireError>
     ensures spelled { PutsWithin (most_under LIMIT) result out.old.items out.new.items (entry_octets (written_entry entry.now)) }
     ensures kept { out.new.items ≡ out.old.items ++ drop (length out.old.items) out.new.items }
 {
@@ -116,7 +120,11 @@ pub fn put_entry<const LIMIT: usize>(alloc: Global, out: &mut Vec<u8>, entry: &E
 }
 
 /// Records, one after the other.
-fn put_entries<const LIMIT: usize>(alloc: Global, out: &mut Vec<u8>, entries: &[Entry<Op>]) -> Result<(), WireError>
+fn put_entries<const LIMIT: usize>(
+    alloc: Global,
+    out: &mut Vec<u8>,
+    entries: &[Entry<Op>],
+) -> Result<(), WireError>
     ensures spelled { PutsWithin (most_under LIMIT) result out.old.items out.new.items (entries_octets (written_log entries.now)) }
     ensures kept { out.new.items ≡ out.old.items ++ drop (length out.old.items) out.new.items }
 {
@@ -127,7 +135,11 @@ fn put_entries<const LIMIT: usize>(alloc: Global, out: &mut Vec<u8>, entries: &[
 }
 
 /// A log.
-pub fn put_log<const LIMIT: usize>(alloc: Global, out: &mut Vec<u8>, entries: &[Entry<Op>]) -> Result<(), WireError>
+pub fn put_log<const LIMIT: usize>(
+    alloc: Global,
+    out: &mut Vec<u8>,
+    entries: &[Entry<Op>],
+) -> Result<(), WireError>
     ensures spelled { PutsWithin (most_under LIMIT) result out.old.items out.new.items (log_octets (written_log entries.now)) }
     ensures kept { out.new.items ≡ out.old.items ++ drop (length out.old.items) out.new.items }
 {
@@ -138,7 +150,11 @@ pub fn put_log<const LIMIT: usize>(alloc: Global, out: &mut Vec<u8>, entries: &[
     put_entries::<LIMIT>(alloc, out, entries)
 }
 
-pub fn put_held<const LIMIT: usize>(alloc: Global, out: &mut Vec<u8>, held: &Snapshot<Op>) -> Result<(), WireError>
+pub fn put_held<const LIMIT: usize>(
+    alloc: Global,
+    out: &mut Vec<u8>,
+    held: &Snapshot<Op>,
+) -> Result<(), WireError>
     ensures spelled { PutsWithin (most_under LIMIT) result out.old.items out.new.items (held_octets (written_held held.now)) }
     ensures kept { out.new.items ≡ out.old.items ++ drop (length out.old.items) out.new.items }
 {

@@ -80,7 +80,11 @@ fn put_recovery_response<const LIMIT: usize>(
 
 /// What follows the sender, by kind.
 #[tactic(auto, using(crate::proofs::PutLaws::within))]
-fn put_body<const LIMIT: usize>(alloc: Global, out: &mut Vec<u8>, message: &PeerMessage<Op>) -> Result<(), WireError>
+fn put_body<const LIMIT: usize>(
+    alloc: Global,
+    out: &mut Vec<u8>,
+    message: &PeerMessage<Op>,
+) -> Result<(), WireError>
     ensures spelled { PutsWithin (most_under LIMIT) result out.old.items out.new.items (body_octets (written message.now)) }
     ensures kept { out.new.items ≡ out.old.items ++ drop (length out.old.items) out.new.items }
 {
@@ -104,7 +108,12 @@ fn put_body<const LIMIT: usize>(alloc: Global, out: &mut Vec<u8>, message: &Peer
             view_number,
             change,
         } => put_do_view_change::<LIMIT>(alloc, out, *view_number, change),
-        PeerMessage::StartView { view_number, held } => put_state::<LIMIT>(alloc, out, *view_number, held),
+        PeerMessage::StartView { view_number, held } => put_state::<LIMIT>(
+            alloc,
+            out,
+            *view_number,
+            held,
+        ),
         PeerMessage::GetState {
             view_number,
             commit_number,
