@@ -12,10 +12,10 @@ use Rattle.vr_wire.specs.Cutting.{then, cut_octet, cut_octets, small_number, cut
 abbrev pub IsBytes : List ℕ → Type 0
 IsBytes bytes = (i : ℕ) → get_or bytes i 0 < 256
 
-IsBytes-drop : (n : ℕ) (bytes : List ℕ) → IsBytes bytes → IsBytes (drop n bytes)
+pub IsBytes-drop : (n : ℕ) (bytes : List ℕ) → IsBytes bytes → IsBytes (drop n bytes)
 IsBytes-drop n bytes h i = rw get_or-drop (h (n + i))
 
-IsBytes-take : (n : ℕ) (bytes : List ℕ) → IsBytes bytes → IsBytes (take n bytes)
+pub IsBytes-take : (n : ℕ) (bytes : List ℕ) → IsBytes bytes → IsBytes (take n bytes)
 IsBytes-take n bytes h i =
     elim (cases_lt i n) [
       | inl lt ↦ rw (get_or-take n bytes i 0 lt) (h i)
@@ -125,7 +125,7 @@ second_octet n lt = omega arith
 six_octets : (n : ℕ) → n < 2 ^ 48 → to_be_bytes w64 n ≡ 0 ∷ 0 ∷ cluster_octets n
 six_octets n lt = heads (n / 72057594037927936 % 256) (n / 281474976710656 % 256) (cluster_octets n) (first_octet n lt) (second_octet n lt)
 
-read_cluster : (n : ℕ) → n < 2 ^ 48 → from_be_bytes w64 (0 ∷ 0 ∷ cluster_octets n) ≡ n
+pub read_cluster : (n : ℕ) → n < 2 ^ 48 → from_be_bytes w64 (0 ∷ 0 ∷ cluster_octets n) ≡ n
 read_cluster n lt = sym (ap (λ (l : List ℕ). from_be_bytes w64 l) (six_octets n lt)) ∙ from_be_bytes-to_be_bytes_8 n (omega (arith, lt))
 
 six_below : (bs : List ℕ) → IsBytes bs → from_be_bytes w64 (0 ∷ 0 ∷ bs) < 2 ^ 48
@@ -136,7 +136,7 @@ IsBytes-zero bs h zero = omega arith
 IsBytes-zero bs h (suc i) = h i
 
 -- six octets are those of their number
-written_six : (bs : List ℕ) → length bs ≡ 6 → IsBytes bs → cluster_octets (from_be_bytes w64 (0 ∷ 0 ∷ bs)) ≡ bs
+pub written_six : (bs : List ℕ) → length bs ≡ 6 → IsBytes bs → cluster_octets (from_be_bytes w64 (0 ∷ 0 ∷ bs)) ≡ bs
 written_six bs len h =
     ap (λ (l : List ℕ). drop 2 l) (be_bytes_8 (0 ∷ 0 ∷ bs) (from_be_bytes w64 (0 ∷ 0 ∷ bs)) (omega (arith, len)) (IsBytes-zero (0 ∷ bs) (IsBytes-zero bs h)) refl)
 

@@ -1,8 +1,14 @@
 pub mod Fields
 pub mod Records
 pub mod Messages
+pub mod PartFrames
 pub mod Loop
 pub mod Stands
 pub mod FrameLaws
 pub mod PutLaws
 pub mod OneFrame
+pub mod Pieces
+pub mod Runs
+pub mod Comes
+pub mod Starts
+pub mod Begin

@@ -30,7 +30,7 @@ whole_some p y e =
 ends_here : (bytes text rest : List ℕ) → Takes bytes text rest → rest ≡ [] → bytes ≡ text
 ends_here bytes text rest t e = t.parts ∙ ap (λ (l : List ℕ). text ++ l) e ∙ append-nil text
 
-chosen : {A : Type 0} (b : Bool) (x y z : A) → cond b x y ≡ z → ((b ≡ true) × (x ≡ z)) ⊎ ((b ≡ false) × (y ≡ z))
+pub chosen : {A : Type 0} (b : Bool) (x y z : A) → cond b x y ≡ z → ((b ≡ true) × (x ≡ z)) ⊎ ((b ≡ false) × (y ≡ z))
 chosen true x y z e = inl (refl, e)
 chosen false x y z e = inr (refl, e)
 
@@ -342,7 +342,7 @@ body_again (NewState v x tail) h = new_state_again v x tail h
 
 -- ---- frames
 
-head_takes : (bytes : List ℕ) (x : ℕ × List ℕ) → IsBytes bytes → cut_head bytes ≡ Some x → Takes bytes (2 ∷ cluster_octets x.0) x.1 × IsCluster x.0
+pub head_takes : (bytes : List ℕ) (x : ℕ × List ℕ) → IsBytes bytes → cut_head bytes ≡ Some x → Takes bytes (2 ∷ cluster_octets x.0) x.1 × IsCluster x.0
 unfolding cut_head
 head_takes bytes x fits e =
     let a = then_some (cut_octet bytes) (λ v. cond (v.0 == 2) (cut_cluster v.1) None) x e in
@@ -356,7 +356,7 @@ head_takes bytes x fits e =
           (Takes-then bytes (2 ∷ []) a.0.1 (cluster_octets x.0) x.1 first t1.0, t1.1))
     ]
 
-head_again : (cluster : ℕ) (rest : List ℕ) → IsCluster cluster → cut_head (2 ∷ (cluster_octets cluster ++ rest)) ≡ Some (cluster, rest)
+pub head_again : (cluster : ℕ) (rest : List ℕ) → IsCluster cluster → cut_head (2 ∷ (cluster_octets cluster ++ rest)) ≡ Some (cluster, rest)
 unfolding cut_head
 head_again cluster rest h = rw (octet_again 2 (cluster_octets cluster ++ rest), cluster_again cluster rest h) refl
 
@@ -403,12 +403,12 @@ rest_again : (cluster sender : ℕ) (m : PeerMessage (List ℕ)) → IsCluster c
 unfolding cut_rest
 rest_again cluster sender m h k = rw (head_again cluster (kind_of m ∷ sender ∷ body_octets m) h, said_again sender m k) refl
 
-both_hold : (a b : Bool) → (a && b) ≡ true → (a ≡ true) × (b ≡ true)
+pub both_hold : (a b : Bool) → (a && b) ≡ true → (a ≡ true) × (b ≡ true)
 both_hold true true e = (refl, refl)
 both_hold true false e = absurd (true≢false (sym e))
 both_hold false b e = absurd (true≢false (sym e))
 
-all_hold : (a b : Bool) → a ≡ true → b ≡ true → (a && b) ≡ true
+pub all_hold : (a b : Bool) → a ≡ true → b ≡ true → (a && b) ≡ true
 all_hold a b p q = rw (p, q) refl
 
 -- A frame that is cut was spelled so.

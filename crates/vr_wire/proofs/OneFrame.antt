@@ -118,7 +118,7 @@ to_new_state : (v x : ℕ) (raw : Snapshot (List ℕ)) (m : PeerMessage OpValue)
 to_new_state v x raw (NewState w y g) h = let same : NewState w y g ≡ NewState v x g = cc in (g, h.2, same)
 to_new_state v x raw m h = absurd h
 
-one_message : OneUpdate → (raw : PeerMessage (List ℕ)) (m n : PeerMessage OpValue) → IsMessageOf m raw → IsMessageOf n raw → m ≡ n
+pub one_message : OneUpdate → (raw : PeerMessage (List ℕ)) (m n : PeerMessage OpValue) → IsMessageOf m raw → IsMessageOf n raw → m ≡ n
 one_message one (Prepare v raw p k) m n h g =
     let a = to_prepare v raw p k m h in
     let b = to_prepare v raw p k n g in
@@ -197,7 +197,7 @@ perhaps_written : UpdatesAreWritten → (o : Option (Snapshot OpValue)) → IsPe
 perhaps_written is None h u = tt
 perhaps_written is (Some held) h u = record { log = log_written is held.log h.1.1 u; commit_number = refl }
 
-message_written : UpdatesAreWritten → (m : PeerMessage OpValue) → IsInRange (written m) → AreUpdatesInRange (records_of m) → IsMessageOf m (written m)
+pub message_written : UpdatesAreWritten → (m : PeerMessage OpValue) → IsInRange (written m) → AreUpdatesInRange (records_of m) → IsMessageOf m (written m)
 message_written is (Prepare v e p k) h u = (refl, entry_written is e h.3 u.0, refl, refl)
 message_written is (PrepareOk v p) h u = (refl, refl)
 message_written is (Commit v k) h u = (refl, refl)

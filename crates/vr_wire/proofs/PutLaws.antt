@@ -9,21 +9,30 @@ use Rattle.vr_wire.specs.declared.error.WireError.{WireError}
 use Rattle.vr_wire.specs.declared.error.WireError.TheVariants as error
 use Rattle.vr_wire.specs.Frames.{limit, short, entry_octets, entries_octets}
 use Rattle.vr_wire.specs.Payloads.{written_entry, written_log}
-use Rattle.vr_wire.specs.Putting.{IsTooLong, Puts}
+use Rattle.vr_wire.specs.Putting.{most_under, IsLonger, PutsAlways, PutsWithin}
 
 -- what is longer is too long too
-pub longer : (e : WireError) (m n : ℕ) → m ≤ n → IsTooLong e m → IsTooLong e n
-longer error.BadFrame m n h l = omega (arith, h, l)
-longer error.ForeignFrame m n h l = l
-longer error.NoMemory m n h l = tt
+pub longer : (most : ℕ) (e : WireError) (m n : ℕ) → m ≤ n → IsLonger most e m → IsLonger most e n
+longer most error.BadFrame m n h l = omega (arith, h, l)
+longer most error.ForeignFrame m n h l = l
+longer most error.NoMemory m n h l = tt
+
+-- want of memory says nothing of a length
+pub memory : (most : ℕ) (e : WireError) (n : ℕ) → e ≡ error.NoMemory → IsLonger most e n
+memory most e n is = subst (λ (f : WireError). IsLonger most f n) (sym is) tt
+
+-- what fails only for want of memory may fail for it
+pub within : (most : ℕ) (r : Result (Unit {0}) WireError) (old new text : List ℕ) → PutsAlways r old new text → PutsWithin most r old new text
+within most (Ok t) old new text put = put
+within most (Err e) old new text is = memory most e (length (old ++ text)) is
 
 -- a part is too long, and so is the whole
-pub longer_by : (e : WireError) (old part rest : List ℕ) → IsTooLong e (length (old ++ part)) → IsTooLong e (length (old ++ (part ++ rest)))
-longer_by e old part rest l = longer e (length (old ++ part)) (length (old ++ (part ++ rest))) (omega (arith, length-append old part, length-append old (part ++ rest), length-append part rest)) l
+pub longer_by : (most : ℕ) (e : WireError) (old part rest : List ℕ) → IsLonger most e (length (old ++ part)) → IsLonger most e (length (old ++ (part ++ rest)))
+longer_by most e old part rest l = longer most e (length (old ++ part)) (length (old ++ (part ++ rest))) (omega (arith, length-append old part, length-append old (part ++ rest), length-append part rest)) l
 
 -- a later part is too long, and so is the whole
-pub longer_after : (e : WireError) (old mid part first : List ℕ) → mid ≡ old ++ first → IsTooLong e (length (mid ++ part)) → IsTooLong e (length (old ++ (first ++ part)))
-longer_after e old mid part first made l = subst (λ (x : List ℕ). IsTooLong e (length x)) (ap (λ (x : List ℕ). x ++ part) made ∙ append_assoc old first part) l
+pub longer_after : (most : ℕ) (e : WireError) (old mid part first : List ℕ) → mid ≡ old ++ first → IsLonger most e (length (mid ++ part)) → IsLonger most e (length (old ++ (first ++ part)))
+longer_after most e old mid part first made l = subst (λ (x : List ℕ). IsLonger most e (length x)) (ap (λ (x : List ℕ). x ++ part) made ∙ append_assoc old first part) l
 
 -- parts one after the other
 pub put_both : (old mid new first part : List ℕ) → mid ≡ old ++ first → new ≡ mid ++ part → new ≡ old ++ (first ++ part)
@@ -51,8 +60,8 @@ count_shorter [] = omega arith
 count_shorter (e ∷ es) =
     omega (arith, length-append (entry_octets (written_entry e)) (entries_octets (written_log es)), entry_there (written_entry e), count_shorter es)
 
-pub log_too_long : (old : List ℕ) (es : List (Entry OpValue)) → limit < length es → limit < length (old ++ (short (length (written_log es)) ++ entries_octets (written_log es)))
-log_too_long old es h =
+pub log_too_long : (most : ℕ) (old : List ℕ) (es : List (Entry OpValue)) → most < length es → most < length (old ++ (short (length (written_log es)) ++ entries_octets (written_log es)))
+log_too_long most old es h =
     omega (arith, h, count_shorter es, length-append old (short (length (written_log es)) ++ entries_octets (written_log es)), length-append (short (length (written_log es))) (entries_octets (written_log es)))
 
 one_more : (es : List (Entry OpValue)) (i : ℕ) (e d : Entry OpValue) → i < length es → e ≡ get_or es i d → entries_octets (written_log (take (suc i) es)) ≡ entries_octets (written_log (take i es)) ++ entry_octets (written_entry e)
@@ -74,23 +83,23 @@ put_more old mid new es i j e d next lt is so_far put =
     put_both old mid new (entries_octets (written_log (take i es))) (entry_octets (written_entry e)) so_far put
     ∙ ap (λ (l : List ℕ). old ++ l) (sym (one_more es i e d lt is) ∙ ap (λ (n : ℕ). entries_octets (written_log (take n es))) (sym next))
 
-pub put_refused : (f : WireError) (old mid : List ℕ) (es : List (Entry OpValue)) (i : ℕ) (e d : Entry OpValue) → i < length es → e ≡ get_or es i d → mid ≡ old ++ entries_octets (written_log (take i es)) → IsTooLong f (length (mid ++ entry_octets (written_entry e))) → IsTooLong f (length (old ++ entries_octets (written_log es)))
-put_refused f old mid es i e d lt is so_far long =
+pub put_refused : (most : ℕ) (f : WireError) (old mid : List ℕ) (es : List (Entry OpValue)) (i : ℕ) (e d : Entry OpValue) → i < length es → e ≡ get_or es i d → mid ≡ old ++ entries_octets (written_log (take i es)) → IsLonger most f (length (mid ++ entry_octets (written_entry e))) → IsLonger most f (length (old ++ entries_octets (written_log es)))
+put_refused most f old mid es i e d lt is so_far long =
     let first = entries_octets (written_log (take i es)) in
     let part = entry_octets (written_entry e) in
     let rest = entries_octets (written_log (drop (suc i) es)) in
     let whole : entries_octets (written_log es) ≡ (first ++ part) ++ rest = parted (suc i) es ∙ ap (λ (l : List ℕ). l ++ rest) (one_more es i e d lt is) in
-    subst (λ (l : List ℕ). IsTooLong f (length (old ++ l))) (sym whole) (longer_by f old (first ++ part) rest (longer_after f old mid part first so_far long))
+    subst (λ (l : List ℕ). IsLonger most f (length (old ++ l))) (sym whole) (longer_by most f old (first ++ part) rest (longer_after most f old mid part first so_far long))
 
 -- ---- three parts, the last of which may be refused
 
-pub puts_last : (r : Result (Unit {0}) WireError) (old mid new first part : List ℕ) → mid ≡ old ++ first → Puts r mid new part → Puts r old new (first ++ part)
-puts_last (Ok t) old mid new first part made put = put_both old mid new first part made put
-puts_last (Err e) old mid new first part made long = longer_after e old mid part first made long
+pub puts_last : (most : ℕ) (r : Result (Unit {0}) WireError) (old mid new first part : List ℕ) → mid ≡ old ++ first → PutsWithin most r mid new part → PutsWithin most r old new (first ++ part)
+puts_last most (Ok t) old mid new first part made put = put_both old mid new first part made put
+puts_last most (Err e) old mid new first part made long = longer_after most e old mid part first made long
 
-pub three_parts : (r : Result (Unit {0}) WireError) (old one two new a b c whole : List ℕ) → one ≡ old ++ a → two ≡ one ++ b → Puts r two new c → a ++ (b ++ c) ≡ whole → Puts r old new whole
-three_parts r old one two new a b c whole first second put is =
-    subst (λ (w : List ℕ). Puts r old new w) (append_assoc a b c ∙ is) (puts_last r old two new (a ++ b) c (put_both old one two a b first second) put)
+pub three_parts : (most : ℕ) (r : Result (Unit {0}) WireError) (old one two new a b c whole : List ℕ) → one ≡ old ++ a → two ≡ one ++ b → PutsWithin most r two new c → a ++ (b ++ c) ≡ whole → PutsWithin most r old new whole
+three_parts most r old one two new a b c whole first second put is =
+    subst (λ (w : List ℕ). PutsWithin most r old new w) (append_assoc a b c ∙ is) (puts_last most r old two new (a ++ b) c (put_both old one two a b first second) put)
 
 -- ---- the length, put in the place of four octets
 

@@ -75,7 +75,7 @@ pub fn cut_cluster(octets: &[u8]) -> Result<(u64, &[u8]), WireError>
 }
 
 /// The number of six octets.
-fn long_number(six: &[u8]) -> u64
+pub fn long_number(six: &[u8]) -> u64
     requires { length six.now ≡ 6 }
     ensures { result ≡ from_be_bytes w64 (0 ∷ 0 ∷ six.now) }
 {

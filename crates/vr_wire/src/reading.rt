@@ -17,7 +17,7 @@ use view_store::Cluster;
 use vr_state::message::PeerMessage;
 
 /// The greatest length of what follows a frame's first four octets.
-const REST_LIMIT: u32 = 268_435_452;
+pub const REST_LIMIT: u32 = 268_435_452;
 
 /// How many octets are still to come after a frame's first four. It takes no memory. E20 only where the frame would be over the limit.
 pub fn rest(head: [u8; 4]) -> Result<u32, WireError>
@@ -33,7 +33,7 @@ pub fn rest(head: [u8; 4]) -> Result<u32, WireError>
 
 /// The version, and the cluster's number.
 #[tactic(auto, unfolding(crate::specs::Cutting::cut_head))]
-fn cut_head(octets: &[u8]) -> Result<(u64, &[u8]), WireError>
+pub fn cut_head(octets: &[u8]) -> Result<(u64, &[u8]), WireError>
     ensures { Gives (λ p. (p.0, p.1.now)) result (cut_head octets.now) }
 {
     let (version, octets) = cut_octet(octets)?;

@@ -4,7 +4,7 @@ ghost use Rattle.view_store.specs.Cluster.{cluster_octets};
 ghost use Rattle.vr_state.specs.declared.message.PeerMessage.TheVariants as kind;
 ghost use Rattle.vr_wire.specs.Frames.{frame_octets, rest_octets, body_octets, held_octets, number, short, kind_of, limit};
 ghost use Rattle.vr_wire.specs.Payloads.{written, written_held};
-ghost use Rattle.vr_wire.specs.Putting.{Puts, Writes};
+ghost use Rattle.vr_wire.specs.Putting.{PutsAlways, PutsWithin, WritesWithin, Writes, most_under};
 
 use crate::error::WireError;
 use crate::putting::{LIMIT, put_cluster, put_entry, put_held, put_log, put_number, put_perhaps};
@@ -24,17 +24,16 @@ pub const ENTRY_LEN: usize = 29;
 const HEAD_ROOM: usize = 64;
 
 /// Two numbers.
-#[tactic(auto, using(crate::proofs::PutLaws::longer_by))]
 fn put_two(out: &mut Vec<u8>, first: u64, second: u64) -> Result<(), WireError>
-    ensures spelled { Puts result out.old.items out.new.items (number first ++ number second) }
+    ensures spelled { PutsAlways result out.old.items out.new.items (number first ++ number second) }
     ensures kept { out.new.items ≡ out.old.items ++ drop (length out.old.items) out.new.items }
 {
     put_number(out, first)?;
     put_number(out, second)
 }
 
-#[tactic(auto, using(crate::proofs::PutLaws::longer_by))]
-fn put_prepare(
+#[tactic(auto, using(crate::proofs::PutLaws::longer_by, crate::proofs::PutLaws::memory))]
+fn put_prepare<const LIMIT: usize>(
     alloc: Global,
     out: &mut Vec<u8>,
     view_number: u64,
@@ -42,46 +41,51 @@ fn put_prepare(
     op_number: u64,
     commit_number: u64,
 ) -> Result<(), WireError>
-    ensures spelled { Puts result out.old.items out.new.items (body_octets (written (kind.Prepare view_number entry.now op_number commit_number))) }
+    ensures spelled { PutsWithin (most_under LIMIT) result out.old.items out.new.items (body_octets (written (kind.Prepare view_number entry.now op_number commit_number))) }
     ensures kept { out.new.items ≡ out.old.items ++ drop (length out.old.items) out.new.items }
 {
     put_number(out, view_number)?;
     put_two(out, op_number, commit_number)?;
-    put_entry(alloc, out, entry)
+    put_entry::<LIMIT>(alloc, out, entry)
 }
 
-#[tactic(auto, using(crate::proofs::PutLaws::longer_by))]
-fn put_do_view_change(
+#[tactic(auto, using(crate::proofs::PutLaws::longer_by, crate::proofs::PutLaws::memory))]
+fn put_do_view_change<const LIMIT: usize>(
     alloc: Global,
     out: &mut Vec<u8>,
     view_number: u64,
     change: &Change<Op>,
 ) -> Result<(), WireError>
-    ensures spelled { Puts result out.old.items out.new.items (body_octets (written (kind.DoViewChange view_number change.now))) }
+    ensures spelled { PutsWithin (most_under LIMIT) result out.old.items out.new.items (body_octets (written (kind.DoViewChange view_number change.now))) }
     ensures kept { out.new.items ≡ out.old.items ++ drop (length out.old.items) out.new.items }
 {
     put_number(out, view_number)?;
     put_two(out, change.last_normal_view, change.commit_number)?;
-    put_log(alloc, out, change.log.as_slice())
+    put_log::<LIMIT>(alloc, out, change.log.as_slice())
 }
 
-#[tactic(auto, using(crate::proofs::PutLaws::longer_by))]
-fn put_recovery_response(
+#[tactic(auto, using(crate::proofs::PutLaws::longer_by, crate::proofs::PutLaws::memory))]
+fn put_recovery_response<const LIMIT: usize>(
     alloc: Global,
     out: &mut Vec<u8>,
     nonce: u64,
     response: &Response<Op>,
 ) -> Result<(), WireError>
-    ensures spelled { Puts result out.old.items out.new.items (body_octets (written (kind.RecoveryResponse nonce response.now))) }
+    ensures spelled { PutsWithin (most_under LIMIT) result out.old.items out.new.items (body_octets (written (kind.RecoveryResponse nonce response.now))) }
     ensures kept { out.new.items ≡ out.old.items ++ drop (length out.old.items) out.new.items }
 {
     put_two(out, response.view_number, nonce)?;
-    put_perhaps(alloc, out, &response.held)
+    put_perhaps::<LIMIT>(alloc, out, &response.held)
 }
 
 /// What follows the sender, by kind.
-fn put_body(alloc: Global, out: &mut Vec<u8>, message: &PeerMessage<Op>) -> Result<(), WireError>
-    ensures spelled { Puts result out.old.items out.new.items (body_octets (written message.now)) }
+#[tactic(auto, using(crate::proofs::PutLaws::within))]
+fn put_body<const LIMIT: usize>(
+    alloc: Global,
+    out: &mut Vec<u8>,
+    message: &PeerMessage<Op>,
+) -> Result<(), WireError>
+    ensures spelled { PutsWithin (most_under LIMIT) result out.old.items out.new.items (body_octets (written message.now)) }
     ensures kept { out.new.items ≡ out.old.items ++ drop (length out.old.items) out.new.items }
 {
     match message {
@@ -90,7 +94,7 @@ fn put_body(alloc: Global, out: &mut Vec<u8>, message: &PeerMessage<Op>) -> Resu
             entry,
             op_number,
             commit_number,
-        } => put_prepare(alloc, out, *view_number, entry, *op_number, *commit_number),
+        } => put_prepare::<LIMIT>(alloc, out, *view_number, entry, *op_number, *commit_number),
         PeerMessage::PrepareOk {
             view_number,
             op_number,
@@ -103,8 +107,13 @@ fn put_body(alloc: Global, out: &mut Vec<u8>, message: &PeerMessage<Op>) -> Resu
         PeerMessage::DoViewChange {
             view_number,
             change,
-        } => put_do_view_change(alloc, out, *view_number, change),
-        PeerMessage::StartView { view_number, held } => put_state(alloc, out, *view_number, held),
+        } => put_do_view_change::<LIMIT>(alloc, out, *view_number, change),
+        PeerMessage::StartView { view_number, held } => put_state::<LIMIT>(
+            alloc,
+            out,
+            *view_number,
+            held,
+        ),
         PeerMessage::GetState {
             view_number,
             commit_number,
@@ -113,43 +122,43 @@ fn put_body(alloc: Global, out: &mut Vec<u8>, message: &PeerMessage<Op>) -> Resu
             view_number,
             base,
             tail,
-        } => put_new_state(alloc, out, *view_number, *base, tail),
+        } => put_new_state::<LIMIT>(alloc, out, *view_number, *base, tail),
         PeerMessage::Recovery { nonce } => put_number(out, *nonce),
         PeerMessage::RecoveryResponse { nonce, response } => {
-            put_recovery_response(alloc, out, *nonce, response)
+            put_recovery_response::<LIMIT>(alloc, out, *nonce, response)
         }
     }
 }
 
-#[tactic(auto, using(crate::proofs::PutLaws::longer_by))]
-fn put_new_state(
+#[tactic(auto, using(crate::proofs::PutLaws::longer_by, crate::proofs::PutLaws::memory))]
+fn put_new_state<const LIMIT: usize>(
     alloc: Global,
     out: &mut Vec<u8>,
     view_number: u64,
     base: u64,
     tail: &Snapshot<Op>,
 ) -> Result<(), WireError>
-    ensures spelled { Puts result out.old.items out.new.items (body_octets (written (kind.NewState view_number base tail.now))) }
+    ensures spelled { PutsWithin (most_under LIMIT) result out.old.items out.new.items (body_octets (written (kind.NewState view_number base tail.now))) }
     ensures kept { out.new.items ≡ out.old.items ++ drop (length out.old.items) out.new.items }
 {
     put_number(out, view_number)?;
     put_two(out, tail.commit_number, base)?;
-    put_log(alloc, out, tail.log.as_slice())
+    put_log::<LIMIT>(alloc, out, tail.log.as_slice())
 }
 
 /// A view with a commit-number and a log.
-#[tactic(auto, using(crate::proofs::PutLaws::longer_by))]
-fn put_state(
+#[tactic(auto, using(crate::proofs::PutLaws::longer_by, crate::proofs::PutLaws::memory))]
+fn put_state<const LIMIT: usize>(
     alloc: Global,
     out: &mut Vec<u8>,
     view_number: u64,
     held: &Snapshot<Op>,
 ) -> Result<(), WireError>
-    ensures spelled { Puts result out.old.items out.new.items (number view_number ++ held_octets (written_held held.now)) }
+    ensures spelled { PutsWithin (most_under LIMIT) result out.old.items out.new.items (number view_number ++ held_octets (written_held held.now)) }
     ensures kept { out.new.items ≡ out.old.items ++ drop (length out.old.items) out.new.items }
 {
     put_number(out, view_number)?;
-    put_held(alloc, out, held)
+    put_held::<LIMIT>(alloc, out, held)
 }
 
 /// The kind of a message.
@@ -192,9 +201,8 @@ fn held_len(response: &Response<Op>) -> usize {
 }
 
 /// Four zeros where the length will stand, the version, the cluster's number, the kind and the sender's index.
-#[tactic(auto, using(crate::proofs::PutLaws::longer_by))]
-fn put_head(out: &mut Vec<u8>, cluster: Cluster, kind: u8, sender: u8) -> Result<(), WireError>
-    ensures spelled { Puts result out.old.items out.new.items (0 ∷ 0 ∷ 0 ∷ 0 ∷ 2 ∷ (cluster_octets cluster ++ kind ∷ sender ∷ [])) }
+pub fn put_head(out: &mut Vec<u8>, cluster: Cluster, kind: u8, sender: u8) -> Result<(), WireError>
+    ensures spelled { PutsAlways result out.old.items out.new.items (0 ∷ 0 ∷ 0 ∷ 0 ∷ 2 ∷ (cluster_octets cluster ++ kind ∷ sender ∷ [])) }
     ensures kept { out.new.items ≡ out.old.items ++ drop (length out.old.items) out.new.items }
 {
     out.extend_from_slice(&[0, 0, 0, 0, VERSION])?;
@@ -204,23 +212,23 @@ fn put_head(out: &mut Vec<u8>, cluster: Cluster, kind: u8, sender: u8) -> Result
 }
 
 /// A frame whose length isn't known yet.
-fn open_frame(
+pub fn open_frame<const LIMIT: usize>(
     alloc: Global,
     cluster: Cluster,
     sender: u8,
     message: &PeerMessage<Op>,
 ) -> Result<Vec<u8>, WireError>
-    ensures { Writes (λ v. v.items) result (0 ∷ 0 ∷ 0 ∷ 0 ∷ rest_octets cluster sender (written message.now)) }
+    ensures { WritesWithin (most_under LIMIT) (λ v. v.items) result (0 ∷ 0 ∷ 0 ∷ 0 ∷ rest_octets cluster sender (written message.now)) }
 {
     let mut out = Vec::with_capacity(alloc, room_for(message))?;
     put_head(&mut out, cluster, kind_of(message), sender)?;
-    put_body(alloc, &mut out, message)?;
+    put_body::<LIMIT>(alloc, &mut out, message)?;
     Ok(out)
 }
 
 /// The length is put in the place of the first four octets.
 #[tactic(auto, using(crate::proofs::PutLaws::four_set))]
-fn put_length(frame: &mut Vec<u8>)
+pub fn put_length(frame: &mut Vec<u8>)
     requires few { length frame.old.items ≤ limit }
     requires there { 4 ≤ length frame.old.items }
     ensures { frame.new.items ≡ short (length frame.old.items - 4) ++ drop 4 frame.old.items }
@@ -245,7 +253,7 @@ pub fn write(
     // Nothing over the limit is written.
     ensures small { IfOk result (λ v. length v.items ≤ limit) }
 {
-    let mut frame = open_frame(alloc, cluster, sender, message)?;
+    let mut frame = open_frame::<LIMIT>(alloc, cluster, sender, message)?;
     if frame.len() > LIMIT {
         return Err(WireError::BadFrame);
     }
