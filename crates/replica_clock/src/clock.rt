@@ -1,5 +1,5 @@
 //! A replica's clock: it is told what the replica does and hears, and says what is due.
-ghost use Rattle.std.specs.Prelude.{◌≡◌, ◌+◌, ◌*◌, ◌-◌, ◌<◌, ◌≤◌, max, min, IfSome};
+ghost use Rattle.std.specs.Prelude.{◌≡◌, ℕ, ◌+◌, ◌<◌, ◌≤◌, min, true, false};
 ghost use Rattle.replica_clock.specs.Clock.{IsAsked, begun, noted, heard, part_heard, rested, done, due_at, is_over, is_time, is_own, is_past, is_same};
 ghost use Rattle.replica_clock.specs.declared.clock.Due.TheVariants as due;
 ghost use Rattle.replica_clock.specs.declared.sign.Sign.TheVariants as sign;

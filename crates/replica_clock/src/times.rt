@@ -1,5 +1,5 @@
 //! How often a replica repeats itself, and how long it waits for its primary.
-ghost use Rattle.std.specs.Prelude.{◌≡◌, max, min};
+ghost use Rattle.std.specs.Prelude.{◌≡◌, ◌<◌, ◌≤◌, max, min};
 ghost use Rattle.replica_clock.specs.Clock.{longest};
 
 /// The longest time that is taken, 2^40: some twelve days, where the unit is a microsecond. Sums of such times can't overflow.
