@@ -1,5 +1,7 @@
 //! What is still to happen, by time; what is due at the same moment happens in the order in which it was put down.
 
+use std::alloc::{AllocError, Global};
+
 /// Something that happens.
 #[derive(Clone, Copy)]
 pub enum What {
@@ -25,20 +27,17 @@ pub enum What {
     Judge,
 }
 
+/// So many bits of an item's key are its order, and those above its time.
+const ORDER_BITS: u64 = 30;
+
 #[derive(Clone, Copy)]
 struct Item {
-    time: u64,
-    order: u64,
+    /// The time, and then the order in which it was put down.
+    key: u64,
     what: What,
 }
 
-impl Item {
-    fn is_before(&self, other: &Item) -> bool {
-        self.time < other.time || (self.time == other.time && self.order < other.order)
-    }
-}
-
-/// What is still to happen: a heap, the next at its top.
+/// What is still to happen: a heap, the next at its top. Its code goes over slices, and calls as little as may be, since it is most of what a run takes.
 #[derive(Drop)]
 pub struct Agenda {
     items: Vec<Item>,
@@ -46,7 +45,7 @@ pub struct Agenda {
 }
 
 impl Agenda {
-    pub fn new(alloc: std::alloc::Global) -> Agenda {
+    pub fn new(alloc: Global) -> Agenda {
         Agenda {
             items: Vec::new(alloc),
             order: 0,
@@ -54,56 +53,50 @@ impl Agenda {
     }
 
     /// Puts down what happens at this time.
-    pub fn put(&mut self, time: u64, what: What) -> Result<(), std::alloc::AllocError> {
+    pub fn put(&mut self, time: u64, what: What) -> Result<(), AllocError> {
         self.order += 1;
-        let item = Item {
-            time,
-            order: self.order,
-            what,
-        };
-        let mut at = self.items.len();
+        let key = (time << ORDER_BITS) | self.order;
+        let item = Item { key, what };
         self.items.push(item)?;
+        let items = self.items.as_mut_slice();
+        let mut at = items.len() - 1;
         while at > 0 {
             let above = (at - 1) / 2;
-            if !item.is_before(&self.items[above]) {
+            if items[above].key < key {
                 break;
             }
-            self.items[at] = self.items[above];
+            items[at] = items[above];
             at = above;
         }
-        self.items[at] = item;
+        items[at] = item;
         Ok(())
     }
 
     /// Takes out what happens next, and when.
     pub fn take(&mut self) -> Option<(u64, What)> {
         let last = self.items.pop()?;
-        if self.items.is_empty() {
-            return Some((last.time, last.what));
+        let items = self.items.as_mut_slice();
+        let count = items.len();
+        if count == 0 {
+            return Some((last.key >> ORDER_BITS, last.what));
         }
-        let first = self.items[0];
-        self.sink(last);
-        Some((first.time, first.what))
-    }
-
-    /// Lets an item sink from the top, whose own is taken, to its place.
-    fn sink(&mut self, item: Item) {
-        let count = self.items.len();
+        let first = items[0];
         let mut at = 0;
         loop {
             let mut below = 2 * at + 1;
             if below >= count {
                 break;
             }
-            if below + 1 < count && self.items[below + 1].is_before(&self.items[below]) {
+            if below + 1 < count && items[below + 1].key < items[below].key {
                 below += 1;
             }
-            if !self.items[below].is_before(&item) {
+            if last.key < items[below].key {
                 break;
             }
-            self.items[at] = self.items[below];
+            items[at] = items[below];
             at = below;
         }
-        self.items[at] = item;
+        items[at] = last;
+        Some((first.key >> ORDER_BITS, first.what))
     }
 }

@@ -39,6 +39,7 @@ impl World {
             }
             Kind::Partition => self.partition(),
             Kind::OneWay => self.cut_one_way(at),
+            Kind::Split => self.split(),
             Kind::Pause => self.pause(at),
             Kind::Slow => self.slow(),
         }
@@ -177,6 +178,22 @@ impl World {
                 if (side >> from) & 1 != (side >> to) & 1 {
                     self.cut(from, to, rest)?;
                 }
+            }
+        }
+        Ok(())
+    }
+
+    /// Nobody hears anybody.
+    fn split(&mut self) -> Result<(), AllocError> {
+        let count = self.machines.len();
+        let rest = self.chance.spread(3_000_000, 120_000_000);
+        if self.setting.traces {
+            let text = format!(in self.alloc; "each is cut off, for {} ms", rest / 1000)?;
+            self.tell(&text)?;
+        }
+        for from in 0..count {
+            for to in 0..count {
+                self.cut(from, to, rest)?;
             }
         }
         Ok(())

@@ -6,7 +6,7 @@ use std::alloc::AllocError;
 use vr_state::words::Status;
 
 /// How often it is looked, in microseconds.
-const EVERY: u64 = 50_000;
+const EVERY: u64 = 200_000;
 
 /// What is wrong at the end of a run.
 #[derive(Clone, Copy, PartialEq, Eq, Debug)]
@@ -28,6 +28,30 @@ pub enum Wrong {
     Commits,
     /// All is well, but wasn't at the deadline.
     Late,
+}
+
+/// What may be wrong, by the names that the command line has for it.
+pub const WRONGS: [(&str, Wrong); 8] = [
+    ("Unsafe", Wrong::Unsafe),
+    ("StuckRecovery", Wrong::StuckRecovery),
+    ("LongRecovery", Wrong::LongRecovery),
+    ("ViewChange", Wrong::ViewChange),
+    ("ViewsDiffer", Wrong::ViewsDiffer),
+    ("Request", Wrong::Request),
+    ("Commits", Wrong::Commits),
+    ("Late", Wrong::Late),
+];
+
+impl Wrong {
+    /// Whether its bit is among these.
+    pub fn is_in(self, bits: u64) -> bool {
+        for place in 0..WRONGS.len() {
+            if WRONGS[place].1 == self && (bits >> place) & 1 == 1 {
+                return true;
+            }
+        }
+        false
+    }
 }
 
 impl World {

@@ -50,6 +50,13 @@ impl Flights {
         self.slots[slot].as_ref()
     }
 
+    /// Lets go of the message in a slot.
+    pub fn forget(&mut self, slot: usize) -> Result<(), AllocError> {
+        self.slots[slot] = None;
+        self.free.push(slot)?;
+        Ok(())
+    }
+
     pub fn take(&mut self, slot: usize) -> Result<Option<Flight>, AllocError> {
         self.free.push(slot)?;
         Ok(self.slots[slot].take())

@@ -2,6 +2,7 @@
 
 use crate::mark::Mark;
 use crate::timer::Timer;
+use vr_state::message::PeerMessage;
 use vr_state::replica::Replica;
 use vr_state::words::Status;
 
@@ -54,6 +55,18 @@ impl Machine {
 
     pub fn is_normal(&self) -> bool {
         self.status() == Some(Status::Normal)
+    }
+
+    /// Whether a message is a COMMIT that tells a backup nothing new, at which its step changes and sends nothing. Most messages are, and take no step.
+    pub fn knows(&self, message: &PeerMessage<Mark>) -> bool {
+        match (message, &self.replica) {
+            (PeerMessage::Commit { view_number, commit_number }, Some(replica)) => {
+                replica.status == Status::Normal
+                    && replica.view_number == *view_number
+                    && replica.commit_number == *commit_number
+            }
+            _ => false,
+        }
     }
 
     /// Whether it is the normal primary of its view.

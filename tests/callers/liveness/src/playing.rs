@@ -1,7 +1,6 @@
 //! Plays one seed after another, and tells what came of them.
 
 use crate::judging::Wrong;
-use crate::setting::Setting;
 use crate::words::Wish;
 use crate::world::World;
 use std::io;
@@ -14,6 +13,9 @@ struct Tally {
     steps: u64,
     crashes: u64,
     answered: u64,
+    needless: u64,
+    /// The seed that was well last, and after how many halves of a suspect period.
+    slowest: (u64, u64),
     /// How many were well within so many halves of a suspect period.
     halves: Vec<u64>,
 }
@@ -27,13 +29,15 @@ pub fn play(rt: &HostRuntime, wish: &Wish) -> io::Result<bool> {
         steps: 0,
         crashes: 0,
         answered: 0,
+        needless: 0,
+        slowest: (0, 0),
         halves: vec![in alloc; 0; 200]?,
     };
     if wish.checks_itself {
         check_itself(rt, wish, &mut tally)?;
     }
     for seed in wish.first..wish.first + wish.seeds {
-        play_one(rt, wish.setting, seed, &mut tally)?;
+        play_one(rt, wish, seed, &mut tally)?;
     }
     print!(rt; "well after halves of a suspect period:")?;
     for half in 0..tally.halves.len() {
@@ -43,7 +47,8 @@ pub fn play(rt: &HostRuntime, wish: &Wish) -> io::Result<bool> {
         }
     }
     println!(rt; "")?;
-    println!(rt; "{} steps, {} crashes, {} requests answered", tally.steps, tally.crashes, tally.answered)?;
+    println!(rt; "{} steps, {} crashes, {} requests answered, {} needless suspicions at last", tally.steps, tally.crashes, tally.answered, tally.needless)?;
+    println!(rt; "the slowest is seed {}, {} halves", tally.slowest.0, tally.slowest.1)?;
     println!(rt; "{} passed, {} failed", tally.passed, tally.failed)?;
     Ok(tally.failed == 0)
 }
@@ -69,26 +74,33 @@ fn check_itself(rt: &HostRuntime, wish: &Wish, tally: &mut Tally) -> io::Result<
 }
 
 /// Plays one seed.
-fn play_one(rt: &HostRuntime, setting: Setting, seed: u64, tally: &mut Tally) -> io::Result<()> {
+fn play_one(rt: &HostRuntime, wish: &Wish, seed: u64, tally: &mut Tally) -> io::Result<()> {
+    let setting = wish.setting;
     let mut world = World::new(rt.alloc(), setting, seed)?;
     world.run()?;
     let wrong = world.wrong();
     tally.steps += world.steps;
     tally.crashes += world.crashes;
     tally.answered += world.answered;
+    tally.needless += world.needless;
     if let Some(since) = world.well_since {
-        let half = (since - setting.faults_time) * 2 / world.period();
+        let half = (since - setting.faults_time) * 2 / world.period;
         if (half as usize) < tally.halves.len() {
             tally.halves[half as usize] += 1;
+        }
+        if half > tally.slowest.1 {
+            tally.slowest = (seed, half);
         }
     }
     if setting.traces {
         rt.print(world.notes.as_str())?;
     }
-    if wrong == Wrong::Nothing {
+    if wrong == Wrong::Nothing || wrong.is_in(wish.without) {
         tally.passed += 1;
     } else {
         tally.failed += 1;
+    }
+    if wrong != Wrong::Nothing {
         println!(rt; "seed {seed}: {wrong:?}")?;
         tell_state(rt, &world)?;
     }

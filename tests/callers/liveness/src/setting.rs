@@ -28,26 +28,28 @@ pub enum Kind {
     StoreCrash,
     Partition,
     OneWay,
+    Split,
     Pause,
     Slow,
 }
 
 /// Bits of what isn't a fault at a moment, but goes on all the time.
-pub const SPEEDS: u64 = 1 << 7;
+pub const SPEEDS: u64 = 1 << 8;
 
-pub const LOSSES: u64 = 1 << 8;
+pub const LOSSES: u64 = 1 << 9;
 
-pub const DELAYS: u64 = 1 << 9;
+pub const DELAYS: u64 = 1 << 10;
 
-pub const ALL: u64 = (1 << 10) - 1;
+pub const ALL: u64 = (1 << 11) - 1;
 
 /// The names of the bits, in their order.
-pub const NAMES: [&str; 10] = [
+pub const NAMES: [&str; 11] = [
     "quick-crash",
     "slow-crash",
     "store-crash",
     "partition",
     "one-way",
+    "split",
     "pause",
     "slow",
     "speeds",
@@ -55,12 +57,13 @@ pub const NAMES: [&str; 10] = [
     "delays",
 ];
 
-const KINDS: [Kind; 7] = [
+const KINDS: [Kind; 8] = [
     Kind::QuickCrash,
     Kind::SlowCrash,
     Kind::StoreCrash,
     Kind::Partition,
     Kind::OneWay,
+    Kind::Split,
     Kind::Pause,
     Kind::Slow,
 ];
@@ -69,7 +72,7 @@ const KINDS: [Kind; 7] = [
 #[derive(Clone, Copy)]
 pub struct Plan {
     pub count: usize,
-    weights: [u64; 7],
+    weights: [u64; 8],
     /// The mean time between faults.
     pub gap: u64,
     /// Whether links keep the order of messages, as streams do; else each message goes its own way.
@@ -92,7 +95,7 @@ impl Plan {
         let is_ordered = setting.kinds & LOSSES == 0 || chance.hits(500);
         let mut plan = Plan {
             count: count as usize,
-            weights: [0; 7],
+            weights: [0; 8],
             gap: chance.spread(500_000, 60_000_000),
             is_ordered,
             delay: 20_000,
@@ -108,7 +111,7 @@ impl Plan {
             plan.loss = chance.below(300) * chance.below(2);
             plan.repeats = chance.below(300) * chance.below(2);
         }
-        for kind in 0..7 {
+        for kind in 0..8 {
             let weight = [0, 1, 4][chance.below(3) as usize];
             if setting.kinds & (1 << kind) != 0 {
                 plan.weights[kind as usize] = weight;
@@ -127,7 +130,7 @@ impl Plan {
             return None;
         }
         let mut rest = chance.below(sum);
-        for place in 0..7usize {
+        for place in 0..8usize {
             if rest < self.weights[place] {
                 return Some(KINDS[place]);
             }

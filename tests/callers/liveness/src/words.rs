@@ -1,5 +1,6 @@
 //! The words of the command line.
 
+use crate::judging::WRONGS;
 use crate::setting::{ALL, NAMES, Setting};
 
 /// What is to be played.
@@ -10,6 +11,8 @@ pub struct Wish {
     pub setting: Setting,
     /// Whether the old rule is played first, until a seed fails.
     pub checks_itself: bool,
+    /// Seeds that fail by these alone count as passed.
+    pub without: u64,
 }
 
 /// What the words say; none, where one isn't known.
@@ -27,6 +30,7 @@ pub fn wish_of(words: &Vec<String>) -> Option<Wish> {
             bound: 12,
         },
         checks_itself: false,
+        without: 0,
     };
     let mut place = 1;
     while place < words.len() {
@@ -55,7 +59,11 @@ fn take(wish: &mut Wish, word: &str, next: &str) -> Option<usize> {
 
 fn take_two(wish: &mut Wish, word: &str, next: &str) -> Option<usize> {
     if word == "--faults" {
-        wish.setting.kinds = kinds_of(next)?;
+        wish.setting.kinds = bits_of(next, |place| NAMES.get(place).copied())?;
+        return Some(2);
+    }
+    if word == "--without" {
+        wish.without = bits_of(next, |place| WRONGS.get(place).map(|wrong| wrong.0))?;
         return Some(2);
     }
     let number = next.parse::<u64>().ok()?;
@@ -70,23 +78,22 @@ fn take_two(wish: &mut Wish, word: &str, next: &str) -> Option<usize> {
     Some(2)
 }
 
-/// The bits of the names that a comma stands between.
-fn kinds_of(text: &str) -> Option<u64> {
-    let mut kinds = 0;
+/// The bits of the names that commas stand between; `none` has no bit.
+fn bits_of<F: Fn(usize) -> Option<&'static str>>(text: &str, name_at: F) -> Option<u64> {
+    let mut bits = 0;
     for name in text.split(',') {
-        if name == "none" {
-            continue;
-        }
-        let mut found = false;
-        for place in 0..NAMES.len() {
-            if NAMES[place] == name {
-                kinds |= 1 << place;
-                found = true;
-            }
-        }
-        if !found {
-            return None;
+        if name != "none" {
+            bits |= bit_of(name, &name_at)?;
         }
     }
-    Some(kinds)
+    Some(bits)
+}
+
+fn bit_of<F: Fn(usize) -> Option<&'static str>>(name: &str, name_at: &F) -> Option<u64> {
+    for place in 0..64 {
+        if name_at(place)? == name {
+            return Some(1 << place);
+        }
+    }
+    None
 }

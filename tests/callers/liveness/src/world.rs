@@ -31,6 +31,8 @@ pub struct World {
     pub links: Vec<Link>,
     pub flights: Flights,
     pub callers: Vec<Caller>,
+    /// The suspect period of the slowest clock, in true time.
+    pub period: u64,
     /// The client and the number of each request that was ever committed, by place.
     pub committed: Vec<(u64, u64)>,
     pub is_unsafe: bool,
@@ -44,6 +46,8 @@ pub struct World {
     pub steps: u64,
     pub crashes: u64,
     pub answered: u64,
+    /// How often, after all faults have ended, a replica suspected a primary that led its view.
+    pub needless: u64,
 }
 
 impl World {
@@ -61,6 +65,7 @@ impl World {
             links: Vec::new(alloc),
             flights: Flights::new(alloc),
             callers: Vec::new(alloc),
+            period: SUSPECT,
             committed: Vec::new(alloc),
             is_unsafe: false,
             is_healed: false,
@@ -71,6 +76,7 @@ impl World {
             steps: 0,
             crashes: 0,
             answered: 0,
+            needless: 0,
         };
         for at in 0..plan.count {
             world.add_machine(at)?;
@@ -94,6 +100,7 @@ impl World {
         } else {
             1000
         };
+        self.period = self.period.max(SUSPECT * 1000 / speed);
         let offset = self.chance.below(1_000_000_000);
         self.machines.push(Machine {
             replica: Some(Replica::first(self.alloc, at as u64, count)?),
@@ -115,7 +122,7 @@ impl World {
     }
 
     fn add_caller(&mut self, client: usize) -> Result<(), AllocError> {
-        let thinks = self.chance.spread(1_000_000, 30_000_000);
+        let thinks = self.chance.spread(4_000_000, 120_000_000);
         self.callers.push(Caller {
             number: 0,
             is_waiting: false,
@@ -127,34 +134,34 @@ impl World {
         self.agenda.put(first, What::Client { client, turn: 0 })
     }
 
-    /// The suspect period of the slowest clock, in true time.
-    pub fn period(&self) -> u64 {
-        let mut slowest = 1000;
-        for machine in self.machines.iter() {
-            slowest = machine.speed.min(slowest);
-        }
-        SUSPECT * 1000 / slowest
-    }
 
     /// Until when all must be well.
     pub fn deadline(&self) -> u64 {
-        self.setting.faults_time + self.setting.bound * self.period()
+        self.setting.faults_time + self.setting.bound * self.period
     }
 
     /// Plays it to its end, some time after the deadline.
     pub fn run(&mut self) -> Result<(), AllocError> {
-        let end = self.deadline() + 4 * self.period();
+        let end = self.deadline() + 4 * self.period;
         loop {
             let Some((time, what)) = self.agenda.take() else {
                 break;
             };
-            if time > end || self.is_unsafe {
+            if time > end || self.is_unsafe || self.is_long_well(time) {
                 break;
             }
             self.now = time;
             self.happen(what)?;
         }
         Ok(())
+    }
+
+    /// Whether all has been well for so long that nothing else can come.
+    fn is_long_well(&self, time: u64) -> bool {
+        match self.well_since {
+            None => false,
+            Some(since) => time >= since + 4 * self.period,
+        }
     }
 
     fn happen(&mut self, what: What) -> Result<(), AllocError> {
@@ -262,10 +269,19 @@ impl World {
             return Ok(());
         };
         let to = flight.to;
-        let is_lost = self.plan.is_ordered && flight.stream != self.links[flight.from * self.plan.count + to].stream;
-        if !is_lost && self.is_busy(to) {
-            let until = self.machines[to].busy_until;
+        let from = flight.from as u64;
+        let stream = self.links.as_slice()[flight.from * self.plan.count + to].stream;
+        let is_lost = self.plan.is_ordered && flight.stream != stream;
+        let machine = &mut self.machines.as_mut_slice()[to];
+        if !is_lost && self.now < machine.busy_until {
+            let until = machine.busy_until;
             return self.agenda.put(until, What::Deliver { slot });
+        }
+        let sign = sign_of(&flight.message);
+        if !is_lost && machine.knows(&flight.message) {
+            let now = machine.local(self.now);
+            machine.timer.hear(from, sign, now);
+            return self.flights.forget(slot);
         }
         let Some(flight) = self.flights.take(slot)? else {
             return Ok(());
@@ -273,9 +289,7 @@ impl World {
         if is_lost {
             return Ok(());
         }
-        let Flight { from, to, stream: _, message } = flight;
-        let sign = sign_of(&message);
-        let from = from as u64;
+        let message = flight.message;
         self.act(to, Event::Message { from, message }, Some((from, sign)))
     }
 
@@ -303,8 +317,7 @@ impl World {
                 return self.crash(at, rest);
             }
         }
-        self.show(at)?;
-        self.compare(at)?;
+        self.look(at)?;
         for send in sends {
             let to = send.to as usize;
             self.send(at, to, send.into_message())?;
@@ -314,6 +327,23 @@ impl World {
         }
         if self.machines[at].timer.ask_at() < self.machines[at].ask_at {
             self.ask_again(at)?;
+        }
+        Ok(())
+    }
+
+    /// Looks at a replica after its step: what it has newly committed is compared, and a new view or status told.
+    fn look(&mut self, at: usize) -> Result<(), AllocError> {
+        let machine = &self.machines.as_slice()[at];
+        let Some(replica) = machine.replica.as_ref() else {
+            return Ok(());
+        };
+        let has_moved = machine.told.0 != replica.view_number || machine.told.1 != replica.status;
+        let has_committed = machine.compared < replica.commit_number;
+        if has_moved {
+            self.show(at)?;
+        }
+        if has_committed {
+            self.compare(at)?;
         }
         Ok(())
     }
@@ -370,6 +400,7 @@ impl World {
                 self.mend(at, now)?;
             }
             Due::Suspect => {
+                self.count_needless(at);
                 if self.setting.traces {
                     let text = format!(in self.alloc; "{at} suspects in view {}", self.machines[at].view())?;
                     self.tell(text.as_str())?;
@@ -381,6 +412,15 @@ impl World {
             return Ok(());
         }
         self.ask_again(at)
+    }
+
+    /// Counts a suspicion that serves nothing: of a primary that leads the view, after all faults have ended.
+    fn count_needless(&mut self, at: usize) {
+        let view = self.machines[at].view();
+        let primary = &self.machines[view as usize % self.plan.count];
+        if self.is_healed && self.machines[at].is_normal() && primary.leads() && primary.view() == view {
+            self.needless += 1;
+        }
     }
 
     /// The mend that is tried: a replica that has recovered for a suspect period asks the others to change to its stored view.
