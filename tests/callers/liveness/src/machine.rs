@@ -33,6 +33,8 @@ pub struct Machine {
     pub is_doomed: bool,
     /// When it began to recover, or last asked for a view change in vain, by its clock.
     pub recovering_since: u64,
+    /// When it last heard that the primary of its view leads it, by its clock.
+    pub led_at: u64,
 }
 
 impl Machine {
@@ -57,14 +59,29 @@ impl Machine {
         self.status() == Some(Status::Normal)
     }
 
-    /// Whether a message is a COMMIT that tells a backup nothing new, at which its step changes and sends nothing. Most messages are, and take no step.
-    pub fn knows(&self, message: &PeerMessage<Mark>) -> bool {
-        match (message, &self.replica) {
-            (PeerMessage::Commit { view_number, commit_number }, Some(replica)) => {
-                replica.status == Status::Normal
+    /// Whether a message is one at which the replica's step changes and sends nothing, since it says what is known already or comes to one that can't answer.
+    /// Most messages are, and take no step, but the clock hears them.
+    pub fn knows(&self, from: u64, message: &PeerMessage<Mark>) -> bool {
+        let Some(replica) = &self.replica else {
+            return true;
+        };
+        let is_normal = replica.status == Status::Normal;
+        match message {
+            PeerMessage::Commit {
+                view_number,
+                commit_number,
+            } => {
+                is_normal
                     && replica.view_number == *view_number
                     && replica.commit_number == *commit_number
             }
+            PeerMessage::StartViewChange { view_number } => {
+                replica.status == Status::Recovering
+                    || *view_number < replica.view_number
+                    || (*view_number == replica.view_number
+                        && (is_normal || replica.start_view_changes.as_slice().contains(&from)))
+            }
+            PeerMessage::Recovery { .. } => !is_normal,
             _ => false,
         }
     }

@@ -14,6 +14,9 @@ struct Tally {
     crashes: u64,
     answered: u64,
     needless: u64,
+    hasty: u64,
+    /// The first seed with a hasty suspicion, if any.
+    hasty_seed: u64,
     /// The seed that was well last, and after how many halves of a suspect period.
     slowest: (u64, u64),
     /// How many were well within so many halves of a suspect period.
@@ -30,6 +33,8 @@ pub fn play(rt: &HostRuntime, wish: &Wish) -> io::Result<bool> {
         crashes: 0,
         answered: 0,
         needless: 0,
+        hasty: 0,
+        hasty_seed: 0,
         slowest: (0, 0),
         halves: vec![in alloc; 0; 200]?,
     };
@@ -48,6 +53,9 @@ pub fn play(rt: &HostRuntime, wish: &Wish) -> io::Result<bool> {
     }
     println!(rt; "")?;
     println!(rt; "{} steps, {} crashes, {} requests answered, {} needless suspicions at last", tally.steps, tally.crashes, tally.answered, tally.needless)?;
+    if tally.hasty > 0 {
+        println!(rt; "{} hasty suspicions, first in seed {}", tally.hasty, tally.hasty_seed)?;
+    }
     println!(rt; "the slowest is seed {}, {} halves", tally.slowest.0, tally.slowest.1)?;
     println!(rt; "{} passed, {} failed", tally.passed, tally.failed)?;
     Ok(tally.failed == 0)
@@ -83,6 +91,10 @@ fn play_one(rt: &HostRuntime, wish: &Wish, seed: u64, tally: &mut Tally) -> io::
     tally.crashes += world.crashes;
     tally.answered += world.answered;
     tally.needless += world.needless;
+    tally.hasty += world.hasty;
+    if world.hasty > 0 && tally.hasty_seed == 0 {
+        tally.hasty_seed = seed;
+    }
     if let Some(since) = world.well_since {
         let half = (since - setting.faults_time) * 2 / world.period;
         if (half as usize) < tally.halves.len() {

@@ -48,13 +48,34 @@ pub struct World {
     pub answered: u64,
     /// How often, after all faults have ended, a replica suspected a primary that led its view.
     pub needless: u64,
+    /// How often a replica suspected a primary that led its view, and of which it had heard so within half a suspect period.
+    pub hasty: u64,
 }
 
 impl World {
+    /// The run of a seed, at its beginning.
     pub fn new(alloc: Global, setting: Setting, seed: u64) -> Result<World, AllocError> {
         let mut chance = Chance::new(seed);
         let plan = Plan::new(&setting, &mut chance);
-        let mut world = World {
+        let mut world = World::empty(alloc, setting, plan, chance);
+        for at in 0..plan.count {
+            world.add_machine(at)?;
+        }
+        for _ in 0..plan.count * plan.count {
+            world.links.push(Link::new(alloc))?;
+        }
+        for client in 0..plan.clients {
+            world.add_caller(client)?;
+        }
+        let first = world.chance.between(1, plan.gap);
+        world.agenda.put(first, What::Fault)?;
+        world.agenda.put(setting.faults_time, What::Heal)?;
+        Ok(world)
+    }
+
+    /// A run with no replicas yet.
+    fn empty(alloc: Global, setting: Setting, plan: Plan, chance: Chance) -> World {
+        World {
             alloc,
             setting,
             plan,
@@ -77,20 +98,8 @@ impl World {
             crashes: 0,
             answered: 0,
             needless: 0,
-        };
-        for at in 0..plan.count {
-            world.add_machine(at)?;
+            hasty: 0,
         }
-        for _ in 0..plan.count * plan.count {
-            world.links.push(Link::new(alloc))?;
-        }
-        for client in 0..plan.clients {
-            world.add_caller(client)?;
-        }
-        let first = world.chance.between(1, plan.gap);
-        world.agenda.put(first, What::Fault)?;
-        world.agenda.put(setting.faults_time, What::Heal)?;
-        Ok(world)
     }
 
     fn add_machine(&mut self, at: usize) -> Result<(), AllocError> {
@@ -117,6 +126,7 @@ impl World {
             told: (0, Status::Normal),
             is_doomed: false,
             recovering_since: 0,
+            led_at: 0,
         })?;
         self.ask_again(at)
     }
@@ -278,10 +288,9 @@ impl World {
             return self.agenda.put(until, What::Deliver { slot });
         }
         let sign = sign_of(&flight.message);
-        if !is_lost && machine.knows(&flight.message) {
-            let now = machine.local(self.now);
-            machine.timer.hear(from, sign, now);
-            return self.flights.forget(slot);
+        if !is_lost && machine.knows(from, &flight.message) {
+            self.flights.forget(slot)?;
+            return self.hear(to, from, sign);
         }
         let Some(flight) = self.flights.take(slot)? else {
             return Ok(());
@@ -293,22 +302,38 @@ impl World {
         self.act(to, Event::Message { from, message }, Some((from, sign)))
     }
 
+    /// The clock of a replica hears what a message said of its sender.
+    fn hear(&mut self, at: usize, from: u64, sign: Sign) -> Result<(), AllocError> {
+        let machine = &mut self.machines.as_mut_slice()[at];
+        let now = machine.local(self.now);
+        machine.timer.hear(from, sign, now);
+        if let Sign::Leads { view_number } = sign {
+            if view_number == machine.view() && view_number % self.plan.count as u64 == from {
+                machine.led_at = now;
+            }
+        }
+        if machine.replica.is_some() && machine.timer.ask_at() < machine.ask_at {
+            return self.ask_again(at);
+        }
+        Ok(())
+    }
+
     /// An event happens at a replica, which is not busy.
     pub fn act(&mut self, at: usize, event: Event<Mark>, sign: Option<(u64, Sign)>) -> Result<(), AllocError> {
-        let now = self.machines[at].local(self.now);
-        let machine = &mut self.machines[at];
+        let machine = &mut self.machines.as_mut_slice()[at];
+        let now = machine.local(self.now);
         let Some(replica) = machine.replica.as_mut() else {
             return Ok(());
         };
         let outputs = step(self.alloc, replica, event)?;
         machine.timer.note(replica.view_number, replica.status, now);
-        if let Some((from, sign)) = sign {
-            machine.timer.hear(from, sign, now);
-        }
         if replica.status == Status::Normal {
             machine.is_down = false;
         }
         self.steps += 1;
+        if let Some((from, sign)) = sign {
+            self.hear(at, from, sign)?;
+        }
         let Outputs { store, sends, replies } = outputs;
         if let Some(view) = store {
             self.machines[at].stored_view = view;
@@ -324,9 +349,6 @@ impl World {
         }
         for reply in replies.iter() {
             self.on_reply(at, reply)?;
-        }
-        if self.machines[at].timer.ask_at() < self.machines[at].ask_at {
-            self.ask_again(at)?;
         }
         Ok(())
     }
@@ -400,7 +422,7 @@ impl World {
                 self.mend(at, now)?;
             }
             Due::Suspect => {
-                self.count_needless(at);
+                self.count_needless(at, now)?;
                 if self.setting.traces {
                     let text = format!(in self.alloc; "{at} suspects in view {}", self.machines[at].view())?;
                     self.tell(text.as_str())?;
@@ -414,13 +436,25 @@ impl World {
         self.ask_again(at)
     }
 
-    /// Counts a suspicion that serves nothing: of a primary that leads the view, after all faults have ended.
-    fn count_needless(&mut self, at: usize) {
-        let view = self.machines[at].view();
+    /// Counts a suspicion that serves nothing: of a primary that leads the view.
+    fn count_needless(&mut self, at: usize, now: u64) -> Result<(), AllocError> {
+        let machine = &self.machines[at];
+        let view = machine.view();
         let primary = &self.machines[view as usize % self.plan.count];
-        if self.is_healed && self.machines[at].is_normal() && primary.leads() && primary.view() == view {
+        if !machine.is_normal() || !primary.leads() || primary.view() != view {
+            return Ok(());
+        }
+        let is_hasty = now < machine.led_at + SUSPECT / 2;
+        if self.is_healed {
             self.needless += 1;
         }
+        if is_hasty {
+            self.hasty += 1;
+            if self.setting.traces {
+                self.tell("a hasty suspicion:")?;
+            }
+        }
+        Ok(())
     }
 
     /// The mend that is tried: a replica that has recovered for a suspect period asks the others to change to its stored view.
