@@ -228,7 +228,8 @@ impl World {
             let text = format!(in self.alloc; "{at} pauses, for {} ms", rest / 1000)?;
             self.tell(&text)?;
         }
-        let until = self.now + rest;
+        // Pauses are over when all faults are.
+        let until = (self.now + rest).min(self.setting.faults_time);
         self.machines[at].busy_until = self.machines[at].busy_until.max(until);
         Ok(())
     }
