@@ -6,21 +6,40 @@ use std::alloc::{AllocError, Global};
 #[derive(Clone, Copy)]
 pub enum What {
     /// The message in this slot comes to its receiver.
-    Deliver { slot: usize },
+    Deliver {
+        slot: usize,
+    },
     /// The clock of a replica is asked, if nothing has changed its turn since.
-    Ask { machine: usize, turn: u64 },
+    Ask {
+        machine: usize,
+        turn: u64,
+    },
     /// A link tries to send what waits in it.
-    Reopen { link: usize },
+    Reopen {
+        link: usize,
+    },
     /// A client sends, or sends again.
-    Client { client: usize, turn: u64 },
+    Client {
+        client: usize,
+        turn: u64,
+    },
     /// A request comes to a replica.
-    Request { client: usize, number: u64, to: usize },
+    Request {
+        client: usize,
+        number: u64,
+        to: usize,
+    },
     /// A replica starts again, if it hasn't since.
-    Restart { machine: usize, life: u64 },
+    Restart {
+        machine: usize,
+        life: u64,
+    },
     /// The next fault.
     Fault,
     /// The slow time of the network ends.
-    Calm { turn: u64 },
+    Calm {
+        turn: u64,
+    },
     /// All faults end.
     Heal,
     /// It is looked whether all is well.

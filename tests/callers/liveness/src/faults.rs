@@ -105,7 +105,8 @@ impl World {
             let text = format!(in self.alloc; "{at} crashes, for {} ms", rest / 1000)?;
             self.tell(&text)?;
         }
-        self.agenda.put(self.now + rest, What::Restart { machine: at, life })
+        self.agenda
+            .put(self.now + rest, What::Restart { machine: at, life })
     }
 
     /// A replica starts again, recovering in its stored view.
@@ -120,7 +121,14 @@ impl World {
         let machine = &mut self.machines[at];
         machine.starts = life + 1;
         machine.replica = Some(replica);
-        machine.timer = Timer::new(self.setting.is_old, at as u64, count, view, Status::Recovering, now);
+        machine.timer = Timer::new(
+            self.setting.is_old,
+            at as u64,
+            count,
+            view,
+            Status::Recovering,
+            now,
+        );
         machine.compared = 0;
         machine.recovering_since = now;
         for other in 0..self.machines.len() {
@@ -170,7 +178,10 @@ impl World {
         let side = self.chance.between(1, (1 << count) - 2);
         let rest = self.chance.spread(500_000, 60_000_000);
         if self.setting.traces {
-            let text = format!(in self.alloc; "cut between {side:b} and the others, for {} ms", rest / 1000)?;
+            let text = format!(in self.alloc;
+                "cut between {side:b} and the others, for {} ms",
+                rest / 1000
+            )?;
             self.tell(&text)?;
         }
         for from in 0..count {
@@ -205,8 +216,16 @@ impl World {
         let rest = self.chance.spread(500_000, 60_000_000);
         let others = self.chance.any();
         if self.setting.traces {
-            let way = if is_deaf { "doesn't hear" } else { "isn't heard by" };
-            let text = format!(in self.alloc; "{at} {way} {:b}, for {} ms", others % 128, rest / 1000)?;
+            let way = if is_deaf {
+                "doesn't hear"
+            } else {
+                "isn't heard by"
+            };
+            let text = format!(in self.alloc;
+                "{at} {way} {:b}, for {} ms",
+                others % 128,
+                rest / 1000
+            )?;
             self.tell(&text)?;
         }
         for other in 0..self.machines.len() {
@@ -240,7 +259,11 @@ impl World {
         self.slow_delay = self.chance.spread(100_000, 3_000_000);
         let rest = self.chance.spread(1_000_000, 60_000_000);
         if self.setting.traces {
-            let text = format!(in self.alloc; "messages take up to {} ms, for {} ms", self.slow_delay / 1000, rest / 1000)?;
+            let text = format!(in self.alloc;
+                "messages take up to {} ms, for {} ms",
+                self.slow_delay / 1000,
+                rest / 1000
+            )?;
             self.tell(&text)?;
         }
         let turn = self.slow_turn;
@@ -267,7 +290,8 @@ impl World {
             if self.machines[at].replica.is_none() {
                 let life = self.machines[at].starts;
                 let rest = self.chance.between(0, 100_000);
-                self.agenda.put(self.now + rest, What::Restart { machine: at, life })?;
+                self.agenda
+                    .put(self.now + rest, What::Restart { machine: at, life })?;
             }
         }
         self.agenda.put(self.now, What::Judge)

@@ -70,16 +70,22 @@ impl World {
 
     /// What is wrong at this moment.
     fn wrong_now(&self) -> Wrong {
+        match self.wrong_status() {
+            Wrong::Nothing => self.wrong_in_one_view(),
+            wrong => wrong,
+        }
+    }
+
+    /// What is wrong with the statuses and views.
+    fn wrong_status(&self) -> Wrong {
         let mut latest = 0;
-        let mut is_changing = false;
-        let mut has_views = false;
-        let mut has_commits = false;
         for machine in self.machines.iter() {
             if machine.status() != Some(Status::Recovering) {
                 latest = machine.view().max(latest);
             }
         }
-        let first = &self.machines[0];
+        let mut wrong = Wrong::Nothing;
+        let view = self.machines[0].view();
         for machine in self.machines.iter() {
             match machine.status() {
                 None => return Wrong::LongRecovery,
@@ -89,29 +95,29 @@ impl World {
                     }
                     return Wrong::LongRecovery;
                 }
-                Some(Status::ViewChange) => is_changing = true,
-                Some(Status::Normal) => {}
-            }
-            if machine.view() != first.view() {
-                has_views = true;
-            }
-            if commit_of(machine) != commit_of(first) {
-                has_commits = true;
+                Some(Status::ViewChange) => wrong = Wrong::ViewChange,
+                Some(Status::Normal) => {
+                    if machine.view() != view && wrong == Wrong::Nothing {
+                        wrong = Wrong::ViewsDiffer;
+                    }
+                }
             }
         }
-        if is_changing {
-            return Wrong::ViewChange;
-        }
-        if has_views {
-            return Wrong::ViewsDiffer;
-        }
+        wrong
+    }
+
+    /// What is wrong where all are normal in one view.
+    fn wrong_in_one_view(&self) -> Wrong {
         for caller in self.callers.iter() {
             if caller.is_waiting {
                 return Wrong::Request;
             }
         }
-        if has_commits {
-            return Wrong::Commits;
+        let commit = commit_of(&self.machines[0]);
+        for machine in self.machines.iter() {
+            if commit_of(machine) != commit {
+                return Wrong::Commits;
+            }
         }
         Wrong::Nothing
     }

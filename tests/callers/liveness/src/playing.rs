@@ -52,11 +52,20 @@ pub fn play(rt: &HostRuntime, wish: &Wish) -> io::Result<bool> {
         }
     }
     println!(rt; "")?;
-    println!(rt; "{} steps, {} crashes, {} requests answered, {} needless suspicions at last", tally.steps, tally.crashes, tally.answered, tally.needless)?;
+    println!(rt;
+        "{} steps, {} crashes, {} requests answered, {} needless suspicions at last",
+        tally.steps, tally.crashes, tally.answered, tally.needless
+    )?;
     if tally.hasty > 0 {
-        println!(rt; "{} hasty suspicions, first in seed {}", tally.hasty, tally.hasty_seed)?;
+        println!(rt;
+            "{} hasty suspicions, first in seed {}",
+            tally.hasty, tally.hasty_seed
+        )?;
     }
-    println!(rt; "the slowest is seed {}, {} halves", tally.slowest.0, tally.slowest.1)?;
+    println!(rt;
+        "the slowest is seed {}, {} halves",
+        tally.slowest.0, tally.slowest.1
+    )?;
     println!(rt; "{} passed, {} failed", tally.passed, tally.failed)?;
     Ok(tally.failed == 0)
 }
@@ -130,7 +139,10 @@ fn tell_state(rt: &HostRuntime, world: &World) -> io::Result<()> {
                 let view = replica.view_number;
                 let commit = replica.commit_number;
                 let length = replica.log.len();
-                println!(rt; "  {at}: {status:?} in view {view}, {commit} of {length} committed, clock {}", machine.speed)?;
+                println!(rt;
+                    "  {at}: {status:?} in view {view}, {commit} of {length} committed, clock {}",
+                    machine.speed
+                )?;
             }
         }
     }

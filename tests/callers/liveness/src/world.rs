@@ -113,7 +113,14 @@ impl World {
         let offset = self.chance.below(1_000_000_000);
         self.machines.push(Machine {
             replica: Some(Replica::first(self.alloc, at as u64, count)?),
-            timer: Timer::new(self.setting.is_old, at as u64, count, 0, Status::Normal, offset),
+            timer: Timer::new(
+                self.setting.is_old,
+                at as u64,
+                count,
+                0,
+                Status::Normal,
+                offset,
+            ),
             stored_view: 0,
             starts: 1,
             is_down: false,
@@ -143,7 +150,6 @@ impl World {
         let first = self.chance.below(thinks);
         self.agenda.put(first, What::Client { client, turn: 0 })
     }
-
 
     /// Until when all must be well.
     pub fn deadline(&self) -> u64 {
@@ -215,7 +221,12 @@ impl World {
     }
 
     /// A replica sends a message.
-    pub fn send(&mut self, from: usize, to: usize, message: PeerMessage<Mark>) -> Result<(), AllocError> {
+    pub fn send(
+        &mut self,
+        from: usize,
+        to: usize,
+        message: PeerMessage<Mark>,
+    ) -> Result<(), AllocError> {
         let link = self.link(from, to);
         let is_closed = self.now < self.links[link].closed_until;
         if !self.plan.is_ordered {
@@ -230,7 +241,10 @@ impl World {
             let delay = self.delay();
             return self.launch(from, to, message, self.now + delay);
         }
-        if is_closed || self.machines[to].replica.is_none() || !self.links[link].waiting.is_empty() {
+        if is_closed
+            || self.machines[to].replica.is_none()
+            || !self.links[link].waiting.is_empty()
+        {
             if self.links[link].is_patient {
                 self.links[link].hold(message)?;
             }
@@ -240,7 +254,12 @@ impl World {
     }
 
     /// A message goes on its way behind those that went before.
-    fn launch_in_order(&mut self, from: usize, to: usize, message: PeerMessage<Mark>) -> Result<(), AllocError> {
+    fn launch_in_order(
+        &mut self,
+        from: usize,
+        to: usize,
+        message: PeerMessage<Mark>,
+    ) -> Result<(), AllocError> {
         let link = self.link(from, to);
         let delay = self.delay();
         let arrival = (self.now + delay).max(self.links[link].last);
@@ -248,7 +267,13 @@ impl World {
         self.launch(from, to, message, arrival)
     }
 
-    fn launch(&mut self, from: usize, to: usize, message: PeerMessage<Mark>, arrival: u64) -> Result<(), AllocError> {
+    fn launch(
+        &mut self,
+        from: usize,
+        to: usize,
+        message: PeerMessage<Mark>,
+        arrival: u64,
+    ) -> Result<(), AllocError> {
         let link = self.link(from, to);
         let stream = self.links[link].stream;
         let slot = self.flights.put(Flight {
@@ -319,7 +344,12 @@ impl World {
     }
 
     /// An event happens at a replica, which is not busy.
-    pub fn act(&mut self, at: usize, event: Event<Mark>, sign: Option<(u64, Sign)>) -> Result<(), AllocError> {
+    pub fn act(
+        &mut self,
+        at: usize,
+        event: Event<Mark>,
+        sign: Option<(u64, Sign)>,
+    ) -> Result<(), AllocError> {
         let machine = &mut self.machines.as_mut_slice()[at];
         let now = machine.local(self.now);
         let Some(replica) = machine.replica.as_mut() else {
@@ -334,7 +364,11 @@ impl World {
         if let Some((from, sign)) = sign {
             self.hear(at, from, sign)?;
         }
-        let Outputs { store, sends, replies } = outputs;
+        let Outputs {
+            store,
+            sends,
+            replies,
+        } = outputs;
         if let Some(view) = store {
             self.machines[at].stored_view = view;
             if self.machines[at].is_doomed && self.may_crash(at) {
@@ -424,7 +458,10 @@ impl World {
             Due::Suspect => {
                 self.count_needless(at, now)?;
                 if self.setting.traces {
-                    let text = format!(in self.alloc; "{at} suspects in view {}", self.machines[at].view())?;
+                    let text = format!(in self.alloc;
+                        "{at} suspects in view {}",
+                        self.machines[at].view()
+                    )?;
                     self.tell(text.as_str())?;
                 }
                 self.act(at, Event::Suspect, None)?;
