@@ -66,11 +66,12 @@ times_longer Recovering given_up = 1
 abbrev pub limit : ClockValue → ℕ
 limit c = patience c * times_longer c.status c.given_up
 
--- A backup suspects its primary, and a replica that changes its view gives that view up. A primary and a replica that recovers suspect nobody.
+-- A backup suspects its primary, a replica that changes its view gives that view up, and one that recovers reminds the others of the view that it has
+-- stored, in case theirs is below it. A primary suspects nobody.
 abbrev pub suspects : Status → Bool → Bool
 suspects Normal own = not own
 suspects ViewChange own = true
-suspects Recovering own = false
+suspects Recovering own = true
 
 -- A primary, a replica that changes its view and one that recovers send again at each beat; a backup doesn't.
 abbrev pub beats : Status → Bool → Bool
@@ -152,11 +153,11 @@ abbrev pub first_lost : Option ℕ → ℕ → ℕ
 first_lost None now = now
 first_lost (Some since) now = since
 
--- A part of a long message came: who is awaited is not silent, and a replica that recovers needs not ask again yet.
+-- A part of a long message came: who is awaited is not silent. A replica that recovers awaits all others, and needs not ask again yet.
 abbrev pub part_heard : Status → ClockValue → ℕ → ℕ → ClockValue
 part_heard Normal c from now = cond (from == primary c) (record c { silent_since = now }) c
 part_heard ViewChange c from now = cond (from == primary c || is_own c) (record c { silent_since = now }) c
-part_heard Recovering c from now = record c { beat_at = max c.beat_at (now + c.beat) }
+part_heard Recovering c from now = record c { silent_since = now; beat_at = max c.beat_at (now + c.beat) }
 
 -- A message came. A sign of life is one by which the primary of the own view leads it; that this primary recovers says that it has lost its state, and
 -- then the clock wants to be asked when the spread has passed. Nothing else is heard.

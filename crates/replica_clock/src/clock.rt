@@ -22,7 +22,7 @@ pub enum Due {
     Nothing,
     /// To send again what others may have missed.
     Beat,
-    /// To suspect the primary of its view, or to give up a view that doesn't begin.
+    /// To suspect the primary of its view, to give up a view that doesn't begin, or, where it recovers, to remind the others of its view.
     Suspect,
 }
 
@@ -188,7 +188,7 @@ impl ReplicaClock {
         match self.status {
             Status::Normal => !self.is_own(),
             Status::ViewChange => true,
-            Status::Recovering => false,
+            Status::Recovering => true,
         }
     }
 
@@ -380,6 +380,7 @@ impl ReplicaClock {
                 }
             }
             Status::Recovering => {
+                self.silent_since = now;
                 self.beat_at = self.beat_at.max(now + self.times.beat());
             }
         }
