@@ -19,4 +19,5 @@ pub use standing::Standing;
 pub use view_store::{Cluster, Device, DeviceFailure, ViewStoreError};
 pub use vr_state::event::Event;
 pub use vr_state::message::{Outputs, PeerMessage, Send};
-pub use vr_state::words::{Client, Entry};
+pub use vr_state::sending::copy_message;
+pub use vr_state::words::{Client, Entry, Status};

@@ -1,5 +1,9 @@
 // An event at a node, as a publisher needs it told: what was executed before is a beginning of what is after. What must not be here: who is
 // shown it.
+ghost use Rattle.std.specs.Prelude.{◌≡◌, IfOk, length};
+ghost use Rattle.dir_node.specs.dir_executed.Executing.{due_after};
+ghost use Rattle.dir_node.specs.NodeState.{CatchesUp, IsSameNode, given};
+ghost use Rattle.dir_node.specs.vr_state.Step.{step as step_of};
 ghost use Rattle.node_gate.specs.dir_seats.Lists.{IsBeginning};
 
 use dir_node::{Device, Event, Handled, Node, NodeError, Op};
@@ -11,7 +15,11 @@ pub fn handle_node<D: Device>(
     node: &mut Node<D>,
     event: Event<Op>,
 ) -> Result<Handled, NodeError>
-    ensures { IsBeginning node.old.executed node.new.executed }
+    ensures begins { IsBeginning node.old.executed node.new.executed }
+    ensures step { IfOk result (λ h. given node.new.replica h.outputs ≡ step_of node.old.count node.old.index node.old.replica event) }
+    ensures executed { IfOk result (λ h. CatchesUp h.behind node.old.executed.records
+        (due_after (length node.old.executed.records) node.new.replica.commit_number node.new.replica.log) node.new.executed.records) }
+    ensures same { IsSameNode node.old node.new }
 {
     node.handle(alloc, event)
 }

@@ -1,4 +1,5 @@
 // A session's gate to a running node. Updates flow in; how they ended flows out. What must not be here: reads, how replicas agree.
+ghost use Rattle.std.specs.Prelude.{◌≡◌};
 ghost use Rattle.dir_seats.specs.session_talk.View.{ended_view};
 ghost use Rattle.node_gate.specs.Shared.{IsUpdated};
 
@@ -15,7 +16,7 @@ use std::sync::Wait;
 pub struct NodeGate<'a, 'r, R: Wait, D: Device, P> {
     rt: &'a R,
     running: &'a Running<'r, R, D>,
-    peers: &'a P,
+    peers: P,
     /// The URI of each replica, by index (RFC 4516).
     uris: &'a [String],
     asked: u64,
@@ -25,7 +26,7 @@ impl<'a, 'r, R: Wait, D: Device, P> NodeGate<'a, 'r, R, D, P> {
     pub fn new(
         rt: &'a R,
         running: &'a Running<'r, R, D>,
-        peers: &'a P,
+        peers: P,
         uris: &'a [String],
     ) -> NodeGate<'a, 'r, R, D, P> {
         NodeGate {
@@ -51,8 +52,9 @@ impl<'a, 'r, R: Wait, D: Device, P> NodeGate<'a, 'r, R, D, P> {
 
 impl<'a, 'r, R: Wait, D: Device, P: Peers> NodeGate<'a, 'r, R, D, P> {
     /// Hands a request to the node, and waits for its outcome.
-    fn ask(&self, alloc: Global, client: Client, number: u64, payload: Op) -> Ended
-        ensures { IsUpdated D client number (ended_view result) }
+    fn ask(&mut self, alloc: Global, client: Client, number: u64, payload: Op) -> Ended
+        ensures ended { IsUpdated D client number (ended_view result) }
+        ensures asked { self.new.asked ≡ self.old.asked }
     {
         let entry = Entry {
             client,
@@ -61,7 +63,7 @@ impl<'a, 'r, R: Wait, D: Device, P: Peers> NodeGate<'a, 'r, R, D, P> {
         };
         match self
             .running
-            .handle(self.rt, alloc, self.peers, Event::Request { entry })
+            .handle(self.rt, alloc, &mut self.peers, Event::Request { entry })
         {
             Ok(()) => self.running.settled(self.rt, alloc, client, number),
             Err(NodeError::NoMemory) => Ended::NoMemory,

@@ -1,12 +1,15 @@
 // What the lock holds. Events flow in, one at a time; what they give out flows out, and the seats see what was executed. What must not be
 // here: locks, threads.
-ghost use Rattle.std.specs.Prelude.{◌≡◌, IsTrue, IfSome};
+ghost use Rattle.std.specs.Prelude.{◌≡◌, IsTrue, IfSome, IfOk};
+ghost use Rattle.dir_node.specs.vr_state.declared.event.Event.TheVariants as event;
 ghost use Rattle.node_gate.specs.Given.{IsGiven, HasAll};
+ghost use Rattle.node_gate.specs.Handled.{HasHandled};
 
 use crate::events::handle_node;
 pub use dir_node::Standing;
-use dir_node::{Client, Device, Event, Handled, Node, NodeError, Op, Outcome};
+use dir_node::{Client, Device, Event, Handled, Node, NodeError, Op, Outcome, PeerMessage, Status};
 use dir_seats::{Publisher, SharedEntry, Store, Told};
+use replica_clock::{Asked, ReplicaClock, Sign, sign_of};
 use std::alloc::Global;
 use std::sync::Wait;
 
@@ -18,8 +21,6 @@ pub struct Here;
 pub struct Pulse {
     pub standing: Standing,
     pub view_number: u64,
-    /// How often something was heard of the view's primary, or the view or the standing changed; it wraps round.
-    pub heard: u64,
     /// Whether the node has stopped for good, its device having failed.
     pub is_halted: bool,
 }
@@ -31,14 +32,14 @@ impl Pulse {
     }
 }
 
-/// The node, what its seats see of it, what it heard, and whether those who wait are to go on. What its seats see, and what they are to see next, is
-/// a beginning of what it has executed.
+/// The node, what its seats see of it, its clock, and whether those who wait are to go on. What its seats see, and what they are to see next, is a
+/// beginning of what it has executed.
 pub struct Held<'a, R: Wait, D: Device> {
     node: Node<D>,
     publisher: Publisher<Here, &'a R>,
     /// How many records the publisher was given.
     given: usize,
-    heard: u64,
+    clock: ReplicaClock,
     pub is_stopping: bool,
     ghost shows: { IsGiven node.executed publisher given },
 }
@@ -50,44 +51,18 @@ impl<'a, R: Wait, D: Device + Drop> Drop for Held<'a, R, D> {
             node: _,
             publisher: _,
             given: _,
-            heard: _,
+            clock: _,
             is_stopping: _,
         } = self;
     }
 }
 
-/// Who sent the message of an event; none, where it is another event.
-fn sender_of(event: &Event<Op>) -> Option<u64> {
-    match event {
-        Event::Message { from, .. } => Some(*from),
-        Event::Request { .. } | Event::Suspect | Event::Beat => None,
-    }
-}
-
-/// What a node does now that has heard so much.
-fn pulse_of<D: Device>(node: &Node<D>, heard: u64) -> Pulse {
-    Pulse {
-        standing: node.standing(),
-        view_number: node.view_number(),
-        heard,
-        is_halted: node.is_halted(),
-    }
-}
-
-/// Whether a message of this sender is one of the primary that a node follows.
-fn is_of_primary<D: Device>(node: &Node<D>, from: Option<u64>) -> bool {
-    match (node.standing(), from) {
-        (Standing::Backup { primary }, Some(from)) => from == primary,
-        _ => false,
-    }
-}
-
-/// How much was heard, after an event of this sender.
-fn heard_after<D: Device>(node: &Node<D>, before: &Pulse, from: Option<u64>) -> u64 {
-    if is_of_primary(node, from) || pulse_of(node, before.heard) != *before {
-        before.heard.wrapping_add(1)
-    } else {
-        before.heard
+/// A replica's status, where it stands so.
+pub fn status_of(standing: Standing) -> Status {
+    match standing {
+        Standing::Primary | Standing::Backup { .. } => Status::Normal,
+        Standing::Changing => Status::ViewChange,
+        Standing::Recovering => Status::Recovering,
     }
 }
 
@@ -102,14 +77,18 @@ fn made_by(store: &Store, place: usize) -> Option<SharedEntry> {
 
 impl<'a, R: Wait, D: Device> Held<'a, R, D> {
     /// A node, and the publisher to its seats, which was given nothing yet.
-    pub fn new(node: Node<D>, publisher: Publisher<Here, &'a R>) -> Held<'a, R, D>
+    pub fn new(
+        node: Node<D>,
+        publisher: Publisher<Here, &'a R>,
+        clock: ReplicaClock,
+    ) -> Held<'a, R, D>
         requires shows { IsGiven node.executed publisher 0 }
     {
         Held {
             node,
             publisher,
             given: 0,
-            heard: 0,
+            clock,
             is_stopping: false,
         }
     }
@@ -122,17 +101,69 @@ impl<'a, R: Wait, D: Device> Held<'a, R, D> {
 
     /// What the node does now.
     pub fn pulse(&self) -> Pulse {
-        pulse_of(&self.node, self.heard)
+        Pulse {
+            standing: self.node.standing(),
+            view_number: self.node.view_number(),
+            is_halted: self.node.is_halted(),
+        }
     }
 
-    /// Hands an event to the node, and shows its seats what it then has executed.
-    pub fn handle(&mut self, alloc: Global, event: Event<Op>) -> Result<Handled, NodeError> {
-        let from = sender_of(&event);
-        let before = self.pulse();
-        let handled = handle_node(alloc, &mut self.node, event);
-        self.heard = heard_after(&self.node, &before, from);
-        let _shown = self.show(alloc);
+    /// When the node's clock wants to be asked.
+    pub fn ask_at(&self) -> u64 {
+        self.clock.ask_at()
+    }
+
+    /// Hands an event to the node, and shows its seats what it then has executed. It is behind too where there was no memory to show all.
+    pub fn handle(&mut self, alloc: Global, event: Event<Op>) -> Result<Handled, NodeError>
+        ensures { IfOk result (λ h. HasHandled self.old.node event h self.new.node self.new.publisher) }
+    {
+        let Handled { outputs, behind } = handle_node(alloc, &mut self.node, event)?;
+        let is_shown = self.show(alloc);
+        Ok(Handled {
+            outputs,
+            behind: behind || !is_shown,
+        })
+    }
+
+    /// Hands the message of another replica to the node, and tells its clock of it.
+    pub fn hear(
+        &mut self,
+        alloc: Global,
+        from: u64,
+        message: PeerMessage<Op>,
+        now: u64,
+    ) -> Result<Handled, NodeError>
+        ensures { IfOk result (λ h. HasHandled self.old.node (event.Message from message) h self.new.node self.new.publisher) }
+    {
+        let sign = sign_of(&message);
+        let handled = self.handle(alloc, Event::Message { from, message });
+        self.note(now);
+        self.clock.hear(from, sign, now);
         handled
+    }
+
+    /// A part of a long message of another replica has come.
+    pub fn hear_part(&mut self, from: u64, now: u64)
+        ensures node { self.new.node ≡ self.old.node }
+    {
+        self.clock.hear(from, Sign::Part, now);
+    }
+
+    /// Asks the node's clock what is due.
+    pub fn ask(&mut self, now: u64) -> Asked
+        ensures node { self.new.node ≡ self.old.node }
+    {
+        self.note(now);
+        self.clock.ask(now)
+    }
+
+    /// The clock is told what the node does.
+    pub fn note(&mut self, now: u64)
+        ensures node { self.new.node ≡ self.old.node }
+        ensures publisher { self.new.publisher ≡ self.old.publisher }
+    {
+        let status = status_of(self.node.standing());
+        self.clock.note(self.node.view_number(), status, now);
     }
 
     /// Gives the publisher the next record; whether there was one, and memory for it.

@@ -13,11 +13,13 @@ mod running;
 mod standing;
 
 pub use dir_node::{
-    Cluster, Event, Name, Node, NodeConfig, NodeError, Op, Outputs, PeerMessage, ViewStoreError,
+    Cluster, Event, Name, Node, NodeConfig, NodeError, Op, Outputs, PeerMessage, Send,
+    ViewStoreError,
 };
 pub use dir_seats::{Seat, Told};
 pub use gate::NodeGate;
 pub use held::{Here, Pulse, Standing};
 pub use opening::{Opened, open};
-pub use peers::Peers;
-pub use running::Running;
+pub use peers::{Peers, send_all};
+pub use replica_clock::{Sign, Times};
+pub use running::{Running, Ticked, copies};

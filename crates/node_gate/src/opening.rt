@@ -7,6 +7,7 @@ use crate::held::Here;
 use crate::running::Running;
 use dir_node::{Device, Node, NodeConfig, NodeError, Op, Outputs};
 use dir_seats::{Seat, seats};
+use replica_clock::Times;
 use std::alloc::Global;
 use std::sync::Wait;
 
@@ -51,6 +52,7 @@ pub fn open<'a, R: Wait, D: Device + Drop>(
     config: NodeConfig,
     is_fresh: bool,
     count: usize,
+    times: Times,
 ) -> Result<Opened<'a, R, D>, NodeError>
     requires within { config.index < config.count }
     requires seats { (0 < count) × (count ≤ 32) }
@@ -66,7 +68,7 @@ pub fn open<'a, R: Wait, D: Device + Drop>(
     let (node, outputs) = start(alloc, device, config, is_fresh)?;
     let restarts = node.restarts();
     Ok(Opened {
-        running: Running::new(node, publisher),
+        running: Running::new(node, publisher, times),
         seats,
         outputs,
         restarts,

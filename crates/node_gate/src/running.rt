@@ -1,26 +1,42 @@
 // A node that threads share. Events flow in, one at a time; messages to other replicas flow out, and who waits is told of each change. What
 // must not be here: sessions, sockets, reads.
+ghost use Rattle.std.specs.Prelude.{◌≡◌, OnOk, OnErr};
+ghost use Rattle.dir_node.specs.vr_state.declared.event.Event.TheVariants as event;
 ghost use Rattle.dir_seats.specs.session_talk.View.{ended_view};
 ghost use Rattle.node_gate.specs.Given.{IsGiven};
+ghost use Rattle.node_gate.specs.Sent.{TakesAll, TakesStep};
 ghost use Rattle.node_gate.specs.Shared.{IsEnded};
 
 use crate::ending::ended_at;
-use crate::held::{Held, Here, Pulse};
-use crate::peers::Peers;
+use crate::held::{Held, Here, Pulse, status_of};
+use crate::peers::{Peers, send_all};
 use crate::standing::LastStanding;
-use dir_node::{Client, Device, Event, Handled, Node, NodeError, Op, Outputs, Standing};
+use dir_node::{
+    Client, Device, Event, Handled, Node, NodeError, Op, Outputs, PeerMessage, Send, Standing,
+    copy_message,
+};
 use dir_seats::{Ended, Publisher, Told};
-use std::alloc::Global;
+use replica_clock::{Asked, Due, ReplicaClock, Times};
+use std::alloc::{AllocError, Global};
 use std::sync::{Condvar, CondvarTimeouts, Mutex, Wait};
 use std::time::{Clock, Duration};
 
-/// A node under its lock, with a condition that is told of each change, and one that is told of the stop.
+/// What the thread of the clock waits for.
+#[derive(Drop)]
+struct Call {
+    /// The clock wants to be asked earlier than it said.
+    is_early: bool,
+    is_stopping: bool,
+}
+
+/// A node under its lock, with a condition that is told of each change, and one for the thread that asks its clock.
 pub struct Running<'a, R: Wait, D: Device> {
     held: Mutex<Held<'a, R, D>>,
     /// The standing after the last event, for who doesn't wait for the lock.
     standing: LastStanding,
     changed: Condvar,
-    stopping: Condvar,
+    call: Mutex<Call>,
+    called: Condvar,
 }
 
 // Not derived: see "What the gate takes" in docs/ARCHITECTURE.md.
@@ -30,53 +46,214 @@ impl<'a, R: Wait, D: Device + Drop> Drop for Running<'a, R, D> {
             held: _,
             standing: _,
             changed: _,
-            stopping: _,
+            call: _,
+            called: _,
         } = self;
     }
 }
 
+/// What came of asking the clock.
+#[derive(Drop)]
+pub struct Ticked {
+    /// What the node does after it.
+    pub pulse: Pulse,
+    /// After how long to ask again.
+    pub wait: u64,
+    /// Copies of what a beat has sent, as far as there was memory for them; none where it was no beat.
+    pub beat: Option<Vec<Send<Op>>>,
+}
+
+/// Copies of what is sent.
+pub fn copies(alloc: Global, sends: &[Send<Op>]) -> Result<Vec<Send<Op>>, AllocError> {
+    let mut copied = Vec::with_capacity(alloc, sends.len())?;
+    for send in sends {
+        copied.push(Send {
+            to: send.to,
+            message: copy_message(alloc, &send.message)?,
+        })?;
+    }
+    Ok(copied)
+}
+
+/// Hands over what a step sends.
+fn send_outputs<P: Peers>(peers: &mut P, outputs: Outputs<Op>)
+    ensures { TakesAll P.takes peers.old outputs.sends.items peers.new }
+{
+    let Outputs {
+        sends,
+        store: _,
+        replies: _,
+    } = outputs;
+    send_all(peers, sends);
+}
+
+/// Hands an event to the node, and over what its step sends.
+fn take<R: Wait, D: Device, P: Peers>(
+    alloc: Global,
+    held: &mut Held<'_, R, D>,
+    peers: &mut P,
+    event: Event<Op>,
+) -> Result<(), NodeError>
+    ensures sent { OnOk result (TakesStep D P.takes event peers.old peers.new) }
+    ensures nothing { OnErr result (peers.new ≡ peers.old) }
+{
+    let handled = held.handle(alloc, event)?;
+    send_outputs(peers, handled.outputs);
+    Ok(())
+}
+
+/// Hands the message of another replica to the node, likewise.
+fn take_message<R: Wait, D: Device, P: Peers>(
+    alloc: Global,
+    held: &mut Held<'_, R, D>,
+    peers: &mut P,
+    from: u64,
+    message: PeerMessage<Op>,
+    now: u64,
+) -> Result<(), NodeError>
+    ensures sent { OnOk result (TakesStep D P.takes (event.Message from message) peers.old peers.new) }
+    ensures nothing { OnErr result (peers.new ≡ peers.old) }
+{
+    let handled = held.hear(alloc, from, message, now)?;
+    send_outputs(peers, handled.outputs);
+    Ok(())
+}
+
+/// Lets the node make a beat, and copies what it sends. Without memory what it gives out is lost, and a node that stopped shows in its pulse.
+fn beat<R: Wait, D: Device, P: Peers>(
+    alloc: Global,
+    held: &mut Held<'_, R, D>,
+    peers: &mut P,
+) -> Option<Vec<Send<Op>>> {
+    let Ok(handled) = held.handle(alloc, Event::Beat) else {
+        return None;
+    };
+    let copied = copies(alloc, handled.outputs.sends.as_slice()).ok();
+    send_outputs(peers, handled.outputs);
+    copied
+}
+
+/// Does what is due; copies of what a beat has sent.
+fn act<R: Wait, D: Device, P: Peers>(
+    alloc: Global,
+    held: &mut Held<'_, R, D>,
+    peers: &mut P,
+    due: Due,
+) -> Option<Vec<Send<Op>>> {
+    match due {
+        Due::Nothing => None,
+        Due::Beat => beat(alloc, held, peers),
+        Due::Suspect => {
+            let _done = take(alloc, held, peers, Event::Suspect).is_ok();
+            None
+        }
+    }
+}
+
 impl<'a, R: Wait, D: Device> Running<'a, R, D> {
-    /// A node for threads to share, and the publisher to its seats, which was given nothing yet.
-    pub(crate) fn new(node: Node<D>, publisher: Publisher<Here, &'a R>) -> Running<'a, R, D>
+    /// A node for threads to share, and the publisher to its seats, which was given nothing yet. Its clock begins at the moment 0.
+    pub(crate) fn new(
+        node: Node<D>,
+        publisher: Publisher<Here, &'a R>,
+        times: Times,
+    ) -> Running<'a, R, D>
         requires shows { IsGiven node.executed publisher 0 }
     {
+        let status = status_of(node.standing());
+        let clock = ReplicaClock::new(
+            times,
+            node.index(),
+            node.count(),
+            node.view_number(),
+            status,
+            0,
+        );
         Running {
             standing: LastStanding::new(node.standing()),
-            held: Mutex::new(Held::new(node, publisher)),
+            held: Mutex::new(Held::new(node, publisher, clock)),
             changed: Condvar::new(),
-            stopping: Condvar::new(),
+            call: Mutex::new(Call {
+                is_early: false,
+                is_stopping: false,
+            }),
+            called: Condvar::new(),
         }
     }
 
-    /// Hands an event to the node under its lock, which shows the seats what it then has executed.
-    fn take(&self, rt: &R, alloc: Global, event: Event<Op>) -> Result<Handled, NodeError> {
-        let mut held = self.held.lock(rt);
-        let handled = held.handle(alloc, event);
-        self.standing.set(held.node().standing());
-        handled
-    }
-
-    /// Hands an event to the node, tells those who wait, and sends what the step sends. What it sends is sent in the order of the step, and
-    /// not in the order of the steps. Its errors are the node's.
+    /// Hands an event to the node, which shows the seats what it then has executed; hands over what the step sends, in the order of the steps; and tells
+    /// those who wait. Its errors are the node's.
     pub fn handle<P: Peers>(
         &self,
         rt: &R,
         alloc: Global,
-        peers: &P,
+        peers: &mut P,
         event: Event<Op>,
-    ) -> Result<(), NodeError> {
-        let handled = self.take(rt, alloc, event);
+    ) -> Result<(), NodeError>
+        ensures sent { OnOk result (TakesStep D P.takes event peers.old peers.new) }
+        ensures nothing { OnErr result (peers.new ≡ peers.old) }
+    {
+        let mut held = self.held.lock(rt);
+        let done = take(alloc, &mut held, peers, event);
+        self.standing.set(held.node().standing());
+        drop(held);
         self.changed.notify_all();
-        let Handled { outputs, behind: _ } = handled?;
-        let Outputs {
-            sends,
-            store: _,
-            replies: _,
-        } = outputs;
-        for send in sends {
-            peers.send(send.to, send.into_message());
+        done
+    }
+
+    /// Hands the message of another replica to the node, at this moment, as `handle` does.
+    pub fn hear<P: Peers>(
+        &self,
+        rt: &R,
+        alloc: Global,
+        peers: &mut P,
+        from: u64,
+        message: PeerMessage<Op>,
+        now: u64,
+    ) -> Result<(), NodeError>
+        ensures sent { OnOk result (TakesStep D P.takes (event.Message from message) peers.old peers.new) }
+        ensures nothing { OnErr result (peers.new ≡ peers.old) }
+    {
+        let mut held = self.held.lock(rt);
+        let before = held.ask_at();
+        let done = take_message(alloc, &mut held, peers, from, message, now);
+        let is_early = held.ask_at() < before;
+        self.standing.set(held.node().standing());
+        drop(held);
+        self.changed.notify_all();
+        if is_early {
+            self.call_early(rt);
         }
-        Ok(())
+        done
+    }
+
+    /// A part of a long message of another replica has come, at this moment.
+    pub fn hear_part(&self, rt: &R, from: u64, now: u64) {
+        self.held.lock(rt).hear_part(from, now);
+    }
+
+    /// The clock is to be asked earlier than it said.
+    fn call_early(&self, rt: &R) {
+        self.call.lock(rt).is_early = true;
+        self.called.notify_all();
+    }
+
+    /// Asks the node's clock, at this moment, and does what is due, as `handle` does; none, where another thread has the node just then.
+    pub fn tick<P: Peers>(
+        &self,
+        rt: &R,
+        alloc: Global,
+        peers: &mut P,
+        now: u64,
+    ) -> Option<Ticked> {
+        let mut held = self.held.try_lock()?;
+        let Asked { due, wait } = held.ask(now);
+        let beat = act(alloc, &mut held, peers, due);
+        held.note(now);
+        let pulse = held.pulse();
+        self.standing.set(pulse.standing);
+        drop(held);
+        self.changed.notify_all();
+        Some(Ticked { pulse, wait, beat })
     }
 
     #[tactic(auto, using(crate::proofs::Shares::ended_so))]
@@ -108,21 +285,25 @@ impl<'a, R: Wait, D: Device> Running<'a, R, D> {
         self.held.lock(rt).pulse()
     }
 
-    /// Waits for so long, or until it is stopped; whether it is.
+    /// Waits for so long, or until the clock is to be asked earlier, or until it is stopped; whether it is.
     pub fn rest(&self, rt: &R, time: Duration) -> bool
     where
         R: Clock,
     {
-        let (held, _) = self
-            .stopping
-            .wait_timeout_while(rt, self.held.lock(rt), time, |held| !held.is_stopping);
-        held.is_stopping
+        let (mut call, _) = self
+            .called
+            .wait_timeout_while(rt, self.call.lock(rt), time, |call| {
+                !call.is_stopping && !call.is_early
+            });
+        call.is_early = false;
+        call.is_stopping
     }
 
     /// Nobody waits any more: what is still to come counts as lost.
     pub fn stop(&self, rt: &R) {
         self.held.lock(rt).is_stopping = true;
         self.changed.notify_all();
-        self.stopping.notify_all();
+        self.call.lock(rt).is_stopping = true;
+        self.called.notify_all();
     }
 }
