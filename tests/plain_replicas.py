@@ -126,6 +126,8 @@ class Replica:
     def suspect(self) -> None:
         if self.status != RECOVERING:
             self.enter(self.view + 1)
+        elif len(self.responses) > self.faults and all(view < self.stored_view for view, _ in self.responses.values()):
+            self.send_all("change", self.stored_view)
 
     def crash(self) -> None:
         self.is_up = False

@@ -76,6 +76,14 @@ end_recovery_at r v held = recovery.end_recovery r.count r.index (state r) v hel
 abbrev pub beat_recovering_at : {P : Type 0} → Replica P → Outcome P
 beat_recovering_at r = recovery.beat_recovering r.count r.index (state r)
 
+-- F + 1 have answered, all in views below its own (this project).
+abbrev pub is_ahead_at : {P : Type 0} → Replica P → Bool
+is_ahead_at r = recovery.is_ahead r.count (state r)
+
+-- A suspicion comes while it recovers (this project).
+abbrev pub remind_at : {P : Type 0} → Replica P → Outcome P
+remind_at r = recovery.remind r.count r.index (state r)
+
 -- Replica i of n comes back in its stored view v with nonce x, and asks all others (VRR 4.3, step 1).
 abbrev pub recovers : {P : Type 0} → ℕ → ℕ → ℕ → ℕ → Outcome P
 recovers n i v x = sending (recovering n v x) (to_all n i (Recovery x))
@@ -83,6 +91,10 @@ recovers n i v x = sending (recovering n v x) (to_all n i (Recovery x))
 -- A timer goes off.
 abbrev pub beat_at : {P : Type 0} → Replica P → Outcome P
 beat_at r = steps.on_beat r.count r.index (state r) r.status
+
+-- A suspicion comes.
+abbrev pub suspicion_at : {P : Type 0} → Replica P → Outcome P
+suspicion_at r = steps.on_suspicion r.count r.index (state r) r.status
 
 -- A message of another replica comes.
 abbrev pub peer_message_at : {P : Type 0} → Replica P → ℕ → PeerMessage P → Outcome P

@@ -1,14 +1,16 @@
 // A replica comes back after a crash: it has its stored view and a nonce, and asks all others for the state.
-// In: its index, the count, the stored view and a nonce. Out: the replica and its first outputs, by VRR 4.3, step 1.
+// In: its index, the count, the stored view and a nonce, later a beat or a suspicion. Out: the replica and what it sends, by VRR 4.3, step 1.
 // Where the view and the nonce come from isn't said here.
 ghost use Rattle.std.specs.Prelude.{◌≡◌, ◌<◌, IfOk, None};
-ghost use Rattle.vr_recover.specs.Rules.{beat_recovering_at, recovers};
+ghost use Rattle.vr_recover.specs.Rules.{beat_recovering_at, is_ahead_at, recovers, remind_at};
 ghost use Rattle.vr_state.specs.Outcome.{to_all};
 ghost use Rattle.vr_state.specs.declared.message.PeerMessage.TheVariants.{Recovery};
 ghost use Rattle.vr_state.specs.Views.{state, outcome, view_to_store};
 
+use crate::responses::latest_view;
 use std::alloc::{AllocError, Global};
 use vr_state::message::{Outputs, PeerMessage, Send};
+use vr_state::noting::count_noted;
 use vr_state::payload::Payload;
 use vr_state::replica::Replica;
 use vr_state::sending::{send_all, sending};
@@ -44,6 +46,31 @@ pub fn beat_recovering<P: Payload>(
 {
     let sends = ask_all(alloc, replica.count, replica.index, replica.nonce)?;
     Ok(sending(alloc, sends))
+}
+
+#[tactic(auto, using(vr_state::proofs::Stores::none_to_store))]
+/// A suspicion at a replica that recovers: where f + 1 have answered, all in views below its own, it sends its STARTVIEWCHANGE to all
+/// others again, since nobody may have heard of its view. Its only error is want of memory.
+pub fn remind<P: Payload>(alloc: Global, replica: &Replica<P>) -> Result<Outputs<P>, AllocError>
+    ensures step { IfOk result (λ out. outcome replica.now out ≡ remind_at replica.now) }
+    ensures store { IfOk result (λ out. out.store ≡ view_to_store (state replica.now) (state replica.now)) }
+{
+    if !is_ahead(replica) {
+        return Ok(sending(alloc, Vec::new(alloc)));
+    }
+    let message = PeerMessage::StartViewChange {
+        view_number: replica.view_number,
+    };
+    let sends = send_all(alloc, replica.count, replica.index, &message)?;
+    Ok(sending(alloc, sends))
+}
+
+/// Whether f + 1 have answered, all of them in views below its own.
+fn is_ahead<P: Drop>(replica: &Replica<P>) -> bool
+    ensures { result ≡ is_ahead_at replica.now }
+{
+    replica.count / 2 < count_noted(&replica.responses, replica.count)
+        && latest_view(&replica.responses, replica.count) < replica.view_number
 }
 
 /// A RECOVERY with this nonce, to all but the replica itself. Its only error is want of memory.

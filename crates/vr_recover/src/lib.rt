@@ -11,7 +11,7 @@ mod responses;
 mod state_transfer;
 mod stepping;
 
-pub use coming_back::{beat_recovering, recover};
+pub use coming_back::{beat_recovering, recover, remind};
 pub use recovery::on_recovery;
 pub use responding::on_recovery_response;
 pub use state_transfer::{on_get_state, on_new_state};

@@ -2,10 +2,10 @@
 // In: a replica and an event. Out: the replica after it, the view to store, what it sends and what it answers.
 // No rule is here: each stands with its handler.
 ghost use Rattle.std.specs.Prelude.{◌≡◌, ◌==◌, ◌&&◌, not, nat_lt, IfOk, OnErr};
-ghost use Rattle.vr_recover.specs.Rules.{beat_at, message_at, peer_message_at, step_at};
+ghost use Rattle.vr_recover.specs.Rules.{beat_at, message_at, peer_message_at, step_at, suspicion_at};
 ghost use Rattle.vr_state.specs.Views.{state, outcome, view_to_store};
 
-use crate::coming_back::beat_recovering;
+use crate::coming_back::{beat_recovering, remind};
 use crate::recovery::on_recovery;
 use crate::responding::on_recovery_response;
 use crate::state_transfer::{on_get_state, on_new_state};
@@ -37,8 +37,25 @@ pub fn step<P: Payload>(
     match event {
         Event::Request { entry } => on_request(alloc, replica, entry),
         Event::Message { from, message } => on_message(alloc, replica, from, message),
-        Event::Suspect => on_suspect(alloc, replica),
+        Event::Suspect => on_suspicion(alloc, replica),
         Event::Beat => on_beat(alloc, replica),
+    }
+}
+
+/// What comes with a suspicion, by the replica's status. At an error nothing has changed.
+fn on_suspicion<P: Payload>(
+    alloc: Global,
+    replica: &mut Replica<P>,
+) -> Result<Outputs<P>, AllocError>
+    ensures step { IfOk result (λ out. outcome replica.new out ≡ suspicion_at replica.old) }
+    ensures store { IfOk result (λ out. out.store ≡ view_to_store (state replica.old) (state replica.new)) }
+    ensures err { OnErr result (state replica.new ≡ state replica.old) }
+    ensures index { replica.new.index ≡ replica.old.index }
+    ensures count { replica.new.count ≡ replica.old.count }
+{
+    match replica.status {
+        Status::Normal | Status::ViewChange => on_suspect(alloc, replica),
+        Status::Recovering => remind(alloc, replica),
     }
 }
 
