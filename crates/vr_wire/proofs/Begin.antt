@@ -1,10 +1,9 @@
 -- Frames: what the first octets of a frame say, behind its length.
-use Rattle.std.proofs.Common.{◌≡◌, ℕ, suc, ◌<◌, ◌≤◌, ◌==◌, ◌&&◌, Bool, true, cond, nat_lt, List, [], ◌∷◌, ◌++◌, length, take, drop, slice_index, get_or}
+use Rattle.std.proofs.Common.{◌≡◌, ℕ, ◌==◌, ◌&&◌, true, nat_lt, List, [], ◌∷◌, ◌++◌, length, take, drop, slice_index}
 use Rattle.std.proofs.Common.{Option, Some, None, refl, sym, ap, subst, ◌∙◌, arith, inl, inr, eqb-true}
 use Rattle.std.specs.Int.{w64, from_be_bytes}
-use Rattle.std.proofs.lemmas.Bool.{ltb-true, lt-ltb}
+use Rattle.std.proofs.lemmas.Bool.{lt-ltb}
 use Rattle.std.proofs.lemmas.List.{length-take, length-drop}
-use Rattle.ldap_op.specs.Values.{OpValue}
 use Rattle.view_store.specs.Cluster.{IsCluster, cluster_octets}
 use Rattle.vr_state.specs.declared.message.PeerMessage.{PeerMessage}
 use Rattle.vr_state.specs.declared.message.PeerMessage.TheVariants.{Prepare, PrepareOk, Commit, StartViewChange, DoViewChange, StartView, GetState}
@@ -12,7 +11,7 @@ use Rattle.vr_state.specs.declared.message.PeerMessage.TheVariants.{NewState, Re
 use Rattle.vr_wire.specs.Frames.{kind_of}
 use Rattle.vr_wire.specs.Heading.{is_kind, Tells, heading_of, heading_by, Begins, IsAnyFrame}
 use Rattle.vr_wire.proofs.Fields.{IsBytes, IsBytes-drop, IsBytes-take, guard_some, some_is, read_cluster, written_six}
-use Rattle.vr_wire.proofs.Messages.{both_hold, all_hold, not_some}
+use Rattle.vr_wire.proofs.Messages.{both_hold, not_some}
 
 -- the octets behind the length of a frame, up to the sender
 abbrev pub first_octets : ℕ → ℕ → ℕ → List ℕ

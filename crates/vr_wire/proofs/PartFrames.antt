@@ -1,6 +1,6 @@
 -- Frames: a part that is cut was spelled so, and one that was spelled is cut again; and what octets say.
-use Rattle.std.proofs.Common.{◌≡◌, ◌≢◌, ℕ, ◌+◌, ◌^◌, ◌<◌, ◌≤◌, ◌==◌, ◌&&◌, Bool, true, cond, nat_lt, nat_le, List, [], ◌∷◌, ◌++◌, length, inl, inr}
-use Rattle.std.proofs.Common.{get_or, Option, Some, None, refl, sym, ap, subst, ◌∙◌, append_assoc, arith, eq-eqb, eqb-true}
+use Rattle.std.proofs.Common.{◌≡◌, ℕ, ◌+◌, ◌^◌, ◌<◌, ◌≤◌, ◌==◌, ◌&&◌, true, cond, nat_lt, nat_le, List, ◌∷◌, ◌++◌, length, inl, inr}
+use Rattle.std.proofs.Common.{Some, None, refl, sym, ap, subst, ◌∙◌, append_assoc, arith, eq-eqb, eqb-true}
 use Rattle.std.specs.Int.{w64, from_be_bytes}
 use Rattle.std.proofs.lemmas.Bool.{ltb-true, lt-ltb, le-leb, leb-true}
 use Rattle.std.proofs.lemmas.List.{length-append}
@@ -10,13 +10,12 @@ use Rattle.view_store.specs.Cluster.{IsCluster, cluster_octets}
 use Rattle.vr_state.specs.declared.message.PeerMessage.{PeerMessage}
 use Rattle.vr_wire.specs.declared.error.WireError.{WireError}
 use Rattle.vr_wire.specs.declared.error.WireError.TheVariants as error
-use Rattle.vr_wire.specs.declared.labels.Label.{Label}
 use Rattle.vr_wire.specs.declared.labels.Portion.{Portion}
-use Rattle.vr_wire.specs.Frames.{limit, number, short, kind_of, body_octets, IsInRange}
+use Rattle.vr_wire.specs.Frames.{limit, number, short, kind_of, body_octets}
 use Rattle.vr_wire.specs.Cutting.{then, Fails, cut_octet, cut_octets, cut_short, cut_head, cut_body, sized}
 use Rattle.vr_wire.specs.Payloads.{Refuses, IsMessageOf}
-use Rattle.vr_wire.specs.Parts.{portion_octets, part_rest, part_octets, cut_long, cut_place, portion_of, cut_portion, cut_part_said, cut_part_rest}
-use Rattle.vr_wire.specs.Parts.{cut_part, IsPart, IsSaying, saying_octets, cut_saying}
+use Rattle.vr_wire.specs.Parts.{portion_octets, part_rest, cut_long, cut_place, portion_of, cut_portion, cut_part_said, cut_part_rest}
+use Rattle.vr_wire.specs.Parts.{cut_part, IsPart, IsSaying, cut_saying}
 use Rattle.vr_wire.proofs.Fields.{IsBytes, then_some, guard_some, some_is, Takes, Takes-then, octet_takes, octet_again, octets_take, octets_again}
 use Rattle.vr_wire.proofs.Fields.{short_takes, short_again}
 use Rattle.vr_wire.proofs.Messages.{chosen, both_hold, all_hold, head_takes, head_again, body_takes, body_again, not_some}

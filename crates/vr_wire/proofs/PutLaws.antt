@@ -7,9 +7,9 @@ use Rattle.ldap_op.specs.ldap_updates.ldap_ber.Element.{element_bytes, length_oc
 use Rattle.vr_state.specs.declared.words.Entry.{Entry}
 use Rattle.vr_wire.specs.declared.error.WireError.{WireError}
 use Rattle.vr_wire.specs.declared.error.WireError.TheVariants as error
-use Rattle.vr_wire.specs.Frames.{limit, short, entry_octets, entries_octets}
+use Rattle.vr_wire.specs.Frames.{short, entry_octets, entries_octets}
 use Rattle.vr_wire.specs.Payloads.{written_entry, written_log}
-use Rattle.vr_wire.specs.Putting.{most_under, IsLonger, PutsAlways, PutsWithin}
+use Rattle.vr_wire.specs.Putting.{IsLonger, PutsAlways, PutsWithin}
 
 -- what is longer is too long too
 pub longer : (most : ℕ) (e : WireError) (m n : ℕ) → m ≤ n → IsLonger most e m → IsLonger most e n

@@ -1,16 +1,14 @@
 -- Frames: the parts of a message give it, and nothing else does.
-use Rattle.std.proofs.Common.{◌≡◌, ◌≢◌, ℕ, zero, suc, ◌+◌, ◌^◌, ◌<◌, ◌≤◌, ◌⊎◌, inl, inr, ◌==◌, ◌&&◌, Bool, true, false, cond, nat_lt, List, [], ◌∷◌}
+use Rattle.std.proofs.Common.{◌≡◌, ◌≢◌, ℕ, suc, ◌+◌, ◌^◌, ◌<◌, ◌≤◌, ◌⊎◌, inl, inr, ◌==◌, ◌&&◌, Bool, true, false, cond, nat_lt, List, [], ◌∷◌}
 use Rattle.std.proofs.Common.{◌++◌, length, Option, Some, None, Result, Ok, Err, refl, sym, ap, subst, ◌∙◌, append_assoc, append-nil, arith, eq-eqb, eqb-true, true≢false}
-use Rattle.std.proofs.lemmas.Bool.{ltb-true, lt-ltb, cases_lt}
+use Rattle.std.proofs.lemmas.Bool.{lt-ltb, cases_lt}
 use Rattle.std.proofs.lemmas.List.{length-append}
 use Rattle.std.specs.Bool.{MatchBool}
 use Rattle.std.specs.List.{concat, AllByRecursion}
 use Rattle.ldap_op.specs.Values.{OpValue}
-use Rattle.view_store.specs.Cluster.{IsCluster}
 use Rattle.vr_state.specs.declared.message.PeerMessage.{PeerMessage}
 use Rattle.vr_wire.specs.declared.error.WireError.{WireError}
 use Rattle.vr_wire.specs.declared.error.WireError.TheVariants as error
-use Rattle.vr_wire.specs.declared.labels.Label.{Label}
 use Rattle.vr_wire.specs.declared.labels.Portion.{Portion}
 use Rattle.vr_wire.specs.declared.gathering.Came.{Came}
 use Rattle.vr_wire.specs.declared.gathering.Came.TheVariants as came
@@ -18,10 +16,10 @@ use Rattle.vr_wire.specs.Heap.{Heap}
 use Rattle.vr_wire.specs.Frames.{limit}
 use Rattle.vr_wire.specs.Payloads.{written, IsMessageOf}
 use Rattle.vr_wire.specs.Parts.{part_octets, parts_from, ArePartsOf, IsPart, IsSaying}
-use Rattle.vr_wire.specs.Gathering.{is_next, begun, with_part, gathered, IsRead, ComesOfPart, TakesPart, TakesFrame, TakesForeign, TakesNothing, Takes, TakesAll}
-use Rattle.vr_wire.specs.PartLaws.{WrittenIsSaying, message_at_last, PartsGiveMessage, EndsWithParts, OnlyPartsGiveMessage}
+use Rattle.vr_wire.specs.Gathering.{is_next, begun, with_part, gathered, IsRead, ComesOfPart, Takes, TakesAll}
+use Rattle.vr_wire.specs.PartLaws.{WrittenIsSaying, EndsWithParts, OnlyPartsGiveMessage}
 use Rattle.vr_wire.proofs.OneFrame.{OneUpdate, UpdatesAreWritten, one_message, message_written}
-use Rattle.vr_wire.proofs.PartFrames.{one_part, saying_again}
+use Rattle.vr_wire.proofs.PartFrames.{saying_again}
 use Rattle.vr_wire.proofs.Fields.{some_is}
 use Rattle.vr_wire.proofs.Messages.{both_hold, all_hold}
 

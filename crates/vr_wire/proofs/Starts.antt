@@ -1,7 +1,7 @@
 -- Frames: the parts of a message, taken in their order, give the message.
 use Rattle.std.proofs.Common.{◌≡◌, ◌≢◌, ℕ, zero, suc, ◌+◌, ◌^◌, ◌<◌, ◌≤◌, ◌⊎◌, inl, inr, ◌==◌, Bool, true, false, cond, nat_lt, List, [], ◌∷◌}
 use Rattle.std.proofs.Common.{◌++◌, length, Option, Some, None, Result, Ok, Err, refl, sym, ap, subst, ◌∙◌, append_assoc, append-nil, arith, eq-eqb, eqb-true}
-use Rattle.std.proofs.lemmas.Bool.{ltb-true, lt-ltb, cases_lt}
+use Rattle.std.proofs.lemmas.Bool.{ltb-true, lt-ltb}
 use Rattle.std.specs.Bool.{MatchBool}
 use Rattle.std.specs.List.{concat, AllByRecursion}
 use Rattle.ldap_op.specs.Values.{OpValue}
@@ -9,15 +9,13 @@ use Rattle.view_store.specs.Cluster.{IsCluster}
 use Rattle.vr_state.specs.declared.message.PeerMessage.{PeerMessage}
 use Rattle.vr_wire.specs.declared.error.WireError.{WireError}
 use Rattle.vr_wire.specs.declared.error.WireError.TheVariants as error
-use Rattle.vr_wire.specs.declared.labels.Label.{Label}
 use Rattle.vr_wire.specs.declared.labels.Portion.{Portion}
 use Rattle.vr_wire.specs.declared.gathering.Came.{Came}
 use Rattle.vr_wire.specs.declared.gathering.Came.TheVariants as came
 use Rattle.vr_wire.specs.Heap.{Heap}
 use Rattle.vr_wire.specs.Frames.{limit}
-use Rattle.vr_wire.specs.Payloads.{Refuses}
-use Rattle.vr_wire.specs.Parts.{part_octets, parts_from, ArePartsOf, IsPart, IsSaying}
-use Rattle.vr_wire.specs.Gathering.{is_next, begun, with_part, gathered, IsRead, ComesOfPart, TakesPart, Takes, TakesAll}
+use Rattle.vr_wire.specs.Parts.{part_octets, parts_from, IsPart, IsSaying}
+use Rattle.vr_wire.specs.Gathering.{is_next, begun, with_part, gathered, IsRead, ComesOfPart, Takes, TakesAll}
 use Rattle.vr_wire.specs.PartLaws.{message_at_last, PartsGiveMessage}
 use Rattle.vr_wire.proofs.OneFrame.{OneUpdate}
 use Rattle.vr_wire.proofs.PartFrames.{one_part}

@@ -2,10 +2,8 @@
 -- In: what was gathered, and a frame. Out: what comes of it, and what is gathered then. Not here: how frames are spelled.
 use Rattle.std.specs.Prelude.{◌≡◌, ◌≢◌, ◌⊎◌, ◌+◌, ◌==◌, ◌&&◌, cond, nat_lt, Bool, ℕ, List, [], ◌∷◌, ◌++◌, Option, Some, None, Result, Ok, Err}
 use Rattle.std.specs.Bool.{MatchBool}
-use Rattle.ldap_op.specs.Values.{OpValue}
 use Rattle.vr_wire.specs.declared.error.WireError.{WireError}
 use Rattle.vr_wire.specs.declared.error.WireError.TheVariants as error
-use Rattle.vr_wire.specs.declared.labels.Label.{Label}
 use Rattle.vr_wire.specs.declared.labels.Portion.{Portion}
 use Rattle.vr_wire.specs.declared.gathering.Came.{Came}
 use Rattle.vr_wire.specs.declared.gathering.Came.TheVariants as came

@@ -1,6 +1,6 @@
 -- Frames: what holds of messages in parts.
 -- In: frames taken one after the other. Out: three laws, which the crate proves. Not here: what comes of one frame.
-use Rattle.std.specs.Prelude.{◌≡◌, ◌≢◌, ◌<◌, ◌^◌, ℕ, List, [], ◌∷◌, ◌++◌, length, Option, Some, None, Result, Ok, Err}
+use Rattle.std.specs.Prelude.{◌≡◌, ◌≢◌, ◌<◌, ◌^◌, ℕ, List, [], ◌∷◌, ◌++◌, Option, None, Result, Ok, Err}
 use Rattle.std.specs.List.{AllByRecursion}
 use Rattle.ldap_op.specs.Values.{OpValue}
 use Rattle.view_store.specs.Cluster.{IsCluster}

@@ -11,7 +11,6 @@ use Rattle.view_store.specs.Cluster.{IsCluster, cluster_octets}
 use Rattle.vr_state.specs.declared.message.PeerMessage.{PeerMessage}
 use Rattle.vr_wire.specs.declared.error.WireError.{WireError}
 use Rattle.vr_wire.specs.declared.error.WireError.TheVariants as error
-use Rattle.vr_wire.specs.declared.labels.Label.{Label}
 use Rattle.vr_wire.specs.declared.labels.Portion.{Portion}
 use Rattle.vr_wire.specs.Frames.{limit, number, short, kind_of, body_octets, frame_octets, IsInRange}
 use Rattle.vr_wire.specs.Cutting.{then, cut_octet, cut_octets, cut_short, cut_head, cut_body, sized}

@@ -35,14 +35,6 @@ abbrev pub WritesWithin : {X : Type 0} → ℕ → (X → List ℕ) → Result X
 WritesWithin most view (Ok x) text = view x ≡ text
 WritesWithin most view (Err e) text = IsLonger most e (length text)
 
--- what is refused as too long is longer than the limit
-abbrev pub IsTooLong : WireError → ℕ → Type 0
-IsTooLong e len = IsLonger limit e len
-
--- these octets stand at the end now; or with them there would be more than the limit, or memory ran out
-abbrev pub Puts : Result (Unit {0}) WireError → List ℕ → List ℕ → List ℕ → Type 0
-Puts r old new text = PutsWithin limit r old new text
-
 -- these octets are made; or they are more than the limit, or memory ran out
 abbrev pub Writes : {X : Type 0} → (X → List ℕ) → Result X WireError → List ℕ → Type 0
 Writes view r text = WritesWithin limit view r text

@@ -1,10 +1,10 @@
 //! Frames: a message that one frame can't hold is cut in parts. Takes a message; gives its frames one at a time. How parts are put together
 //! is not here.
 ghost use Rattle.std.specs.Prelude.{◌≡◌, ◌≤◌, ◌<◌, ◌+◌, ◌-◌, ◌*◌, ◌^◌, ◌∷◌, [], ◌++◌, length, take, drop, min, max, slice_index};
-ghost use Rattle.vr_wire.specs.Frames.{limit, number, short, frame_octets};
+ghost use Rattle.vr_wire.specs.Frames.{limit, number, short};
 ghost use Rattle.vr_wire.specs.Payloads.{written};
 ghost use Rattle.vr_wire.specs.Putting.{PutsAlways, WritesAlways};
-ghost use Rattle.vr_wire.specs.Parts.{part_head, part_rest, part_octets, portion_octets, MakesFrames, MakesParts, HandsOut, HandsFrame, IsFrameWithin};
+ghost use Rattle.vr_wire.specs.Parts.{part_head, part_rest, part_octets, MakesFrames, MakesParts, HandsFrame, IsFrameWithin};
 ghost use Rattle.vr_wire.specs.Left.{parts_left, AreLeft};
 
 use crate::error::WireError;

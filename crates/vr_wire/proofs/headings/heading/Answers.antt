@@ -1,7 +1,6 @@
 -- Frames: what the first octets say is refused only where no frame begins so.
-use Rattle.std.proofs.Common.{◌≡◌, ℕ, sym, subst, ap, ◌∙◌}
+use Rattle.std.proofs.Common.{◌≡◌, ℕ, sym, ap, ◌∙◌}
 use Rattle.vr_wire.proofs.Begin.{tells_nothing, tells_another, first_octets}
-use Rattle.vr_wire.specs.Heading.{is_kind}
 use Rattle.vr_wire.proofs.headings.heading.Goals as goal
 
 pub returns-in-None : goal.returns-in-None

@@ -1,5 +1,5 @@
 -- Frames: the pieces of a message are its parts.
-use Rattle.std.proofs.Common.{◌≡◌, ℕ, ◌+◌, ◌-◌, ◌*◌, ◌^◌, ◌<◌, ◌≤◌, List, length, drop, ap, sym, subst, arith}
+use Rattle.std.proofs.Common.{◌≡◌, ℕ, ◌-◌, ◌*◌, ◌<◌, ◌≤◌, length, drop, sym, subst, arith}
 use Rattle.std.proofs.lemmas.List.{length-drop}
 use Rattle.vr_wire.specs.Parts.{parts_from, pieces_of, ArePartsWithin}
 use Rattle.vr_wire.proofs.Pieces.{made}

@@ -1,5 +1,5 @@
 -- Frames: the next part is handed out, and the others are left.
-use Rattle.std.proofs.Common.{◌≡◌, ◌<◌, ◌≤◌, length, drop, arith}
+use Rattle.std.proofs.Common.{◌<◌, drop, arith}
 use Rattle.vr_wire.proofs.Pieces.{handed, part_small}
 use Rattle.vr_wire.proofs.parts.next_part.Goals as goal
 

@@ -1,10 +1,9 @@
 -- Frames: what comes of a frame, by whether it is a part, and whose.
-use Rattle.std.proofs.Common.{◌≡◌, ◌≢◌, ◌<◌, ◌+◌, ◌^◌, ℕ, List, Option, Some, None, sym, ap, subst, ◌∙◌, arith}
+use Rattle.std.proofs.Common.{◌≡◌, ◌≢◌, ℕ, Option, Some, None, sym, ap, subst, ◌∙◌, arith}
 use Rattle.std.specs.Option.{option_map}
 use Rattle.vr_wire.specs.Gathering.{gathered, ComesOfPart}
 use Rattle.vr_wire.specs.Heap.{Heap, heap_of, PartTaken}
 use Rattle.vr_wire.specs.Parts.{IsPart, cut_part}
-use Rattle.vr_wire.specs.declared.labels.Portion.{Portion}
 use Rattle.vr_wire.proofs.PartFrames.{part_takes}
 use Rattle.vr_wire.proofs.Comes.{taken_part, taken_frame, taken_foreign}
 use Rattle.vr_wire.proofs.gathering.Gathering.take.Goals as goal

@@ -1,5 +1,5 @@
 -- Frames: a message's frames are its one frame or its parts.
-use Rattle.std.proofs.Common.{◌≡◌, ℕ, ◌<◌, min, max, List, ◌∷◌, length, drop, slice_index, refl, ap, subst, ◌∙◌, arith}
+use Rattle.std.proofs.Common.{◌≡◌, ℕ, ◌<◌, min, max, List, ◌∷◌, length, drop, slice_index, ap, ◌∙◌, arith}
 use Rattle.std.proofs.lemmas.List.{length-append}
 use Rattle.std.proofs.lemmas.Result.{err_from_is_err_and}
 use Rattle.vr_wire.specs.Frames.{limit, short, rest_octets, frame_octets}
