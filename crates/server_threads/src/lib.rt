@@ -6,6 +6,7 @@
 mod crew;
 mod engine;
 mod fault;
+mod framing;
 mod guests;
 mod places;
 mod posting;

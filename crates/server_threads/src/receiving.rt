@@ -8,7 +8,7 @@ use std::alloc::Global;
 use std::io::{Eprint, Read};
 use std::sync::Wait;
 use std::time::Clock;
-use vr_wire::{Cluster, WireError, read, rest};
+use vr_wire::{Cluster, Op, PeerMessage, WireError, read, rest};
 
 /// What all readers of peers share.
 #[derive(Drop)]
@@ -46,10 +46,15 @@ fn next_frame<S: Read>(alloc: Global, reader: &mut S) -> Result<Vec<u8>, &'stati
 }
 
 impl<'a, R: Wait + Clock + Eprint, E: Engine> Hall<'a, R, E> {
+    /// The sender and the message of a frame: here frames become messages, and nowhere else.
+    fn message_of(&self, frame: &[u8]) -> Result<(u64, PeerMessage<Op>), &'static str> {
+        let (sender, message) = read(self.alloc, frame, self.cluster).map_err(refusal_of)?;
+        Ok((u64::from(sender), message))
+    }
+
     /// Hands the message of a frame to the node, and gives its sender; else why the connection ends.
     fn take_frame(&self, frame: &[u8]) -> Result<u64, &'static str> {
-        let (sender, message) = read(self.alloc, frame, self.cluster).map_err(refusal_of)?;
-        let from = u64::from(sender);
+        let (from, message) = self.message_of(frame)?;
         if self.engine.hear(from, message) {
             Ok(from)
         } else {

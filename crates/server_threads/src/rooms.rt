@@ -8,18 +8,19 @@ use peer_link::Outbox;
 use std::alloc::{AllocError, Global};
 use std::io::Write;
 use std::net::{Net, SocketAddr, TcpListener, TcpStream};
+use vr_wire::{Op, PeerMessage};
 
-/// How many frames wait for a replica, at most.
-const FRAMES: usize = 1024;
+/// How many messages wait for a replica, at most.
+const MESSAGES: usize = 1024;
 
-/// How many octets they have, at most, but for the newest.
-const OCTETS: usize = 67_108_864;
+/// What they weigh, at most, but for the newest: about the octets of memory that they take beside their payloads.
+const WEIGHT: usize = 67_108_864;
 
 /// The queues to all replicas.
-fn outboxes(alloc: Global, count: usize) -> Result<Vec<Outbox>, AllocError> {
+fn outboxes(alloc: Global, count: usize) -> Result<Vec<Outbox<PeerMessage<Op>>>, AllocError> {
     let mut boxes = Vec::new(alloc);
     for _ in 0..count {
-        boxes.push(Outbox::new(alloc, FRAMES, OCTETS)?)?;
+        boxes.push(Outbox::new(alloc, MESSAGES, WEIGHT)?)?;
     }
     Ok(boxes)
 }
@@ -47,7 +48,7 @@ pub struct Rooms {
     pub(crate) peers: TcpListener,
     pub(crate) client_door: Door,
     pub(crate) peer_door: Door,
-    pub(crate) boxes: Vec<Outbox>,
+    pub(crate) boxes: Vec<Outbox<PeerMessage<Op>>>,
     pub uris: Vec<String>,
     pub crew: Crew,
     pub sender: u8,

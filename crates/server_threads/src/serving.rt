@@ -2,6 +2,7 @@
 //! node behind them ends. What the node does is not here.
 use crate::engine::Engine;
 use crate::fault::ServerError;
+use crate::framing::MessageFrames;
 use crate::guests::Guest;
 use crate::places::Place;
 use crate::receiving::Hall;
@@ -36,12 +37,14 @@ where
     R: Net<Listener = TcpListener, Stream = TcpStream> + Threads + Wait + Clock + Eprint + Sync,
     E: Engine + Sync,
 {
-    /// Sends frames to one replica, until its queue is stopped.
+    /// Sends messages to one replica, until its queue is stopped.
     fn send_to(&self, to: usize) {
         if let (Some(outbox), Some(place)) = (self.rooms.boxes.get(to), self.places.get(to)) {
             let limit = Duration::from_millis(DIAL_LIMIT);
             let mut dialer = SocketDialer::new(self.rt, place.peer_address, limit);
-            send_all(self.rt, outbox, &mut dialer);
+            let sender = self.rooms.sender;
+            let mut frames = MessageFrames::new(self.rt, self.alloc, self.cluster, sender, to);
+            send_all(self.rt, outbox, &mut frames, &mut dialer);
         }
     }
 

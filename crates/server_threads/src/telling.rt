@@ -1,6 +1,7 @@
 //! What a server says of its connections on standard error, a line an event. Events flow in. That nobody reads it stops nothing.
 use client_link::SessionEnd;
 use std::io::Eprint;
+use vr_wire::WireError;
 
 /// A peer that was heard on a connection for the first time.
 pub fn tell_peer_came<R: Eprint>(rt: &R, sender: u64) {
@@ -26,4 +27,13 @@ pub fn tell_session<R: Eprint>(rt: &R, session: u64, end: SessionEnd) {
         SessionEnd::NoMemory => "out of memory",
     };
     let _ = eprintln!(rt; "session {session} ended: {why}");
+}
+
+/// A message that couldn't be made a frame of.
+pub fn tell_lost<R: Eprint>(rt: &R, to: usize, error: WireError) {
+    let why = match error {
+        WireError::NoMemory => "out of memory",
+        WireError::BadFrame | WireError::ForeignFrame => "it is too long for a frame",
+    };
+    let _ = eprintln!(rt; "a message to replica {to} is lost: {why}");
 }
