@@ -17,6 +17,6 @@ pub use framing::Framing;
 pub use outbox::Outbox;
 pub use patience::Patience;
 pub use queue::Queue;
-pub use reading::{FrameEnd, read_head, read_rest};
+pub use reading::{FrameEnd, read_head, read_more, read_rest};
 pub use sending::send_all;
 pub use weighted::Weighted;

@@ -1,8 +1,9 @@
 //! Messages become frames, in the thread that sends them and outside every lock. Queues and streams are not here.
+use crate::reporter::Reporter;
 use crate::telling::tell_lost;
 use peer_link::{Bytes, Framing};
 use std::alloc::Global;
-use std::io::Eprint;
+use std::sync::Wait;
 use vr_wire::{Cluster, Op, PeerMessage, WireError, write};
 
 /// The frame of a message of this sender in this cluster. E20 only where it would be over the limit of a frame.
@@ -19,10 +20,11 @@ fn frame_of(
     }
 }
 
-/// Makes the frames of messages to one replica. A message that can't be one is told of on standard error.
+/// Makes the frames of messages to one replica. A message that can't be one is told of.
 pub struct MessageFrames<'a, R> {
     rt: &'a R,
     alloc: Global,
+    reporter: &'a Reporter,
     cluster: Cluster,
     sender: u8,
     to: usize,
@@ -35,6 +37,7 @@ impl<'a, R> Drop for MessageFrames<'a, R> {
         let MessageFrames {
             rt: _,
             alloc: _,
+            reporter: _,
             cluster: _,
             sender: _,
             to: _,
@@ -48,6 +51,7 @@ impl<'a, R> MessageFrames<'a, R> {
     pub fn new(
         rt: &'a R,
         alloc: Global,
+        reporter: &'a Reporter,
         cluster: Cluster,
         sender: u8,
         to: usize,
@@ -55,6 +59,7 @@ impl<'a, R> MessageFrames<'a, R> {
         MessageFrames {
             rt,
             alloc,
+            reporter,
             cluster,
             sender,
             to,
@@ -63,12 +68,12 @@ impl<'a, R> MessageFrames<'a, R> {
     }
 }
 
-impl<'a, R: Eprint> Framing<PeerMessage<Op>> for MessageFrames<'a, R> {
+impl<'a, R: Wait> Framing<PeerMessage<Op>> for MessageFrames<'a, R> {
     fn begin(&mut self, message: PeerMessage<Op>) {
         self.next = match frame_of(self.alloc, self.cluster, self.sender, &message) {
             Ok(frame) => Some(frame),
             Err(error) => {
-                tell_lost(self.rt, self.to, error);
+                tell_lost(self.rt, self.alloc, self.reporter, self.to, error);
                 None
             }
         };

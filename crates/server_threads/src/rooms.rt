@@ -3,7 +3,8 @@
 use crate::crew::Crew;
 use crate::fault::ServerError;
 use crate::places::Place;
-use client_link::{Door, Limits};
+use crate::reporter::Reporter;
+use client_link::{Door, HasDoor, Limits};
 use peer_link::Outbox;
 use std::alloc::{AllocError, Global};
 use std::io::Write;
@@ -45,13 +46,22 @@ fn listen<R: Net<Listener = TcpListener, Stream = TcpStream>>(
 /// What a server's threads share, as it is made before they begin.
 pub struct Rooms {
     pub clients: TcpListener,
-    pub(crate) peers: TcpListener,
+    pub peers: TcpListener,
     pub(crate) client_door: Door,
     pub(crate) peer_door: Door,
     pub(crate) boxes: Vec<Outbox<PeerMessage<Op>>>,
     pub uris: Vec<String>,
     pub crew: Crew,
+    /// What is said on standard error.
+    pub reporter: Reporter,
     pub sender: u8,
+}
+
+/// The door at which clients wait.
+impl HasDoor for Rooms {
+    fn door(&self) -> &Door {
+        &self.client_door
+    }
 }
 
 // Not derived: see "What the gate takes" in docs/ARCHITECTURE.md.
@@ -65,6 +75,7 @@ impl Drop for Rooms {
             boxes: _,
             uris: _,
             crew: _,
+            reporter: _,
             sender: _,
         } = self;
     }
@@ -86,6 +97,7 @@ pub fn make_rooms<R: Net<Listener = TcpListener, Stream = TcpStream>>(
     };
     let boxes = outboxes(alloc, places.len())?;
     let uris = uris(alloc, places)?;
+    let reporter = Reporter::new(alloc)?;
     let clients = listen(rt, place.ldap_address)?;
     let peers = listen(rt, place.peer_address)?;
     Ok(Rooms {
@@ -96,6 +108,7 @@ pub fn make_rooms<R: Net<Listener = TcpListener, Stream = TcpStream>>(
         boxes,
         uris,
         crew: Crew::new(places.len()),
+        reporter,
         sender,
     })
 }
