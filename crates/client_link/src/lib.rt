@@ -11,12 +11,13 @@ mod gauge;
 mod headings;
 mod laws;
 mod limits;
+mod patience;
 mod peer;
 mod pieces;
 mod seats;
 mod serving;
 
-pub use accepting::{Arrives, accept_all, close};
+pub use accepting::{Arrives, HasDoor, accept_all, close};
 pub use client::{Client, ClientWriter};
 pub use connection::Connection;
 pub use door::Door;

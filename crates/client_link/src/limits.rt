@@ -10,7 +10,7 @@ const IDLE: u64 = 60;
 /// How long a read waits at most before the door and the clock are looked at, in milliseconds.
 const TURN: u64 = 200;
 
-/// After how many seconds a client that takes nothing of its answers is sent off, where nothing else is said.
+/// After how many seconds a client that lets an answer wait is sent off, where nothing else is said.
 const WRITE: u64 = 20;
 
 /// How long a server waits for a client, before it closes the connection.
@@ -20,7 +20,7 @@ pub struct Limits {
     pub message: Duration,
     /// For the next whole message, where another client waits for the place.
     pub idle: Duration,
-    /// For the client to take something of what is written.
+    /// For the client to take an answer: in all, and as long again for each MiB that it has taken of it.
     pub write: Duration,
 }
 

@@ -10,7 +10,7 @@ use std::net::TcpStream;
 use std::sync::Wait;
 use std::time::Clock;
 
-/// A stream that another replica, or a stranger, has opened.
+/// A stream that another replica, or a stranger, has opened. It is a stranger's until it is trusted.
 pub struct Peer<'a, R> {
     reader: PieceReader<'a, R, FrameHeading>,
 }
@@ -22,20 +22,32 @@ impl<'a, R> Drop for Peer<'a, R> {
     }
 }
 
-impl<'a, R: Wait + Clock> Arrives<'a, R> for Peer<'a, R> {
+impl<'a, R: Wait + Clock> Arrives<'a, R, Door> for Peer<'a, R> {
     fn arrive(
         rt: &'a R,
         _alloc: Global,
         door: &'a Door,
         socket: TcpStream,
     ) -> io::Result<Peer<'a, R>> {
-        let reader = PieceReader::new(rt, door, socket)?;
+        let mut reader = PieceReader::new(rt, door, socket)?;
+        reader.doubt();
         Ok(Peer { reader })
     }
 }
 
 impl<'a, R: Wait + Clock> Peer<'a, R> {
-    /// It is given a place: what frames are read from.
+    /// The first octets that have come, without taking them, as many as the buffer has room for; how many. Where none has come it fails with
+    /// `WouldBlock`, and where none will come there are 0.
+    pub fn peek(&self, octets: &mut [u8]) -> io::Result<usize> {
+        self.reader.peek(octets)
+    }
+
+    /// Whether 2 seconds have passed since it came.
+    pub fn is_late(&self) -> io::Result<bool> {
+        self.reader.is_strange_for_long()
+    }
+
+    /// It is given a place: what frames are read from. It is a stranger there, until it is trusted.
     pub fn seated(self, alloc: Global) -> io::Result<BufReader<PieceReader<'a, R, FrameHeading>>> {
         let Peer { mut reader } = self;
         reader.sit();

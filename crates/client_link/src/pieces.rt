@@ -7,10 +7,14 @@ use std::io;
 use std::io::{ErrorKind, Read};
 use std::net::TcpStream;
 use std::sync::Wait;
-use std::time::{Clock, Instant};
+use std::time::{Clock, Duration, Instant};
+
+/// How long a stranger may take to be no stranger any more, in milliseconds.
+const PROBATION: u64 = 2_000;
 
 /// Reads a socket, and fails where the door is closed, where the other end is silent for too long inside a message, and where it sends no
-/// whole message for too long while another waits for the place.
+/// whole message for too long while another waits for the place. A stranger has 2 seconds from when it came, and gives its place up as soon as
+/// another waits.
 pub struct PieceReader<'a, R, H> {
     rt: &'a R,
     door: &'a Door,
@@ -20,6 +24,8 @@ pub struct PieceReader<'a, R, H> {
     count: u64,
     since_message: Instant,
     since_octet: Instant,
+    /// Since when it is a stranger, where it is one.
+    stranger_since: Option<Instant>,
 }
 
 // Not derived: see "What the gate takes" in docs/ARCHITECTURE.md.
@@ -33,6 +39,7 @@ impl<'a, R, H: Drop> Drop for PieceReader<'a, R, H> {
             count: _,
             since_message: _,
             since_octet: _,
+            stranger_since: _,
         } = self;
     }
 }
@@ -55,7 +62,44 @@ impl<'a, R: Wait + Clock, H: Heading> PieceReader<'a, R, H> {
             count: 0,
             since_message: now,
             since_octet: now,
+            stranger_since: None,
         })
+    }
+
+    /// The other end is a stranger, and has been since its socket was taken.
+    pub fn doubt(&mut self) {
+        self.stranger_since = Some(self.since_message);
+    }
+
+    /// The other end is no stranger.
+    pub fn trust(&mut self) {
+        self.stranger_since = None;
+    }
+
+    /// Whether the other end has been a stranger for too long.
+    pub fn is_strange_for_long(&self) -> io::Result<bool> {
+        let Some(since) = self.stranger_since else {
+            return Ok(false);
+        };
+        let now = Instant::now(self.rt)?;
+        Ok(now.saturating_duration_since(since) >= Duration::from_millis(PROBATION))
+    }
+
+    /// Whether a stranger has to go.
+    fn is_to_go(&self) -> io::Result<bool> {
+        if self.stranger_since.is_none() {
+            return Ok(false);
+        }
+        Ok(self.is_strange_for_long()? || self.door.give_up(self.rt))
+    }
+
+    /// The first octets that have come, without taking them, as many as the buffer has room for; how many. Where none has come it fails with
+    /// `WouldBlock`, and where none will come there are 0.
+    pub fn peek(&self, octets: &mut [u8]) -> io::Result<usize> {
+        self.stream.set_nonblocking(true)?;
+        let seen = self.stream.peek(octets);
+        self.stream.set_nonblocking(false)?;
+        seen
     }
 
     /// It is given a place.
@@ -78,7 +122,7 @@ impl<'a, R: Wait + Clock, H: Heading> PieceReader<'a, R, H> {
     fn is_over(&self) -> io::Result<bool> {
         let now = Instant::now(self.rt)?;
         let limits = self.door.limits();
-        if self.door.is_closed() {
+        if self.door.is_closed() || self.is_to_go()? {
             return Ok(true);
         }
         let silent = now.saturating_duration_since(self.since_octet);

@@ -5,7 +5,7 @@ ghost use Rattle.view_store.specs.Device.{HasRisen};
 use crate::fault::FileDeviceError;
 use std::alloc::Global;
 use std::fs::{File, Files, OpenOptions, TryLockError};
-use std::io::{Error, ErrorKind, Read};
+use std::io::{self, Error, ErrorKind, Read};
 use view_store::DeviceFailure;
 
 /// A file with more octets is refused.
@@ -17,7 +17,7 @@ const PIECE: usize = 512;
 /// A file as a device. Every octet that was read or written is kept beside it, and a read or a length that the file answers otherwise is a
 /// failure. Nothing is claimed of what a crash leaves of a file: as a device it names no outcome of a crash at all, so what the contract of a
 /// device says of crashes holds of it for want of any. A sync hands the octets to the operating system's own sync of the file; the folder of
-/// a file that was made isn't synced.
+/// a file without octets is synced when that is opened, so that a file that was made is found again.
 pub struct FileDevice {
     pub(crate) alloc: Global,
     pub(crate) file: File,
@@ -53,6 +53,9 @@ impl FileDevice {
         let mut file = options.open(rt, path).map_err(failed)?;
         lock(&file)?;
         let image = read_image(alloc, &mut file)?;
+        if image.is_empty() {
+            sync_folder(rt, path).map_err(failed)?;
+        }
         Ok(FileDevice {
             alloc,
             file,
@@ -74,6 +77,20 @@ impl FileDevice {
 
 fn failed(error: Error) -> FileDeviceError {
     FileDeviceError::Failed(error.kind())
+}
+
+/// The folder in which a file of this name is.
+fn folder_of(path: &str) -> &str {
+    match path.rsplit_once('/') {
+        Some(("", _)) => "/",
+        Some((folder, _)) => folder,
+        None => ".",
+    }
+}
+
+/// Has the operating system write what names its folder holds, where one of them may be new.
+fn sync_folder<R: Files<File = File>>(rt: &R, path: &str) -> io::Result<()> {
+    File::open(rt, folder_of(path))?.sync_all()
 }
 
 /// Takes the file for this process alone.

@@ -1,37 +1,38 @@
--- What waits to be sent. Frames and limits flow in; what is kept of the frames flows out. What a frame says is not here.
+-- What waits to be sent: items, each with its weight, and limits. What an item is, is not here.
 use Rattle.std.specs.Prelude.{◌≡◌, ◌⊎◌, ℕ, ◌+◌, ◌<◌, ◌≤◌, List, [], ◌∷◌, ◌++◌, length, drop}
+use Rattle.peer_link.specs.declared.weighted.Weighted.{Weighted}
 
--- frames that wait, the oldest first, and how many may, of how many octets in all
-pub record QueueValue : Type 0 where
-  pub frames : List (List ℕ)
-  pub most_frames : ℕ
-  pub most_octets : ℕ
+-- items that wait, the oldest first, and how many may, of which weight in all
+pub record QueueValue (T : Type 0) : Type 0 where
+  pub waiting : List (Weighted T)
+  pub most_items : ℕ
+  pub most_weight : ℕ
 
--- how many octets frames have
-abbrev pub octets_of : List (List ℕ) → ℕ
-octets_of [] = 0
-octets_of (f ∷ fs) = length f + octets_of fs
+-- how heavy items are together
+abbrev pub weight_of : {T : Type 0} → List (Weighted T) → ℕ
+weight_of [] = 0
+weight_of (w ∷ ws) = w.weight + weight_of ws
 
--- these frames, and one more of so many octets, are within the limits
-pub record HaveRoom (most_frames most_octets : ℕ) (frames : List (List ℕ)) (octets : ℕ) : Type 0 where
-  pub frame : length frames + 1 ≤ most_frames
-  pub octet : octets_of frames + octets ≤ most_octets
+-- these items, and one more of this weight, are within the limits
+pub record HaveRoom {T : Type 0} (most_items most_weight : ℕ) (waiting : List (Weighted T)) (weight : ℕ) : Type 0 where
+  pub item : length waiting + 1 ≤ most_items
+  pub weight_is : weight_of waiting + weight ≤ most_weight
 
--- Of the frames that wait only the oldest are forgotten, and none without need: with it there was no room for one of so many octets.
-pub record HasForgotten (old : QueueValue) (octets : ℕ) (new : QueueValue) : Type 0 where
+-- Of the items that wait only the oldest are forgotten, and none without need: with it there was no room for one of this weight.
+pub record HasForgotten {T : Type 0} (old : QueueValue T) (weight : ℕ) (new : QueueValue T) : Type 0 where
   pub count : ℕ
-  pub rest : new.frames ≡ drop count old.frames
-  pub needed : (k : ℕ) → k < count → HaveRoom old.most_frames old.most_octets (drop k old.frames) octets → ⊥
-  pub most_frames : new.most_frames ≡ old.most_frames
-  pub most_octets : new.most_octets ≡ old.most_octets
+  pub rest : new.waiting ≡ drop count old.waiting
+  pub needed : (k : ℕ) → k < count → HaveRoom old.most_items old.most_weight (drop k old.waiting) weight → ⊥
+  pub most_items : new.most_items ≡ old.most_items
+  pub most_weight : new.most_weight ≡ old.most_weight
 
--- there is room for one of so many octets, or nothing waits
-abbrev pub IsReadyFor : QueueValue → ℕ → Type 0
-IsReadyFor q octets = (q.frames ≡ []) ⊎ HaveRoom q.most_frames q.most_octets q.frames octets
+-- there is room for one of this weight, or nothing waits
+abbrev pub IsReadyFor : {T : Type 0} → QueueValue T → ℕ → Type 0
+IsReadyFor q weight = (q.waiting ≡ []) ⊎ HaveRoom q.most_items q.most_weight q.waiting weight
 
--- A frame has come: it is the last, behind those that were not forgotten for it.
-pub record HasCome (old : QueueValue) (come : List ℕ) (new : QueueValue) : Type 0 where
-  pub ready : QueueValue
-  pub forgotten : HasForgotten old (length come) ready
-  pub room : IsReadyFor ready (length come)
-  pub last : new ≡ record ready { frames = ready.frames ++ come ∷ [] }
+-- An item has come: it is the last, behind those that were not forgotten for it.
+pub record HasCome {T : Type 0} (old : QueueValue T) (come : Weighted T) (new : QueueValue T) : Type 0 where
+  pub ready : QueueValue T
+  pub forgotten : HasForgotten old come.weight ready
+  pub room : IsReadyFor ready come.weight
+  pub last : new ≡ record ready { waiting = ready.waiting ++ come ∷ [] }

@@ -1,28 +1,37 @@
-//! A queue that threads share. Frames flow in from any thread and out to one. Streams are not here.
+//! A queue that threads share: items come in from any thread, and one thread takes them. What an item is, and streams, are not here.
 ghost use Rattle.std.specs.Prelude.{◌<◌};
 
 use crate::queue::Queue;
-use bytes::Bytes;
+use crate::weighted::Weighted;
 use std::alloc::{AllocError, Global};
 use std::sync::{Condvar, CondvarTimeouts, Mutex, Wait};
 use std::time::{Clock, Duration};
 
 /// What is under the lock.
-#[derive(Drop)]
-struct Held {
-    queue: Queue,
+struct Held<T> {
+    queue: Queue<T>,
     is_stopping: bool,
 }
 
-/// The frames that wait for one other replica, under a lock, with a condition to wait for the next. At most so many wait, of at most so many
-/// octets; the newest always does.
-pub struct Outbox {
-    held: Mutex<Held>,
+// Not derived: see "What the gate takes" in docs/ARCHITECTURE.md.
+impl<T: Drop> Drop for Held<T> {
+    fn drop(self) {
+        let Held {
+            queue: _,
+            is_stopping: _,
+        } = self;
+    }
+}
+
+/// What waits for one other replica, under a lock, with a condition to wait for the next item. At most so many wait, of at most so great a
+/// weight; the newest always does.
+pub struct Outbox<T> {
+    held: Mutex<Held<T>>,
     changed: Condvar,
 }
 
 // Not derived: see "What the gate takes" in docs/ARCHITECTURE.md.
-impl Drop for Outbox {
+impl<T: Drop> Drop for Outbox<T> {
     fn drop(self) {
         let Outbox {
             held: _,
@@ -31,12 +40,16 @@ impl Drop for Outbox {
     }
 }
 
-impl Outbox {
-    /// No frame waits yet.
-    pub fn new(alloc: Global, most_frames: usize, most_octets: usize) -> Result<Outbox, AllocError>
-        requires { 0 < most_frames }
+impl<T> Outbox<T> {
+    /// Nothing waits yet.
+    pub fn new(
+        alloc: Global,
+        most_items: usize,
+        most_weight: usize,
+    ) -> Result<Outbox<T>, AllocError>
+        requires { 0 < most_items }
     {
-        let queue = Queue::new(alloc, most_frames, most_octets)?;
+        let queue = Queue::new(alloc, most_items, most_weight)?;
         Ok(Outbox {
             held: Mutex::new(Held {
                 queue,
@@ -46,27 +59,21 @@ impl Outbox {
         })
     }
 
-    /// A frame to be sent. It waits for nothing but the lock; the oldest frames are forgotten where there is no room.
-    pub fn put<R: Wait>(&self, rt: &R, frame: Bytes) {
-        self.held.lock(rt).queue.push(frame);
-        self.changed.notify_one();
-    }
-
     /// Nothing is sent any more.
     pub fn stop<R: Wait>(&self, rt: &R) {
         self.held.lock(rt).is_stopping = true;
         self.changed.notify_all();
     }
 
-    /// Waits for the next frame; none, once it is stopped.
-    pub fn take<R: Wait>(&self, rt: &R) -> Option<Bytes> {
+    /// Waits for the next item; none, once it is stopped. The lock is free again before the item is used.
+    pub fn take<R: Wait>(&self, rt: &R) -> Option<T> {
         let mut held = self.changed.wait_while(rt, self.held.lock(rt), |held| {
             !held.is_stopping && held.queue.is_empty()
         });
         if held.is_stopping {
             return None;
         }
-        held.queue.pop()
+        Some(held.queue.pop()?.into_item())
     }
 
     /// Waits for so long, or until it is stopped; whether it is.
@@ -75,5 +82,14 @@ impl Outbox {
             .changed
             .wait_timeout_while(rt, self.held.lock(rt), time, |held| !held.is_stopping);
         held.is_stopping
+    }
+}
+
+impl<T: Drop> Outbox<T> {
+    /// An item of this weight to be sent, behind those that wait. It waits for nothing but the lock and takes no memory; the oldest items are
+    /// forgotten where there is no room.
+    pub fn put<R: Wait>(&self, rt: &R, item: T, weight: usize) {
+        self.held.lock(rt).queue.push(Weighted { item, weight });
+        self.changed.notify_one();
     }
 }

@@ -20,7 +20,7 @@ pub enum FrameEnd {
     NoMemory,
 }
 
-/// At most so many octets get room at once, so that memory grows with what came and not with what was announced.
+/// At most so many octets get room at once, or as many as have come, so that memory grows with what came and not with what was announced.
 const PIECE: usize = 8_192;
 
 /// Reads at least one octet, where there is one; how many.
@@ -73,7 +73,7 @@ pub fn read_head<R: Read>(reader: &mut R) -> Result<[u8; 4], FrameEnd>
 
 /// Reads so many octets more of a frame.
 fn read_piece<R: Read>(reader: &mut R, frame: &mut Vec<u8>, count: usize) -> Result<(), FrameEnd>
-    requires { count ≤ 8192 }
+    requires { count ≤ 4294967295 }
     ensures read { OnOk result (HasRead (R.remaining reader.old) (R.remaining reader.new) frame.old.items frame.new.items count) }
     ensures open { IsErrOf result Closed → ⊥ }
 {
@@ -82,6 +82,20 @@ fn read_piece<R: Read>(reader: &mut R, frame: &mut Vec<u8>, count: usize) -> Res
         return Err(FrameEnd::NoMemory);
     }
     read_on(reader, &mut frame[at..])
+}
+
+/// Reads so many octets more of a frame. It takes no more room at once than for as many octets as have come, or 8,192.
+pub fn read_more<R: Read>(reader: &mut R, frame: &mut Vec<u8>, count: u32) -> Result<(), FrameEnd>
+    ensures read { OnOk result (HasRead (R.remaining reader.old) (R.remaining reader.new) frame.old.items frame.new.items count) }
+    ensures open { IsErrOf result Closed → ⊥ }
+{
+    let mut left = count as usize;
+    while left > 0 {
+        let piece = left.min(frame.len().max(PIECE));
+        read_piece(reader, frame, piece)?;
+        left -= piece;
+    }
+    Ok(())
 }
 
 /// Reads the rest of a frame, so many octets behind its head: the whole frame, its head too.
@@ -97,11 +111,6 @@ pub fn read_rest<R: Read>(
     let Ok(mut frame) = Vec::from_array(alloc, head) else {
         return Err(FrameEnd::NoMemory);
     };
-    let mut left = count as usize;
-    while left > 0 {
-        let piece = left.min(PIECE);
-        read_piece(reader, &mut frame, piece)?;
-        left -= piece;
-    }
+    read_more(reader, &mut frame, count)?;
     Ok(frame)
 }

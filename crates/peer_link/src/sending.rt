@@ -1,12 +1,13 @@
-//! Frames written out by a thread of their own. Frames flow from a queue to streams. What frames say is not here.
+//! What waits is sent by a thread of its own: each item becomes frames here, which are written to a stream. What frames say is not here.
 use crate::dialing::Dial;
+use crate::framing::Framing;
 use crate::outbox::Outbox;
 use crate::patience::Patience;
 use std::io::Write;
 use std::sync::Wait;
 use std::time::{Clock, Duration, Instant};
 
-/// After so many milliseconds without a frame it is looked whether the other end still holds the stream.
+/// After so many milliseconds without an item it is looked whether the other end still holds the stream.
 const IDLE: u64 = 1000;
 
 /// Whether nothing was sent for so long that the stream is to be looked at.
@@ -23,7 +24,11 @@ fn was_idle<R: Clock>(rt: &R, last: &mut Option<Instant>) -> bool {
 }
 
 /// Makes a stream, as often as it takes; none where it is stopped meanwhile.
-fn dialed<R: Wait + Clock, D: Dial>(rt: &R, outbox: &Outbox, dialer: &mut D) -> Option<D::Stream> {
+fn dialed<R: Wait + Clock, T, D: Dial>(
+    rt: &R,
+    outbox: &Outbox<T>,
+    dialer: &mut D,
+) -> Option<D::Stream> {
     let mut patience = Patience::new();
     for _ in rt.forever() {
         if let Some(stream) = dialer.dial() {
@@ -37,9 +42,9 @@ fn dialed<R: Wait + Clock, D: Dial>(rt: &R, outbox: &Outbox, dialer: &mut D) -> 
 }
 
 /// Sees to it that there is a stream; none where it is stopped meanwhile.
-fn connected<R: Wait + Clock, D: Dial>(
+fn connected<R: Wait + Clock, T, D: Dial>(
     rt: &R,
-    outbox: &Outbox,
+    outbox: &Outbox<T>,
     dialer: &mut D,
     held: Option<D::Stream>,
     was_idle: bool,
@@ -52,22 +57,47 @@ fn connected<R: Wait + Clock, D: Dial>(
     dialed(rt, outbox, dialer)
 }
 
-/// Sends the frames of a queue, one after the other, over a stream that is made again whenever it fails or the other end has closed it, until
-/// the queue is stopped. A frame whose stream fails is lost, whole or in part, and so is the stream.
-pub fn send_all<R: Wait + Clock, D: Dial>(rt: &R, outbox: &Outbox, dialer: &mut D) {
+/// Writes all frames of the item that was begun; whether the stream took them.
+fn write_frames<R: Wait, T, F: Framing<T>, W: Write>(
+    rt: &R,
+    framing: &mut F,
+    stream: &mut W,
+) -> bool {
+    for _ in rt.forever() {
+        let Some(frame) = framing.next_frame() else {
+            break;
+        };
+        if stream.write_all(frame.as_slice()).is_err() {
+            return false;
+        }
+    }
+    true
+}
+
+/// Sends what waits in a queue, item by item in the order of the queue, over a stream that is made again whenever it fails or the other end has
+/// closed it, until the queue is stopped. Frames are made here, once there is a stream for them, and outside the queue's lock. An item whose
+/// stream fails is lost, whole or in part, and so is the stream.
+pub fn send_all<R: Wait + Clock, T: Drop, F: Framing<T>, D: Dial>(
+    rt: &R,
+    outbox: &Outbox<T>,
+    framing: &mut F,
+    dialer: &mut D,
+) {
     let mut stream: Option<D::Stream> = None;
     let mut last: Option<Instant> = None;
     for _ in rt.forever() {
-        let Some(frame) = outbox.take(rt) else {
+        let Some(item) = outbox.take(rt) else {
             break;
         };
         let was_idle = was_idle(rt, &mut last);
         let Some(mut open) = connected(rt, outbox, dialer, stream, was_idle) else {
             return;
         };
-        stream = match open.write_all(frame.as_slice()) {
-            Ok(()) => Some(open),
-            Err(_) => None,
+        framing.begin(item);
+        stream = if write_frames(rt, framing, &mut open) {
+            Some(open)
+        } else {
+            None
         };
     }
 }

@@ -1,5 +1,33 @@
-//! How many threads of a server have begun. Counts flow in; whether all are there flows out.
+//! How many threads a server has, and how many of them have begun.
+ghost use Rattle.std.specs.Prelude.{◌≤◌, ◌*◌, ◌-◌, min};
+
 use std::sync::atomic::{AtomicU64, Ordering};
+
+/// The fewest threads that read from other replicas: room for connections that are dead and don't show it yet.
+const FEWEST_READERS: u64 = 8;
+
+/// For each other replica so many threads read: it has one connection at a time, and others of it may be dead and not show it yet.
+const READERS_EACH: u64 = 4;
+
+/// The most threads that read, where two for each other replica are no more.
+const MOST_READERS: u64 = 64;
+
+/// So many threads take connections, hand them on, look at strangers, and write what is said.
+const OTHER_THREADS: u64 = 6;
+
+/// How many threads of each of so many replicas read from other ones, each from one connection at a time: four for each other one, but 8 at
+/// least, and 64 at most or two for each other one.
+pub fn readers(count: usize) -> u64
+    ensures fewest { 8 ≤ result }
+    ensures two_each { min (2 * (count - 1)) 18446744073709551615 ≤ result }
+{
+    let others = (count as u64).saturating_sub(1);
+    others
+        .saturating_mul(READERS_EACH)
+        .min(MOST_READERS)
+        .max(others.saturating_mul(2))
+        .max(FEWEST_READERS)
+}
 
 /// The threads that a server can't do without, beside the one that serves no one else: a thread that can't be had would begin only at the end.
 #[derive(Drop)]
@@ -9,13 +37,14 @@ pub struct Crew {
 }
 
 impl Crew {
-    /// Nobody has begun. Of so many replicas each has a writer and two readers for each other one, and four threads to take connections and
-    /// to hand them on.
+    /// Nobody has begun. Of so many replicas each has a writer for each other one, its readers, and six threads more.
     pub fn new(count: usize) -> Crew {
         let others = (count as u64).saturating_sub(1);
         Crew {
             begun: AtomicU64::new(0),
-            wanted: others.saturating_mul(3).saturating_add(4),
+            wanted: others
+                .saturating_add(readers(count))
+                .saturating_add(OTHER_THREADS),
         }
     }
 

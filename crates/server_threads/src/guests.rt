@@ -1,44 +1,58 @@
-//! Clients of a server. A socket flows in; a connection for a session flows out, which says how its session ended. What a session answers is not
+//! Clients of a server. A socket comes in, and a connection for a session goes out, which says how its session ended. What a session answers is not
 //! here.
+use crate::reporter::Reporter;
+use crate::rooms::Rooms;
 use crate::telling::tell_session;
 use client_link::{
-    Arrives, Client, ClientWriter, Connection, Door, ElementHeading, PieceReader, SessionEnd,
+    Arrives, Client, ClientWriter, Connection, ElementHeading, PieceReader, SessionEnd,
 };
 use std::alloc::Global;
-use std::io::{self, Eprint};
+use std::io;
 use std::net::TcpStream;
 use std::sync::Wait;
 use std::time::Clock;
 
-/// A client, whose session's end is told on standard error.
+/// A client, whose session's end is told.
 #[derive(Drop)]
-pub struct Guest<'a, R> {
+pub struct Guest<'a, R: Clock> {
     rt: &'a R,
+    alloc: Global,
+    reporter: &'a Reporter,
     client: Client<'a, R>,
 }
 
-impl<'a, R: Wait + Clock> Arrives<'a, R> for Guest<'a, R> {
+impl<'a, R: Wait + Clock> Arrives<'a, R, Rooms> for Guest<'a, R> {
     fn arrive(
         rt: &'a R,
         alloc: Global,
-        door: &'a Door,
+        rooms: &'a Rooms,
         socket: TcpStream,
     ) -> io::Result<Guest<'a, R>> {
-        let client = Client::arrive(rt, alloc, door, socket)?;
-        Ok(Guest { rt, client })
+        let client = Client::arrive(rt, alloc, &rooms.client_door, socket)?;
+        Ok(Guest {
+            rt,
+            alloc,
+            reporter: &rooms.reporter,
+            client,
+        })
     }
 }
 
-impl<'a, R: Wait + Clock + Eprint + Sync> Connection for Guest<'a, R> {
+impl<'a, R: Wait + Clock + Sync> Connection for Guest<'a, R> {
     type Reader = PieceReader<'a, R, ElementHeading>;
 
-    type Writer = ClientWriter;
+    type Writer = ClientWriter<'a, R>;
 
-    fn ends(&mut self) -> (&mut PieceReader<'a, R, ElementHeading>, &mut ClientWriter) {
+    fn ends(
+        &mut self,
+    ) -> (
+        &mut PieceReader<'a, R, ElementHeading>,
+        &mut ClientWriter<'a, R>,
+    ) {
         self.client.ends()
     }
 
     fn ended(&mut self, session: u64, end: SessionEnd) {
-        tell_session(self.rt, session, end);
+        tell_session(self.rt, self.alloc, self.reporter, session, end);
     }
 }

@@ -1,28 +1,44 @@
-//! Messages on their way to other replicas. Messages flow in; frames flow into the queue of each replica. Streams are not here.
+//! Messages on their way to other replicas: each waits in the queue of its receiver. Frames and streams are not here.
 use crate::rooms::Rooms;
-use peer_link::Bytes;
-use std::alloc::Global;
 use std::sync::Wait;
-use vr_wire::{Cluster, Op, PeerMessage, write};
+use vr_wire::{Op, PeerMessage};
+
+/// What a message weighs without its records: about the memory that it takes.
+const MESSAGE: usize = 64;
+
+/// What a record weighs: about the memory that it takes beside its payload, which the node's log shares.
+const RECORD: usize = 64;
+
+/// How many records a message tells.
+fn records_in(message: &PeerMessage<Op>) -> usize {
+    match message {
+        PeerMessage::Prepare { .. } => 1,
+        PeerMessage::DoViewChange { change, .. } => change.log.len(),
+        PeerMessage::StartView { held, .. } => held.log.len(),
+        PeerMessage::NewState { tail, .. } => tail.log.len(),
+        PeerMessage::RecoveryResponse { response, .. } => match &response.held {
+            Some(held) => held.log.len(),
+            None => 0,
+        },
+        _ => 0,
+    }
+}
+
+/// What a message weighs in a queue. No payload is looked at.
+fn weight_of(message: &PeerMessage<Op>) -> usize {
+    records_in(message)
+        .saturating_mul(RECORD)
+        .saturating_add(MESSAGE)
+}
 
 impl Rooms {
-    /// Puts the frame of a message into the queue to the replica of this index. Without memory, or over the limit of a frame, the message is
-    /// lost, as the network may lose one.
-    pub fn post<R: Wait>(
-        &self,
-        rt: &R,
-        alloc: Global,
-        cluster: Cluster,
-        to: u64,
-        message: &PeerMessage<Op>,
-    ) {
-        let Some(outbox) = self.boxes.get(to as usize) else {
-            return;
-        };
-        if let Ok(written) = write(alloc, cluster, self.sender, message) {
-            if let Ok(frame) = Bytes::from_vec(written) {
-                outbox.put(rt, frame);
-            }
+    /// Puts a message into the queue to the replica of this index, behind those that wait there. It takes no memory and waits for nothing but
+    /// that queue's lock, which is held for no longer than a few steps; a thread of its own makes frames of the message and sends them. Where
+    /// the queue is full the oldest messages are lost, as the network may lose them. A message to nobody is lost.
+    pub fn post<R: Wait>(&self, rt: &R, to: u64, message: PeerMessage<Op>) {
+        if let Some(outbox) = self.boxes.get(to as usize) {
+            let weight = weight_of(&message);
+            outbox.put(rt, message, weight);
         }
     }
 }

@@ -3,23 +3,25 @@
 use crate::crew::Crew;
 use crate::fault::ServerError;
 use crate::places::Place;
-use client_link::{Door, Limits};
+use crate::reporter::Reporter;
+use client_link::{Door, HasDoor, Limits};
 use peer_link::Outbox;
 use std::alloc::{AllocError, Global};
 use std::io::Write;
 use std::net::{Net, SocketAddr, TcpListener, TcpStream};
+use vr_wire::{Op, PeerMessage};
 
-/// How many frames wait for a replica, at most.
-const FRAMES: usize = 1024;
+/// How many messages wait for a replica, at most.
+const MESSAGES: usize = 1024;
 
-/// How many octets they have, at most, but for the newest.
-const OCTETS: usize = 67_108_864;
+/// What they weigh, at most, but for the newest: about the octets of memory that they take beside their payloads.
+const WEIGHT: usize = 67_108_864;
 
 /// The queues to all replicas.
-fn outboxes(alloc: Global, count: usize) -> Result<Vec<Outbox>, AllocError> {
+fn outboxes(alloc: Global, count: usize) -> Result<Vec<Outbox<PeerMessage<Op>>>, AllocError> {
     let mut boxes = Vec::new(alloc);
     for _ in 0..count {
-        boxes.push(Outbox::new(alloc, FRAMES, OCTETS)?)?;
+        boxes.push(Outbox::new(alloc, MESSAGES, WEIGHT)?)?;
     }
     Ok(boxes)
 }
@@ -44,13 +46,22 @@ fn listen<R: Net<Listener = TcpListener, Stream = TcpStream>>(
 /// What a server's threads share, as it is made before they begin.
 pub struct Rooms {
     pub clients: TcpListener,
-    pub(crate) peers: TcpListener,
+    pub peers: TcpListener,
     pub(crate) client_door: Door,
     pub(crate) peer_door: Door,
-    pub(crate) boxes: Vec<Outbox>,
+    pub(crate) boxes: Vec<Outbox<PeerMessage<Op>>>,
     pub uris: Vec<String>,
     pub crew: Crew,
+    /// What is said on standard error.
+    pub reporter: Reporter,
     pub sender: u8,
+}
+
+/// The door at which clients wait.
+impl HasDoor for Rooms {
+    fn door(&self) -> &Door {
+        &self.client_door
+    }
 }
 
 // Not derived: see "What the gate takes" in docs/ARCHITECTURE.md.
@@ -64,6 +75,7 @@ impl Drop for Rooms {
             boxes: _,
             uris: _,
             crew: _,
+            reporter: _,
             sender: _,
         } = self;
     }
@@ -85,6 +97,7 @@ pub fn make_rooms<R: Net<Listener = TcpListener, Stream = TcpStream>>(
     };
     let boxes = outboxes(alloc, places.len())?;
     let uris = uris(alloc, places)?;
+    let reporter = Reporter::new(alloc)?;
     let clients = listen(rt, place.ldap_address)?;
     let peers = listen(rt, place.peer_address)?;
     Ok(Rooms {
@@ -95,6 +108,7 @@ pub fn make_rooms<R: Net<Listener = TcpListener, Stream = TcpStream>>(
         boxes,
         uris,
         crew: Crew::new(places.len()),
+        reporter,
         sender,
     })
 }

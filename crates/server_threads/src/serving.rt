@@ -1,10 +1,15 @@
 //! The threads of a server, and how they end. What they share flows in, with a directory for each seat; clients and replicas are served until the
 //! node behind them ends. What the node does is not here.
+use crate::crew::readers as readers_of;
 use crate::engine::Engine;
 use crate::fault::ServerError;
+use crate::framing::MessageFrames;
 use crate::guests::Guest;
+use crate::heading::Senders;
 use crate::places::Place;
+use crate::porch::Porch;
 use crate::receiving::Hall;
+use crate::reporter::StandardError;
 use crate::rooms::Rooms;
 use client_link::{Config, Directory, Door, Peer, accept_all, close, serve_all};
 use crossbeam_channel::{Receiver, Sender, bounded};
@@ -36,27 +41,38 @@ where
     R: Net<Listener = TcpListener, Stream = TcpStream> + Threads + Wait + Clock + Eprint + Sync,
     E: Engine + Sync,
 {
-    /// Sends frames to one replica, until its queue is stopped.
+    /// Sends messages to one replica, until its queue is stopped.
     fn send_to(&self, to: usize) {
         if let (Some(outbox), Some(place)) = (self.rooms.boxes.get(to), self.places.get(to)) {
             let limit = Duration::from_millis(DIAL_LIMIT);
             let mut dialer = SocketDialer::new(self.rt, place.peer_address, limit);
-            send_all(self.rt, outbox, &mut dialer);
+            let sender = self.rooms.sender;
+            let reporter = &self.rooms.reporter;
+            let (rt, alloc, cluster) = (self.rt, self.alloc, self.cluster);
+            let mut frames = MessageFrames::new(rt, alloc, reporter, cluster, sender, to);
+            send_all(self.rt, outbox, &mut frames, &mut dialer);
         }
     }
 
-    /// The indices of the other replicas, each so many times.
-    fn others(&self, times: usize) -> Result<Vec<usize>, AllocError> {
+    /// The indices of the other replicas.
+    fn others(&self) -> Result<Vec<usize>, AllocError> {
         let mut others = Vec::new(self.alloc);
         let own = usize::from(self.rooms.sender);
-        for _ in 0..times {
-            for index in 0..self.places.len() {
-                if index != own {
-                    others.push(index)?;
-                }
+        for index in 0..self.places.len() {
+            if index != own {
+                others.push(index)?;
             }
         }
         Ok(others)
+    }
+
+    /// A number for each thread that reads from other replicas.
+    fn readers(&self) -> Result<Vec<usize>, AllocError> {
+        let mut readers = Vec::new(self.alloc);
+        for index in 0..readers_of(self.places.len()) {
+            readers.push(index as usize)?;
+        }
+        Ok(readers)
     }
 
     /// Takes the connections of other replicas, until the server closes.
@@ -74,30 +90,51 @@ where
     /// Takes the connections of clients, until the server closes.
     fn take_clients(&self, to: Sender<(u64, Guest<'a, R>)>) {
         self.rooms.crew.begin();
-        accept_all(
-            self.rt,
-            self.alloc,
-            &self.rooms.clients,
-            &self.rooms.client_door,
-            to,
-        );
+        accept_all(self.rt, self.alloc, &self.rooms.clients, self.rooms, to);
     }
 
-    /// What all readers of other replicas share.
+    /// Whom frames are heard from.
+    fn senders(&self) -> Senders {
+        Senders {
+            cluster: self.cluster,
+            count: self.places.len() as u64,
+            own: self.rooms.sender,
+        }
+    }
+
+    /// What all who read from other replicas share.
     fn hall(&self) -> Hall<'a, R, E> {
         Hall {
             rt: self.rt,
             alloc: self.alloc,
-            cluster: self.cluster,
+            senders: self.senders(),
             engine: self.engine,
+            reporter: &self.rooms.reporter,
         }
+    }
+
+    /// Looks at strangers, and hands on those that may be other replicas.
+    fn greet_peers(
+        &self,
+        arrivals: Receiver<(u64, Peer<'a, R>)>,
+        to_readers: Sender<Peer<'a, R>>,
+    ) -> Result<(), AllocError> {
+        self.rooms.crew.begin();
+        let porch = Porch {
+            rt: self.rt,
+            alloc: self.alloc,
+            senders: self.senders(),
+            door: &self.rooms.peer_door,
+            reporter: &self.rooms.reporter,
+        };
+        porch.greet(arrivals, to_readers)
     }
 
     /// Hears other replicas, a connection in each thread.
     fn hear_peers(
         &self,
         readers: Vec<usize>,
-        waiting: Receiver<(u64, Peer<'a, R>)>,
+        waiting: Receiver<Peer<'a, R>>,
     ) -> Result<(), AllocError> {
         let hall = self.hall();
         let crew = &self.rooms.crew;
@@ -111,7 +148,7 @@ where
     }
 
     /// Sends to other replicas, to one in each thread.
-    fn send_frames(&self, writers: Vec<usize>) -> Result<(), AllocError> {
+    fn send_messages(&self, writers: Vec<usize>) -> Result<(), AllocError> {
         let sends = |to: usize| {
             self.rooms.crew.begin();
             self.send_to(to);
@@ -120,17 +157,36 @@ where
         Ok(())
     }
 
+    /// Hears those whom strangers turn out to be, until nobody comes any more.
+    fn hear_arrivals(
+        &self,
+        readers: Vec<usize>,
+        arrivals: Receiver<(u64, Peer<'a, R>)>,
+        to_readers: Sender<Peer<'a, R>>,
+        waiting: Receiver<Peer<'a, R>>,
+    ) -> Result<(), AllocError> {
+        let (greeted, heard) = thread::join(
+            self.rt,
+            || self.greet_peers(arrivals, to_readers),
+            || self.hear_peers(readers, waiting),
+        );
+        greeted?;
+        heard
+    }
+
     /// Hears and sends, side by side.
     fn pass_frames(
         &self,
         readers: Vec<usize>,
         writers: Vec<usize>,
-        waiting: Receiver<(u64, Peer<'a, R>)>,
+        arrivals: Receiver<(u64, Peer<'a, R>)>,
+        to_readers: Sender<Peer<'a, R>>,
+        waiting: Receiver<Peer<'a, R>>,
     ) -> Result<(), AllocError> {
         let (heard, sent) = thread::join(
             self.rt,
-            || self.hear_peers(readers, waiting),
-            || self.send_frames(writers),
+            || self.hear_arrivals(readers, arrivals, to_readers, waiting),
+            || self.send_messages(writers),
         );
         heard?;
         sent
@@ -139,13 +195,14 @@ where
     /// Sends to the other replicas and hears them, until the server closes.
     fn link(&self) -> Result<(), AllocError> {
         self.rooms.crew.begin();
-        let writers = self.others(1)?;
-        let readers = self.others(2)?;
-        let (to_readers, waiting) = bounded(self.alloc, readers.len().max(1))?;
+        let writers = self.others()?;
+        let readers = self.readers()?;
+        let (to_porch, arrivals) = bounded(self.alloc, 1)?;
+        let (to_readers, waiting) = bounded(self.alloc, 1)?;
         let ((), passed) = thread::join(
             self.rt,
-            || self.take_peers(to_readers),
-            || self.pass_frames(readers, writers, waiting),
+            || self.take_peers(to_porch),
+            || self.pass_frames(readers, writers, arrivals, to_readers, waiting),
         );
         passed
     }
@@ -207,31 +264,68 @@ where
         self.shut(&self.rooms.peer_door, &self.rooms.peers);
     }
 
-    /// All threads, to the end of the last: clients, replicas, and the node's clock, in the thread that calls.
+    /// Serves clients, and runs the node's clock in the thread that calls, until that ends; then all threads end.
+    fn serve_and_tick<D: Directory + Send + Drop>(
+        &self,
+        ways: Vec<D>,
+        waiting: usize,
+        config: &Config<'_>,
+    ) -> Result<(), ServerError> {
+        let (served, ticked) = thread::join(
+            self.rt,
+            || self.end_with(self.serve_clients(ways, waiting, config)),
+            || {
+                let ticked = self.engine.run();
+                self.stop();
+                ticked
+            },
+        );
+        ticked?;
+        served?;
+        Ok(())
+    }
+
+    /// All threads but the one that writes what is said.
+    fn run_all<D: Directory + Send + Drop>(
+        &self,
+        ways: Vec<D>,
+        waiting: usize,
+        config: &Config<'_>,
+    ) -> Result<(), ServerError> {
+        let (linked, served) = thread::join(
+            self.rt,
+            || self.end_with(self.link()),
+            || self.serve_and_tick(ways, waiting, config),
+        );
+        served?;
+        linked?;
+        Ok(())
+    }
+
+    /// Writes what is said on standard error, until nothing more will be.
+    fn write_what_is_said(&self) {
+        self.rooms.crew.begin();
+        let mut error = StandardError { rt: self.rt };
+        self.rooms.reporter.write_all(self.rt, &mut error);
+    }
+
+    /// All threads, to the end of the last: clients, replicas, and the node's clock, in the thread that calls. What was said by then is written
+    /// before it ends.
     pub fn run<D: Directory + Send + Drop>(
         &self,
         ways: Vec<D>,
         waiting: usize,
         config: &Config<'_>,
     ) -> Result<(), ServerError> {
-        let (linked, (served, ticked)) = thread::join(
+        let ((), ended) = thread::join(
             self.rt,
-            || self.end_with(self.link()),
+            || self.write_what_is_said(),
             || {
-                thread::join(
-                    self.rt,
-                    || self.end_with(self.serve_clients(ways, waiting, config)),
-                    || {
-                        let ticked = self.engine.run();
-                        self.stop();
-                        ticked
-                    },
-                )
+                let ended = self.run_all(ways, waiting, config);
+                self.rooms.reporter.stop(self.rt);
+                ended
             },
         );
-        ticked?;
-        linked?;
-        served?;
-        Ok(())
+        ended
     }
 }

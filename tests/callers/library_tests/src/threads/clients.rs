@@ -3,7 +3,7 @@
 
 use crate::threads::sessions::directory;
 use crate::threads::signal::Signal;
-use client_link::{Client, Door, Limits, accept_all, close, serve_all};
+use client_link::{Arrives, Client, Connection, Door, Limits, accept_all, close, serve_all};
 use crossbeam_channel::{Receiver, Sender};
 use ldap_session::{Config, Name};
 use schema_reader::built_in_schema;
@@ -14,7 +14,7 @@ use std::process::Abort;
 use std::sync::Wait;
 use std::test::*;
 use std::thread::Threads;
-use std::time::{Clock, Duration};
+use std::time::{Clock, Duration, Instant};
 use std::{io, thread};
 
 /// The manager's bind, and its response.
@@ -167,5 +167,95 @@ fn a_crowd_leaves_the_server_alive(rt: HostRuntime) -> Result<(), Fail> {
     );
     ended?;
     assert!(rt; bound?);
+    Ok(())
+}
+
+/// How many octets the answer of a test has that is taken slowly.
+const LONG_ANSWER: usize = 67_108_864;
+
+/// Takes 65,536 octets every 100 milliseconds, up to the end of the stream, but for no longer than 40 seconds.
+fn take_slowly<R: Net<Stream = TcpStream> + Clock>(
+    rt: &R,
+    alloc: Global,
+    at: SocketAddr,
+) -> io::Result<()> {
+    let mut stream = TcpStream::connect(rt, at)?;
+    let mut piece = Vec::new(alloc);
+    piece.resize(65_536, 0u8)?;
+    for _ in 0..400 {
+        thread::sleep(rt, Duration::from_millis(100));
+        if matches!(stream.read(&mut piece), Ok(0) | Err(_)) {
+            break;
+        }
+    }
+    Ok(())
+}
+
+/// Writes a long answer to the next client, and gives how long it took until that failed, in milliseconds; 0, where it didn't.
+fn write_until_it_fails<R: Wait + Clock + Sync>(
+    rt: &R,
+    alloc: Global,
+    listener: &TcpListener,
+    door: &Door,
+) -> io::Result<u128> {
+    let (socket, _) = listener.accept()?;
+    let mut client = Client::arrive(rt, alloc, door, socket)?;
+    let mut answer = Vec::new(alloc);
+    answer.resize(LONG_ANSWER, 0u8)?;
+    let begin = Instant::now(rt)?;
+    let (_, writer) = client.ends();
+    if writer.write_all(&answer).is_ok() {
+        return Ok(0);
+    }
+    Ok(Instant::now(rt)?.saturating_duration_since(begin).as_millis())
+}
+
+#[test]
+fn a_client_that_takes_its_answer_too_slowly_is_sent_away(rt: HostRuntime) -> Result<(), Fail> {
+    let listener = TcpListener::bind(&rt, "127.0.0.1:0")?;
+    let at = listener.local_addr()?;
+    let door = Door::new(Limits {
+        message: Duration::from_secs(50),
+        idle: Duration::from_secs(50),
+        write: Duration::from_millis(300),
+    });
+    let (failed, taken) = thread::join(
+        &rt,
+        || write_until_it_fails(&rt, rt.alloc(), &listener, &door),
+        || take_slowly(&rt, rt.alloc(), at),
+    );
+    taken?;
+    let failed = failed?;
+    assert!(rt; 300 <= failed && failed < 20_000, "{failed} ms");
+    Ok(())
+}
+
+/// Makes connections that nobody takes, until no more can be made.
+fn fill<R: Net<Stream = TcpStream>>(
+    rt: &R,
+    alloc: Global,
+    at: SocketAddr,
+) -> io::Result<Vec<TcpStream>> {
+    let mut streams = Vec::new(alloc);
+    for _ in 0..9000 {
+        match TcpStream::connect_timeout(rt, &at, Duration::from_millis(200)) {
+            Ok(stream) => streams.push(stream)?,
+            Err(_) => break,
+        }
+    }
+    Ok(streams)
+}
+
+#[test]
+fn closing_takes_no_longer_than_a_second_where_nobody_listens(rt: HostRuntime) -> Result<(), Fail> {
+    let listener = TcpListener::bind(&rt, "127.0.0.1:0")?;
+    let at = listener.local_addr()?;
+    let _waiting = fill(&rt, rt.alloc(), at)?;
+    let door = Door::new(limits(50, 50));
+    let begin = Instant::now(&rt)?;
+    close(&rt, &door, at);
+    let took = Instant::now(&rt)?.saturating_duration_since(begin).as_millis();
+    assert!(rt; took < 1900, "{took} ms");
+    assert!(rt; door.is_closed());
     Ok(())
 }

@@ -2,6 +2,7 @@
 
 use file_device::{Cluster, Device, FileDevice, FileDeviceError, Pair, ViewStore, ViewStoreError};
 use std::fs;
+use std::io::ErrorKind;
 use std::process::Abort;
 use std::test::*;
 
@@ -23,6 +24,17 @@ fn a_file_gives_what_was_written(rt: HostRuntime) -> Result<(), Fail> {
     assert!(rt; again.read(2, &mut octets).is_err());
     assert_eq!(rt; again.failures(), 1);
     fs::remove_file(&rt, path)?;
+    Ok(())
+}
+
+#[test]
+fn a_file_is_made_in_the_folder_of_its_path(rt: HostRuntime) -> Result<(), Fail> {
+    let path = "./folder_of_a_device";
+    let _was_there = fs::remove_file(&rt, path).is_ok();
+    drop(FileDevice::open(&rt, rt.alloc(), path)?);
+    fs::remove_file(&rt, path)?;
+    let nowhere = FileDevice::open(&rt, rt.alloc(), "no_folder_of_a_device/file");
+    assert!(rt; nowhere.err() == Some(FileDeviceError::Failed(ErrorKind::NotFound)));
     Ok(())
 }
 

@@ -1,15 +1,34 @@
 //! Links over this machine's loopback, and the frames of streams in memory. Frames flow out and in, and are compared.
 
 use crate::threads::signal::Signal;
-use peer_link::{Bytes, FrameEnd, Outbox, SocketDialer, read_head, read_rest, send_all};
+use peer_link::{
+    Bytes, Dial, FrameEnd, Framing, Outbox, SocketDialer, read_head, read_rest, send_all,
+};
 use std::alloc::{AllocError, Global};
+use std::io::Write;
 use std::net::{Net, TcpListener, TcpStream};
 use std::process::Abort;
-use std::sync::Wait;
+use std::sync::{Mutex, Wait};
 use std::test::*;
 use std::thread::Threads;
 use std::time::{Clock, Duration};
 use std::{io, thread};
+
+/// Frames that are sent as they are.
+#[derive(Drop)]
+struct AsTheyAre {
+    next: Option<Bytes>,
+}
+
+impl Framing<Bytes> for AsTheyAre {
+    fn begin(&mut self, frame: Bytes) {
+        self.next = Some(frame);
+    }
+
+    fn next_frame(&mut self) -> Option<Bytes> {
+        self.next.take()
+    }
+}
 
 /// A frame of one octet.
 fn frame(alloc: Global, octet: u8) -> Result<Bytes, AllocError> {
@@ -32,14 +51,14 @@ fn take_one(alloc: Global, listener: &TcpListener) -> io::Result<u8> {
 fn put_until<R: Wait + Clock>(
     rt: &R,
     alloc: Global,
-    outbox: &Outbox,
+    outbox: &Outbox<Bytes>,
     taken: &Signal,
 ) -> Result<(), AllocError> {
     for _ in rt.forever() {
         if taken.has_come(rt) {
             break;
         }
-        outbox.put(rt, frame(alloc, 2)?);
+        outbox.put(rt, frame(alloc, 2)?, 5);
         thread::sleep(rt, Duration::from_millis(5));
     }
     Ok(())
@@ -62,7 +81,7 @@ fn take_two<R: Wait + Clock + Threads + Sync>(
     rt: &R,
     alloc: Global,
     listener: &TcpListener,
-    outbox: &Outbox,
+    outbox: &Outbox<Bytes>,
 ) -> io::Result<(u8, u8)> {
     let first = take_one(alloc, listener)?;
     let taken = Signal::new();
@@ -80,16 +99,16 @@ fn take_late<R: Wait + Clock>(
     rt: &R,
     alloc: Global,
     listener: &TcpListener,
-    outbox: &Outbox,
+    outbox: &Outbox<Bytes>,
 ) -> io::Result<(u8, u8)> {
     let first = take_one(alloc, listener)?;
     thread::sleep(rt, Duration::from_millis(1100));
-    outbox.put(rt, frame(alloc, 3)?);
+    outbox.put(rt, frame(alloc, 3)?, 5);
     Ok((first, take_one(alloc, listener)?))
 }
 
 /// Stops a link when this is done.
-fn and_stop<R: Wait, T>(rt: &R, outbox: &Outbox, done: T) -> T {
+fn and_stop<R: Wait, I, T>(rt: &R, outbox: &Outbox<I>, done: T) -> T {
     outbox.stop(rt);
     done
 }
@@ -99,13 +118,13 @@ fn a_closed_link_is_made_again(rt: HostRuntime) -> Result<(), Fail> {
     let listener = TcpListener::bind(&rt, "127.0.0.1:0")?;
     let at = listener.local_addr()?;
     let outbox = Outbox::new(rt.alloc(), 8, 1000)?;
-    outbox.put(&rt, frame(rt.alloc(), 1)?);
+    outbox.put(&rt, frame(rt.alloc(), 1)?, 5);
     let (taken, ()) = thread::join(
         &rt,
         || and_stop(&rt, &outbox, take_two(&rt, rt.alloc(), &listener, &outbox)),
         || {
             let mut dialer = SocketDialer::new(&rt, at, Duration::from_secs(5));
-            send_all(&rt, &outbox, &mut dialer);
+            send_all(&rt, &outbox, &mut AsTheyAre { next: None }, &mut dialer);
         },
     );
     let (first, second) = taken?;
@@ -119,13 +138,13 @@ fn an_idle_link_that_was_closed_loses_no_frame(rt: HostRuntime) -> Result<(), Fa
     let listener = TcpListener::bind(&rt, "127.0.0.1:0")?;
     let at = listener.local_addr()?;
     let outbox = Outbox::new(rt.alloc(), 8, 1000)?;
-    outbox.put(&rt, frame(rt.alloc(), 1)?);
+    outbox.put(&rt, frame(rt.alloc(), 1)?, 5);
     let (taken, ()) = thread::join(
         &rt,
         || and_stop(&rt, &outbox, take_late(&rt, rt.alloc(), &listener, &outbox)),
         || {
             let mut dialer = SocketDialer::new(&rt, at, Duration::from_secs(5));
-            send_all(&rt, &outbox, &mut dialer);
+            send_all(&rt, &outbox, &mut AsTheyAre { next: None }, &mut dialer);
         },
     );
     let (first, second) = taken?;
@@ -150,5 +169,116 @@ fn frames_end_with_their_stream(rt: HostRuntime) -> Result<(), Fail> {
     assert!(rt; next(rt.alloc(), &mut stream).err() == Some(FrameEnd::Closed));
     let mut head: &[u8] = &octets[..3];
     assert!(rt; next(rt.alloc(), &mut head).err() == Some(FrameEnd::Cut));
+    Ok(())
+}
+
+/// What was written, and a place that says so when the last octet has come.
+#[derive(Drop)]
+struct Paper<'a, R> {
+    rt: &'a R,
+    written: &'a Mutex<Vec<u8>>,
+    whole: &'a Signal,
+    /// What the last octet is.
+    last: u8,
+}
+
+impl<'a, R: Wait> Write for Paper<'a, R> {
+    fn write(&mut self, octets: &[u8]) -> io::Result<usize> {
+        self.written.lock(self.rt).extend_from_slice(octets)?;
+        if octets.last().copied() == Some(self.last) {
+            self.whole.give(self.rt);
+        }
+        Ok(octets.len())
+    }
+
+    fn flush(&mut self) -> io::Result<()> {
+        Ok(())
+    }
+}
+
+/// Makes streams that write on one paper.
+#[derive(Drop)]
+struct PaperDialer<'a, R> {
+    rt: &'a R,
+    written: &'a Mutex<Vec<u8>>,
+    whole: &'a Signal,
+    last: u8,
+}
+
+impl<'a, R: Wait> Dial for PaperDialer<'a, R> {
+    type Stream = Paper<'a, R>;
+
+    fn dial(&mut self) -> Option<Paper<'a, R>> {
+        Some(Paper {
+            rt: self.rt,
+            written: self.written,
+            whole: self.whole,
+            last: self.last,
+        })
+    }
+
+    fn is_open(&mut self, _stream: &Paper<'a, R>) -> bool {
+        true
+    }
+}
+
+/// Makes two frames of each number below 100, the number and 100 more; of 7 none. As it begins with 1 it puts 9 into the queue itself, which would
+/// wait for ever if the queue's lock were held.
+#[derive(Drop)]
+struct InTwo<'a, R> {
+    rt: &'a R,
+    alloc: Global,
+    outbox: &'a Outbox<u8>,
+    left: [Option<u8>; 2],
+}
+
+impl<'a, R: Wait> Framing<u8> for InTwo<'a, R> {
+    fn begin(&mut self, number: u8) {
+        if number == 1 {
+            self.outbox.put(self.rt, 9, 1);
+        }
+        self.left = if number == 7 {
+            [None, None]
+        } else {
+            [Some(number), number.checked_add(100)]
+        };
+    }
+
+    fn next_frame(&mut self) -> Option<Bytes> {
+        let [first, second] = self.left;
+        self.left = [second, None];
+        Bytes::from_vec(vec![in self.alloc; first?].ok()?).ok()
+    }
+}
+
+#[test]
+fn items_become_frames_in_their_order_outside_the_lock(rt: HostRuntime) -> Result<(), Fail> {
+    let outbox = Outbox::new(rt.alloc(), 8, 1000)?;
+    let written = Mutex::new(Vec::new(rt.alloc()));
+    let whole = Signal::new();
+    for number in [1u8, 2, 7, 3] {
+        outbox.put(&rt, number, 1);
+    }
+    let (has_come, ()) = thread::join(
+        &rt,
+        || and_stop(&rt, &outbox, whole.wait(&rt, Duration::from_secs(20))),
+        || {
+            let mut dialer = PaperDialer {
+                rt: &rt,
+                written: &written,
+                whole: &whole,
+                last: 109,
+            };
+            let mut frames = InTwo {
+                rt: &rt,
+                alloc: rt.alloc(),
+                outbox: &outbox,
+                left: [None, None],
+            };
+            send_all(&rt, &outbox, &mut frames, &mut dialer);
+        },
+    );
+    assert!(rt; has_come);
+    assert!(rt; written.lock(&rt).as_slice() == &[1u8, 101, 2, 102, 3, 103, 9, 109][..]);
     Ok(())
 }

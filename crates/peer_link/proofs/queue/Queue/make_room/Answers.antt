@@ -2,9 +2,9 @@ use Rattle.peer_link.proofs.Forgetting.{none_forgotten, one_more_forgotten}
 use Rattle.peer_link.proofs.queue.Queue.make_room.Goals as goal
 
 pub loop-self-init : goal.loop-self-init
-loop-self-init c = none_forgotten c.args.self.now c.args.octets
+loop-self-init g c = none_forgotten c.args.self.now c.args.weight
 
 pub loop-self-preserved : goal.loop-self-preserved
-loop-self-preserved c =
-    one_more_forgotten c.args.self.now c.loop-self.self c.forget_oldest.new.self c.args.octets c.loop-self.invariant
+loop-self-preserved g c =
+    one_more_forgotten c.args.self.now c.loop-self.self c.forget_oldest.new.self c.args.weight c.loop-self.invariant
     (c.is_full_for.ensures.full c.loop-self-test.true).1 c.forget_oldest.ensures

@@ -3,7 +3,7 @@ use Rattle.peer_link.specs.Waiting.{HasForgotten}
 use Rattle.peer_link.proofs.queue.Queue.make_room.Given as goal
 
 abbrev pub invariant-loop-self : goal.invariant-loop-self
-invariant-loop-self l = HasForgotten l.fn.self l.octets l.self
+invariant-loop-self g l = HasForgotten l.fn.self l.weight l.self
 
 abbrev pub decreases-loop-self : goal.decreases-loop-self
-decreases-loop-self l = length l.self.frames
+decreases-loop-self g l = length l.self.waiting

@@ -1,0 +1,130 @@
+//! What a server says on standard error, a line an event: lines wait in a queue with a limit, and one thread writes them. Nobody else ever waits for
+//! whoever reads them. What the lines say is not here.
+use crate::lines::Lines;
+use crate::notes::Note;
+use std::alloc::{AllocError, Global};
+use std::io::Eprint;
+use std::sync::{Condvar, CondvarTimeouts, Mutex, Wait};
+use std::time::{Clock, Duration};
+
+/// How many notes wait to be written, at most.
+const NOTES: usize = 128;
+
+/// How long the thread that writes rests after it has written what waited, in milliseconds. Equal lines that come one after the other meanwhile
+/// are written once, with their number.
+const REST: u64 = 200;
+
+/// Where notes are written.
+pub trait NoteWriter {
+    /// Writes one note as a line, however long that takes. One that can't be written is lost.
+    fn write_note(&mut self, note: &Note);
+}
+
+/// Standard error.
+#[derive(Drop)]
+pub struct StandardError<'a, R> {
+    pub rt: &'a R,
+}
+
+impl<'a, R: Eprint> NoteWriter for StandardError<'a, R> {
+    fn write_note(&mut self, note: &Note) {
+        let _ = eprintln!(self.rt; "{note}");
+    }
+}
+
+/// What is under the lock.
+#[derive(Drop)]
+struct Held {
+    lines: Lines,
+    is_stopping: bool,
+}
+
+/// Lines that wait to be written. At most 128 runs of equal lines do; a line for which there is no room is counted, and the number is written
+/// where the line would have been.
+pub struct Reporter {
+    held: Mutex<Held>,
+    changed: Condvar,
+}
+
+// Not derived: see "What the gate takes" in docs/ARCHITECTURE.md.
+impl Drop for Reporter {
+    fn drop(self) {
+        let Reporter {
+            held: _,
+            changed: _,
+        } = self;
+    }
+}
+
+impl Reporter {
+    /// Nothing was said yet. Lines may be said at once; they are written when a thread writes them.
+    pub fn new(alloc: Global) -> Result<Reporter, AllocError> {
+        let lines = Lines::new(alloc, NOTES)?;
+        Ok(Reporter {
+            held: Mutex::new(Held {
+                lines,
+                is_stopping: false,
+            }),
+            changed: Condvar::new(),
+        })
+    }
+
+    /// Says a line, without its end; one that couldn't be made for want of memory is counted as dropped. It waits for nothing but its own lock,
+    /// which is held for no longer than a few steps, and takes no memory.
+    pub fn say<R: Wait>(&self, rt: &R, line: Result<String, AllocError>) {
+        match line {
+            Ok(text) => self.held.lock(rt).lines.say(text),
+            Err(_) => self.held.lock(rt).lines.lose(),
+        }
+        self.changed.notify_one();
+    }
+
+    /// Nothing more is said that has to be written: whoever writes does so with what waits, and ends.
+    pub fn stop<R: Wait>(&self, rt: &R) {
+        self.held.lock(rt).is_stopping = true;
+        self.changed.notify_all();
+    }
+
+    /// Waits until there is something to write, or nothing will be; how many notes wait.
+    fn wait_for_notes<R: Wait>(&self, rt: &R) -> usize {
+        let held = self.changed.wait_while(rt, self.held.lock(rt), |held| {
+            !held.is_stopping && held.lines.is_empty()
+        });
+        held.lines.len()
+    }
+
+    /// The note that waits longest.
+    fn take<R: Wait>(&self, rt: &R) -> Option<Note> {
+        self.held.lock(rt).lines.take()
+    }
+
+    /// Rests, but for no longer than until it is stopped.
+    fn rest<R: Wait + Clock>(&self, rt: &R) {
+        let time = Duration::from_millis(REST);
+        let (_held, _) = self
+            .changed
+            .wait_timeout_while(rt, self.held.lock(rt), time, |held| !held.is_stopping);
+    }
+
+    /// Writes so many notes, or all, where there are fewer.
+    fn write_some<R: Wait, W: NoteWriter>(&self, rt: &R, writer: &mut W, count: usize) {
+        'each: for _ in 0..count {
+            let Some(note) = self.take(rt) else {
+                break;
+            };
+            writer.write_note(&note);
+        }
+    }
+
+    /// Writes what is said, until it is stopped and all of it is written. A writer that waits makes nobody wait but this thread.
+    pub fn write_all<R: Wait + Clock, W: NoteWriter>(&self, rt: &R, writer: &mut W) {
+        for _ in rt.forever() {
+            let count = self.wait_for_notes(rt);
+            if count == 0 {
+                break;
+            }
+            self.write_some(rt, writer, count);
+            self.rest(rt);
+        }
+    }
+}

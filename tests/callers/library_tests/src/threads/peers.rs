@@ -1,0 +1,241 @@
+//! Strangers at the port for peers, over this machine's loopback: silent ones, ones that begin what is no frame of another replica, and one that begins
+//! too long a frame. What a server's node hears, and when connections are closed, is looked at.
+
+use crate::threads::sessions::{Holding, NoReads};
+use crate::threads::signal::Signal;
+use client_link::Limits;
+use hex::decode;
+use ldap_session::{Config, Name};
+use schema_reader::built_in_schema;
+use server_threads::{Engine, Place, Rooms, Server, ServerError, make_rooms};
+use std::alloc::Global;
+use std::io::{self, ErrorKind, Read, Write};
+use std::net::{Net, SocketAddr, TcpListener, TcpStream};
+use std::process::Abort;
+use std::sync::{Mutex, Wait};
+use std::test::*;
+use std::thread::{self, Threads};
+use std::time::{Clock, Duration, Instant};
+use vr_wire::{Cluster, Op, PeerMessage};
+
+/// Replica 1 of cluster 9 says that six records are committed.
+const COMMIT: &str = "0000001902000000000009030100000000000000050000000000000006";
+
+/// The first octets of what replica 0 doesn't hear: another version, another cluster, no kind, itself, nobody, a longer frame than a stranger's may
+/// be, and one without a sender.
+const WRONG: [&str; 7] = [
+    "00000019010000000000090301",
+    "000000190200000000000a0301",
+    "00000019020000000000090701",
+    "00000019020000000000090300",
+    "00000019020000000000090302",
+    "0000fffd020000000000090301",
+    "00000008020000000000090301",
+];
+
+/// The first octets of such a frame, not enough to tell who sends it.
+const BEGUN: [u8; 12] = [0, 0, 0, 0x19, 2, 0, 0, 0, 0, 0, 9, 3];
+
+/// A node that counts what it hears.
+#[derive(Drop)]
+struct Ear<'a, R> {
+    rt: &'a R,
+    /// Whom it heard, in order.
+    heard: Mutex<Vec<u64>>,
+    has_heard: Signal,
+    is_over: Signal,
+}
+
+impl<'a, R: Wait + Clock> Engine for Ear<'a, R> {
+    fn hear(&self, from: u64, _message: PeerMessage<Op>) -> bool {
+        let _ = self.heard.lock(self.rt).push(from);
+        self.has_heard.give(self.rt);
+        true
+    }
+
+    fn run(&self) -> Result<(), ServerError> {
+        let _is_over = self.is_over.wait(self.rt, Duration::from_secs(50));
+        Ok(())
+    }
+
+    fn stop(&self) {
+        self.is_over.give(self.rt);
+    }
+}
+
+/// Where two replicas of these tests are found: this one anywhere, the other nowhere.
+fn places() -> [Place; 2] {
+    let anywhere = SocketAddr::from(([127, 0, 0, 1], 0));
+    let nowhere = SocketAddr::from(([127, 0, 0, 1], 1));
+    [
+        Place {
+            peer_address: anywhere,
+            ldap_address: anywhere,
+        },
+        Place {
+            peer_address: nowhere,
+            ldap_address: nowhere,
+        },
+    ]
+}
+
+/// Runs a server for no clients, until its node is over.
+fn run<R: Net<Listener = TcpListener, Stream = TcpStream> + Threads + Wait + Clock + Eprint + Sync>(
+    rt: &R,
+    alloc: Global,
+    rooms: &Rooms,
+    ear: &Ear<'_, R>,
+    cluster: Cluster,
+) -> Result<(), Fail> {
+    let schema = built_in_schema(alloc)?;
+    let manager = Name::read(alloc, &schema, "cn=admin,dc=example,dc=com")?;
+    let config = Config {
+        schema: &schema,
+        manager: &manager,
+        password: b"secret",
+        replica: 0,
+        restarts: 1,
+        session: 0,
+    };
+    let ways: Vec<(NoReads, Holding<'_, R>)> = Vec::new(alloc);
+    let server = Server {
+        rt,
+        alloc,
+        rooms,
+        engine: ear,
+        cluster,
+        places: &places(),
+    };
+    server.run(ways, 1, &config)?;
+    Ok(())
+}
+
+/// The octets of a text of hexadecimal digits.
+fn octets_of(alloc: Global, text: &str) -> io::Result<Vec<u8>> {
+    decode(alloc, text).map_err(|_| io::Error::from(ErrorKind::InvalidData))
+}
+
+/// For how long a connection is open on which these octets are sent, in milliseconds; none, where that is longer than 20 seconds.
+fn open_for<R: Net<Stream = TcpStream> + Clock>(
+    rt: &R,
+    at: SocketAddr,
+    octets: &[u8],
+) -> io::Result<u128> {
+    let begin = Instant::now(rt)?;
+    let mut stream = TcpStream::connect(rt, at)?;
+    stream.set_read_timeout(Some(Duration::from_secs(20)))?;
+    stream.write_all(octets)?;
+    let mut answer = [0u8; 1];
+    let is_closed = match stream.read(&mut answer) {
+        Ok(count) => count == 0,
+        Err(error) => error.kind() == ErrorKind::ConnectionReset,
+    };
+    let open = Instant::now(rt)?.saturating_duration_since(begin).as_millis();
+    if is_closed { Ok(open) } else { Ok(u128::MAX) }
+}
+
+/// Strangers that say nothing, so many, and then another replica: how long that waits until it is heard, in milliseconds.
+fn heard_among<R: Net<Stream = TcpStream> + Wait + Clock>(
+    rt: &R,
+    alloc: Global,
+    at: SocketAddr,
+    silent: usize,
+    ear: &Ear<'_, R>,
+) -> io::Result<u128> {
+    let mut streams = Vec::new(alloc);
+    for _ in 0..silent {
+        streams.push(TcpStream::connect(rt, at)?)?;
+    }
+    let begin = Instant::now(rt)?;
+    let mut stream = TcpStream::connect(rt, at)?;
+    stream.write_all(&octets_of(alloc, COMMIT)?)?;
+    let _has_heard = ear.has_heard.wait(rt, Duration::from_secs(20));
+    Ok(Instant::now(rt)?.saturating_duration_since(begin).as_millis())
+}
+
+/// Stops the node when this is done.
+fn and_stop<R: Wait + Clock, T>(ear: &Ear<'_, R>, done: T) -> T {
+    ear.stop();
+    done
+}
+
+/// A node that has heard nothing.
+fn new_ear<'a, R>(rt: &'a R, alloc: Global) -> Ear<'a, R> {
+    Ear {
+        rt,
+        heard: Mutex::new(Vec::new(alloc)),
+        has_heard: Signal::new(),
+        is_over: Signal::new(),
+    }
+}
+
+/// The longest time for which one of the wrong beginnings leaves its connection open, in milliseconds.
+fn longest_wrong<R: Net<Stream = TcpStream> + Clock>(
+    rt: &R,
+    alloc: Global,
+    at: SocketAddr,
+) -> io::Result<u128> {
+    let mut longest = 0;
+    for wrong in WRONG {
+        longest = longest.max(open_for(rt, at, &octets_of(alloc, wrong)?)?);
+    }
+    Ok(longest)
+}
+
+#[test]
+fn silent_strangers_keep_no_replica_out(rt: HostRuntime) -> Result<(), Fail> {
+    let cluster = Cluster::new(9).expect(&rt, "9 is the number of a cluster");
+    let rooms = make_rooms(&rt, rt.alloc(), &places(), 0, Limits::usual())?;
+    let at = rooms.peers.local_addr()?;
+    let ear = new_ear(&rt, rt.alloc());
+    let (ended, waited) = thread::join(
+        &rt,
+        || run(&rt, rt.alloc(), &rooms, &ear, cluster),
+        || and_stop(&ear, heard_among(&rt, rt.alloc(), at, 100, &ear)),
+    );
+    ended?;
+    let waited = waited?;
+    assert!(rt; waited < 2000, "{waited} ms");
+    assert!(rt; ear.heard.lock(&rt).as_slice() == &[1u64][..]);
+    Ok(())
+}
+
+#[test]
+fn a_silent_stranger_is_closed_after_two_seconds(rt: HostRuntime) -> Result<(), Fail> {
+    let cluster = Cluster::new(9).expect(&rt, "9 is the number of a cluster");
+    let rooms = make_rooms(&rt, rt.alloc(), &places(), 0, Limits::usual())?;
+    let at = rooms.peers.local_addr()?;
+    let ear = new_ear(&rt, rt.alloc());
+    let (ended, (none, begun)) = thread::join(
+        &rt,
+        || run(&rt, rt.alloc(), &rooms, &ear, cluster),
+        || {
+            let none = open_for(&rt, at, b"");
+            let begun = open_for(&rt, at, &BEGUN);
+            and_stop(&ear, (none, begun))
+        },
+    );
+    ended?;
+    let (none, begun) = (none?, begun?);
+    assert!(rt; 1900 <= none && none < 4000, "{none} ms");
+    assert!(rt; 1900 <= begun && begun < 4000, "{begun} ms");
+    Ok(())
+}
+
+#[test]
+fn wrong_beginnings_are_refused_at_once(rt: HostRuntime) -> Result<(), Fail> {
+    let cluster = Cluster::new(9).expect(&rt, "9 is the number of a cluster");
+    let rooms = make_rooms(&rt, rt.alloc(), &places(), 0, Limits::usual())?;
+    let at = rooms.peers.local_addr()?;
+    let ear = new_ear(&rt, rt.alloc());
+    let (ended, longest) = thread::join(
+        &rt,
+        || run(&rt, rt.alloc(), &rooms, &ear, cluster),
+        || and_stop(&ear, longest_wrong(&rt, rt.alloc(), at)),
+    );
+    ended?;
+    let longest = longest?;
+    assert!(rt; longest < 1000, "{longest} ms");
+    assert!(rt; ear.heard.lock(&rt).is_empty());
+    Ok(())
+}

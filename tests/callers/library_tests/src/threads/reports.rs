@@ -1,0 +1,76 @@
+//! What is said on standard error while nobody reads it. Lines are said; who waits for whom is looked at, and what is written is compared.
+
+use crate::threads::signal::Signal;
+use server_threads::{Note, NoteWriter, Reporter};
+use std::alloc::{AllocError, Global};
+use std::process::Abort;
+use std::sync::{Mutex, Wait};
+use std::test::*;
+use std::thread;
+use std::time::{Clock, Duration};
+
+/// Keeps what it writes, and waits inside each write until it is let go.
+#[derive(Drop)]
+struct Blocked<'a, R> {
+    rt: &'a R,
+    alloc: Global,
+    entered: &'a Signal,
+    free: &'a Signal,
+    written: &'a Mutex<Vec<String>>,
+}
+
+impl<'a, R: Wait + Clock> NoteWriter for Blocked<'a, R> {
+    fn write_note(&mut self, note: &Note) {
+        self.entered.give(self.rt);
+        let _is_free = self.free.wait(self.rt, Duration::from_secs(30));
+        if let Ok(line) = format!(in self.alloc; "{note}") {
+            let _ = self.written.lock(self.rt).push(line);
+        }
+    }
+}
+
+/// Says one line, and when that is being written 312 equal ones, 200 different ones, and one that there is no memory for; then lets the writer go.
+fn say_all<R: Wait + Clock>(rt: &R, alloc: Global, reporter: &Reporter, entered: &Signal, free: &Signal) -> bool {
+    reporter.say(rt, format!(in alloc; "a"));
+    let has_entered = entered.wait(rt, Duration::from_secs(20));
+    for _ in 0..312 {
+        reporter.say(rt, format!(in alloc; "b"));
+    }
+    for number in 0..200u32 {
+        reporter.say(rt, format!(in alloc; "c{number}"));
+    }
+    reporter.say(rt, Err(AllocError));
+    free.give(rt);
+    reporter.stop(rt);
+    has_entered
+}
+
+#[test]
+fn nobody_waits_for_standard_error_and_no_line_goes_uncounted(rt: HostRuntime) -> Result<(), Fail> {
+    let reporter = Reporter::new(rt.alloc())?;
+    let (entered, free) = (Signal::new(), Signal::new());
+    let written = Mutex::new(Vec::new(rt.alloc()));
+    let ((), has_entered) = thread::join(
+        &rt,
+        || {
+            let mut writer = Blocked {
+                rt: &rt,
+                alloc: rt.alloc(),
+                entered: &entered,
+                free: &free,
+                written: &written,
+            };
+            reporter.write_all(&rt, &mut writer);
+        },
+        || say_all(&rt, rt.alloc(), &reporter, &entered, &free),
+    );
+    assert!(rt; has_entered);
+    let lines = written.lock(&rt);
+    assert_eq!(rt; lines.len(), 130);
+    assert!(rt; lines[0].as_str() == "a");
+    assert!(rt; lines[1].as_str() == "b .. (said 312 times)");
+    assert!(rt; lines[2].as_str() == "c0");
+    assert!(rt; lines[128].as_str() == "c126");
+    assert!(rt; lines[129].as_str() == "74 lines were dropped");
+    Ok(())
+}
