@@ -238,13 +238,7 @@ impl<'a, R: Wait, D: Device> Running<'a, R, D> {
     }
 
     /// Asks the node's clock, at this moment, and does what is due, as `handle` does; none, where another thread has the node just then.
-    pub fn tick<P: Peers>(
-        &self,
-        rt: &R,
-        alloc: Global,
-        peers: &mut P,
-        now: u64,
-    ) -> Option<Ticked> {
+    pub fn tick<P: Peers>(&self, rt: &R, alloc: Global, peers: &mut P, now: u64) -> Option<Ticked> {
         let mut held = self.held.try_lock()?;
         let Asked { due, wait } = held.ask(now);
         let beat = act(alloc, &mut held, peers, due);

@@ -9,8 +9,8 @@ use Rattle.node_gate.proofs.peers.send_all.Goals as goal
 pub loop-send-preserved : goal.loop-send-preserved
 loop-send-preserved g c after t =
     c.loop-send.invariant after (subst (λ (l : List (Send OpValue)). TakesAll g.P.Peers.takes c.loop-send.peers l after) (sym c.in-Some.ensures.steps.0)
-      (next c.in-Some.send
-        (subst (λ (m : PeerMessage OpValue). g.P.Peers.takes c.loop-send.peers c.in-Some.send.to m c.send.new.self) c.into_message.ensures c.send.ensures) t))
+    (next c.in-Some.send
+    (subst (λ (m : PeerMessage OpValue). g.P.Peers.takes c.loop-send.peers c.in-Some.send.to m c.send.new.self) c.into_message.ensures c.send.ensures) t))
 
 pub returns : goal.returns
 returns g c =
