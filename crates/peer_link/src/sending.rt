@@ -1,6 +1,6 @@
 //! What waits is sent by a thread of its own: each item becomes frames here, which are written to a stream. What frames say is not here.
 use crate::dialing::Dial;
-use crate::framing::Framing;
+use crate::framing::{Framing, StreamAge};
 use crate::outbox::Outbox;
 use crate::patience::Patience;
 use std::io::Write;
@@ -41,20 +41,21 @@ fn dialed<R: Wait + Clock, T, D: Dial>(
     None
 }
 
-/// Sees to it that there is a stream; none where it is stopped meanwhile.
+/// Sees to it that there is a stream, and tells its age; none where it is stopped meanwhile.
 fn connected<R: Wait + Clock, T, D: Dial>(
     rt: &R,
     outbox: &Outbox<T>,
     dialer: &mut D,
     held: Option<D::Stream>,
     was_idle: bool,
-) -> Option<D::Stream> {
+) -> Option<(D::Stream, StreamAge)> {
     if let Some(stream) = held {
         if !was_idle || dialer.is_open(&stream) {
-            return Some(stream);
+            return Some((stream, StreamAge::Used));
         }
     }
-    dialed(rt, outbox, dialer)
+    let stream = dialed(rt, outbox, dialer)?;
+    Some((stream, StreamAge::New))
 }
 
 /// Writes all frames of the item that was begun; whether the stream took them.
@@ -90,10 +91,10 @@ pub fn send_all<R: Wait + Clock, T: Drop, F: Framing<T>, D: Dial>(
             break;
         };
         let was_idle = was_idle(rt, &mut last);
-        let Some(mut open) = connected(rt, outbox, dialer, stream, was_idle) else {
+        let Some((mut open, age)) = connected(rt, outbox, dialer, stream, was_idle) else {
             return;
         };
-        framing.begin(item);
+        framing.begin(item, age);
         stream = if write_frames(rt, framing, &mut open) {
             Some(open)
         } else {

@@ -8,6 +8,9 @@ pub trait Engine {
     /// lose one, and the node goes on.
     fn hear(&self, from: u64, message: PeerMessage<Op>) -> bool;
 
+    /// Takes note that a part of a long message of the replica of this index has come.
+    fn hear_part(&self, from: u64);
+
     /// Does what is due, moment by moment, until the node is stopped, or has stopped for good.
     fn run(&self) -> Result<(), ServerError>;
 

@@ -23,6 +23,9 @@ pub enum ServerError {
     /// The system gave fewer threads than the server needs.
     #[error("no thread")]
     NoThread,
+    /// The system has no clock that goes on.
+    #[error("no clock")]
+    NoClock,
     /// `listening` couldn't be written.
     #[error("cannot write")]
     CannotWrite,

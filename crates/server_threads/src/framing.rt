@@ -1,26 +1,21 @@
 //! Messages become frames, in the thread that sends them and outside every lock. Queues and streams are not here.
 use crate::reporter::Reporter;
 use crate::telling::tell_lost;
-use peer_link::{Bytes, Framing};
+use peer_link::{Bytes, Framing, StreamAge};
 use std::alloc::Global;
 use std::sync::Wait;
-use vr_wire::{Cluster, Op, PeerMessage, WireError, write};
+use vr_wire::{Cluster, Frames, Op, PeerMessage, WireError};
 
-/// The frame of a message of this sender in this cluster. E20 only where it would be over the limit of a frame.
-fn frame_of(
-    alloc: Global,
-    cluster: Cluster,
-    sender: u8,
-    message: &PeerMessage<Op>,
-) -> Result<Bytes, WireError> {
-    let written = write(alloc, cluster, sender, message)?;
-    match Bytes::from_vec(written) {
-        Ok(frame) => Ok(frame),
-        Err(_) => Err(WireError::NoMemory),
-    }
-}
+/// How many octets of a long message a part has: few enough that both ends hold little beside the message, and that each part is a sign of life in time.
+const PART: usize = 16_777_216;
 
-/// Makes the frames of messages to one replica. A message that can't be one is told of.
+/// The longest frame that is first on a stream, where a stranger's may have no more.
+const FIRST: usize = 65_536;
+
+/// How many octets of a message a part has that may be first on a stream.
+const FIRST_PART: usize = 65_000;
+
+/// Makes the frames of messages to one replica: one of each message that fits in one, else its parts. A message that can't be made frames of is told of.
 pub struct MessageFrames<'a, R> {
     rt: &'a R,
     alloc: Global,
@@ -28,7 +23,9 @@ pub struct MessageFrames<'a, R> {
     cluster: Cluster,
     sender: u8,
     to: usize,
-    next: Option<Bytes>,
+    /// How many messages were begun: each has another number in its parts.
+    number: u64,
+    frames: Option<Frames>,
 }
 
 // Not derived: see "What the gate takes" in docs/ARCHITECTURE.md.
@@ -41,7 +38,8 @@ impl<'a, R> Drop for MessageFrames<'a, R> {
             cluster: _,
             sender: _,
             to: _,
-            next: _,
+            number: _,
+            frames: _,
         } = self;
     }
 }
@@ -63,23 +61,76 @@ impl<'a, R> MessageFrames<'a, R> {
             cluster,
             sender,
             to,
-            next: None,
+            number: 0,
+            frames: None,
         }
     }
 }
 
-impl<'a, R: Wait> Framing<PeerMessage<Op>> for MessageFrames<'a, R> {
-    fn begin(&mut self, message: PeerMessage<Op>) {
-        self.next = match frame_of(self.alloc, self.cluster, self.sender, &message) {
-            Ok(frame) => Some(frame),
-            Err(error) => {
-                tell_lost(self.rt, self.alloc, self.reporter, self.to, error);
-                None
-            }
+impl<'a, R: Wait> MessageFrames<'a, R> {
+    /// Nothing more comes of a message, for this reason.
+    fn lose(&mut self, error: WireError) {
+        self.frames = None;
+        tell_lost(self.rt, self.alloc, self.reporter, self.to, error);
+    }
+
+    /// The frames of the next message, for a stream of this age.
+    fn frames_of(&self, message: &PeerMessage<Op>, age: StreamAge) -> Result<Frames, WireError> {
+        let (most, part) = match age {
+            StreamAge::New => (FIRST, FIRST_PART),
+            StreamAge::Used => (usize::MAX, PART),
         };
+        Frames::of(
+            self.alloc,
+            self.cluster,
+            self.sender,
+            self.number,
+            most,
+            part,
+            message,
+        )
+    }
+
+    /// The octets of the next frame, where there is one.
+    fn next_octets(&mut self) -> Result<Option<Vec<u8>>, WireError> {
+        match self.frames.as_mut() {
+            Some(frames) => frames.next(self.alloc),
+            None => Ok(None),
+        }
+    }
+}
+
+/// The octets of a frame, to be shared.
+fn bytes_of(octets: Vec<u8>) -> Result<Bytes, WireError> {
+    match Bytes::from_vec(octets) {
+        Ok(frame) => Ok(frame),
+        Err(_) => Err(WireError::NoMemory),
+    }
+}
+
+impl<'a, R: Wait> Framing<PeerMessage<Op>> for MessageFrames<'a, R> {
+    fn begin(&mut self, message: PeerMessage<Op>, age: StreamAge) {
+        self.number = self.number.wrapping_add(1);
+        match self.frames_of(&message, age) {
+            Ok(frames) => self.frames = Some(frames),
+            Err(error) => self.lose(error),
+        }
     }
 
     fn next_frame(&mut self) -> Option<Bytes> {
-        self.next.take()
+        let octets = match self.next_octets() {
+            Ok(octets) => octets?,
+            Err(error) => {
+                self.lose(error);
+                return None;
+            }
+        };
+        match bytes_of(octets) {
+            Ok(frame) => Some(frame),
+            Err(error) => {
+                self.lose(error);
+                None
+            }
+        }
     }
 }

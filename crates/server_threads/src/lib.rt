@@ -25,6 +25,7 @@ pub use client_link::{Config, Limits};
 pub use crew::Crew;
 pub use engine::Engine;
 pub use fault::ServerError;
+pub use framing::MessageFrames;
 pub use laws::none_uncounted;
 pub use lines::Lines;
 pub use notes::Note;

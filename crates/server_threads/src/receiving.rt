@@ -2,7 +2,7 @@
 use crate::engine::Engine;
 use crate::heading::{BEHIND_LENGTH, HEADING, Senders};
 use crate::reporter::Reporter;
-use crate::telling::{tell_peer_came, tell_peer_went};
+use crate::telling::{tell_parts_lost, tell_peer_came, tell_peer_went};
 use client_link::Peer;
 use crossbeam_channel::Receiver;
 use peer_link::{FrameEnd, read_head, read_more, read_rest};
@@ -10,7 +10,7 @@ use std::alloc::Global;
 use std::io::Read;
 use std::sync::Wait;
 use std::time::Clock;
-use vr_wire::{Op, PeerMessage, WireError, read, rest};
+use vr_wire::{Came, Gathering, WireError, rest};
 
 /// What all who read from other replicas share.
 #[derive(Drop)]
@@ -85,26 +85,44 @@ impl<'a, R: Wait + Clock, E: Engine> Hall<'a, R, E> {
         Ok(frame)
     }
 
-    /// The sender and the message of a frame: here frames become messages, and nowhere else.
-    fn message_of(&self, frame: &[u8]) -> Result<(u64, PeerMessage<Op>), &'static str> {
-        let (sender, message) = read(self.alloc, frame, self.senders.cluster).map_err(refusal_of)?;
-        Ok((u64::from(sender), message))
-    }
-
-    /// Hands the message of a frame to the node, and gives its sender; else why the connection ends.
-    fn take_frame(&self, frame: &[u8]) -> Result<u64, &'static str> {
-        let (from, message) = self.message_of(frame)?;
-        if self.engine.hear(from, message) {
-            Ok(from)
-        } else {
-            Err("the node has stopped")
+    /// Hands on what has come of a frame, and gives its sender; else why the connection ends.
+    fn hand_on(&self, came: Came) -> Result<u64, &'static str> {
+        match came {
+            Came::Message(sender, message) => {
+                if self.engine.hear(u64::from(sender), message) {
+                    Ok(u64::from(sender))
+                } else {
+                    Err("the node has stopped")
+                }
+            }
+            Came::Part(sender) => {
+                self.engine.hear_part(u64::from(sender));
+                Ok(u64::from(sender))
+            }
+            Came::Dropped(sender) => {
+                tell_parts_lost(self.rt, self.alloc, self.reporter, u64::from(sender));
+                Ok(u64::from(sender))
+            }
         }
     }
 
-    /// Reads one frame, and hands its message to the node.
-    fn take_next<S: Read>(&self, reader: &mut S, sort: Sort) -> Result<u64, &'static str> {
+    /// Takes a frame: here frames become messages, and nowhere else. Gives its sender; else why the connection ends.
+    fn take_frame(&self, gathering: &mut Gathering, frame: &[u8]) -> Result<u64, &'static str> {
+        let came = gathering
+            .take(self.alloc, frame, self.senders.cluster)
+            .map_err(refusal_of)?;
+        self.hand_on(came)
+    }
+
+    /// Reads one frame, and takes it.
+    fn take_next<S: Read>(
+        &self,
+        gathering: &mut Gathering,
+        reader: &mut S,
+        sort: Sort,
+    ) -> Result<u64, &'static str> {
         let frame = self.next_frame(reader, sort)?;
-        self.take_frame(&frame)
+        self.take_frame(gathering, &frame)
     }
 
     /// Takes note of who is heard.
@@ -116,9 +134,14 @@ impl<'a, R: Wait + Clock, E: Engine> Hall<'a, R, E> {
     }
 
     /// Reads the frames of one connection after its first, to its end.
-    fn read_all<S: Read>(&self, reader: &mut S, peer: &mut Option<u64>) -> &'static str {
+    fn read_all<S: Read>(
+        &self,
+        gathering: &mut Gathering,
+        reader: &mut S,
+        peer: &mut Option<u64>,
+    ) -> &'static str {
         for _ in self.rt.forever() {
-            match self.take_next(reader, Sort::Known) {
+            match self.take_next(gathering, reader, Sort::Known) {
                 Ok(sender) => self.note(peer, sender),
                 Err(reason) => return reason,
             }
@@ -131,11 +154,12 @@ impl<'a, R: Wait + Clock, E: Engine> Hall<'a, R, E> {
         let Ok(mut reader) = stranger.seated(self.alloc) else {
             return "out of memory";
         };
-        match self.take_next(&mut reader, Sort::Stranger) {
+        let mut gathering = Gathering::new();
+        match self.take_next(&mut gathering, &mut reader, Sort::Stranger) {
             Ok(sender) => {
                 self.note(peer, sender);
                 reader.get_mut().trust();
-                self.read_all(&mut reader, peer)
+                self.read_all(&mut gathering, &mut reader, peer)
             }
             Err(reason) => reason,
         }

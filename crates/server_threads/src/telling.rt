@@ -61,3 +61,11 @@ pub fn tell_lost<R: Wait>(rt: &R, alloc: Global, reporter: &Reporter, to: usize,
         format!(in alloc; "a message to replica {to} is lost: {why}"),
     );
 }
+
+/// Parts of a long message of which one is missing.
+pub fn tell_parts_lost<R: Wait>(rt: &R, alloc: Global, reporter: &Reporter, sender: u64) {
+    reporter.say(
+        rt,
+        format!(in alloc; "a message of replica {sender} is lost: a part is missing"),
+    );
+}

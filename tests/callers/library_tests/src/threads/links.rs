@@ -2,7 +2,7 @@
 
 use crate::threads::signal::Signal;
 use peer_link::{
-    Bytes, Dial, FrameEnd, Framing, Outbox, SocketDialer, read_head, read_rest, send_all,
+    Bytes, Dial, FrameEnd, Framing, Outbox, StreamAge, SocketDialer, read_head, read_rest, send_all,
 };
 use std::alloc::{AllocError, Global};
 use std::io::Write;
@@ -21,7 +21,7 @@ struct AsTheyAre {
 }
 
 impl Framing<Bytes> for AsTheyAre {
-    fn begin(&mut self, frame: Bytes) {
+    fn begin(&mut self, frame: Bytes, _age: StreamAge) {
         self.next = Some(frame);
     }
 
@@ -233,7 +233,7 @@ struct InTwo<'a, R> {
 }
 
 impl<'a, R: Wait> Framing<u8> for InTwo<'a, R> {
-    fn begin(&mut self, number: u8) {
+    fn begin(&mut self, number: u8, _age: StreamAge) {
         if number == 1 {
             self.outbox.put(self.rt, 9, 1);
         }

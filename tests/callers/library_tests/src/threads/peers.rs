@@ -53,6 +53,8 @@ impl<'a, R: Wait + Clock> Engine for Ear<'a, R> {
         true
     }
 
+    fn hear_part(&self, _from: u64) {}
+
     fn run(&self) -> Result<(), ServerError> {
         let _is_over = self.is_over.wait(self.rt, Duration::from_secs(50));
         Ok(())

@@ -1,13 +1,19 @@
 //! What is said on standard error while nobody reads it. Lines are said; who waits for whom is looked at, and what is written is compared.
 
 use crate::threads::signal::Signal;
-use server_threads::{Note, NoteWriter, Reporter};
+use ldap_op::Update;
+use peer_link::Framing;
+use server_threads::{MessageFrames, Note, NoteWriter, Reporter};
 use std::alloc::{AllocError, Global};
 use std::process::Abort;
 use std::sync::{Mutex, Wait};
 use std::test::*;
 use std::thread;
 use std::time::{Clock, Duration};
+use vr_state::log::Log;
+use vr_state::message::Snapshot;
+use vr_state::words::{Client, Entry};
+use vr_wire::{Cluster, Op, PeerMessage};
 
 /// Keeps what it writes, and waits inside each write until it is let go.
 #[derive(Drop)]
@@ -72,5 +78,63 @@ fn nobody_waits_for_standard_error_and_no_line_goes_uncounted(rt: HostRuntime) -
     assert!(rt; lines[2].as_str() == "c0");
     assert!(rt; lines[128].as_str() == "c126");
     assert!(rt; lines[129].as_str() == "74 lines were dropped");
+    Ok(())
+}
+
+/// A message of 300 records, each the removal of an entry whose name has 1 MiB: they share it in memory, but not in a frame.
+fn too_long(alloc: Global) -> Result<PeerMessage<Op>, AllocError> {
+    let mut name = String::new(alloc);
+    for _ in 0..65_536 {
+        name.push_str("0123456789abcdef")?;
+    }
+    let removal = Op::new(alloc, Update::Delete(name))?;
+    let mut log = Log::new(alloc);
+    for number in 0..300 {
+        let client = Client {
+            home: 0,
+            life: 0,
+            number,
+        };
+        log.push(Entry {
+            client,
+            request_number: 1,
+            payload: removal.copy()?,
+        })?;
+    }
+    let held = Snapshot {
+        log,
+        commit_number: 0,
+    };
+    Ok(PeerMessage::StartView {
+        view_number: 3,
+        held,
+    })
+}
+
+#[test]
+fn a_message_that_becomes_no_frame_is_told_of(rt: HostRuntime) -> Result<(), Fail> {
+    let cluster = Cluster::new(9).expect(&rt, "9 is the number of a cluster");
+    let reporter = Reporter::new(rt.alloc())?;
+    let mut frames = MessageFrames::new(&rt, rt.alloc(), &reporter, cluster, 0, 1);
+    frames.begin(PeerMessage::Recovery { nonce: 5 });
+    assert!(rt; frames.next_frame().is_some());
+    assert!(rt; frames.next_frame().is_none());
+    frames.begin(too_long(rt.alloc())?);
+    assert!(rt; frames.next_frame().is_none());
+    let (entered, free) = (Signal::new(), Signal::new());
+    free.give(&rt);
+    let written = Mutex::new(Vec::new(rt.alloc()));
+    let mut writer = Blocked {
+        rt: &rt,
+        alloc: rt.alloc(),
+        entered: &entered,
+        free: &free,
+        written: &written,
+    };
+    reporter.stop(&rt);
+    reporter.write_all(&rt, &mut writer);
+    let lines = written.lock(&rt);
+    assert_eq!(rt; lines.len(), 1);
+    assert!(rt; lines[0].as_str() == "a message to replica 1 is lost: it is too long for a frame");
     Ok(())
 }
