@@ -2,7 +2,7 @@
 ghost use Rattle.std.specs.Prelude.{◌<◌, ◌≤◌};
 
 use file_device::{FileDevice, FileDeviceError};
-use node_gate::{NodeConfig, NodeError, Opened, ViewStoreError, open};
+use node_gate::{NodeConfig, NodeError, Opened, Times, ViewStoreError, open};
 use server_threads::ServerError;
 use std::alloc::Global;
 use std::fs::{File, Files};
@@ -34,6 +34,7 @@ pub fn open_node<'a, R: Files<File = File> + Wait>(
     config: NodeConfig,
     is_fresh: bool,
     seats: usize,
+    times: Times,
 ) -> Result<Opened<'a, R, FileDevice>, ServerError>
     requires seats { (0 < seats) × (seats ≤ 32) }
 {
@@ -41,5 +42,5 @@ pub fn open_node<'a, R: Files<File = File> + Wait>(
         return Err(ServerError::CannotListen);
     }
     let device = FileDevice::open(rt, alloc, store).map_err(fault_of_device)?;
-    open(rt, alloc, device, config, is_fresh, seats).map_err(fault_of_node)
+    open(rt, alloc, device, config, is_fresh, seats, times).map_err(fault_of_node)
 }

@@ -1,22 +1,30 @@
-//! Messages on their way from the node to other replicas. Messages flow in, and on to the queues that a server's threads empty. How one becomes a
-//! frame is not here.
-use node_gate::{Cluster, Op, PeerMessage, Peers};
+//! Messages on their way from the node to other replicas: each goes into the queue of its receiver. How one becomes a frame is not here.
+use node_gate::{Op, PeerMessage, Peers};
 use server_threads::Rooms;
-use std::alloc::Global;
 use std::sync::Wait;
 
 /// The queues to all replicas.
 #[derive(Drop)]
 pub struct Posts<'a, R> {
     pub rt: &'a R,
-    pub alloc: Global,
-    pub cluster: Cluster,
     pub rooms: &'a Rooms,
 }
 
+impl<'a, R> Posts<'a, R> {
+    /// A second way to the same queues.
+    pub fn beside(&self) -> Posts<'a, R> {
+        Posts {
+            rt: self.rt,
+            rooms: self.rooms,
+        }
+    }
+}
+
 impl<'a, R: Wait> Peers for Posts<'a, R> {
-    fn send(&self, to: u64, message: PeerMessage<Op>) {
-        self.rooms
-            .post(self.rt, self.alloc, self.cluster, to, &message);
+    // What becomes of a message in a queue that threads share is not said.
+    ghost takes = { λ before to message after. Unit {0} };
+
+    fn send(&mut self, to: u64, message: PeerMessage<Op>) {
+        self.rooms.post(self.rt, to, message);
     }
 }

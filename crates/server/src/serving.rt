@@ -1,11 +1,11 @@
 //! A replica put together: its node, its queues and its clock, handed to its threads. Settings flow in; clients and replicas are served until the
 //! node has stopped for good. Listeners and threads are not here.
 use crate::opening::open_node;
-use crate::options::{Options, Times};
+use crate::options::Options;
 use crate::posts::Posts;
-use crate::ticking::Clockwork;
+use crate::ticking::{Clockwork, clock_times};
 use file_device::FileDevice;
-use node_gate::{Cluster, Here, NodeGate, Opened, Peers, Running, Seat};
+use node_gate::{Cluster, Here, NodeGate, Opened, Running, Seat, send_all};
 use server_threads::{Config, Place, Rooms, Server, ServerError, announce, make_rooms};
 use std::alloc::{AllocError, Global};
 use std::fs::{File, Files};
@@ -13,7 +13,7 @@ use std::io::{Eprint, Write};
 use std::net::{Net, TcpListener, TcpStream};
 use std::sync::{Arc, Wait};
 use std::thread::Threads;
-use std::time::Clock;
+use std::time::{Clock, Duration, Instant};
 
 /// The greatest number of seats.
 const SEATS: usize = 32;
@@ -29,7 +29,7 @@ fn ways<'a, 'r, R: Wait>(
 ) -> Result<Vec<Way<'a, 'r, R>>, AllocError> {
     let mut ways = Vec::new(clock.alloc);
     for seat in seats {
-        let gate = NodeGate::new(clock.rt, clock.running, clock.posts, uris);
+        let gate = NodeGate::new(clock.rt, clock.running, clock.posts.beside(), uris);
         ways.push((seat, gate))?;
     }
     Ok(ways)
@@ -39,8 +39,11 @@ fn ways<'a, 'r, R: Wait>(
 #[derive(Clone, Copy)]
 struct Terms<'a> {
     config: Config<'a>,
+    cluster: Cluster,
     waiting: usize,
-    times: Times,
+    beat: Duration,
+    /// When the node was opened.
+    opened: Instant,
 }
 
 /// Runs all threads over what they share.
@@ -50,7 +53,7 @@ fn run_in<'a, 'r, R>(
     rooms: &'a Rooms,
     seats: Vec<Seat<Here>>,
     running: &'a Running<'r, R, FileDevice>,
-    posts: &'a Posts<'a, R>,
+    posts: Posts<'a, R>,
     places: &'a [Place],
     terms: Terms<'_>,
 ) -> Result<(), ServerError>
@@ -62,10 +65,9 @@ where
         alloc,
         running,
         posts,
-        crew: &rooms.crew,
-        times: terms.times,
-        index: u64::from(rooms.sender),
-        count: places.len() as u64,
+        rooms,
+        beat: terms.beat,
+        opened: terms.opened,
     };
     let ways = ways(&clock, &rooms.uris, seats)?;
     let server = Server {
@@ -73,7 +75,7 @@ where
         alloc,
         rooms,
         engine: &clock,
-        cluster: posts.cluster,
+        cluster: terms.cluster,
         places,
     };
     server.run(ways, terms.waiting.max(1), &terms.config)
@@ -85,7 +87,6 @@ fn serve_opened<R, W: Write>(
     alloc: Global,
     rooms: &Rooms,
     opened: Opened<'_, R, FileDevice>,
-    cluster: Cluster,
     places: &[Place],
     terms: Terms<'_>,
     output: &mut W,
@@ -99,17 +100,10 @@ where
         outputs,
         restarts: _,
     } = opened;
-    let posts = Posts {
-        rt,
-        alloc,
-        cluster,
-        rooms,
-    };
-    for send in outputs.sends {
-        posts.send(send.to, send.into_message());
-    }
+    let mut posts = Posts { rt, rooms };
+    send_all(&mut posts, outputs.sends);
     announce(output, &rooms.clients)?;
-    run_in(rt, alloc, rooms, seats, &running, &posts, places, terms)
+    run_in(rt, alloc, rooms, seats, &running, posts, places, terms)
 }
 
 /// Opens the node, and serves by it.
@@ -143,7 +137,11 @@ where
         ..
     } = options;
     let cluster = node.cluster;
-    let opened = open_node(rt, alloc, store, node, is_fresh, seats.clamp(1, SEATS))?;
+    let Ok(begin) = Instant::now(rt) else {
+        return Err(ServerError::NoClock);
+    };
+    let seats = seats.clamp(1, SEATS);
+    let opened = open_node(rt, alloc, store, node, is_fresh, seats, clock_times(&times))?;
     let config = Config {
         schema: &schema,
         manager: &manager,
@@ -154,10 +152,12 @@ where
     };
     let terms = Terms {
         config,
+        cluster,
         waiting,
-        times,
+        beat: times.beat,
+        opened: begin,
     };
-    serve_opened(rt, alloc, rooms, opened, cluster, places, terms, output)
+    serve_opened(rt, alloc, rooms, opened, places, terms, output)
 }
 
 /// Serves as a replica: listens, opens its node, says so, and serves clients and the other replicas until the node has stopped for good. It

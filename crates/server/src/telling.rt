@@ -1,14 +1,17 @@
-//! What a server says of its node on standard error, a line an event. Events flow in. That nobody reads it stops nothing.
+//! What a server says of its node, a line an event.
 use node_gate::{Pulse, Standing};
-use std::io::Eprint;
+use server_threads::Reporter;
+use std::alloc::Global;
+use std::sync::Wait;
 
 /// A view that is entered, or another standing in it.
-pub fn tell_pulse<R: Eprint>(rt: &R, pulse: &Pulse) {
+pub fn tell_pulse<R: Wait>(rt: &R, alloc: Global, reporter: &Reporter, pulse: &Pulse) {
     let view = pulse.view_number;
-    let _ = match pulse.standing {
-        Standing::Primary => eprintln!(rt; "view {view}: primary"),
-        Standing::Backup { primary } => eprintln!(rt; "view {view}: backup of {primary}"),
-        Standing::Changing => eprintln!(rt; "view {view}: beginning"),
-        Standing::Recovering => eprintln!(rt; "view {view}: recovering"),
+    let line = match pulse.standing {
+        Standing::Primary => format!(in alloc; "view {view}: primary"),
+        Standing::Backup { primary } => format!(in alloc; "view {view}: backup of {primary}"),
+        Standing::Changing => format!(in alloc; "view {view}: beginning"),
+        Standing::Recovering => format!(in alloc; "view {view}: recovering"),
     };
+    reporter.say(rt, line);
 }

@@ -1,89 +1,28 @@
-//! A node with its clock: what other replicas sent, and what a replica does by itself, beats and suspicion. Messages and time flow in; events flow to
-//! the node. What an event makes is not here.
+//! A node with its clock: what other replicas sent, and what a replica does by itself. Messages and time flow in; events flow to the node. What is due,
+//! and when, is decided by `replica_clock`; what an event makes is not here.
 use crate::options::Times;
 use crate::posts::Posts;
 use crate::telling::tell_pulse;
 use file_device::FileDevice;
-use node_gate::{Event, NodeError, Op, PeerMessage, Pulse, Running, Standing};
-use server_threads::{Crew, Engine, ServerError};
+use node_gate::{NodeError, Op, PeerMessage, Pulse, Running, Send, Ticked, copies, send_all};
+use server_threads::{Engine, Rooms, ServerError};
 use std::alloc::Global;
-use std::io::Eprint;
 use std::sync::Wait;
 use std::time::{Clock, Duration, Instant};
-
-/// Views that don't begin are given up ever later, up to so many times as late.
-const LATEST: u32 = 8;
 
 /// How long threads may take to begin, in milliseconds.
 const THREADS_LIMIT: u64 = 2_000;
 
-/// What is due.
-#[derive(Clone, Copy)]
-enum Due {
-    Nothing,
-    Beat,
-    Suspect,
-}
+/// How soon the node is asked for again where another thread has it, in microseconds.
+const AGAIN: u64 = 2_000;
 
-/// What a clock knows of a node.
+/// What the thread of the clock keeps.
 #[derive(Drop)]
 struct Watch {
     pulse: Pulse,
-    /// When something was heard last.
-    since: Instant,
-    /// How many views in a row did not begin.
-    tries: u32,
-}
-
-/// How far a replica is from leading the next view; 0, where it will.
-fn distance(index: u64, count: u64, view_number: u64) -> u64 {
-    let count = count.max(1);
-    let next = view_number.wrapping_add(1) % count;
-    (index % count).wrapping_add(count).wrapping_sub(next) % count
-}
-
-/// How long a replica waits before it suspects: the primary of the next view first, and each further replica a little later, so that they
-/// don't begin different views at once.
-fn patience(times: &Times, distance: u64) -> Duration {
-    let step = times.suspect / 8;
-    times
-        .suspect
-        .saturating_add(step.saturating_mul(distance.min(7) as u32))
-}
-
-impl Watch {
-    /// Takes note of what the node does now.
-    fn note(&mut self, pulse: Pulse, now: Instant) {
-        if pulse == self.pulse {
-            return;
-        }
-        if pulse.standing != Standing::Changing {
-            self.tries = 0;
-        }
-        self.since = now;
-        self.pulse = pulse;
-    }
-
-    /// What is due after a silence, where a replica waits so long.
-    fn due(&mut self, silent: Duration, patience: Duration) -> Due {
-        match self.pulse.standing {
-            Standing::Primary | Standing::Recovering => Due::Beat,
-            Standing::Backup { .. } => {
-                if silent >= patience {
-                    Due::Suspect
-                } else {
-                    Due::Nothing
-                }
-            }
-            Standing::Changing => {
-                if silent < patience.saturating_mul(self.tries.saturating_add(1).min(LATEST)) {
-                    return Due::Beat;
-                }
-                self.tries = self.tries.saturating_add(1);
-                Due::Suspect
-            }
-        }
-    }
+    /// What the last beat sent, and when that was sent last.
+    beat: Vec<Send<Op>>,
+    beat_at: u64,
 }
 
 /// A node with its clock.
@@ -92,78 +31,111 @@ pub struct Clockwork<'a, 'r, R: Wait> {
     pub rt: &'a R,
     pub alloc: Global,
     pub running: &'a Running<'r, R, FileDevice>,
-    pub posts: &'a Posts<'a, R>,
-    pub crew: &'a Crew,
-    pub times: Times,
-    pub index: u64,
-    pub count: u64,
+    pub posts: Posts<'a, R>,
+    pub rooms: &'a Rooms,
+    pub beat: Duration,
+    /// When the node was opened: its clock counts the microseconds from then on.
+    pub opened: Instant,
 }
 
-impl<'a, 'r, R: Wait + Clock + Eprint> Clockwork<'a, 'r, R> {
-    /// Hands an event to the node.
-    fn handle(&self, event: Event<Op>) -> Result<(), NodeError> {
-        self.running.handle(self.rt, self.alloc, self.posts, event)
+impl<'a, 'r, R: Wait + Clock> Clockwork<'a, 'r, R> {
+    /// The moment of now, in microseconds since the node was opened; that of a clock that can't be read is the first.
+    fn now(&self) -> u64 {
+        match Instant::now(self.rt) {
+            Ok(now) => micros(now.saturating_duration_since(self.opened)),
+            Err(_) => 0,
+        }
     }
 
-    /// Does what is due at one moment.
-    fn tick(&self, watch: &mut Watch) {
-        let Ok(now) = Instant::now(self.rt) else {
+    /// Sends the last beat once more, where the node is at a step for longer than a beat: the others are to know that their primary is there.
+    fn beat_again(&self, watch: &mut Watch, now: u64) {
+        if now.saturating_sub(watch.beat_at) < micros(self.beat) {
             return;
-        };
-        let pulse = self.running.pulse(self.rt);
-        if !pulse.is_like(&watch.pulse) {
-            tell_pulse(self.rt, &pulse);
         }
-        watch.note(pulse, now);
-        let silent = now.saturating_duration_since(watch.since);
-        let distance = distance(self.index, self.count, pulse.view_number);
-        let event = match watch.due(silent, patience(&self.times, distance)) {
-            Due::Nothing => return,
-            Due::Beat => Event::Beat,
-            Due::Suspect => Event::Suspect,
-        };
-        // What it gives out is lost without memory, and a node that stopped shows at the next moment.
-        let _done = self.handle(event).is_ok();
+        watch.beat_at = now;
+        if let Ok(sends) = copies(self.alloc, watch.beat.as_slice()) {
+            let mut posts = self.posts.beside();
+            send_all(&mut posts, sends);
+        }
+    }
+
+    /// Takes note of what came of asking the clock.
+    fn take(&self, watch: &mut Watch, ticked: Ticked, now: u64) -> u64 {
+        let Ticked { pulse, wait, beat } = ticked;
+        if !pulse.is_like(&watch.pulse) {
+            tell_pulse(self.rt, self.alloc, &self.rooms.reporter, &pulse);
+            watch.beat = Vec::new(self.alloc);
+        }
+        if let Some(beat) = beat {
+            watch.beat = beat;
+            watch.beat_at = now;
+        }
+        watch.pulse = pulse;
+        wait
+    }
+
+    /// Does what is due at one moment; after how many microseconds to come again.
+    fn tick(&self, watch: &mut Watch) -> u64 {
+        let now = self.now();
+        let mut posts = self.posts.beside();
+        match self.running.tick(self.rt, self.alloc, &mut posts, now) {
+            Some(ticked) => self.take(watch, ticked, now),
+            None => {
+                self.beat_again(watch, now);
+                AGAIN
+            }
+        }
     }
 
     /// Whether threads are missing that should have begun long ago.
-    fn is_short_of_threads(&self, begin: Instant) -> bool {
-        match Instant::now(self.rt) {
-            Ok(now) => {
-                let since = now.saturating_duration_since(begin);
-                since >= Duration::from_millis(THREADS_LIMIT) && !self.crew.is_whole()
-            }
-            Err(_) => false,
-        }
+    fn is_short_of_threads(&self) -> bool {
+        self.now() >= THREADS_LIMIT * 1_000 && !self.rooms.crew.is_whole()
     }
 }
 
-impl<'a, 'r, R: Wait + Clock + Eprint> Engine for Clockwork<'a, 'r, R> {
+/// The times of a node's clock, in microseconds.
+pub fn clock_times(times: &Times) -> node_gate::Times {
+    node_gate::Times::new(micros(times.beat), micros(times.suspect))
+}
+
+/// The microseconds of a time, as far as they fit.
+fn micros(time: Duration) -> u64 {
+    let micros = time.as_micros();
+    u64::try_from(micros).unwrap_or(u64::MAX)
+}
+
+impl<'a, 'r, R: Wait + Clock> Engine for Clockwork<'a, 'r, R> {
     fn hear(&self, from: u64, message: PeerMessage<Op>) -> bool {
-        match self.handle(Event::Message { from, message }) {
+        let mut posts = self.posts.beside();
+        let now = self.now();
+        match self
+            .running
+            .hear(self.rt, self.alloc, &mut posts, from, message, now)
+        {
             // Without memory the message is lost, as the network may lose one.
             Ok(()) | Err(NodeError::NoMemory) => true,
             Err(NodeError::Store(_) | NodeError::Halted) => false,
         }
     }
 
+    fn hear_part(&self, from: u64) {
+        self.running.hear_part(self.rt, from, self.now());
+    }
+
     fn run(&self) -> Result<(), ServerError> {
-        let Ok(since) = Instant::now(self.rt) else {
-            return Ok(());
-        };
         let pulse = self.running.pulse(self.rt);
-        tell_pulse(self.rt, &pulse);
+        tell_pulse(self.rt, self.alloc, &self.rooms.reporter, &pulse);
         let mut watch = Watch {
             pulse,
-            since,
-            tries: 0,
+            beat: Vec::new(self.alloc),
+            beat_at: 0,
         };
         for _ in self.rt.forever() {
-            if self.running.rest(self.rt, self.times.beat) {
+            let wait = self.tick(&mut watch);
+            if self.running.rest(self.rt, Duration::from_micros(wait)) {
                 break;
             }
-            self.tick(&mut watch);
-            if self.is_short_of_threads(since) {
+            if self.is_short_of_threads() {
                 return Err(ServerError::NoThread);
             }
             if watch.pulse.is_halted {
