@@ -78,6 +78,14 @@ def begin(cluster: Cluster) -> int:
     return number
 
 
+def raise_up(cluster: Cluster) -> None:
+    """Starts the replicas that a failed test left dead, so that the next test fails for a cause of its own."""
+    for replica in cluster.replicas:
+        if replica.process is None or replica.process.poll() is not None:
+            replica.kill()
+            replica.start(False)
+
+
 def play(tests: list[Callable[[Cluster], None]], words: list[str]) -> int:
     """Plays the tests one after the other with one cluster, tells of each, and gives the status to end with."""
     passed = failed = 0
@@ -97,6 +105,7 @@ def play(tests: list[Callable[[Cluster], None]], words: list[str]) -> int:
                     traceback.print_exc()
                     for replica in cluster.replicas:
                         print(replica.index, replica.process and replica.process.poll(), replica.lines[-8:], flush=True)
+                    raise_up(cluster)
         finally:
             cluster.kill()
     print(f"{passed} passed, {failed} failed")
