@@ -3,6 +3,7 @@
 //! pass octets on, is decided below.
 #![tactic(auto)]
 
+mod asking;
 mod opening;
 mod options;
 mod posts;

@@ -1,4 +1,5 @@
 //! Messages on their way from the node to other replicas: each goes into the queue of its receiver. How one becomes a frame is not here.
+use crate::asking::Asking;
 use node_gate::{Op, PeerMessage, Peers};
 use server_threads::Rooms;
 use std::sync::Wait;
@@ -8,14 +9,19 @@ use std::sync::Wait;
 pub struct Posts<'a, R> {
     pub rt: &'a R,
     pub rooms: &'a Rooms,
+    pub asking: &'a Asking,
+    /// The moment of what is sent.
+    pub now: u64,
 }
 
 impl<'a, R> Posts<'a, R> {
-    /// A second way to the same queues.
-    pub fn beside(&self) -> Posts<'a, R> {
+    /// A way to the same queues, for what is sent at this moment.
+    pub fn at(&self, now: u64) -> Posts<'a, R> {
         Posts {
             rt: self.rt,
             rooms: self.rooms,
+            asking: self.asking,
+            now,
         }
     }
 }
@@ -25,6 +31,10 @@ impl<'a, R: Wait> Peers for Posts<'a, R> {
     ghost takes = { λ before to message after. Unit {0} };
 
     fn send(&mut self, to: u64, message: PeerMessage<Op>) {
+        // One that asks again too early is lost, as the network may lose it.
+        if matches!(message, PeerMessage::GetState { .. }) && !self.asking.ask(self.now) {
+            return;
+        }
         self.rooms.post(self.rt, to, message);
     }
 }

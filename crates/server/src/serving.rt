@@ -1,9 +1,10 @@
 //! A replica put together: its node, its queues and its clock, handed to its threads. Settings flow in; clients and replicas are served until the
 //! node has stopped for good. Listeners and threads are not here.
+use crate::asking::Asking;
 use crate::opening::open_node;
 use crate::options::Options;
 use crate::posts::Posts;
-use crate::ticking::{Clockwork, clock_times};
+use crate::ticking::{Clockwork, clock_times, micros};
 use file_device::FileDevice;
 use node_gate::{Cluster, Here, NodeGate, Opened, Running, Seat, send_all};
 use server_threads::{Config, Place, Rooms, Server, ServerError, announce, make_rooms};
@@ -29,7 +30,7 @@ fn ways<'a, 'r, R: Wait>(
 ) -> Result<Vec<Way<'a, 'r, R>>, AllocError> {
     let mut ways = Vec::new(clock.alloc);
     for seat in seats {
-        let gate = NodeGate::new(clock.rt, clock.running, clock.posts.beside(), uris);
+        let gate = NodeGate::new(clock.rt, clock.running, clock.posts.at(0), uris);
         ways.push((seat, gate))?;
     }
     Ok(ways)
@@ -100,7 +101,13 @@ where
         outputs,
         restarts: _,
     } = opened;
-    let mut posts = Posts { rt, rooms };
+    let asking = Asking::new(micros(terms.beat));
+    let mut posts = Posts {
+        rt,
+        rooms,
+        asking: &asking,
+        now: 0,
+    };
     send_all(&mut posts, outputs.sends);
     announce(output, &rooms.clients)?;
     run_in(rt, alloc, rooms, seats, &running, posts, places, terms)

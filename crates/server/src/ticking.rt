@@ -54,7 +54,7 @@ impl<'a, 'r, R: Wait + Clock> Clockwork<'a, 'r, R> {
         }
         watch.beat_at = now;
         if let Ok(sends) = copies(self.alloc, watch.beat.as_slice()) {
-            let mut posts = self.posts.beside();
+            let mut posts = self.posts.at(now);
             send_all(&mut posts, sends);
         }
     }
@@ -77,7 +77,7 @@ impl<'a, 'r, R: Wait + Clock> Clockwork<'a, 'r, R> {
     /// Does what is due at one moment; after how many microseconds to come again.
     fn tick(&self, watch: &mut Watch) -> u64 {
         let now = self.now();
-        let mut posts = self.posts.beside();
+        let mut posts = self.posts.at(now);
         match self.running.tick(self.rt, self.alloc, &mut posts, now) {
             Some(ticked) => self.take(watch, ticked, now),
             None => {
@@ -99,15 +99,18 @@ pub fn clock_times(times: &Times) -> node_gate::Times {
 }
 
 /// The microseconds of a time, as far as they fit.
-fn micros(time: Duration) -> u64 {
+pub fn micros(time: Duration) -> u64 {
     let micros = time.as_micros();
     u64::try_from(micros).unwrap_or(u64::MAX)
 }
 
 impl<'a, 'r, R: Wait + Clock> Engine for Clockwork<'a, 'r, R> {
     fn hear(&self, from: u64, message: PeerMessage<Op>) -> bool {
-        let mut posts = self.posts.beside();
         let now = self.now();
+        if matches!(message, PeerMessage::NewState { .. }) {
+            self.posts.asking.answered();
+        }
+        let mut posts = self.posts.at(now);
         match self
             .running
             .hear(self.rt, self.alloc, &mut posts, from, message, now)

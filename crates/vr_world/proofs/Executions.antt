@@ -78,7 +78,7 @@ module _ {P : Type 0} (n : ℕ) where
   pub given_happens : (w : World P) (e : WorldEvent P) → GivenSince w (happens n w e)
   given_happens w (Request i e) = by_test (GivenSince w) (nat_lt i n) _ _ (λ k. given_stepped w i (λ r. step n i r (event.Request e)) (λ r. request_right n i r e) (w.replicas i)) (λ k. none w w refl)
   given_happens w (Deliver k) = given_delivered w (sent_as k w.messages)
-  given_happens w (Suspect i) = by_test (GivenSince w) (nat_lt i n) _ _ (λ k. given_stepped w i (λ r. step n i r event.Suspect) (λ r. suspect_right n i r) (w.replicas i)) (λ k. none w w refl)
+  given_happens w (Suspect i) = by_test (GivenSince w) (nat_lt i n) _ _ (λ k. given_stepped w i (λ r. step n i r event.Suspect) (λ r. suspect_right n i r r.status) (w.replicas i)) (λ k. none w w refl)
   given_happens w (Beat i) = by_test (GivenSince w) (nat_lt i n) _ _ (λ k. given_stepped w i (λ r. step n i r event.Beat) (λ r. beat_right n i r r.status) (w.replicas i)) (λ k. none w w refl)
   given_happens w (Crash i) = by_test (GivenSince w) (nat_lt i n) _ _ (λ k. none w _ refl) (λ k. none w w refl)
   given_happens w (Recover i x) = by_test (GivenSince w) (nat_lt i n) _ _ (λ k. given_recovered w i x (w.replicas i)) (λ k. none w w refl)

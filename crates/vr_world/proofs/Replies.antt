@@ -60,7 +60,7 @@ module _ {P : Type 0} (n : ℕ) (size : IsSize n) where
   replies_happen : (past : ℕ → List (Entry P)) (w : World P) (e : WorldEvent P) → Holds n past (happens n w e) → RepliesFact w (happens n w e)
   replies_happen past w (Request i e) = by_test (λ u. Holds n past u → RepliesFact w u) (nat_lt i n) _ _ (λ k inv. replies_stepped past w i (λ r. step n i r (event.Request e)) (λ r. request_right n i r e) (w.replicas i) inv) (λ k inv t h. inl h)
   replies_happen past w (Deliver k) = λ inv. replies_delivered past w (sent_as k w.messages) inv
-  replies_happen past w (Suspect i) = by_test (λ u. Holds n past u → RepliesFact w u) (nat_lt i n) _ _ (λ k inv. replies_stepped past w i (λ r. step n i r event.Suspect) (λ r. suspect_right n i r) (w.replicas i) inv) (λ k inv t h. inl h)
+  replies_happen past w (Suspect i) = by_test (λ u. Holds n past u → RepliesFact w u) (nat_lt i n) _ _ (λ k inv. replies_stepped past w i (λ r. step n i r event.Suspect) (λ r. suspect_right n i r r.status) (w.replicas i) inv) (λ k inv t h. inl h)
   replies_happen past w (Beat i) = by_test (λ u. Holds n past u → RepliesFact w u) (nat_lt i n) _ _ (λ k inv. replies_stepped past w i (λ r. step n i r event.Beat) (λ r. beat_right n i r r.status) (w.replicas i) inv) (λ k inv t h. inl h)
   replies_happen past w (Crash i) = by_test (λ u. Holds n past u → RepliesFact w u) (nat_lt i n) _ _ (λ k inv t h. inl h) (λ k inv t h. inl h)
   replies_happen past w (Recover i x) = by_test (λ u. Holds n past u → RepliesFact w u) (nat_lt i n) _ _ (λ k inv. replies_recovered w i x (w.replicas i)) (λ k inv t h. inl h)
