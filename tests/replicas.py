@@ -55,7 +55,7 @@ class Replica:
         """The command line that starts it."""
         return [self.cluster.program, "serve", "--cluster", str(self.cluster.number), "--id", str(self.index),
                 "--store", self.store(), "--suffix", SUFFIX, "--manager", MANAGER,
-                "--password", PASSWORD, *self.cluster.words, *(["--fresh"] if fresh else []), *self.cluster.places()]
+                "--password", PASSWORD, *self.cluster.words, *(["--fresh"] if fresh else []), *self.cluster.places_for(self.index)]
 
     def start(self, fresh: bool) -> None:
         """Starts it, and waits until it listens."""
@@ -95,6 +95,10 @@ class Cluster:
         """The words for all replicas: where replicas find each, and where clients do."""
         pairs = zip(self.ports[0::2], self.ports[1::2])
         return [f"127.0.0.1:{peer},127.0.0.1:{ldap}" for peer, ldap in pairs]
+
+    def places_for(self, index: int) -> list[str]:
+        """The same words, as the replica of this index is told them."""
+        return self.places()
 
     def ldap_port(self, index: int) -> int:
         return self.ports[2 * index + 1]
