@@ -1,6 +1,6 @@
 //! Messages on their way from the node to other replicas: each goes into the queue of its receiver. How one becomes a frame is not here.
 use crate::asking::Asking;
-use node_gate::{Op, PeerMessage, Peers};
+use node_gate::{Op, PeerMessage, Peers, Send, send_all};
 use server_threads::Rooms;
 use std::sync::Wait;
 
@@ -37,4 +37,10 @@ impl<'a, R: Wait> Peers for Posts<'a, R> {
         }
         self.rooms.post(self.rt, to, message);
     }
+}
+
+/// Sends what a start of the node sends.
+pub fn post_all<'a, R: Wait>(posts: &Posts<'a, R>, sends: Vec<Send<Op>>) {
+    let mut way = posts.at(0);
+    send_all(&mut way, sends);
 }

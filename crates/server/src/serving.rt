@@ -3,10 +3,10 @@
 use crate::asking::Asking;
 use crate::opening::open_node;
 use crate::options::Options;
-use crate::posts::Posts;
+use crate::posts::{Posts, post_all};
 use crate::ticking::{Clockwork, clock_times, micros};
 use file_device::FileDevice;
-use node_gate::{Cluster, Here, NodeGate, Opened, Running, Seat, send_all};
+use node_gate::{Cluster, Here, NodeGate, Opened, Running, Seat};
 use server_threads::{Config, Place, Rooms, Server, ServerError, announce, make_rooms};
 use std::alloc::{AllocError, Global};
 use std::fs::{File, Files};
@@ -54,7 +54,7 @@ fn run_in<'a, 'r, R>(
     rooms: &'a Rooms,
     seats: Vec<Seat<Here>>,
     running: &'a Running<'r, R, FileDevice>,
-    posts: Posts<'a, R>,
+    posts: &'a Posts<'a, R>,
     places: &'a [Place],
     terms: Terms<'_>,
 ) -> Result<(), ServerError>
@@ -102,15 +102,15 @@ where
         restarts: _,
     } = opened;
     let asking = Asking::new(micros(terms.beat));
-    let mut posts = Posts {
+    let posts = Posts {
         rt,
         rooms,
         asking: &asking,
         now: 0,
     };
-    send_all(&mut posts, outputs.sends);
+    post_all(&posts, outputs.sends);
     announce(output, &rooms.clients)?;
-    run_in(rt, alloc, rooms, seats, &running, posts, places, terms)
+    run_in(rt, alloc, rooms, seats, &running, &posts, places, terms)
 }
 
 /// Opens the node, and serves by it.

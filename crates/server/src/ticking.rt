@@ -31,7 +31,7 @@ pub struct Clockwork<'a, 'r, R: Wait> {
     pub rt: &'a R,
     pub alloc: Global,
     pub running: &'a Running<'r, R, FileDevice>,
-    pub posts: Posts<'a, R>,
+    pub posts: &'a Posts<'a, R>,
     pub rooms: &'a Rooms,
     pub beat: Duration,
     /// When the node was opened: its clock counts the microseconds from then on.

@@ -2,7 +2,7 @@
 
 use crate::threads::signal::Signal;
 use ldap_op::Update;
-use peer_link::Framing;
+use peer_link::{Framing, StreamAge};
 use server_threads::{MessageFrames, Note, NoteWriter, Reporter};
 use std::alloc::{AllocError, Global};
 use std::process::Abort;
@@ -13,7 +13,7 @@ use std::time::{Clock, Duration};
 use vr_state::log::Log;
 use vr_state::message::Snapshot;
 use vr_state::words::{Client, Entry};
-use vr_wire::{Cluster, Op, PeerMessage};
+use vr_wire::{Came, Cluster, Gathering, Op, PeerMessage};
 
 /// Keeps what it writes, and waits inside each write until it is let go.
 #[derive(Drop)]
@@ -81,15 +81,15 @@ fn nobody_waits_for_standard_error_and_no_line_goes_uncounted(rt: HostRuntime) -
     Ok(())
 }
 
-/// A message of 300 records, each the removal of an entry whose name has 1 MiB: they share it in memory, but not in a frame.
-fn too_long(alloc: Global) -> Result<PeerMessage<Op>, AllocError> {
+/// A message of six records, each the removal of an entry whose name has 64 KiB.
+fn of_six(alloc: Global) -> Result<PeerMessage<Op>, AllocError> {
     let mut name = String::new(alloc);
-    for _ in 0..65_536 {
+    for _ in 0..4_096 {
         name.push_str("0123456789abcdef")?;
     }
     let removal = Op::new(alloc, Update::Delete(name))?;
     let mut log = Log::new(alloc);
-    for number in 0..300 {
+    for number in 0..6 {
         let client = Client {
             home: 0,
             life: 0,
@@ -111,30 +111,28 @@ fn too_long(alloc: Global) -> Result<PeerMessage<Op>, AllocError> {
     })
 }
 
+/// A stranger's frame may have 65,536 octets, and who opens a stream is a stranger at first.
 #[test]
-fn a_message_that_becomes_no_frame_is_told_of(rt: HostRuntime) -> Result<(), Fail> {
+fn the_first_message_on_a_stream_goes_in_frames_of_strangers(rt: HostRuntime) -> Result<(), Fail> {
     let cluster = Cluster::new(9).expect(&rt, "9 is the number of a cluster");
     let reporter = Reporter::new(rt.alloc())?;
     let mut frames = MessageFrames::new(&rt, rt.alloc(), &reporter, cluster, 0, 1);
-    frames.begin(PeerMessage::Recovery { nonce: 5 });
+    let mut gathering = Gathering::new();
+    frames.begin(of_six(rt.alloc())?, StreamAge::New);
+    let mut last = Came::Dropped(9);
+    for count in 1..9 {
+        let Some(frame) = frames.next_frame() else {
+            assert_eq!(rt; count, 8);
+            break;
+        };
+        assert!(rt; frame.len() <= 65_536);
+        last = gathering
+            .take(rt.alloc(), frame.as_slice(), cluster)
+            .expect(&rt, "each frame is taken");
+    }
+    assert!(rt; matches!(last, Came::Message(0, PeerMessage::StartView { .. })));
+    frames.begin(of_six(rt.alloc())?, StreamAge::Used);
     assert!(rt; frames.next_frame().is_some());
     assert!(rt; frames.next_frame().is_none());
-    frames.begin(too_long(rt.alloc())?);
-    assert!(rt; frames.next_frame().is_none());
-    let (entered, free) = (Signal::new(), Signal::new());
-    free.give(&rt);
-    let written = Mutex::new(Vec::new(rt.alloc()));
-    let mut writer = Blocked {
-        rt: &rt,
-        alloc: rt.alloc(),
-        entered: &entered,
-        free: &free,
-        written: &written,
-    };
-    reporter.stop(&rt);
-    reporter.write_all(&rt, &mut writer);
-    let lines = written.lock(&rt);
-    assert_eq!(rt; lines.len(), 1);
-    assert!(rt; lines[0].as_str() == "a message to replica 1 is lost: it is too long for a frame");
     Ok(())
 }
