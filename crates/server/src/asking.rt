@@ -7,22 +7,27 @@ pub struct Asking {
     /// The moment, in microseconds; 0 where no answer is awaited.
     asked_at: AtomicU64,
     /// How long an answer is awaited, in microseconds.
-    beat: u64,
+    beat: AtomicU64,
 }
 
 impl Asking {
-    /// No state was asked for yet.
-    pub fn new(beat: u64) -> Asking {
+    /// No state was asked for yet, and none is awaited.
+    pub fn new() -> Asking {
         Asking {
             asked_at: AtomicU64::new(0),
-            beat,
+            beat: AtomicU64::new(0),
         }
+    }
+
+    /// From now on an answer is awaited for so long.
+    pub fn await_for(&self, beat: u64) {
+        self.beat.store(beat, Ordering::SeqCst);
     }
 
     /// Whether state may be asked for at this moment; if so, it is.
     pub fn ask(&self, now: u64) -> bool {
         let asked_at = self.asked_at.load(Ordering::SeqCst);
-        if asked_at != 0 && now.saturating_sub(asked_at) < self.beat {
+        if asked_at != 0 && now.saturating_sub(asked_at) < self.beat.load(Ordering::SeqCst) {
             return false;
         }
         self.asked_at.store(now.max(1), Ordering::SeqCst);

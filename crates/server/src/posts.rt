@@ -1,46 +1,48 @@
 //! Messages on their way from the node to other replicas: each goes into the queue of its receiver. How one becomes a frame is not here.
 use crate::asking::Asking;
-use node_gate::{Op, PeerMessage, Peers, Send, send_all};
+use node_gate::{Cluster, Op, PeerMessage, Peers, Send};
 use server_threads::Rooms;
 use std::sync::Wait;
 
-/// The queues to all replicas.
+/// The queues to all replicas of a cluster, and when state was asked for.
 #[derive(Drop)]
 pub struct Posts<'a, R> {
     pub rt: &'a R,
+    pub cluster: Cluster,
     pub rooms: &'a Rooms,
-    pub asking: &'a Asking,
-    /// The moment of what is sent.
-    pub now: u64,
+    pub asking: Asking,
 }
 
-impl<'a, R> Posts<'a, R> {
-    /// A way to the same queues, for what is sent at this moment.
-    pub fn at(&self, now: u64) -> Posts<'a, R> {
-        Posts {
-            rt: self.rt,
-            rooms: self.rooms,
-            asking: self.asking,
-            now,
-        }
-    }
-}
-
-impl<'a, R: Wait> Peers for Posts<'a, R> {
-    // What becomes of a message in a queue that threads share is not said.
-    ghost takes = { λ before to message after. Unit {0} };
-
-    fn send(&mut self, to: u64, message: PeerMessage<Op>) {
-        // One that asks again too early is lost, as the network may lose it.
-        if matches!(message, PeerMessage::GetState { .. }) && !self.asking.ask(self.now) {
+impl<'a, R: Wait> Posts<'a, R> {
+    /// Puts a message into the queue to the replica of this index, at this moment. One that asks for state again too early is lost, as the network
+    /// may lose it.
+    fn post(&self, now: u64, to: u64, message: PeerMessage<Op>) {
+        if matches!(message, PeerMessage::GetState { .. }) && !self.asking.ask(now) {
             return;
         }
         self.rooms.post(self.rt, to, message);
     }
+
+    /// Puts what a start of the node sends into the queues.
+    pub fn post_all(&self, sends: Vec<Send<Op>>) {
+        for send in sends {
+            self.post(0, send.to, send.into_message());
+        }
+    }
 }
 
-/// Sends what a start of the node sends.
-pub fn post_all<'a, R: Wait>(posts: &Posts<'a, R>, sends: Vec<Send<Op>>) {
-    let mut way = posts.at(0);
-    send_all(&mut way, sends);
+/// The way to the queues, for what is sent at a moment.
+#[derive(Drop)]
+pub struct PostsAt<'a, R> {
+    pub posts: &'a Posts<'a, R>,
+    pub now: u64,
+}
+
+impl<'a, R: Wait> Peers for PostsAt<'a, R> {
+    // What becomes of a message in a queue that threads share is not said.
+    ghost takes = { λ before to message after. Unit {0} };
+
+    fn send(&mut self, to: u64, message: PeerMessage<Op>) {
+        self.posts.post(self.now, to, message);
+    }
 }

@@ -2,8 +2,8 @@
 //! node has stopped for good. Listeners and threads are not here.
 use crate::asking::Asking;
 use crate::opening::open_node;
-use crate::options::Options;
-use crate::posts::{Posts, post_all};
+use crate::options::{Options, Times};
+use crate::posts::{Posts, PostsAt};
 use crate::ticking::{Clockwork, clock_times, micros};
 use file_device::FileDevice;
 use node_gate::{Cluster, Here, NodeGate, Opened, Running, Seat};
@@ -14,13 +14,13 @@ use std::io::{Eprint, Write};
 use std::net::{Net, TcpListener, TcpStream};
 use std::sync::{Arc, Wait};
 use std::thread::Threads;
-use std::time::{Clock, Duration, Instant};
+use std::time::{Clock, Instant};
 
 /// The greatest number of seats.
 const SEATS: usize = 32;
 
 /// One session's way to the node: a seat for its reads, a gate for its updates.
-type Way<'a, 'r, R> = (Seat<Here>, NodeGate<'a, 'r, R, FileDevice, Posts<'a, R>>);
+type Way<'a, 'r, R> = (Seat<Here>, NodeGate<'a, 'r, R, FileDevice, PostsAt<'a, R>>);
 
 /// A gate beside each seat.
 fn ways<'a, 'r, R: Wait>(
@@ -30,7 +30,11 @@ fn ways<'a, 'r, R: Wait>(
 ) -> Result<Vec<Way<'a, 'r, R>>, AllocError> {
     let mut ways = Vec::new(clock.alloc);
     for seat in seats {
-        let gate = NodeGate::new(clock.rt, clock.running, clock.posts.at(0), uris);
+        let posts = PostsAt {
+            posts: clock.posts,
+            now: 0,
+        };
+        let gate = NodeGate::new(clock.rt, clock.running, posts, uris);
         ways.push((seat, gate))?;
     }
     Ok(ways)
@@ -40,11 +44,8 @@ fn ways<'a, 'r, R: Wait>(
 #[derive(Clone, Copy)]
 struct Terms<'a> {
     config: Config<'a>,
-    cluster: Cluster,
     waiting: usize,
-    beat: Duration,
-    /// When the node was opened.
-    opened: Instant,
+    times: Times,
 }
 
 /// Runs all threads over what they share.
@@ -61,22 +62,26 @@ fn run_in<'a, 'r, R>(
 where
     R: Net<Listener = TcpListener, Stream = TcpStream> + Threads + Wait + Clock + Eprint + Sync,
 {
+    let Ok(opened) = Instant::now(rt) else {
+        return Err(ServerError::NoClock);
+    };
     let clock = Clockwork {
         rt,
         alloc,
         running,
         posts,
         rooms,
-        beat: terms.beat,
-        opened: terms.opened,
+        times: terms.times,
+        opened,
     };
+    posts.asking.await_for(micros(clock.times.beat));
     let ways = ways(&clock, &rooms.uris, seats)?;
     let server = Server {
         rt,
         alloc,
         rooms,
         engine: &clock,
-        cluster: terms.cluster,
+        cluster: posts.cluster,
         places,
     };
     server.run(ways, terms.waiting.max(1), &terms.config)
@@ -88,6 +93,7 @@ fn serve_opened<R, W: Write>(
     alloc: Global,
     rooms: &Rooms,
     opened: Opened<'_, R, FileDevice>,
+    cluster: Cluster,
     places: &[Place],
     terms: Terms<'_>,
     output: &mut W,
@@ -101,14 +107,13 @@ where
         outputs,
         restarts: _,
     } = opened;
-    let asking = Asking::new(micros(terms.beat));
     let posts = Posts {
         rt,
+        cluster,
         rooms,
-        asking: &asking,
-        now: 0,
+        asking: Asking::new(),
     };
-    post_all(&posts, outputs.sends);
+    posts.post_all(outputs.sends);
     announce(output, &rooms.clients)?;
     run_in(rt, alloc, rooms, seats, &running, &posts, places, terms)
 }
@@ -144,9 +149,6 @@ where
         ..
     } = options;
     let cluster = node.cluster;
-    let Ok(begin) = Instant::now(rt) else {
-        return Err(ServerError::NoClock);
-    };
     let seats = seats.clamp(1, SEATS);
     let opened = open_node(rt, alloc, store, node, is_fresh, seats, clock_times(&times))?;
     let config = Config {
@@ -159,12 +161,10 @@ where
     };
     let terms = Terms {
         config,
-        cluster,
         waiting,
-        beat: times.beat,
-        opened: begin,
+        times,
     };
-    serve_opened(rt, alloc, rooms, opened, places, terms, output)
+    serve_opened(rt, alloc, rooms, opened, cluster, places, terms, output)
 }
 
 /// Serves as a replica: listens, opens its node, says so, and serves clients and the other replicas until the node has stopped for good. It

@@ -1,7 +1,7 @@
 //! A node with its clock: what other replicas sent, and what a replica does by itself. Messages and time flow in; events flow to the node. What is due,
 //! and when, is decided by `replica_clock`; what an event makes is not here.
 use crate::options::Times;
-use crate::posts::Posts;
+use crate::posts::{Posts, PostsAt};
 use crate::telling::tell_pulse;
 use file_device::FileDevice;
 use node_gate::{NodeError, Op, PeerMessage, Pulse, Running, Send, Ticked, copies, send_all};
@@ -33,7 +33,7 @@ pub struct Clockwork<'a, 'r, R: Wait> {
     pub running: &'a Running<'r, R, FileDevice>,
     pub posts: &'a Posts<'a, R>,
     pub rooms: &'a Rooms,
-    pub beat: Duration,
+    pub times: Times,
     /// When the node was opened: its clock counts the microseconds from then on.
     pub opened: Instant,
 }
@@ -47,14 +47,22 @@ impl<'a, 'r, R: Wait + Clock> Clockwork<'a, 'r, R> {
         }
     }
 
+    /// The way to the queues, for what is sent at this moment.
+    fn posts_at(&self, now: u64) -> PostsAt<'a, R> {
+        PostsAt {
+            posts: self.posts,
+            now,
+        }
+    }
+
     /// Sends the last beat once more, where the node is at a step for longer than a beat: the others are to know that their primary is there.
     fn beat_again(&self, watch: &mut Watch, now: u64) {
-        if now.saturating_sub(watch.beat_at) < micros(self.beat) {
+        if now.saturating_sub(watch.beat_at) < micros(self.times.beat) {
             return;
         }
         watch.beat_at = now;
         if let Ok(sends) = copies(self.alloc, watch.beat.as_slice()) {
-            let mut posts = self.posts.at(now);
+            let mut posts = self.posts_at(now);
             send_all(&mut posts, sends);
         }
     }
@@ -77,7 +85,7 @@ impl<'a, 'r, R: Wait + Clock> Clockwork<'a, 'r, R> {
     /// Does what is due at one moment; after how many microseconds to come again.
     fn tick(&self, watch: &mut Watch) -> u64 {
         let now = self.now();
-        let mut posts = self.posts.at(now);
+        let mut posts = self.posts_at(now);
         match self.running.tick(self.rt, self.alloc, &mut posts, now) {
             Some(ticked) => self.take(watch, ticked, now),
             None => {
@@ -110,7 +118,7 @@ impl<'a, 'r, R: Wait + Clock> Engine for Clockwork<'a, 'r, R> {
         if matches!(message, PeerMessage::NewState { .. }) {
             self.posts.asking.answered();
         }
-        let mut posts = self.posts.at(now);
+        let mut posts = self.posts_at(now);
         match self
             .running
             .hear(self.rt, self.alloc, &mut posts, from, message, now)
