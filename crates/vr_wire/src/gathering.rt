@@ -163,19 +163,27 @@ impl Gathering {
         Gathering { begun: None }
     }
 
-    /// What comes of a part, where nothing is kept of what was gathered but `old`.
-    fn take_part(
+    /// What comes of octets that are no part: they drop what was gathered.
+    fn take_message(
         &mut self,
         alloc: Global,
-        old: Option<Begun>,
-        part: &Portion<Octets<'_>>,
+        frame: &[u8],
+        cluster: Cluster,
     ) -> Result<Came, WireError>
-        requires empty { self.old ≡ None }
-        requires place { part.now.place + 1 < 2 ^ 32 }
-        ensures { PartTaken (ComesOfPart (gathered (option_map heap_of old) part.now) part.now.label.sender result self.new) result self.new }
+        ensures comes { ComesOfFrame cluster frame.now result }
+        ensures dropped { self.new ≡ None }
+    {
+        let _ = self.begun.take();
+        take_frame(alloc, frame, cluster)
+    }
+
+    /// What comes of a part.
+    fn take_part(&mut self, alloc: Global, part: &Portion<Octets<'_>>) -> Result<Came, WireError>
+        requires { part.now.place + 1 < 2 ^ 32 }
+        ensures { PartTaken (ComesOfPart (gathered self.old part.now) part.now.label.sender result self.new) result self.new }
     {
         let sender = part.label.sender;
-        match gathered(alloc, old, part)? {
+        match gathered(alloc, self.begun.take(), part)? {
             None => Ok(Came::Dropped(sender)),
             Some(begun) => {
                 if begun.next < begun.label.count {
@@ -194,15 +202,19 @@ impl Gathering {
     pub fn take(&mut self, alloc: Global, frame: &[u8], cluster: Cluster) -> Result<Came, WireError>
         ensures { Takes cluster self.old frame.now result self.new }
     {
-        let old = self.begun.take();
-        match part_of(frame)? {
-            None => take_frame(alloc, frame, cluster),
-            Some((other, part)) => {
+        match part_of(frame) {
+            Ok(None) => self.take_message(alloc, frame, cluster),
+            Ok(Some((other, part))) => {
                 if other == cluster.number() {
-                    self.take_part(alloc, old, &part)
+                    self.take_part(alloc, &part)
                 } else {
+                    self.begun = None;
                     Err(WireError::ForeignFrame)
                 }
+            }
+            Err(error) => {
+                self.begun = None;
+                Err(error)
             }
         }
     }
