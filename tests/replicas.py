@@ -54,7 +54,7 @@ class Replica:
     def command(self, fresh: bool) -> list[str]:
         """The command line that starts it."""
         return [self.cluster.program, "serve", "--cluster", str(self.cluster.number), "--id", str(self.index),
-                "--store", self.store(), "--suffix", SUFFIX, "--manager", MANAGER,
+                "--store", self.store(), "--suffix", self.cluster.suffix, "--manager", self.cluster.manager,
                 "--password", PASSWORD, *self.cluster.words, *(["--fresh"] if fresh else []), *self.cluster.places_for(self.index)]
 
     def start(self, fresh: bool) -> None:
@@ -83,11 +83,13 @@ class Replica:
 class Cluster:
     """Replicas, by index."""
 
-    def __init__(self, folder: str, number: int = 1, count: int = 3, words: list[str] = [], ports: list[int] | None = None):
+    def __init__(self, folder: str, number: int = 1, count: int = 3, words: list[str] = [], ports: list[int] | None = None, suffix: str = SUFFIX):
         self.program = program()
         self.folder = folder
         self.number = number
         self.words = words
+        self.suffix = suffix
+        self.manager = f"cn=admin,{suffix}"
         self.ports = ports or free_ports(2 * count)
         self.replicas = [Replica(self, index) for index in range(count)]
 
