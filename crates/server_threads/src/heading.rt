@@ -1,14 +1,11 @@
 //! The first octets of a frame: whether it may be one that another replica of this cluster sends. What a frame says is not here.
-use vr_wire::{Cluster, WireError, rest};
+use vr_wire::{Cluster, WireError, heading as kind_and_sender, rest};
 
-/// How many octets of a frame are looked at before more of it is read: its length, its version, its cluster, its kind and its sender.
+/// How many octets of a frame are looked at before more of it is read: its length, and what tells its version, cluster, kind and sender.
 pub const HEADING: usize = 13;
 
 /// How many of them stand behind the length.
 pub const BEHIND_LENGTH: u32 = 9;
-
-/// The version of the frames that are read.
-const VERSION: u8 = 2;
 
 /// How long a stranger's frame may be, its length included.
 const STRANGERS_MOST: u32 = 65_536;
@@ -20,11 +17,6 @@ pub struct Senders {
     /// How many replicas there are, and which of them this is.
     pub count: u64,
     pub own: u8,
-}
-
-/// Whether there is a message of this kind.
-fn is_kind(kind: u8) -> bool {
-    matches!(kind, 1..=6 | 9..=13)
 }
 
 /// How many octets are to come behind the first 13.
@@ -42,23 +34,13 @@ impl Senders {
         sender != self.own && u64::from(sender) < self.count
     }
 
-    /// Whether these are the octets of the cluster's number.
-    fn is_cluster(&self, octets: [u8; 6]) -> bool {
-        let [a, b, c, d, e, f] = octets;
-        u64::from_be_bytes([0, 0, a, b, c, d, e, f]) == self.cluster.number()
-    }
-
     /// How many octets of a frame are to come behind these first ones; or why it can't be one of another replica of this cluster: E24 where it
     /// is another cluster's, else E20.
     pub fn rest_of(&self, heading: [u8; HEADING]) -> Result<u32, WireError> {
         let [l1, l2, l3, l4, version, a, b, c, d, e, f, kind, sender] = heading;
         let left = rest_behind([l1, l2, l3, l4])?;
-        if version != VERSION || !is_kind(kind) {
-            return Err(WireError::BadFrame);
-        }
-        if !self.is_cluster([a, b, c, d, e, f]) {
-            return Err(WireError::ForeignFrame);
-        }
+        let (_kind, sender) =
+            kind_and_sender([version, a, b, c, d, e, f, kind, sender], self.cluster)?;
         if !self.have(sender) {
             return Err(WireError::BadFrame);
         }
