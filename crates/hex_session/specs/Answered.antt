@@ -102,15 +102,16 @@ FailsAt allows c d e s End output grown fault = ⊥
 FailsAt allows c d e s Blank output grown fault = ⊥
 FailsAt allows c d e s (Piece v) output grown fault = HasFailedAt allows c d e s v.items output grown fault
 
--- all of an input was read, where its end is what ended the session
+-- Of what is left of an input, where a session ended so: nothing, where the input's end is what ended it. A read or a write that fails, and want of
+-- memory, are no ends but faults.
 abbrev pub IsAllRead : SessionEnd → List ℕ → Type 0
 IsAllRead Unbound rest = Unit {0}
 IsAllRead EndOfInput rest = rest ≡ []
 IsAllRead Truncated rest = rest ≡ []
 IsAllRead Disconnected rest = Unit {0}
-IsAllRead ReadFailed rest = Unit {0}
-IsAllRead WriteFailed rest = Unit {0}
-IsAllRead NoMemory rest = Unit {0}
+IsAllRead ReadFailed rest = ⊥
+IsAllRead WriteFailed rest = ⊥
+IsAllRead NoMemory rest = ⊥
 
 -- The lines at the front of an input spell the pieces of a stream, all of them unless something else ended the session; the session over that
 -- stream has ended, along a talk with the directory, and the output has grown by its responses, each a line.
