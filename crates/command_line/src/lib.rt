@@ -8,5 +8,5 @@ mod words;
 
 pub use clap::Error;
 pub use ldap_requests::Scope;
-pub use serving::{Peer, Serving};
+pub use serving::{Password, Peer, Serving};
 pub use words::{Job, Opening, Question, read_words};

@@ -21,6 +21,14 @@ pub struct Peer {
     pub ldap_address: SocketAddr,
 }
 
+/// How the manager's password is told.
+#[derive(Clone, Copy)]
+pub enum Password<'a> {
+    Text(&'a str),
+    /// The name of a file whose first line it is.
+    File(&'a str),
+}
+
 /// What a replica is told. Times are in milliseconds.
 pub struct Serving<'a> {
     /// The number of the cluster, from 1.
@@ -31,7 +39,7 @@ pub struct Serving<'a> {
     pub store: &'a str,
     pub suffix: &'a str,
     pub manager: &'a str,
-    pub password: &'a str,
+    pub password: Password<'a>,
     /// The name of the schema's file; none for the built-in schema.
     pub schema: Option<&'a str>,
     /// The name of the index choice's file; none for no index.
@@ -125,8 +133,14 @@ const WORDS: &[Word] = &[
     Word {
         name: "password",
         value: "TEXT",
-        takes: Takes::Wanted,
-        help: "The manager's password",
+        takes: Takes::Text,
+        help: "The manager's password, which whoever lists this machine's processes then reads",
+    },
+    Word {
+        name: "password-file",
+        value: "FILE",
+        takes: Takes::Text,
+        help: "The file whose first line is the manager's password, in place of --password; nobody but its owner may read it",
     },
     SCHEMA_WORD,
     INDEX_WORD,
@@ -252,15 +266,23 @@ fn text_in<'a>(matches: &ArgMatches<'a>, name: &str) -> &'a str {
     }
 }
 
-/// The suffix, the manager's name and the password.
-fn names_in<'a>(
-    alloc: Global,
-    matches: &ArgMatches<'a>,
-) -> Result<(&'a str, &'a str, &'a str), Error> {
+/// The suffix, and the manager's name.
+fn names_in<'a>(alloc: Global, matches: &ArgMatches<'a>) -> Result<(&'a str, &'a str), Error> {
     let suffix = as_text(alloc, text_in(matches, "suffix"))?;
     let manager = as_text(alloc, text_in(matches, "manager"))?;
-    let password = as_text(alloc, text_in(matches, "password"))?;
-    Ok((suffix, manager, password))
+    Ok((suffix, manager))
+}
+
+/// How the password is told: by one of two words.
+fn password_in<'a>(alloc: Global, matches: &ArgMatches<'a>) -> Result<Password<'a>, Error> {
+    match (matches.get_str("password"), matches.get_str("password-file")) {
+        (Some(text), None) => Ok(Password::Text(as_text(alloc, text)?)),
+        (None, Some(path)) => Ok(Password::File(path)),
+        _ => Err(refused(
+            alloc,
+            "the password is told by one of --password and --password-file",
+        )),
+    }
 }
 
 /// What `serve` is told.
@@ -270,7 +292,8 @@ pub fn serving_in<'a>(alloc: Global, matches: &ArgMatches<'a>) -> Result<Serving
     if index >= peers.len() as u64 {
         return Err(refused(alloc, "the id is not below the number of PEERs"));
     }
-    let (suffix, manager, password) = names_in(alloc, matches)?;
+    let (suffix, manager) = names_in(alloc, matches)?;
+    let password = password_in(alloc, matches)?;
     Ok(Serving {
         cluster: number_in(matches, "cluster"),
         index,

@@ -44,6 +44,7 @@ where
         indexes,
         suffix,
         manager,
+        password,
         words,
     } = service;
     let Some(cluster) = Cluster::new(words.cluster) else {
@@ -59,7 +60,7 @@ where
             count: words.peers.len() as u64,
         },
         manager,
-        password: words.password,
+        password: &password,
         store: words.store,
         is_fresh: words.fresh,
         seats: words.seats as usize,

@@ -28,6 +28,8 @@ pub enum Fault {
     BadLine(u64),
     #[error("cannot read")]
     CannotRead,
+    #[error("others may read the password's file")]
+    OpenToOthers,
     #[error("cannot write")]
     CannotWrite,
     #[error("E3")]

@@ -3,6 +3,7 @@
 use crate::fault::Fault;
 use std::alloc::Global;
 use std::fs;
+use std::os::unix::fs::PermissionsExt;
 use std::io::ErrorKind;
 use std::rt::Files;
 
@@ -10,6 +11,14 @@ use std::rt::Files;
 pub trait ReadFiles {
     /// The text of a file; `cannot read` where it can't be opened or read, or isn't UTF-8.
     fn read_text(&self, alloc: Global, path: &str) -> Result<String, Fault>;
+
+    /// The same of a file that keeps a secret; it is refused where others than its owner may read it.
+    fn read_secret(&self, alloc: Global, path: &str) -> Result<String, Fault>;
+}
+
+/// Whether a file of this mode may be read by others than its owner.
+fn is_open_to_others(mode: u32) -> bool {
+    mode & 0o044 != 0
 }
 
 /// The system's files.
@@ -22,6 +31,18 @@ impl<R: Files + AllocGlobal> ReadFiles for SystemFiles<'_, R> {
             Ok(text) => Ok(text),
             Err(error) => Err(read_fault(error.kind())),
         }
+    }
+
+    fn read_secret(&self, alloc: Global, path: &str) -> Result<String, Fault> {
+        match fs::metadata(self.0, path) {
+            Ok(metadata) => {
+                if is_open_to_others(metadata.permissions().mode()) {
+                    return Err(Fault::OpenToOthers);
+                }
+            }
+            Err(error) => return Err(read_fault(error.kind())),
+        }
+        self.read_text(alloc, path)
     }
 }
 

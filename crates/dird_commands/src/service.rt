@@ -5,7 +5,7 @@ use crate::fault::Fault;
 use crate::files::ReadFiles;
 use crate::local::name_of_text;
 use crate::opening::{indexes_of, schema_of};
-use command_line::Serving;
+use command_line::{Password, Serving};
 use local_directory::{Indexes, Name, Schema};
 use std::alloc::Global;
 use std::sync::Arc;
@@ -17,6 +17,7 @@ pub struct Service<'a> {
     pub indexes: Indexes,
     pub suffix: Name,
     pub manager: Name,
+    pub password: String,
     pub words: Serving<'a>,
 }
 
@@ -29,7 +30,30 @@ fn entry_name(alloc: Global, schema: &Schema, text: &str) -> Result<Name, Fault>
     Ok(name)
 }
 
-/// What these words ask to be served. The schema is read first, then the index choice, the suffix and the manager's name.
+/// The first line of a text.
+fn first_line(text: &str) -> &str {
+    match text.lines().next() {
+        Some(line) => line,
+        None => "",
+    }
+}
+
+/// The password that is told, or that a file of its owner alone tells in its first line.
+fn password_of<S: ReadFiles>(
+    files: &S,
+    alloc: Global,
+    password: Password<'_>,
+) -> Result<String, Fault> {
+    match password {
+        Password::Text(text) => Ok(String::from_str(alloc, text)?),
+        Password::File(path) => {
+            let text = files.read_secret(alloc, path)?;
+            Ok(String::from_str(alloc, first_line(&text))?)
+        }
+    }
+}
+
+/// What these words ask to be served. The schema is read first, then the index choice, the suffix, the manager's name and the password.
 pub fn service_of<'a, S: ReadFiles>(
     files: &S,
     alloc: Global,
@@ -39,11 +63,13 @@ pub fn service_of<'a, S: ReadFiles>(
     let indexes = indexes_of(files, alloc, &schema, words.indexes)?;
     let suffix = entry_name(alloc, &schema, words.suffix)?;
     let manager = entry_name(alloc, &schema, words.manager)?;
+    let password = password_of(files, alloc, words.password)?;
     Ok(Service {
         schema,
         indexes,
         suffix,
         manager,
+        password,
         words,
     })
 }
