@@ -8,11 +8,21 @@ use std::marker::Model;
 
 /// A walk over a set. Contracts see the numbers that it still has to give. Its next number is at hand; those that follow are in a run of
 /// the set, so that a step is a few instructions.
-#[derive(Drop)]
 pub struct NumberWalk<'a> {
     set: &'a NumberSet,
     first: Option<u64>,
     rest: &'a [(u64, ())],
+}
+
+// Not derived, so that a crate above that owns one need not lay it out.
+impl<'a> Drop for NumberWalk<'a> {
+    fn drop(self) {
+        let NumberWalk {
+            set: _,
+            first: _,
+            rest: _,
+        } = self;
+    }
 }
 
 impl<'a> Model for NumberWalk<'a> {

@@ -25,9 +25,15 @@ enum Held {
 }
 
 /// An octet string. Contracts see the octets.
-#[derive(Drop)]
 pub struct Octets {
     held: Held,
+}
+
+// Not derived, so that a crate above that owns one need not lay it out.
+impl Drop for Octets {
+    fn drop(self) {
+        let Octets { held: _ } = self;
+    }
 }
 
 impl Model for Octets {
