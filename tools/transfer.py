@@ -9,10 +9,10 @@ import sys
 import time
 from collections.abc import Callable
 
-sys.path.insert(0, os.path.dirname(os.path.abspath(__file__)))
-import ldap_client as ldap
-
 TOP = os.path.dirname(os.path.dirname(os.path.abspath(__file__)))
+sys.path.insert(0, os.path.join(TOP, "tests"))
+import ldap_client as ldap
+from ldap_client import Closed
 
 # How long nothing may go forward before it is given up, and how long a replica may be silent, in seconds.
 PATIENCE = 60.0
@@ -60,7 +60,7 @@ def session(uri: str, manager: str | None, password: str, silence: float = SILEN
     if manager is not None:
         code = client.bind(manager, password)
         if code in (BUSY, UNAVAILABLE):
-            raise ldap.Closed(code_name(code))
+            raise Closed(code_name(code))
         if code != SUCCESS:
             raise Failure(f"{uri}: bind as {manager}: {code_name(code)}")
     return client
@@ -96,7 +96,7 @@ class Loading:
             uri = self.uris[tried % len(self.uris)]
             try:
                 referred = self._through(uri, ahead)
-            except (OSError, ldap.Closed) as error:
+            except (OSError, Closed) as error:
                 referred, why = None, str(error)
             else:
                 why = "no primary"
