@@ -275,7 +275,10 @@ fn names_in<'a>(alloc: Global, matches: &ArgMatches<'a>) -> Result<(&'a str, &'a
 
 /// How the password is told: by one of two words.
 fn password_in<'a>(alloc: Global, matches: &ArgMatches<'a>) -> Result<Password<'a>, Error> {
-    match (matches.get_str("password"), matches.get_str("password-file")) {
+    match (
+        matches.get_str("password"),
+        matches.get_str("password-file"),
+    ) {
         (Some(text), None) => Ok(Password::Text(as_text(alloc, text)?)),
         (None, Some(path)) => Ok(Password::File(path)),
         _ => Err(refused(

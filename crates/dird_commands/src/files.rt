@@ -3,8 +3,8 @@
 use crate::fault::Fault;
 use std::alloc::Global;
 use std::fs;
-use std::os::unix::fs::PermissionsExt;
 use std::io::ErrorKind;
+use std::os::unix::fs::PermissionsExt;
 use std::rt::Files;
 
 /// Reads named files whole.

@@ -39,8 +39,10 @@ impl Senders {
     pub fn rest_of(&self, heading: [u8; HEADING]) -> Result<u32, WireError> {
         let [l1, l2, l3, l4, version, a, b, c, d, e, f, kind, sender] = heading;
         let left = rest_behind([l1, l2, l3, l4])?;
-        let (_kind, sender) =
-            kind_and_sender([version, a, b, c, d, e, f, kind, sender], self.cluster)?;
+        let (_kind, sender) = kind_and_sender(
+            [version, a, b, c, d, e, f, kind, sender],
+            self.cluster,
+        )?;
         if !self.have(sender) {
             return Err(WireError::BadFrame);
         }
