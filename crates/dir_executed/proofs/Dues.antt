@@ -3,7 +3,7 @@ use Rattle.std.proofs.Common.{◌≡◌, ◌≢◌, ℕ, ◌<◌, ◌≤◌, min
 use Rattle.std.specs.Prelude.{OnErr}
 use Rattle.std.proofs.lemmas.List.{length-take, length-drop, take_all}
 use Rattle.std.proofs.Math.ListN.{drop_of_length-le}
-use Rattle.vr_state.specs.declared.words.Entry.{Entry}
+use Rattle.log_entry.specs.declared.words.Entry.{Entry}
 use Rattle.dir_store.specs.ldap_op.Values.{OpValue}
 use Rattle.dir_executed.specs.Executing.{IsFront}
 

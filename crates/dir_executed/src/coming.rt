@@ -3,7 +3,7 @@ ghost use Rattle.std.specs.Prelude.{◌≡◌};
 ghost use Rattle.dir_executed.specs.Executing.{due_after};
 
 use dir_store::Op;
-use vr_state::words::Entry;
+use log_entry::words::Entry;
 
 /// The committed records of a log that come next after so many. The log isn't walked, and nothing is copied.
 #[tactic(auto, using(std::proofs::lemmas::List::take_min, crate::proofs::Dues::none_due))]

@@ -7,9 +7,9 @@ ghost use Rattle.dir_store.specs.session_talk.View.{reply_view};
 
 use crate::coming::due;
 use dir_store::{Op, Reply, Store};
+use log_entry::words::Entry;
 use std::alloc::{AllocError, Global};
 use std::marker::Model;
-use vr_state::words::Entry;
 
 /// The records that were executed, the directory after them and the reply to each. Records share their payloads with the log.
 pub struct Executed {

@@ -1,9 +1,7 @@
-pub mod Bulk
-pub mod Ends
-pub mod Listed
-pub mod Marking
-pub mod Moved
-pub mod Narrowed
-pub mod Ranged
-pub mod Rising
-pub mod Rows
+pub mod Crossing
+mod Keys
+mod Listed
+mod Lookups
+mod Marking
+mod Numbers
+mod Ranged

@@ -1,35 +1,27 @@
 -- The lists of entries: which numbers are in them, and what they are after the entries change.
-use Rattle.std.proofs.Common.{◌≡◌, ℕ, ◌<◌, Bool, true, false, cond, not, List, [], ◌∷◌, ◌++◌, length, map, Result, Ok, Err, OnOk, Some, refl, sym, ap, ◌∙◌, subst, nat_eq, arith, inl, inr}
+use Rattle.std.proofs.Common.{◌≡◌, ℕ, ◌<◌, ◌≤◌, Bool, true, false, cond, not, List, [], ◌∷◌, ◌++◌, map, refl, sym, ap, ◌∙◌, subst, nat_eq, arith, inl, inr}
 use Rattle.std.specs.Prelude.{◌&&◌, ◌||◌, ◌⊎◌}
 use Rattle.std.specs.List.{list_any, AllByRecursion, filter}
-use Rattle.std.proofs.lemmas.Bool.{cases_order, cases_eq, eqb-true, eq-eqb, ne_eqb, and_parts, and_from, or_cases, or_left, or_right}
-use Rattle.std.proofs.lemmas.Slice.Eq.{bytes_eq-Decides}
+use Rattle.std.proofs.lemmas.Bool.{cases_order, cases_eq, eqb-true, eq-eqb, ne_eqb, or_right}
 use Rattle.std.proofs.lemmas.List.Folds.{list_any-append}
-use Rattle.dir_entry.specs.ldap_match.Keyed.{is_same_key}
 use Rattle.dir_entry.specs.Entry.{KeyedAttribute}
 use Rattle.index_choice.specs.declared.kinds.Kinds.{Kinds}
-use Rattle.index_choice.specs.Choice.{kinds_of}
 use Rattle.dir_index.specs.declared.posting.Posting.{Posting}
-use Rattle.dir_index.specs.declared.posting.Posting.TheVariants.{Present, Equal, Run}
-use Rattle.dir_index.specs.declared.posting.Range.{Range}
-use Rattle.dir_index.specs.Postings.{Indexed, Lists, has_number, IsRising, HaveTogether, numbers_where, is_of, some_key, in_range, has_in_range, is_kept, is_listed}
-use Rattle.dir_index.specs.Ordered.{is_same_posting}
-use Rattle.dir_index.specs.OrderLaws.{posting_equiv}
-use Rattle.dir_index.specs.Stored.{list_at, is_in, AllRise}
-use Rattle.dir_index.specs.Marked.{is_marked, lists_entry}
-use Rattle.dir_index.specs.Columns.{column_at, is_ordered, is_posting_in, range_at}
-use Rattle.std.specs.Map.{lookup}
-use Rattle.dir_index.specs.Ranges.{lists_in}
-use Rattle.dir_index.specs.Whole.{PostingsModel, lists_of, IsWhole, ArePostingsOf, AreOf, AreSameLists, AllBelow, HasEntry, IsAboveAll, IsHeld, IsUnder, IsMoved, without, with_attributes}
-use Rattle.dir_index.proofs.Rising.{none_above}
-use Rattle.dir_index.proofs.Rows.{one_posting}
-use Rattle.dir_index.proofs.Marking.{off, entry_lists}
-use Rattle.dir_index.proofs.Ranged.{in_range_at, range_rises}
-use Rattle.std.specs.Option.{unwrap_or}
+use Rattle.dir_index.specs.Postings.{Indexed, has_number, IsRising, numbers_where, is_kept, is_listed}
+use Rattle.dir_index.specs.ListKeys.{key_of}
+use Rattle.dir_index.specs.Stored.{ListRows, list_at, is_in, AllRise}
+use Rattle.dir_index.specs.Marked.{lists_entry}
+use Rattle.dir_index.specs.Whole.{PostingsModel, AreOf, AllBelow, HasEntry, without, with_attributes, moved}
+use Rattle.dir_index.proofs.Marking.{entry_none}
+
+-- nothing below the first of a rising list is in it
+pub none_above : (x n : ℕ) (xs : List ℕ) → AllByRecursion (λ y. x < y) xs → n ≤ x → has_number n xs ≡ false
+none_above x n [] a h = refl
+none_above x n (y ∷ ys) a h = let l : x < y = a.0 in ap (λ (b : Bool). b || has_number n ys) (ne_eqb n y (λ e. absurd (omega arith))) ∙ none_above x n ys a.1 h
 
 -- ---- rising lists with the same numbers
 
-one_way : (a b : Bool) → (a ≡ true → b ≡ true) → (b ≡ true → a ≡ true) → a ≡ b
+pub one_way : (a b : Bool) → (a ≡ true → b ≡ true) → (b ≡ true → a ≡ true) → a ≡ b
 one_way true true f g = refl
 one_way true false f g = sym (f refl)
 one_way false true f g = g refl
@@ -239,265 +231,59 @@ same_numbers n a (e ∷ es) = ap (λ (x : ℕ). x ∷ map (λ d. d.number) (with
     pick true f = sym (eqb-true e.number n f)
     pick false f = refl
 
--- ---- columns as tests
-
-pub marked_any : (f : Posting → Bool) (ps : List Posting) (p : Posting) → is_marked ps p ≡ true → f p ≡ true → list_any f ps ≡ true
-marked_any f [] p h g = absurd (cc)
-marked_any f (k ∷ ps) p h g = elim (or_cases (is_same_posting k p) (is_marked ps p) h) as (λ v. (f k || list_any f ps) ≡ true) [
-  | inl e ↦ or_left (f k) (list_any f ps) (ap f (one_posting k p e) ∙ g)
-  | inr e ↦ or_right (f k) (list_any f ps) (marked_any f ps p e g)
-]
-
-pub any_marked : (f : Posting → Bool) (ps : List Posting) → list_any f ps ≡ true → (p : Posting) × (is_marked ps p ≡ true) × (f p ≡ true)
-any_marked f [] h = absurd (cc)
-any_marked f (k ∷ ps) h = elim (or_cases (f k) (list_any f ps) h) as (λ v. (p : Posting) × (is_marked (k ∷ ps) p ≡ true) × (f p ≡ true)) [
-  | inl e ↦ (k, or_left (is_same_posting k k) (is_marked ps k) (posting_equiv.refl k), e)
-  | inr e ↦ let w : (p : Posting) × (is_marked ps p ≡ true) × (f p ≡ true) = any_marked f ps e in (w.0, or_right (is_same_posting k w.0) (is_marked ps w.0) w.1, w.2)
-]
-
--- sets with the same postings pass the same tests
-pub same_any : (f : Posting → Bool) (ps qs : List Posting) → ((p : Posting) → is_marked ps p ≡ is_marked qs p) → list_any f ps ≡ list_any f qs
-same_any f ps qs h = one_way (list_any f ps) (list_any f qs)
-    (λ e. let w : (p : Posting) × (is_marked ps p ≡ true) × (f p ≡ true) = any_marked f ps e in marked_any f qs w.0 (sym (h w.0) ∙ w.1) w.2)
-    (λ e. let w : (p : Posting) × (is_marked qs p ≡ true) × (f p ≡ true) = any_marked f qs e in marked_any f ps w.0 (h w.0 ∙ w.1) w.2)
-
-weaker_any : {X : Type 0} (f g : X → Bool) → ((x : X) → f x ≡ true → g x ≡ true) → (xs : List X) → list_any f xs ≡ true → list_any g xs ≡ true
-weaker_any f g h [] e = absurd (cc)
-weaker_any f g h (x ∷ xs) e = elim (or_cases (f x) (list_any f xs) e) as (λ v. (g x || list_any g xs) ≡ true) [
-  | inl k ↦ or_left (g x) (list_any g xs) (h x k)
-  | inr k ↦ or_right (g x) (list_any g xs) (weaker_any f g h xs k)
-]
-
-weaker_key : (t : ℕ) (f g : List ℕ → Bool) → ((x : List ℕ) → f x ≡ true → g x ≡ true) → (e : List KeyedAttribute) → some_key t f e ≡ true → some_key t g e ≡ true
-weaker_key t f g h e k = weaker_any (λ a. is_of t a && list_any f a.keys) (λ a. is_of t a && list_any g a.keys) (λ a w. let p = and_parts (is_of t a) (list_any f a.keys) w in and_from (is_of t a) (list_any g a.keys) p.0 (weaker_any f g h a.keys p.1)) e k
-
--- a key that passes
-one_of : (f : List ℕ → Bool) (xs : List (List ℕ)) → list_any f xs ≡ true → (x : List ℕ) × (list_any (is_same_key x) xs ≡ true) × (f x ≡ true)
-one_of f [] e = absurd (cc)
-one_of f (x ∷ xs) e = elim (or_cases (f x) (list_any f xs) e) as (λ v. (y : List ℕ) × (list_any (is_same_key y) (x ∷ xs) ≡ true) × (f y ≡ true)) [
-  | inl k ↦ (x, or_left (is_same_key x x) (list_any (is_same_key x) xs) ((bytes_eq-Decides x x).1 refl), k)
-  | inr k ↦ let w : (y : List ℕ) × (list_any (is_same_key y) xs ≡ true) × (f y ≡ true) = one_of f xs k in (w.0, or_right (is_same_key w.0 x) (list_any (is_same_key w.0) xs) w.1, w.2)
-]
-
-one_key : (t : ℕ) (f : List ℕ → Bool) (e : List KeyedAttribute) → some_key t f e ≡ true → (x : List ℕ) × (some_key t (is_same_key x) e ≡ true) × (f x ≡ true)
-one_key t f [] k = absurd (cc)
-one_key t f (a ∷ e) k = elim (or_cases (is_of t a && list_any f a.keys) (some_key t f e) k) as (λ v. (x : List ℕ) × (some_key t (is_same_key x) (a ∷ e) ≡ true) × (f x ≡ true)) [
-  | inl h ↦ let p = and_parts (is_of t a) (list_any f a.keys) h in
-      let w : (x : List ℕ) × (list_any (is_same_key x) a.keys ≡ true) × (f x ≡ true) = one_of f a.keys p.1 in
-      (w.0, or_left (is_of t a && list_any (is_same_key w.0) a.keys) (some_key t (is_same_key w.0) e) (and_from (is_of t a) (list_any (is_same_key w.0) a.keys) p.0 w.1), w.2)
-  | inr h ↦ let w : (x : List ℕ) × (some_key t (is_same_key x) e ≡ true) × (f x ≡ true) = one_key t f e h in
-      (w.0, or_right (is_of t a && list_any (is_same_key w.0) a.keys) (some_key t (is_same_key w.0) e) w.1, w.2)
-]
-
-ranged_one : (ix : List Kinds) (e : List KeyedAttribute) (r : Range) (p : Posting) → (lists_entry ix e p && is_ordered ix p) ≡ true → is_posting_in r p ≡ true → ((kinds_of ix r.type_id).ordering && has_in_range r e) ≡ true
-ranged_one ix e r (Present t) h g = absurd (cc)
-ranged_one ix e r (Equal t k) h g =
-    let p = and_parts (nat_eq t r.type_id) (in_range r k) g in
-    let l = and_parts (lists_entry ix e (Equal t k)) (kinds_of ix t).ordering h in
-    let m = and_parts (is_kept ix (Equal t k)) (some_key t (is_same_key k) e) l.0 in
-    let same : t ≡ r.type_id = eqb-true t r.type_id p.0 in
-    and_from (kinds_of ix r.type_id).ordering (has_in_range r e) (subst (λ (u : ℕ). (kinds_of ix u).ordering ≡ true) same l.1)
-    (weaker_key r.type_id (is_same_key k) (in_range r) (λ x w. ap (in_range r) ((bytes_eq-Decides x k).0 w) ∙ p.1) e (subst (λ (u : ℕ). some_key u (is_same_key k) e ≡ true) same m.1))
-ranged_one ix e r (Run t k) h g = absurd (cc)
-
--- a number whose column is that of an entry is in a range exactly where the entry is
-pub ranged_entry : (ix : List Kinds) (e : List KeyedAttribute) (ps : List Posting) (r : Range) → ((p : Posting) → is_marked ps p ≡ (lists_entry ix e p && is_ordered ix p))
-    → list_any (is_posting_in r) ps ≡ ((kinds_of ix r.type_id).ordering && has_in_range r e)
-ranged_entry ix e ps r h = one_way (list_any (is_posting_in r) ps) ((kinds_of ix r.type_id).ordering && has_in_range r e)
-    (λ k. let w : (p : Posting) × (is_marked ps p ≡ true) × (is_posting_in r p ≡ true) = any_marked (is_posting_in r) ps k in ranged_one ix e r w.0 (sym (h w.0) ∙ w.1) w.2)
-    (λ k. let p = and_parts (kinds_of ix r.type_id).ordering (has_in_range r e) k in
-    let w : (x : List ℕ) × (some_key r.type_id (is_same_key x) e ≡ true) × (in_range r x ≡ true) = one_key r.type_id (in_range r) e p.1 in
-    marked_any (is_posting_in r) ps (Equal r.type_id w.0)
-    (h (Equal r.type_id w.0)
-    ∙ and_from (lists_entry ix e (Equal r.type_id w.0)) (kinds_of ix r.type_id).ordering
-    (and_from (is_kept ix (Equal r.type_id w.0)) (some_key r.type_id (is_same_key w.0) e) (or_right (kinds_of ix r.type_id).equality (kinds_of ix r.type_id).ordering p.0) w.1) p.0)
-    (and_from (nat_eq r.type_id r.type_id) (in_range r w.0) (eq-eqb r.type_id r.type_id refl) w.2))
-
--- ---- lists in which one number moved
-
--- lists that rise and have the numbers of others, but for one number, which is in just those that pass
-pub record AreMoved (x y : Lists) (n : ℕ) (f : Posting → Bool) (g : Range → Bool) : Type 0 where
-  pub rise : (p : Posting) → IsRising (y.posting p)
-  pub rise_too : (r : Range) → IsRising (y.range r)
-  pub postings : (p : Posting) (k : ℕ) → has_number k (y.posting p) ≡ cond (nat_eq k n) (f p) (has_number k (x.posting p))
-  pub ranges : (r : Range) (k : ℕ) → has_number k (y.range r) ≡ cond (nat_eq k n) (g r) (has_number k (x.range r))
-
--- lists in which it moved alike are the same
-pub same_moved : {x y z : Lists} {n : ℕ} {f : Posting → Bool} {g : Range → Bool} → AreMoved x y n f g → AreMoved x z n f g → AreSameLists y z
-same_moved {x} {y} {z} a b = record {
-  postings = λ p. rising_same (y.posting p) (z.posting p) (a.rise p) (b.rise p) (λ k. a.postings p k ∙ sym (b.postings p k));
-  ranges = λ r. rising_same (y.range r) (z.range r) (a.rise_too r) (b.rise_too r) (λ k. a.ranges r k ∙ sym (b.ranges r k));
-}
-
--- of two moves the second stands
-pub moved_again : {x y z : Lists} {n : ℕ} {f h : Posting → Bool} {g i : Range → Bool} → AreMoved x y n f g → AreMoved y z n h i → AreMoved x z n h i
-moved_again {x} {y} {z} {n} {f} {h} {g} {i} a b = record {
-  rise = b.rise;
-  rise_too = b.rise_too;
-  postings = λ p k. b.postings p k ∙ ap (λ (v : Bool). cond (nat_eq k n) (h p) v) (a.postings p k) ∙ twice (nat_eq k n) (h p) (f p) (has_number k (x.posting p));
-  ranges = λ r k. b.ranges r k ∙ ap (λ (v : Bool). cond (nat_eq k n) (i r) v) (a.ranges r k) ∙ twice (nat_eq k n) (i r) (g r) (has_number k (x.range r));
-}
-  where
-    twice : (e u v w : Bool) → cond e u (cond e v w) ≡ cond e u w
-    twice true u v w = refl
-    twice false u v w = refl
-
--- a move that is said otherwise
-pub moved_said : {x y : Lists} {n : ℕ} {f h : Posting → Bool} {g i : Range → Bool} → AreMoved x y n f g → ((p : Posting) → f p ≡ h p) → ((r : Range) → g r ≡ i r) → AreMoved x y n h i
-moved_said {x} {y} {n} a u v = record {
-  rise = a.rise;
-  rise_too = a.rise_too;
-  postings = λ p k. a.postings p k ∙ ap (λ (b : Bool). cond (nat_eq k n) b (has_number k (x.posting p))) (u p);
-  ranges = λ r k. a.ranges r k ∙ ap (λ (b : Bool). cond (nat_eq k n) b (has_number k (x.range r))) (v r);
-}
-
--- a number that stays where it is
-pub unmoved : (x : Lists) (n : ℕ) (f : Posting → Bool) (g : Range → Bool) → ((p : Posting) → IsRising (x.posting p)) → ((r : Range) → IsRising (x.range r)) → ((p : Posting) → has_number n (x.posting p) ≡ f p) → ((r : Range) → has_number n (x.range r) ≡ g r)
-    → AreMoved x x n f g
-unmoved x n f g rise too u v = record { rise = rise; rise_too = too; postings = λ p k. stays (x.posting p) (f p) k (nat_eq k n) refl (u p); ranges = λ r k. stays (x.range r) (g r) k (nat_eq k n) refl (v r) }
-  where
-    stays : (ns : List ℕ) (b : Bool) (k : ℕ) (e : Bool) → nat_eq k n ≡ e → has_number n ns ≡ b → has_number k ns ≡ cond e b (has_number k ns)
-    stays ns b k true e h = ap (λ (m : ℕ). has_number m ns) (eqb-true k n e) ∙ h
-    stays ns b k false e h = refl
-
--- whether an entry is in a range whose index is kept
-abbrev pub in_entry : List Kinds → List KeyedAttribute → Range → Bool
-in_entry ix a r = (kinds_of ix r.type_id).ordering && has_in_range r a
-
--- lists of entries in which a number moved to the lists of other attributes are those of the entries after the change
-pub moved_entries : {x y : Lists} (ix : List Kinds) (n : ℕ) (a : List KeyedAttribute) (es es' : List Indexed) → AreMoved x y n (lists_entry ix a) (in_entry ix a) → ArePostingsOf x ix es
-    → IsRising (map (λ e. e.number) es') → ((q : List KeyedAttribute → Bool) (m : ℕ) → q [] ≡ false → found q m es' ≡ cond (nat_eq m n) (q a) (found q m es)) → ArePostingsOf y ix es'
-moved_entries {x} {y} ix n a es es' v held up f = record {
-  numbered = up;
-  postings = λ p. one (λ e. is_kept ix p && is_listed p e) (x.posting p) (y.posting p) (none p) (v.rise p) (held.postings p) (v.postings p);
-  ranges = λ r. one (λ e. (kinds_of ix r.type_id).ordering && has_in_range r e) (x.range r) (y.range r) (off (kinds_of ix r.type_id).ordering) (v.rise_too r) (held.ranges r) (v.ranges r);
-}
-  where
-    none : (p : Posting) → (is_kept ix p && is_listed p []) ≡ false
-    none (Present t) = off (kinds_of ix t).presence
-    none (Equal t k) = off ((kinds_of ix t).equality || (kinds_of ix t).ordering)
-    none (Run t g) = off ((kinds_of ix t).substrings && nat_eq (length g) 3)
-
-    one : (q : List KeyedAttribute → Bool) (xs ys : List ℕ) → q [] ≡ false → IsRising ys → xs ≡ numbers_where q es → ((k : ℕ) → has_number k ys ≡ cond (nat_eq k n) (q a) (has_number k xs)) → ys ≡ numbers_where q es'
-    one q xs ys e rise old has = rising_same ys (numbers_where q es') rise (filtered_rises (λ d. q d.entry) es' up)
-        (λ k. has k ∙ ap (λ (b : Bool). cond (nat_eq k n) (q a) b) (ap (has_number k) old ∙ number_found q k es) ∙ sym (f q k e) ∙ sym (number_found q k es'))
-
 -- ---- the whole
 
--- the column that a moved number has
-pub column_here : (old new : PostingsModel) (n : ℕ) (f : Posting → Bool) → IsMoved old new n f → (p : Posting) → is_marked (column_at new.columns n) p ≡ (f p && is_ordered old.indexes p)
-column_here old new n f v p = v.whole.linked p n ∙ ap (λ (b : Bool). b && is_ordered old.indexes p) (v.has p n ∙ ap (λ (b : Bool). cond b (f p) (is_in old.lists p n)) (eq-eqb n n refl))
+-- What became of the lists, as far as a posting's: a number may have moved, and nothing else.
+pub record IsMoved (old new : ListRows) (n : ℕ) (before after : Posting → Bool) : Type 0 where
+  pub rising : AllRise new
+  pub has : (p : Posting) (k : ℕ) → is_in new (key_of p) k ≡ cond (nat_eq k n) (moved (before p) (after p) (is_in old (key_of p) k)) (is_in old (key_of p) k)
 
--- what is kept has moved lists
-pub are_moved : (old new : PostingsModel) (n : ℕ) (f : Posting → Bool) (g : Range → Bool) → IsMoved old new n f → ((r : Range) → list_any (is_posting_in r) (column_at new.columns n) ≡ g r) → AreMoved (lists_of old) (lists_of new) n f g
-are_moved old new n f g v u = record {
-  rise = v.whole.rising;
-  rise_too = λ r. range_rises new.columns r v.whole.numbers;
-  postings = v.has;
-  ranges = λ r k. in_range_at new.columns r k v.whole.numbers ∙ at r k (nat_eq k n) refl ∙ ap (λ (b : Bool). cond (nat_eq k n) (g r) b) (sym (in_range_at old.columns r k v.was.numbers));
-}
-  where
-    at : (r : Range) (k : ℕ) (b : Bool) → nat_eq k n ≡ b → list_any (is_posting_in r) (column_at new.columns k) ≡ cond b (g r) (list_any (is_posting_in r) (column_at old.columns k))
-    at r k true e = ap (λ (m : ℕ). list_any (is_posting_in r) (column_at new.columns m)) (eqb-true k n e) ∙ u r
-    at r k false e = same_any (is_posting_in r) (column_at new.columns k) (column_at old.columns k)
-        (λ p. v.whole.linked p k ∙ ap (λ (b : Bool). b && is_ordered old.indexes p) (v.has p k ∙ ap (λ (b : Bool). cond b (f p) (is_in old.lists p k)) e) ∙ sym (v.was.linked p k))
+-- lists of entries rise
+pub all_rise : (m : PostingsModel) (es : List Indexed) → AreOf m es → AllRise m.lists
+all_rise m es held p = subst IsRising (sym (held.postings p)) (filtered_rises (λ d. is_kept m.indexes p && is_listed p d.entry) es held.numbered)
+
+moves : (b a : Bool) → moved b a b ≡ a
+moves true true = refl
+moves true false = refl
+moves false true = refl
+moves false false = refl
 
 -- the lists of the entries after a change are the changed lists
-pub changed_lists : (old new : PostingsModel) (n : ℕ) (a : List KeyedAttribute) (es es' : List Indexed) → IsMoved old new n (lists_entry old.indexes a) → AreOf old es
-    → IsRising (map (λ e. e.number) es') → ((q : List KeyedAttribute → Bool) (m : ℕ) → q [] ≡ false → found q m es' ≡ cond (nat_eq m n) (q a) (found q m es)) → AreOf new es'
-changed_lists old new n a es es' v held up f = subst (λ (ix : List Kinds). ArePostingsOf (lists_of new) ix es') (sym v.indexes)
-    (moved_entries old.indexes n a es es' (are_moved old new n (lists_entry old.indexes a) (in_entry old.indexes a) v (λ r. ranged_entry old.indexes a (column_at new.columns n) r (column_here old new n (lists_entry old.indexes a) v))) held up f)
+changed_lists : (ix : List Kinds) (old new : ListRows) (n : ℕ) (b a : List KeyedAttribute) (es es' : List Indexed) → AreOf (record { indexes = ix; lists = old }) es → IsMoved old new n (lists_entry ix b) (lists_entry ix a)
+    → IsRising (map (λ e. e.number) es') → ((q : List KeyedAttribute → Bool) → q [] ≡ false → found q n es ≡ q b) → ((q : List KeyedAttribute → Bool) (m : ℕ) → q [] ≡ false → found q m es' ≡ cond (nat_eq m n) (q a) (found q m es))
+    → AreOf (record { indexes = ix; lists = new }) es'
+changed_lists ix old new n b a es es' held v up was now = record {
+  numbered = up;
+  postings = λ p. rising_same (list_at new (key_of p)) (numbers_where (λ e. lists_entry ix e p) es') (v.rising p) (filtered_rises (λ d. lists_entry ix d.entry p) es' up) (λ k. one p k (nat_eq k n) refl ∙ sym (now (λ e. lists_entry ix e p) k (entry_none ix p)) ∙ sym (number_found (λ e. lists_entry ix e p) k es'));
+}
+  where
+    there : (p : Posting) (k : ℕ) → is_in old (key_of p) k ≡ found (λ e. lists_entry ix e p) k es
+    there p k = ap (has_number k) (held.postings p) ∙ number_found (λ e. lists_entry ix e p) k es
 
--- what lists a number that is above all, or that has an entry
-pub here_above : (m : PostingsModel) (n : ℕ) → IsAboveAll m n → IsUnder m n (lists_entry m.indexes [])
-here_above m n h p =
-    let q : List KeyedAttribute → Bool = λ e. is_kept m.indexes p && is_listed p e in
-    ap (has_number n) (h.1.postings p) ∙ number_found q n h.0 ∙ found_below q n h.0 h.2 ∙ entry_lists m.indexes [] p
-
-pub here_held : (m : PostingsModel) (n : ℕ) (a : List KeyedAttribute) → IsHeld m n a → IsUnder m n (lists_entry m.indexes a)
-here_held m n a h p =
-    let q : List KeyedAttribute → Bool = λ e. is_kept m.indexes p && is_listed p e in
-    ap (has_number n) (h.1.postings p) ∙ number_found q n h.0 ∙ found_here q n a h.0 h.1.numbered h.2
+    one : (p : Posting) (k : ℕ) (t : Bool) → nat_eq k n ≡ t → is_in new (key_of p) k ≡ cond (nat_eq k n) (lists_entry ix a p) (found (λ e. lists_entry ix e p) k es)
+    one p k true e =
+        v.has p k ∙ ap (λ (t : Bool). cond t (moved (lists_entry ix b p) (lists_entry ix a p) (is_in old (key_of p) k)) (is_in old (key_of p) k)) e
+        ∙ ap (moved (lists_entry ix b p) (lists_entry ix a p)) (there p k ∙ ap (λ (m : ℕ). found (λ x. lists_entry ix x p) m es) (eqb-true k n e) ∙ was (λ x. lists_entry ix x p) (entry_none ix p))
+        ∙ moves (lists_entry ix b p) (lists_entry ix a p)
+        ∙ ap (λ (t : Bool). cond t (lists_entry ix a p) (found (λ x. lists_entry ix x p) k es)) (sym e)
+    one p k false e =
+        v.has p k ∙ ap (λ (t : Bool). cond t (moved (lists_entry ix b p) (lists_entry ix a p) (is_in old (key_of p) k)) (is_in old (key_of p) k)) e
+        ∙ there p k ∙ ap (λ (t : Bool). cond t (lists_entry ix a p) (found (λ x. lists_entry ix x p) k es)) (sym e)
 
 -- one more entry, one less, one with other attributes
-pub added_lists : (old new : PostingsModel) (n : ℕ) (a : List KeyedAttribute) → IsMoved old new n (lists_entry old.indexes a)
-    → (es : List Indexed) → AreOf old es → AllBelow n es → AreOf new (es ++ record { number = n; entry = a } ∷ [])
-added_lists old new n a v es held b =
-    changed_lists old new n a es (es ++ record { number = n; entry = a } ∷ []) v held (push_rises n a es held.numbered b) (λ q m e. found_new q m n a es b)
+pub added_lists : (ix : List Kinds) (old new : ListRows) (n : ℕ) (a : List KeyedAttribute) (es : List Indexed) → IsMoved old new n (lists_entry ix []) (lists_entry ix a) → AreOf (record { indexes = ix; lists = old }) es → AllBelow n es
+    → AreOf (record { indexes = ix; lists = new }) (es ++ record { number = n; entry = a } ∷ [])
+added_lists ix old new n a es v held b =
+    changed_lists ix old new n [] a es (es ++ record { number = n; entry = a } ∷ []) held v (push_rises n a es held.numbered b) (λ q e. found_below q n es b ∙ sym e) (λ q m e. found_new q m n a es b)
 
-pub removed_lists : (old new : PostingsModel) (n : ℕ) → IsMoved old new n (lists_entry old.indexes []) → (es : List Indexed) → AreOf old es → AreOf new (without n es)
-removed_lists old new n v es held =
-    changed_lists old new n [] es (without n es) v held (filtered_rises (λ e. not (nat_eq e.number n)) es held.numbered)
-    (λ q m e. found_without q m n es ∙ ap (λ (b : Bool). cond (nat_eq m n) b (found q m es)) (sym e))
+pub removed_lists : (ix : List Kinds) (old new : ListRows) (n : ℕ) (b : List KeyedAttribute) (es : List Indexed) → IsMoved old new n (lists_entry ix b) (lists_entry ix []) → AreOf (record { indexes = ix; lists = old }) es → HasEntry es n b
+    → AreOf (record { indexes = ix; lists = new }) (without n es)
+removed_lists ix old new n b es v held there =
+    changed_lists ix old new n b [] es (without n es) held v (filtered_rises (λ e. not (nat_eq e.number n)) es held.numbered) (λ q e. found_here q n b es held.numbered there)
+    (λ q m e. found_without q m n es ∙ ap (λ (t : Bool). cond (nat_eq m n) t (found q m es)) (sym e))
 
-pub replaced_lists : (old new : PostingsModel) (n : ℕ) (b a : List KeyedAttribute) → IsMoved old new n (lists_entry old.indexes a)
-    → (es : List Indexed) → AreOf old es → HasEntry es n b → AreOf new (with_attributes n a es)
-replaced_lists old new n b a v es held there =
-    changed_lists old new n a es (with_attributes n a es) v held (subst IsRising (sym (same_numbers n a es)) held.numbered)
+pub replaced_lists : (ix : List Kinds) (old new : ListRows) (n : ℕ) (b a : List KeyedAttribute) (es : List Indexed) → IsMoved old new n (lists_entry ix b) (lists_entry ix a) → AreOf (record { indexes = ix; lists = old }) es → HasEntry es n b
+    → AreOf (record { indexes = ix; lists = new }) (with_attributes n a es)
+replaced_lists ix old new n b a es v held there =
+    changed_lists ix old new n b a es (with_attributes n a es) held v (subst IsRising (sym (same_numbers n a es)) held.numbered) (λ q e. found_here q n b es held.numbered there)
     (λ q m e. found_with q m n a es ∙ ap (λ (x : Bool). cond (nat_eq m n) (x && q a) (found q m es)) (held_there n b es there))
-
--- lists that have the same numbers, and the same columns
-pub same_lists : (m : PostingsModel) (ls : List (Posting × List ℕ)) (cs : List (ℕ × List Posting)) → IsWhole m.indexes m.lists m.columns → AllRise ls → cs ≡ m.columns
-    → ((p : Posting) (k : ℕ) → is_in ls p k ≡ is_in m.lists p k) → AreSameLists (lists_of (record { indexes = m.indexes; lists = ls; columns = cs })) (lists_of m)
-same_lists m ls cs w rising e h = record {
-  postings = λ p. rising_same (list_at ls p) (list_at m.lists p) (rising p) (w.rising p) (h p);
-  ranges = λ r. ap (λ (c : List (ℕ × List Posting)). range_at c r) e;
-}
-
--- ---- the lists of a range
-
--- a posting in a range is ordered where the range's type is
-ordered_in : (ix : List Kinds) (r : Range) (p : Posting) → is_posting_in r p ≡ true → is_ordered ix p ≡ (kinds_of ix r.type_id).ordering
-ordered_in ix r (Present t) h = absurd (cc)
-ordered_in ix r (Equal t k) h = ap (λ (u : ℕ). (kinds_of ix u).ordering) (eqb-true t r.type_id (and_parts (nat_eq t r.type_id) (in_range r k) h).0)
-ordered_in ix r (Run t g) h = absurd (cc)
-
-listed_in : (r : Range) (ls : List (Posting × List ℕ)) (p : Posting) (n : ℕ) → is_posting_in r p ≡ true → is_in ls p n ≡ true → list_any (has_number n) (lists_in r ls) ≡ true
-listed_in r [] p n h g = absurd (cc)
-listed_in r (l ∷ ls) p n h g = pick (is_same_posting p l.0) refl (is_posting_in r l.0) refl (λ k. listed_in r ls p n h k) g
-  where
-    pick : (a : Bool) → is_same_posting p l.0 ≡ a → (b : Bool) → is_posting_in r l.0 ≡ b → (is_in ls p n ≡ true → list_any (has_number n) (lists_in r ls) ≡ true)
-        → has_number n (unwrap_or (cond a (Some l.1) (lookup (is_same_posting p) ls)) []) ≡ true → list_any (has_number n) (map (λ x. x.1) (cond b (l ∷ filter (λ x. is_posting_in r x.0) ls) (filter (λ x. is_posting_in r x.0) ls))) ≡ true
-    pick true e true f ih k = or_left (has_number n l.1) (list_any (has_number n) (lists_in r ls)) k
-    pick true e false f ih k = absurd (apart (sym f ∙ ap (is_posting_in r) (sym (one_posting p l.0 e)) ∙ h))
-      where
-        apart : false ≡ true → ⊥
-        apart x = cc
-    pick false e true f ih k = or_right (has_number n l.1) (list_any (has_number n) (lists_in r ls)) (ih k)
-    pick false e false f ih k = ih k
-
--- a number is in one of the lists of a range exactly where it is in the range
-pub in_some_list : (ix : List Kinds) (ls : List (Posting × List ℕ)) (cs : List (ℕ × List Posting)) (r : Range) (n : ℕ) → IsWhole ix ls cs → (kinds_of ix r.type_id).ordering ≡ true
-    → (list_any (has_number n) (lists_in r ls) ≡ true → (p : Posting) × (is_posting_in r p ≡ true) × (is_in ls p n ≡ true))
-    → list_any (has_number n) (lists_in r ls) ≡ has_number n (range_at cs r)
-in_some_list ix ls cs r n w o f =
-    one_way (list_any (has_number n) (lists_in r ls)) (list_any (is_posting_in r) (column_at cs n))
-    (λ e. let k : (p : Posting) × (is_posting_in r p ≡ true) × (is_in ls p n ≡ true) = f e in
-    marked_any (is_posting_in r) (column_at cs n) k.0 (w.linked k.0 n ∙ and_from (is_in ls k.0 n) (is_ordered ix k.0) k.2 (ordered_in ix r k.0 k.1 ∙ o)) k.1)
-    (λ e. let k : (p : Posting) × (is_marked (column_at cs n) p ≡ true) × (is_posting_in r p ≡ true) = any_marked (is_posting_in r) (column_at cs n) e in
-    listed_in r ls k.0 n k.2 (and_parts (is_in ls k.0 n) (is_ordered ix k.0) (sym (w.linked k.0 n) ∙ k.1)).0)
-    ∙ sym (in_range_at cs r n w.numbers)
-
--- nothing is in a range of a type without an index in order
-pub in_no_list : (ix : List Kinds) (ls : List (Posting × List ℕ)) (cs : List (ℕ × List Posting)) (r : Range) (n : ℕ) → IsWhole ix ls cs → (kinds_of ix r.type_id).ordering ≡ false → has_number n (range_at cs r) ≡ false
-in_no_list ix ls cs r n w o = in_range_at cs r n w.numbers ∙ one_way (list_any (is_posting_in r) (column_at cs n)) false
-    (λ e. let k : (p : Posting) × (is_marked (column_at cs n) p ≡ true) × (is_posting_in r p ≡ true) = any_marked (is_posting_in r) (column_at cs n) e in
-    sym o ∙ sym (ordered_in ix r k.0 k.2) ∙ (and_parts (is_in ls k.0 n) (is_ordered ix k.0) (sym (w.linked k.0 n) ∙ k.1)).1)
-    (λ e. absurd (cc))
-
--- the lists that there are with those of a range
-pub together : (ix : List Kinds) (ls : List (Posting × List ℕ)) (cs : List (ℕ × List Posting)) (r : Range) (old new : List (List ℕ)) → IsWhole ix ls cs → (kinds_of ix r.type_id).ordering ≡ true
-    → ((n : ℕ) → list_any (has_number n) (lists_in r ls) ≡ true → (p : Posting) × (is_posting_in r p ≡ true) × (is_in ls p n ≡ true)) → new ≡ old ++ lists_in r ls → HaveTogether old (range_at cs r) new
-together ix ls cs r old new w o f e = λ n.
-    ap (list_any (has_number n)) e ∙ list_any-append (has_number n) old (lists_in r ls) ∙ ap (λ (b : Bool). list_any (has_number n) old || b) (in_some_list ix ls cs r n w o (f n))
-
-pub together_none : (ix : List Kinds) (ls : List (Posting × List ℕ)) (cs : List (ℕ × List Posting)) (r : Range) (old : List (List ℕ)) → IsWhole ix ls cs → (kinds_of ix r.type_id).ordering ≡ false → HaveTogether old (range_at cs r) old
-together_none ix ls cs r old w o = λ n. sym (ap (λ (b : Bool). list_any (has_number n) old || b) (in_no_list ix ls cs r n w o) ∙ flat (list_any (has_number n) old))
-  where
-    flat : (b : Bool) → (b || false) ≡ b
-    flat true = refl
-    flat false = refl
-
-pub on_both_ok : {A E P Q R : Type 0} (r : Result A E) → (P → Q → R) → OnOk r P → OnOk r Q → OnOk r R
-on_both_ok (Ok a) f h k = f h k
-on_both_ok (Err e) f h k = h

@@ -1,49 +1,42 @@
--- Sets of postings: what one more posting changes, and which an attribute has.
-use Rattle.std.proofs.Common.{◌≡◌, ℕ, ◌<◌, ◌+◌, Bool, true, false, cond, not, List, [], ◌∷◌, ◌++◌, length, take, get_or, refl, sym, ap, ◌∙◌, nat_eq, Result, Ok, Err, OnOk, OnErr}
-use Rattle.std.specs.Prelude.{◌&&◌, ◌||◌}
+-- Sets of keys: what one more key changes, and which an attribute has.
+use Rattle.std.proofs.Common.{◌≡◌, ℕ, ◌<◌, ◌≤◌, ◌+◌, Bool, true, false, cond, List, [], ◌∷◌, length, take, get_or, refl, sym, ap, ◌∙◌, nat_eq}
+use Rattle.std.specs.Prelude.{◌&&◌, ◌||◌, nat_lt}
 use Rattle.std.specs.Ordering.{is_eq}
+use Rattle.std.specs.Str.{bytes_eq}
 use Rattle.std.specs.List.{list_any}
 use Rattle.std.specs.BTreeMap.{is_at}
-use Rattle.std.proofs.lemmas.Bool.{eqb-true}
-use Rattle.std.proofs.lemmas.List.Folds.{list_any_more, list_any-append}
+use Rattle.std.proofs.lemmas.Bool.{eqb-true, eq-eqb}
+use Rattle.std.proofs.lemmas.List.Folds.{list_any_more}
+use Rattle.std.proofs.lemmas.Slice.Eq.{bytes_eq-Decides}
+use Rattle.std.proofs.lemmas.List.{length-take-le}
 use Rattle.dir_entry.specs.ldap_match.Keyed.{is_same_key}
 use Rattle.dir_entry.specs.Entry.{KeyedAttribute}
 use Rattle.index_choice.specs.declared.kinds.Kinds.{Kinds}
 use Rattle.index_choice.specs.Choice.{kinds_of}
 use Rattle.dir_index.specs.declared.posting.Posting.{Posting}
-use Rattle.dir_index.specs.declared.posting.Posting.TheVariants.{Present, Equal, Run}
-use Rattle.dir_index.specs.Ordered.{posting_order, is_same_posting}
-use Rattle.dir_index.specs.OrderLaws.{posting_ties, posting_equiv}
-use Rattle.dir_index.specs.Postings.{is_of, stands_in, is_kept, is_listed}
-use Rattle.dir_index.proofs.Rows.{one_posting}
-use Rattle.dir_index.specs.Marked.{is_marked, lists_entry, is_from_key, is_from_attribute}
+use Rattle.dir_index.specs.declared.posting.Posting.TheVariants.{Present, Several, Equal, Run}
+use Rattle.dir_index.specs.declared.list_key.ListKey.{ListKey}
+use Rattle.dir_index.specs.ListKeys.{key_of, list_order, is_same_list}
+use Rattle.dir_index.specs.OrderLaws.{list_ties, list_equiv}
+use Rattle.dir_index.specs.Postings.{is_of, has_type, stands_in, is_kept, is_listed}
+use Rattle.dir_index.proofs.Keys.{by_bool}
+use Rattle.dir_index.specs.Marked.{is_marked, lists_entry, is_of_key, is_first_run, is_from_key, is_from_presence, makes_several, is_from_several, is_from_attribute}
 
 -- what std's set has is what is marked
-pub marked_at : (ks : List Posting) (p : Posting) → is_marked ks p ≡ list_any (is_at (posting_order p)) ks
-marked_at [] p = refl
-marked_at (k ∷ ks) p = ap (λ (b : Bool). b || is_marked ks p) (posting_equiv.symm k p ∙ posting_ties p k) ∙ ap (λ (b : Bool). is_eq (posting_order p k) || b) (marked_at ks p)
+pub marked_at : (ks : List ListKey) (k : ListKey) → is_marked ks k ≡ list_any (is_at (list_order k)) ks
+marked_at [] k = refl
+marked_at (j ∷ ks) k = ap (λ (b : Bool). b || is_marked ks k) (list_equiv.symm j k ∙ list_ties k j) ∙ ap (λ (b : Bool). is_eq (list_order k j) || b) (marked_at ks k)
 
--- one more posting
-pub marked_more : (old new : List Posting) (k : Posting) → ((q : Posting) → list_any (is_at (posting_order q)) new ≡ cond (is_at (posting_order k) q) true (list_any (is_at (posting_order q)) old))
-    → (p : Posting) → is_marked new p ≡ (is_same_posting k p || is_marked old p)
-marked_more old new k h p =
-    marked_at new p ∙ h p ∙ flat (is_eq (posting_order k p)) (list_any (is_at (posting_order p)) old)
-    ∙ ap (λ (b : Bool). b || list_any (is_at (posting_order p)) old) (sym (posting_ties k p)) ∙ ap (λ (b : Bool). is_same_posting k p || b) (sym (marked_at old p))
+-- one more key
+pub marked_more : (old new : List ListKey) (j : ListKey) → ((k : ListKey) → list_any (is_at (list_order k)) new ≡ cond (is_at (list_order j) k) true (list_any (is_at (list_order k)) old))
+    → (k : ListKey) → is_marked new k ≡ (is_same_list j k || is_marked old k)
+marked_more old new j h k =
+    marked_at new k ∙ h k ∙ flat (is_eq (list_order j k)) (list_any (is_at (list_order k)) old)
+    ∙ ap (λ (b : Bool). b || list_any (is_at (list_order k)) old) (sym (list_ties j k)) ∙ ap (λ (b : Bool). is_same_list j k || b) (sym (marked_at old k))
   where
     flat : (a b : Bool) → cond a true b ≡ (a || b)
     flat true b = refl
     flat false b = refl
-
--- what was marked stays marked, whether or not there was memory for one more
-pub still_marked : {A E : Type 0} (P : Type 0) (r : Result A E) (old new : List Posting) (k : Posting) → OnOk r P
-    → (P → (q : Posting) → list_any (is_at (posting_order q)) new ≡ cond (is_at (posting_order k) q) true (list_any (is_at (posting_order q)) old)) → OnErr r (new ≡ old)
-    → (p : Posting) → is_marked old p ≡ true → is_marked new p ≡ true
-still_marked P (Ok a) old new k h f e p m = marked_more old new k (f h) p ∙ ap (λ (b : Bool). is_same_posting k p || b) m ∙ or_on (is_same_posting k p)
-  where
-    or_on : (b : Bool) → (b || true) ≡ true
-    or_on true = refl
-    or_on false = refl
-still_marked P (Err x) old new k h f e p m = ap (λ (l : List Posting). is_marked l p) e ∙ m
 
 -- ---- booleans
 
@@ -93,27 +86,110 @@ at_kind_and f t u x = pick (nat_eq t u) refl
     pick true e = ap (λ (n : ℕ). f n && x) (eqb-true t u e)
     pick false e = off (f t) ∙ sym (off (f u))
 
--- one attribute: its presence, its keys, their runs, each where the type has such an index
-attribute_lists : (ix : List Kinds) (a : KeyedAttribute) (p : Posting) → is_from_attribute ix a p ≡ (is_kept ix p && is_listed p (a ∷ []))
-attribute_lists ix a (Present u) =
-    ap (λ (b : Bool). ((kinds_of ix a.kind).presence && nat_eq a.kind u) || b) (any_same (is_from_key (kinds_of ix a.kind) a.kind (Present u)) (λ k. false) (λ k. nothing (kinds_of ix a.kind)) a.keys ∙ all_off a.keys)
-    ∙ or_off ((kinds_of ix a.kind).presence && nat_eq a.kind u) ∙ at_kind (λ (t : ℕ). (kinds_of ix t).presence) a.kind u ∙ ap (λ (b : Bool). (kinds_of ix u).presence && b) (sym (or_off (nat_eq a.kind u)))
+-- ---- what single keys are
+
+pub same_value : (t : ℕ) (k : List ℕ) (p : Posting) → is_same_list (record { type_id = t; rank = 2; octets = k }) (key_of p) ≡ is_of_key t k p
+same_value t k (Present u) = off (nat_eq t u)
+same_value t k (Several u) = off (nat_eq t u)
+same_value t k (Equal u l) = refl
+same_value t k (Run u g) = off (nat_eq t u)
+
+on_off : (b : Bool) → (b && true) ≡ b
+on_off true = refl
+on_off false = refl
+
+pub same_presence : (ks : Kinds) (t : ℕ) (p : Posting) → ks.presence ≡ true → is_same_list (record { type_id = t; rank = 0; octets = [] }) (key_of p) ≡ is_from_presence ks t p
+same_presence ks t (Present u) h = on_off (nat_eq t u) ∙ ap (λ (b : Bool). b && nat_eq t u) (sym h)
+same_presence ks t (Several u) h = off (nat_eq t u)
+same_presence ks t (Equal u l) h = off (nat_eq t u)
+same_presence ks t (Run u g) h = off (nat_eq t u)
+
+pub no_presence : (ks : Kinds) (t : ℕ) (p : Posting) → ks.presence ≡ false → is_from_presence ks t p ≡ false
+no_presence ks t (Present u) h = ap (λ (b : Bool). b && nat_eq t u) h
+no_presence ks t (Several u) h = refl
+no_presence ks t (Equal u l) h = refl
+no_presence ks t (Run u g) h = refl
+
+pub same_several : (ks : Kinds) (t : ℕ) (b : Bool) (p : Posting) → ks.ordering ≡ true → b ≡ true → is_same_list (record { type_id = t; rank = 1; octets = [] }) (key_of p) ≡ is_from_several ks t b p
+same_several ks t b (Present u) h s = off (nat_eq t u)
+same_several ks t b (Several u) h s = ap (λ (x : Bool). nat_eq t u && x) (sym s) ∙ ap (λ (x : Bool). x && (nat_eq t u && b)) (sym h)
+same_several ks t b (Equal u l) h s = off (nat_eq t u)
+same_several ks t b (Run u g) h s = off (nat_eq t u)
+
+pub no_several : (ks : Kinds) (t : ℕ) (b : Bool) (p : Posting) → (ks.ordering && b) ≡ false → is_from_several ks t b p ≡ false
+no_several ks t b (Present u) h = refl
+no_several ks t b (Several u) h = either ks.ordering (nat_eq t u) b h
   where
-    nothing : (ks : Kinds) → (((ks.equality || ks.ordering) && false) || (ks.substrings && false)) ≡ false
-    nothing ks = ap (λ (b : Bool). b || (ks.substrings && false)) (off (ks.equality || ks.ordering)) ∙ off ks.substrings
-attribute_lists ix a (Equal u l) =
+    either : (o n x : Bool) → (o && x) ≡ false → (o && (n && x)) ≡ false
+    either false n x h = refl
+    either true true x h = h
+    either true false x h = refl
+no_several ks t b (Equal u l) h = refl
+no_several ks t b (Run u g) h = refl
+
+-- the first three octets, compared at once, and by their count
+pub same_run : (t : ℕ) (k : List ℕ) (p : Posting) → 3 ≤ length k → is_same_list (record { type_id = t; rank = 3; octets = take 3 k }) (key_of p) ≡ is_first_run t k p
+same_run t k (Present u) h = off (nat_eq t u)
+same_run t k (Several u) h = off (nat_eq t u)
+same_run t k (Equal u l) h = off (nat_eq t u)
+same_run t k (Run u g) h = ap (λ (b : Bool). nat_eq t u && b) (three (nat_eq (length g) 3) refl)
+  where
+    three : (b : Bool) → nat_eq (length g) 3 ≡ b → bytes_eq (take 3 k) g ≡ (b && bytes_eq (take (length g) k) g)
+    three true e = ap (λ (n : ℕ). bytes_eq (take n k) g) (sym (eqb-true (length g) 3 e))
+    three false e = by_bool (bytes_eq (take 3 k) g)
+        (λ h'. absurd (differ (ap length (sym ((bytes_eq-Decides (take 3 k) g).0 h')) ∙ length-take-le 3 k h)))
+        (λ h'. h')
+      where
+        differ : length g ≡ 3 → ⊥
+        differ d = let y : true ≡ false = sym (eq-eqb (length g) 3 d) ∙ e in cc
+
+-- whether a posting lists an entry for the sake of its first attribute
+is_listed_by : Posting → KeyedAttribute → List KeyedAttribute → Bool
+is_listed_by (Present t) a e = is_of t a
+is_listed_by (Several t) a e = is_of t a && (nat_lt 1 (length a.keys) || has_type t e)
+is_listed_by (Equal t k) a e = is_of t a && list_any (is_same_key k) a.keys
+is_listed_by (Run t g) a e = is_of t a && list_any (stands_in g) a.keys
+
+listed_more : (p : Posting) (a : KeyedAttribute) (e : List KeyedAttribute) → (is_listed_by p a e || is_listed p e) ≡ is_listed p (a ∷ e)
+unfolding is_listed_by
+listed_more (Present t) a e = refl
+listed_more (Several t) a e = refl
+listed_more (Equal t k) a e = refl
+listed_more (Run t g) a e = refl
+
+at_kind_both : (f g : ℕ → Bool) (t u : ℕ) → (f t && (nat_eq t u && g t)) ≡ (f u && (nat_eq t u && g u))
+at_kind_both f g t u = pick (nat_eq t u) refl
+  where
+    pick : (b : Bool) → nat_eq t u ≡ b → (f t && (b && g t)) ≡ (f u && (b && g u))
+    pick true e = ap (λ (n : ℕ). f n && g n) (eqb-true t u e)
+    pick false e = off (f t) ∙ sym (off (f u))
+
+asked : Kinds → Bool
+asked ks = ks.equality || ks.ordering
+
+-- neither a value nor a run
+nothing : (ks : Kinds) → (((ks.equality || ks.ordering) && false) || (ks.substrings && false)) ≡ false
+nothing ks = ap (λ (b : Bool). b || (ks.substrings && false)) (off (ks.equality || ks.ordering)) ∙ off ks.substrings
+
+-- one attribute: its presence, whether there may be several values, its keys, their runs, each where the type has such an index
+attribute_lists : (ix : List Kinds) (a : KeyedAttribute) (e : List KeyedAttribute) (p : Posting) → is_from_attribute ix a e p ≡ (is_kept ix p && is_listed_by p a e)
+unfolding asked is_listed_by
+attribute_lists ix a e (Present u) =
+    ap (λ (b : Bool). ((kinds_of ix a.kind).presence && nat_eq a.kind u) || b) (any_same (is_from_key (kinds_of ix a.kind) a.kind (Present u)) (λ k. false) (λ k. nothing (kinds_of ix a.kind)) a.keys ∙ all_off a.keys)
+    ∙ or_off ((kinds_of ix a.kind).presence && nat_eq a.kind u) ∙ at_kind (λ (t : ℕ). (kinds_of ix t).presence) a.kind u
+attribute_lists ix a e (Several u) =
+    ap (λ (b : Bool). ((kinds_of ix a.kind).ordering && (nat_eq a.kind u && makes_several a e)) || b) (any_same (is_from_key (kinds_of ix a.kind) a.kind (Several u)) (λ k. false) (λ k. nothing (kinds_of ix a.kind)) a.keys ∙ all_off a.keys)
+    ∙ or_off ((kinds_of ix a.kind).ordering && (nat_eq a.kind u && makes_several a e))
+    ∙ at_kind_both (λ (t : ℕ). (kinds_of ix t).ordering) (λ (t : ℕ). nat_lt 1 (length a.keys) || has_type t e) a.kind u
+attribute_lists ix a e (Equal u l) =
     any_same (is_from_key (kinds_of ix a.kind) a.kind (Equal u l)) (λ k. asked (kinds_of ix a.kind) && (nat_eq a.kind u && is_same_key l k)) (λ k. alone (kinds_of ix a.kind) (nat_eq a.kind u && is_same_key l k)) a.keys
     ∙ any_and (asked (kinds_of ix a.kind)) (λ k. nat_eq a.kind u && is_same_key l k) a.keys
     ∙ ap (λ (b : Bool). asked (kinds_of ix a.kind) && b) (any_and (nat_eq a.kind u) (is_same_key l) a.keys)
     ∙ at_kind_and (λ (t : ℕ). asked (kinds_of ix t)) a.kind u (list_any (is_same_key l) a.keys)
-    ∙ ap (λ (b : Bool). asked (kinds_of ix u) && b) (sym (or_off (nat_eq a.kind u && list_any (is_same_key l) a.keys)))
   where
-    asked : Kinds → Bool
-    asked ks = ks.equality || ks.ordering
-
     alone : (ks : Kinds) (b : Bool) → ((asked ks && b) || (ks.substrings && false)) ≡ (asked ks && b)
     alone ks b = ap (λ (x : Bool). (asked ks && b) || x) (off ks.substrings) ∙ or_off (asked ks && b)
-attribute_lists ix a (Run u g) =
+attribute_lists ix a e (Run u g) =
     any_same (is_from_key (kinds_of ix a.kind) a.kind (Run u g)) (λ k. (kinds_of ix a.kind).substrings && (nat_eq a.kind u && (nat_eq (length g) 3 && stands_in g k)))
     (λ k. ap (λ (x : Bool). x || ((kinds_of ix a.kind).substrings && (nat_eq a.kind u && (nat_eq (length g) 3 && stands_in g k)))) (off ((kinds_of ix a.kind).equality || (kinds_of ix a.kind).ordering))) a.keys
     ∙ any_and (kinds_of ix a.kind).substrings (λ k. nat_eq a.kind u && (nat_eq (length g) 3 && stands_in g k)) a.keys
@@ -121,7 +197,6 @@ attribute_lists ix a (Run u g) =
     ∙ at_kind_and (λ (t : ℕ). (kinds_of ix t).substrings) a.kind u (list_any (λ k. nat_eq (length g) 3 && stands_in g k) a.keys)
     ∙ ap (λ (b : Bool). (kinds_of ix u).substrings && (nat_eq a.kind u && b)) (any_and (nat_eq (length g) 3) (stands_in g) a.keys)
     ∙ regroup (kinds_of ix u).substrings (nat_eq a.kind u) (nat_eq (length g) 3) (list_any (stands_in g) a.keys)
-    ∙ ap (λ (b : Bool). ((kinds_of ix u).substrings && nat_eq (length g) 3) && b) (sym (or_off (nat_eq a.kind u && list_any (stands_in g) a.keys)))
   where
     regroup : (s n l x : Bool) → (s && (n && (l && x))) ≡ ((s && l) && (n && x))
     regroup false n l x = refl
@@ -129,28 +204,31 @@ attribute_lists ix a (Run u g) =
     regroup true false true x = refl
     regroup true true l x = refl
 
-listed_more : (p : Posting) (a : KeyedAttribute) (e : List KeyedAttribute) → (is_listed p (a ∷ []) || is_listed p e) ≡ is_listed p (a ∷ e)
-listed_more (Present t) a e = ap (λ (b : Bool). b || is_listed (Present t) e) (or_off (is_of t a))
-listed_more (Equal t k) a e = ap (λ (b : Bool). b || is_listed (Equal t k) e) (or_off (is_of t a && list_any (is_same_key k) a.keys))
-listed_more (Run t g) a e = ap (λ (b : Bool). b || is_listed (Run t g) e) (or_off (is_of t a && list_any (stands_in g) a.keys))
-
-listed_none : (p : Posting) → is_listed p [] ≡ false
+pub listed_none : (p : Posting) → is_listed p [] ≡ false
 listed_none (Present t) = refl
+listed_none (Several t) = refl
 listed_none (Equal t k) = refl
 listed_none (Run t g) = refl
 
--- an entry: the postings of each of its attributes
-pub entry_lists : (ix : List Kinds) (e : List KeyedAttribute) (p : Posting) → list_any (λ a. is_from_attribute ix a p) e ≡ lists_entry ix e p
-entry_lists ix [] p = sym (ap (λ (b : Bool). is_kept ix p && b) (listed_none p) ∙ off (is_kept ix p))
-entry_lists ix (a ∷ e) p =
-    ap (λ (b : Bool). b || list_any (λ x. is_from_attribute ix x p) e) (attribute_lists ix a p)
-    ∙ ap (λ (b : Bool). (is_kept ix p && is_listed p (a ∷ [])) || b) (entry_lists ix e p)
-    ∙ both (is_kept ix p) (is_listed p (a ∷ [])) (is_listed p e)
+-- an entry: what its first attribute brings, and the others
+pub entry_more : (ix : List Kinds) (a : KeyedAttribute) (e : List KeyedAttribute) (p : Posting) → (is_from_attribute ix a e p || lists_entry ix e p) ≡ lists_entry ix (a ∷ e) p
+entry_more ix a e p =
+    ap (λ (b : Bool). b || lists_entry ix e p) (attribute_lists ix a e p)
+    ∙ both (is_kept ix p) (is_listed_by p a e) (is_listed p e)
     ∙ ap (λ (b : Bool). is_kept ix p && b) (listed_more p a e)
   where
     both : (k x y : Bool) → ((k && x) || (k && y)) ≡ (k && (x || y))
     both true x y = refl
     both false x y = refl
+
+-- the same in a loop, which marks the attribute first
+pub entry_step : (ix : List Kinds) (a : KeyedAttribute) (e : List KeyedAttribute) (p : Posting) (old new : Bool) → new ≡ (is_from_attribute ix a e p || old) → (lists_entry ix e p || new) ≡ (lists_entry ix (a ∷ e) p || old)
+entry_step ix a e p old new h =
+    ap (λ (b : Bool). lists_entry ix e p || b) h ∙ or_swap (lists_entry ix e p) (is_from_attribute ix a e p) old ∙ sym (or_assoc (is_from_attribute ix a e p) (lists_entry ix e p) old)
+    ∙ ap (λ (b : Bool). b || old) (entry_more ix a e p)
+
+pub entry_none : (ix : List Kinds) (p : Posting) → lists_entry ix [] p ≡ false
+entry_none ix p = ap (λ (b : Bool). is_kept ix p && b) (listed_none p) ∙ off (is_kept ix p)
 
 -- ---- loops
 
@@ -159,30 +237,3 @@ pub any_more : {X : Type 0} (f : X → Bool) (xs : List X) (i : ℕ) (x : X) (b 
 any_more f xs i x b l e =
     ap (λ (y : Bool). y || (list_any f (take i xs) || b)) (ap f e) ∙ or_swap (f (get_or xs i x)) (list_any f (take i xs)) b ∙ sym (or_assoc (list_any f (take i xs)) (f (get_or xs i x)) b)
     ∙ ap (λ (y : Bool). y || b) (sym (list_any_more f xs i x l))
-
-pub marked_push : (ks : List Posting) (k p : Posting) → is_marked (ks ++ k ∷ []) p ≡ (is_marked ks p || (is_same_posting k p || false))
-marked_push ks k p = list_any-append (λ q. is_same_posting q p) ks (k ∷ [])
-
--- one more posting of a set, where it isn't in the other set, and where it is
-pub kept_apart : (left all rest : List Posting) (others : List Posting) (k p : Posting) → is_marked others k ≡ false
-    → (is_marked left p || (is_marked (k ∷ rest) p && not (is_marked others p))) ≡ (is_marked all p && not (is_marked others p))
-    → (is_marked (left ++ k ∷ []) p || (is_marked rest p && not (is_marked others p))) ≡ (is_marked all p && not (is_marked others p))
-kept_apart left all rest others k p none h =
-    ap (λ (b : Bool). b || (is_marked rest p && not (is_marked others p))) (marked_push left k p)
-    ∙ pushed (is_marked left p) (is_same_posting k p) (is_marked rest p) (is_marked others p) (λ e. ap (is_marked others) (sym (one_posting k p e)) ∙ none) ∙ h
-  where
-    pushed : (a s m o : Bool) → (s ≡ true → o ≡ false) → ((a || (s || false)) || (m && not o)) ≡ (a || ((s || m) && not o))
-    pushed true s m o f = refl
-    pushed false true m o f = sym (ap not (f refl))
-    pushed false false m o f = refl
-
-pub left_out : (left all rest : List Posting) (others : List Posting) (k p : Posting) → is_marked others k ≡ true
-    → (is_marked left p || (is_marked (k ∷ rest) p && not (is_marked others p))) ≡ (is_marked all p && not (is_marked others p))
-    → (is_marked left p || (is_marked rest p && not (is_marked others p))) ≡ (is_marked all p && not (is_marked others p))
-left_out left all rest others k p some h =
-    skipped (is_marked left p) (is_same_posting k p) (is_marked rest p) (is_marked others p) (λ e. ap (is_marked others) (sym (one_posting k p e)) ∙ some) ∙ h
-  where
-    skipped : (a s m o : Bool) → (s ≡ true → o ≡ true) → (a || (m && not o)) ≡ (a || ((s || m) && not o))
-    skipped true s m o f = refl
-    skipped false true m o f = ap (λ (b : Bool). m && not b) (f refl) ∙ off m ∙ sym (ap not (f refl))
-    skipped false false m o f = refl

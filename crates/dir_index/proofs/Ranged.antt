@@ -1,90 +1,222 @@
--- The map from numbers to postings: look-ups after a change, and its numbers in order.
-use Rattle.std.proofs.Common.{◌≡◌, ℕ, ◌<◌, Bool, true, false, cond, List, [], ◌∷◌, Option, Some, None, map, refl, sym, ap, ◌∙◌, subst, nat_eq, Vec, Global, Ordering, arith}
-use Rattle.std.specs.Prelude.{◌||◌}
-use Rattle.std.specs.Ordering.{is_eq, nat_cmp}
-use Rattle.std.specs.Cmp.{unsigned_ties, nat_eq_equiv}
-use Rattle.std.specs.List.{list_any, AllByRecursion, filter}
-use Rattle.std.specs.List.Sorted.{IsStrictlySortedBy}
-use Rattle.std.specs.Map.{lookup, keys_of}
+-- The lists of a range: where they are in the map, and which numbers they have together.
+use Rattle.std.proofs.Common.{◌≡◌, ℕ, Bool, true, false, cond, List, [], ◌∷◌, ◌++◌, Option, Some, None, Ordering, refl, sym, ap, ◌∙◌, subst, nat_eq, inl, inr}
+use Rattle.std.specs.Prelude.{◌&&◌, ◌||◌}
+use Rattle.std.specs.Ordering.{is_lt, is_eq, ordering_reverse}
+use Rattle.std.specs.Cmp.{IsTotalOrder, tied_itself}
+use Rattle.std.specs.List.{list_any, AllByRecursion}
+use Rattle.std.specs.Map.{lookup}
 use Rattle.std.specs.BTreeMap.{is_at}
-use Rattle.std.proofs.lemmas.Cmp.{ranked}
-use Rattle.std.proofs.lemmas.Bool.{eqb-true}
+use Rattle.std.specs.Option.{unwrap_or}
+use Rattle.std.proofs.lemmas.Bool.{and_parts, and_from, or_cases, or_left, or_right}
+use Rattle.std.proofs.lemmas.List.Folds.{list_any-append}
+use Rattle.std.proofs.lemmas.Slice.Eq.{bytes_eq-Decides}
+use Rattle.shared_map.specs.Entries.{Rises, IsAhead}
+use Rattle.shared_map.specs.Runs.{entries_after}
+use Rattle.dir_entry.specs.ldap_match.Keyed.{is_same_key}
+use Rattle.dir_entry.specs.Entry.{KeyedAttribute}
+use Rattle.index_choice.specs.Choice.{kinds_of}
 use Rattle.dir_index.specs.declared.posting.Posting.{Posting}
+use Rattle.dir_index.specs.declared.posting.Posting.TheVariants.{Equal}
 use Rattle.dir_index.specs.declared.posting.Range.{Range}
-use Rattle.dir_index.specs.Postings.{has_number, IsRising}
-use Rattle.dir_index.specs.Columns.{ColumnRows, shown, or_none, column_at, column_numbers, is_posting_in, range_at}
-use Rattle.dir_index.proofs.Rising.{none_above}
+use Rattle.dir_index.specs.declared.list_key.ListKey.{ListKey}
+use Rattle.dir_index.specs.Postings.{Indexed, has_number, is_of, some_key, in_range, has_in_range, is_kept, is_listed, postings_of}
+use Rattle.dir_index.specs.ListKeys.{key_of, list_order, is_list_in, range_start, or_nothing}
+use Rattle.dir_index.specs.OrderLaws.{list_total}
+use Rattle.dir_index.specs.Stored.{ListRows, list_at, is_in, has_in_lists}
+use Rattle.dir_index.specs.Whole.{PostingsModel, AreOf}
+use Rattle.dir_index.proofs.Keys.{by_ordering, one_by_order, list_in, in_list, past, early, start_in, not_true}
+use Rattle.dir_index.proofs.Listed.{found, number_found, one_way}
+use Rattle.dir_index.proofs.Marking.{off, or_assoc}
 
--- what a look-up finds, without its memory
-abbrev pub postings_in : Option (Vec Posting Global) → List Posting
-postings_in None = []
-postings_in (Some v) = v.items
+-- ---- what comes after a key
 
--- a look-up of the map
-pub columns_at : (rows : ColumnRows) (n : ℕ) → column_at (shown rows) n ≡ postings_in (lookup (is_at (nat_cmp n)) rows)
-columns_at [] n = refl
-columns_at (r ∷ rs) n = either (nat_eq n r.0) (is_eq (nat_cmp n r.0)) (unsigned_ties n r.0) r.1 (lookup (nat_eq n) (shown rs)) (lookup (is_at (nat_cmp n)) rs) (columns_at rs n)
+less_is : (r : Ordering) → is_lt r ≡ true → r ≡ Ordering.Less
+less_is Ordering.Less h = refl
+less_is Ordering.Equal h = cc
+less_is Ordering.Greater h = cc
+
+module _ {K X : Type 0} (R : K → K → Ordering) where
+  some_kept : (P : K × X → Type 0) (t : Bool) (e : K × X) (xs : List (K × X)) → P e → AllByRecursion P xs → AllByRecursion P (cond t (e ∷ xs) xs)
+  some_kept P true e xs p a = (p, a)
+  some_kept P false e xs p a = a
+
+  all_after : (P : K × X → Type 0) (k : K) (es : List (K × X)) → AllByRecursion P es → AllByRecursion P (entries_after (R k) es)
+  all_after P k [] a = tt
+  all_after P k (e ∷ es) a = some_kept P (is_lt (R k e.0)) e (entries_after (R k) es) a.0 (all_after P k es a.1)
+
+  rise_kept : (t : Bool) (e : K × X) (xs : List (K × X)) → IsAhead R e.0 xs → Rises R xs → Rises R (cond t (e ∷ xs) xs)
+  rise_kept true e xs a r = (a, r)
+  rise_kept false e xs a r = r
+
+  pub rises_after : (k : K) (es : List (K × X)) → Rises R es → Rises R (entries_after (R k) es)
+  rises_after k [] r = tt
+  rises_after k (e ∷ es) r = rise_kept (is_lt (R k e.0)) e (entries_after (R k) es) (all_after (λ f. R e.0 f.0 ≡ Ordering.Less) k es r.0) (rises_after k es r.1)
+
+  ahead_kept : (t : Bool) (k : K) (e : K × X) (xs : List (K × X)) → is_lt (R k e.0) ≡ t → IsAhead R k xs → IsAhead R k (cond t (e ∷ xs) xs)
+  ahead_kept true k e xs h a = (less_is (R k e.0) h, a)
+  ahead_kept false k e xs h a = a
+
+  pub ahead_after : (k : K) (es : List (K × X)) → IsAhead R k (entries_after (R k) es)
+  ahead_after k [] = tt
+  ahead_after k (e ∷ es) = ahead_kept (is_lt (R k e.0)) k e (entries_after (R k) es) refl (ahead_after k es)
+
+  -- below all keys
+  after_all : (k : K) (es : List (K × X)) → IsAhead R k es → entries_after (R k) es ≡ es
+  after_all k [] a = refl
+  after_all k (e ∷ es) a = ap (λ t. cond t (e ∷ entries_after (R k) es) (entries_after (R k) es)) (ap is_lt a.0) ∙ ap (λ l. e ∷ l) (after_all k es a.1)
+
+  none_found : (k : K) (es : List (K × X)) → IsAhead R k es → lookup (is_at (R k)) es ≡ None
+  none_found k [] a = refl
+  none_found k (e ∷ es) a = ap (λ t. cond t (Some e.1) (lookup (is_at (R k)) es)) (ap is_eq a.0) ∙ none_found k es a.1
+
+  module _ (o : IsTotalOrder R) where
+    pub ahead_too : (j k : K) (es : List (K × X)) → R j k ≡ Ordering.Less → IsAhead R k es → IsAhead R j es
+    ahead_too j k [] h a = tt
+    ahead_too j k (e ∷ es) h a = (o.trans j k e.0 h a.0, ahead_too j k es h a.1)
+
+-- ---- the lists of a range
+
+module _ (r : Range) (n : ℕ) where
+  -- one list of the range, in a walk
+  pub in_one_more : (k : ListKey) (v : List ℕ) (ls : ListRows) (old new : List ℕ) → is_list_in r k ≡ true → new ≡ old ++ v → (has_number n new || has_in_lists r n ls) ≡ (has_number n old || has_in_lists r n ((k, v) ∷ ls))
+  in_one_more k v ls old new h e =
+      ap (λ (l : List ℕ). has_number n l || has_in_lists r n ls) e
+      ∙ ap (λ (b : Bool). b || has_in_lists r n ls) (list_any-append (nat_eq n) old v)
+      ∙ or_assoc (has_number n old) (has_number n v) (has_in_lists r n ls)
+      ∙ ap (λ (b : Bool). has_number n old || ((b && has_number n v) || has_in_lists r n ls)) (sym h)
+
+  none_behind : (k : ListKey) (ls : ListRows) → list_order (range_start r) k ≡ Ordering.Less → is_list_in r k ≡ false → IsAhead list_order k ls → has_in_lists r n ls ≡ false
+  none_behind k [] s h a = refl
+  none_behind k (l ∷ ls) s h a = ap (λ (b : Bool). (b && has_number n l.1) || has_in_lists r n ls) (past r k l.0 s h a.0) ∙ none_behind k ls s h a.1
+
+  -- a walk that has come to a key behind the range
+  pub no_more : (k : ListKey) (v : List ℕ) (ls : ListRows) → IsAhead list_order (range_start r) ((k, v) ∷ ls) → Rises list_order ((k, v) ∷ ls) → is_list_in r k ≡ false → has_in_lists r n ((k, v) ∷ ls) ≡ false
+  no_more k v ls s a h = ap (λ (b : Bool). (b && has_number n v) || has_in_lists r n ls) h ∙ none_behind k ls s.0 h a.0
+
+  -- the list at the start, and those behind it
+  pub from_start : (ls : ListRows) → Rises list_order ls
+      → ((in_range r (or_nothing r.from) && has_number n (list_at ls (range_start r))) || has_in_lists r n (entries_after (list_order (range_start r)) ls)) ≡ has_in_lists r n ls
+  from_start [] s = ap (λ (b : Bool). b || false) (off (in_range r (or_nothing r.from)))
+  from_start (l ∷ ls) s = by_ordering (list_order (range_start r) l.0)
+      (λ e.
+      let ahead : IsAhead list_order (range_start r) (l ∷ ls) = (e, ahead_too list_order list_total (range_start r) l.0 ls e s.0) in
+      ap (λ (v : Option (List ℕ)). (in_range r (or_nothing r.from) && has_number n (unwrap_or v [])) || has_in_lists r n (entries_after (list_order (range_start r)) (l ∷ ls))) (none_found list_order (range_start r) (l ∷ ls) ahead)
+      ∙ ap (λ (b : Bool). b || has_in_lists r n (entries_after (list_order (range_start r)) (l ∷ ls))) (off (in_range r (or_nothing r.from)))
+      ∙ ap (has_in_lists r n) (after_all list_order (range_start r) (l ∷ ls) ahead))
+      (λ e.
+      let same = one_by_order (range_start r) l.0 e in
+      ap (λ (t : Ordering). (in_range r (or_nothing r.from) && has_number n (unwrap_or (cond (is_eq t) (Some l.1) (lookup (is_at (list_order (range_start r))) ls)) [])) || has_in_lists r n (cond (is_lt t) (l ∷ entries_after (list_order (range_start r)) ls) (entries_after (list_order (range_start r)) ls))) e
+      ∙ ap (λ (x : ListRows). (in_range r (or_nothing r.from) && has_number n l.1) || has_in_lists r n x) (after_all list_order (range_start r) ls (subst (λ (k : ListKey). IsAhead list_order k ls) (sym same) s.0))
+      ∙ ap (λ (b : Bool). (b && has_number n l.1) || has_in_lists r n ls) (sym (start_in r) ∙ ap (is_list_in r) same))
+      (λ e.
+      ap (λ (t : Ordering). (in_range r (or_nothing r.from) && has_number n (unwrap_or (cond (is_eq t) (Some l.1) (lookup (is_at (list_order (range_start r))) ls)) [])) || has_in_lists r n (cond (is_lt t) (l ∷ entries_after (list_order (range_start r)) ls) (entries_after (list_order (range_start r)) ls))) e
+      ∙ from_start ls s.1
+      ∙ ap (λ (b : Bool). (b && has_number n l.1) || has_in_lists r n ls) (sym (early r l.0 (list_total.antisymm l.0 (range_start r) ∙ ap ordering_reverse e))))
+
+-- ---- the numbers of a range's lists
+
+any_here : (r : Range) (n : ℕ) (ls : ListRows) → has_in_lists r n ls ≡ true → Rises list_order ls → (k : ListKey) × (is_list_in r k ≡ true) × (is_in ls k n ≡ true)
+any_here r n [] h s = cc
+any_here r n (l ∷ ls) h s = elim (or_cases (is_list_in r l.0 && has_number n l.1) (has_in_lists r n ls) h) [
+  | inl e ↦ let p = and_parts (is_list_in r l.0) (has_number n l.1) e in (l.0, p.0, ap (λ t. has_number n (unwrap_or (cond t (Some l.1) (lookup (is_at (list_order l.0)) ls)) [])) (ap is_eq (tied_itself list_total l.0)) ∙ p.1)
+  | inr e ↦ let f = any_here r n ls e s.1 in (f.0, f.1, later f.0 f.2)
+]
   where
-    either : (a b : Bool) → a ≡ b → (v : Vec Posting Global) (o : Option (List Posting)) (q : Option (Vec Posting Global)) → or_none o ≡ postings_in q → or_none (cond a (Some v.items) o) ≡ postings_in (cond b (Some v) q)
-    either true b e v o q h = subst (λ (x : Bool). v.items ≡ postings_in (cond x (Some v) q)) e refl
-    either false b e v o q h = subst (λ (x : Bool). or_none o ≡ postings_in (cond x (Some v) q)) e h
+    later : (k : ListKey) → is_in ls k n ≡ true → is_in (l ∷ ls) k n ≡ true
+    later k g = by_ordering (list_order k l.0)
+        (λ e. ap (λ t. has_number n (unwrap_or (cond (is_eq t) (Some l.1) (lookup (is_at (list_order k)) ls)) [])) e ∙ g)
+        (λ e.
+        let same = one_by_order k l.0 e in
+        let gone : is_in ls k n ≡ false = ap (λ (v : Option (List ℕ)). has_number n (unwrap_or v [])) (none_found list_order k ls (subst (λ (q : ListKey). IsAhead list_order q ls) (sym same) s.0)) in
+        absurd (not_true (is_in ls k n) g gone))
+        (λ e. ap (λ t. has_number n (unwrap_or (cond (is_eq t) (Some l.1) (lookup (is_at (list_order k)) ls)) [])) e ∙ g)
 
--- a column that was written, or taken out
-pub column_written : (old new : ColumnRows) (k : ℕ) (w : Option (Vec Posting Global)) (l : List Posting) → postings_in w ≡ l
-    → ((q : ℕ) → lookup (is_at (nat_cmp q)) new ≡ cond (is_at (nat_cmp k) q) w (lookup (is_at (nat_cmp q)) old))
-    → (n : ℕ) → column_at (shown new) n ≡ cond (nat_eq n k) l (column_at (shown old) n)
-column_written old new k w l e h n =
-    columns_at new n ∙ ap postings_in (h n) ∙ spread (is_at (nat_cmp k) n) (lookup (is_at (nat_cmp n)) old)
-    ∙ ap (λ (b : Bool). cond b (postings_in w) (postings_in (lookup (is_at (nat_cmp n)) old))) (sym (unsigned_ties k n) ∙ nat_eq_equiv.symm k n)
-    ∙ ap (λ (c : List Posting). cond (nat_eq n k) c (postings_in (lookup (is_at (nat_cmp n)) old))) e
-    ∙ ap (λ (c : List Posting). cond (nat_eq n k) l c) (sym (columns_at old n))
+here_any : (r : Range) (n : ℕ) (ls : ListRows) (k : ListKey) → is_list_in r k ≡ true → is_in ls k n ≡ true → has_in_lists r n ls ≡ true
+here_any r n [] k h g = cc
+here_any r n (l ∷ ls) k h g = pick (λ f. here_any r n ls k h f) (is_eq (list_order k l.0)) refl g
   where
-    spread : (b : Bool) (o : Option (Vec Posting Global)) → postings_in (cond b w o) ≡ cond b (postings_in w) (postings_in o)
-    spread true o = refl
-    spread false o = refl
+    pick : (is_in ls k n ≡ true → has_in_lists r n ls ≡ true) → (t : Bool) → is_eq (list_order k l.0) ≡ t → has_number n (unwrap_or (cond t (Some l.1) (lookup (is_at (list_order k)) ls)) []) ≡ true → has_in_lists r n (l ∷ ls) ≡ true
+    pick rest true e f = or_left (is_list_in r l.0 && has_number n l.1) (has_in_lists r n ls) (and_from (is_list_in r l.0) (has_number n l.1) (ap (is_list_in r) (sym (one_by_order k l.0 (equal (list_order k l.0) e))) ∙ h) f)
+      where
+        equal : (o : Ordering) → is_eq o ≡ true → o ≡ Ordering.Equal
+        equal Ordering.Less x = cc
+        equal Ordering.Equal x = refl
+        equal Ordering.Greater x = cc
+    pick rest false e f = or_right (is_list_in r l.0 && has_number n l.1) (has_in_lists r n ls) (rest f)
 
-less : (x y : ℕ) → nat_cmp x y ≡ Ordering.Less → x < y
-less x y e = ranked x y Ordering.Less (sym e)
+found_more : (p q : List KeyedAttribute → Bool) → ((e : List KeyedAttribute) → p e ≡ true → q e ≡ true) → (n : ℕ) (es : List Indexed) → found p n es ≡ true → found q n es ≡ true
+found_more p q f n [] h = h
+found_more p q f n (e ∷ es) h = elim (or_cases (nat_eq n e.number && p e.entry) (found p n es) h) [
+  | inl g ↦ let u = and_parts (nat_eq n e.number) (p e.entry) g in or_left (nat_eq n e.number && q e.entry) (found q n es) (and_from (nat_eq n e.number) (q e.entry) u.0 (f e.entry u.1))
+  | inr g ↦ or_right (nat_eq n e.number && q e.entry) (found q n es) (found_more p q f n es g)
+]
 
-all_less : (x : ℕ) (rows : ColumnRows) → AllByRecursion (λ y. nat_cmp x y ≡ Ordering.Less) (keys_of rows) → AllByRecursion (λ y. x < y) (column_numbers (shown rows))
-all_less x [] h = tt
-all_less x (r ∷ rs) h = (less x r.0 h.0, all_less x rs h.1)
+-- an entry that is found
+found_one : (p : List KeyedAttribute → Bool) (n : ℕ) (es : List Indexed) → found p n es ≡ true → (e : List KeyedAttribute) × (p e ≡ true) × ((q : List KeyedAttribute → Bool) → q e ≡ true → found q n es ≡ true)
+found_one p n [] h = cc
+found_one p n (e ∷ es) h = elim (or_cases (nat_eq n e.number && p e.entry) (found p n es) h) [
+  | inl g ↦ let u = and_parts (nat_eq n e.number) (p e.entry) g in (e.entry, u.1, λ q w. or_left (nat_eq n e.number && q e.entry) (found q n es) (and_from (nat_eq n e.number) (q e.entry) u.0 w))
+  | inr g ↦ let f = found_one p n es g in (f.0, f.1, λ q w. or_right (nat_eq n e.number && q e.entry) (found q n es) (f.2 q w))
+]
 
--- the numbers of a map rise
-pub numbers_rise : (rows : ColumnRows) → IsStrictlySortedBy nat_cmp (keys_of rows) → IsRising (column_numbers (shown rows))
-unfolding IsStrictlySortedBy
-numbers_rise [] h = tt
-numbers_rise (r ∷ rs) h = (all_less r.0 rs h.0, numbers_rise rs h.1)
+key_more : (f g : List ℕ → Bool) → ((x : List ℕ) → f x ≡ true → g x ≡ true) → (ks : List (List ℕ)) → list_any f ks ≡ true → list_any g ks ≡ true
+key_more f g i [] h = h
+key_more f g i (k ∷ ks) h = elim (or_cases (f k) (list_any f ks) h) [ inl e ↦ or_left (g k) (list_any g ks) (i k e) | inr e ↦ or_right (g k) (list_any g ks) (key_more f g i ks e) ]
 
--- ---- the numbers of a range
+some_more : (t : ℕ) (f g : List ℕ → Bool) → ((x : List ℕ) → f x ≡ true → g x ≡ true) → (e : List KeyedAttribute) → some_key t f e ≡ true → some_key t g e ≡ true
+some_more t f g i [] h = h
+some_more t f g i (a ∷ e) h = elim (or_cases (is_of t a && list_any f a.keys) (some_key t f e) h) [
+  | inl u ↦ let p = and_parts (is_of t a) (list_any f a.keys) u in or_left (is_of t a && list_any g a.keys) (some_key t g e) (and_from (is_of t a) (list_any g a.keys) p.0 (key_more f g i a.keys p.1))
+  | inr u ↦ or_right (is_of t a && list_any g a.keys) (some_key t g e) (some_more t f g i e u)
+]
 
-above_ranged : (n : ℕ) (cs : List (ℕ × List Posting)) (r : Range) → AllByRecursion (λ y. n < y) (column_numbers cs) → AllByRecursion (λ y. n < y) (range_at cs r)
-above_ranged n [] r h = tt
-above_ranged n (c ∷ cs) r h = pick (list_any (is_posting_in r) c.1) (above_ranged n cs r h.1)
+key_one : (f : List ℕ → Bool) (ks : List (List ℕ)) → list_any f ks ≡ true → (x : List ℕ) × (f x ≡ true) × (list_any (is_same_key x) ks ≡ true)
+key_one f [] h = cc
+key_one f (k ∷ ks) h = elim (or_cases (f k) (list_any f ks) h) [
+  | inl e ↦ (k, e, or_left (is_same_key k k) (list_any (is_same_key k) ks) ((bytes_eq-Decides k k).1 refl))
+  | inr e ↦ let r = key_one f ks e in (r.0, r.1, or_right (is_same_key r.0 k) (list_any (is_same_key r.0) ks) r.2)
+]
+
+some_one : (t : ℕ) (f : List ℕ → Bool) (e : List KeyedAttribute) → some_key t f e ≡ true → (x : List ℕ) × (f x ≡ true) × (some_key t (is_same_key x) e ≡ true)
+some_one t f [] h = cc
+some_one t f (a ∷ e) h = elim (or_cases (is_of t a && list_any f a.keys) (some_key t f e) h) [
+  | inl u ↦ let p = and_parts (is_of t a) (list_any f a.keys) u in let r = key_one f a.keys p.1 in
+      (r.0, r.1, or_left (is_of t a && list_any (is_same_key r.0) a.keys) (some_key t (is_same_key r.0) e) (and_from (is_of t a) (list_any (is_same_key r.0) a.keys) p.0 r.2))
+  | inr u ↦ let r = some_one t f e u in (r.0, r.1, or_right (is_of t a && list_any (is_same_key r.0) a.keys) (some_key t (is_same_key r.0) e) r.2)
+]
+
+-- the lists of a range have the numbers of the range's entries
+pub range_numbers : (m : PostingsModel) (es : List Indexed) (r : Range) (n : ℕ) → Rises list_order m.lists → AreOf m es → (kinds_of m.indexes r.type_id).ordering ≡ true
+    → has_in_lists r n m.lists ≡ has_number n ((postings_of m.indexes es).range r)
+range_numbers m es r n s held o =
+    one_way (has_in_lists r n m.lists) (found ranged n es)
+    (λ h.
+    let k = any_here r n m.lists h s in
+    let i = list_in r k.0 k.1 in
+    let p : Posting = Equal r.type_id k.0.octets in
+    let same : k.0 ≡ key_of p = λ j. record { type_id = i.of_type j; rank = i.of_rank j; octets = k.0.octets } in
+    found_more (λ e. is_kept m.indexes p && is_listed p e) ranged
+    (λ e w. and_from (kinds_of m.indexes r.type_id).ordering (has_in_range r e) o
+    (some_more r.type_id (is_same_key k.0.octets) (in_range r)
+    (λ x v. ap (in_range r) ((bytes_eq-Decides x k.0.octets).0 v) ∙ and_from _ _ i.from i.upto) e (and_parts (is_kept m.indexes p) (is_listed p e) w).1)) n es
+    (sym (ap (has_number n) (held.postings p) ∙ number_found (λ e. is_kept m.indexes p && is_listed p e) n es) ∙ ap (λ q. is_in m.lists q n) (sym same) ∙ k.2))
+    (λ h.
+    let e = found_one ranged n es h in
+    let x = some_one r.type_id (in_range r) e.0 (and_parts (kinds_of m.indexes r.type_id).ordering (has_in_range r e.0) e.1).1 in
+    let p : Posting = Equal r.type_id x.0 in
+    let q = and_parts _ _ x.1 in
+    here_any r n m.lists (key_of p) (in_list r (key_of p) refl refl q.0 q.1)
+    (ap (has_number n) (held.postings p) ∙ number_found (λ d. is_kept m.indexes p && is_listed p d) n es
+    ∙ e.2 (λ d. is_kept m.indexes p && is_listed p d) (and_from (is_kept m.indexes p) (is_listed p e.0) (or_right (kinds_of m.indexes r.type_id).equality (kinds_of m.indexes r.type_id).ordering o) x.2)))
+    ∙ sym (number_found ranged n es)
   where
-    pick : (b : Bool) → AllByRecursion (λ y. n < y) (range_at cs r) → AllByRecursion (λ y. n < y) (map (λ d. d.0) (cond b (c ∷ filter (λ d. list_any (is_posting_in r) d.1) cs) (filter (λ d. list_any (is_posting_in r) d.1) cs)))
-    pick true k = (h.0, k)
-    pick false k = k
+    ranged : List KeyedAttribute → Bool
+    ranged e = (kinds_of m.indexes r.type_id).ordering && has_in_range r e
 
-pub range_rises : (cs : List (ℕ × List Posting)) (r : Range) → IsRising (column_numbers cs) → IsRising (range_at cs r)
-range_rises [] r h = tt
-range_rises (c ∷ cs) r h = pick (list_any (is_posting_in r) c.1) (range_rises cs r h.1)
-  where
-    pick : (b : Bool) → IsRising (range_at cs r) → IsRising (map (λ d. d.0) (cond b (c ∷ filter (λ d. list_any (is_posting_in r) d.1) cs) (filter (λ d. list_any (is_posting_in r) d.1) cs)))
-    pick true k = (above_ranged c.0 cs r h.0, k)
-    pick false k = k
+none_found_off : (f : List KeyedAttribute → Bool) (b : Bool) (n : ℕ) (es : List Indexed) → b ≡ false → found (λ e. b && f e) n es ≡ false
+none_found_off f b n [] h = refl
+none_found_off f b n (e ∷ es) h = ap (λ (x : Bool). (nat_eq n e.number && (x && f e.entry)) || found (λ d. b && f d) n es) h ∙ ap (λ (x : Bool). x || found (λ d. b && f d) n es) (off (nat_eq n e.number)) ∙ none_found_off f b n es h
 
--- a number is in a range exactly where its column has a key there
-pub in_range_at : (cs : List (ℕ × List Posting)) (r : Range) (n : ℕ) → IsRising (column_numbers cs) → has_number n (range_at cs r) ≡ list_any (is_posting_in r) (column_at cs n)
-in_range_at [] r n h = refl
-in_range_at (c ∷ cs) r n h = pick (nat_eq n c.0) refl (list_any (is_posting_in r) c.1) refl (in_range_at cs r n h.1)
-  where
-    gone : n ≡ c.0 → has_number n (range_at cs r) ≡ false
-    gone e = none_above c.0 n (range_at cs r) (above_ranged c.0 cs r h.0) (omega arith)
-
-    pick : (a : Bool) → nat_eq n c.0 ≡ a → (b : Bool) → list_any (is_posting_in r) c.1 ≡ b → has_number n (range_at cs r) ≡ list_any (is_posting_in r) (column_at cs n)
-        → has_number n (map (λ d. d.0) (cond b (c ∷ filter (λ d. list_any (is_posting_in r) d.1) cs) (filter (λ d. list_any (is_posting_in r) d.1) cs))) ≡ list_any (is_posting_in r) (or_none (cond a (Some c.1) (lookup (nat_eq n) cs)))
-    pick true e true f ih = ap (λ (x : Bool). x || has_number n (range_at cs r)) e ∙ sym f
-    pick true e false f ih = gone (eqb-true n c.0 e) ∙ sym f
-    pick false e true f ih = ap (λ (x : Bool). x || has_number n (range_at cs r)) e ∙ ih
-    pick false e false f ih = ih
+-- a range whose type has no index in order has none
+pub no_range : (m : PostingsModel) (es : List Indexed) (r : Range) (n : ℕ) → (kinds_of m.indexes r.type_id).ordering ≡ false → has_number n ((postings_of m.indexes es).range r) ≡ false
+no_range m es r n o = number_found (λ e. (kinds_of m.indexes r.type_id).ordering && has_in_range r e) n es ∙ none_found_off (has_in_range r) (kinds_of m.indexes r.type_id).ordering n es o

@@ -1,4 +1,4 @@
--- The laws of the order of postings.
+-- The laws of the order of postings, and of the keys of their lists.
 use Rattle.std.proofs.Common.{List, ℕ, Bool, nat_eq, ◌≡◌, sym, ap, ◌∙◌}
 use Rattle.std.specs.Prelude.{◌&&◌}
 use Rattle.std.specs.Str.{bytes_eq}
@@ -6,6 +6,8 @@ use Rattle.std.specs.Ordering.{nat_cmp, is_eq, ordering_then}
 use Rattle.std.specs.Cmp.{IsEquivalence, IsTotalOrder, nat_cmp_total, on_total, then_total, unsigned_ties}
 use Rattle.std.specs.Cmp.Lexicographic.{slice_cmp, nat_list_cmp_total, texts_ties}
 use Rattle.dir_index.specs.declared.posting.Posting.{Posting}
+use Rattle.dir_index.specs.declared.list_key.ListKey.{ListKey}
+use Rattle.dir_index.specs.ListKeys.{list_order, is_same_list}
 use Rattle.dir_index.specs.Ordered.{type_of, rank_of, octets_of, posting_order, is_same_posting}
 use Rattle.dir_entry.specs.ldap_dn.OrderLaws.{is_eq-then, tied}
 
@@ -25,3 +27,13 @@ posting_ties p q = ties_of (type_of p) (type_of q) (rank_of p) (rank_of q) (octe
 
 pub posting_equiv : IsEquivalence is_same_posting
 posting_equiv = tied {K = Posting} {R = posting_order} is_same_posting posting_ties posting_total
+
+-- the same of the keys of lists
+pub list_total : IsTotalOrder list_order
+list_total = then_total (on_total (λ (k : ListKey). k.type_id) nat_cmp_total) (then_total (on_total (λ (k : ListKey). k.rank) nat_cmp_total) (on_total (λ (k : ListKey). k.octets) nat_list_cmp_total))
+
+pub list_ties : (j k : ListKey) → is_same_list j k ≡ is_eq (list_order j k)
+list_ties j k = ties_of j.type_id k.type_id j.rank k.rank j.octets k.octets
+
+pub list_equiv : IsEquivalence is_same_list
+list_equiv = tied {K = ListKey} {R = list_order} is_same_list list_ties list_total

@@ -1,6 +1,6 @@
 -- The posting lists of entries. Entries by number and an index choice flow in, lists of numbers flow out: each list is a function of the
 -- entries. How lists are kept and changed is not here.
-use Rattle.std.specs.Prelude.{◌≡◌, ℕ, ◌<◌, List, [], ◌∷◌, Bool, true, ◌&&◌, ◌||◌, map, filter, length, nat_eq, Option, None, Some}
+use Rattle.std.specs.Prelude.{◌≡◌, ℕ, List, [], ◌∷◌, Bool, true, ◌&&◌, ◌||◌, map, filter, length, nat_eq, nat_lt, false, Option, None, Some}
 use Rattle.std.specs.List.{list_any, AllByRecursion}
 use Rattle.dir_entry.specs.ldap_match.Keyed.{is_same_key, is_key_at_least, is_key_at_most}
 use Rattle.dir_entry.specs.ldap_match.Parts.{is_at_start, tails}
@@ -8,8 +8,9 @@ use Rattle.dir_entry.specs.Entry.{KeyedAttribute}
 use Rattle.index_choice.specs.declared.kinds.Kinds.{Kinds}
 use Rattle.index_choice.specs.Choice.{kinds_of}
 use Rattle.dir_index.specs.declared.posting.Posting.{Posting}
-use Rattle.dir_index.specs.declared.posting.Posting.TheVariants.{Present, Equal, Run}
+use Rattle.dir_index.specs.declared.posting.Posting.TheVariants.{Present, Several, Equal, Run}
 use Rattle.dir_index.specs.declared.posting.Range.{Range}
+pub use Rattle.shared_map.specs.Sets.{has_number, IsRising}
 
 -- an entry as indexes see it: its number, and its attributes with their keys
 pub record Indexed : Type 0 where
@@ -24,6 +25,11 @@ is_of t a = nat_eq a.kind t
 abbrev pub has_type : ℕ → List KeyedAttribute → Bool
 has_type t e = list_any (is_of t) e
 
+-- whether an entry may have several values of a type: an attribute of it has several, or there are several such attributes
+abbrev pub has_several : ℕ → List KeyedAttribute → Bool
+has_several t [] = false
+has_several t (a ∷ e) = (is_of t a && (nat_lt 1 (length a.keys) || has_type t e)) || has_several t e
+
 -- whether the key of some value of the type passes
 abbrev pub some_key : ℕ → (List ℕ → Bool) → List KeyedAttribute → Bool
 some_key t p e = list_any (λ a. is_of t a && list_any p a.keys) e
@@ -35,13 +41,15 @@ stands_in g x = list_any (is_at_start g) (tails x)
 -- whether an entry stands in a posting list
 abbrev pub is_listed : Posting → List KeyedAttribute → Bool
 is_listed (Present t) e = has_type t e
+is_listed (Several t) e = has_several t e
 is_listed (Equal t k) e = some_key t (is_same_key k) e
 is_listed (Run t g) e = some_key t (stands_in g) e
 
--- Whether the index choice has a posting's index. An index of values in order has the entries with each value too; a run has three
--- octets.
+-- Whether the index choice has a posting's index. An index of values in order has the entries with each value too, and those that may have
+-- several; a run has three octets.
 abbrev pub is_kept : List Kinds → Posting → Bool
 is_kept ix (Present t) = (kinds_of ix t).presence
+is_kept ix (Several t) = (kinds_of ix t).ordering
 is_kept ix (Equal t k) = (kinds_of ix t).equality || (kinds_of ix t).ordering
 is_kept ix (Run t g) = (kinds_of ix t).substrings && nat_eq (length g) 3
 
@@ -76,15 +84,6 @@ postings_of ix es = record {
   posting = λ p. numbers_where (λ e. is_kept ix p && is_listed p e) es;
   range = λ r. numbers_where (λ e. (kinds_of ix r.type_id).ordering && has_in_range r e) es;
 }
-
--- whether a number is in a list
-abbrev pub has_number : ℕ → List ℕ → Bool
-has_number n ns = list_any (nat_eq n) ns
-
--- each number is below all later ones
-abbrev pub IsRising : List ℕ → Type 0
-IsRising [] = Unit {0}
-IsRising (x ∷ xs) = AllByRecursion (λ y. x < y) xs × IsRising xs
 
 -- each list rises
 abbrev pub AreRising : List (List ℕ) → Type 0

@@ -1,69 +1,86 @@
-// The postings that list an entry. An index choice and attributes flow in, a set of postings flows out.
+// The postings that list an entry. Made of an index choice and attributes, as a set of keys.
 // What must not be here: lists of numbers.
 
-ghost use Rattle.std.specs.Prelude.{◌≡◌, ◌||◌, ◌&&◌, not, true, ◌∷◌, [], IfOk, OnOk, map};
+ghost use Rattle.std.specs.Prelude.{◌≡◌, ◌||◌, ◌∷◌, [], IfOk, OnOk};
 ghost use Rattle.std.specs.List.{list_any};
 ghost use Rattle.dir_index.specs.declared.posting.Posting.{Posting};
-ghost use Rattle.dir_index.specs.Ordered.{is_same_posting};
-ghost use Rattle.dir_index.specs.Marked.{is_marked, lists_entry, is_of_key, is_first_run, is_run_of, is_from_key, is_from_presence, is_from_attribute};
+ghost use Rattle.dir_index.specs.Postings.{has_type as is_type_in};
+ghost use Rattle.dir_index.specs.ListKeys.{key_of, is_same_list};
+ghost use Rattle.dir_index.specs.Marked.{has_posting, lists_entry, is_of_key, is_first_run, is_run_of, is_from_key, is_from_presence, makes_several, is_from_several, is_from_attribute};
 
-use crate::posting::Posting;
+use crate::list_key::{ListKey, PRESENCE, RUN, SEVERAL, VALUE};
 use dir_entry::{Attribute, Key, TypeId};
 use index_choice::{Indexes, Kinds};
+use shared_map::Octets;
 use std::alloc::{AllocError, Global};
 use std::collections::BTreeSet;
 
-/// The postings that list an entry.
-pub type Marks = BTreeSet<Posting>;
+/// The keys of the postings that list an entry.
+pub type Marks = BTreeSet<ListKey>;
 
-/// Puts a posting to the others.
-fn mark(marks: &mut Marks, posting: Posting) -> Result<(), AllocError>
-    ensures ok { OnOk result ((p : Posting) → is_marked marks.new.keys p ≡ (is_same_posting posting p || is_marked marks.old.keys p)) }
-    ensures kept { (p : Posting) → is_marked marks.old.keys p ≡ true → is_marked marks.new.keys p ≡ true }
+/// Puts a key to the others.
+fn mark(
+    alloc: Global,
+    marks: &mut Marks,
+    type_id: TypeId,
+    rank: u8,
+    octets: &[u8],
+) -> Result<(), AllocError>
+    ensures { OnOk result ((p : Posting) → has_posting marks.new.keys p ≡ (is_same_list (record { type_id = type_id; rank = rank; octets = octets.now }) (key_of p) || has_posting marks.old.keys p)) }
 {
-    marks.insert(posting)?;
+    let octets = Octets::new(alloc, octets)?;
+    marks.insert(ListKey {
+        type_id,
+        rank,
+        octets,
+    })?;
     Ok(())
 }
 
 /// Puts the posting of the first three octets to the others, if there are three.
-fn mark_first(marks: &mut Marks, type_id: TypeId, octets: &[u8]) -> Result<(), AllocError>
-    ensures ok { OnOk result ((p : Posting) → is_marked marks.new.keys p ≡ (is_first_run type_id octets.now p || is_marked marks.old.keys p)) }
-    ensures kept { (p : Posting) → is_marked marks.old.keys p ≡ true → is_marked marks.new.keys p ≡ true }
+#[tactic(auto, using(crate::proofs::Marking::same_run))]
+fn mark_first(
+    alloc: Global,
+    marks: &mut Marks,
+    type_id: TypeId,
+    octets: &[u8],
+) -> Result<(), AllocError>
+    ensures { OnOk result ((p : Posting) → has_posting marks.new.keys p ≡ (is_first_run type_id octets.now p || has_posting marks.old.keys p)) }
 {
     if octets.len() < 3 {
         return Ok(());
     }
-    mark(
-        marks,
-        Posting::Run(type_id, [octets[0], octets[1], octets[2]]),
-    )
+    mark(alloc, marks, type_id, RUN, &octets[..3])
 }
 
 /// Puts the postings of each run of three octets to the others.
-fn mark_runs(marks: &mut Marks, type_id: TypeId, octets: &[u8]) -> Result<(), AllocError>
-    ensures ok { OnOk result ((p : Posting) → is_marked marks.new.keys p ≡ (is_run_of type_id octets.now p || is_marked marks.old.keys p)) }
-    ensures kept { (p : Posting) → is_marked marks.old.keys p ≡ true → is_marked marks.new.keys p ≡ true }
+fn mark_runs(
+    alloc: Global,
+    marks: &mut Marks,
+    type_id: TypeId,
+    octets: &[u8],
+) -> Result<(), AllocError>
+    ensures { OnOk result ((p : Posting) → has_posting marks.new.keys p ≡ (is_run_of type_id octets.now p || has_posting marks.old.keys p)) }
 {
     let mut rest = octets;
     while let Some((_, behind)) = rest.split_first() {
-        mark_first(marks, type_id, rest)?;
+        mark_first(alloc, marks, type_id, rest)?;
         rest = behind;
     }
     Ok(())
 }
 
 /// Puts the posting of a key to the others.
+#[tactic(auto, using(crate::proofs::Marking::same_value))]
 fn mark_value(
     alloc: Global,
     marks: &mut Marks,
     type_id: TypeId,
     key: &Key,
 ) -> Result<(), AllocError>
-    ensures ok { OnOk result ((p : Posting) → is_marked marks.new.keys p ≡ (is_of_key type_id key.now p || is_marked marks.old.keys p)) }
-    ensures kept { (p : Posting) → is_marked marks.old.keys p ≡ true → is_marked marks.new.keys p ≡ true }
+    ensures { OnOk result ((p : Posting) → has_posting marks.new.keys p ≡ (is_of_key type_id key.now p || has_posting marks.old.keys p)) }
 {
-    let octets = Vec::from_slice(alloc, key.as_octets())?;
-    mark(marks, Posting::Equal(type_id, Key::new(octets)))
+    mark(alloc, marks, type_id, VALUE, key.as_octets())
 }
 
 /// Puts the postings of a key to the others, as the kinds of its type ask.
@@ -74,20 +91,18 @@ fn mark_key(
     type_id: TypeId,
     key: &Key,
 ) -> Result<(), AllocError>
-    ensures ok { OnOk result ((p : Posting) → is_marked marks.new.keys p ≡ (is_from_key kinds type_id p key.now || is_marked marks.old.keys p)) }
-    ensures kept { (p : Posting) → is_marked marks.old.keys p ≡ true → is_marked marks.new.keys p ≡ true }
+    ensures { OnOk result ((p : Posting) → has_posting marks.new.keys p ≡ (is_from_key kinds type_id p key.now || has_posting marks.old.keys p)) }
 {
     if kinds.equality || kinds.ordering {
         mark_value(alloc, marks, type_id, key)?;
     }
     if kinds.substrings {
-        mark_runs(marks, type_id, key.as_octets())?;
+        mark_runs(alloc, marks, type_id, key.as_octets())?;
     }
     Ok(())
 }
 
 /// Puts the postings of an attribute's keys to the others.
-#[tactic(auto, using(crate::proofs::Marking::any_more))]
 fn mark_keys(
     alloc: Global,
     marks: &mut Marks,
@@ -95,8 +110,7 @@ fn mark_keys(
     type_id: TypeId,
     keys: &[Key],
 ) -> Result<(), AllocError>
-    ensures ok { OnOk result ((p : Posting) → is_marked marks.new.keys p ≡ (list_any (is_from_key kinds type_id p) keys.now || is_marked marks.old.keys p)) }
-    ensures kept { (p : Posting) → is_marked marks.old.keys p ≡ true → is_marked marks.new.keys p ≡ true }
+    ensures { OnOk result ((p : Posting) → has_posting marks.new.keys p ≡ (list_any (is_from_key kinds type_id p) keys.now || has_posting marks.old.keys p)) }
 {
     for key in keys {
         mark_key(alloc, marks, kinds, type_id, key)?;
@@ -105,29 +119,69 @@ fn mark_keys(
 }
 
 /// Puts the posting of an attribute's presence to the others, if there is such an index.
-fn mark_presence(marks: &mut Marks, kinds: Kinds, type_id: TypeId) -> Result<(), AllocError>
-    ensures ok { OnOk result ((p : Posting) → is_marked marks.new.keys p ≡ (is_from_presence kinds type_id p || is_marked marks.old.keys p)) }
-    ensures kept { (p : Posting) → is_marked marks.old.keys p ≡ true → is_marked marks.new.keys p ≡ true }
+#[tactic(auto, using(crate::proofs::Marking::same_presence, crate::proofs::Marking::no_presence))]
+fn mark_presence(
+    alloc: Global,
+    marks: &mut Marks,
+    kinds: Kinds,
+    type_id: TypeId,
+) -> Result<(), AllocError>
+    ensures { OnOk result ((p : Posting) → has_posting marks.new.keys p ≡ (is_from_presence kinds type_id p || has_posting marks.old.keys p)) }
 {
     if kinds.presence {
-        mark(marks, Posting::Present(type_id))?;
+        mark(alloc, marks, type_id, PRESENCE, &[])?;
     }
     Ok(())
 }
 
-/// Puts the postings of an attribute to the others.
+/// Whether there is an attribute of the type.
+fn has_type(attributes: &[Attribute], type_id: TypeId) -> bool
+    ensures { result ≡ is_type_in type_id attributes.now }
+{
+    attributes
+        .iter()
+        .any(|attribute| attribute.type_id() == type_id)
+}
+
+/// Whether an attribute before others makes the entry one that may have several values of its
+/// type.
+fn may_have_several(attribute: &Attribute, others: &[Attribute]) -> bool
+    ensures { result ≡ makes_several attribute.now others.now }
+{
+    attribute.keys().len() > 1 || has_type(others, attribute.type_id())
+}
+
+/// Puts the posting of several values to the others, if there may be several, and an index in order.
+#[tactic(auto, using(crate::proofs::Marking::same_several, crate::proofs::Marking::no_several))]
+fn mark_several(
+    alloc: Global,
+    marks: &mut Marks,
+    kinds: Kinds,
+    attribute: &Attribute,
+    others: &[Attribute],
+) -> Result<(), AllocError>
+    ensures { OnOk result ((p : Posting) → has_posting marks.new.keys p ≡ (is_from_several kinds attribute.now.kind (makes_several attribute.now others.now) p || has_posting marks.old.keys p)) }
+{
+    if kinds.ordering && may_have_several(attribute, others) {
+        mark(alloc, marks, attribute.type_id(), SEVERAL, &[])?;
+    }
+    Ok(())
+}
+
+/// Puts the postings of an attribute before others to those that are there.
 fn mark_attribute(
     alloc: Global,
     marks: &mut Marks,
     indexes: &Indexes,
     attribute: &Attribute,
+    others: &[Attribute],
 ) -> Result<(), AllocError>
-    ensures ok { OnOk result ((p : Posting) → is_marked marks.new.keys p ≡ (is_from_attribute indexes.now attribute.now p || is_marked marks.old.keys p)) }
-    ensures kept { (p : Posting) → is_marked marks.old.keys p ≡ true → is_marked marks.new.keys p ≡ true }
+    ensures { OnOk result ((p : Posting) → has_posting marks.new.keys p ≡ (is_from_attribute indexes.now attribute.now others.now p || has_posting marks.old.keys p)) }
 {
     let type_id = attribute.type_id();
     let kinds = indexes.kinds(type_id);
-    mark_presence(marks, kinds, type_id)?;
+    mark_presence(alloc, marks, kinds, type_id)?;
+    mark_several(alloc, marks, kinds, attribute, others)?;
     mark_keys(alloc, marks, kinds, type_id, attribute.keys())
 }
 
@@ -137,44 +191,13 @@ pub fn marks_of(
     indexes: &Indexes,
     attributes: &[Attribute],
 ) -> Result<Marks, AllocError>
-    ensures { IfOk result (λ m. (p : Posting) → is_marked m.keys p ≡ lists_entry indexes.now attributes.now p) }
+    ensures { IfOk result (λ m. (p : Posting) → has_posting m.keys p ≡ lists_entry indexes.now attributes.now p) }
 {
     let mut marks = BTreeSet::new(alloc);
-    for attribute in attributes {
-        mark_attribute(alloc, &mut marks, indexes, attribute)?;
+    let mut rest = attributes;
+    while let Some((attribute, others)) = rest.split_first() {
+        mark_attribute(alloc, &mut marks, indexes, attribute, others)?;
+        rest = others;
     }
     Ok(marks)
-}
-
-/// The postings that list the entry of some attributes or of others.
-pub fn marks_of_both(
-    alloc: Global,
-    indexes: &Indexes,
-    before: &[Attribute],
-    after: &[Attribute],
-) -> Result<Marks, AllocError>
-    ensures { IfOk result (λ m. (p : Posting) → is_marked m.keys p ≡ (lists_entry indexes.now after.now p || lists_entry indexes.now before.now p)) }
-{
-    let mut marks = marks_of(alloc, indexes, before)?;
-    for attribute in after {
-        mark_attribute(alloc, &mut marks, indexes, attribute)?;
-    }
-    Ok(marks)
-}
-
-/// The postings of one set that are not in another.
-pub fn apart<'a>(
-    alloc: Global,
-    marks: &'a Marks,
-    others: &Marks,
-) -> Result<Vec<&'a Posting>, AllocError>
-    ensures { IfOk result (λ v. (p : Posting) → is_marked (map (λ x. x.now) v.items) p ≡ (is_marked marks.now.keys p && not (is_marked others.now.keys p))) }
-{
-    let mut left = Vec::new(alloc);
-    for posting in marks {
-        if !others.contains(posting) {
-            left.push(posting)?;
-        }
-    }
-    Ok(left)
 }

@@ -1,4 +1,4 @@
-// The order of postings, by which they are keys of a map. Postings flow in, an order flows out, and no memory is taken.
+// The order of postings, by which they are keys of a map. It takes no memory.
 // What must not be here: lists of numbers.
 
 ghost use Rattle.std.specs.Prelude.{◌≡◌, Some, refl};
@@ -10,33 +10,36 @@ use crate::posting::Posting;
 use std::cmp::Ordering;
 
 /// The number of the type.
-fn type_number(posting: &Posting) -> usize
+pub fn type_number(posting: &Posting) -> usize
     ensures { result ≡ type_of posting.now }
 {
     match posting {
         Posting::Present(type_id) => type_id.number(),
+        Posting::Several(type_id) => type_id.number(),
         Posting::Equal(type_id, _) => type_id.number(),
         Posting::Run(type_id, _) => type_id.number(),
     }
 }
 
 /// The place of the kind of index among the kinds.
-fn rank(posting: &Posting) -> u8
+pub fn rank(posting: &Posting) -> u8
     ensures { result ≡ rank_of posting.now }
 {
     match posting {
         Posting::Present(_) => 0,
-        Posting::Equal(_, _) => 1,
-        Posting::Run(_, _) => 2,
+        Posting::Several(_) => 1,
+        Posting::Equal(_, _) => 2,
+        Posting::Run(_, _) => 3,
     }
 }
 
 /// The octets that a value is asked for.
-fn octets(posting: &Posting) -> &[u8]
+pub fn octets(posting: &Posting) -> &[u8]
     ensures { result.now ≡ octets_of posting.now }
 {
     match posting {
         Posting::Present(_) => &[],
+        Posting::Several(_) => &[],
         Posting::Equal(_, key) => key.as_octets(),
         Posting::Run(_, run) => run,
     }

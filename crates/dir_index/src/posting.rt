@@ -7,6 +7,8 @@ use dir_entry::{Key, TypeId};
 pub enum Posting {
     /// The entries with an attribute of the type.
     Present(TypeId),
+    /// The entries that may have several values of the type.
+    Several(TypeId),
     /// The entries with a value of the type that has this key.
     Equal(TypeId, Key),
     /// The entries with a value of the type whose key has these three octets one after the other.
@@ -18,6 +20,7 @@ impl Drop for Posting {
     fn drop(self) {
         match self {
             Posting::Present(_) => {}
+            Posting::Several(_) => {}
             Posting::Equal(_, _) => {}
             Posting::Run(_, _) => {}
         }

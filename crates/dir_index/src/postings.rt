@@ -1,29 +1,34 @@
-// The posting lists of entries. Entries before and after an update flow in; lists of numbers flow out.
+// The posting lists of entries, changed entry by entry and asked by plans.
 // What must not be here: which entries there are, and which a search wants.
 
-ghost use Rattle.std.specs.Prelude.{◌≡◌, List, [], ◌∷◌, ◌++◌, map, drop, length, OnOk, OnErr};
-ghost use Rattle.dir_index.specs.Postings.{Indexed, has_number, IsRising, AreRising, HaveTogether};
-ghost use Rattle.dir_index.specs.Whole.{lists_of, AreOf, AreSameLists, AllBelow, HasEntry, without, with_attributes, IsAboveAll, IsHeld};
+ghost use Rattle.std.specs.Prelude.{◌≡◌, ◌||◌, ℕ, [], ◌∷◌, ◌++◌, List, nat_eq, cond, IfOk, OnOk, OnErr};
+ghost use Rattle.dir_index.specs.declared.posting.Posting.{Posting};
+ghost use Rattle.dir_index.specs.ListKeys.{key_of};
+ghost use Rattle.dir_index.specs.Marked.{lists_entry};
+ghost use Rattle.dir_index.specs.Postings.{Indexed, has_number, postings_of};
+ghost use Rattle.dir_index.specs.Stored.{is_in, AllRise};
+ghost use Rattle.dir_index.specs.Whole.{list_of, AreOf, AllBelow, HasEntry, without, with_attributes, moved};
 
-use crate::columns::{Columns, has_in_range};
-use crate::kept::Kept;
-use crate::numbers::has;
+use crate::choice::Choice;
+use crate::lists::{Lists, enlisted_in, struck_from};
+use crate::marks::marks_of;
 use crate::posting::{Posting, Range};
-use crate::ranging::push_lists;
-use crate::tables::{Table, list_of};
-use dir_entry::Entry;
+use crate::ranges::{about_lists, push_lists};
+use dir_entry::{Attribute, Entry};
 use index_choice::Indexes;
+use shared_map::{NumberSet, SharedMap};
 use std::alloc::{AllocError, Global};
-use std::collections::BTreeMap;
 use std::marker::Model;
 
-/// The posting lists of a store's entries, and of each number its keys whose types have an index in order. A look-up takes a
-/// logarithm of comparisons; an update looks up what lists the entry, as it was and as it is, and nothing else.
+/// The posting lists of a store's entries. A look-up takes a logarithm of comparisons and no memory.
+/// An update changes the lists that have the entry before and not after, or after and not before. It
+/// makes new ones that share the rest with the old ones, which other owners may still have.
 pub struct Postings {
-    pub(crate) alloc: Global,
-    pub(crate) indexes: Indexes,
-    pub(crate) lists: Table,
-    pub(crate) columns: Columns,
+    alloc: Global,
+    choice: Choice,
+    lists: Lists,
+    // The list of a posting that has none.
+    none: NumberSet,
 }
 
 // Not derived: see "What the gate takes" in docs/ARCHITECTURE.md.
@@ -31,23 +36,22 @@ impl Drop for Postings {
     fn drop(self) {
         let Postings {
             alloc: _,
-            indexes: _,
+            choice: _,
             lists: _,
-            columns: _,
+            none: _,
         } = self;
     }
 }
 
 impl Model for Postings {
-    ghost use Rattle.dir_index.specs.Stored.{seen};
-    ghost use Rattle.dir_index.specs.Columns.{shown};
-    ghost use Rattle.dir_index.specs.Whole.{PostingsModel, IsWhole};
+    ghost use Rattle.std.specs.Prelude.{◌≡◌, []};
+    ghost use Rattle.dir_index.specs.Whole.{PostingsModel};
 
     ghost Value = { PostingsModel };
 
-    ghost view = { λ p. record { indexes = p.indexes; lists = seen p.lists.entries; columns = shown p.columns.entries } };
+    ghost view = { λ p. record { indexes = p.choice; lists = p.lists } };
 
-    ghost invariant = { λ p. IsWhole p.indexes (seen p.lists.entries) (shown p.columns.entries) };
+    ghost invariant = { λ p. p.none ≡ [] };
 }
 
 impl Postings {
@@ -58,9 +62,9 @@ impl Postings {
     {
         Postings {
             alloc,
-            indexes,
-            lists: BTreeMap::new(alloc),
-            columns: BTreeMap::new(alloc),
+            choice: Choice::new(indexes),
+            lists: SharedMap::new(),
+            none: NumberSet::new(),
         }
     }
 
@@ -68,71 +72,103 @@ impl Postings {
     pub fn indexes(&self) -> &Indexes
         ensures { result.now ≡ self.now.indexes }
     {
-        &self.indexes
+        self.choice.indexes()
+    }
+
+    /// Another owner of the same lists.
+    pub fn share(&self) -> Result<Postings, AllocError>
+        ensures { IfOk result (λ p. p ≡ self.now) }
+    {
+        let choice = self.choice.share(self.alloc)?;
+        let lists = self.lists.share()?;
+        Ok(Postings {
+            alloc: self.alloc,
+            choice,
+            lists,
+            none: NumberSet::new(),
+        })
+    }
+
+    /// The lists once the entry of a number has changed from these attributes to those.
+    fn changed(
+        &self,
+        number: u64,
+        before: &[Attribute],
+        after: &[Attribute],
+    ) -> Result<Lists, AllocError>
+        ensures has { IfOk result (λ m. AllRise self.now.lists → (p : Posting) (n : ℕ) → is_in m (key_of p) n
+            ≡ cond (nat_eq n number) (moved (lists_entry self.now.indexes before.now p) (lists_entry self.now.indexes after.now p) (is_in self.now.lists (key_of p) n)) (is_in self.now.lists (key_of p) n)) }
+        ensures rising { IfOk result (λ m. AllRise self.now.lists → AllRise m) }
+    {
+        let indexes = self.choice.indexes();
+        let was = marks_of(self.alloc, indexes, before)?;
+        let is = marks_of(self.alloc, indexes, after)?;
+        let more = enlisted_in(self.alloc, &self.lists, &is, &was, number)?;
+        let now = struck_from(self.alloc, &more, &was, &is, number)?;
+        Ok(now)
     }
 
     /// Lists an entry under a number above all. An `Err` changes nothing.
     pub fn add(&mut self, number: u64, entry: &Entry) -> Result<(), AllocError>
-        requires { IsAboveAll self.old number }
         ensures ok { OnOk result ((es : List Indexed) → AreOf self.old es → AllBelow number es → AreOf self.new (es ++ record { number = number; entry = entry.now } ∷ [])) }
         ensures indexes { self.new.indexes ≡ self.old.indexes }
-        ensures err { OnErr result (AreSameLists (lists_of self.new) (lists_of self.old)) }
+        ensures err { OnErr result (self.new ≡ self.old) }
     {
-        self.change(number, &[], entry.attributes())
+        self.lists = self.changed(number, &[], entry.attributes())?;
+        Ok(())
     }
 
-    /// Takes an entry out of the lists. It takes memory for the entry's postings before it changes anything; an `Err` changes nothing.
+    /// Takes an entry out of the lists. An `Err` changes nothing.
     pub fn remove(&mut self, number: u64, entry: &Entry) -> Result<(), AllocError>
-        requires { IsHeld self.old number entry.now }
-        ensures ok { OnOk result ((es : List Indexed) → AreOf self.old es → AreOf self.new (without number es)) }
+        ensures ok { OnOk result ((es : List Indexed) → AreOf self.old es → HasEntry es number entry.now → AreOf self.new (without number es)) }
         ensures indexes { self.new.indexes ≡ self.old.indexes }
-        ensures err { OnErr result (AreSameLists (lists_of self.new) (lists_of self.old)) }
+        ensures err { OnErr result (self.new ≡ self.old) }
     {
-        self.change(number, entry.attributes(), &[])
+        self.lists = self.changed(number, entry.attributes(), &[])?;
+        Ok(())
     }
 
-    /// Lists an entry as it is after a change of its attributes: it leaves the lists that it is no longer in. An `Err` changes nothing.
+    /// Lists an entry as it is after a change of its attributes: it leaves the lists that it is no
+    /// longer in. An `Err` changes nothing.
     pub fn replace(&mut self, number: u64, before: &Entry, after: &Entry) -> Result<(), AllocError>
-        requires { IsHeld self.old number before.now }
         ensures ok { OnOk result ((es : List Indexed) → AreOf self.old es → HasEntry es number before.now → AreOf self.new (with_attributes number after.now es)) }
         ensures indexes { self.new.indexes ≡ self.old.indexes }
-        ensures err { OnErr result (AreSameLists (lists_of self.new) (lists_of self.old)) }
+        ensures err { OnErr result (self.new ≡ self.old) }
     {
-        self.change(number, before.attributes(), after.attributes())
-    }
-}
-
-impl Kept for Postings {
-    ghost lists = { lists_of };
-
-    fn numbers(&self, posting: &Posting) -> &[u64]
-        ensures numbers { result.now ≡ (lists_of self.now).posting posting.now }
-        ensures rising { IsRising result.now }
-    {
-        list_of(&self.lists, posting)
+        self.lists = self.changed(number, before.attributes(), after.attributes())?;
+        Ok(())
     }
 
-    fn in_posting(&self, posting: &Posting, number: u64) -> bool
-        ensures { result ≡ has_number number ((lists_of self.now).posting posting.now) }
+    /// The numbers of a posting, in rising order; none, where no entry has it. It takes a look-up, and
+    /// no memory.
+    pub fn numbers(&self, posting: &Posting) -> &NumberSet
+        ensures { result.now ≡ list_of self.now posting.now }
     {
-        has(list_of(&self.lists, posting), number)
+        match self.lists.find(posting) {
+            Some(numbers) => numbers,
+            None => &self.none,
+        }
     }
 
-    #[tactic(auto, using(crate::proofs::Ranged::in_range_at))]
-    fn in_range(&self, range: &Range, number: u64) -> bool
-        ensures { result ≡ has_number number ((lists_of self.now).range range.now) }
+    /// Puts the numbers of a range behind those that are there, list by list, so that a number may come
+    /// several times. A range whose type has no index in order has none.
+    pub fn push_range(&self, range: &Range, into: &mut Vec<u64>) -> Result<(), AllocError>
+        ensures { OnOk result ((es : List Indexed) → AreOf self.now es → (n : ℕ) → has_number n into.new.items ≡ (has_number n into.old.items || has_number n ((postings_of self.now.indexes es).range range.now))) }
     {
-        has_in_range(&self.columns, range, number)
-    }
-
-    fn push_range<'a>(&'a self, range: &Range, into: &mut Vec<&'a [u64]>) -> Result<(), AllocError>
-        ensures covered { OnOk result (HaveTogether (map (λ x. x.now) into.old.items) ((lists_of self.now).range range.now) (map (λ x. x.now) into.new.items)) }
-        ensures kept { map (λ x. x.now) into.new.items ≡ map (λ x. x.now) into.old.items ++ drop (length (map (λ x. x.now) into.old.items)) (map (λ x. x.now) into.new.items) }
-        ensures rising { AreRising (map (λ x. x.now) into.old.items) → AreRising (map (λ x. x.now) into.new.items) }
-    {
-        if !self.indexes.kinds(range.type_id).ordering {
+        if !self.indexes().kinds(range.type_id).ordering {
             return Ok(());
         }
-        push_lists(self.alloc, &self.lists, range, into)
+        self.lists.rises();
+        push_lists(&self.lists, range, into)?;
+        Ok(())
+    }
+
+    /// About how many numbers a range has: those of its first 64 lists, and one for each further list.
+    /// It takes no memory.
+    pub fn about(&self, range: &Range) -> usize {
+        if !self.indexes().kinds(range.type_id).ordering {
+            return 0;
+        }
+        about_lists(&self.lists, range) as usize
     }
 }

@@ -1,3 +1,5 @@
-pub mod Found
+pub mod Lookups
 pub mod Listed
 pub mod Shown
+pub mod Ranged
+pub mod Crossing

@@ -5,21 +5,12 @@ use Rattle.std.specs.Option.{option_map}
 use Rattle.std.proofs.lemmas.Bool.{eqb-true, eq-eqb, ne_eqb}
 use Rattle.dir_tree.specs.ldap_dn.Names.{RdnModel, rdns}
 use Rattle.dir_tree.specs.dir_entry.Entry.{KeyedAttribute}
-use Rattle.dir_index.specs.index_choice.declared.kinds.Kinds.{Kinds}
-use Rattle.dir_index.specs.Postings.{Indexed, Lists}
+use Rattle.dir_index.specs.Postings.{Indexed}
 use Rattle.dir_index.specs.Whole as index
-use Rattle.dir_index.specs.Whole.{ArePostingsOf, AreSameLists, HasEntry, without, with_attributes}
+use Rattle.dir_index.specs.Whole.{PostingsModel, AreOf, HasEntry, without, with_attributes}
 use Rattle.dir_tree.specs.Directory.{NameKey, Entered, name_eq, find, entry_at, unnumbered, replaced, moved, AllBelow, AllAbove, NumbersRise, NamesDiffer}
-use Rattle.dir_kept.proofs.Found.{names_same}
+use Rattle.dir_kept.proofs.Lookups.{names_same}
 use Rattle.dir_kept.specs.Listed.{listed, listed_of}
-
--- lists that are the same are of the same entries
-pub same_postings : (x y : Lists) (ix : List Kinds) (es : List Indexed) → AreSameLists x y → ArePostingsOf y ix es → ArePostingsOf x ix es
-same_postings x y ix es s h = record { numbered = h.numbered; postings = λ p. s.postings p ∙ h.postings p; ranges = λ r. s.ranges r ∙ h.ranges r }
-
--- lists that are the same, under an index choice that is the same, of entries that are the same
-pub kept_postings : (x y : Lists) (ix jx : List Kinds) (es ds : List Indexed) → AreSameLists x y → ix ≡ jx → es ≡ ds → ArePostingsOf y jx ds → ArePostingsOf x ix es
-kept_postings x y ix jx es ds s e f h = same_postings x y ix es s (subst (λ (l : List Indexed). ArePostingsOf y ix l) (sym f) (subst (λ (k : List Kinds). ArePostingsOf y k ds) (sym e) h))
 
 pub listed_push : (d : List Entered) (e : Entered) → listed_of (d ++ e ∷ []) ≡ listed_of d ++ listed e ∷ []
 listed_push [] e = refl
@@ -36,6 +27,21 @@ listed_held k (e ∷ d) x h = by (nat_eq k e.number) refl (λ g. listed_held k d
     by : (b : Bool) → nat_eq k e.number ≡ b → (entry_at k d ≡ Some x → HasEntry (listed_of d) k x.entry) → cond b (Some e) (entry_at k d) ≡ Some x → HasEntry (listed_of (e ∷ d)) k x.entry
     by true f ih g = let same : e ≡ x = cc g in inl (sym (eqb-true k e.number f), ap (λ (y : Entered). y.entry) same)
     by false f ih g = inr (ih g)
+
+-- the attributes that the tree has under a number
+pub held_at : (k : ℕ) (d : List Entered) (a : List KeyedAttribute) → Some a ≡ option_map (λ (e : Entered). e.entry) (entry_at k d) → HasEntry (listed_of d) k a
+held_at k d a h = by (entry_at k d) refl h
+  where
+    by : (o : Option Entered) → entry_at k d ≡ o → Some a ≡ option_map (λ (e : Entered). e.entry) o → HasEntry (listed_of d) k a
+    by None f g = absurd (cc g)
+    by (Some x) f g = let same : x.entry ≡ a = cc g in subst (λ (e : List KeyedAttribute). HasEntry (listed_of d) k e) same (listed_held k d x f)
+
+pub none_at : (k : ℕ) (d : List Entered) → ◌≡◌ {A = Option (List KeyedAttribute)} None (option_map (λ (e : Entered). e.entry) (entry_at k d)) → entry_at k d ≡ None
+none_at k d h = by (entry_at k d) h
+  where
+    by : (o : Option Entered) → ◌≡◌ {A = Option (List KeyedAttribute)} None (option_map (λ (e : Entered). e.entry) o) → o ≡ None
+    by None g = refl
+    by (Some x) g = absurd (cc g)
 
 pub listed_found : (q : NameKey) (k : ℕ) (d : List Entered) (x : Entered) → find q d ≡ Some x → x.number ≡ k → HasEntry (listed_of d) k x.entry
 listed_found q k [] x h n = absurd (cc h)
@@ -172,19 +178,11 @@ listed_here q k d x h g = listed_found q k d x h (number x (sym (ap (λ (o : Opt
     number : (y : Entered) → Some y.number ≡ Some k → y.number ≡ k
     number y e = cc e
 
--- ---- what an update of the lists gives
+-- the entries once one has another name and other attributes are listed as they are once it has these
+pub moved_replaced : (old : NameKey) (new : List RdnModel) (a : List KeyedAttribute) (k : ℕ) (d : List Entered) → NumbersRise d → NamesDiffer d → option_map (λ (e : Entered). e.number) (find old d) ≡ Some k
+    → listed_of (moved old new a d) ≡ listed_of (replaced k a d)
+moved_replaced old new a k d r u h = moved_listed old new a k d r u h ∙ sym (listed_replaced k a d r)
 
-pub if_both : {A E : Type 0} {P Q R : A → Type 0} (r : Result A E) → ((a : A) → P a → Q a → R a) → IfOk r P → IfOk r Q → IfOk r R
-if_both (Ok a) f h k = f a h k
-if_both (Err e) f h k = tt
-
-pub on_ok : {A E P Q : Type 0} (r : Result A E) → (P → Q) → OnOk r P → OnOk r Q
-on_ok (Ok a) f h = f h
-on_ok (Err e) f h = h
-
-pub on_err : {A E P Q : Type 0} (r : Result A E) → (P → Q) → OnErr r P → OnErr r Q
-on_err (Ok a) f h = h
-on_err (Err e) f h = f h
-
-pub of_entries : (x : Lists) (ix jx : List Kinds) (es ds : List Indexed) → ix ≡ jx → es ≡ ds → ArePostingsOf x jx ds → ArePostingsOf x ix es
-of_entries x ix jx es ds e f h = subst (λ (l : List Indexed). ArePostingsOf x ix l) (sym f) (subst (λ (k : List Kinds). ArePostingsOf x k ds) (sym e) h)
+-- lists that are the same, of entries that are the same
+pub of_same : (m n : PostingsModel) (es ds : List Indexed) → m ≡ n → es ≡ ds → AreOf n ds → AreOf m es
+of_same m n es ds e f h = subst (λ (l : List Indexed). AreOf m l) (sym f) (subst (λ (p : PostingsModel). AreOf p ds) (sym e) h)

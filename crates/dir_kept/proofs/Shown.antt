@@ -7,7 +7,7 @@ use Rattle.dir_tree.specs.ldap_dn.Names.{RdnModel, rdns}
 use Rattle.dir_tree.specs.dir_entry.Entry.{AttributeModel, KeyedAttribute, attributes_of, IsKeyedBy}
 use Rattle.dir_tree.specs.Directory as tree
 use Rattle.dir_tree.specs.Directory.{NameKey, Entered, TreeModel, name_eq, find, AllBelow}
-use Rattle.dir_kept.proofs.Found.{rdns_take}
+use Rattle.dir_kept.proofs.Lookups.{rdns_take}
 use Rattle.dir_kept.specs.Replies.{not_found, or_refused, entry_asked}
 use Rattle.dir_kept.specs.Directory.{NamedEntry}
 use Rattle.dir_kept.specs.Places.{entry_named, has_subordinate, front_from, nearest, without_entry, with_attributes, name_after, moved}
@@ -26,6 +26,28 @@ found_shown q d x h = entry_shown q d ∙ ap (λ (o : Option Entered). option_ma
 
 pub none_shown : (q : NameKey) (d : List Entered) → find q d ≡ None → entry_named q (map named d) ≡ None
 none_shown q d h = entry_shown q d ∙ ap (λ (o : Option Entered). option_map named o) h
+
+-- the number and the attributes of a name's entry
+pub number_shown : (q : NameKey) (d : List Entered) → option_map (λ (e : NamedEntry). e.number) (entry_named q (map named d)) ≡ option_map (λ (e : Entered). e.number) (find q d)
+number_shown q d = ap (λ (o : Option NamedEntry). option_map (λ (e : NamedEntry). e.number) o) (entry_shown q d) ∙ by (find q d)
+  where
+    by : (o : Option Entered) → option_map (λ (e : NamedEntry). e.number) (option_map named o) ≡ option_map (λ (e : Entered). e.number) o
+    by None = refl
+    by (Some e) = refl
+
+pub attributes_at : (q : NameKey) (d : List Entered) (a : List KeyedAttribute) → Some a ≡ option_map (λ (e : Entered). e.entry) (find q d) → Some (attributes_of a) ≡ option_map (λ (e : NamedEntry). e.attributes) (entry_named q (map named d))
+attributes_at q d a h = by (find q d) h ∙ ap (λ (o : Option NamedEntry). option_map (λ (e : NamedEntry). e.attributes) o) (sym (entry_shown q d))
+  where
+    by : (o : Option Entered) → Some a ≡ option_map (λ (e : Entered). e.entry) o → Some (attributes_of a) ≡ option_map (λ (e : NamedEntry). e.attributes) (option_map named o)
+    by None g = absurd (cc g)
+    by (Some e) g = let same : a ≡ e.entry = cc g in ap (λ (x : List KeyedAttribute). Some (attributes_of x)) same
+
+pub none_at : {A B : Type 0} (f : NamedEntry → A) (g : Entered → B) (q : NameKey) (d : List Entered) → ◌≡◌ {A = Option B} None (option_map g (find q d)) → None ≡ option_map f (entry_named q (map named d))
+none_at {A} {B} f g q d h = by (find q d) h ∙ ap (λ (o : Option NamedEntry). option_map f o) (sym (entry_shown q d))
+  where
+    by : (o : Option Entered) → ◌≡◌ {A = Option B} None (option_map g o) → ◌≡◌ {A = Option A} None (option_map f (option_map named o))
+    by None e = refl
+    by (Some x) e = absurd (cc e)
 
 there : (o : Option Entered) → is_some (option_map named o) ≡ is_some o
 there None = refl

@@ -4,6 +4,11 @@ use Rattle.dir_tree.specs.ldap_schema.Schema.{SchemaModel}
 use Rattle.dir_tree.specs.dir_entry.Entry.{attributes_of, IsKeyedBy}
 use Rattle.dir_tree.specs.Directory.{Entered, TreeModel}
 use Rattle.dir_kept.specs.Directory.{Directory, NamedEntry}
+use Rattle.dir_kept.specs.declared.held.Standing.{Standing}
+
+-- an entry under its number, where it is
+abbrev pub entered_of : ℕ → Standing → Entered
+entered_of k s = record { number = k; name = s.name; entry = s.entry.now }
 
 -- an entry without its keys
 abbrev pub named : Entered → NamedEntry

@@ -3,33 +3,51 @@ ghost use Rattle.std.specs.Prelude.{◌≡◌, ◌≤◌, length, IfOk, is_some,
 ghost use Rattle.std.specs.Option.{option_map};
 ghost use Rattle.dir_tree.specs.ldap_dn.Names.{rdns};
 ghost use Rattle.dir_tree.specs.Directory.{name_eq, begins, find, front};
-ghost use Rattle.dir_tree.specs.Stored.{entered_of};
 ghost use Rattle.dir_kept.specs.Places.{nearest as nearest_entry};
 ghost use Rattle.dir_kept.specs.Replies.{not_found as not_found_reply, printed_in};
-ghost use Rattle.dir_kept.specs.Stored.{directory};
+ghost use Rattle.dir_kept.specs.Stored.{directory, entered_of};
 ghost use Rattle.session_talk.specs.View.{reply_view};
 
-use dir_tree::{NamedEntry, Rdn, Schema, Tree};
+use crate::held::Standing;
+use dir_tree::{Rdn, Schema, SharedEntry, Tree};
 use session_talk::{Reply, ResultCode};
 use std::alloc::{AllocError, Global};
 
-/// The number of a name's entry, and the entry.
-#[tactic(auto, using(crate::proofs::Found::found_at))]
-pub fn standing<'a>(tree: &'a Tree, name: &[Rdn]) -> Option<(u64, &'a NamedEntry)>
-    ensures { option_map (λ p. entered_of p.0 p.1.now) result ≡ find (rdns name.now) tree.now.entries }
+/// The number of a name's entry, and its attributes. It takes no memory.
+pub fn entry_of<'a>(tree: &'a Tree, name: &[Rdn]) -> Option<(u64, &'a SharedEntry)>
+    ensures number { option_map (λ p. p.0) result ≡ option_map (λ e. e.number) (find (rdns name.now) tree.now.entries) }
+    ensures entry { option_map (λ p. p.1.now) result ≡ option_map (λ e. e.entry) (find (rdns name.now) tree.now.entries) }
 {
     tree.is_directory();
     match tree.find(name) {
         None => None,
         Some(number) => match tree.entry(number) {
             None => None,
-            Some(held) => Some((number, held)),
+            Some(entry) => Some((number, entry)),
+        },
+    }
+}
+
+/// The number of a name's entry, and the entry with its name as it is spelled.
+pub fn standing<'a>(
+    alloc: Global,
+    tree: &'a Tree,
+    name: &[Rdn],
+) -> Result<Option<(u64, Standing<'a>)>, AllocError>
+    ensures { IfOk result (λ o. option_map (λ p. entered_of p.0 p.1) o ≡ find (rdns name.now) tree.now.entries) }
+{
+    tree.is_directory();
+    match entry_of(tree, name) {
+        None => Ok(None),
+        Some((number, entry)) => match tree.name(alloc, number)? {
+            None => Ok(None),
+            Some(name) => Ok(Some((number, Standing { name, entry }))),
         },
     }
 }
 
 /// The length of the longest front of a name that is an entry's name.
-#[tactic(auto, using(crate::proofs::Found::front_bound))]
+#[tactic(auto, using(crate::proofs::Lookups::front_bound))]
 fn front_length(tree: &Tree, name: &[Rdn]) -> usize
     ensures length { result ≡ front (rdns name.now) tree.now.entries }
     ensures bound { result ≤ length name.now }
@@ -54,7 +72,7 @@ fn nearest_name(
 ) -> Result<String, AllocError>
     ensures { IfOk result (λ t. string_bytes t ≡ printed_in schema.now (nearest_entry (rdns name.now) (directory schema.now tree.now).entries)) }
 {
-    match standing(tree, front_of(tree, name)) {
+    match standing(alloc, tree, front_of(tree, name))? {
         Some((_, held)) => held.name.print(alloc, schema),
         None => Ok(String::new(alloc)),
     }
@@ -77,7 +95,7 @@ pub fn not_found(
 }
 
 /// Whether two names are one, whatever their spelling.
-#[tactic(auto, using(crate::proofs::Found::names_equal))]
+#[tactic(auto, using(crate::proofs::Lookups::names_equal))]
 pub fn is_same(a: &[Rdn], b: &[Rdn]) -> bool
     ensures { result ≡ name_eq (rdns a.now) (rdns b.now) }
 {
@@ -88,11 +106,11 @@ pub fn is_same(a: &[Rdn], b: &[Rdn]) -> bool
 pub fn is_taken(tree: &Tree, name: &[Rdn]) -> bool
     ensures { result ≡ is_some (find (rdns name.now) tree.now.entries) }
 {
-    tree.find(name).is_some()
+    tree.has(name)
 }
 
 /// Whether the first name is the front of the second, its own whole included.
-#[tactic(auto, using(crate::proofs::Found::front_is, crate::proofs::Found::front_is_not))]
+#[tactic(auto, using(crate::proofs::Lookups::front_is, crate::proofs::Lookups::front_is_not))]
 pub fn is_front(front: &[Rdn], whole: &[Rdn]) -> bool
     ensures { result ≡ begins (rdns front.now) (rdns whole.now) }
 {

@@ -1,18 +1,19 @@
 //! A tree and the posting lists of its entries, which change together. Entries flow in; they, and the numbers that an
 //! index lists, flow out. What an update checks is not here.
-ghost use Rattle.std.specs.Prelude.{◌≡◌, ◌++◌, ◌∷◌, [], false, true, Some, OnOk, OnErr, is_some};
+ghost use Rattle.std.specs.Prelude.{◌≡◌, ◌++◌, ◌∷◌, [], false, true, Some, IfOk, OnOk, OnErr, is_some};
 ghost use Rattle.std.specs.Option.{option_map};
 ghost use Rattle.dir_tree.specs.ldap_dn.Names.{rdns};
 ghost use Rattle.dir_tree.specs.Directory.{AllBelow, name_eq, begins, find, above, has_below, has_footing, unnumbered, replaced, moved};
-ghost use Rattle.dir_index.specs.Whole.{lists_of, ArePostingsOf};
+ghost use Rattle.dir_tree.specs.Placed.{name_placed};
+ghost use Rattle.dir_index.specs.Postings.{postings_of};
+ghost use Rattle.dir_index.specs.Whole.{AreOf};
 ghost use Rattle.dir_kept.specs.Listed.{listed_of};
 
-use crate::listing::{add_listed, relist, rename_listed, unlist};
-use dir_index::{Indexes, Postings};
+use crate::listing::{listed_more, relisted, unlisted};
+use dir_index::{Indexes, Kept, NumberSet, Posting, Postings, Range, has_in_range};
 use dir_tree::{Name, Rdn, SharedEntry, Tree};
 use std::alloc::{AllocError, Global};
 use std::marker::Model;
-use std::mem::replace;
 
 /// A tree and the posting lists of its entries. The lists are those of the entries at each moment between calls; an
 /// update looks up what lists the entry, as it was and as it is, and nothing else.
@@ -32,14 +33,14 @@ impl Drop for IndexedTree {
 }
 
 impl Model for IndexedTree {
-    ghost use Rattle.dir_index.specs.Whole.{lists_of, ArePostingsOf};
+    ghost use Rattle.dir_index.specs.Whole.{AreOf};
     ghost use Rattle.dir_kept.specs.Listed.{IndexedModel, listed_of};
 
     ghost Value = { IndexedModel };
 
     ghost view = { λ t. record { indexes = t.postings.indexes; tree = t.tree } };
 
-    ghost invariant = { λ t. ArePostingsOf (lists_of t.postings) t.postings.indexes (listed_of t.tree.entries) };
+    ghost invariant = { λ t. AreOf t.postings (listed_of t.tree.entries) };
 }
 
 impl IndexedTree {
@@ -53,6 +54,15 @@ impl IndexedTree {
         }
     }
 
+    /// A second owner of the same entries and lists: a few second owners, whatever the size.
+    pub fn share(&self) -> Result<IndexedTree, AllocError>
+        ensures { IfOk result (λ t. t ≡ self.now) }
+    {
+        let tree = self.tree.share()?;
+        let postings = self.postings.share()?;
+        Ok(IndexedTree { tree, postings })
+    }
+
     /// The tree.
     pub fn tree(&self) -> &Tree
         ensures { result.now ≡ self.now.tree }
@@ -60,35 +70,25 @@ impl IndexedTree {
         &self.tree
     }
 
-    /// The posting lists of the entries.
-    pub fn postings(&self) -> &Postings
-        ensures lists { ArePostingsOf (lists_of result.now) self.now.indexes (listed_of self.now.tree.entries) }
-        ensures indexes { result.now.indexes ≡ self.now.indexes }
+    /// The index choice under which the entries are listed.
+    pub fn indexes(&self) -> &Indexes
+        ensures { result.now ≡ self.now.indexes }
     {
-        &self.postings
+        self.postings.indexes()
     }
 
-    /// Puts an entry at the end. An `Err` changes nothing.
-    pub fn add(
-        &mut self,
-        alloc: Global,
-        number: u64,
-        name: Name,
-        entry: SharedEntry,
-    ) -> Result<(), AllocError>
+    /// Puts an entry at the end, its name spelled as its superior's is. An `Err` changes nothing.
+    pub fn add(&mut self, number: u64, name: Name, entry: SharedEntry) -> Result<(), AllocError>
         requires above { AllBelow number self.old.tree.entries }
         requires absent { is_some (find (rdns name) self.old.tree.entries) ≡ false }
         requires footing { has_footing (rdns self.old.tree.suffix) (rdns name) self.old.tree.entries ≡ true }
-        ensures ok { OnOk result (self.new ≡ record { indexes = self.old.indexes; tree = record { suffix = self.old.tree.suffix; entries = self.old.tree.entries ++ record { number = number; name = name; entry = entry } ∷ [] } }) }
+        ensures ok { OnOk result (self.new ≡ record { indexes = self.old.indexes; tree = record { suffix = self.old.tree.suffix; entries = self.old.tree.entries ++ record { number = number; name = name_placed (rdns self.old.tree.suffix) name self.old.tree.entries; entry = entry } ∷ [] } }) }
         ensures err { OnErr result (self.new ≡ self.old) }
     {
-        let held = replace(
-            &mut self.postings,
-            Postings::new(alloc, Indexes::none(alloc)),
-        );
-        let (postings, done) = add_listed(&mut self.tree, held, number, name, entry);
+        let postings = listed_more(&self.tree, &self.postings, number, &entry)?;
+        self.tree.add(number, name, entry)?;
         self.postings = postings;
-        done
+        Ok(())
     }
 
     /// Takes out the entry of a name that nothing stands below. An `Err` changes nothing.
@@ -98,8 +98,9 @@ impl IndexedTree {
         ensures ok { OnOk result (self.new ≡ record { indexes = self.old.indexes; tree = record { suffix = self.old.tree.suffix; entries = unnumbered number self.old.tree.entries } }) }
         ensures err { OnErr result (self.new ≡ self.old) }
     {
-        unlist(&self.tree, &mut self.postings, number)?;
-        self.tree.delete(name, number);
+        let postings = unlisted(&self.tree, &self.postings, number)?;
+        self.tree.delete(name, number)?;
+        self.postings = postings;
         Ok(())
     }
 
@@ -108,16 +109,16 @@ impl IndexedTree {
         ensures ok { OnOk result (self.new ≡ record { indexes = self.old.indexes; tree = record { suffix = self.old.tree.suffix; entries = replaced number entry self.old.tree.entries } }) }
         ensures err { OnErr result (self.new ≡ self.old) }
     {
-        relist(&self.tree, &mut self.postings, number, &entry)?;
-        self.tree.replace(number, entry);
+        let postings = relisted(&self.tree, &self.postings, number, &entry)?;
+        self.tree.replace(number, entry)?;
+        self.postings = postings;
         Ok(())
     }
 
     /// Gives an entry another name and other attributes: each name that begins with the old one begins with the new one
-    /// in its place. An `Err` changes nothing.
+    /// in its place, which is spelled as its superior's is. An `Err` changes nothing.
     pub fn rename(
         &mut self,
-        alloc: Global,
         name: &[Rdn],
         number: u64,
         new_name: Name,
@@ -128,22 +129,39 @@ impl IndexedTree {
         requires parent { is_some (find (above (rdns new_name)) self.old.tree.entries) ≡ true }
         requires apart { begins (rdns name.now) (above (rdns new_name)) ≡ false }
         requires free { is_some (find (rdns new_name) self.old.tree.entries) ≡ true → name_eq (rdns name.now) (rdns new_name) ≡ true }
-        ensures ok { OnOk result (self.new ≡ record { indexes = self.old.indexes; tree = record { suffix = self.old.tree.suffix; entries = moved (rdns name.now) new_name new_entry self.old.tree.entries } }) }
+        ensures ok { OnOk result (self.new ≡ record { indexes = self.old.indexes; tree = record { suffix = self.old.tree.suffix; entries = moved (rdns name.now) (name_placed (rdns self.old.tree.suffix) new_name self.old.tree.entries) new_entry self.old.tree.entries } }) }
         ensures err { OnErr result (self.new ≡ self.old) }
     {
-        let held = replace(
-            &mut self.postings,
-            Postings::new(alloc, Indexes::none(alloc)),
-        );
-        let (postings, done) = rename_listed(
-            &mut self.tree,
-            held,
-            name,
-            number,
-            new_name,
-            new_entry,
-        );
+        self.tree.is_directory();
+        let postings = relisted(&self.tree, &self.postings, number, &new_entry)?;
+        self.tree.rename(name, number, new_name, new_entry)?;
         self.postings = postings;
-        done
+        Ok(())
+    }
+}
+
+impl Kept for IndexedTree {
+    ghost use Rattle.dir_kept.specs.Listed.{lists_of};
+
+    ghost lists = { lists_of };
+
+    fn numbers(&self, posting: &Posting) -> &NumberSet {
+        self.postings.numbers(posting)
+    }
+
+    fn in_range(&self, range: &Range, number: u64) -> bool {
+        self.tree.is_directory();
+        match self.tree.entry(number) {
+            Some(held) => has_in_range(self.postings.indexes(), range, held),
+            None => false,
+        }
+    }
+
+    fn push_range(&self, range: &Range, into: &mut Vec<u64>) -> Result<(), AllocError> {
+        self.postings.push_range(range, into)
+    }
+
+    fn about(&self, range: &Range) -> usize {
+        self.postings.about(range)
     }
 }

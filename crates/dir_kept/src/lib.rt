@@ -3,16 +3,21 @@
 #![tactic(auto)]
 
 mod finding;
+mod held;
 mod indexed;
 mod listing;
 mod reading;
 
 pub use dir_index::{IndexError, Indexes, Postings};
 pub use dir_tree::{
-    Attribute, Entry, EntryError, Name, NameError, NamedEntry, Rdn, Schema, SharedEntry, Tree,
-    Truth, TypeAndValue, TypeId, are_same, copy_values, is_of_syntax,
+    Attribute, Entry, EntryError, Name, NameError, NumberSet, Rdn, Schema, SharedEntry, Tree,
+    Truth, TypeAndValue, TypeId, are_same, copy_values, is_of_syntax, print_from_leaf,
 };
-pub use finding::{is_front, is_same, is_taken, not_found, standing};
+pub use finding::{entry_of, is_front, is_same, is_taken, not_found, standing};
+pub use held::Standing;
 pub use indexed::IndexedTree;
 pub use reading::Reading;
-pub use session_talk::{Reply, ResultCode};
+pub use session_talk::{
+    AddRequest, AttributeValueAssertion, CompareRequest, DerefAliases, Found, LookError,
+    PartialAttribute, Reply, ResultCode, Scope, SearchAnswer, SearchRequest, SearchResultEntry,
+};

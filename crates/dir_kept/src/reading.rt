@@ -4,16 +4,15 @@ ghost use Rattle.std.specs.Prelude.{◌≡◌, IfOk, IfSome, string_bytes};
 ghost use Rattle.std.specs.Option.{option_map};
 ghost use Rattle.dir_tree.specs.ldap_dn.Names.{rdns};
 ghost use Rattle.dir_tree.specs.ldap_dn.Printed.{printed_name};
-ghost use Rattle.dir_tree.specs.dir_entry.Entry.{IsKeyedBy};
-ghost use Rattle.dir_tree.specs.Stored.{entered_of};
+ghost use Rattle.dir_tree.specs.dir_entry.Entry.{IsKeyedBy, attributes_of};
 ghost use Rattle.dir_kept.specs.Places.{entry_named};
 ghost use Rattle.dir_kept.specs.Replies.{not_found as not_found_reply};
-ghost use Rattle.dir_kept.specs.Stored.{named, directory, AreKeyedBy};
+ghost use Rattle.dir_kept.specs.Stored.{directory, AreKeyedBy};
 ghost use Rattle.session_talk.specs.View.{reply_view};
 
-use crate::finding::{not_found, standing};
+use crate::finding::{entry_of, not_found};
 use crate::indexed::IndexedTree;
-use dir_tree::{NamedEntry, Rdn, Schema};
+use dir_tree::{Rdn, Schema, SharedEntry};
 use session_talk::Reply;
 use std::alloc::{AllocError, Global};
 use std::marker::Model;
@@ -68,15 +67,17 @@ impl<'a> Reading<'a> {
         self.held.tree().suffix().print(alloc, self.schema)
     }
 
-    /// The number of a name's entry, and the entry with its keys; none, where the name has none. It takes a logarithm of comparisons,
-    /// and no memory.
-    #[tactic(auto, using(crate::proofs::Shown::found_shown, crate::proofs::Shown::none_shown, crate::proofs::Found::found_keyed))]
-    pub fn find(&self, name: &[Rdn]) -> Option<(u64, &'a NamedEntry)>
-        ensures found { option_map (λ p. named (entered_of p.0 p.1.now)) result ≡ entry_named (rdns name.now) self.now.directory.entries }
-        ensures keyed { IfSome result (λ p. IsKeyedBy self.now.directory.schema p.1.now.entry) }
+    /// The number of a name's entry, and its attributes with their keys; none, where the name has none. It takes two look-ups for each relative
+    /// name, and no memory.
+    pub fn find(&self, name: &[Rdn]) -> Option<(u64, &'a SharedEntry)>
+        ensures number { option_map (λ p. p.0) result
+            ≡ option_map (λ e. e.number) (entry_named (rdns name.now) self.now.directory.entries) }
+        ensures attributes { option_map (λ p. attributes_of p.1.now) result
+            ≡ option_map (λ e. e.attributes) (entry_named (rdns name.now) self.now.directory.entries) }
+        ensures keyed { IfSome result (λ p. IsKeyedBy self.now.directory.schema p.1.now) }
     {
-        match standing(self.held.tree(), name) {
-            Some((number, held)) => Some((number, held)),
+        match entry_of(self.held.tree(), name) {
+            Some((number, entry)) => Some((number, entry)),
             None => None,
         }
     }

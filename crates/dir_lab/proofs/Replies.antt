@@ -7,7 +7,7 @@ use Rattle.std.proofs.lemmas.List.{reverse-append, length-reverse, map-append}
 use Rattle.vr_state.proofs.Laws.{prefix_refl, prefix_trans, prefix_length}
 use Rattle.vr_state.specs.Lists.{IsPrefix, In, IsNamedIn}
 use Rattle.vr_state.specs.State.{State, is_recovering}
-use Rattle.vr_state.specs.declared.words.Entry.{Entry}
+use Rattle.vr_state.specs.Words.{Entry}
 use Rattle.vr_world.specs.Committed.{committed}
 use Rattle.vr_world.specs.Law.{IsSize, IsExecuted, GivenSince}
 use Rattle.vr_world.specs.World.{World, start, after, happens}

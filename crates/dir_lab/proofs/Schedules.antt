@@ -1,7 +1,7 @@
 -- A whole schedule. What one event keeps flows in; that a lab shows what the definition of a schedule has flows out, and how what is shown is cut.
 use Rattle.std.proofs.lemmas.List.{map-append}
 use Rattle.std.proofs.Common.{◌≡◌, ℕ, Bool, true, cond, map, List, [], ◌∷◌, ◌++◌, refl, sym, ap, ap₂, ◌∙◌, subst, append_assoc, append-nil}
-use Rattle.vr_state.specs.declared.words.Entry.{Entry}
+use Rattle.vr_state.specs.Words.{Entry}
 use Rattle.vr_world.specs.Law.{IsSize}
 use Rattle.vr_world.specs.World.{World, run, after, happens}
 use Rattle.vr_world.specs.declared.events.WorldEvent.{WorldEvent}

@@ -4,7 +4,7 @@ use Rattle.std.proofs.Common.{◌≡◌, ℕ, nat_lt, Bool, true, false, cond, L
 use Rattle.std.proofs.Math.Seq.{drop-append_seam}
 use Rattle.vr_state.specs.Lists.{IsPrefix}
 use Rattle.vr_state.specs.State.{State, first}
-use Rattle.vr_state.specs.declared.words.Entry.{Entry}
+use Rattle.vr_state.specs.Words.{Entry}
 use Rattle.vr_world.specs.Law.{IsSize}
 use Rattle.vr_world.specs.World.{World, happens, start, after}
 use Rattle.vr_world.specs.declared.events.WorldEvent.{WorldEvent}

@@ -2,7 +2,7 @@
 -- it flow in; the lists after it, and what is shown from them, flow out. That they are what the replicas have committed is proved, and not said here.
 use Rattle.std.specs.Prelude.{◌≡◌, ◌≢◌, ℕ, List, [], ◌∷◌, ◌++◌, map, length, Option, Some, None, slice_get}
 use Rattle.vr_state.specs.State.{State}
-use Rattle.vr_state.specs.declared.words.Entry.{Entry}
+use Rattle.vr_state.specs.Words.{Entry}
 use Rattle.vr_world.specs.World.{World, run, start}
 use Rattle.dir_executed.specs.Executing.{ExecutedValue, due_after}
 use Rattle.dir_executed.specs.dir_store.ldap_schema.Schema.{SchemaModel}

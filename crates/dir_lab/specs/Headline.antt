@@ -3,7 +3,7 @@
 use Rattle.std.specs.Prelude.{◌≡◌, ℕ, ◌<◌, ◌≤◌, ◌-◌, ◌⊎◌, List, [], ◌∷◌, ◌++◌, length, take, true, false, Option, Some, None, slice_get}
 use Rattle.vr_state.specs.Lists.{IsPrefix, In, IsNamedIn, Rising}
 use Rattle.vr_state.specs.State.{State, is_recovering}
-use Rattle.vr_state.specs.declared.words.Entry.{Entry}
+use Rattle.vr_state.specs.Words.{Entry}
 use Rattle.vr_world.specs.World.{after}
 use Rattle.vr_world.specs.declared.words.ReplyBy.{ReplyBy}
 use Rattle.vr_world.specs.Committed.{IsChosen, committed}

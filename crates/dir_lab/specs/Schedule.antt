@@ -2,7 +2,7 @@
 -- in order, flows out. How a lab keeps its replicas, and which indexes it has, is not here: what is shown doesn't depend on it.
 use Rattle.std.specs.Prelude.{ℕ, List, [], ◌∷◌, ◌++◌, cond, map, nat_lt, length, take, drop, reverse, Option, Some, None}
 use Rattle.vr_state.specs.State.{State, is_recovering}
-use Rattle.vr_state.specs.declared.words.Entry.{Entry}
+use Rattle.vr_state.specs.Words.{Entry}
 use Rattle.vr_world.specs.World.{World, run, start}
 use Rattle.vr_world.specs.declared.events.WorldEvent.{WorldEvent}
 use Rattle.vr_world.specs.declared.words.ReplyBy.{ReplyBy}

@@ -11,7 +11,7 @@ use Rattle.view_store.specs.Slots.{Finding, nothing, foreign, own, found, taken_
 use Rattle.view_store.specs.Store.{IsFormerOrNew}
 use Rattle.view_store.specs.Stored.{Stored}
 use Rattle.vr_state.specs.declared.message.Outputs.{Outputs}
-use Rattle.vr_state.specs.declared.words.Entry.{Entry}
+use Rattle.vr_state.specs.Words.{Entry}
 use Rattle.vr_state.specs.Outcome as steps
 use Rattle.vr_state.specs.State.{State}
 use Rattle.dir_node.specs.declared.config.NodeConfig.{NodeConfig}

@@ -5,7 +5,7 @@ use Rattle.dir_executed.specs.Executing.{replies_at}
 use Rattle.dir_executed.specs.session_talk.Answers.{ReplyModel}
 use Rattle.dir_executed.specs.session_talk.View.{reply_view}
 use Rattle.vr_state.specs.ClientTable.{latest}
-use Rattle.vr_state.specs.declared.words.Client.{Client}
+use Rattle.vr_state.specs.Words.{Client}
 use Rattle.vr_state.specs.declared.words.Latest.{Latest}
 use Rattle.vr_state.specs.declared.words.Status.{Status}
 use Rattle.vr_state.specs.declared.words.Status.TheVariants as status

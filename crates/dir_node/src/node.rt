@@ -332,6 +332,13 @@ impl<D: Device> Node<D> {
         self.executed.store()
     }
 
+    /// What it has executed.
+    pub fn executed(&self) -> &Executed
+        ensures { result.now ≡ self.now.executed }
+    {
+        &self.executed
+    }
+
     /// The records that it has executed, in their order.
     pub fn executed_records(&self) -> &[Entry<Op>]
         ensures { result.now ≡ self.now.executed.records }

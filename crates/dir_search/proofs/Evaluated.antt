@@ -9,7 +9,7 @@ use Rattle.dir_kept.specs.ldap_schema.Schema.{SchemaModel}
 use Rattle.dir_kept.specs.dir_entry.Entry.{attributes_of}
 use Rattle.dir_kept.specs.ldap_dn.Names.{RdnModel, rdns}
 use Rattle.ldap_filter.specs.Tree.{Tree, Trees, no_trees, tree}
-use Rattle.session_talk.specs.ldap_msg.Messages.{SearchRequestValue}
+use Rattle.dir_kept.specs.session_talk.ldap_msg.Messages.{SearchRequestValue}
 use Rattle.ldap_eval.specs.Bound.{IsBoundTo}
 use Rattle.ldap_eval.specs.Made.{IsMadeOf, AreMadeOf}
 use Rattle.ldap_eval.specs.declared.bound.BoundFilter.{BoundFilter}
@@ -28,7 +28,7 @@ use Rattle.dir_search.specs.Looks.{true_numbers, has_runs_on, leaves_open_on, up
 use Rattle.dir_search.specs.Numbered.{put_some, entries_of}
 use Rattle.dir_search.specs.Scopes.{is_in_scope}
 use Rattle.dir_search.specs.View.{FindsAmong}
-use Rattle.session_talk.specs.declared.search_answer.SearchAnswer.{SearchAnswer}
+use Rattle.dir_kept.specs.session_talk.declared.search_answer.SearchAnswer.{SearchAnswer}
 use Rattle.dir_search.proofs.Few.{true_here, bound_on, found_true}
 use Rattle.dir_search.proofs.Limits.{keyed_at}
 use Rattle.dir_search.proofs.Numbers.{numbers_are}

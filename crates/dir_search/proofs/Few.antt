@@ -8,7 +8,7 @@ use Rattle.std.proofs.lemmas.List.Sums.{count_by-le-length, length-filter}
 use Rattle.dir_kept.specs.ldap_match.declared.truth.Truth.TheVariants.{True}
 use Rattle.dir_kept.specs.ldap_schema.Schema.{SchemaModel}
 use Rattle.ldap_filter.specs.Tree.{Tree}
-use Rattle.session_talk.specs.ldap_msg.Messages.{SearchRequestValue}
+use Rattle.dir_kept.specs.session_talk.ldap_msg.Messages.{SearchRequestValue}
 use Rattle.ldap_eval.specs.Bound.{bound_value, IsBoundTo}
 use Rattle.ldap_eval.specs.Made.{IsMadeOf}
 use Rattle.ldap_eval.specs.declared.bound.BoundFilter.{BoundFilter}
@@ -28,7 +28,7 @@ use Rattle.dir_search.specs.Looks.{value_on, value_in, IsBoundOn, true_numbers, 
 use Rattle.dir_search.specs.Numbered.{put_some, entries_of}
 use Rattle.dir_search.specs.Selection.{selected}
 use Rattle.dir_search.specs.View.{Shows, FindsAmong}
-use Rattle.session_talk.specs.declared.search_answer.SearchAnswer.{SearchAnswer}
+use Rattle.dir_kept.specs.session_talk.declared.search_answer.SearchAnswer.{SearchAnswer}
 use Rattle.dir_search.proofs.Limits.{keyed_at}
 
 or_weaker : (a b b' : Bool) → (b ≡ true → b' ≡ true) → (a || b) ≡ true → (a || b') ≡ true

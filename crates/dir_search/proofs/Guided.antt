@@ -1,7 +1,6 @@
 -- Plans over the posting lists of a tree's entries guide a run over the numbers of some of them, and leave few open. Facts on lists and
 -- entries flow in and out; no value of the program is here.
 use Rattle.std.proofs.Common.{◌≡◌, ◌<◌, ℕ, Bool, true, false, cond, not, ◌||◌, ◌&&◌, List, [], ◌∷◌, Some, Vec, Global, map, nat_eq, refl, sym, ap, ap₂, ◌∙◌, subst, inl, inr, eqb-true}
-use mathlib.Core.Path.{fun_ext}
 use Rattle.std.specs.List.{AllByRecursion}
 use Rattle.dir_kept.specs.ldap_match.declared.truth.Truth.TheVariants.{True}
 use Rattle.dir_kept.specs.dir_entry.Entry.{KeyedAttribute}
@@ -10,12 +9,9 @@ use Rattle.ldap_eval.specs.Bound.{bound_value}
 use Rattle.ldap_eval.specs.declared.bound.BoundFilter.{BoundFilter}
 use Rattle.ldap_eval.specs.declared.bound.BoundFilter.TheVariants as bound
 use Rattle.dir_kept.specs.index_choice.declared.kinds.Kinds.{Kinds}
-use Rattle.dir_kept.specs.dir_index.Postings.{Indexed, Lists, has_number, IsRising, postings_of}
-use Rattle.dir_kept.specs.dir_index.Whole.{ArePostingsOf}
-use Rattle.dir_kept.specs.dir_index.declared.posting.Posting.{Posting}
-use Rattle.dir_kept.specs.dir_index.declared.posting.Range.{Range}
-use Rattle.dir_kept.specs.dir_tree.Directory.{Entered, entry_at, numbers}
-use Rattle.dir_kept.specs.Listed.{listed_of}
+use Rattle.dir_kept.specs.dir_index.Postings.{has_number, IsRising, postings_of}
+use Rattle.dir_kept.specs.dir_tree.Directory.{Entered, entry_at, numbers, AllAbove, NumbersRise}
+use Rattle.dir_kept.specs.Listed.{IndexedModel, listed_of, lists_of}
 use Rattle.search_plans.specs.Sets.{is_in, holds, AreNumbered, HasEntry, Guides, SetsAreOfEntries}
 use Rattle.search_plans.specs.declared.plan.Plan.{Plan}
 use Rattle.search_plans.specs.Bounds.{is_decided, BoundsSets, DecidedAreTrue}
@@ -23,19 +19,22 @@ use Rattle.search_plans.specs.OctetRuns.{has_runs_for}
 use Rattle.search_plans.specs.Runs.{is_open}
 use Rattle.dir_search.specs.Looks.{value_on, value_in, has_runs_on, leaves_open_on, AreNumbersOf, LeavesFew}
 
--- lists that answer alike are the same
-same_lists : (x : Lists) (ix : List Kinds) (es : List Indexed) → ArePostingsOf x ix es → postings_of ix es ≡ x
-same_lists x ix es are =
-    ap₂ (λ (f : Posting → List ℕ) (g : Range → List ℕ). let l : Lists = record { posting = f; range = g } in l)
-    (fun_ext (λ p. sym (are.postings p))) (fun_ext (λ r. sym (are.ranges r)))
+above_listed : (k : ℕ) (d : List Entered) → AllAbove k d → AllByRecursion (λ y. k < y) (map (λ e. e.number) (listed_of d))
+above_listed k [] h = tt
+above_listed k (e ∷ d) h = (h.0, above_listed k d h.1)
 
-all_above : (k : ℕ) (es : List Indexed) → AllByRecursion (λ y. k < y) (map (λ e. e.number) es) → AllByRecursion (λ e. k < e.number) es
+-- the numbers of the entries rise, as indexes see them
+pub numbers_rising : (d : List Entered) → NumbersRise d → IsRising (map (λ e. e.number) (listed_of d))
+numbers_rising [] h = tt
+numbers_rising (e ∷ d) h = (above_listed e.number d h.0, numbers_rising d h.1)
+
+all_above : (k : ℕ) (d : List Entered) → AllAbove k d → AllByRecursion (λ e. k < e.number) (listed_of d)
 all_above k [] h = tt
-all_above k (e ∷ es) h = (h.0, all_above k es h.1)
+all_above k (e ∷ d) h = (h.0, all_above k d h.1)
 
-are_numbered : (es : List Indexed) → IsRising (map (λ e. e.number) es) → AreNumbered es
+are_numbered : (d : List Entered) → NumbersRise d → AreNumbered (listed_of d)
 are_numbered [] h = tt
-are_numbered (e ∷ es) h = (all_above e.number es h.0, are_numbered es h.1)
+are_numbered (e ∷ d) h = (all_above e.number d h.0, are_numbered d h.1)
 
 -- the entry of a number, as the tree and as the indexes see it
 record IsEntryOf (d : List Entered) (n : ℕ) : Type 0 where
@@ -72,19 +71,19 @@ entry_here : (ks : List ℕ) (d : List Entered) → AreNumbersOf ks d → (n : �
 entry_here ks d sel n h = entry_of n sel.0 d (subst (λ (l : List ℕ). has_number n l ≡ true) sel.1 h)
 
 -- the plans guide a run
-pub guided : (x : Lists) (ix : List Kinds) (b : BoundFilter) (d : List Entered) (must may : Plan) → ArePostingsOf x ix (listed_of d) → ((m : List RdnModel) → BoundsSets ix (λ e. bound_value m e b) True (is_decided ix b) must may)
-    → (ks : List ℕ) → AreNumbersOf ks d → Guides (is_in x ks must) (value_in b d) (is_in x ks may) ks
-guided x ix b d must may are sets ks sel =
-    let num : AreNumbered (listed_of d) = are_numbered (listed_of d) are.numbered in
-    subst (λ (l : Lists). Guides (is_in l ks must) (value_in b d) (is_in l ks may) ks) (same_lists x ix (listed_of d) are)
-    (record {
+pub guided : (t : IndexedModel) (b : BoundFilter) (must may : Plan) → NumbersRise t.tree.entries → ((m : List RdnModel) → BoundsSets t.indexes (λ e. bound_value m e b) True (is_decided t.indexes b) must may)
+    → (ks : List ℕ) → AreNumbersOf ks t.tree.entries → Guides (is_in (lists_of t) ks must) (value_in b t.tree.entries) (is_in (lists_of t) ks may) ks
+guided t b must may rise sets ks sel =
+    let d = t.tree.entries in
+    let num : AreNumbered (listed_of d) = are_numbered d rise in
+    record {
       sound = λ n s h.
           let e : IsEntryOf d n = entry_here ks d sel n s in
           ap (value_on b) e.found ∙ (sets e.entry.name (listed_of d) ks n e.entry.entry num e.listed s).sound h;
       complete = λ n s h.
           let e : IsEntryOf d n = entry_here ks d sel n s in
           (sets e.entry.name (listed_of d) ks n e.entry.entry num e.listed s).complete (sym (ap (value_on b) e.found) ∙ h);
-    })
+    }
 
 closed : (must may : Bool) → (may ≡ true → must ≡ true) → (may && not must) ≡ false
 closed must false h = refl
@@ -123,21 +122,20 @@ leaves ix b d must may agree num sets parts runs ks sel =
           ap (has_runs_on ix b) x.found ∙ runs x.entry.entry (held n x h o);
     }
 
-pub leaves_few : (x : Lists) (ix : List Kinds) (b : BoundFilter) (d : List Entered) (must may : Plan) → SetsAreOfEntries → ArePostingsOf x ix (listed_of d)
-    → ((m : List RdnModel) → BoundsSets ix (λ e. bound_value m e b) True (is_decided ix b) must may)
-    → ((v : Vec BoundFilter Global) → b ≡ bound.And v → (m : List RdnModel) (e : List KeyedAttribute) → holds ix e may ≡ true → DecidedAreTrue ix m e v.items)
-    → ((e : List KeyedAttribute) → holds ix e may ≡ true → has_runs_for ix e b ≡ true)
-    → (ks : List ℕ) → AreNumbersOf ks d → LeavesFew (is_open (is_in x ks must) (is_in x ks may)) ix b d ks
-leaves_few x ix b d must may agree are sets parts runs ks sel =
-    subst (λ (l : Lists). LeavesFew (is_open (is_in l ks must) (is_in l ks may)) ix b d ks) (same_lists x ix (listed_of d) are)
-    (leaves ix b d must may agree (are_numbered (listed_of d) are.numbered) sets parts runs ks sel)
+pub leaves_few : (t : IndexedModel) (b : BoundFilter) (must may : Plan) → SetsAreOfEntries → NumbersRise t.tree.entries
+    → ((m : List RdnModel) → BoundsSets t.indexes (λ e. bound_value m e b) True (is_decided t.indexes b) must may)
+    → ((v : Vec BoundFilter Global) → b ≡ bound.And v → (m : List RdnModel) (e : List KeyedAttribute) → holds t.indexes e may ≡ true → DecidedAreTrue t.indexes m e v.items)
+    → ((e : List KeyedAttribute) → holds t.indexes e may ≡ true → has_runs_for t.indexes e b ≡ true)
+    → (ks : List ℕ) → AreNumbersOf ks t.tree.entries → LeavesFew (is_open (is_in (lists_of t) ks must) (is_in (lists_of t) ks may)) t.indexes b t.tree.entries ks
+leaves_few t b must may agree rise sets parts runs ks sel =
+    leaves t.indexes b t.tree.entries must may agree (are_numbered t.tree.entries rise) sets parts runs ks sel
 
 -- a number is left open, just where its entry is
-pub told_open : (x : Lists) (ix : List Kinds) (d : List Entered) (must may : Plan) → SetsAreOfEntries → ArePostingsOf x ix (listed_of d) → (ks : List ℕ) → AreNumbersOf ks d
-    → (n : ℕ) → has_number n ks ≡ true → is_open (is_in x ks must) (is_in x ks may) n ≡ leaves_open_on ix must may (entry_at n d)
-told_open x ix d must may agree are ks sel n h =
-    let num : AreNumbered (listed_of d) = are_numbered (listed_of d) are.numbered in
+pub told_open : (t : IndexedModel) (must may : Plan) → SetsAreOfEntries → NumbersRise t.tree.entries → (ks : List ℕ) → AreNumbersOf ks t.tree.entries
+    → (n : ℕ) → has_number n ks ≡ true → is_open (is_in (lists_of t) ks must) (is_in (lists_of t) ks may) n ≡ leaves_open_on t.indexes must may (entry_at n t.tree.entries)
+told_open t must may agree rise ks sel n h =
+    let d = t.tree.entries in
+    let num : AreNumbered (listed_of d) = are_numbered d rise in
     let e : IsEntryOf d n = entry_here ks d sel n h in
-    subst (λ (l : Lists). is_open (is_in l ks must) (is_in l ks may) n ≡ leaves_open_on ix must may (entry_at n d)) (same_lists x ix (listed_of d) are)
-    (ap₂ (λ (a b : Bool). a && not b) (agree ix (listed_of d) ks n e.entry.entry may num e.listed h) (agree ix (listed_of d) ks n e.entry.entry must num e.listed h)
-    ∙ sym (ap (leaves_open_on ix must may) e.found))
+    ap₂ (λ (a b : Bool). a && not b) (agree t.indexes (listed_of d) ks n e.entry.entry may num e.listed h) (agree t.indexes (listed_of d) ks n e.entry.entry must num e.listed h)
+    ∙ sym (ap (leaves_open_on t.indexes must may) e.found)

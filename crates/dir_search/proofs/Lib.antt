@@ -8,3 +8,5 @@ pub mod Few
 pub mod Scoped
 pub mod Answered
 pub mod Evaluated
+pub mod Compared
+pub mod NamesAt

@@ -4,8 +4,8 @@ use Rattle.std.specs.Prelude.{is_some}
 use Rattle.std.specs.Option.{option_map}
 use Rattle.dir_kept.specs.ldap_schema.Schema.{SchemaModel}
 use Rattle.dir_kept.specs.ldap_dn.Names.{RdnModel, rdns}
-use Rattle.session_talk.specs.ldap_msg.ldap_requests.declared.search.Scope.{Scope}
-use Rattle.session_talk.specs.ldap_msg.Messages.{SearchRequestValue}
+use Rattle.dir_kept.specs.session_talk.ldap_msg.ldap_requests.declared.search.Scope.{Scope}
+use Rattle.dir_kept.specs.session_talk.ldap_msg.Messages.{SearchRequestValue}
 use Rattle.dir_kept.specs.dir_tree.Directory as tree
 use Rattle.dir_kept.specs.dir_tree.Directory.{NameKey, Entered, TreeModel, NumbersRise, name_eq, begins, find, numbers, is_at_or_below}
 use Rattle.dir_kept.specs.Directory.{NamedEntry}

@@ -2,11 +2,11 @@
 -- of these flows out. Only this crate's own contracts speak of it.
 use Rattle.std.specs.Prelude.{ℕ, List, Bool}
 use Rattle.dir_kept.specs.ldap_dn.Names.{rdns}
-use Rattle.session_talk.specs.ldap_msg.View.{search_view}
+use Rattle.dir_kept.specs.session_talk.ldap_msg.View.{search_view}
 use Rattle.dir_kept.specs.dir_tree.Directory.{NameKey, numbers}
 use Rattle.dir_search.specs.View.{FindsAmong}
 use Rattle.dir_search.specs.declared.bound_search.BoundSearch.{BoundSearch}
-use Rattle.session_talk.specs.declared.search_answer.SearchAnswer.{SearchAnswer}
+use Rattle.dir_kept.specs.session_talk.declared.search_answer.SearchAnswer.{SearchAnswer}
 
 -- what is found among the entries of these numbers
 abbrev pub FindsOf : BoundSearch → List ℕ → SearchAnswer → Type 0

@@ -5,14 +5,14 @@ use Rattle.dir_kept.specs.ldap_schema.Schema.{SchemaModel}
 use Rattle.ldap_filter.specs.Tree.{Tree}
 use Rattle.dir_kept.specs.ldap_dn.Names.{RdnModel, rdns}
 use Rattle.dir_kept.specs.ldap_dn.Texts.{name_of_text}
-use Rattle.session_talk.specs.ldap_msg.ldap_requests.declared.search.Scope.{Scope}
-use Rattle.session_talk.specs.ldap_msg.ldap_requests.declared.search.Scope.TheVariants.{BaseObject, SingleLevel, WholeSubtree, SubordinateSubtree}
-use Rattle.session_talk.specs.ldap_msg.Messages.{SearchRequestValue, SearchResultEntryValue}
+use Rattle.dir_kept.specs.session_talk.ldap_msg.ldap_requests.declared.search.Scope.{Scope}
+use Rattle.dir_kept.specs.session_talk.ldap_msg.ldap_requests.declared.search.Scope.TheVariants.{BaseObject, SingleLevel, WholeSubtree, SubordinateSubtree}
+use Rattle.dir_kept.specs.session_talk.ldap_msg.Messages.{SearchRequestValue, SearchResultEntryValue}
 use Rattle.ldap_eval.specs.Value.{filter_value}
 use Rattle.dir_kept.specs.Directory.{Directory, NamedEntry}
 use Rattle.dir_kept.specs.Places.{entry_named}
 use Rattle.dir_kept.specs.Replies.{not_found}
-use Rattle.session_talk.specs.Answers.{Answer, only, refused}
+use Rattle.dir_kept.specs.session_talk.Answers.{Answer, only, refused}
 use Rattle.dir_search.specs.Scopes.{is_in_scope}
 use Rattle.dir_search.specs.Selection.{selected}
 use Rattle.dir_search.specs.RootDse.{dse_attributes, dse_selected}

@@ -6,12 +6,12 @@ use Rattle.dir_kept.specs.ldap_match.Item.{equal, is_of_syntax}
 use Rattle.dir_kept.specs.ldap_match.declared.truth.Truth.{Truth}
 use Rattle.dir_kept.specs.ldap_match.declared.truth.Truth.TheVariants.{True, False, Undefined}
 use Rattle.ldap_eval.specs.Value.{item_on_type}
-use Rattle.session_talk.specs.ldap_msg.ldap_requests.Values.{AssertionValue}
-use Rattle.session_talk.specs.ldap_msg.Messages.{CompareRequestValue}
+use Rattle.dir_kept.specs.session_talk.ldap_msg.ldap_requests.Values.{AssertionValue}
+use Rattle.dir_kept.specs.session_talk.ldap_msg.Messages.{CompareRequestValue}
 use Rattle.dir_kept.specs.dir_entry.Entry.{AttributeModel}
 use Rattle.dir_kept.specs.Directory.{Directory, NamedEntry}
 use Rattle.dir_kept.specs.Replies.{then}
-use Rattle.session_talk.specs.Answers.{ReplyModel, only}
+use Rattle.dir_kept.specs.session_talk.Answers.{ReplyModel, only}
 use Rattle.dir_kept.specs.Replies.{name_asked, entry_asked}
 
 -- compareTrue (6), compareFalse (5), and invalidAttributeSyntax (21) where nobody can tell

@@ -4,7 +4,7 @@ use Rattle.std.specs.Prelude.{◌≡◌, ℕ, true, ◌&&◌, not, cond, Bool, L
 use Rattle.std.specs.List.{slice_get}
 use Rattle.dir_kept.specs.ldap_dn.Names.{RdnModel, rdns}
 use Rattle.dir_kept.specs.ldap_dn.Texts.{name_of_text}
-use Rattle.session_talk.specs.ldap_msg.Messages.{SearchRequestValue}
+use Rattle.dir_kept.specs.session_talk.ldap_msg.Messages.{SearchRequestValue}
 use Rattle.dir_kept.specs.dir_entry.Entry.{KeyedAttribute}
 use Rattle.dir_kept.specs.index_choice.declared.kinds.Kinds.{Kinds}
 use Rattle.dir_kept.specs.dir_tree.Directory.{Entered}

@@ -6,7 +6,7 @@ use Rattle.dir_kept.specs.ldap_schema.Schema.{SchemaModel}
 use Rattle.dir_kept.specs.ldap_dn.Names.{RdnModel}
 use Rattle.dir_kept.specs.ldap_dn.Texts.{name_of_text}
 use Rattle.ldap_filter.specs.Tree.{Tree, conj, Trees, no_trees, tree}
-use Rattle.session_talk.specs.ldap_msg.Messages.{SearchRequestValue}
+use Rattle.dir_kept.specs.session_talk.ldap_msg.Messages.{SearchRequestValue}
 use Rattle.dir_kept.specs.index_choice.declared.kinds.Kinds.{Kinds}
 use Rattle.dir_kept.specs.Directory.{Directory, NamedEntry}
 use Rattle.dir_kept.specs.Listed.{StoreModel}

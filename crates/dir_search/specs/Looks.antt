@@ -6,7 +6,7 @@ use Rattle.std.specs.List.{AllByRecursion}
 use Rattle.dir_kept.specs.ldap_match.declared.truth.Truth.{Truth}
 use Rattle.dir_kept.specs.ldap_match.declared.truth.Truth.TheVariants.{True, Undefined}
 use Rattle.dir_kept.specs.ldap_dn.Names.{RdnModel, rdns}
-use Rattle.session_talk.specs.ldap_msg.Messages.{SearchRequestValue}
+use Rattle.dir_kept.specs.session_talk.ldap_msg.Messages.{SearchRequestValue}
 use Rattle.dir_kept.specs.ldap_schema.Schema.{SchemaModel}
 use Rattle.ldap_filter.specs.Tree.{Tree}
 use Rattle.ldap_eval.specs.Bound.{bound_value, IsBoundTo}

@@ -1,14 +1,29 @@
 -- Entries by their numbers. Numbers and entries flow in; the entries of the numbers flow out, and what a search shows of them. Scopes are not
 -- here.
-use Rattle.std.specs.Prelude.{ℕ, List, map, filter}
+use Rattle.std.specs.Prelude.{ℕ, List, [], ◌∷◌, map, filter, Option, None, Some}
 use Rattle.dir_kept.specs.ldap_schema.Schema.{SchemaModel}
-use Rattle.session_talk.specs.ldap_msg.Messages.{SearchRequestValue}
-use Rattle.dir_kept.specs.dir_tree.Directory.{Entered}
+use Rattle.dir_kept.specs.session_talk.ldap_msg.Messages.{SearchRequestValue}
+use Rattle.dir_kept.specs.ldap_dn.Names.{RdnModel}
+use Rattle.dir_kept.specs.dir_tree.Directory.{Entered, entry_at}
 use Rattle.dir_kept.specs.Stored.{named}
 use Rattle.dir_search.specs.Answer.{is_match, limited}
-use Rattle.session_talk.specs.Answers.{Answer}
+use Rattle.dir_kept.specs.session_talk.Answers.{Answer}
 use Rattle.dir_search.specs.Selection.{selected}
-pub use Rattle.dir_kept.specs.dir_tree.Renamed.{put_some, entries_of}
+
+-- an entry, where there is one, in front
+abbrev pub put_some : Option Entered → List Entered → List Entered
+put_some None es = es
+put_some (Some e) es = e ∷ es
+
+-- the entries of these numbers, in their order
+abbrev pub entries_of : List ℕ → List Entered → List Entered
+entries_of [] d = []
+entries_of (k ∷ ks) d = put_some (entry_at k d) (entries_of ks d)
+
+-- the name of an entry; the empty one, where there is none
+abbrev pub name_of : Option Entered → List RdnModel
+name_of None = []
+name_of (Some e) = e.name
 
 -- what a search shows of the entries of these numbers that match, up to the limit
 abbrev pub found_of : SchemaModel → SearchRequestValue → List ℕ → List Entered → Answer

@@ -5,7 +5,7 @@ use Rattle.std.specs.List.{list_any}
 use Rattle.std.specs.Ordering.{nat_cmp}
 use Rattle.std.specs.BTreeSet.{BTreeSet, contains}
 use Rattle.dir_kept.specs.ldap_schema.Schema.{SchemaModel, superiors}
-use Rattle.session_talk.specs.ldap_msg.ldap_requests.declared.search.SearchRequest.{SearchRequest}
+use Rattle.dir_kept.specs.session_talk.ldap_msg.ldap_requests.declared.search.SearchRequest.{SearchRequest}
 use Rattle.dir_search.specs.Selection.{is_selected}
 use Rattle.dir_search.specs.declared.resolving.Selection.{Selection}
 

@@ -6,8 +6,8 @@ use Rattle.dir_kept.specs.ldap_schema.Schema.{SchemaModel, find}
 use Rattle.dir_kept.specs.ldap_dn.Printed.{printed_name}
 use Rattle.dir_kept.specs.dir_entry.Entry.{AttributeModel}
 use Rattle.dir_kept.specs.dir_entry.Adding.{with_attribute}
-use Rattle.session_talk.specs.ldap_msg.ldap_parts.Values.{PartialAttributeValue}
-use Rattle.session_talk.specs.ldap_msg.Messages.{SearchResultEntryValue}
+use Rattle.dir_kept.specs.session_talk.ldap_msg.ldap_parts.Values.{PartialAttributeValue}
+use Rattle.dir_kept.specs.session_talk.ldap_msg.Messages.{SearchResultEntryValue}
 use Rattle.dir_kept.specs.Directory.{Directory}
 use Rattle.dir_search.specs.Selection.{attributes_selected}
 

@@ -5,7 +5,7 @@ use Rattle.std.specs.List.{list_any}
 use Rattle.std.specs.Str.{bytes_eq}
 use Rattle.dir_kept.specs.ldap_schema.Schema.{SchemaModel, find, is_under, type_at}
 use Rattle.dir_kept.specs.dir_entry.Entry.{AttributeModel}
-use Rattle.session_talk.specs.ldap_msg.Messages.{PartialAttributeValue, SearchResultEntryValue}
+use Rattle.dir_kept.specs.session_talk.ldap_msg.Messages.{PartialAttributeValue, SearchResultEntryValue}
 use Rattle.dir_kept.specs.ldap_dn.Printed.{printed_name}
 use Rattle.dir_kept.specs.Directory.{NamedEntry}
 pub use Rattle.dir_kept.specs.ldap_dn.Printed.{name_of_type}

@@ -3,18 +3,18 @@ use Rattle.std.specs.Prelude.{◌≡◌, ℕ, ◌<◌, ◌≤◌, List, length, 
 use Rattle.std.specs.List.{slice_get}
 use Rattle.dir_kept.specs.ldap_schema.Schema.{SchemaModel}
 use Rattle.ldap_eval.specs.declared.bound.BoundFilter.{BoundFilter}
-use Rattle.session_talk.specs.ldap_msg.Messages.{SearchRequestValue, SearchResultEntryValue}
+use Rattle.dir_kept.specs.session_talk.ldap_msg.Messages.{SearchRequestValue, SearchResultEntryValue}
 use Rattle.dir_kept.specs.index_choice.declared.kinds.Kinds.{Kinds}
 use Rattle.dir_kept.specs.dir_tree.Directory.{Entered}
 use Rattle.dir_kept.specs.Directory.{NamedEntry}
 use Rattle.dir_kept.specs.Stored.{named}
-use Rattle.session_talk.specs.Answers.{Answer}
-use Rattle.session_talk.specs.View.{answer_view}
+use Rattle.dir_kept.specs.session_talk.Answers.{Answer}
+use Rattle.dir_kept.specs.session_talk.View.{answer_view}
 use Rattle.dir_search.specs.Answer.{limited}
 use Rattle.dir_search.specs.Counted.{first_past}
 use Rattle.dir_search.specs.Looks.{true_numbers, up_to, IsFew, IsCountAmong}
 use Rattle.dir_search.specs.Numbered.{entries_of, found_of}
-use Rattle.session_talk.specs.declared.search_answer.SearchAnswer.{SearchAnswer}
+use Rattle.dir_kept.specs.session_talk.declared.search_answer.SearchAnswer.{SearchAnswer}
 
 -- An answer in memory stands for this one, and tells of no more evaluations of the filter than so many.
 pub record Finds (a : SearchAnswer) (x : Answer) (most : ℕ) : Type 0 where

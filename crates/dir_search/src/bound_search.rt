@@ -1,16 +1,15 @@
 //! A search whose filter is bound: the numbers in scope of the entries whose filter value is True are drawn from plans, in order, up to the size
 //! limit. A tree and a request flow in, what is shown of the entries flows out. How a filter is bound, and how plans are made, is not here.
-ghost use Rattle.std.specs.Prelude.{◌≡◌, ℕ, List, true, false, IfOk};
+ghost use Rattle.std.specs.Prelude.{◌≡◌, ℕ, List, [], true, false, IfOk};
 ghost use Rattle.dir_kept.specs.ldap_schema.Schema.{SchemaModel};
 ghost use Rattle.ldap_filter.specs.Tree.{Tree as FilterTree};
 ghost use Rattle.ldap_filter.specs.View.{view as filter_view};
 ghost use Rattle.dir_kept.specs.ldap_dn.Names.{rdns};
 ghost use Rattle.ldap_eval.specs.Bound.{IsBoundTo};
 ghost use Rattle.ldap_eval.specs.Made.{IsMadeOf};
-ghost use Rattle.dir_kept.specs.dir_index.Whole.{lists_of, ArePostingsOf};
 ghost use Rattle.dir_kept.specs.dir_index.Postings.{has_number};
 ghost use Rattle.dir_kept.specs.dir_tree.Directory.{name_eq, begins, entry_at};
-ghost use Rattle.dir_kept.specs.Listed.{listed_of};
+ghost use Rattle.dir_kept.specs.Listed.{lists_of};
 ghost use Rattle.dir_kept.specs.Stored.{directory};
 ghost use Rattle.search_plans.specs.Sets.{is_in};
 ghost use Rattle.search_plans.specs.Planned.{ArePlansFor};
@@ -22,33 +21,27 @@ ghost use Rattle.dir_search.specs.Scopes.{is_right_under, is_in_scope};
 use crate::scoping::{is_unnamed, numbers_right_under, numbers_within};
 use crate::showing::show_found;
 use crate::values::Evaluated;
-use dir_kept::{IndexedTree, Postings, Rdn, Schema, Tree};
+use dir_kept::{IndexedTree, NumberSet, Rdn, Schema, Scope, SearchAnswer, SearchRequest};
 use ldap_eval::BoundFilter;
-use search_plans::{Sided, compile, sets_are_of_entries, start};
-use session_talk::{Scope, SearchAnswer, SearchRequest};
+use search_plans::{Scope as NumberScope, Sided, compile, sets_are_of_entries, start};
 use std::alloc::{AllocError, Global};
 
 /// The plans that bound where a filter is True, over the posting lists of a tree's entries.
-fn guide(
-    alloc: Global,
-    tree: &Tree,
-    postings: &Postings,
-    bound: &BoundFilter,
-) -> Result<Sided, AllocError>
-    requires { ArePostingsOf (lists_of postings.now) postings.now.indexes (listed_of tree.now.entries) }
-    ensures guides { IfOk result (λ s. (ks : List ℕ) → AreNumbersOf ks tree.now.entries
-        → AreGuides (lists_of postings.now) s (value_in bound.now tree.now.entries) ks) }
-    ensures few { IfOk result (λ s. (ks : List ℕ) → AreNumbersOf ks tree.now.entries
-        → LeavesFew (is_open (is_in (lists_of postings.now) ks s.must) (is_in (lists_of postings.now) ks s.may))
-        postings.now.indexes bound.now tree.now.entries ks) }
+fn guide(alloc: Global, indexed: &IndexedTree, bound: &BoundFilter) -> Result<Sided, AllocError>
+    ensures guides { IfOk result (λ s. (ks : List ℕ) → AreNumbersOf ks indexed.now.tree.entries
+        → AreGuides (lists_of indexed.now) s (value_in bound.now indexed.now.tree.entries) ks) }
+    ensures few { IfOk result (λ s. (ks : List ℕ) → AreNumbersOf ks indexed.now.tree.entries
+        → LeavesFew (is_open (is_in (lists_of indexed.now) ks s.must) (is_in (lists_of indexed.now) ks s.may))
+        indexed.now.indexes bound.now indexed.now.tree.entries ks) }
     ensures plans { IfOk result (λ s. (m : SchemaModel) (t : FilterTree) → IsBoundTo m t bound.now → IsMadeOf m t bound.now
-        → ArePlansFor m postings.now.indexes t s.must s.may) }
-    ensures told { IfOk result (λ s. (ks : List ℕ) → AreNumbersOf ks tree.now.entries → (n : ℕ) → has_number n ks ≡ true
-        → is_open (is_in (lists_of postings.now) ks s.must) (is_in (lists_of postings.now) ks s.may) n
-        ≡ leaves_open_on postings.now.indexes s.must s.may (entry_at n tree.now.entries)) }
+        → ArePlansFor m indexed.now.indexes t s.must s.may) }
+    ensures told { IfOk result (λ s. (ks : List ℕ) → AreNumbersOf ks indexed.now.tree.entries → (n : ℕ) → has_number n ks ≡ true
+        → is_open (is_in (lists_of indexed.now) ks s.must) (is_in (lists_of indexed.now) ks s.may) n
+        ≡ leaves_open_on indexed.now.indexes s.must s.may (entry_at n indexed.now.tree.entries)) }
 {
     sets_are_of_entries();
-    let sided = compile(alloc, bound, postings.indexes())?;
+    indexed.tree().is_directory();
+    let sided = compile(alloc, bound, indexed.indexes())?;
     Ok(sided)
 }
 
@@ -84,19 +77,22 @@ impl BoundSearch<'_> {
 
     /// What is shown of the entries of these numbers that match, up to the limit; 0 is no limit. The numbers come from the posting lists; the
     /// filter is evaluated only where its plans leave open whether it is True.
-    fn among(&self, numbers: &[u64]) -> Result<SearchAnswer, AllocError>
+    fn among(&self, numbers: &NumberSet) -> Result<SearchAnswer, AllocError>
         requires { AreNumbersOf numbers.now self.now.indexed.now.tree.entries }
         ensures { IfOk result (FindsOf self.now numbers.now) }
     {
         let tree = self.indexed.tree();
-        let postings = self.indexed.postings();
-        let sided = guide(self.alloc, tree, postings, self.bound)?;
+        tree.is_directory();
+        let sided = guide(self.alloc, self.indexed, self.bound)?;
         let values = Evaluated {
             tree,
             bound: self.bound,
             looks: 0,
         };
-        let running = start(self.alloc, &sided, postings, numbers, values)?;
+        let scope = NumberScope::of_set(numbers);
+        // prover: the looks to come are counted in 64 bits
+        let _ = scope.len();
+        let running = start(self.alloc, &sided, self.indexed, &scope, values)?;
         show_found(self.alloc, self.schema, tree, self.request, running)
     }
 
@@ -107,8 +103,8 @@ impl BoundSearch<'_> {
         let tree = self.indexed.tree();
         tree.is_single();
         match tree.find(name) {
-            Some(number) => self.among(&[number]),
-            None => self.among(&[]),
+            Some(number) => self.among(&NumberSet::of_one(number)),
+            None => self.among(&NumberSet::new()),
         }
     }
 
@@ -127,7 +123,8 @@ impl BoundSearch<'_> {
         if is_unnamed(self.base) {
             return self.root();
         }
-        let numbers = numbers_right_under(self.indexed.tree(), self.base);
+        let none = NumberSet::new();
+        let numbers = numbers_right_under(self.indexed.tree(), &none, self.base);
         self.among(numbers)
     }
 
@@ -135,8 +132,17 @@ impl BoundSearch<'_> {
     fn subtree(&self) -> Result<SearchAnswer, AllocError>
         ensures { IfOk result (FindsWhere self.now (begins (rdns self.now.base.now))) }
     {
-        let numbers = numbers_within(self.indexed.tree(), self.base);
+        let none = NumberSet::new();
+        let numbers = numbers_within(self.indexed.tree(), &none, self.base);
         self.among(numbers)
+    }
+
+    /// The search of no entry.
+    fn nothing(&self) -> Result<SearchAnswer, AllocError>
+        ensures { IfOk result (FindsOf self.now []) }
+    {
+        let none = NumberSet::new();
+        self.among(&none)
     }
 
     /// The search of the entries in scope.
@@ -148,7 +154,7 @@ impl BoundSearch<'_> {
             Scope::BaseObject => self.entry(self.base),
             Scope::SingleLevel => self.level(),
             Scope::WholeSubtree => self.subtree(),
-            Scope::SubordinateSubtree => self.among(&[]),
+            Scope::SubordinateSubtree => self.nothing(),
         }
     }
 }

@@ -3,22 +3,22 @@ ghost use Rattle.std.specs.Prelude.{◌≡◌, Ok, Some, IfOk, string_bytes};
 ghost use Rattle.ldap_filter.specs.Item.{comparison, equal as equal_to};
 ghost use Rattle.ldap_filter.specs.Tree.{item};
 ghost use Rattle.ldap_filter.specs.View.{view as filter_view};
-ghost use Rattle.session_talk.specs.ldap_msg.View.{compare_view};
-ghost use Rattle.session_talk.specs.ldap_msg.ldap_requests.View.{ava_view};
+ghost use Rattle.dir_kept.specs.session_talk.ldap_msg.View.{compare_view};
+ghost use Rattle.dir_kept.specs.session_talk.ldap_msg.ldap_requests.View.{ava_view};
 ghost use Rattle.dir_kept.specs.dir_entry.Entry.{attributes_of, IsKeyedBy};
 ghost use Rattle.std.specs.List.{list_any};
 ghost use Rattle.dir_kept.specs.ldap_schema.Schema.{find, is_under};
-ghost use Rattle.session_talk.specs.View.{reply_view};
-ghost use Rattle.session_talk.specs.Answers.{only};
+ghost use Rattle.dir_kept.specs.session_talk.View.{reply_view};
+ghost use Rattle.dir_kept.specs.session_talk.Answers.{only};
 ghost use Rattle.dir_kept.specs.Replies.{entry_asked};
 ghost use Rattle.dir_search.specs.Compared.{code_of_truth, has_under as has_type_under, code_on_type, code_on, reply_on, compared};
 
 use dir_kept::{
-    Attribute, Entry, Name, NameError, Rdn, Reading, Reply, Schema, Truth, TypeId, is_of_syntax,
+    Attribute, AttributeValueAssertion, CompareRequest, Entry, Name, NameError, Rdn, Reading,
+    Reply, ResultCode, Schema, Truth, TypeId, is_of_syntax,
 };
 use ldap_eval::{bind, value};
 use ldap_filter::Filter;
-use session_talk::{AttributeValueAssertion, CompareRequest, ResultCode};
 use std::alloc::{AllocError, Global};
 
 /// The code of a truth.
@@ -108,6 +108,7 @@ fn compare_entry(
 }
 
 /// The reply of an assertion on the entry of a name.
+#[tactic(auto, using(crate::proofs::Compared::replied, crate::proofs::Compared::none_asked))]
 fn compare_at(
     alloc: Global,
     store: &Reading<'_>,
@@ -117,8 +118,8 @@ fn compare_at(
     ensures { IfOk result (λ r. reply_view r ≡ reply_on store.now.directory.schema (ava_view ava.now) (entry_asked store.now.directory name.now)) }
 {
     match store.find(name) {
-        Some((_, held)) => {
-            let code = compare_entry(alloc, store.schema(), ava, &held.entry)?;
+        Some((_, entry)) => {
+            let code = compare_entry(alloc, store.schema(), ava, entry)?;
             Ok(Reply::only(alloc, code))
         }
         None => store.not_found(alloc, name),

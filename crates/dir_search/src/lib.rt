@@ -4,6 +4,7 @@
 
 mod bound_search;
 mod comparing;
+mod names_at;
 mod reading;
 mod refusing;
 mod resolving;
@@ -15,10 +16,9 @@ mod showing;
 mod values;
 
 pub use comparing::compare;
-pub use dir_kept::{IndexError, Indexes, Name, NameError, Reading, Schema, are_same};
+pub use dir_kept::{
+    AddRequest, CompareRequest, DerefAliases, IndexError, Indexes, Name, NameError, Reading, Reply,
+    ResultCode, Schema, Scope, SearchAnswer, SearchRequest, are_same,
+};
 pub use reading::{compare_at, search_at};
 pub use searching::search;
-pub use session_talk::{
-    AddRequest, Attribute, CompareRequest, DerefAliases, Reply, ResultCode, Scope, SearchAnswer,
-    SearchRequest,
-};

@@ -1,16 +1,15 @@
 // Reads of one state of a directory, as whoever holds a store answers them. A directory, its number and a request flow in; the answer flows
 // out. What must not be here: updates, which state it is.
-ghost use Rattle.session_talk.specs.ldap_msg.View.{search_view, compare_view};
+ghost use Rattle.dir_kept.specs.session_talk.ldap_msg.View.{search_view, compare_view};
 ghost use Rattle.dir_search.specs.Answer.{answer};
 ghost use Rattle.dir_search.specs.Compared.{compared};
-ghost use Rattle.session_talk.specs.Reading.{IsReadAt};
-ghost use Rattle.session_talk.specs.Talk.{looked};
-ghost use Rattle.session_talk.specs.View.{reply_view, answer_view};
+ghost use Rattle.dir_kept.specs.session_talk.Reading.{IsReadAt};
+ghost use Rattle.dir_kept.specs.session_talk.Talk.{looked};
+ghost use Rattle.dir_kept.specs.session_talk.View.{reply_view, answer_view};
 
 use crate::comparing::compare;
 use crate::searching::search;
-use dir_kept::Reading;
-use session_talk::{CompareRequest, Found, LookError, Reply, SearchAnswer, SearchRequest};
+use dir_kept::{CompareRequest, Found, LookError, Reading, Reply, SearchAnswer, SearchRequest};
 use std::alloc::Global;
 
 /// A search of a directory that is at this number, no older than one that is named.

@@ -1,9 +1,9 @@
 // Searches with nothing to find. A reply flows in; the answer that says so flows out. What must not be here: which search that is.
-ghost use Rattle.session_talk.specs.View.{reply_view};
-ghost use Rattle.session_talk.specs.Answers.{refused as refused_answer};
+ghost use Rattle.dir_kept.specs.session_talk.View.{reply_view};
+ghost use Rattle.dir_kept.specs.session_talk.Answers.{refused as refused_answer};
 ghost use Rattle.dir_search.specs.View.{Finds};
 
-use session_talk::{Reply, SearchAnswer};
+use dir_kept::{Reply, SearchAnswer};
 use std::alloc::Global;
 
 /// No entries, and a reply that is not success.

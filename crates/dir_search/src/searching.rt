@@ -6,25 +6,27 @@ ghost use Rattle.ldap_filter.specs.Tree.{Tree as FilterTree};
 ghost use Rattle.dir_kept.specs.ldap_dn.Texts.{name_of_text};
 ghost use Rattle.ldap_eval.specs.Bound.{IsBoundTo};
 ghost use Rattle.ldap_eval.specs.Value.{filter_value};
-ghost use Rattle.session_talk.specs.ldap_msg.View.{search_view};
+ghost use Rattle.dir_kept.specs.session_talk.ldap_msg.View.{search_view};
 ghost use Rattle.dir_kept.specs.dir_entry.Entry.{attributes_of, IsKeyedBy};
-ghost use Rattle.session_talk.specs.Answers.{only};
+ghost use Rattle.dir_kept.specs.session_talk.Answers.{only};
 ghost use Rattle.dir_kept.specs.Stored.{directory, AreKeyedBy};
 ghost use Rattle.dir_search.specs.Answer.{answer, answer_of, answer_at, found_at, in_scope, tried, tried_of, tried_at, is_true, is_base, stands, is_empty};
-ghost use Rattle.session_talk.specs.Answers.{refused as refused_answer};
+ghost use Rattle.dir_kept.specs.session_talk.Answers.{refused as refused_answer};
 ghost use Rattle.dir_search.specs.Counted.{IsCountAtBase, IsCountFrom, IsCountOf};
 ghost use Rattle.dir_search.specs.Evaluated.{IsFewAtBase, LooksAtFew, goes_over};
 ghost use Rattle.dir_search.specs.View.{Finds};
-ghost use Rattle.session_talk.specs.View.{answer_view};
+ghost use Rattle.dir_kept.specs.session_talk.View.{answer_view};
 
 use crate::bound_search::BoundSearch;
 use crate::refusing::refused;
 use crate::root_dse::show_root;
 use crate::scoping::is_unnamed;
-use dir_kept::{Entry, IndexedTree, Name, NameError, Rdn, Reading, Schema, Truth};
+use dir_kept::{
+    Entry, IndexedTree, Name, NameError, Rdn, Reading, Reply, ResultCode, Schema, Scope,
+    SearchAnswer, SearchRequest, Truth,
+};
 use ldap_eval::{BoundFilter, bind, value};
 use search_plans::tests_are_items;
-use session_talk::{Reply, ResultCode, Scope, SearchAnswer, SearchRequest};
 use std::alloc::{AllocError, Global};
 
 /// Whether a filter is True on an entry of a name.
@@ -78,6 +80,7 @@ fn asks_for_root(scope: Scope, base: &[Rdn]) -> bool
 }
 
 /// Whether a base stands: the empty name, or an entry's.
+#[tactic(auto, using(crate::proofs::Compared::some_named))]
 fn is_standing(store: &Reading<'_>, base: &[Rdn]) -> bool
     ensures { result ≡ stands store.now.directory base.now }
 {

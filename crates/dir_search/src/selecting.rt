@@ -1,15 +1,19 @@
 //! What is shown of an entry: the selected attributes in its order, each by its type's first name, each octet copied once.
 //! A schema, a request and an entry flow in. Filters are not here.
-ghost use Rattle.std.specs.Prelude.{◌≡◌, map, IfOk};
-ghost use Rattle.session_talk.specs.ldap_msg.View.{attribute_view, entry_view};
+ghost use Rattle.std.specs.Prelude.{◌≡◌, map, string_bytes, IfOk};
+ghost use Rattle.dir_kept.specs.session_talk.ldap_msg.View.{attribute_view, entry_view};
 ghost use Rattle.dir_kept.specs.ldap_dn.Printed.{printed_name};
 ghost use Rattle.dir_kept.specs.dir_entry.Entry.{shown as without_keys, attributes_of};
+ghost use Rattle.dir_kept.specs.dir_tree.Directory.{entry_at};
+ghost use Rattle.dir_search.specs.Numbered.{name_of};
 ghost use Rattle.dir_search.specs.Resolved.{Resolves, selectors_of};
 ghost use Rattle.dir_search.specs.Selection.{is_selected, first_name, shown, attributes_selected};
 
 use crate::resolving::Selection;
-use dir_kept::{Attribute, NamedEntry, Schema, TypeId, copy_values};
-use session_talk::{PartialAttribute, SearchRequest, SearchResultEntry};
+use dir_kept::{
+    Attribute, Entry, PartialAttribute, Schema, SearchRequest, SearchResultEntry, Tree, TypeId,
+    copy_values, print_from_leaf,
+};
 use std::alloc::{AllocError, Global};
 
 /// The name that a type goes by.
@@ -85,15 +89,31 @@ impl Showing<'_> {
         Ok(shown)
     }
 
-    /// What is shown of an entry.
-    pub fn show_entry(&self, held: &NamedEntry) -> Result<SearchResultEntry, AllocError>
+    /// The printed name of a number's entry; the empty text, where there is none. No relative name is copied.
+    #[tactic(auto, using(crate::proofs::NamesAt::printed_some, crate::proofs::NamesAt::printed_none))]
+    fn print_name(&self, tree: &Tree, number: u64) -> Result<String, AllocError>
+        ensures { IfOk result (λ t. string_bytes t ≡ printed_name self.now.schema.now (name_of (entry_at number tree.now.entries))) }
+    {
+        match tree.rdns_from_leaf(self.alloc, number)? {
+            Some(rdns) => print_from_leaf(self.alloc, self.schema, rdns.as_slice()),
+            None => Ok(String::new(self.alloc)),
+        }
+    }
+
+    /// What is shown of the entry of a number, whose attributes are these.
+    pub fn show_entry(
+        &self,
+        tree: &Tree,
+        number: u64,
+        entry: &Entry,
+    ) -> Result<SearchResultEntry, AllocError>
         ensures { IfOk result (λ e. entry_view e ≡ record {
-          object_name = printed_name self.now.schema.now held.now.name;
-          attributes = attributes_selected self.now.schema.now (selectors_of self.now.request.now) self.now.request.now.types_only (attributes_of held.now.entry);
+          object_name = printed_name self.now.schema.now (name_of (entry_at number tree.now.entries));
+          attributes = attributes_selected self.now.schema.now (selectors_of self.now.request.now) self.now.request.now.types_only (attributes_of entry.now);
         }) }
     {
-        let attributes = self.show_all(held.entry.attributes())?;
-        let object_name = held.name.print(self.alloc, self.schema)?;
+        let attributes = self.show_all(entry.attributes())?;
+        let object_name = self.print_name(tree, number)?;
         Ok(SearchResultEntry {
             object_name,
             attributes,

@@ -2,21 +2,22 @@
 //! out. Which numbers are found is not told here.
 ghost use Rattle.std.specs.Prelude.{◌≡◌, ◌<◌, ◌++◌, ◌∷◌, [], map, IfOk, OnOk};
 ghost use Rattle.std.specs.Bool.{OnTrue, OnFalse};
-ghost use Rattle.session_talk.specs.ldap_msg.View.{entry_view};
+ghost use Rattle.dir_kept.specs.session_talk.ldap_msg.View.{entry_view};
 ghost use Rattle.dir_kept.specs.Stored.{named};
 ghost use Rattle.dir_search.specs.Looks.{AreHere};
 ghost use Rattle.dir_search.specs.Numbered.{entries_of};
 ghost use Rattle.dir_search.specs.Resolved.{selectors_of};
 ghost use Rattle.dir_search.specs.Selection.{selected};
 ghost use Rattle.dir_search.specs.View.{Shows};
-ghost use Rattle.session_talk.specs.View.{answer_view};
+ghost use Rattle.dir_kept.specs.session_talk.View.{answer_view};
 
 use crate::resolving::Selection;
 use crate::selecting::Showing;
 use crate::values::Evaluated;
-use dir_kept::{Postings, Schema, Tree};
+use dir_kept::{
+    IndexedTree, ResultCode, Schema, SearchAnswer, SearchRequest, SearchResultEntry, Tree,
+};
 use search_plans::Running;
-use session_talk::{ResultCode, SearchAnswer, SearchRequest, SearchResultEntry};
 use std::alloc::{AllocError, Global};
 
 /// Whether so many entries are all that the limit lets through; 0 is no limit.
@@ -47,6 +48,7 @@ fn ended(
 
 impl Showing<'_> {
     /// Adds what is shown of the entry of a number.
+    #[tactic(auto, using(crate::proofs::Numbers::shown_one, crate::proofs::Numbers::shown_none))]
     fn show_next(
         &self,
         tree: &Tree,
@@ -58,9 +60,9 @@ impl Showing<'_> {
             (map named (entries_of (number ∷ []) tree.now.entries))) }
     {
         match tree.entry(number) {
-            Some(held) => {
-                let entry = self.show_entry(held)?;
-                entries.push(entry)?;
+            Some(entry) => {
+                let shown = self.show_entry(tree, number, entry)?;
+                entries.push(shown)?;
                 Ok(())
             }
             None => Ok(()),
@@ -71,7 +73,7 @@ impl Showing<'_> {
     fn show_found(
         &self,
         tree: &Tree,
-        mut running: Running<'_, Postings, Evaluated<'_>>,
+        mut running: Running<'_, IndexedTree, Evaluated<'_>>,
     ) -> Result<SearchAnswer, AllocError>
         requires { AreHere tree.now.entries running.to_come }
         ensures { IfOk result (λ a. Shows a
@@ -98,7 +100,7 @@ pub fn show_found(
     schema: &Schema,
     tree: &Tree,
     request: &SearchRequest,
-    running: Running<'_, Postings, Evaluated<'_>>,
+    running: Running<'_, IndexedTree, Evaluated<'_>>,
 ) -> Result<SearchAnswer, AllocError>
     requires { AreHere tree.now.entries running.to_come }
     ensures { IfOk result (λ a. Shows a (selected schema.now (selectors_of request.now) request.now.types_only)

@@ -1,5 +1,6 @@
 //! The values of a filter on the entries of a tree, each asked for by its number. A tree and a bound filter flow in; values flow
 //! out, and each look is counted. Plans are not here.
+use crate::names_at::NameAt;
 use dir_kept::{Tree, Truth};
 use ldap_eval::{BoundFilter, value};
 use search_plans::Values;
@@ -30,10 +31,17 @@ impl Values for Evaluated<'_> {
 
     ghost looks = { λ v. v.looks };
 
+    #[tactic(auto, using(crate::proofs::NamesAt::value_some, crate::proofs::NamesAt::value_none))]
     fn value(&mut self, number: u64) -> Truth {
         self.looks += 1;
         match self.tree.entry(number) {
-            Some(held) => value(self.bound, &held.entry, &held.name),
+            Some(entry) => {
+                let name = NameAt {
+                    tree: self.tree,
+                    number,
+                };
+                value(self.bound, entry, &name)
+            }
             None => Truth::Undefined,
         }
     }

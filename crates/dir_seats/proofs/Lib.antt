@@ -1,3 +1,3 @@
 pub mod Begins
 pub mod Kept
-pub mod Shows
+pub mod Crossing

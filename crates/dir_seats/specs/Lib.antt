@@ -1,5 +1,6 @@
 pub mod Lists
 pub mod Rule
+pub mod Versions
 pub mod Showing
 pub mod Reads
 -- what layers above name of the crates below

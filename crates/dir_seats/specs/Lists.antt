@@ -1,8 +1,8 @@
 -- Lists of executed records, and beginnings of them. A directory that was executed flows in, with further records; what it then is, and whether
 -- one begins another, flows out. Who reads them is not here.
-use Rattle.std.specs.Prelude.{◌≡◌, List, [], ◌∷◌, ◌++◌, length, cond, nat_lt}
+use Rattle.std.specs.Prelude.{◌≡◌, List, [], ◌++◌, length, cond, nat_lt}
 use mathlib.Core.List.{IsPrefix}
-use Rattle.vr_state.specs.declared.words.Entry.{Entry}
+use Rattle.vr_state.specs.Words.{Entry}
 use Rattle.dir_executed.specs.dir_store.ldap_op.Values.{OpValue}
 use Rattle.dir_executed.specs.dir_store.ldap_schema.Schema.{SchemaModel}
 use Rattle.dir_executed.specs.dir_store.ldap_dn.Names.{RdnModel}
@@ -16,10 +16,6 @@ nothing_over schema indexes suffix = record { schema = schema; suffix = suffix; 
 -- what is executed with further records at the end, over the same schema, root and index choice
 abbrev pub with_records : ExecutedValue → List (Entry OpValue) → ExecutedValue
 with_records v es = record { schema = v.schema; suffix = v.suffix; indexes = v.indexes; records = v.records ++ es }
-
--- the same with one further record
-abbrev pub with_record : ExecutedValue → Entry OpValue → ExecutedValue
-with_record v e = with_records v (e ∷ [])
 
 -- The records of one are a beginning of the other's, over the same schema, root and index choice.
 pub record IsBeginning (a b : ExecutedValue) : Type 0 where

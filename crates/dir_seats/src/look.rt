@@ -1,6 +1,6 @@
-//! Looks: the one step of a reader, and what is read in it. A reader and a question flow in; the answer of what is published at that step flows
-//! out, with the reader. Floors are kept above.
-ghost use Rattle.std.specs.Prelude.{◌≡◌, length, IfSome, IfNone};
+//! Looks: the one step of a reader, which shares what is published then, and what is read of it afterwards: a look holds up no publication, whatever
+//! it costs. Floors are kept above.
+ghost use Rattle.std.specs.Prelude.{◌≡◌, ◌<◌, ◌≤◌, length, IfSome, IfNone};
 ghost use Rattle.session_talk.specs.ldap_msg.View.{search_view, compare_view};
 ghost use Rattle.session_talk.specs.View.{reply_view};
 ghost use Rattle.dir_search.specs.Answer.{answer};
@@ -8,6 +8,7 @@ ghost use Rattle.dir_search.specs.Compared.{compared};
 ghost use Rattle.session_talk.specs.View.{answer_view};
 ghost use Rattle.session_talk.specs.Reading.{IsReadAt};
 ghost use Rattle.session_talk.specs.Talk.{looked};
+ghost use Rattle.session_talk.specs.declared.outcomes.LookError.TheVariants as look_error;
 ghost use Rattle.dir_executed.specs.Executing.{directory_at};
 ghost use Rattle.left_right.specs.Sides.{view};
 ghost use Rattle.dir_seats.specs.Rule.{Reaches};
@@ -26,29 +27,57 @@ pub struct Seen<A> {
     pub read: Result<Found<A>, LookError>,
 }
 
+/// Why nothing was read of a list of so many records that found no second owner.
+fn unread(at: u64, named: u64) -> LookError
+    ensures early { at < named → result ≡ look_error.NotYet at }
+    ensures no_memory { named ≤ at → result ≡ look_error.NoMemory }
+{
+    if at < named {
+        LookError::NotYet { at }
+    } else {
+        LookError::NoMemory
+    }
+}
+
 /// A search of what is shown.
 fn search_shown(
     alloc: Global,
     shown: &Shown,
     named: u64,
     request: &SearchRequest,
-) -> Seen<SearchAnswer>
-    ensures at { result.at ≡ length shown.now.records }
-    ensures read { IsReadAt (length shown.now.records) named (answer (directory_at shown.now) (search_view request.now)) (looked answer_view result.read) }
+) -> Result<Found<SearchAnswer>, LookError>
+    ensures { IsReadAt (length shown.now.records) named (answer (directory_at shown.now) (search_view request.now)) (looked answer_view result) }
 {
-    let at = shown.len() as u64;
-    let read = search_at(alloc, &shown.store().reading(), at, named, request);
-    Seen { at, read }
+    let at = shown.count();
+    search_at(alloc, &shown.store().reading(), at, named, request)
 }
 
 /// A compare in what is shown.
-fn compare_shown(alloc: Global, shown: &Shown, named: u64, request: &CompareRequest) -> Seen<Reply>
-    ensures at { result.at ≡ length shown.now.records }
-    ensures read { IsReadAt (length shown.now.records) named (compared (directory_at shown.now) (compare_view request.now)) (looked reply_view result.read) }
+fn compare_shown(
+    alloc: Global,
+    shown: &Shown,
+    named: u64,
+    request: &CompareRequest,
+) -> Result<Found<Reply>, LookError>
+    ensures { IsReadAt (length shown.now.records) named (compared (directory_at shown.now) (compare_view request.now)) (looked reply_view result) }
 {
-    let at = shown.len() as u64;
-    let read = compare_at(alloc, &shown.store().reading(), at, named, request);
-    Seen { at, read }
+    let at = shown.count();
+    compare_at(alloc, &shown.store().reading(), at, named, request)
+}
+
+/// A reader that knows what is published then, and how many records that has; none, where the publisher is gone.
+pub fn look(reader: ShownReader) -> Option<(ShownReader, u64)>
+    ensures floor { IfSome result (λ seen. Reaches (view reader.place) (view seen.0.place).1) }
+    ensures known { IfSome result (λ seen. (view seen.0.place).0 ≡ true) }
+    ensures at { IfSome result (λ seen. seen.1 ≡ length (view seen.0.place).1.records) }
+{
+    match reader.enter_as::<Sight>() {
+        Ok(reading) => {
+            let at = reading.get().count();
+            Some((reading.leave(), at))
+        }
+        Err(_) => None,
+    }
 }
 
 /// A search of what is then published; none, where the publisher is gone.
@@ -67,8 +96,14 @@ pub fn look_search(
 {
     match reader.enter_as::<Sight>() {
         Ok(reading) => {
-            let seen = search_shown(alloc, reading.get(), named, request);
-            (reading.leave(), Some(seen))
+            let at = reading.get().count();
+            let shown = reading.get().share();
+            let reader = reading.leave();
+            let read = match shown {
+                Ok(shown) => search_shown(alloc, &shown, named, request),
+                Err(_) => Err(unread(at, named)),
+            };
+            (reader, Some(Seen { at, read }))
         }
         Err(reader) => (reader, None),
     }
@@ -90,8 +125,14 @@ pub fn look_compare(
 {
     match reader.enter_as::<Sight>() {
         Ok(reading) => {
-            let seen = compare_shown(alloc, reading.get(), named, request);
-            (reading.leave(), Some(seen))
+            let at = reading.get().count();
+            let shown = reading.get().share();
+            let reader = reading.leave();
+            let read = match shown {
+                Ok(shown) => compare_shown(alloc, &shown, named, request),
+                Err(_) => Err(unread(at, named)),
+            };
+            (reader, Some(Seen { at, read }))
         }
         Err(reader) => (reader, None),
     }

@@ -1,5 +1,4 @@
-//! A publisher and its seats at the start of a node. A schema, an index choice and the name of the root flow in; a publisher of a directory without
-//! entries, and seats that know it, flow out. Records are not here.
+//! Makes a publisher and its seats at the start of a node, over a directory without entries. Records are not here.
 ghost use Rattle.std.specs.Prelude.{◌≡◌, ◌<◌, ◌≤◌, [], drop as without_first, true, length, IfOk, All};
 ghost use Rattle.std.specs.Arc.{arc_value};
 ghost use Rattle.left_right.specs.Sides.{view};
@@ -10,7 +9,7 @@ use crate::rule::ShownWriter;
 use crate::seat::Seat;
 use crate::shown::Shown;
 use crate::steps::show;
-use dir_executed::{Indexes, Name, Schema, Store};
+use dir_executed::{Executed, Indexes, Name, Schema, Store};
 use left_right::writer::Writer;
 use std::alloc::{AllocError, Global};
 use std::sync::{Arc, Wait};
@@ -26,10 +25,10 @@ fn shown_over(
 {
     let schema = Arc::try_clone(schema)?;
     let store = Store::new(alloc, schema, indexes.copy(alloc)?, suffix.copy(alloc)?);
-    Ok(Shown::new(alloc, store))
+    Shown::of(alloc, &Executed::new(alloc, store))
 }
 
-/// A writer of two values that are alike, with places for so many readers. It knows nothing yet.
+/// A writer of one version and its second owner, with places for so many readers. It knows nothing yet.
 fn new_writer(
     alloc: Global,
     schema: &Arc<Schema>,
@@ -42,7 +41,7 @@ fn new_writer(
     ensures waiting { IfOk result (λ w. without_first w.behind w.log.items ≡ []) }
 {
     let first = shown_over(alloc, schema, indexes, suffix)?;
-    let second = shown_over(alloc, schema, indexes, suffix)?;
+    let second = first.share()?;
     Writer::new(alloc, first, second, places)
 }
 
@@ -63,7 +62,7 @@ fn new_publisher<N, R: Wait + Drop>(
     let writer = new_writer(alloc, schema, indexes, suffix, places)?;
     let (writer, shown) = show(writer, &rt);
     match shown {
-        Ok(()) => Ok(Publisher::of_writer(writer, rt)),
+        Ok(()) => Ok(Publisher::of_writer(alloc, writer, rt)),
         Err(error) => {
             drop(writer.take(&rt));
             Err(error)

@@ -1,12 +1,11 @@
-//! The rule over what is published, and what its steps tell. Nothing flows in; types that clauses name flow out. Code is not here.
+//! The rule over what is published, and what its steps tell: types that clauses name. Code is not here.
 ghost use Rattle.dir_seats.specs.Rule.{Keeps, Sees, newcomer};
 
-use crate::given::Given;
 use crate::shown::Shown;
 use atomic_table::{Join, Split};
 use crossbeam_utils::rule::{Outcome, Protocol};
 use dir_executed::Executed;
-use left_right::reader::Reader;
+use left_right::reader::{Factory, Reader};
 use left_right::writer::Writer;
 
 /// Whether a reader knows anything, and the longest that it saw or was told of. No value of it is made.
@@ -46,6 +45,8 @@ impl Join<Floor> for Learned {
     ghost spent = { newcomer };
 }
 
+pub(crate) type ShownFactory = Factory<Shown, Floor, Published>;
+
 pub(crate) type ShownReader = Reader<Shown, Floor, Published>;
 
-pub(crate) type ShownWriter = Writer<Shown, Given, Floor, Published>;
+pub(crate) type ShownWriter = Writer<Shown, Shown, Floor, Published>;

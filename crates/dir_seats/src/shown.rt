@@ -1,64 +1,115 @@
-//! The published value: executed records and the directory after them. Records flow in, one after the other; the directory flows out. Who reads it
-//! is not here.
-ghost use Rattle.std.specs.Prelude.{◌≡◌, ◌++◌, ◌∷◌, [], length, OnOk, OnErr};
+//! The published value: one version of the directory, which has as many owners as it is shared with, and how many records made it. Who reads it, and
+//! the records themselves, are not here.
+ghost use Rattle.std.specs.Prelude.{◌≡◌, length, IfOk};
 ghost use Rattle.dir_executed.specs.Executing.{directory_at};
-ghost use Rattle.dir_seats.specs.Lists.{with_record};
 
-use crate::given::Given;
-use dir_executed::{Executed, Op, Store};
+use dir_executed::{Executed, Store};
 use left_right::Absorb;
 use std::alloc::{AllocError, Global};
 use std::marker::Model;
-use vr_state::words::Entry;
+use std::snapshot::Snapshot;
+use std::sync::Arc;
 
-/// Executed records and the directory after them. Records share their payloads with whoever else has them.
-pub struct Shown {
-    alloc: Global,
-    records: Vec<Entry<Op>>,
+/// A directory, and how many records made it. Contracts see what was executed.
+struct Version {
     store: Store,
+    count: u64,
+    executed: Snapshot<Executed>,
+}
+
+// Not derived: see "What the gate takes" in docs/ARCHITECTURE.md.
+impl Drop for Version {
+    fn drop(self) {
+        let Version {
+            store: _,
+            count: _,
+            executed: _,
+        } = self;
+    }
+}
+
+impl Model for Version {
+    ghost use Rattle.dir_executed.specs.Executing.{ExecutedValue};
+    ghost use Rattle.dir_seats.specs.Versions.{IsAfter};
+
+    ghost Value = { ExecutedValue };
+
+    ghost view = { λ v. v.executed.value };
+
+    ghost invariant = { λ v. IsAfter v.store v.count v.executed.value };
+}
+
+impl Version {
+    /// What was executed; its directory gets a second owner.
+    fn of(executed: &Executed) -> Result<Version, AllocError>
+        ensures { IfOk result (λ v. v ≡ executed.now) }
+    {
+        let store = executed.store().share()?;
+        let count = executed.len() as u64;
+        Ok(Version {
+            store,
+            count,
+            executed: Snapshot::of(executed),
+        })
+    }
+
+    fn count(&self) -> u64
+        ensures { result ≡ length self.now.records }
+    {
+        self.count
+    }
+
+    fn store(&self) -> &Store
+        ensures directory { result.now.directory ≡ directory_at self.now }
+        ensures indexes { result.now.indexes ≡ self.now.indexes }
+    {
+        &self.store
+    }
+}
+
+/// An owner of one version of the directory.
+pub struct Shown {
+    version: Arc<Version>,
 }
 
 // Not derived: see "What the gate takes" in docs/ARCHITECTURE.md.
 impl Drop for Shown {
     fn drop(self) {
-        let Shown {
-            alloc: _,
-            records: _,
-            store: _,
-        } = self;
+        let Shown { version: _ } = self;
     }
 }
 
 impl Model for Shown {
-    ghost use Rattle.dir_executed.specs.Executing.{ExecutedValue, IsFold, ops_of};
-    ghost use Rattle.dir_executed.specs.dir_store.Updates.{replies_of};
+    ghost use Rattle.dir_executed.specs.Executing.{ExecutedValue};
+    ghost use Rattle.std.specs.Arc.{arc_value};
 
     ghost Value = { ExecutedValue };
 
-    ghost view = { λ s. record { schema = s.store.directory.schema; suffix = s.store.directory.suffix; indexes = s.store.indexes; records = s.records.items } };
-
-    ghost invariant = { λ s. IsFold s.store.directory.schema s.store.directory.suffix s.records.items s.store.directory
-        (replies_of s.store.directory.schema s.store.directory.suffix (ops_of s.records.items)) };
+    ghost view = { λ s. arc_value s.version };
 }
 
 impl Shown {
-    /// Nothing yet, over a directory without entries. It takes no memory.
-    pub fn new(alloc: Global, store: Store) -> Shown
-        requires empty { store.directory.entries ≡ [] }
-        ensures { result ≡ record { schema = store.directory.schema; suffix = store.directory.suffix; indexes = store.indexes; records = [] } }
+    /// What was executed. No record is copied, and no entry.
+    pub fn of(alloc: Global, executed: &Executed) -> Result<Shown, AllocError>
+        ensures { IfOk result (λ shown. shown ≡ executed.now) }
     {
-        Shown {
-            alloc,
-            records: Vec::new(alloc),
-            store,
-        }
+        let version = Arc::new(alloc, Version::of(executed)?)?;
+        Ok(Shown { version })
+    }
+
+    /// A second owner. It takes no memory; the only error is that there are too many.
+    pub fn share(&self) -> Result<Shown, AllocError>
+        ensures { IfOk result (λ shown. shown ≡ self.now) }
+    {
+        let version = Arc::try_clone(&self.version)?;
+        Ok(Shown { version })
     }
 
     /// How many records.
-    pub fn len(&self) -> usize
+    pub fn count(&self) -> u64
         ensures { result ≡ length self.now.records }
     {
-        self.records.len()
+        self.version.count()
     }
 
     /// The directory after them.
@@ -66,39 +117,25 @@ impl Shown {
         ensures directory { result.now.directory ≡ directory_at self.now }
         ensures indexes { result.now.indexes ≡ self.now.indexes }
     {
-        &self.store
-    }
-
-    /// Executes one more record, and shares with another what its update makes, where that has the same. The room is made first, the update comes
-    /// after, and what then is left can't be refused: at an error, which is want of memory, nothing has changed.
-    fn next(&mut self, given: &Given, other: &Shown) -> Result<(), AllocError>
-        ensures records { OnOk result (self.new.records ≡ self.old.records ++ given.now ∷ []) }
-        ensures schema { OnOk result (self.new.schema ≡ self.old.schema) }
-        ensures suffix { OnOk result (self.new.suffix ≡ self.old.suffix) }
-        ensures indexes { OnOk result (self.new.indexes ≡ self.old.indexes) }
-        ensures err { OnErr result (self.new ≡ self.old) }
-    {
-        let entry = given.entry();
-        let kept = entry.copy(self.alloc)?;
-        self.records.reserve(1)?;
-        let number = self.records.len() as u64 + 1;
-        let beside = given.beside(other.store());
-        self.store
-            .apply_beside(self.alloc, number, &entry.payload, beside)?;
-        self.records.push_reserved(kept);
-        Ok(())
+        self.version.store()
     }
 }
 
-impl Absorb<Given> for Shown {
-    // The records and what they are executed over; no value of it is made.
+impl Absorb<Shown> for Shown {
+    // What was executed; no value of it is made.
     type State = Executed;
 
     ghost state = { λ shown. shown };
 
-    ghost applied = { with_record };
+    ghost applied = { λ _ next. next };
 
-    fn absorb_first(&mut self, operation: &Given, other: &Shown) -> Result<(), AllocError> {
-        self.next(operation, other)
+    fn absorb_first(&mut self, operation: &Shown, _other: &Shown) -> Result<(), AllocError> {
+        *self = operation.share()?;
+        Ok(())
+    }
+
+    fn absorb_second(&mut self, operation: Shown, _other: &Shown) -> Result<(), Shown> {
+        *self = operation;
+        Ok(())
     }
 }

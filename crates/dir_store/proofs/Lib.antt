@@ -4,3 +4,5 @@ pub mod Below
 pub mod Joins
 pub mod Placed
 pub mod Rises
+pub mod Spelled
+pub mod Crossing

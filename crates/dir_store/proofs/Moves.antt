@@ -3,7 +3,7 @@ use Rattle.std.proofs.Common.{◌≡◌, ◌-◌, ℕ, suc, List, [], ◌∷◌,
 use Rattle.std.specs.Option.{option_map}
 use Rattle.dir_kept.specs.ldap_dn.Names.{TypeAndKey, RdnModel, rdns, are_same_keys}
 use Rattle.dir_kept.specs.dir_tree.Directory.{NameKey, Entered, name_eq, begins, find, above, has_footing, NumbersRise, IsDirectory}
-use Rattle.dir_kept.proofs.Found.{found_at, found_name, names_same, placed_same, rdns_take, length_rdns}
+use Rattle.dir_kept.proofs.Lookups.{found_at, found_name, names_same, placed_same, rdns_take, length_rdns}
 use Rattle.dir_kept.proofs.Shown.{entry_shown}
 use Rattle.dir_kept.specs.Places.{entry_named, parent_of, last_of}
 use Rattle.dir_kept.specs.Stored.{named}
@@ -16,7 +16,7 @@ above_of a = rdns_take (length a - 1) a ∙ ap (λ (k : ℕ). take (k - 1) (rdns
 one_less : (n : ℕ) → suc n - 1 ≡ n
 one_less n = omega arith
 
-without_last : (a : List RdnModel) (x : RdnModel) → parent_of (a ++ x ∷ []) ≡ a
+pub without_last : (a : List RdnModel) (x : RdnModel) → parent_of (a ++ x ∷ []) ≡ a
 without_last a x = ap (λ (k : ℕ). take (k - 1) (a ++ x ∷ [])) (grows a) ∙ ap (λ (k : ℕ). take k (a ++ x ∷ [])) (one_less (length a)) ∙ front a
   where
     grows : (b : List RdnModel) → length (b ++ x ∷ []) ≡ suc (length b)

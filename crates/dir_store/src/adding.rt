@@ -6,6 +6,7 @@ ghost use Rattle.entry_updates.specs.ldap_op.ldap_parts.View.{attribute_view};
 ghost use Rattle.entry_updates.specs.ldap_updates.View.{add_view};
 ghost use Rattle.dir_kept.specs.dir_entry.Entry.{IsKeyedBy};
 ghost use Rattle.dir_kept.specs.dir_tree.Directory.{find, has_footing};
+ghost use Rattle.dir_kept.specs.dir_tree.Placed.{name_placed};
 ghost use Rattle.dir_kept.specs.Places.{last_of};
 ghost use Rattle.dir_kept.specs.Stored.{directory, AreKeyedBy};
 ghost use Rattle.dir_store.specs.Updates.{place_under, place_asked, addition_of, addition_at as addition_that_stands, addition as addition_that_is_asked};
@@ -14,7 +15,7 @@ ghost use Rattle.dir_store.specs.View.{placed_view, RefusedWith};
 use crate::fault::{StoreError, refused_attributes};
 use crate::finding::asked_entry;
 use crate::names::{asked_name, own_rdn, parent_of_name};
-use dir_kept::{Entry, Name, Rdn, Reply, Schema, Tree, TypeAndValue, is_same, is_taken};
+use dir_kept::{Entry, Name, Rdn, Reply, Schema, Standing, Tree, TypeAndValue, is_same, is_taken};
 use entry_updates::{AddRequest, PartialAttribute, ResultCode, entry_asked};
 use std::alloc::{AllocError, Global};
 
@@ -26,10 +27,10 @@ pub struct Placed {
 }
 
 /// A name behind its superior's name as that is spelled.
-fn behind(alloc: Global, above: &Name, name: &[Rdn]) -> Result<Name, AllocError>
-    ensures { IfOk result (λ n. n ≡ above.now ++ last_of name.now) }
+fn behind(alloc: Global, above: Name, name: &[Rdn]) -> Result<Name, AllocError>
+    ensures { IfOk result (λ n. n ≡ above ++ last_of name.now) }
 {
-    let mut rdns = above.copy(alloc)?.into_rdns();
+    let mut rdns = above.into_rdns();
     if let Some(last) = name.last() {
         rdns.push(last.copy(alloc)?)?;
     }
@@ -37,7 +38,7 @@ fn behind(alloc: Global, above: &Name, name: &[Rdn]) -> Result<Name, AllocError>
 }
 
 /// The name of a new entry behind its superior's as that is spelled; 32 where it has no superior.
-#[tactic(auto, using(crate::proofs::Moves::place_whole, crate::proofs::Moves::footing_above))]
+#[tactic(auto, using(crate::proofs::Moves::place_whole, crate::proofs::Moves::footing_above, crate::proofs::Spelled::placed_behind))]
 fn place_below(
     alloc: Global,
     schema: &Schema,
@@ -47,20 +48,27 @@ fn place_below(
     requires keyed { AreKeyedBy schema.now tree.now.entries }
     ensures ok { IfOk result (λ n. place_under (directory schema.now tree.now) name.now ≡ Ok n) }
     ensures same { IfOk result (λ n. rdns n ≡ rdns name.now) }
+    ensures placed { IfOk result (λ n. name_placed (rdns tree.now.suffix) n tree.now.entries ≡ n) }
     ensures footing { OnOk result (has_footing (rdns tree.now.suffix) (rdns name.now) tree.now.entries ≡ true) }
     ensures refused { IfErr result (λ e. RefusedWith e (place_under (directory schema.now tree.now) name.now)) }
 {
+    tree.is_placed_as_spelled();
     let (_, held) = asked_entry(alloc, schema, tree, parent_of_name(name))?;
-    let whole = behind(alloc, &held.name, name)?;
+    let Standing {
+        name: above,
+        entry: _,
+    } = held;
+    let whole = behind(alloc, above, name)?;
     Ok(whole)
 }
 
 /// The whole name of a new entry; 32 where it has no superior.
-#[tactic(auto, using(crate::proofs::Moves::footing_root))]
+#[tactic(auto, using(crate::proofs::Moves::footing_root, crate::proofs::Spelled::placed_root))]
 fn asked_place(alloc: Global, schema: &Schema, tree: &Tree, name: &Name) -> Result<Name, StoreError>
     requires keyed { AreKeyedBy schema.now tree.now.entries }
     ensures ok { IfOk result (λ n. place_asked (directory schema.now tree.now) name.now ≡ Ok n) }
     ensures same { IfOk result (λ n. rdns n ≡ rdns name.now) }
+    ensures placed { IfOk result (λ n. name_placed (rdns tree.now.suffix) n tree.now.entries ≡ n) }
     ensures footing { OnOk result (has_footing (rdns tree.now.suffix) (rdns name.now) tree.now.entries ≡ true) }
     ensures refused { IfErr result (λ e. RefusedWith e (place_asked (directory schema.now tree.now) name.now)) }
 {
@@ -102,6 +110,7 @@ fn addition_at(
     requires keyed { AreKeyedBy schema.now tree.now.entries }
     ensures ok { IfOk result (λ p. addition_that_stands (directory schema.now tree.now) (map attribute_view given.now) name.now ≡ Ok (placed_view p)) }
     ensures absent { IfOk result (λ p. is_some (find (rdns p.name) tree.now.entries) ≡ false) }
+    ensures placed { IfOk result (λ p. name_placed (rdns tree.now.suffix) p.name tree.now.entries ≡ p.name) }
     ensures footing { IfOk result (λ p. has_footing (rdns tree.now.suffix) (rdns p.name) tree.now.entries ≡ true) }
     ensures keyed { IfOk result (λ p. IsKeyedBy schema.now p.entry) }
     ensures refused { IfErr result (λ e. RefusedWith e (addition_that_stands (directory schema.now tree.now) (map attribute_view given.now) name.now)) }
@@ -123,6 +132,7 @@ pub fn addition(
     requires keyed { AreKeyedBy schema.now tree.now.entries }
     ensures ok { IfOk result (λ p. addition_that_is_asked (directory schema.now tree.now) (add_view request.now) ≡ Ok (placed_view p)) }
     ensures absent { IfOk result (λ p. is_some (find (rdns p.name) tree.now.entries) ≡ false) }
+    ensures placed { IfOk result (λ p. name_placed (rdns tree.now.suffix) p.name tree.now.entries ≡ p.name) }
     ensures footing { IfOk result (λ p. has_footing (rdns tree.now.suffix) (rdns p.name) tree.now.entries ≡ true) }
     ensures keyed { IfOk result (λ p. IsKeyedBy schema.now p.entry) }
     ensures refused { IfErr result (λ e. RefusedWith e (addition_that_is_asked (directory schema.now tree.now) (add_view request.now))) }

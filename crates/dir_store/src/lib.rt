@@ -15,6 +15,6 @@ mod store;
 
 pub use dir_kept::{Indexes, Name, Reading, Reply, Schema, SharedEntry, Tree};
 pub use entry_updates::{Op, Update};
-pub use laws::{entries_rise, updates_join};
+pub use laws::{entries_rise, replies_are_placed, updates_join};
 pub use sharing::Beside;
 pub use store::Store;

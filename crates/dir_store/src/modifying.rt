@@ -3,15 +3,14 @@
 ghost use Rattle.std.specs.Prelude.{◌≡◌, Ok, IfOk, IfErr, map};
 ghost use Rattle.entry_updates.specs.ldap_updates.View.{change_view, modify_view};
 ghost use Rattle.dir_kept.specs.dir_entry.Entry.{IsKeyedBy};
-ghost use Rattle.dir_kept.specs.dir_tree.Stored.{entered_of};
-ghost use Rattle.dir_kept.specs.Stored.{named, directory, AreKeyedBy};
+ghost use Rattle.dir_kept.specs.Stored.{entered_of, named, directory, AreKeyedBy};
 ghost use Rattle.dir_store.specs.Updates.{change_of, change_asked};
 ghost use Rattle.dir_store.specs.View.{kept_view, RefusedWith};
 
 use crate::fault::{StoreError, refused_attributes};
 use crate::finding::asked_entry;
 use crate::names::{asked_name, own_rdn};
-use dir_kept::{Entry, NamedEntry, Schema, Tree};
+use dir_kept::{Entry, Schema, Standing, Tree};
 use entry_updates::{Change, ModifyRequest, entry_changed};
 use std::alloc::Global;
 
@@ -28,9 +27,9 @@ fn change(
     schema: &Schema,
     changes: &[Change],
     number: u64,
-    held: &NamedEntry,
+    held: &Standing<'_>,
 ) -> Result<Kept, StoreError>
-    requires keyed { IsKeyedBy schema.now held.now.entry }
+    requires keyed { IsKeyedBy schema.now held.now.entry.now }
     ensures ok { IfOk result (λ k. change_of schema.now (map change_view changes.now) (named (entered_of number held.now)) ≡ Ok (kept_view k)) }
     ensures keyed { IfOk result (λ k. IsKeyedBy schema.now k.entry) }
     ensures refused { IfErr result (λ e. RefusedWith e (change_of schema.now (map change_view changes.now) (named (entered_of number held.now)))) }
@@ -40,7 +39,7 @@ fn change(
         schema,
         own_rdn(held.name.rdns()),
         changes,
-        &held.entry,
+        held.entry,
     ) {
         Ok(entry) => Ok(Kept { number, entry }),
         Err(error) => Err(refused_attributes(alloc, error)),
@@ -61,5 +60,5 @@ pub fn asked_change(
 {
     let name = asked_name(alloc, schema, &request.object)?;
     let (number, held) = asked_entry(alloc, schema, tree, name.rdns())?;
-    change(alloc, schema, request.changes.as_slice(), number, held)
+    change(alloc, schema, request.changes.as_slice(), number, &held)
 }

@@ -1,10 +1,12 @@
 //! What a modifyDN asks for. A schema, a tree and a request flow in; the entry under its new name, or a refusal, flows out. The tree stays
 //! as it is.
-ghost use Rattle.std.specs.Prelude.{◌≡◌, ◌++◌, ◌∷◌, [], true, false, Ok, IfOk, IfErr, OnOk, is_some, map};
+ghost use Rattle.std.specs.Prelude.{◌≡◌, ◌++◌, ◌∷◌, [], true, false, Ok, Some, IfOk, IfErr, OnOk, is_some, map};
+ghost use Rattle.std.specs.Option.{option_map};
 ghost use Rattle.dir_kept.specs.ldap_dn.Names.{rdns};
 ghost use Rattle.entry_updates.specs.ldap_updates.View.{modify_dn_view};
 ghost use Rattle.dir_kept.specs.dir_entry.Entry.{IsKeyedBy};
 ghost use Rattle.dir_kept.specs.dir_tree.Directory.{find, name_eq, begins};
+ghost use Rattle.dir_kept.specs.dir_tree.Placed.{name_placed};
 ghost use Rattle.dir_kept.specs.Places.{parent_of, entry_named};
 ghost use Rattle.dir_kept.specs.Stored.{named, directory, AreKeyedBy};
 ghost use Rattle.dir_store.specs.Updates.{is_at_or_below as is_name_at_or_below, is_misplaced as is_move_misplaced, superior_of, is_other_than, moved_entry, move_names, move_to, move_under, move_asked as move_that_is_asked};
@@ -14,7 +16,7 @@ ghost use Rattle.dir_store.specs.View.{names_view, moved_view, RefusedWith};
 use crate::fault::{StoreError, refused_attributes};
 use crate::finding::asked_entry;
 use crate::names::{asked_name, asked_rdn, asked_superior, own_rdn};
-use dir_kept::{Entry, Name, NamedEntry, Rdn, Reply, Schema, Tree, is_front, is_same};
+use dir_kept::{Entry, Name, Rdn, Reply, Schema, Standing, Tree, is_front, is_same};
 use entry_updates::{ModifyDnRequest, ResultCode, entry_renamed};
 use std::alloc::{AllocError, Global};
 use std::marker::Model;
@@ -105,12 +107,12 @@ struct Move<'a> {
     tree: &'a Tree,
     delete_old: bool,
     number: u64,
-    held: &'a NamedEntry,
+    held: &'a Standing<'a>,
     rdn: &'a Rdn,
 }
 
 impl<'a> Model for Move<'a> {
-    ghost use Rattle.dir_kept.specs.dir_tree.Stored.{entered_of};
+    ghost use Rattle.dir_kept.specs.Stored.{entered_of};
     ghost use Rattle.dir_kept.specs.Moving.{MoveAsked, IsOfTree};
 
     ghost Value = { MoveAsked };
@@ -122,21 +124,24 @@ impl<'a> Model for Move<'a> {
 
 impl Move<'_> {
     /// The name of the superior as it is spelled: the new one's, 32 where it is no entry's, or the present one's.
-    #[tactic(auto, using(crate::proofs::Moves::stands_above, crate::proofs::Moves::above_of))]
+    #[tactic(auto, using(crate::proofs::Moves::stands_above, crate::proofs::Moves::above_of, crate::proofs::Spelled::parent_spelled))]
     fn superior_name(&self, above: &Option<Name>) -> Result<Name, StoreError>
         requires root { name_eq (rdns self.now.entry.name) (rdns self.now.tree.suffix) ≡ false }
         requires outside { is_name_at_or_below self.now.entry.name above.now ≡ false }
         ensures ok { IfOk result (λ n. superior_of (directory self.now.schema self.now.tree) self.now.entry.name above.now ≡ Ok n) }
         ensures stands { IfOk result (λ n. is_some (find (rdns n) self.now.tree.entries) ≡ true) }
+        ensures spelled { IfOk result (λ n. option_map (λ e. e.name) (find (rdns n) self.now.tree.entries) ≡ Some n) }
         ensures apart { IfOk result (λ n. begins (rdns self.now.entry.name) (rdns n) ≡ false) }
         ensures refused { IfErr result (λ e. RefusedWith e (superior_of (directory self.now.schema self.now.tree) self.now.entry.name above.now)) }
     {
         self.tree.is_directory();
+        self.tree.is_spelled();
         match above {
             None => Ok(parent(self.alloc, &self.held.name)?),
             Some(above) => {
                 let (_, held) = asked_entry(self.alloc, self.schema, self.tree, above.rdns())?;
-                Ok(held.name.copy(self.alloc)?)
+                let Standing { name, entry: _ } = held;
+                Ok(name)
             }
         }
     }
@@ -156,7 +161,7 @@ impl Move<'_> {
             own_rdn(self.held.name.rdns()),
             self.rdn.types_and_values(),
             self.delete_old,
-            &self.held.entry,
+            self.held.entry,
         ) {
             Ok(entry) => Ok(Moved {
                 number: self.number,
@@ -188,14 +193,16 @@ impl Move<'_> {
     }
 
     /// The entry under its new name: 53, 32 of the new superior, 68, then what its attributes are refused for.
-    #[tactic(auto, using(crate::proofs::Moves::free_of, crate::proofs::Moves::above_last))]
+    #[tactic(auto, using(crate::proofs::Moves::free_of, crate::proofs::Moves::above_last, crate::proofs::Spelled::spelled_placed))]
     fn moved(&self, above: &Option<Name>) -> Result<Moved, StoreError>
         ensures ok { IfOk result (λ m. move_under (directory self.now.schema self.now.tree) self.now.delete_old (named self.now.entry) self.now.rdn above.now ≡ Ok (moved_view m)) }
         ensures keyed { IfOk result (λ m. IsKeyedBy self.now.schema m.entry) }
         ensures may { IfOk result (λ m. MayMove self.now.tree m.number (rdns m.before) (rdns m.after)) }
+        ensures placed { IfOk result (λ m. name_placed (rdns self.now.tree.suffix) m.after self.now.tree.entries ≡ m.after) }
         ensures refused { IfErr result (λ e. RefusedWith e (move_under (directory self.now.schema self.now.tree) self.now.delete_old (named self.now.entry) self.now.rdn above.now)) }
     {
         self.tree.is_directory();
+        self.tree.is_placed_as_spelled();
         if is_misplaced(self.tree.suffix().rdns(), self.held.name.rdns(), above) {
             return Err(StoreError::Refused(Reply::only(
                 self.alloc,
@@ -220,6 +227,7 @@ pub fn asked_move(
     ensures ok { IfOk result (λ m. move_that_is_asked (directory schema.now tree.now) (modify_dn_view request.now) ≡ Ok (moved_view m)) }
     ensures keyed { IfOk result (λ m. IsKeyedBy schema.now m.entry) }
     ensures may { IfOk result (λ m. MayMove tree.now m.number (rdns m.before) (rdns m.after)) }
+    ensures placed { IfOk result (λ m. name_placed (rdns tree.now.suffix) m.after tree.now.entries ≡ m.after) }
     ensures refused { IfErr result (λ e. RefusedWith e (move_that_is_asked (directory schema.now tree.now) (modify_dn_view request.now))) }
 {
     let MoveNames { name, rdn, above } = asked_names(alloc, schema, request)?;
@@ -230,7 +238,7 @@ pub fn asked_move(
         tree,
         delete_old: request.deleteoldrdn,
         number,
-        held,
+        held: &held,
         rdn: &rdn,
     };
     asked.moved(&above)

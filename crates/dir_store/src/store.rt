@@ -15,8 +15,8 @@ use crate::fault::{StoreError, reply_of_refusal};
 use crate::modifying::{Kept, asked_change};
 use crate::names::asked_name;
 use crate::renaming::{Moved, asked_move};
-use crate::sharing::{Beside, shared};
-use dir_kept::{IndexedTree, Indexes, Name, Reading, Reply, Schema, Tree};
+use crate::sharing::Beside;
+use dir_kept::{IndexedTree, Indexes, Name, Reading, Reply, Schema, SharedEntry, Tree};
 use entry_updates::{AddRequest, ModifyDnRequest, ModifyRequest, Op, ResultCode, Update};
 use std::alloc::{AllocError, Global};
 use std::marker::Model;
@@ -60,6 +60,15 @@ impl Store {
         }
     }
 
+    /// A second owner of the same directory: a few second owners, whatever the size.
+    pub fn share(&self) -> Result<Store, AllocError>
+        ensures { IfOk result (λ s. s ≡ self.now) }
+    {
+        let schema = Arc::try_clone(&self.schema)?;
+        let held = self.held.share()?;
+        Ok(Store { schema, held })
+    }
+
     /// The schema.
     pub fn schema(&self) -> &Schema
         ensures { result.now ≡ self.now.directory.schema }
@@ -92,11 +101,13 @@ impl Store {
         ensures below { IfOk result (λ reply. NumbersBelow (number + 1) self.new.directory.entries) }
         ensures err { OnErr result (self.new ≡ self.old) }
     {
-        self.apply_beside(alloc, number, op, Beside::Nothing)
+        match self.update(alloc, number, op.update()) {
+            Ok(()) => Ok(Reply::only(alloc, ResultCode::SUCCESS)),
+            Err(error) => reply_of_refusal(error),
+        }
     }
 
-    /// The same, where the entry that the update makes may be there already: then it is shared. It is made first all the same, and compared, so that
-    /// nothing hangs on what is there.
+    /// The same. What else is known of the entry that the update makes isn't looked at.
     pub fn apply_beside(
         &mut self,
         alloc: Global,
@@ -111,20 +122,12 @@ impl Store {
         ensures below { IfOk result (λ reply. NumbersBelow (number + 1) self.new.directory.entries) }
         ensures err { OnErr result (self.new ≡ self.old) }
     {
-        match self.update(alloc, number, op.update(), beside) {
-            Ok(()) => Ok(Reply::only(alloc, ResultCode::SUCCESS)),
-            Err(error) => reply_of_refusal(error),
-        }
+        let _ = beside;
+        self.apply(alloc, number, op)
     }
 
     /// Makes an update, or refuses it and changes nothing.
-    fn update(
-        &mut self,
-        alloc: Global,
-        number: u64,
-        update: &Update,
-        beside: Beside<'_>,
-    ) -> Result<(), StoreError>
+    fn update(&mut self, alloc: Global, number: u64, update: &Update) -> Result<(), StoreError>
         requires above { NumbersBelow number self.old.directory.entries }
         ensures ok { OnOk result (updated self.old.directory number (update_view update.now) ≡ Ok self.new.directory.entries) }
         ensures schema { self.new.directory.schema ≡ self.old.directory.schema }
@@ -134,23 +137,17 @@ impl Store {
         ensures err { OnErr result (self.new ≡ self.old) }
     {
         match update {
-            Update::Add(request) => self.add(alloc, number, request, beside),
+            Update::Add(request) => self.add(alloc, number, request),
             Update::Delete(name) => self.delete(alloc, name),
-            Update::Modify(request) => self.modify(alloc, request, beside),
-            Update::ModifyDn(request) => self.rename(alloc, request, beside),
+            Update::Modify(request) => self.modify(alloc, request),
+            Update::ModifyDn(request) => self.rename(alloc, request),
             Update::Noop => Ok(()),
         }
     }
 
     /// Adds an entry at the end, or refuses it and changes nothing.
     #[tactic(auto, using(dir_kept::proofs::Shown::numbers_shown, dir_kept::proofs::Shown::pushed_shown, dir_kept::proofs::Shown::keyed_push))]
-    fn add(
-        &mut self,
-        alloc: Global,
-        number: u64,
-        request: &AddRequest,
-        beside: Beside<'_>,
-    ) -> Result<(), StoreError>
+    fn add(&mut self, alloc: Global, number: u64, request: &AddRequest) -> Result<(), StoreError>
         requires above { NumbersBelow number self.old.directory.entries }
         ensures ok { OnOk result (added self.old.directory number (add_view request.now) ≡ Ok self.new.directory.entries) }
         ensures schema { self.new.directory.schema ≡ self.old.directory.schema }
@@ -160,8 +157,8 @@ impl Store {
         ensures err { OnErr result (self.new ≡ self.old) }
     {
         let Placed { name, entry } = addition(alloc, &self.schema, self.held.tree(), request)?;
-        let entry = shared(alloc, beside, number, entry)?;
-        self.held.add(alloc, number, name, entry)?;
+        let entry = SharedEntry::new(alloc, entry)?;
+        self.held.add(number, name, entry)?;
         Ok(())
     }
 
@@ -183,12 +180,7 @@ impl Store {
 
     /// Changes an entry's attributes, or refuses it and changes nothing.
     #[tactic(auto, using(dir_kept::proofs::Shown::replaced_shown, dir_kept::proofs::Shown::keyed_replaced))]
-    fn modify(
-        &mut self,
-        alloc: Global,
-        request: &ModifyRequest,
-        beside: Beside<'_>,
-    ) -> Result<(), StoreError>
+    fn modify(&mut self, alloc: Global, request: &ModifyRequest) -> Result<(), StoreError>
         ensures ok { OnOk result (modified self.old.directory (modify_view request.now) ≡ Ok self.new.directory.entries) }
         ensures schema { self.new.directory.schema ≡ self.old.directory.schema }
         ensures suffix { self.new.directory.suffix ≡ self.old.directory.suffix }
@@ -197,19 +189,14 @@ impl Store {
         ensures err { OnErr result (self.new ≡ self.old) }
     {
         let Kept { number, entry } = asked_change(alloc, &self.schema, self.held.tree(), request)?;
-        let entry = shared(alloc, beside, number, entry)?;
+        let entry = SharedEntry::new(alloc, entry)?;
         self.held.replace(number, entry)?;
         Ok(())
     }
 
     /// Gives an entry, and those below it, other names, or refuses it and changes nothing.
-    #[tactic(auto, using(dir_kept::proofs::Shown::moved_shown, dir_kept::proofs::Shown::keyed_moved))]
-    fn rename(
-        &mut self,
-        alloc: Global,
-        request: &ModifyDnRequest,
-        beside: Beside<'_>,
-    ) -> Result<(), StoreError>
+    #[tactic(auto, using(crate::proofs::Spelled::moved_placed, dir_kept::proofs::Shown::keyed_moved))]
+    fn rename(&mut self, alloc: Global, request: &ModifyDnRequest) -> Result<(), StoreError>
         ensures ok { OnOk result (renamed_all self.old.directory (modify_dn_view request.now) ≡ Ok self.new.directory.entries) }
         ensures schema { self.new.directory.schema ≡ self.old.directory.schema }
         ensures suffix { self.new.directory.suffix ≡ self.old.directory.suffix }
@@ -223,9 +210,8 @@ impl Store {
             after,
             entry,
         } = asked_move(alloc, &self.schema, self.held.tree(), request)?;
-        let entry = shared(alloc, beside, number, entry)?;
-        self.held
-            .rename(alloc, before.rdns(), number, after, entry)?;
+        let entry = SharedEntry::new(alloc, entry)?;
+        self.held.rename(before.rdns(), number, after, entry)?;
         Ok(())
     }
 }

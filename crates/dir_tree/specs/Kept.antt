@@ -1,95 +1,49 @@
--- The map of names and that of places, as functions from names and from numbers.
-use Rattle.std.specs.Prelude.{◌≡◌, ℕ, zero, suc, true, length, cond, take, List, [], ◌∷◌, Option, Some, None, is_some, nat_eq, Vec}
-use Rattle.std.specs.Option.{option_map, option_flatten}
-use Rattle.std.specs.declared.alloc.Global.{Global}
-use Rattle.std.specs.Map.{lookup}
-use Rattle.dir_entry.specs.ldap_dn.Names.{RdnModel, rdns}
-use Rattle.dir_tree.specs.Directory.{NameKey, Entered, name_eq, above}
-use Rattle.dir_tree.specs.Labelled.{IsLabelled, labels}
-use Rattle.dir_tree.specs.Places.{Shown, place_of, is_above}
-use Rattle.dir_tree.specs.declared.place.Place.{Place}
-use Rattle.dir_tree.specs.declared.place.Places.{Places}
+-- What a tree keeps.
+use Rattle.std.specs.Prelude.{◌≡◌, ℕ, cond, List, [], Option, Some, None, nat_eq}
+use Rattle.std.specs.Map.{remove_entry}
+use Rattle.std.specs.BTreeMap.{insert_entry, is_at}
+use Rattle.std.specs.Ordering.{nat_cmp}
+use Rattle.shared_map.specs.Entries.{Rises}
+use Rattle.dir_entry.specs.ldap_dn.Names.{rdns}
+use Rattle.dir_tree.specs.Directory.{Entered}
+use Rattle.dir_tree.specs.Superiors.{place_at, step_at, below_at, directory_of, IsHung, IsListed, AreOwn}
+use Rattle.dir_tree.specs.Changes.{IsAfter}
+use Rattle.dir_tree.specs.declared.place.Standing.{Standing}
+use Rattle.dir_tree.specs.declared.roots.Roots.{Roots}
 
-abbrev pub NameEntries : Type 0
-NameEntries = List (Vec RdnModel Global × ℕ)
+-- the directory of a tree
+abbrev pub shown : Roots → List Entered
+shown r = directory_of r.reach r.entries
 
-abbrev pub PlaceEntries : Type 0
-PlaceEntries = List (ℕ × Place)
+-- what a tree keeps: numbers rise; names and numbers lead to one another; and sets are those of what stands below
+pub record IsTree (r : Roots) : Type 0 where
+  pub rises : Rises nat_cmp r.entries
+  pub hung : IsHung (rdns r.suffix) r.root r.reach (place_at r.entries) (step_at r.levels)
+  pub listed : IsListed r.reach (place_at r.entries) (below_at r.levels)
+  pub own : AreOwn r.entries
+  pub none : r.none ≡ []
 
--- names without their memory, each with its number
-abbrev pub named : NameEntries → List (NameKey × ℕ)
-named [] = []
-named (e ∷ es) = (rdns e.0.items, e.1) ∷ named es
+-- the maps with an entry put at a place
+pub record IsPlaced (old : Roots) (k : ℕ) (v : Standing) (root : Option ℕ) (reach : ℕ) (r : Roots) : Type 0 where
+  pub suffix : r.suffix ≡ old.suffix
+  pub top : r.root ≡ root
+  pub bound : r.reach ≡ reach
+  pub entries : r.entries ≡ insert_entry nat_cmp old.entries k v
+  pub rises : Rises nat_cmp r.entries
+  pub after : IsAfter k (place_at old.entries k) (Some v.place) old.reach (place_at old.entries) (step_at old.levels) (step_at r.levels) (below_at old.levels) (below_at r.levels)
+  pub none : r.none ≡ []
 
--- the number of a name
-abbrev pub number_of : NameEntries → NameKey → Option ℕ
-number_of es q = lookup (name_eq q) (named es)
+-- the number of the root's entry, unless it is this one
+abbrev pub root_but : ℕ → Option ℕ → Option ℕ
+root_but k None = None
+root_but k (Some r) = cond (nat_eq r k) None (Some r)
 
--- the number of the name right above a name; none, where nothing is above it
-abbrev pub up : (NameKey → Option ℕ) → NameKey → Option ℕ
-up f [] = None
-up f (x ∷ xs) = f (above (x ∷ xs))
-
--- what is kept under a number
-abbrev pub held : PlaceEntries → ℕ → Option Place
-held ps k = lookup (nat_eq k) ps
-
--- a number with the lists of its place
-abbrev pub shown : ℕ → Place → Shown
-shown k p = record { number = k; children = p.children.items; within = p.within.items }
-
-abbrev pub lists_of : ℕ → Option Place → Shown
-lists_of k None = record { number = k; children = []; within = [] }
-lists_of k (Some p) = shown k p
-
--- a number with its lists, which are empty where nothing is kept under it
-abbrev pub lists_at : PlaceEntries → ℕ → Shown
-lists_at ps k = lists_of k (held ps k)
-
--- the number that is kept as the one right above a number
-abbrev pub link_at : PlaceEntries → ℕ → Option (Option ℕ)
-link_at ps k = option_map (λ (p : Place). p.above) (held ps k)
-
-abbrev pub next_of : PlaceEntries → Option ℕ → Option ℕ
-next_of ps None = None
-next_of ps (Some k) = option_flatten (link_at ps k)
-
--- what is kept of a name
-abbrev pub place_at : Places → NameKey → Option Shown
-place_at p q = option_map (lists_at p.lists.entries) (number_of p.names.entries q)
-
--- the length of the longest of the first i fronts of a name that has a number
-abbrev pub front_placed : ℕ → NameKey → NameEntries → ℕ
-front_placed zero q es = 0
-front_placed (suc i) q es = cond (is_some (number_of es (take (suc i) q))) (suc i) (front_placed i q es)
-
--- no two names have one number
-abbrev pub AreApart : (NameKey → Option ℕ) → Type 0
-AreApart f = (q m : NameKey) (k : ℕ) → f q ≡ Some k → f m ≡ Some k → q ≡ m
-
--- something is kept under the number of each name
-abbrev pub AreHeld : (NameKey → Option ℕ) → PlaceEntries → Type 0
-AreHeld f ps = (q : NameKey) (k : ℕ) → f q ≡ Some k → is_some (held ps k) ≡ true
-
--- with each name's number is kept that of the name right above it
-abbrev pub AreLinked : (NameKey → Option ℕ) → PlaceEntries → Type 0
-AreLinked f ps = (q : NameKey) (k : ℕ) → f q ≡ Some k → link_at ps k ≡ Some (up f q)
-
--- what a walk from a name up to the root needs: numbers tell names apart, and are linked
-pub record IsHung (f : NameKey → Option ℕ) (ps : PlaceEntries) : Type 0 where
-  pub apart : AreApart f
-  pub linked : AreLinked f ps
-
--- above a name without a number there is none, among the names above n
-abbrev pub IsFooted : (NameKey → Option ℕ) → NameKey → Type 0
-IsFooted f n = (q : NameKey) → is_above (length n) n q ≡ true → f q ≡ None → f (above q) ≡ None
-
--- each place has what the entries have now
-abbrev pub IsKept : List Entered → Places → Type 0
-IsKept d p = (q : NameKey) → place_at p q ≡ place_of q (labels d)
-
--- what a tree keeps: the places are those of its entries, which are a directory
-pub record IsTree (suffix : List RdnModel) (d : List Entered) (p : Places) : Type 0 where
-  pub kept : IsKept d p
-  pub linked : AreLinked (number_of p.names.entries) p.lists.entries
-  pub whole : IsLabelled (rdns suffix) (labels d)
+-- the maps without an entry that nothing stands below
+pub record IsRemoved (old : Roots) (k : ℕ) (r : Roots) : Type 0 where
+  pub suffix : r.suffix ≡ old.suffix
+  pub top : r.root ≡ root_but k old.root
+  pub bound : r.reach ≡ old.reach
+  pub entries : r.entries ≡ remove_entry (is_at (nat_cmp k)) old.entries
+  pub rises : Rises nat_cmp r.entries
+  pub after : IsAfter k (place_at old.entries k) None old.reach (place_at old.entries) (step_at old.levels) (step_at r.levels) (below_at old.levels) (below_at r.levels)
+  pub none : r.none ≡ []

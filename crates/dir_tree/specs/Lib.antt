@@ -1,12 +1,12 @@
 pub mod Directory
-pub mod Labelled
-pub mod Places
-pub mod Stored
+pub mod Holdings
+pub mod Superiors
+pub mod Changes
 pub mod Kept
-pub mod Renamed
-pub mod Subtree
+pub mod Placed
 -- what layers above name of the crates below
 pub use Rattle.dir_entry.specs.ldap_schema as ldap_schema
 pub use Rattle.dir_entry.specs.ldap_dn as ldap_dn
 pub use Rattle.dir_entry.specs.ldap_match as ldap_match
 pub use Rattle.dir_entry.specs as dir_entry
+pub use Rattle.shared_map.specs as shared_map

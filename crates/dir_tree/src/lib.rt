@@ -1,27 +1,28 @@
-//! The directory's tree: entries with their names flow in; they are found again by name and by number, and the numbers of those
-//! right under a name and at or below it flow out. What an update checks, and filters, are not here.
+//! The directory's tree: keeps entries by number, each with its relative name and its superior's
+//! number, and finds them by name and by number; and so the numbers of those right under a name and
+//! at or below it. A tree is a value: a change makes new maps. What an update checks, and filters,
+//! are not here.
 #![tactic(auto)]
 
 mod comparing;
-mod entries;
-mod keys;
-mod likeness;
-mod lists;
-mod moving;
-mod named;
+mod finding;
+mod levels;
+mod number_sets;
 mod place;
-mod places;
-mod relisted;
-mod renaming;
-mod rising;
+mod reach;
+mod reading;
+mod roots;
 mod shared;
+mod shared_names;
+mod suffix;
 mod tree;
+mod updating;
 
 pub use comparing::{are_same, is_over_parent};
 pub use dir_entry::{
     Attribute, Entry, EntryError, Name, NameError, Rdn, Schema, Truth, TypeAndValue, TypeId,
-    copy_values, is_of_syntax, number_of_digits,
+    copy_values, is_of_syntax, number_of_digits, print_from_leaf,
 };
-pub use named::NamedEntry;
 pub use shared::SharedEntry;
+pub use shared_map::{NumberSet, NumberWalk, Shared};
 pub use tree::Tree;

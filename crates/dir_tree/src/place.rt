@@ -1,53 +1,102 @@
-// What is kept of a name. Names and numbers flow in and out.
-// What must not be here: entries, how what is kept changes.
+// What is kept of each number: where its entry stands, and what stands below it.
+// How it changes is not here.
 
-ghost use Rattle.std.specs.Prelude.{◌≡◌};
-ghost use Rattle.dir_tree.specs.Places.{dropped};
+ghost use Rattle.std.specs.Prelude.{◌≡◌, ◌∷◌, []};
 
-use dir_entry::Rdn;
-use std::collections::BTreeMap;
+use crate::shared::SharedEntry;
+use crate::shared_names::{SharedName, SharedRdn};
+use shared_map::{NumberSet, Shared, SharedMap};
+use std::alloc::AllocError;
 
-/// What is kept under the number of a name's entry: the number of the entry right above it, those of the entries right under it, and
-/// those of the entries at or below it, each list in rising order.
-pub struct Place {
-    pub above: Option<u64>,
-    pub children: Vec<u64>,
-    pub within: Vec<u64>,
+/// Where an entry stands.
+pub enum Place {
+    /// It is the root, of this name.
+    Root(SharedName),
+    /// It stands right under the entry of a number, by its own relative name.
+    Under(u64, SharedRdn),
 }
 
 // Not derived: see "What the gate takes" in docs/ARCHITECTURE.md.
 impl Drop for Place {
     fn drop(self) {
-        let Place {
-            above: _,
+        match self {
+            Place::Root(_) => {}
+            Place::Under(_, _) => {}
+        }
+    }
+}
+
+impl Shared for Place {
+    fn share(&self) -> Result<Place, AllocError> {
+        match self {
+            Place::Root(name) => Ok(Place::Root(name.share()?)),
+            Place::Under(above, rdn) => Ok(Place::Under(*above, rdn.share()?)),
+        }
+    }
+}
+
+/// An entry, and where it stands.
+pub struct Standing {
+    pub place: Place,
+    /// Its number, as the set of what stands at or below it while nothing stands below it.
+    pub own: NumberSet,
+    pub entry: SharedEntry,
+}
+
+// Not derived: see "What the gate takes" in docs/ARCHITECTURE.md.
+impl Drop for Standing {
+    fn drop(self) {
+        let Standing {
+            place: _,
+            own: _,
+            entry: _,
+        } = self;
+    }
+}
+
+impl Shared for Standing {
+    fn share(&self) -> Result<Standing, AllocError> {
+        Ok(Standing {
+            place: self.place.share()?,
+            own: self.own.share()?,
+            entry: self.entry.share()?,
+        })
+    }
+}
+
+/// The entries by number.
+pub type Entries = SharedMap<u64, Standing>;
+
+/// What stands below an entry.
+pub struct Below {
+    /// The numbers of the entries right under it, by their relative names.
+    pub names: SharedMap<SharedRdn, u64>,
+    /// The numbers of the entries right under it.
+    pub children: NumberSet,
+    /// The numbers of the entries at or below it, its own too.
+    pub within: NumberSet,
+}
+
+// Not derived: see "What the gate takes" in docs/ARCHITECTURE.md.
+impl Drop for Below {
+    fn drop(self) {
+        let Below {
+            names: _,
             children: _,
             within: _,
         } = self;
     }
 }
 
-/// The number of each name that an entry has.
-pub type Names = BTreeMap<Vec<Rdn>, u64>;
-
-/// What is kept under each number.
-pub type Lists = BTreeMap<u64, Place>;
-
-/// The number of each name, and what is kept under each number.
-pub struct Places {
-    pub names: Names,
-    pub lists: Lists,
-}
-
-// Not derived: see "What the gate takes" in docs/ARCHITECTURE.md.
-impl Drop for Places {
-    fn drop(self) {
-        let Places { names: _, lists: _ } = self;
+impl Shared for Below {
+    fn share(&self) -> Result<Below, AllocError> {
+        Ok(Below {
+            names: self.names.share()?,
+            children: self.children.share()?,
+            within: self.within.share()?,
+        })
     }
 }
 
-/// Takes a number out of a list.
-pub fn strike(numbers: &mut Vec<u64>, number: u64)
-    ensures { numbers.new.items ≡ dropped number numbers.old.items }
-{
-    numbers.retain(|x| *x != number);
-}
+/// What stands below the entry of each number; a number that nothing stands below may be left out.
+pub type Levels = SharedMap<u64, Below>;

@@ -1,10 +1,10 @@
-// An entry's attributes in memory that is shared. Attributes flow in and out.
-// What must not be here: names, numbers, who shares them.
+// An entry's attributes in memory that is shared. Takes and hands out attributes.
+// Names, numbers, and who shares them, are not here.
 
 ghost use Rattle.std.specs.Prelude.{◌≡◌, IfOk};
 
-use crate::likeness::is_same_entry;
 use dir_entry::Entry;
+use shared_map::Shared;
 use std::alloc::{AllocError, Global};
 use std::marker::Model;
 use std::ops::Deref;
@@ -41,34 +41,17 @@ impl SharedEntry {
         Ok(SharedEntry { entry })
     }
 
-    /// These attributes, in the memory of the other where that has the very same ones. Its only error is want of memory.
-    pub fn beside(
-        alloc: Global,
-        entry: Entry,
-        other: Option<&SharedEntry>,
-    ) -> Result<SharedEntry, AllocError>
-        ensures { IfOk result (λ s. s ≡ entry) }
-    {
-        match other {
-            Some(other) => SharedEntry::joined(alloc, entry, other),
-            None => SharedEntry::new(alloc, entry),
-        }
-    }
-
-    /// The same, beside another.
-    fn joined(alloc: Global, entry: Entry, other: &SharedEntry) -> Result<SharedEntry, AllocError>
-        ensures { IfOk result (λ s. s ≡ entry) }
-    {
-        if is_same_entry(&entry, other) {
-            return other.share();
-        }
-        SharedEntry::new(alloc, entry)
-    }
-
     /// The same attributes, in the same memory. It takes none; the only error is that it is shared too often.
     pub fn share(&self) -> Result<SharedEntry, AllocError>
         ensures { IfOk result (λ s. s ≡ self.now) }
     {
+        let entry = Arc::try_clone(&self.entry)?;
+        Ok(SharedEntry { entry })
+    }
+}
+
+impl Shared for SharedEntry {
+    fn share(&self) -> Result<SharedEntry, AllocError> {
         let entry = Arc::try_clone(&self.entry)?;
         Ok(SharedEntry { entry })
     }

@@ -182,6 +182,15 @@ fn leaf_first(alloc: Global, rdns: &[Rdn]) -> Result<Vec<&Rdn>, AllocError>
     rdns.iter().rev().collect(alloc)
 }
 
+/// The printed form of relative names that are given the last one first, as they are printed. It copies none of them.
+pub fn print_from_leaf(alloc: Global, schema: &Schema, rdns: &[&Rdn]) -> Result<String, AllocError>
+    ensures { IfOk result (λ t. string_bytes t ≡ printed.printed_name schema.now (reverse (map (λ r. r.now) rdns.now))) }
+{
+    let mut out = String::new(alloc);
+    put_rdns(alloc, &mut out, schema, rdns)?;
+    Ok(out)
+}
+
 /// The printed form of relative names, the root's first.
 pub fn print(alloc: Global, schema: &Schema, rdns: &[Rdn]) -> Result<String, AllocError>
     ensures { IfOk result (λ t. string_bytes t ≡ printed.printed_name schema.now rdns.now) }

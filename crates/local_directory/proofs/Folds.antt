@@ -9,7 +9,7 @@ use Rattle.session_talk.specs.ldap_op.Values.{OpValue}
 use Rattle.dir_store.specs.dir_kept.Directory.{Directory}
 use Rattle.session_talk.specs.Answers.{ReplyModel}
 use Rattle.dir_store.specs.Updates.{reply_to, directory_after, replies_after}
-use Rattle.session_talk.specs.vr_state.declared.words.Client.{Client}
+use Rattle.session_talk.specs.log_entry.declared.words.Client.{Client}
 use Rattle.session_talk.specs.Talk.{EndedValue, done, stale, lost, refused_memory, Exchange, asked_role, learned, searched, compared, updated, Along, ends, goes}
 use Rattle.local_directory.specs.ClientOrder.{client_cmp}
 use Rattle.local_directory.specs.Latest.{KeptValue, Standing, older, repeated, newer, standing}

@@ -7,7 +7,7 @@ use Rattle.session_talk.specs.ldap_op.Values.{OpValue}
 use Rattle.dir_store.specs.Updates.{applied, reply_to}
 use Rattle.dir_search.specs.Answer.{answer}
 use Rattle.dir_search.specs.Compared.{compared as compared_reply}
-use Rattle.session_talk.specs.vr_state.declared.words.Client.{Client}
+use Rattle.session_talk.specs.log_entry.declared.words.Client.{Client}
 use Rattle.session_talk.specs.Reading.{IsReadAt}
 use Rattle.session_talk.specs.Talk.{primary}
 use Rattle.session_talk.specs.Talk.{EndedValue, done, stale, lost, refused_memory}

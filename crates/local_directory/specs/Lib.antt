@@ -6,7 +6,9 @@ pub mod Local
 pub mod Allows
 pub mod Made
 pub mod Added
+pub mod Checked
 pub mod Searched
+pub mod Filled
 -- what layers above name of the crates below
 pub use Rattle.session_talk.specs.ldap_requests as ldap_requests
 pub use Rattle.session_talk.specs.ldap_op as ldap_op

@@ -7,7 +7,7 @@ use Rattle.session_talk.specs.ldap_op.Values.{OpValue}
 use Rattle.session_talk.specs.Answers.{ReplyModel}
 use Rattle.dir_store.specs.Updates.{directory_after, replies_after}
 use Rattle.dir_store.specs.Placed.{reply_at}
-use Rattle.session_talk.specs.vr_state.declared.words.Client.{Client}
+use Rattle.session_talk.specs.log_entry.declared.words.Client.{Client}
 use Rattle.session_talk.specs.Talk.{EndedValue, done, stale, lost, refused_memory}
 use Rattle.session_talk.specs.Talk.{Exchange, asked_role, learned, searched, compared, updated, Along}
 use Rattle.local_directory.specs.Latest.{KeptValue}

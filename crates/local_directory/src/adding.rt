@@ -15,7 +15,7 @@ use session_talk::{Op, Update};
 use std::alloc::{AllocError, Global};
 
 /// Adds a record under a number above all, and tells the result code.
-fn add_record(
+pub fn add_record(
     alloc: Global,
     store: &mut Store,
     number: u64,
@@ -25,6 +25,7 @@ fn add_record(
     ensures applied { OnOk result (store.new.directory ≡ applied store.old.directory number (add_op (add_value item.now))) }
     ensures code { IfOk result (λ code. code ≡ (reply_to store.old.directory number (add_op (add_value item.now))).code) }
     ensures below { OnOk result (NumbersBelow (number + 1) store.new.directory.entries) }
+    ensures indexes { store.new.indexes ≡ store.old.indexes }
 {
     let add = add_of(alloc, item)?;
     let op = Op::new(alloc, Update::Add(add))?;
@@ -44,6 +45,7 @@ fn put_record(
     ensures accepted { OnOk result ((reply_to store.old.directory number (add_op (add_value item.now))).code ≡ 0) }
     ensures below { OnOk result (NumbersBelow (number + 1) store.new.directory.entries) }
     ensures refused { IfErr result (λ e. IsPutFault e number (reply_to store.old.directory number (add_op (add_value item.now))).code) }
+    ensures indexes { store.new.indexes ≡ store.old.indexes }
 {
     let code = add_record(alloc, store, number, item)?;
     if code == 0 {
@@ -59,6 +61,7 @@ pub fn add_records(alloc: Global, store: &mut Store, records: &[Record]) -> Resu
     ensures filled { OnOk result (store.new.directory ≡ directory_after store.old.directory 0 (adds records.now)) }
     ensures accepted { OnOk result (first_refused store.old.directory 0 (adds records.now) ≡ None) }
     ensures refused { IfErr result (λ e. IsAddFault e store.old.directory records.now) }
+    ensures indexes { store.new.indexes ≡ store.old.indexes }
 {
     for (index, item) in records.iter().enumerate() {
         put_record(alloc, store, index as u64 + 1, item)?;

@@ -4,6 +4,7 @@
 #![tactic(auto)]
 
 mod adding;
+mod checking;
 mod client_table;
 mod ending;
 mod fault;
@@ -11,15 +12,18 @@ mod kept;
 mod laws;
 mod local;
 mod making;
+mod refused_record;
 mod searching;
 
+pub use checking::{Checked, check_text};
 pub use dir_search::{IndexError, Indexes, Name, NameError, Schema};
 pub use dir_store::Store;
 pub use fault::SearchError;
 pub use laws::{directory_is_fold, requests_are_made_once};
 pub use ldif::{ExportError, ImportError, export_text, import_text};
 pub use local::LocalDirectory;
-pub use searching::search_text;
+pub use refused_record::RefusedRecord;
+pub use searching::{Cost, fill, search_cost, search_text};
 pub use session_talk::{
     AddRequest, Attribute, CompareRequest, DerefAliases, Op, Reply, Scope, SearchAnswer,
     SearchRequest, Update,

@@ -1,11 +1,13 @@
 //! LDIF and the directory: a search, whole.
 //! In: a directory, a text of LDIF, a search request. Out: a text of LDIF, or why there is none. Not here: where the text comes from.
 
-ghost use Rattle.std.specs.Prelude.{◌≡◌, Ok, IfOk, IfErr};
+ghost use Rattle.std.specs.Prelude.{◌≡◌, Ok, IfOk, IfErr, OnOk, length};
 ghost use Rattle.ldif.specs.Reading.{records_of as records_of_text};
 ghost use Rattle.session_talk.specs.ldap_msg.View.{search_view};
 ghost use Rattle.dir_store.specs.dir_kept.Stored.{NumbersBelow};
 ghost use Rattle.dir_search.specs.Answer.{answer as answer_of};
+ghost use Rattle.dir_search.specs.Counted.{IsCountOf};
+ghost use Rattle.local_directory.specs.Filled.{IsFilled, IsFillFault};
 ghost use Rattle.local_directory.specs.Searched.{IsShown, IsShowFault, IsReadFault, IsSearched, IsSearchFault};
 
 use crate::adding::add_records;
@@ -17,7 +19,7 @@ use session_talk::SearchRequest;
 use std::alloc::Global;
 
 /// The records of a text.
-fn read_records(alloc: Global, text: &[u8]) -> Result<Vec<Record>, SearchError>
+pub fn read_records(alloc: Global, text: &[u8]) -> Result<Vec<Record>, SearchError>
     ensures found { IfOk result (λ v. records_of_text text.now ≡ Ok v.items) }
     ensures refused { IfErr result (λ e. IsReadFault e text.now) }
 {
@@ -60,4 +62,48 @@ pub fn search_text(
     let records = read_records(alloc, text)?;
     add_records(alloc, &mut store, &records)?;
     shown(alloc, &store, request)
+}
+
+/// A directory without entries with the records of a text (RFC 2849), which take the numbers from 1 on; or the first line that is no LDIF, else the first
+/// record that is refused.
+pub fn fill(alloc: Global, store: Store, text: &[u8]) -> Result<Store, SearchError>
+    requires empty { NumbersBelow 1 store.directory.entries }
+    ensures filled { IfOk result (λ s. IsFilled store text.now s) }
+    ensures refused { IfErr result (λ e. IsFillFault e store.directory text.now) }
+{
+    let mut store = store;
+    let records = read_records(alloc, text)?;
+    add_records(alloc, &mut store, &records)?;
+    Ok(store)
+}
+
+/// What a search costs.
+#[derive(Clone, Copy, Debug, PartialEq, Eq)]
+pub struct Cost {
+    /// How many entries it shows.
+    pub shown: usize,
+    /// On how many entries its filter is evaluated.
+    pub tests: usize,
+}
+
+/// What a search (RFC 4511 4.5) of a directory costs, or the code other than success that it is answered with.
+pub fn search_cost(
+    alloc: Global,
+    store: &Store,
+    request: &SearchRequest,
+) -> Result<Cost, SearchError>
+    ensures success { OnOk result ((answer_of store.now.directory (search_view request.now)).code ≡ 0) }
+    ensures shown { IfOk result (λ c. c.shown ≡ length (answer_of store.now.directory (search_view request.now)).entries) }
+    ensures tests { IfOk result (λ c. IsCountOf store.now (search_view request.now) c.tests) }
+    ensures refused { IfErr result (λ e. IsShowFault e (answer_of store.now.directory (search_view request.now))) }
+{
+    let answer = search(alloc, &store.reading(), request)?;
+    let number = answer.code.number();
+    if number != 0 {
+        return Err(SearchError::Code { number });
+    }
+    Ok(Cost {
+        shown: answer.entries.len(),
+        tests: answer.tests,
+    })
 }

@@ -1,17 +1,15 @@
--- What a publisher was given stays a beginning of what a node has executed. Definitions flow in; what an event and a further record make of them flows
--- out. Code is not here.
-use Rattle.std.proofs.Common.{◌≡◌, ℕ, zero, suc, ◌+◌, ◌≤◌, List, [], ◌∷◌, ◌++◌, length, take, Some, slice_get, Bool, true, false, sym, ap, subst, ◌∙◌, append_assoc, append-nil, arith}
-use Rattle.std.proofs.lemmas.List.{length-append}
-use Rattle.std.proofs.lemmas.Option.{slice_get_within, get_or_from_slice_get}
+-- What a publisher was given stays a beginning of what a node has executed. What an event and a publication make of it is said here; code is not.
+use Rattle.std.proofs.Common.{◌≡◌, List, ◌++◌, length, take, drop, Bool, true, false, sym, ap, subst, ◌∙◌, take-append-drop}
+use Rattle.std.proofs.Math.Seq.{take-append_seam}
 use mathlib.Core.List.{IsPrefix}
-use Rattle.dir_node.specs.vr_state.declared.words.Entry.{Entry}
+use Rattle.dir_node.specs.vr_state.Words.{Entry}
 use Rattle.dir_node.specs.dir_store.ldap_op.Values.{OpValue}
 use Rattle.dir_node.specs.dir_executed.Executing.{ExecutedValue}
 use Rattle.dir_node.specs.NodeState.{CatchesUp}
 use Rattle.dir_seats.specs.Lists.{IsBeginning, with_records}
 use Rattle.dir_seats.specs.Showing.{Showing}
-use Rattle.dir_seats.proofs.Begins.{begins_self}
-use Rattle.node_gate.specs.Given.{IsGiven}
+use Rattle.dir_seats.proofs.Begins.{begins_self, begins_trans}
+use Rattle.node_gate.specs.Given.{IsGiven, given_records}
 
 -- what is executed by an event is put at the end
 caught : (behind : Bool) (old due new : List (Entry OpValue)) → CatchesUp behind old due new → IsPrefix old new
@@ -25,38 +23,28 @@ grown a b behind due p schema suffix indexes = record { schema = schema; suffix 
 pub stayed : (a b : ExecutedValue) → b ≡ a → IsBeginning a b
 stayed a b e = subst (λ (x : ExecutedValue). IsBeginning a x) (sym e) (begins_self a)
 
--- one element more of a front
-front_with : (xs : List (Entry OpValue)) (i : ℕ) (c : Entry OpValue) → slice_get xs i ≡ Some c → take (suc i) xs ≡ take i xs ++ c ∷ []
-front_with [] i c at = absurd (omega (arith, slice_get_within [] i c at))
-front_with (x ∷ xs) zero c at = ap (λ h. h ∷ []) (get_or_from_slice_get (x ∷ xs) 0 c x at)
-front_with (x ∷ xs) (suc i) c at = ap (λ l. x ∷ l) (front_with xs i c at)
+-- what was given begins what was executed
+pub given_begins : (executed : ExecutedValue) (shown : Showing) → IsGiven executed shown → IsBeginning (with_records shown.published shown.waiting) executed
+given_begins executed shown g =
+    let given = given_records shown in record {
+      schema = g.0;
+      suffix = g.1;
+      indexes = g.2;
+      records = (
+        drop (length given) executed.records,
+        ap (λ l. l ++ drop (length given) executed.records) (sym g.3) ∙ take-append-drop (length given) executed.records,
+      );
+    }
 
--- one more record is given
-pub one_more : (executed : ExecutedValue) (old new : Showing) (n m : ℕ) (e : Entry OpValue) → IsGiven executed old n → slice_get executed.records n ≡ Some e
-    → new.published ≡ old.published → new.waiting ≡ old.waiting ++ e ∷ [] → m ≡ n + 1 → IsGiven executed new m
-one_more executed old new n m e g at same is count = (
-  g.0 ∙ sym (ap (λ (v : ExecutedValue). v.schema) same),
-  g.1 ∙ sym (ap (λ (v : ExecutedValue). v.suffix) same),
-  g.2 ∙ sym (ap (λ (v : ExecutedValue). v.indexes) same),
-  ap (λ (v : ExecutedValue). v.records ++ new.waiting) same
-      ∙ (ap (λ (l : List (Entry OpValue)). old.published.records ++ l) is
-      ∙ (sym (append_assoc old.published.records old.waiting (e ∷ []))
-      ∙ (ap (λ (l : List (Entry OpValue)). l ++ e ∷ []) g.3
-      ∙ (sym (front_with executed.records n e at)
-      ∙ ap (λ (k : ℕ). take k executed.records) (suc-is n m count))))),
-  omega (arith, slice_get_within executed.records n e at, count),
-)
-  where
-    suc-is : (n m : ℕ) → m ≡ n + 1 → suc n ≡ m
-    suc-is n m h = omega (arith, h)
+pub begins_given : (executed : ExecutedValue) (shown : Showing) → IsBeginning (with_records shown.published shown.waiting) executed → IsGiven executed shown
+begins_given executed shown b =
+    let given = given_records shown in
+    (b.schema, b.suffix, b.indexes, ap (take (length given)) (sym b.records.1) ∙ take-append_seam given b.records.0)
 
--- what was to be shown is shown
-pub all_shown : (executed : ExecutedValue) (old new : Showing) (n : ℕ) → IsGiven executed old n → new.published ≡ with_records old.published old.waiting → new.waiting ≡ []
-    → IsGiven executed new n
-all_shown executed old new n g is none = (
-  g.0 ∙ sym (ap (λ (v : ExecutedValue). v.schema) is),
-  g.1 ∙ sym (ap (λ (v : ExecutedValue). v.suffix) is),
-  g.2 ∙ sym (ap (λ (v : ExecutedValue). v.indexes) is),
-  ap (λ (l : List (Entry OpValue)). new.published.records ++ l) none ∙ (append-nil new.published.records ∙ (ap (λ (v : ExecutedValue). v.records) is ∙ g.3)),
-  g.4,
-)
+-- after an event what was given before it still begins what is executed
+pub given_on : (old new : ExecutedValue) (shown : Showing) → IsGiven old shown → IsBeginning old new → IsGiven new shown
+given_on old new shown g more = begins_given new shown (begins_trans (with_records shown.published shown.waiting) old new (given_begins old shown g) more)
+
+-- all that is executed was given
+pub given_all : (executed : ExecutedValue) (shown : Showing) → with_records shown.published shown.waiting ≡ executed → IsGiven executed shown
+given_all executed shown e = begins_given executed shown (subst (λ (x : ExecutedValue). IsBeginning (with_records shown.published shown.waiting) x) e (begins_self _))

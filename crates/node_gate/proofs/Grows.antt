@@ -1,7 +1,7 @@
 -- An event at a node: what was executed before is a beginning of what is after. The clauses of the call flow in; a beginning flows out. What a publisher
 -- makes of it is not here.
 use Rattle.std.proofs.Common.{◌≡◌, List, Result, Ok, Err, IfOk, IsErrOf, true, refl, ap}
-use Rattle.dir_node.specs.vr_state.declared.words.Entry.{Entry}
+use Rattle.dir_node.specs.vr_state.Words.{Entry}
 use Rattle.dir_node.specs.dir_store.ldap_op.Values.{OpValue}
 use Rattle.dir_node.specs.declared.config.Handled.{Handled}
 use Rattle.dir_node.specs.declared.error.NodeError.{NodeError}

@@ -2,3 +2,4 @@ pub mod Shares
 pub mod Given
 pub mod Grows
 pub mod Sent
+pub mod Crossing

@@ -5,7 +5,7 @@ use Rattle.dir_seats.specs.session_talk.Answers.{ReplyModel}
 use Rattle.dir_seats.specs.session_talk.Talk.{Exchange, asked_role, learned, searched, compared, updated}
 use Rattle.dir_seats.specs.session_talk.Talk.{EndedValue}
 use Rattle.dir_seats.specs.session_talk.Talk as talk
-use Rattle.dir_node.specs.vr_state.declared.words.Client.{Client}
+use Rattle.dir_node.specs.vr_state.Words.{Client}
 use Rattle.dir_node.specs.dir_executed.Executing.{ExecutedValue}
 use Rattle.dir_node.specs.NodeState.{NodeValue}
 use Rattle.dir_node.specs.Outcomes.{OutcomeValue, done, pending, stale, lost, outcome_of}

@@ -1,6 +1,6 @@
 // What the lock holds. Events flow in, one at a time; what they give out flows out, and the seats see what was executed. What must not be
 // here: locks, threads.
-ghost use Rattle.std.specs.Prelude.{◌≡◌, IsTrue, IfSome, IfOk};
+ghost use Rattle.std.specs.Prelude.{◌≡◌, IsTrue, IfOk};
 ghost use Rattle.dir_node.specs.vr_state.declared.event.Event.TheVariants as event;
 ghost use Rattle.node_gate.specs.Given.{IsGiven, HasAll};
 ghost use Rattle.node_gate.specs.Handled.{HasHandled};
@@ -8,7 +8,7 @@ ghost use Rattle.node_gate.specs.Handled.{HasHandled};
 use crate::events::handle_node;
 pub use dir_node::Standing;
 use dir_node::{Client, Device, Event, Handled, Node, NodeError, Op, Outcome, PeerMessage, Status};
-use dir_seats::{Publisher, SharedEntry, Store, Told};
+use dir_seats::Publisher;
 use replica_clock::{Asked, ReplicaClock, Sign, sign_of};
 use std::alloc::Global;
 use std::sync::Wait;
@@ -37,11 +37,9 @@ impl Pulse {
 pub struct Held<'a, R: Wait, D: Device> {
     node: Node<D>,
     publisher: Publisher<Here, &'a R>,
-    /// How many records the publisher was given.
-    given: usize,
     clock: ReplicaClock,
     pub is_stopping: bool,
-    ghost shows: { IsGiven node.executed publisher given },
+    ghost shows: { IsGiven node.executed publisher },
 }
 
 // Not derived: see "What the gate takes" in docs/ARCHITECTURE.md.
@@ -50,7 +48,6 @@ impl<'a, R: Wait, D: Device + Drop> Drop for Held<'a, R, D> {
         let Held {
             node: _,
             publisher: _,
-            given: _,
             clock: _,
             is_stopping: _,
         } = self;
@@ -66,28 +63,18 @@ pub fn status_of(standing: Standing) -> Status {
     }
 }
 
-/// The entry that the record of this place added, as it now stands; none, where it added none. Who shows it shares it.
-fn made_by(store: &Store, place: usize) -> Option<SharedEntry> {
-    let number = (place as u64).saturating_add(1);
-    match store.tree().entry(number)?.entry.share() {
-        Ok(entry) => Some(entry),
-        Err(_) => None,
-    }
-}
-
 impl<'a, R: Wait, D: Device> Held<'a, R, D> {
-    /// A node, and the publisher to its seats, which was given nothing yet.
+    /// A node, and the publisher to its seats.
     pub fn new(
         node: Node<D>,
         publisher: Publisher<Here, &'a R>,
         clock: ReplicaClock,
     ) -> Held<'a, R, D>
-        requires shows { IsGiven node.executed publisher 0 }
+        requires shows { IsGiven node.executed publisher }
     {
         Held {
             node,
             publisher,
-            given: 0,
             clock,
             is_stopping: false,
         }
@@ -118,7 +105,7 @@ impl<'a, R: Wait, D: Device> Held<'a, R, D> {
         ensures { IfOk result (λ h. HasHandled self.old.node event h self.new.node self.new.publisher) }
     {
         let Handled { outputs, behind } = handle_node(alloc, &mut self.node, event)?;
-        let is_shown = self.show(alloc);
+        let is_shown = self.show();
         Ok(Handled {
             outputs,
             behind: behind || !is_shown,
@@ -166,58 +153,19 @@ impl<'a, R: Wait, D: Device> Held<'a, R, D> {
         self.clock.note(self.node.view_number(), status, now);
     }
 
-    /// Gives the publisher the next record; whether there was one, and memory for it.
-    fn give_next(&mut self, alloc: Global) -> bool
-        ensures node { self.new.node ≡ self.old.node }
-    {
-        let Some(entry) = self.node.executed_records().get(self.given) else {
-            return false;
-        };
-        let Ok(entry) = entry.copy(alloc) else {
-            return false;
-        };
-        let made = made_by(self.node.store(), self.given);
-        if self.publisher.append_made(entry, made).is_err() {
-            return false;
-        }
-        self.given += 1;
-        true
-    }
-
-    /// Gives the publisher the records that it doesn't have, as far as there is memory.
-    fn give(&mut self, alloc: Global)
-        ensures node { self.new.node ≡ self.old.node }
-    {
-        'each: for _ in self.given..self.node.executed_len() {
-            if !self.give_next(alloc) {
-                break;
-            }
-        }
-    }
-
     /// Shows the seats what the node has executed and they don't see yet; whether they see all of it. What finds no memory is shown after the
     /// next event.
-    fn show(&mut self, alloc: Global) -> bool
+    fn show(&mut self) -> bool
         ensures node { self.new.node ≡ self.old.node }
         ensures all { IsTrue result → HasAll self.new.node.executed self.new.publisher }
     {
-        if self.given < self.node.executed_len() {
-            self.give(alloc);
+        if self.publisher.append(self.node.executed()).is_err() {
+            return false;
         }
         if self.publisher.is_behind() && self.publisher.publish().is_err() {
             return false;
         }
-        self.given == self.node.executed_len()
-    }
-
-    /// The whole of what the seats see; none, where there is no place to tell it by.
-    pub fn tell(&mut self) -> Option<Told<Here>>
-        ensures told { IfSome result (λ told. told ≡ self.old.publisher.published) }
-    {
-        match self.publisher.tell() {
-            Ok(told) => Some(told),
-            Err(_) => None,
-        }
+        true
     }
 
     /// Whether somebody waits for what becomes of a request.

@@ -1,7 +1,9 @@
-// A node opened for threads to share. A device and settings flow in; the node in its lock, its seats and its first outputs flow out, or why
-// there is none. What must not be here: files, sockets.
-ghost use Rattle.std.specs.Prelude.{◌≡◌, ◌<◌, ◌≤◌, IfOk};
-ghost use Rattle.dir_node.specs.NodeState.{nothing_executed};
+// Opens a node for threads to share, over a device: puts it into its lock, makes its seats, and hands on what its start sends. What must not be
+// here: files, sockets.
+ghost use Rattle.std.specs.Prelude.{◌≡◌, ◌<◌, ◌≤◌, true, false, IfOk, OnOk};
+ghost use Rattle.dir_node.specs.NodeState.{IsMade, given};
+ghost use Rattle.dir_node.specs.view_store.Slots.{found};
+ghost use Rattle.node_gate.specs.Starting.{MayStart, outcome_of_start, pair_of_start, state_of_start};
 
 use crate::held::Here;
 use crate::running::Running;
@@ -22,6 +24,43 @@ pub struct Opened<'a, R: Wait, D: Device> {
     pub restarts: u64,
 }
 
+/// The node of a first start.
+fn start_first<D: Device + Drop>(
+    alloc: Global,
+    device: D,
+    config: NodeConfig,
+) -> Result<(Node<D>, Outputs<Op>), NodeError>
+    requires within { config.index < config.count }
+    ensures made { let finding = found config.cluster (D.seen device) in
+        IfOk result (λ made. IsMade config (state_of_start true config.count finding) (pair_of_start true finding).restarts made.0) }
+    ensures outputs { let finding = found config.cluster (D.seen device) in
+        IfOk result (λ made. given made.0.replica made.1 ≡ outcome_of_start true config.count config.index finding) }
+{
+    match Node::fresh(alloc, device, config) {
+        Ok(made) => Ok(made),
+        Err(refused) => Err(refused.error),
+    }
+}
+
+/// The node of a later start.
+fn start_again<D: Device + Drop>(
+    alloc: Global,
+    device: D,
+    config: NodeConfig,
+) -> Result<(Node<D>, Outputs<Op>), NodeError>
+    requires within { config.index < config.count }
+    ensures own { OnOk result (MayStart false (found config.cluster (D.seen device))) }
+    ensures made { let finding = found config.cluster (D.seen device) in
+        IfOk result (λ made. IsMade config (state_of_start false config.count finding) (pair_of_start false finding).restarts made.0) }
+    ensures outputs { let finding = found config.cluster (D.seen device) in
+        IfOk result (λ made. given made.0.replica made.1 ≡ outcome_of_start false config.count config.index finding) }
+{
+    match Node::reopen(alloc, device, config) {
+        Ok(made) => Ok(made),
+        Err(refused) => Err(refused.error),
+    }
+}
+
 /// The node of a first or a later start. It has executed nothing yet.
 fn start<D: Device + Drop>(
     alloc: Global,
@@ -30,16 +69,16 @@ fn start<D: Device + Drop>(
     is_fresh: bool,
 ) -> Result<(Node<D>, Outputs<Op>), NodeError>
     requires within { config.index < config.count }
-    ensures { IfOk result (λ made. made.0.executed ≡ nothing_executed config) }
+    ensures own { OnOk result (MayStart is_fresh (found config.cluster (D.seen device))) }
+    ensures made { let finding = found config.cluster (D.seen device) in
+        IfOk result (λ made. IsMade config (state_of_start is_fresh config.count finding) (pair_of_start is_fresh finding).restarts made.0) }
+    ensures outputs { let finding = found config.cluster (D.seen device) in
+        IfOk result (λ made. given made.0.replica made.1 ≡ outcome_of_start is_fresh config.count config.index finding) }
 {
-    let opened = if is_fresh {
-        Node::fresh(alloc, device, config)
+    if is_fresh {
+        start_first(alloc, device, config)
     } else {
-        Node::reopen(alloc, device, config)
-    };
-    match opened {
-        Ok(opened) => Ok(opened),
-        Err(refused) => Err(refused.error),
+        start_again(alloc, device, config)
     }
 }
 
@@ -56,6 +95,12 @@ pub fn open<'a, R: Wait, D: Device + Drop>(
 ) -> Result<Opened<'a, R, D>, NodeError>
     requires within { config.index < config.count }
     requires seats { (0 < count) × (count ≤ 32) }
+
+    // The replica starts for the first time, or from the pair that was found: what it sends is what such a start sends, and its restarts are the pair's.
+    ensures own { OnOk result (MayStart is_fresh (found config.cluster (D.seen device))) }
+    ensures outputs { let finding = found config.cluster (D.seen device) in
+        IfOk result (λ opened. given (state_of_start is_fresh config.count finding) opened.outputs ≡ outcome_of_start is_fresh config.count config.index finding) }
+    ensures restarts { IfOk result (λ opened. opened.restarts ≡ (pair_of_start is_fresh (found config.cluster (D.seen device))).restarts) }
 {
     let (publisher, seats) = seats(
         rt,
@@ -65,10 +110,11 @@ pub fn open<'a, R: Wait, D: Device + Drop>(
         &config.suffix,
         count,
     )?;
+    let teller = publisher.teller()?;
     let (node, outputs) = start(alloc, device, config, is_fresh)?;
     let restarts = node.restarts();
     Ok(Opened {
-        running: Running::new(node, publisher, times),
+        running: Running::new(node, publisher, teller, times),
         seats,
         outputs,
         restarts,

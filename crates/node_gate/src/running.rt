@@ -15,7 +15,7 @@ use dir_node::{
     Client, Device, Event, Handled, Node, NodeError, Op, Outputs, PeerMessage, Send, Standing,
     copy_message,
 };
-use dir_seats::{Ended, Publisher, Told};
+use dir_seats::{Ended, Publisher, Teller, Told};
 use replica_clock::{Asked, Due, ReplicaClock, Times};
 use std::alloc::{AllocError, Global};
 use std::sync::{Condvar, CondvarTimeouts, Mutex, Wait};
@@ -34,6 +34,7 @@ pub struct Running<'a, R: Wait, D: Device> {
     held: Mutex<Held<'a, R, D>>,
     /// The standing after the last event, for who doesn't wait for the lock.
     standing: LastStanding,
+    teller: Teller<Here>,
     changed: Condvar,
     call: Mutex<Call>,
     called: Condvar,
@@ -45,6 +46,7 @@ impl<'a, R: Wait, D: Device + Drop> Drop for Running<'a, R, D> {
         let Running {
             held: _,
             standing: _,
+            teller: _,
             changed: _,
             call: _,
             called: _,
@@ -151,13 +153,14 @@ fn act<R: Wait, D: Device, P: Peers>(
 }
 
 impl<'a, R: Wait, D: Device> Running<'a, R, D> {
-    /// A node for threads to share, and the publisher to its seats, which was given nothing yet. Its clock begins at the moment 0.
+    /// A node for threads to share, the publisher to its seats, and what tells what that shows. Its clock begins at the moment 0.
     pub(crate) fn new(
         node: Node<D>,
         publisher: Publisher<Here, &'a R>,
+        teller: Teller<Here>,
         times: Times,
     ) -> Running<'a, R, D>
-        requires shows { IsGiven node.executed publisher 0 }
+        requires shows { IsGiven node.executed publisher }
     {
         let status = status_of(node.standing());
         let clock = ReplicaClock::new(
@@ -170,6 +173,7 @@ impl<'a, R: Wait, D: Device> Running<'a, R, D> {
         );
         Running {
             standing: LastStanding::new(node.standing()),
+            teller,
             held: Mutex::new(Held::new(node, publisher, clock)),
             changed: Condvar::new(),
             call: Mutex::new(Call {
@@ -268,10 +272,10 @@ impl<'a, R: Wait, D: Device> Running<'a, R, D> {
         self.standing.get()
     }
 
-    /// The whole of what the seats see at some moment of the call; none, where another thread has the lock just then, or where there is no place to
-    /// tell it by. It waits for nobody.
+    /// The whole of what the seats see at some moment of the call; none, where there is no place to tell it by. It takes no lock, and waits for
+    /// nobody.
     pub fn told(&self) -> Option<Told<Here>> {
-        self.held.try_lock()?.tell()
+        self.teller.tell()
     }
 
     /// What the node does at some moment of the call.

@@ -3,7 +3,7 @@ use Rattle.std.proofs.Common.{◌≡◌, ℕ, Bool, true, false, not, ◌&&◌, 
 use Rattle.std.specs.List.{list_any, list_all}
 use mathlib.Core.Path.{fun_ext}
 use Rattle.ldap_eval.specs.ldap_words.Families.{has_substrings}
-use Rattle.ldap_eval.specs.ldap_syntax.Meaning.{Meaning, text, as_text, part_meaning}
+use Rattle.ldap_eval.specs.ldap_syntax.Meaning.{Meaning, as_text, part_meaning}
 use Rattle.ldap_eval.specs.ldap_syntax.Keys as syntax_keys
 use Rattle.ldap_eval.specs.ldap_syntax.declared.preparing.Part.TheVariants.{Initial, Any, Final}
 use Rattle.ldap_eval.specs.ldap_words.declared.rule.Family.{Family}

@@ -1,5 +1,7 @@
 pub mod Equations
 pub mod Gathered
+pub mod Joined
+pub mod Sorted
 pub mod Numbers
 pub mod Passing
 pub mod Rising

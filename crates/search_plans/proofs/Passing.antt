@@ -1,5 +1,5 @@
 -- One candidate of a run is passed.
-use Rattle.std.proofs.Common.{◌≡◌, ℕ, zero, suc, ◌+◌, ◌^◌, ◌<◌, ◌≤◌, Bool, true, false, ◌&&◌, List, [], ◌∷◌, ◌++◌, length, take, drop, cond, refl, sym, ap, subst, ◌∙◌, arith, append_assoc, add-one}
+use Rattle.std.proofs.Common.{◌≡◌, ℕ, zero, suc, ◌+◌, ◌^◌, ◌<◌, ◌≤◌, Bool, true, false, ◌&&◌, List, [], ◌∷◌, ◌++◌, length, take, drop, cond, nat_eq, refl, sym, ap, subst, ◌∙◌, arith, append_assoc, add-one}
 use Rattle.std.specs.Prelude.{filter, nat_le}
 use Rattle.std.specs.List.{AllByRecursion}
 use Rattle.std.proofs.lemmas.Bool.{le-leb}
@@ -7,7 +7,9 @@ use Rattle.std.proofs.lemmas.Bool.Decides.{nat_tests}
 use Rattle.dir_index.specs.ldap_match.declared.truth.Truth.{Truth}
 use Rattle.dir_index.specs.Postings.{has_number, IsRising}
 use Rattle.search_plans.specs.Sets.{Guides}
-use Rattle.search_plans.specs.Runs.{is_true, is_open, is_asked, is_wanted, IsUnderWay}
+use Rattle.search_plans.specs.Runs.{is_true, is_open, is_asked, is_wanted, AreInside, IsUnderWay}
+use Rattle.search_plans.proofs.Rising.{has_head}
+use Rattle.search_plans.proofs.Searching.{or_late}
 
 pub filter_yes : (p : ℕ → Bool) (x : ℕ) (xs : List ℕ) → p x ≡ true → filter p (x ∷ xs) ≡ x ∷ filter p xs
 filter_yes p x xs h = ap (λ (b : Bool). cond b (x ∷ filter p xs) (filter p xs)) h
@@ -179,3 +181,10 @@ even_more a b x d a' d' k e f g = omega arith
 -- all that is left open was asked for, once no candidate is left
 pub none_left : (must may : ℕ → Bool) (value : ℕ → Truth) (scope candidates : List ℕ) (t l : ℕ) → IsUnderWay must may value scope candidates t l → candidates ≡ [] → t ≡ length (filter (is_open must may) scope)
 none_left must may value scope candidates t l w e = all_counted (filter (is_open must may) scope) t w.within (w.left ∙ ap (filter (is_asked must may scope)) e)
+
+-- candidates that are known to be in scope: the first, and the others
+pub inside_first : (is_known : Bool) (n : ℕ) (rest scope candidates : List ℕ) → candidates ≡ n ∷ rest → AreInside is_known candidates scope → is_known ≡ true → has_number n scope ≡ true
+inside_first is_known n rest scope candidates is h known = h known n (subst (λ (c : List ℕ). has_number n c ≡ true) (sym is) (has_head n rest))
+
+pub inside_rest : (is_known : Bool) (n : ℕ) (rest scope candidates : List ℕ) → candidates ≡ n ∷ rest → AreInside is_known candidates scope → AreInside is_known rest scope
+inside_rest is_known n rest scope candidates is h known m there = h known m (subst (λ (c : List ℕ). has_number m c ≡ true) (sym is) (or_late (nat_eq m n) _ there))

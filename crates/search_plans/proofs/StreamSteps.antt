@@ -1,24 +1,18 @@
--- One step of the loops over borrowed lists.
-use Rattle.std.proofs.Common.{◌≡◌, ℕ, ◌+◌, ◌<◌, List, [], ◌∷◌, ◌++◌, length, map, take, drop, get_or, set, sym, ap, subst, ◌∙◌, Option, Bor}
-use Rattle.std.proofs.lemmas.List.{map_more, map-set, get_or-map}
+-- One step of the loops over walks.
+use Rattle.std.proofs.Common.{◌≡◌, ℕ, ◌+◌, ◌<◌, List, [], ◌∷◌, ◌++◌, length, map, take, drop, get_or, set, refl, sym, ap, subst, ◌∙◌, Option}
+use Rattle.std.proofs.lemmas.List.{take_more}
 use Rattle.std.proofs.lemmas.List.Edits.{map_over_more}
 use Rattle.search_plans.specs.Streams.{behind, IsLeastHead, lesser}
 use Rattle.search_plans.proofs.Together.{least_push}
 
--- what the borrowed lists have
-abbrev pub lists_of : List (Bor (List ℕ)) → List (List ℕ)
-lists_of ls = map (λ (x : Bor (List ℕ)). x.now) ls
+pub least_step : (ls : List (List ℕ)) (i : ℕ) (x : List ℕ) (best best' : Option ℕ) → i < length ls → x ≡ get_or ls i x → best' ≡ lesser best x
+    → IsLeastHead best (take i ls) → IsLeastHead best' (take (i + 1) ls)
+least_step ls i x best best' lt at is so_far =
+    let more : take (i + 1) ls ≡ take i ls ++ x ∷ [] = take_more ls i x lt ∙ ap (λ (y : List ℕ). take i ls ++ y ∷ []) (sym at) in
+    rw (more, is) (least_push best (take i ls) x so_far)
 
-pub least_step : (ls : List (Bor (List ℕ))) (i : ℕ) (d : Bor (List ℕ)) (best best' : Option ℕ) → i < length ls → best' ≡ lesser best (get_or ls i d).now
-    → IsLeastHead best (lists_of (take i ls)) → IsLeastHead best' (lists_of (take (i + 1) ls))
-least_step ls i d best best' lt is so_far =
-    let more : lists_of (take (i + 1) ls) ≡ lists_of (take i ls) ++ (get_or ls i d).now ∷ [] = map_more (λ (x : Bor (List ℕ)). x.now) ls i d lt in
-    rw (more, is) (least_push best (lists_of (take i ls)) (get_or ls i d).now so_far)
-
-pub skip_step : (n : ℕ) (old : List (List ℕ)) (ls : List (Bor (List ℕ))) (i : ℕ) (d r : Bor (List ℕ)) → i < length ls → length ls ≡ length old
-    → lists_of ls ≡ map (behind n) (take i old) ++ drop i old → r.now ≡ behind n (get_or ls i d).now
-    → lists_of (set ls i r) ≡ map (behind n) (take (i + 1) old) ++ drop (i + 1) old
-skip_step n old ls i d r lt same so_far is =
-    map-set (λ (x : Bor (List ℕ)). x.now) ls i r ∙ ap (set (lists_of ls) i) is
-    ∙ map_over_more (behind n) old (lists_of ls) i (get_or ls i d).now (subst (λ (k : ℕ). i < k) same lt) so_far
-    (sym (get_or-map (λ (x : Bor (List ℕ)). x.now) ls i d (get_or ls i d).now lt))
+pub skip_step : (n : ℕ) (old ls : List (List ℕ)) (i : ℕ) (x r : List ℕ) → i < length ls → length ls ≡ length old
+    → ls ≡ map (behind n) (take i old) ++ drop i old → x ≡ get_or ls i x → r ≡ behind n x
+    → set ls i r ≡ map (behind n) (take (i + 1) old) ++ drop (i + 1) old
+skip_step n old ls i x r lt same so_far at is =
+    ap (set ls i) is ∙ map_over_more (behind n) old ls i x (subst (λ (k : ℕ). i < k) same lt) so_far at

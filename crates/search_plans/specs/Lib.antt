@@ -1,4 +1,6 @@
 pub mod Sets
+pub mod Scopes
+pub mod Walks
 pub mod Streams
 pub mod Runs
 pub mod Bounds

@@ -49,6 +49,10 @@ is_left_open kept s scope n = is_asked (is_in kept scope s.must) (is_in kept sco
 abbrev pub is_wanted : (ℕ → Truth) → List ℕ → ℕ → Bool
 is_wanted value scope n = has_number n scope && is_true (value n)
 
+-- where it is known of candidates, they all are in scope
+abbrev pub AreInside : Bool → List ℕ → List ℕ → Type 0
+AreInside is_known candidates scope = is_known ≡ true → (n : ℕ) → has_number n candidates ≡ true → has_number n scope ≡ true
+
 -- The progress of a run that has these candidates left.
 abbrev pub progress_of : (ℕ → Bool) → (ℕ → Bool) → (ℕ → Truth) → List ℕ → List ℕ → ℕ → ℕ → Progress
 progress_of must may value scope candidates tests looks = record {

@@ -38,6 +38,10 @@ abbrev pub is_in : Lists → List ℕ → Plan → ℕ → Bool
 is_in kept scope p n =
     in_plan (has_number n scope) (λ x. has_number n (kept.posting x)) (λ r. has_number n (kept.range r)) p
 
+-- the same where it is known whether the number is in scope
+abbrev pub is_in_when : Lists → Bool → Plan → ℕ → Bool
+is_in_when kept in_scope p n = in_plan in_scope (λ x. has_number n (kept.posting x)) (λ r. has_number n (kept.range r)) p
+
 -- the set of a plan within the scope, in order
 abbrev pub plan_set : Lists → List ℕ → Plan → List ℕ
 plan_set kept scope p = filter (is_in kept scope p) scope

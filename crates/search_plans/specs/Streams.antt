@@ -58,3 +58,7 @@ Draws may scope candidates = (p : ℕ → Bool) → ((n : ℕ) → has_number n 
 pub record Gathers (passes : ℕ → Bool) (scope : List ℕ) (before after : List (List ℕ)) : Type 0 where
   pub keeps : (n : ℕ) → list_any (has_number n) before ≡ true → list_any (has_number n) after ≡ true
   pub covers : (n : ℕ) → has_number n scope ≡ true → passes n ≡ true → list_any (has_number n) after ≡ true
+
+-- lists that have all that some lists had, and these numbers
+abbrev pub GathersAll : List ℕ → List (List ℕ) → List (List ℕ) → Type 0
+GathersAll ns before after = (scope : List ℕ) → Gathers (λ n. has_number n ns) scope before after

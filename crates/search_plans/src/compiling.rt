@@ -19,6 +19,7 @@ ghost use Rattle.search_plans.specs.OctetRuns.{has_runs_for};
 ghost use Rattle.search_plans.specs.Sides.{IsSide, IsEvery, IsAny, EachSide};
 
 use crate::agreeing::sets_are_of_entries;
+use crate::joining::join_bounds;
 use crate::leaves::leaf_side;
 use crate::plan::{Plan, Sided};
 use dir_index::Indexes;
@@ -63,7 +64,8 @@ fn side(
     }
 }
 
-/// The plans of where every filter of a row has the wanted value.
+/// The plans of where every filter of a row has the wanted value. Among what may be stands what lies between
+/// two bounds on one type, since fewer candidates are drawn from it than from either bound.
 #[cycle(side)]
 fn every(
     alloc: Global,
@@ -73,7 +75,8 @@ fn every(
 ) -> Result<Sided, AllocError>
     ensures { IfOk result (λ s. IsEvery indexes.now wanted filters.now s.must s.may) }
 {
-    let (musts, mays) = sides(alloc, filters, wanted, indexes)?;
+    let (musts, mut mays) = sides(alloc, filters, wanted, indexes)?;
+    join_bounds(alloc, &mut mays)?;
     Ok(Sided {
         must: Plan::Inter(musts),
         may: Plan::Inter(mays),
@@ -135,8 +138,9 @@ pub fn compile(alloc: Global, filter: &BoundFilter, indexes: &Indexes) -> Result
     // What may be true holds each run of three octets that the filter's substrings items ask for.
     ensures runs { IfOk result (λ s. (e : List KeyedAttribute) → holds indexes.now e s.may ≡ true
         → has_runs_for indexes.now e filter.now ≡ true) }
-    // By the filter that it is made of, and its value on entries: must lies in the true set, and the true set in may; where the schema and the index
-    // choice decide the filter, both are its true set; and what may be has values that hold each run that its substrings items ask for.
+    // By the filter that it is made of, and its value on entries: must lies in the true set, and the true set
+    // in may; where the schema and the index choice decide the filter, both are its true set; and what may be
+    // has values that hold each run that its substrings items ask for.
     ensures filters { IfOk result (λ s. (m : SchemaModel) (t : Tree) → IsBoundTo m t filter.now → IsMadeOf m t filter.now
         → ArePlansFor m indexes.now t s.must s.may) }
 {

@@ -1,43 +1,41 @@
-// Membership in plans. A plan, what is kept, a scope and a number flow in, a yes or no flows out, without memory.
+// Membership in plans. A plan, what is kept and a number go in, a yes or no comes out, without memory.
 // What must not be here: lists that are made of a plan's set.
 
-ghost use Rattle.std.specs.Prelude.{◌≡◌};
+ghost use Rattle.std.specs.Prelude.{◌≡◌, true};
 ghost use Rattle.std.specs.List.{list_any, list_all};
-ghost use Rattle.dir_index.specs.Postings.{IsRising};
-ghost use Rattle.search_plans.specs.Sets.{is_in};
+ghost use Rattle.dir_index.specs.Postings.{has_number};
+ghost use Rattle.search_plans.specs.Sets.{is_in, is_in_when};
 
-use crate::having::has;
 use crate::plan::Plan;
+use crate::scope::Scope;
 use dir_index::Kept;
 
-/// Whether a number is in the set of a plan. Each posting list that the plan names costs a look-up and a binary
-/// search.
+/// Whether a number is in the set of a plan, where the caller knows whether it is in scope. Each posting list
+/// that the plan names costs two look-ups: of the list, and of the number in it.
 #[cycle(contains)]
-pub fn contains<K: Kept>(plan: &Plan, kept: &K, scope: &[u64], number: u64) -> bool
-    requires { IsRising scope.now }
-    ensures { result ≡ is_in (K.lists kept.now) scope.now plan.now number }
+fn is_member<K: Kept>(plan: &Plan, kept: &K, in_scope: bool, number: u64) -> bool
+    ensures { result ≡ is_in_when (K.lists kept.now) in_scope plan.now number }
 {
     match plan {
         Plan::Empty => false,
-        Plan::Scope => has(scope, number),
-        Plan::Posting(posting) => kept.in_posting(posting, number),
+        Plan::Scope => in_scope,
+        Plan::Posting(posting) => kept.numbers(posting).contains(number),
         Plan::Range(range) => kept.in_range(range, number),
-        Plan::Union(plans) => in_any(plans, kept, scope, number),
-        Plan::Inter(plans) => in_all(plans, kept, scope, number),
+        Plan::Union(plans) => in_any(plans, kept, in_scope, number),
+        Plan::Inter(plans) => in_all(plans, kept, in_scope, number),
         Plan::Minus(plan, without) => {
-            contains(plan, kept, scope, number) && !contains(without, kept, scope, number)
+            is_member(plan, kept, in_scope, number) && !is_member(without, kept, in_scope, number)
         }
     }
 }
 
 /// Whether a number is in the set of one of the plans.
 #[cycle(contains)]
-fn in_any<K: Kept>(plans: &[Plan], kept: &K, scope: &[u64], number: u64) -> bool
-    requires { IsRising scope.now }
-    ensures { result ≡ list_any (λ p. is_in (K.lists kept.now) scope.now p number) plans.now }
+fn in_any<K: Kept>(plans: &[Plan], kept: &K, in_scope: bool, number: u64) -> bool
+    ensures { result ≡ list_any (λ p. is_in_when (K.lists kept.now) in_scope p number) plans.now }
 {
     for plan in plans {
-        if contains(plan, kept, scope, number) {
+        if is_member(plan, kept, in_scope, number) {
             return true;
         }
     }
@@ -46,14 +44,30 @@ fn in_any<K: Kept>(plans: &[Plan], kept: &K, scope: &[u64], number: u64) -> bool
 
 /// Whether a number is in the set of all the plans.
 #[cycle(contains)]
-fn in_all<K: Kept>(plans: &[Plan], kept: &K, scope: &[u64], number: u64) -> bool
-    requires { IsRising scope.now }
-    ensures { result ≡ list_all (λ p. is_in (K.lists kept.now) scope.now p number) plans.now }
+fn in_all<K: Kept>(plans: &[Plan], kept: &K, in_scope: bool, number: u64) -> bool
+    ensures { result ≡ list_all (λ p. is_in_when (K.lists kept.now) in_scope p number) plans.now }
 {
     for plan in plans {
-        if !contains(plan, kept, scope, number) {
+        if !is_member(plan, kept, in_scope, number) {
             return false;
         }
     }
     true
+}
+
+/// Whether a number is in the set of a plan. The scope costs one look-up, and each posting list that the plan
+/// names two.
+pub fn contains<K: Kept>(plan: &Plan, kept: &K, scope: &Scope, number: u64) -> bool
+    ensures { result ≡ is_in (K.lists kept.now) scope.now plan.now number }
+{
+    is_member(plan, kept, scope.has(number), number)
+}
+
+/// Whether a number of the scope is in the set of a plan. The scope isn't asked.
+pub(crate) fn contains_inside<K: Kept>(plan: &Plan, kept: &K, scope: &Scope, number: u64) -> bool
+    requires { has_number number scope.now ≡ true }
+    ensures { result ≡ is_in (K.lists kept.now) scope.now plan.now number }
+{
+    let _ = scope;
+    is_member(plan, kept, true, number)
 }

@@ -1,139 +1,220 @@
-// Candidates of a plan: posting lists that together have at least the numbers of its set within the scope. A plan
-// and what is kept flow in, a stream flows out. What must not be here: whether a candidate is in the set.
+// Candidates of a plan: walks that together have at least the numbers of its set within the scope. A plan
+// and what is kept go in, a stream comes out. What must not be here: whether a candidate is in the set.
 
-ghost use Rattle.std.specs.Prelude.{◌≡◌, ◌∷◌, ◌++◌, [], map, IfOk, OnOk};
+ghost use Rattle.std.specs.Prelude.{◌≡◌, ℕ, false, IfOk, OnOk};
 ghost use Rattle.std.specs.List.{list_any, list_all};
-ghost use Rattle.dir_index.specs.Postings.{IsRising, AreRising};
+ghost use Rattle.dir_index.specs.Postings.{has_number, IsRising, AreRising};
 ghost use Rattle.search_plans.specs.Sets.{is_in};
-ghost use Rattle.search_plans.specs.Streams.{Covers, Draws, Gathers};
+ghost use Rattle.search_plans.specs.Runs.{AreInside};
+ghost use Rattle.search_plans.specs.Streams.{Covers, Draws, Gathers, GathersAll};
 
 use crate::estimating::{is_cheap, smallest};
 use crate::plan::Plan;
+use crate::scope::Scope;
 use crate::stream::Stream;
-use dir_index::Kept;
+use crate::walking::Walk;
+use dir_index::{Kept, Range};
+use shared_map::NumberSet;
 use std::alloc::{AllocError, Global};
 
-/// Puts one list behind those that are there.
-fn push_list<'a>(list: &'a [u64], into: &mut Vec<&'a [u64]>) -> Result<(), AllocError>
-    ensures { OnOk result (map (λ x. x.now) into.new.items ≡ map (λ x. x.now) into.old.items ++ list.now ∷ []) }
+/// Puts one walk behind those that are there.
+fn push_walk<'a>(walk: Walk<'a>, into: &mut Vec<Walk<'a>>) -> Result<(), AllocError>
+    requires { IsRising walk }
+    ensures gathers { OnOk result (GathersAll walk.entry into.old.items into.new.items) }
+    ensures rising { OnOk result (AreRising into.old.items → AreRising into.new.items) }
 {
-    into.push(list)?;
+    into.push(walk)?;
     Ok(())
 }
 
-/// Puts lists behind those that are there that together have each number of the scope that is in the set of the plan.
+/// The numbers of a range, each once, in rising order.
+fn numbers_in<K: Kept>(alloc: Global, range: &Range, kept: &K) -> Result<Vec<u64>, AllocError>
+    ensures same { IfOk result (λ v. (n : ℕ)
+        → has_number n v.items ≡ has_number n ((K.lists kept.now).range range.now)) }
+    ensures rising { IfOk result (λ v. IsRising v.items) }
+{
+    let mut numbers = Vec::new(alloc);
+    kept.push_range(range, &mut numbers)?;
+    numbers.sort_unstable();
+    numbers.dedup();
+    Ok(numbers)
+}
+
+/// Puts a walk through the numbers of a range behind those that are there.
+fn push_range<'a, K: Kept>(
+    alloc: Global,
+    range: &Range,
+    kept: &K,
+    into: &mut Vec<Walk<'a>>,
+) -> Result<(), AllocError>
+    ensures gathers { OnOk result (GathersAll ((K.lists kept.now).range range.now) into.old.items into.new.items) }
+    ensures rising { OnOk result (AreRising into.old.items → AreRising into.new.items) }
+{
+    let numbers = numbers_in(alloc, range, kept)?;
+    push_walk(Walk::of_gathered(numbers), into)
+}
+
+/// Puts a walk through a set behind those that are there.
+fn push_set<'a>(set: &'a NumberSet, into: &mut Vec<Walk<'a>>) -> Result<(), AllocError>
+    ensures gathers { OnOk result (GathersAll set.now into.old.items into.new.items) }
+    ensures rising { OnOk result (AreRising into.old.items → AreRising into.new.items) }
+{
+    set.rises();
+    push_walk(Walk::of_set(set), into)
+}
+
+/// Puts a walk through the scope behind those that are there.
+fn push_scope<'a>(scope: &Scope<'a>, into: &mut Vec<Walk<'a>>) -> Result<(), AllocError>
+    ensures gathers { OnOk result (GathersAll scope.now into.old.items into.new.items) }
+    ensures rising { OnOk result (AreRising into.old.items → AreRising into.new.items) }
+{
+    scope.rises();
+    push_walk(scope.walk(), into)
+}
+
+/// Puts walks behind those that are there that together have each number of the scope that is in the set of the plan.
 #[cycle(gather)]
-fn push_lists<'a, K: Kept>(
+fn push_walks<'a, K: Kept>(
+    alloc: Global,
     plan: &Plan,
     kept: &'a K,
-    scope: &'a [u64],
-    into: &mut Vec<&'a [u64]>,
+    scope: &Scope<'a>,
+    into: &mut Vec<Walk<'a>>,
 ) -> Result<(), AllocError>
-    requires { IsRising scope.now }
     ensures gathers { OnOk result (Gathers (is_in (K.lists kept.now) scope.now plan.now) scope.now
-        (map (λ x. x.now) into.old.items) (map (λ x. x.now) into.new.items)) }
-    ensures rising { OnOk result (AreRising (map (λ x. x.now) into.old.items)
-        → AreRising (map (λ x. x.now) into.new.items)) }
+        into.old.items into.new.items) }
+    ensures rising { OnOk result (AreRising into.old.items → AreRising into.new.items) }
 {
     match plan {
         Plan::Empty => Ok(()),
-        Plan::Scope => push_list(scope, into),
-        Plan::Posting(posting) => push_list(kept.numbers(posting), into),
-        Plan::Range(range) => kept.push_range(range, into),
-        Plan::Union(plans) => push_each(plans, kept, scope, into),
-        Plan::Inter(plans) => push_one(plans, kept, scope, into),
-        Plan::Minus(plan, _) => push_lists(plan, kept, scope, into),
+        Plan::Scope => push_scope(scope, into),
+        Plan::Posting(posting) => push_set(kept.numbers(posting), into),
+        Plan::Range(range) => push_range(alloc, range, kept, into),
+        Plan::Union(plans) => push_each(alloc, plans, kept, scope, into),
+        Plan::Inter(plans) => push_one(alloc, plans, kept, scope, into),
+        Plan::Minus(plan, _) => push_walks(alloc, plan, kept, scope, into),
     }
 }
 
 /// The same for all that are in the set of one of the plans.
 #[cycle(gather)]
 fn push_each<'a, K: Kept>(
+    alloc: Global,
     plans: &[Plan],
     kept: &'a K,
-    scope: &'a [u64],
-    into: &mut Vec<&'a [u64]>,
+    scope: &Scope<'a>,
+    into: &mut Vec<Walk<'a>>,
 ) -> Result<(), AllocError>
-    requires { IsRising scope.now }
     ensures gathers { OnOk result (Gathers (λ n. list_any (λ p. is_in (K.lists kept.now) scope.now p n) plans.now)
-        scope.now (map (λ x. x.now) into.old.items) (map (λ x. x.now) into.new.items)) }
-    ensures rising { OnOk result (AreRising (map (λ x. x.now) into.old.items)
-        → AreRising (map (λ x. x.now) into.new.items)) }
+        scope.now into.old.items into.new.items) }
+    ensures rising { OnOk result (AreRising into.old.items → AreRising into.new.items) }
 {
     for plan in plans {
-        push_lists(plan, kept, scope, into)?;
+        push_walks(alloc, plan, kept, scope, into)?;
     }
     Ok(())
 }
 
-/// The same for all that are in the sets of all the plans: the lists of the plan that seems to have the fewest
-/// numbers, or the scope.
+/// The same for all that are in the sets of all the plans: the walks of the plan that seems to cost least, or
+/// the scope.
 #[cycle(gather)]
 fn push_one<'a, K: Kept>(
+    alloc: Global,
     plans: &[Plan],
     kept: &'a K,
-    scope: &'a [u64],
-    into: &mut Vec<&'a [u64]>,
+    scope: &Scope<'a>,
+    into: &mut Vec<Walk<'a>>,
 ) -> Result<(), AllocError>
-    requires { IsRising scope.now }
     ensures gathers { OnOk result (Gathers (λ n. list_all (λ p. is_in (K.lists kept.now) scope.now p n) plans.now)
-        scope.now (map (λ x. x.now) into.old.items) (map (λ x. x.now) into.new.items)) }
-    ensures rising { OnOk result (AreRising (map (λ x. x.now) into.old.items)
-        → AreRising (map (λ x. x.now) into.new.items)) }
+        scope.now into.old.items into.new.items) }
+    ensures rising { OnOk result (AreRising into.old.items → AreRising into.new.items) }
 {
     let best = smallest(plans, kept, scope);
     for (i, plan) in plans.iter().enumerate() {
         if i == best {
-            return push_lists(plan, kept, scope, into);
+            return push_walks(alloc, plan, kept, scope, into);
         }
     }
-    push_list(scope, into)
+    push_scope(scope, into)
 }
 
-/// The candidates, from the plan's lists where that is cheap, else from the scope.
-fn draw<'a, K: Kept>(
+/// Candidates, and whether each of them is known to be in scope.
+#[derive(Drop)]
+pub struct Drawn<'a> {
+    pub stream: Stream<'a>,
+    pub is_inside: bool,
+}
+
+/// The scope as candidates.
+fn scope_alone<'a>(alloc: Global, scope: &Scope<'a>) -> Result<Drawn<'a>, AllocError>
+    ensures { IfOk result (λ d. d.stream ≡ scope.now) }
+{
+    scope.rises();
+    let mut walks = Vec::new(alloc);
+    walks.push(scope.walk())?;
+    Ok(Drawn {
+        stream: Stream::new(walks),
+        is_inside: true,
+    })
+}
+
+/// The candidates from the plan's walks.
+fn from_plan<'a, K: Kept>(
     alloc: Global,
     plan: &Plan,
     kept: &'a K,
-    scope: &'a [u64],
-) -> Result<Stream<'a>, AllocError>
-    requires { IsRising scope.now }
-    ensures covers { IfOk result (λ s. Covers (is_in (K.lists kept.now) scope.now plan.now) scope.now s) }
-    ensures rising { IfOk result (λ s. IsRising s) }
+    scope: &Scope<'a>,
+) -> Result<Drawn<'a>, AllocError>
+    ensures covers { IfOk result (λ d. Covers (is_in (K.lists kept.now) scope.now plan.now) scope.now d.stream) }
+    ensures rising { IfOk result (λ d. IsRising d.stream) }
+    ensures outside { IfOk result (λ d. d.is_inside ≡ false) }
 {
-    let mut lists = Vec::new(alloc);
-    push_lists(plan, kept, scope, &mut lists)?;
-    if is_cheap(&lists, scope) {
-        Ok(Stream::new(lists))
+    let mut walks = Vec::new(alloc);
+    push_walks(alloc, plan, kept, scope, &mut walks)?;
+    Ok(Drawn {
+        stream: Stream::new(walks),
+        is_inside: false,
+    })
+}
+
+/// The candidates, from the plan's walks where that is cheap, else from the scope. Nothing is gathered before
+/// that is settled.
+pub fn draw<'a, K: Kept>(
+    alloc: Global,
+    plan: &Plan,
+    kept: &'a K,
+    scope: &Scope<'a>,
+) -> Result<Drawn<'a>, AllocError>
+    ensures covers { IfOk result (λ d. Covers (is_in (K.lists kept.now) scope.now plan.now) scope.now d.stream) }
+    ensures rising { IfOk result (λ d. IsRising d.stream) }
+    ensures inside { IfOk result (λ d. AreInside d.is_inside d.stream scope.now) }
+{
+    scope.rises();
+    if is_cheap(plan, kept, scope) {
+        from_plan(alloc, plan, kept, scope)
     } else {
         scope_alone(alloc, scope)
     }
 }
 
-/// The candidates of a plan, in rising order: all numbers of the scope that are in its set are among them, and
-/// others may be. What they are drawn from stays borrowed, and the vector of lists is all the memory that is taken,
-/// here and later.
+/// The candidates of a plan, in rising order: all numbers of the scope that are in its set are among them,
+/// and others may be. What they are drawn from stays borrowed. The walks, and the numbers of a range, which
+/// are gathered once and sorted, are all the memory that is taken, here and later.
 pub fn candidates<'a, K: Kept>(
     alloc: Global,
     plan: &Plan,
     kept: &'a K,
-    scope: &'a [u64],
+    scope: &Scope<'a>,
 ) -> Result<Stream<'a>, AllocError>
-    requires { IsRising scope.now }
     ensures covers { IfOk result (λ s. Covers (is_in (K.lists kept.now) scope.now plan.now) scope.now s) }
     ensures rising { IfOk result (λ s. IsRising s) }
     ensures draws { IfOk result (λ s. Draws (is_in (K.lists kept.now) scope.now plan.now) scope.now s) }
 {
-    let stream = draw(alloc, plan, kept, scope)?;
+    scope.rises();
+    let drawn = draw(alloc, plan, kept, scope)?;
+    let Drawn {
+        stream,
+        is_inside: _,
+    } = drawn;
     Ok(stream)
-}
-
-/// The scope as candidates.
-fn scope_alone<'a>(alloc: Global, scope: &'a [u64]) -> Result<Stream<'a>, AllocError>
-    requires { IsRising scope.now }
-    ensures { IfOk result (λ s. s ≡ scope.now) }
-{
-    let mut lists = Vec::new(alloc);
-    push_list(scope, &mut lists)?;
-    Ok(Stream::new(lists))
 }

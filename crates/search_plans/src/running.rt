@@ -2,11 +2,11 @@
 // What must not be here: how one candidate is told.
 
 ghost use Rattle.std.specs.Prelude.{◌≡◌, ◌+◌, ◌^◌, ◌<◌, ◌≤◌, [], ◌∷◌, filter, length, nat_le, IfOk, MatchOption};
-ghost use Rattle.dir_index.specs.Postings.{IsRising};
 ghost use Rattle.search_plans.specs.Runs.{AreGuides, left_open, true_set};
 
-use crate::gathering::candidates;
+use crate::gathering::{Drawn, draw};
 use crate::plan::Sided;
+use crate::scope::Scope;
 use crate::stream::Stream;
 use crate::telling::is_found;
 use crate::values::Values;
@@ -19,15 +19,17 @@ use std::marker::Model;
 pub struct Running<'a, K: Kept, V: Values> {
     sided: &'a Sided,
     kept: &'a K,
-    scope: &'a [u64],
+    scope: &'a Scope<'a>,
     stream: Stream<'a>,
+    /// Whether the candidates are known to be in scope, which then isn't asked of each.
+    is_inside: bool,
     values: V,
     tests: u64,
 }
 
 impl<'a, K: Kept, V: Values> Model for Running<'a, K, V> {
     ghost use Rattle.search_plans.specs.Sets.{is_in};
-    ghost use Rattle.search_plans.specs.Runs.{Progress, progress_of, IsUnderWay};
+    ghost use Rattle.search_plans.specs.Runs.{Progress, progress_of, IsUnderWay, AreInside};
 
     ghost Value = { Progress };
 
@@ -37,7 +39,7 @@ impl<'a, K: Kept, V: Values> Model for Running<'a, K, V> {
 
     ghost invariant = { λ r. IsUnderWay (is_in (K.lists r.kept.now) r.scope.now r.sided.now.must)
         (is_in (K.lists r.kept.now) r.scope.now r.sided.now.may) (V.value_at r.values) r.scope.now r.stream
-        r.tests (V.looks r.values) };
+        r.tests (V.looks r.values) × AreInside r.is_inside r.stream r.scope.now };
 }
 
 /// Starts a run of two plans that bound the entries whose value is True, within a scope. It takes the memory for the
@@ -46,10 +48,9 @@ pub fn start<'a, K: Kept, V: Values + Drop>(
     alloc: Global,
     sided: &'a Sided,
     kept: &'a K,
-    scope: &'a [u64],
+    scope: &'a Scope<'a>,
     values: V,
 ) -> Result<Running<'a, K, V>, AllocError>
-    requires rising { IsRising scope.now }
     requires guides { AreGuides (K.lists kept.now) sided.now (V.value_at values) scope.now }
     requires room { V.looks values + length scope.now < 2 ^ 64 }
     ensures numbers { IfOk result (λ r. r.to_come ≡ true_set (V.value_at values) scope.now) }
@@ -57,12 +58,15 @@ pub fn start<'a, K: Kept, V: Values + Drop>(
     ensures none_yet { IfOk result (λ r. r.tests ≡ 0) }
     ensures looks { IfOk result (λ r. r.looks ≡ V.looks values) }
 {
-    let stream = candidates(alloc, &sided.may, kept, scope)?;
+    scope.rises();
+    let drawn = draw(alloc, &sided.may, kept, scope)?;
+    let Drawn { stream, is_inside } = drawn;
     Ok(Running {
         sided,
         kept,
         scope,
         stream,
+        is_inside,
         values,
         tests: 0,
     })
@@ -85,6 +89,7 @@ impl<'a, K: Kept, V: Values> Running<'a, K, V> {
                 self.sided,
                 self.kept,
                 self.scope,
+                self.is_inside,
                 &mut self.values,
                 &mut self.tests,
                 number,
@@ -111,6 +116,7 @@ impl<'a, K: Kept, V: Values> Running<'a, K, V> {
             kept: _,
             scope: _,
             stream: _,
+            is_inside: _,
             values,
             tests: _,
         } = self;
@@ -134,10 +140,9 @@ pub fn run<K: Kept, V: Values + Drop>(
     alloc: Global,
     sided: &Sided,
     kept: &K,
-    scope: &[u64],
+    scope: &Scope,
     values: V,
 ) -> Result<Ran<V>, AllocError>
-    requires rising { IsRising scope.now }
     requires guides { AreGuides (K.lists kept.now) sided.now (V.value_at values) scope.now }
     requires room { V.looks values + length scope.now < 2 ^ 64 }
     ensures numbers { IfOk result (λ r. r.numbers.items ≡ true_set (V.value_at values) scope.now) }

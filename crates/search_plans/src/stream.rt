@@ -1,90 +1,81 @@
-// Candidates: rising lists that are borrowed, seen as one rising list. Lists flow in, numbers flow out, one a call,
-// without memory.
+// Candidates: walks through rising numbers, seen as one rising list. Walks go in, numbers come out, one a
+// call, without memory.
 // What must not be here: plans, entries.
 
-ghost use Rattle.std.specs.Prelude.{◌≡◌, ◌∷◌, [], map, true, MatchOption};
+ghost use Rattle.std.specs.Prelude.{◌≡◌, ◌∷◌, [], map, MatchOption};
 ghost use Rattle.search_plans.specs.Streams.{behind as left_behind, lesser, together, IsLeastHead};
 ghost use Rattle.dir_index.specs.Postings.{AreRising};
 
+use crate::walking::Walk;
 use std::marker::Model;
 
-/// Rising lists, seen as one: the numbers that are still to come.
+/// Walks through rising numbers, seen as one: the numbers that are still to come.
 #[derive(Drop)]
 pub struct Stream<'a> {
-    lists: Vec<&'a [u64]>,
+    walks: Vec<Walk<'a>>,
 }
 
 impl<'a> Model for Stream<'a> {
-    ghost use Rattle.std.specs.Prelude.{ℕ, List, map};
+    ghost use Rattle.std.specs.Prelude.{ℕ, List};
     ghost use Rattle.search_plans.specs.Streams.{together};
     ghost use Rattle.dir_index.specs.Postings.{AreRising};
 
     ghost Value = { List ℕ };
 
-    ghost view = { λ s. together (map (λ x. x.now) s.lists.items) };
+    ghost view = { λ s. together s.walks.items };
 
-    ghost invariant = { λ s. AreRising (map (λ x. x.now) s.lists.items) };
+    ghost invariant = { λ s. AreRising s.walks.items };
 }
 
-/// The smaller of a number that was found and a list's head.
-fn smaller(best: Option<u64>, list: &[u64]) -> Option<u64>
-    ensures { result ≡ lesser best list.now }
+/// The smaller of a number that was found and the one that comes next in a walk.
+fn smaller(best: Option<u64>, walk: &Walk) -> Option<u64>
+    ensures { result ≡ lesser best walk.now }
 {
-    match list {
-        [] => best,
-        [first, ..] => match best {
-            Some(best) if *first >= best => Some(best),
-            _ => Some(*first),
+    match walk.head() {
+        None => best,
+        Some(first) => match best {
+            Some(best) if first >= best => Some(best),
+            _ => Some(first),
         },
     }
 }
 
-/// The smallest head.
-fn least_head(lists: &[&[u64]]) -> Option<u64>
-    ensures { IsLeastHead result (map (λ x. x.now) lists.now) }
+/// The smallest number that comes next.
+fn least_head(walks: &[Walk]) -> Option<u64>
+    ensures { IsLeastHead result walks.now }
 {
     let mut best = None;
-    for list in lists {
-        best = smaller(best, list);
+    for walk in walks {
+        best = smaller(best, walk);
     }
     best
 }
 
-/// The list without the number at its head.
-fn behind<'a>(list: &'a [u64], number: u64) -> &'a [u64]
-    ensures { result.now ≡ left_behind number list.now }
+/// Takes the number off each walk in which it comes next.
+fn skip(walks: &mut Vec<Walk>, number: u64)
+    ensures { walks.new.items ≡ map (left_behind number) walks.old.items }
 {
-    match list {
-        [first, ..] if *first == number => &list[1..],
-        _ => list,
-    }
-}
-
-/// Takes the number off each list that begins with it.
-fn skip(lists: &mut Vec<&[u64]>, number: u64)
-    ensures { map (λ x. x.now) lists.new.items ≡ map (left_behind number) (map (λ x. x.now) lists.old.items) }
-{
-    for list in lists.iter_mut() {
-        *list = behind(list, number);
+    for walk in walks.iter_mut() {
+        walk.pass(number);
     }
 }
 
 impl<'a> Stream<'a> {
-    /// The lists as one.
-    pub fn new(lists: Vec<&'a [u64]>) -> Stream<'a>
-        requires { AreRising (map (λ x. x.now) lists.items) }
-        ensures { result ≡ together (map (λ x. x.now) lists.entry.items) }
+    /// The walks as one.
+    pub(crate) fn new(walks: Vec<Walk<'a>>) -> Stream<'a>
+        requires { AreRising walks.items }
+        ensures { result ≡ together walks.entry.items }
     {
-        Stream { lists }
+        Stream { walks }
     }
 
     /// The next number.
     pub fn next(&mut self) -> Option<u64>
         ensures { MatchOption result ((self.old ≡ []) × (self.new ≡ [])) (λ n. self.old ≡ n ∷ self.new) }
     {
-        match least_head(&self.lists) {
+        match least_head(&self.walks) {
             Some(number) => {
-                skip(&mut self.lists, number);
+                skip(&mut self.walks, number);
                 Some(number)
             }
             None => None,

@@ -1,8 +1,8 @@
 //! A node opened over its file. Settings flow in; a node in its lock, with its seats and its first outputs, flows out, or why there is none.
 ghost use Rattle.std.specs.Prelude.{◌<◌, ◌≤◌};
 
-use file_device::{FileDevice, FileDeviceError};
-use node_gate::{NodeConfig, NodeError, Opened, Times, ViewStoreError, open};
+use file_device::{FileDevice, FileDeviceError, ViewStore};
+use node_gate::{Cluster, NodeConfig, NodeError, Opened, Times, ViewStoreError, open};
 use server_threads::ServerError;
 use std::alloc::Global;
 use std::fs::{File, Files};
@@ -26,6 +26,31 @@ fn fault_of_node(error: NodeError) -> ServerError {
     }
 }
 
+/// The device of a first start, which may hold no stored view: a replica that forgets what it has promised could break what others rely on.
+fn unused(device: FileDevice, cluster: Cluster) -> Result<FileDevice, ServerError> {
+    let mut views = ViewStore::new(device, cluster);
+    match views.load() {
+        Err(ViewStoreError::NoPair) => Ok(views.into_device()),
+        Ok(_) | Err(ViewStoreError::ForeignCluster) => Err(ServerError::HoldsView),
+        Err(_) => Err(ServerError::DeviceFailed),
+    }
+}
+
+/// The device of a first or a later start, over the file of this name.
+fn device_of<R: Files<File = File>>(
+    rt: &R,
+    alloc: Global,
+    store: &str,
+    cluster: Cluster,
+    is_fresh: bool,
+) -> Result<FileDevice, ServerError> {
+    let device = FileDevice::open(rt, alloc, store).map_err(fault_of_device)?;
+    match is_fresh {
+        true => unused(device, cluster),
+        false => Ok(device),
+    }
+}
+
 /// The node of a first or a later start, over the file of this name, and so many seats.
 pub fn open_node<'a, R: Files<File = File> + Wait>(
     rt: &'a R,
@@ -41,6 +66,6 @@ pub fn open_node<'a, R: Files<File = File> + Wait>(
     if config.index >= config.count {
         return Err(ServerError::CannotListen);
     }
-    let device = FileDevice::open(rt, alloc, store).map_err(fault_of_device)?;
+    let device = device_of(rt, alloc, store, config.cluster, is_fresh)?;
     open(rt, alloc, device, config, is_fresh, seats, times).map_err(fault_of_node)
 }

@@ -14,6 +14,9 @@ pub enum ServerError {
     /// The file holds no stored view, or one that can't be counted on.
     #[error("no stored view")]
     NoStoredView,
+    /// The file of a first start holds a stored view already.
+    #[error("stored view found\n--fresh: the file of --store holds what a replica has promised: start without --fresh, or move the file away where that may be forgotten")]
+    HoldsView,
     /// The stored view is another cluster's.
     #[error("foreign cluster")]
     ForeignCluster,

@@ -6,7 +6,7 @@ use Rattle.message_rules.specs.ldap_msg.Messages.{SearchRequestValue, CompareReq
 use Rattle.session_talk.specs.ldap_op.Values.{OpValue}
 use Rattle.session_talk.specs.Answers.{ReplyModel, Answer}
 use Rattle.session_talk.specs.Talk.{Looked, RoleValue, EndedValue, Exchange, asked_role, learned, searched, compared, updated, Along, ends, goes}
-use Rattle.session_talk.specs.vr_state.declared.words.Client.{Client}
+use Rattle.session_talk.specs.log_entry.declared.words.Client.{Client}
 use Rattle.message_rules.specs.Requests.{answering_of}
 use Rattle.session_rules.specs.Responses.{search_messages, compare_messages}
 use Rattle.session_rules.specs.Session.{ConfigValue, Reaction, at_once, due, nothing, a_search, a_compare, an_update, asked, after_search, after_compare, after_update, asked_state}

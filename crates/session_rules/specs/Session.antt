@@ -8,7 +8,7 @@ use Rattle.session_talk.specs.ldap_op.Values.{OpValue}
 use Rattle.session_talk.specs.Answers.{ReplyModel, only, Answer}
 use Rattle.session_talk.specs.Clients.{named_client}
 use Rattle.session_talk.specs.Talk.{Looked, RoleValue, primary, backup, changing, recovering, EndedValue, done, stale, lost, refused_memory}
-use Rattle.session_talk.specs.vr_state.declared.words.Client.{Client}
+use Rattle.session_talk.specs.log_entry.declared.words.Client.{Client}
 use Rattle.message_rules.specs.Numbers.{greatest}
 use Rattle.message_rules.specs.Controls.{judged}
 use Rattle.message_rules.specs.Binding.{bound}

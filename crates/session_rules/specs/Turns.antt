@@ -4,7 +4,7 @@ use Rattle.message_rules.specs.ldap_msg.Messages.{SearchRequestValue, CompareReq
 use Rattle.session_talk.specs.ldap_op.Values.{OpValue}
 use Rattle.session_talk.specs.Answers.{ReplyModel, Answer}
 use Rattle.session_talk.specs.Talk.{Looked, RoleValue, EndedValue, Exchange, asked_role, learned, searched, compared, updated}
-use Rattle.session_talk.specs.vr_state.declared.words.Client.{Client}
+use Rattle.session_talk.specs.log_entry.declared.words.Client.{Client}
 use Rattle.message_rules.specs.Requests.{answering_of}
 use Rattle.session_rules.specs.Session.{ConfigValue, Reaction, at_once, after_role, due, Asked, nothing, a_search, a_compare, an_update, pending_of, asked, after_search, after_compare, after_update, asked_state}
 use Rattle.session_rules.specs.declared.answered.Next.{Next}

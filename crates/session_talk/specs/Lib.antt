@@ -9,4 +9,4 @@ pub mod Reading
 pub use Rattle.ldap_msg.specs.ldap_requests as ldap_requests
 pub use Rattle.ldap_op.specs as ldap_op
 pub use Rattle.ldap_msg.specs as ldap_msg
-pub use Rattle.vr_state.specs as vr_state
+pub use Rattle.log_entry.specs as log_entry

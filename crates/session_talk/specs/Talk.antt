@@ -4,7 +4,7 @@ use Rattle.std.specs.Prelude.{ℕ, List, [], ◌∷◌, ◌++◌, Result, Ok, Er
 use Rattle.ldap_msg.specs.Messages.{SearchRequestValue, CompareRequestValue}
 use Rattle.ldap_op.specs.Values.{OpValue}
 use Rattle.session_talk.specs.Answers.{ReplyModel, Answer}
-use Rattle.vr_state.specs.declared.words.Client.{Client}
+use Rattle.log_entry.specs.declared.words.Client.{Client}
 use Rattle.session_talk.specs.declared.outcomes.Found.{Found}
 use Rattle.session_talk.specs.declared.outcomes.LookError.{LookError}
 use Rattle.session_talk.specs.declared.outcomes.LookError.TheVariants.{NotYet, Gone, NoMemory}

@@ -13,8 +13,8 @@ use crate::reply::Reply;
 use crate::search_answer::SearchAnswer;
 use ldap_msg::{CompareRequest, SearchRequest};
 use ldap_op::Update;
+use log_entry::words::Client;
 use std::alloc::Global;
-use vr_state::words::Client;
 
 /// A directory that is read and updated. A look and a gate are one, as a pair.
 pub trait Directory {

@@ -8,8 +8,8 @@ ghost use Rattle.session_talk.specs.View.{role_view, ended_view};
 
 use crate::reply::Reply;
 use ldap_op::Update;
+use log_entry::words::Client;
 use std::alloc::Global;
-use vr_state::words::Client;
 
 /// What a replica is to an update.
 #[derive(Drop)]

@@ -19,9 +19,9 @@ pub use ldap_msg::{
     ResultCode, Scope, SearchRequest, SearchResultEntry,
 };
 pub use ldap_op::{Op, Update};
+pub use log_entry::words::Client;
 pub use look::Look;
 pub use outcomes::{Found, LookError};
 pub use pair::{pair_counts, pair_goes_along};
 pub use reply::Reply;
 pub use search_answer::SearchAnswer;
-pub use vr_state::words::Client;

@@ -10,8 +10,8 @@ use crate::reply::Reply;
 use crate::search_answer::SearchAnswer;
 use ldap_msg::{CompareRequest, SearchRequest};
 use ldap_op::Update;
+use log_entry::words::Client;
 use std::alloc::Global;
-use vr_state::words::Client;
 
 impl<L: Look, G: Gate<L::Told>> Directory for (L, G) {
     ghost use Rattle.session_talk.specs.Pairs.{both};

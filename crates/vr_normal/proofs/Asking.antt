@@ -6,7 +6,7 @@ use Rattle.std.specs.Result.{IfOk}
 use Rattle.vr_normal.specs.Rules.{reply_again}
 use Rattle.vr_state.specs.declared.message.PeerMessage.TheVariants.{Commit}
 use Rattle.vr_state.specs.declared.message.Send.{Send}
-use Rattle.vr_state.specs.declared.words.Entry.{Entry}
+use Rattle.vr_state.specs.Words.{Entry}
 use Rattle.vr_state.specs.declared.words.Latest.{Latest}
 use Rattle.vr_state.specs.declared.words.Reply.{Reply}
 use Rattle.vr_state.specs.ClientTable.{latest}

@@ -1,7 +1,7 @@
 -- A step from its parts. In: what each part of a handler made. Out: the outcome that the definition has.
 -- Nothing of code is here.
 use Rattle.std.proofs.Common.{◌≡◌, ℕ, ◌+◌, ◌==◌, ◌/◌, nat_le, min, max, Bool, true, false, cond, List, [], ◌∷◌, length, refl, sym, ap, ◌∙◌, arith, eqb-true, length-append}
-use Rattle.vr_state.specs.declared.words.Entry.{Entry}
+use Rattle.vr_state.specs.Words.{Entry}
 use Rattle.vr_state.specs.declared.words.Reply.{Reply}
 use Rattle.vr_state.specs.declared.message.Send.{Send}
 use Rattle.vr_state.specs.declared.message.PeerMessage.TheVariants.{PrepareOk, GetState}

@@ -3,7 +3,7 @@
 use Rattle.std.specs.Prelude.{ℕ, ◌-◌, ◌/◌, max, cond, nat_le, List, [], ◌∷◌, length, slice_get, slice_index, slice_set}
 use Rattle.vr_state.specs.declared.replica.Replica.{Replica}
 use Rattle.vr_state.specs.State.{State}
-use Rattle.vr_state.specs.declared.words.Entry.{Entry}
+use Rattle.vr_state.specs.Words.{Entry}
 use Rattle.vr_state.specs.Views.{state}
 use Rattle.vr_state.specs.Outcome.{Outcome, send_to, to_all, commit_to, count, others}
 use Rattle.vr_state.specs.declared.words.Reply.{Reply}

@@ -1,7 +1,7 @@
 pub mod Lists
 pub mod State
 pub mod Outcome
-pub mod ClientOrder
+pub mod Words
 pub mod ClientTable
 pub mod NormalCase
 pub mod ViewChange

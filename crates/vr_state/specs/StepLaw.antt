@@ -1,7 +1,7 @@
 -- What each step keeps, whatever the other replicas do. In: the step of one replica. Out: the clauses of the law on steps.
 -- What holds of a whole cluster stands in the crate above, over all schedules.
 use Rattle.std.specs.Prelude.{◌≡◌, ℕ, ◌/◌, ◌<◌, ◌≤◌, ◌⊎◌, nat_le, true, false, List, length, take, Some, slice_index}
-use Rattle.vr_state.specs.declared.words.Entry.{Entry}
+use Rattle.log_entry.specs.declared.words.Entry.{Entry}
 use Rattle.vr_state.specs.declared.words.Latest.{Latest}
 use Rattle.vr_state.specs.declared.words.Reply.{Reply}
 use Rattle.vr_state.specs.declared.message.Change.{Change}

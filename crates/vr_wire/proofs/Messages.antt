@@ -5,7 +5,7 @@ use Rattle.std.proofs.Common.{arith, eq-eqb, eqb-true, true≢false}
 use Rattle.std.proofs.lemmas.Bool.{le-leb, leb-true}
 use Rattle.std.proofs.lemmas.List.{nil_from_length, length-append}
 use Rattle.view_store.specs.Cluster.{IsCluster, cluster_octets}
-use Rattle.vr_state.specs.declared.words.Entry.{Entry}
+use Rattle.vr_state.specs.Words.{Entry}
 use Rattle.vr_state.specs.declared.message.Change.{Change}
 use Rattle.vr_state.specs.declared.message.Response.{Response}
 use Rattle.vr_state.specs.declared.message.Snapshot.{Snapshot}

@@ -5,8 +5,8 @@ use Rattle.std.proofs.lemmas.List.{nil_from_length, length-append}
 use Rattle.ldap_op.specs.Values.{OpValue}
 use Rattle.ldap_op.specs.Grammar.{IsOp}
 use Rattle.ldap_op.specs.Written.{op_content, op_bytes, IsOpInRange}
-use Rattle.vr_state.specs.declared.words.Client.{Client}
-use Rattle.vr_state.specs.declared.words.Entry.{Entry}
+use Rattle.vr_state.specs.Words.{Client}
+use Rattle.vr_state.specs.Words.{Entry}
 use Rattle.vr_state.specs.declared.message.Change.{Change}
 use Rattle.vr_state.specs.declared.message.Response.{Response}
 use Rattle.vr_state.specs.declared.message.Snapshot.{Snapshot}

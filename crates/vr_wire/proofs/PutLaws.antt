@@ -4,7 +4,7 @@ use Rattle.std.proofs.Common.{subst, ◌∙◌, append_assoc, append-nil, arith,
 use Rattle.ldap_op.specs.Values.{OpValue, add, delete, modify, modify_dn, noop}
 use Rattle.ldap_op.specs.Written.{op_content, op_bytes}
 use Rattle.ldap_op.specs.ldap_updates.ldap_ber.Element.{element_bytes, length_octets}
-use Rattle.vr_state.specs.declared.words.Entry.{Entry}
+use Rattle.vr_state.specs.Words.{Entry}
 use Rattle.vr_wire.specs.declared.error.WireError.{WireError}
 use Rattle.vr_wire.specs.declared.error.WireError.TheVariants as error
 use Rattle.vr_wire.specs.Frames.{short, entry_octets, entries_octets}

@@ -2,8 +2,8 @@
 use Rattle.std.proofs.Common.{◌≡◌, ℕ, zero, suc, ◌^◌, ◌<◌, ◌==◌, not, ◌&&◌, Bool, true, false, List, [], ◌∷◌, ◌++◌}
 use Rattle.std.proofs.Common.{length, Some, refl, sym, ap, subst, ◌∙◌, append_assoc, arith, eq-eqb, eqb-true}
 use Rattle.std.proofs.Common.{true≢false}
-use Rattle.vr_state.specs.declared.words.Client.{Client}
-use Rattle.vr_state.specs.declared.words.Entry.{Entry}
+use Rattle.vr_state.specs.Words.{Client}
+use Rattle.vr_state.specs.Words.{Entry}
 use Rattle.vr_state.specs.declared.message.Snapshot.{Snapshot}
 use Rattle.vr_wire.specs.Frames.{number, short, client_octets, payload_octets, entry_octets, entries_octets, log_octets, held_octets}
 use Rattle.vr_wire.specs.Frames.{IsClientInRange, IsEntryInRange, AreEntriesInRange, IsLogInRange, IsHeldInRange}

@@ -4,7 +4,7 @@ use Rattle.std.specs.Prelude.{◌≡◌, ◌≤◌, ℕ, List, [], ◌∷◌, �
 use Rattle.ldap_op.specs.Values.{OpValue}
 use Rattle.ldap_op.specs.Written.{IsOpInRange}
 use Rattle.view_store.specs.Cluster.{IsCluster}
-use Rattle.vr_state.specs.declared.words.Entry.{Entry}
+use Rattle.vr_state.specs.Words.{Entry}
 use Rattle.vr_state.specs.declared.message.PeerMessage.{PeerMessage}
 use Rattle.vr_state.specs.declared.message.PeerMessage.TheVariants.{Prepare, PrepareOk, Commit, StartViewChange, DoViewChange, StartView, GetState}
 use Rattle.vr_state.specs.declared.message.PeerMessage.TheVariants.{NewState, Recovery, RecoveryResponse}

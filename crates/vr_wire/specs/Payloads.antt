@@ -6,7 +6,7 @@ use Rattle.ldap_op.specs.Values.{OpValue}
 use Rattle.ldap_op.specs.Grammar.{IsOp}
 use Rattle.ldap_op.specs.Written.{op_bytes}
 use Rattle.view_store.specs.Cluster.{IsCluster}
-use Rattle.vr_state.specs.declared.words.Entry.{Entry}
+use Rattle.vr_state.specs.Words.{Entry}
 use Rattle.vr_state.specs.declared.message.PeerMessage.{PeerMessage}
 use Rattle.vr_state.specs.declared.message.PeerMessage.TheVariants.{Prepare, PrepareOk, Commit, StartViewChange, DoViewChange, StartView, GetState}
 use Rattle.vr_state.specs.declared.message.PeerMessage.TheVariants.{NewState, Recovery, RecoveryResponse}

@@ -1,7 +1,7 @@
 -- Frames: worked octets.
 -- In: messages. Out: their octets, as the definitions compute them. Not here: new definitions.
 use Rattle.std.specs.Prelude.{◌≡◌, refl, ℕ, List, [], ◌∷◌, take, drop, Some, None}
-use Rattle.vr_state.specs.declared.words.Entry.{Entry}
+use Rattle.vr_state.specs.Words.{Entry}
 use Rattle.vr_state.specs.declared.message.PeerMessage.{PeerMessage}
 use Rattle.vr_state.specs.declared.message.PeerMessage.TheVariants.{Commit, NewState}
 use Rattle.vr_wire.specs.Frames.{frame_octets}

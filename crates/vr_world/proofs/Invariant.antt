@@ -9,7 +9,7 @@ use Rattle.vr_state.specs.declared.message.Change.{Change}
 use Rattle.vr_state.specs.declared.message.PeerMessage.{PeerMessage}
 use Rattle.vr_state.specs.declared.message.Response.{Response}
 use Rattle.vr_state.specs.declared.message.Snapshot.{Snapshot}
-use Rattle.vr_state.specs.declared.words.Entry.{Entry}
+use Rattle.vr_state.specs.Words.{Entry}
 use Rattle.vr_state.specs.declared.words.Status.{Status}
 use Rattle.vr_world.proofs.Listed.{listed}
 use Rattle.vr_world.specs.Committed.{start_log, has_said, is_chosen}

@@ -6,7 +6,7 @@ use Rattle.vr_state.proofs.Laws.{by_test, or_right}
 use Rattle.vr_state.specs.Outcome.{send_to, others}
 use Rattle.vr_state.specs.State.{State, recovering}
 use Rattle.vr_state.specs.declared.message.PeerMessage.{PeerMessage}
-use Rattle.vr_state.specs.declared.words.Entry.{Entry}
+use Rattle.vr_state.specs.Words.{Entry}
 use Rattle.vr_world.proofs.Growth.{sound_grows, replica_grows}
 use Rattle.vr_world.proofs.Invariant.{Given, Sent, BodyFact, AnswersAll, ReplicaFact, Invariant, Grows, IsUsed}
 use Rattle.vr_world.proofs.Moves.{put_rule, put_same, put_other, still_same, grows_same, adds_none}

@@ -6,7 +6,7 @@ use Rattle.vr_state.specs.Lists.{In, IsNamedIn}
 use Rattle.vr_state.specs.Outcome.{Outcome}
 use Rattle.vr_state.specs.State.{State}
 use Rattle.vr_state.specs.Step.{step}
-use Rattle.vr_state.specs.declared.words.Entry.{Entry}
+use Rattle.vr_state.specs.Words.{Entry}
 use Rattle.vr_state.specs.declared.words.Reply.{Reply}
 use Rattle.vr_world.proofs.Listed.{listed_committed}
 use Rattle.vr_world.proofs.Moves.{put_same}

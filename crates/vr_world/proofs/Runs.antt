@@ -7,7 +7,7 @@ use Rattle.vr_state.specs.Outcome.{Outcome}
 use Rattle.vr_state.specs.State.{State}
 use Rattle.vr_state.specs.Step.{step, on_message, on_peer_message}
 use Rattle.vr_state.specs.declared.message.PeerMessage.{PeerMessage}
-use Rattle.vr_state.specs.declared.words.Entry.{Entry}
+use Rattle.vr_state.specs.Words.{Entry}
 use Rattle.vr_world.proofs.Invariant.{Holds}
 use Rattle.vr_world.proofs.Recoveries.{recover_holds}
 use Rattle.vr_world.proofs.Agreement.{sent_said}

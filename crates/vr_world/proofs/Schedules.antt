@@ -3,7 +3,7 @@
 use Rattle.std.proofs.Common.{◌≡◌, ℕ, ◌-◌, List, [], ◌∷◌, ◌++◌, length, take, Option, Some, None, refl}
 use Rattle.vr_state.specs.State.{State}
 use Rattle.vr_state.specs.declared.message.PeerMessage.{PeerMessage}
-use Rattle.vr_state.specs.declared.words.Entry.{Entry}
+use Rattle.vr_state.specs.Words.{Entry}
 use Rattle.vr_state.specs.declared.words.Status.{Status}
 use Rattle.vr_world.specs.Committed.{committed}
 use Rattle.vr_world.specs.World.{World, WorldEvent, Message, ReplyBy, happens, start, after, sent_as}

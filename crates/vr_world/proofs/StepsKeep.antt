@@ -5,7 +5,7 @@ use Rattle.vr_state.proofs.Laws.{prefix_trans, prefix_shorter, by_test, commits_
 use Rattle.vr_state.specs.Outcome.{Outcome}
 use Rattle.vr_state.specs.State.{State}
 use Rattle.vr_state.specs.Step.{step}
-use Rattle.vr_state.specs.declared.words.Entry.{Entry}
+use Rattle.vr_state.specs.Words.{Entry}
 use Rattle.vr_state.specs.declared.words.Status.{Status}
 use Rattle.vr_world.proofs.Invariant.{StateFact}
 use Rattle.vr_world.proofs.NormalEvents.{up_of}

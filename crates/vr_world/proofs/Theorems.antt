@@ -8,7 +8,7 @@ use Rattle.vr_state.specs.Outcome.{Outcome, to_all, others}
 use Rattle.vr_state.specs.State.{State, primary, first}
 use Rattle.vr_state.specs.Step.{step}
 use Rattle.vr_state.specs.declared.message.Send.{Send}
-use Rattle.vr_state.specs.declared.words.Entry.{Entry}
+use Rattle.vr_state.specs.Words.{Entry}
 use Rattle.vr_state.specs.declared.words.Status.{Status}
 use Rattle.vr_world.proofs.Agreement.{chosen_within, committed_has, longest_is, IsEmptyOrChosen}
 use Rattle.vr_world.proofs.Begin.{replicate_zero}

@@ -3,7 +3,7 @@
 use Rattle.std.specs.Prelude.{◌≡◌, ℕ, ◌*◌, ◌+◌, ◌/◌, ◌≤◌, ◌⊎◌, List, [], ◌∷◌, ◌++◌, take, length, Some}
 use Rattle.vr_state.specs.Lists.{IsPrefix, In, Rising, IsNamedIn}
 use Rattle.vr_state.specs.State.{State}
-use Rattle.vr_state.specs.declared.words.Entry.{Entry}
+use Rattle.vr_state.specs.Words.{Entry}
 use Rattle.vr_world.specs.Committed.{IsChosen, committed}
 use Rattle.vr_world.specs.World.{World, ReplyBy, WorldEvent, happens, after}
 

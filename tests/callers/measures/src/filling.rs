@@ -3,9 +3,10 @@ ghost use Rattle.std.specs.Prelude.{◌+◌, ◌<◌, ◌^◌, IfOk, OnOk};
 ghost use Rattle.dir_search.specs.dir_kept.Stored.{NumbersBelow};
 
 use crate::fault::Fault;
-use dir_search::{AddRequest, Attribute, Indexes, Name, ResultCode, Schema};
+use dir_search::{AddRequest, Indexes, Name, ResultCode, Schema};
 use dir_store::{Op, Store, Update};
 use schema_reader::built_in_schema;
+use session_talk::Attribute;
 use std::alloc::{AllocError, Global};
 use std::sync::Arc;
 

@@ -1,8 +1,11 @@
-use Rattle.dir_index.proofs.Marking.{marked_more, still_marked}
+use Rattle.std.proofs.Common.{ap, ◌∙◌}
+use Rattle.std.specs.Prelude.{◌||◌}
+use Rattle.dir_index.specs.ListKeys.{key_of, is_same_list}
+use Rattle.dir_index.specs.Marked.{has_posting}
+use Rattle.dir_index.proofs.Marking.{marked_more}
 use Rattle.dir_index.proofs.marks.mark.Goals as goal
 
-pub returns-clause-ok : goal.returns-clause-ok
-returns-clause-ok c = λ p. marked_more c.args.marks.now.keys c.insert.new.self.keys c.args.posting c.in_ok-insert.ensures.updates.0 p
-
-pub returns-clause-kept : goal.returns-clause-kept
-returns-clause-kept c = still_marked _ c.insert.result c.args.marks.now.keys c.insert.new.self.keys c.args.posting c.insert.ensures.updates (λ u. u.0) c.insert.ensures.err
+pub returns : goal.returns
+returns c = λ p.
+    marked_more c.args.marks.now.keys c.insert.new.self.keys (record { type_id = c.args.type_id; rank = c.args.rank; octets = c.in_ok-octets.octets }) c.in_ok-insert.ensures.updates.0 (key_of p)
+    ∙ ap (λ o. is_same_list (record { type_id = c.args.type_id; rank = c.args.rank; octets = o }) (key_of p) || has_posting c.args.marks.now.keys p) c.in_ok-octets.ensures

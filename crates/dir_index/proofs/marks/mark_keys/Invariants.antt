@@ -1,13 +1,9 @@
-use Rattle.std.proofs.Common.{◌≡◌, true, take}
+use Rattle.std.proofs.Common.{◌≡◌, take}
 use Rattle.std.specs.Prelude.{◌||◌}
 use Rattle.std.specs.List.{list_any}
 use Rattle.dir_index.specs.declared.posting.Posting.{Posting}
-use Rattle.dir_index.specs.Marked.{is_marked, is_from_key}
+use Rattle.dir_index.specs.Marked.{has_posting, is_from_key}
 use Rattle.dir_index.proofs.marks.mark_keys.Given as goal
 
 abbrev pub invariant-loop-key : goal.invariant-loop-key
-invariant-loop-key l =
-    record {
-      ok : (p : Posting) → is_marked l.marks.keys p ≡ (list_any (is_from_key l.kinds l.type_id p) (take l.key-index l.keys) || is_marked l.initial.marks.keys p);
-      kept : (p : Posting) → is_marked l.initial.marks.keys p ≡ true → is_marked l.marks.keys p ≡ true;
-    }
+invariant-loop-key l = (p : Posting) → has_posting l.marks.keys p ≡ (list_any (is_from_key l.kinds l.type_id p) (take l.key-index l.keys) || has_posting l.initial.marks.keys p)

@@ -1,13 +1,12 @@
-use Rattle.std.proofs.Common.{List, ap, ◌∙◌}
-use Rattle.std.specs.List.{list_any}
-use Rattle.std.proofs.lemmas.List.{take_all}
+use Rattle.std.proofs.Common.{List, sym, ap, ◌∙◌}
+use Rattle.std.specs.Prelude.{◌||◌}
 use Rattle.dir_entry.specs.Entry.{KeyedAttribute}
-use Rattle.dir_index.specs.Marked.{is_from_attribute}
-use Rattle.dir_index.proofs.Marking.{entry_lists}
+use Rattle.dir_index.specs.Marked.{has_posting, lists_entry}
+use Rattle.dir_index.proofs.Marking.{entry_step}
 use Rattle.dir_index.proofs.marks.marks_of.Goals as goal
 
-pub returns : goal.returns
-returns c = λ p.
-    c.loop-attribute.invariant p
-    ∙ ap (λ (e : List KeyedAttribute). list_any (λ a. is_from_attribute c.args.indexes.now a p) e) (take_all c.loop-attribute.attribute-index c.args.attributes.now c.loop-attribute-test.false)
-    ∙ entry_lists c.args.indexes.now c.args.attributes.now p
+pub loop-attribute-preserved : goal.loop-attribute-preserved
+loop-attribute-preserved c = λ p.
+    entry_step c.args.indexes.now c.in-Some.attribute.now c.in-Some.others.now p (has_posting c.loop-attribute.marks.keys p) (has_posting c.mark_attribute.new.marks.keys p) (c.in_ok-mark_attribute.ensures p)
+    ∙ ap (λ (l : List KeyedAttribute). lists_entry c.args.indexes.now l p || has_posting c.loop-attribute.marks.keys p) (sym c.in-Some.ensures.cases.0)
+    ∙ c.loop-attribute.invariant p

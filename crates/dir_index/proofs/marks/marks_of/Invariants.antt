@@ -1,8 +1,11 @@
-use Rattle.std.proofs.Common.{◌≡◌, take}
-use Rattle.std.specs.List.{list_any}
+use Rattle.std.proofs.Common.{◌≡◌, length}
+use Rattle.std.specs.Prelude.{◌||◌}
 use Rattle.dir_index.specs.declared.posting.Posting.{Posting}
-use Rattle.dir_index.specs.Marked.{is_marked, is_from_attribute}
+use Rattle.dir_index.specs.Marked.{has_posting, lists_entry}
 use Rattle.dir_index.proofs.marks.marks_of.Given as goal
 
 abbrev pub invariant-loop-attribute : goal.invariant-loop-attribute
-invariant-loop-attribute l = (p : Posting) → is_marked l.marks.keys p ≡ list_any (λ a. is_from_attribute l.indexes a p) (take l.attribute-index l.attributes)
+invariant-loop-attribute l = (p : Posting) → (lists_entry l.indexes l.rest p || has_posting l.marks.keys p) ≡ lists_entry l.indexes l.attributes p
+
+abbrev pub decreases-loop-attribute : goal.decreases-loop-attribute
+decreases-loop-attribute l = length l.rest

@@ -1,7 +1,7 @@
 use Rattle.std.proofs.Common.{nat_lt, List, Option, refl, ap₂, ◌∙◌, arith, lt-ltb}
 use Rattle.std.specs.Arc.{arc_value}
 use Rattle.vr_state.specs.State.{State}
-use Rattle.vr_state.specs.declared.words.Entry.{Entry}
+use Rattle.vr_state.specs.Words.{Entry}
 use Rattle.vr_world.specs.Cluster.{world}
 use Rattle.dir_executed.specs.dir_store.ldap_op.Values.{OpValue}
 use Rattle.dir_search.specs.ldap_msg.View.{search_view}

@@ -2,7 +2,7 @@ use Rattle.std.proofs.Common.{◌∙◌, sym, ap, subst}
 use Rattle.std.specs.Prelude.{IfOk}
 use Rattle.std.proofs.lemmas.Result.{IfOk-weaker}
 use Rattle.dir_kept.specs.ldap_schema.Schema.{SchemaModel}
-use Rattle.session_talk.specs.ldap_msg.View.{search_view}
+use Rattle.dir_kept.specs.session_talk.ldap_msg.View.{search_view}
 use Rattle.dir_kept.specs.Directory.{Directory}
 use Rattle.dir_kept.specs.Stored.{directory}
 use Rattle.dir_search.specs.Counted.{IsCountAtBase}

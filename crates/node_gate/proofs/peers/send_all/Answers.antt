@@ -1,4 +1,4 @@
-use Rattle.std.proofs.Common.{◌≡◌, arith, subst, sym, List, ◌∷◌, []}
+use Rattle.std.proofs.Common.{◌≡◌, arith, subst, sym, List, []}
 use Rattle.std.proofs.lemmas.List.{nil_from_length}
 use Rattle.dir_node.specs.dir_store.ldap_op.Values.{OpValue}
 use Rattle.dir_node.specs.vr_state.declared.message.PeerMessage.{PeerMessage}

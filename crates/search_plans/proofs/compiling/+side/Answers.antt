@@ -1,6 +1,6 @@
 use Rattle.search_plans.specs.Sides.{none}
 use Rattle.search_plans.proofs.Rows.{if_ok_weaker, each_step}
-use Rattle.search_plans.proofs.Whole.{side_of_and_true, side_of_and_false, side_of_or_true, side_of_or_false, side_of_not}
+use Rattle.search_plans.proofs.Whole.{every_of, side_of_and_true, side_of_and_false, side_of_or_true, side_of_or_false, side_of_not}
 use Rattle.search_plans.proofs.compiling.+side.Goals as goal
 
 pub side-returns-then-wanted : goal.side-returns-then-wanted
@@ -35,3 +35,6 @@ pub sides-loop-filter-preserved : goal.sides-loop-filter-preserved
 sides-loop-filter-preserved t c =
     each_step c.args.indexes.now c.args.wanted c.args.filters.now c.loop-filter.filter-index c.filter-item.result c.loop-filter.musts.items c.loop-filter.mays.items c.push.new.self.items c.push-in-loop-filter.new.self.items c.in_ok-sided.sided.must c.in_ok-sided.sided.may
     c.loop-filter.invariant c.loop-filter-test.true c.filter-item.is c.in_ok-sided.ensures c.in_ok-push.ensures.items c.in_ok-push-2.ensures.items
+
+pub every-returns : goal.every-returns
+every-returns t c = every_of c.args.indexes.now c.args.wanted c.args.filters.now c.in_ok-musts.musts c.in_ok-musts.mays.items c.join_bounds.new.plans c.in_ok-musts.ensures (c.in_ok-join_bounds.ensures c.args.indexes.now)

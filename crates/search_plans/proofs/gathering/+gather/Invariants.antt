@@ -1,4 +1,4 @@
-use Rattle.std.proofs.Common.{◌≡◌, map, take}
+use Rattle.std.proofs.Common.{◌≡◌, take}
 use Rattle.std.specs.List.{list_any}
 use Rattle.dir_index.specs.Postings.{AreRising}
 use Rattle.search_plans.specs.Sets.{is_in}
@@ -7,8 +7,8 @@ use Rattle.search_plans.proofs.gathering.+gather.Given as goal
 
 abbrev pub invariant-push_each-loop-plan : goal.invariant-push_each-loop-plan
 invariant-push_each-loop-plan g l = record {
-  gathers : Gathers (λ n. list_any (λ p. is_in (g.K.Kept.lists l.kept) l.scope p n) (take l.plan-index l.plans)) l.scope (map (λ x. x.now) l.fn.into.items) (map (λ x. x.now) l.into.items);
-  rising : AreRising (map (λ x. x.now) l.fn.into.items) → AreRising (map (λ x. x.now) l.into.items);
+  gathers : Gathers (λ n. list_any (λ p. is_in (g.K.Kept.lists l.kept) l.scope p n) (take l.plan-index l.plans)) l.scope l.fn.into.items l.into.items;
+  rising : AreRising l.fn.into.items → AreRising l.into.items;
 }
 
 abbrev pub invariant-push_one-loop-i : goal.invariant-push_one-loop-i

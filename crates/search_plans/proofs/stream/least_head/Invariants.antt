@@ -1,6 +1,6 @@
-use Rattle.std.proofs.Common.{map, take}
+use Rattle.std.proofs.Common.{take}
 use Rattle.search_plans.specs.Streams.{IsLeastHead}
 use Rattle.search_plans.proofs.stream.least_head.Given as goal
 
-abbrev pub invariant-loop-list : goal.invariant-loop-list
-invariant-loop-list l = IsLeastHead l.best (map (λ x. x.now) (take l.list-index l.lists))
+abbrev pub invariant-loop-walk : goal.invariant-loop-walk
+invariant-loop-walk l = IsLeastHead l.best (take l.walk-index l.walks)

@@ -1,7 +1,7 @@
 -- Frames: parts put one after the other are the body.
 use Rattle.std.proofs.Common.{ℕ, List, ◌++◌, ap, subst, append_assoc}
 use Rattle.ldap_op.specs.Values.{OpValue}
-use Rattle.vr_state.specs.declared.words.Entry.{Entry}
+use Rattle.vr_state.specs.Words.{Entry}
 use Rattle.vr_state.specs.declared.message.PeerMessage.TheVariants.{DoViewChange}
 use Rattle.vr_wire.specs.Frames.{number, log_octets, body_octets}
 use Rattle.vr_wire.specs.Payloads.{written, written_log}

@@ -1,6 +1,6 @@
 use Rattle.std.proofs.Common.{ℕ, List, ◌++◌, ap, subst, append_assoc}
 use Rattle.ldap_op.specs.Values.{OpValue}
-use Rattle.vr_state.specs.declared.words.Entry.{Entry}
+use Rattle.vr_state.specs.Words.{Entry}
 use Rattle.vr_state.specs.declared.message.PeerMessage.TheVariants.{NewState}
 use Rattle.vr_wire.specs.Frames.{number, log_octets, body_octets}
 use Rattle.vr_wire.specs.Payloads.{written, written_log}

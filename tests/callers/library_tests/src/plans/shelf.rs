@@ -1,29 +1,23 @@
 // A made-up shelf of posting lists, and values that are always the same. Plain data for tests.
 // What must not be here: entries.
 
-ghost use Rattle.std.specs.Prelude.{◌≡◌, IfOk};
-ghost use Rattle.search_plans.specs.dir_index.Postings.{IsRising};
-
-use search_plans::{Kept, Posting, Range, Truth, Values, has};
+use search_plans::{Kept, NumberSet, Posting, Range, Truth, Values};
 use std::alloc::{AllocError, Global};
 use std::marker::Model;
 
 /// The even numbers for each type, and the multiples of three for each value, each run and each range.
 #[derive(Drop)]
 pub struct Shelf {
-    even: Vec<u64>,
-    three: Vec<u64>,
+    even: NumberSet,
+    three: NumberSet,
 }
 
 impl Model for Shelf {
-    ghost use Rattle.search_plans.specs.dir_index.Postings.{IsRising};
     ghost use Rattle.library_tests.specs.Shelf.{TwoLists};
 
     ghost Value = { TwoLists };
 
-    ghost view = { λ s. record { even = s.even.items; three = s.three.items } };
-
-    ghost invariant = { λ s. IsRising s.even.items × IsRising s.three.items };
+    ghost view = { λ s. record { even = s.even; three = s.three } };
 }
 
 impl Kept for Shelf {
@@ -31,49 +25,52 @@ impl Kept for Shelf {
 
     ghost lists = { lists_of_shelf };
 
-    fn numbers(&self, posting: &Posting) -> &[u64] {
+    fn numbers(&self, posting: &Posting) -> &NumberSet {
         match posting {
             Posting::Present(_) => &self.even,
+            Posting::Several(_) => &self.even,
             Posting::Equal(_, _) => &self.three,
             Posting::Run(_, _) => &self.three,
         }
     }
 
-    fn in_posting(&self, posting: &Posting, number: u64) -> bool {
-        match posting {
-            Posting::Present(_) => has(&self.even, number),
-            Posting::Equal(_, _) => has(&self.three, number),
-            Posting::Run(_, _) => has(&self.three, number),
-        }
-    }
-
     fn in_range(&self, _range: &Range, number: u64) -> bool {
-        has(&self.three, number)
+        self.three.contains(number)
     }
 
-    fn push_range<'a>(
-        &'a self,
-        _range: &Range,
-        into: &mut Vec<&'a [u64]>,
-    ) -> Result<(), AllocError> {
-        into.push(&self.three)?;
+    /// The numbers twice, and not in order.
+    fn push_range(&self, _range: &Range, into: &mut Vec<u64>) -> Result<(), AllocError> {
+        into.push(6)?;
+        into.push(3)?;
+        into.push(6)?;
         Ok(())
     }
+
+    fn about(&self, _range: &Range) -> usize {
+        3
+    }
+}
+
+/// The set of these numbers.
+pub fn set_of(alloc: Global, numbers: &[u64]) -> Result<NumberSet, AllocError> {
+    let mut set = NumberSet::new();
+    for number in numbers {
+        set = set.with(alloc, *number)?;
+    }
+    Ok(set)
 }
 
 /// The even numbers and the multiples of three up to six.
 pub fn make_shelf(alloc: Global) -> Result<Shelf, AllocError> {
     Ok(Shelf {
-        even: Vec::from_slice(alloc, &[2, 4, 6])?,
-        three: Vec::from_slice(alloc, &[3, 6])?,
+        even: set_of(alloc, &[2, 4, 6])?,
+        three: set_of(alloc, &[3, 6])?,
     })
 }
 
-/// Some numbers in rising order.
-pub fn scope(alloc: Global) -> Result<Vec<u64>, AllocError>
-    ensures { IfOk result (λ v. IsRising v.items) }
-{
-    Vec::from_slice(alloc, &[1, 2, 3, 4, 6])
+/// Some numbers.
+pub fn make_scope(alloc: Global) -> Result<NumberSet, AllocError> {
+    set_of(alloc, &[1, 2, 3, 4, 6])
 }
 
 /// One value for every number.

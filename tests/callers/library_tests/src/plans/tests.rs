@@ -1,12 +1,9 @@
 // Rows: plans, filters and runs over the shelf, against lists and counts by hand.
 // What must not be here: expected values that the program gave.
 
-ghost use Rattle.std.specs.Prelude.{◌≡◌};
-ghost use Rattle.search_plans.specs.dir_index.Postings.{IsRising};
-
-use crate::plans::shelf::{Always, Shelf, make_shelf, scope};
+use crate::plans::shelf::{Always, Shelf, make_scope, make_shelf};
 use search_plans::{
-    BoundFilter, Indexes, Key, Leaf, Plan, Posting, Ran, Range, Sided, Test, Truth, TypeId,
+    BoundFilter, Indexes, Key, Leaf, Plan, Posting, Ran, Range, Scope, Sided, Test, Truth, TypeId,
     compile, contains, run, start,
 };
 use std::alloc::{AllocError, Global};
@@ -14,22 +11,18 @@ use std::process::Abort;
 use std::test::Fail;
 
 /// The numbers of the scope that are in the plan's set.
-fn members(alloc: Global, plan: &Plan, shelf: &Shelf, scope: &[u64]) -> Result<Vec<u64>, AllocError>
-    requires { IsRising scope.now }
-{
+fn members(alloc: Global, plan: &Plan, shelf: &Shelf, scope: &Scope) -> Result<Vec<u64>, AllocError> {
     let mut members = Vec::new(alloc);
-    for number in scope {
-        if contains(plan, shelf, scope, *number) {
-            members.push(*number)?;
+    for number in 0..8 {
+        if scope.has(number) && contains(plan, shelf, scope, number) {
+            members.push(number)?;
         }
     }
     Ok(members)
 }
 
 /// How many values a run asks for, where the plan has all that may be, nothing must be, and no value is True.
-fn asked(alloc: Global, plan: Plan, shelf: &Shelf, scope: &[u64]) -> Result<u64, AllocError>
-    requires { IsRising scope.now }
-{
+fn asked(alloc: Global, plan: Plan, shelf: &Shelf, scope: &Scope) -> Result<u64, AllocError> {
     let sided = Sided {
         must: Plan::Empty,
         may: plan,
@@ -53,7 +46,8 @@ fn three(alloc: Global) -> Plan {
 /// A plan's members, and how many of them a run asks for.
 fn seen(alloc: Global, plan: Plan) -> Result<(Vec<u64>, u64), AllocError> {
     let shelf = make_shelf(alloc)?;
-    let scope = scope(alloc)?;
+    let numbers = make_scope(alloc)?;
+    let scope = Scope::of_set(&numbers);
     let members = members(alloc, &plan, &shelf, &scope)?;
     let asked = asked(alloc, plan, &shelf, &scope)?;
     Ok((members, asked))
@@ -103,7 +97,8 @@ fn plans_have_their_numbers(rt: HostRuntime) -> Result<(), Fail> {
 /// The members of what is sure and of what may be of a filter for which there is no index.
 fn compiled(alloc: Global, filter: &BoundFilter) -> Result<(Vec<u64>, Vec<u64>), AllocError> {
     let shelf = make_shelf(alloc)?;
-    let scope = scope(alloc)?;
+    let numbers = make_scope(alloc)?;
+    let scope = Scope::of_set(&numbers);
     let sided = compile(alloc, filter, &Indexes::none(alloc))?;
     let must = members(alloc, &sided.must, &shelf, &scope)?;
     let may = members(alloc, &sided.may, &shelf, &scope)?;
@@ -157,7 +152,8 @@ fn negations_without_indexes(rt: HostRuntime) -> Result<(), Fail> {
 /// A run where every value is True, with what must be as it is given and all that is in scope possible.
 fn whole(alloc: Global, must: Plan) -> Result<Ran<Always>, AllocError> {
     let shelf = make_shelf(alloc)?;
-    let scope = scope(alloc)?;
+    let numbers = make_scope(alloc)?;
+    let scope = Scope::of_set(&numbers);
     let sided = Sided {
         must,
         may: Plan::Scope,
@@ -189,7 +185,8 @@ fn runs_ask_for_what_is_left_open(rt: HostRuntime) -> Result<(), Fail> {
 fn a_run_gives_one_number_a_call(rt: HostRuntime) -> Result<(), Fail> {
     let a = rt.alloc();
     let shelf = make_shelf(a)?;
-    let scope = scope(a)?;
+    let numbers = make_scope(a)?;
+    let scope = Scope::of_set(&numbers);
     let sided = Sided {
         must: even(),
         may: Plan::Scope,

@@ -1,7 +1,7 @@
 //! Compares through a seat: each check in its order, and three answers.
 use crate::seats::asking::compared;
-use crate::seats::sample::{ANA, ANANA, ITEMS, Node, SUFFIX, publish, two_seats};
-use dir_seats::{Publisher, Seat};
+use crate::seats::sample::{ANA, ANANA, ITEMS, Node, Played, SUFFIX, node_with};
+use dir_seats::Seat;
 use std::alloc::Global;
 use std::process::Abort;
 use std::sync::Wait;
@@ -60,13 +60,13 @@ const ROWS: &[Row] = &[
 fn ask<R: Wait + Abort>(
     rt: &R,
     alloc: Global,
-    publisher: &mut Publisher<Node, &R>,
+    node: &mut Played<'_, R>,
     seat: &mut Seat<Node>,
 ) -> Result<(), Fail> {
-    assert!(rt; publish(alloc, publisher, 1, &SUFFIX)?);
-    assert!(rt; publish(alloc, publisher, 2, &ITEMS)?);
-    assert!(rt; publish(alloc, publisher, 3, &ANA)?);
-    assert!(rt; publish(alloc, publisher, 4, &ANANA)?);
+    assert!(rt; node.add(alloc, 1, &SUFFIX)?);
+    assert!(rt; node.add(alloc, 2, &ITEMS)?);
+    assert!(rt; node.add(alloc, 3, &ANA)?);
+    assert!(rt; node.add(alloc, 4, &ANANA)?);
     for Row(entry, description, value, expected) in ROWS {
         let line = compared(alloc, seat, 4, entry, description, value)?;
         assert_eq!(rt; line.as_str(), *expected);
@@ -79,12 +79,12 @@ fn ask<R: Wait + Abort>(
 #[test]
 fn a_seat_compares(rt: HostRuntime) -> Result<(), Fail> {
     let alloc = rt.alloc();
-    let (mut publisher, mut all) = two_seats(&rt, alloc)?;
+    let (mut node, mut all) = node_with(&rt, alloc, 2)?;
     let Some(mut seat) = all.pop() else {
         return Err(Fail::from("a seat"));
     };
-    let asked = ask(&rt, alloc, &mut publisher, &mut seat);
-    drop(publisher);
+    let asked = ask(&rt, alloc, &mut node, &mut seat);
+    drop(node);
     asked?;
     let line = compared(alloc, &mut seat, 0, "cn=", "nosuch", "1")?;
     assert_eq!(&rt; line.as_str(), "gone");

@@ -1,7 +1,7 @@
 //! Four seats that search in threads of their own while a fifth thread publishes updates: each answer is that of its number, and no number falls.
 use crate::seats::asking::asked;
-use crate::seats::sample::{Given, Node, SUFFIX, add, four_seats, rank};
-use dir_seats::{Found, Publisher, SearchAnswer, SearchRequest, Seat};
+use crate::seats::sample::{Given, Node, Played, SUFFIX, add, node_with, rank};
+use dir_seats::{Found, SearchAnswer, SearchRequest, Seat};
 use ldap_msg::SearchResultEntry;
 use std::alloc::{AllocError, Global};
 use std::sync::Wait;
@@ -71,7 +71,7 @@ fn read(alloc: Global, mut seat: Seat<Node>, request: &SearchRequest, ready: &At
 /// Appends and publishes the update of this number; whether both were done.
 fn write_one<R: Wait>(
     alloc: Global,
-    publisher: &mut Publisher<Node, &R>,
+    node: &mut Played<'_, R>,
     number: u64,
 ) -> Result<bool, AllocError> {
     let record = match number {
@@ -79,11 +79,11 @@ fn write_one<R: Wait>(
         2 => add(alloc, number, &ITEM)?,
         _ => rank(alloc, number, ITEM.name, &format!(in alloc; "{number}")?)?,
     };
-    Ok(publisher.append(record).is_ok() && publisher.publish().is_ok())
+    node.publish(alloc, record)
 }
 
 /// Appends and publishes all updates, one by one, once four readers are ready.
-fn write<R: Wait>(alloc: Global, publisher: &mut Publisher<Node, &R>, ready: &AtomicU64) -> bool {
+fn write<R: Wait>(alloc: Global, node: &mut Played<'_, R>, ready: &AtomicU64) -> bool {
     for _ in 0..50_000_000u64 {
         if ready.load(Ordering::SeqCst) == 4 {
             break;
@@ -91,7 +91,7 @@ fn write<R: Wait>(alloc: Global, publisher: &mut Publisher<Node, &R>, ready: &At
     }
     let mut fine = true;
     for number in 1..UPDATES + 1 {
-        fine = fine && write_one(alloc, publisher, number).is_ok_and(|done| done);
+        fine = fine && write_one(alloc, node, number).is_ok_and(|done| done);
     }
     fine
 }
@@ -99,7 +99,7 @@ fn write<R: Wait>(alloc: Global, publisher: &mut Publisher<Node, &R>, ready: &At
 fn race<R: Threads + Wait + Sync>(
     rt: &R,
     alloc: Global,
-    publisher: &mut Publisher<Node, &R>,
+    node: &mut Played<'_, R>,
     all: Vec<Seat<Node>>,
     request: &SearchRequest,
 ) -> (bool, u64) {
@@ -115,7 +115,7 @@ fn race<R: Threads + Wait + Sync>(
                 failed_of.fetch_add(1, Ordering::SeqCst);
             }
         }
-        fine = write(alloc, publisher, ready_of);
+        fine = write(alloc, node, ready_of);
     });
     let sum = wrong
         .load(Ordering::SeqCst)
@@ -127,9 +127,9 @@ fn race<R: Threads + Wait + Sync>(
 fn four_seats_search_beside_a_publisher(rt: HostRuntime) -> Result<(), Fail> {
     let alloc = rt.alloc();
     let request = asked(alloc, ITEM.name, "(rank>=0)")?;
-    let (mut publisher, all) = four_seats(&rt, alloc)?;
-    let raced = race(&rt, alloc, &mut publisher, all, &request);
-    drop(publisher);
+    let (mut node, all) = node_with(&rt, alloc, 4)?;
+    let raced = race(&rt, alloc, &mut node, all, &request);
+    drop(node);
     assert_eq!(rt; raced, (true, 0));
     Ok(())
 }

@@ -1,5 +1,5 @@
-//! Nodes of a test: updates as records of a log, and a publisher with seats. Names and values flow in; records flow out. No expectation is here.
-use dir_seats::{Client, Entry, Indexes, Name, Op, Publisher, Seat, seats};
+//! Nodes of a test: updates as records of a log, what is executed of it, and a publisher with seats. No expectation is here.
+use dir_seats::{Client, Entry, Executed, Indexes, Name, Op, Publisher, Seat, Store, seats};
 use ldap_op::{AddRequest, Change, ModifyOperation, ModifyRequest, PartialAttribute, Update};
 use schema_reader::built_in_schema;
 use std::alloc::{AllocError, Global};
@@ -107,33 +107,58 @@ pub fn rank(alloc: Global, number: u64, name: &str, value: &str) -> Result<Entry
     )
 }
 
-/// A publisher of a directory without entries, and two seats.
-pub fn two_seats<R: Wait>(
-    rt: &R,
-    alloc: Global,
-) -> Result<(Publisher<Node, &R>, Vec<Seat<Node>>), Fail> {
-    let schema = Arc::new(alloc, built_in_schema(alloc)?)?;
-    let suffix = Name::read(alloc, &schema, "dc=example,dc=com")?;
-    Ok(seats(rt, alloc, &schema, &Indexes::none(alloc), &suffix, 2)?)
+/// A node of a test: its log, what is executed of it, and its publisher.
+pub struct Played<'a, R: Wait> {
+    log: Vec<Entry<Op>>,
+    executed: Executed,
+    pub publisher: Publisher<Node, &'a R>,
 }
 
-/// A publisher of a directory without entries, and four seats.
-pub fn four_seats<R: Wait>(
-    rt: &R,
-    alloc: Global,
-) -> Result<(Publisher<Node, &R>, Vec<Seat<Node>>), Fail> {
-    let schema = Arc::new(alloc, built_in_schema(alloc)?)?;
-    let suffix = Name::read(alloc, &schema, "dc=example,dc=com")?;
-    Ok(seats(rt, alloc, &schema, &Indexes::none(alloc), &suffix, 4)?)
+impl<'a, R: Wait> Drop for Played<'a, R> {
+    fn drop(self) {
+        let Played {
+            log: _,
+            executed: _,
+            publisher: _,
+        } = self;
+    }
 }
 
-/// Appends the add of an entry and publishes it; whether both were done.
-pub fn publish<R: Wait>(
+impl<'a, R: Wait> Played<'a, R> {
+    /// Executes one more record, and appends what then is executed; whether that was done.
+    pub fn append(&mut self, alloc: Global, record: Entry<Op>) -> Result<bool, AllocError> {
+        self.log.push(record)?;
+        let count = self.log.len() as u64;
+        self.executed.advance(alloc, self.log.as_slice(), count)?;
+        Ok(self.publisher.append(&self.executed).is_ok())
+    }
+
+    /// Appends one more record and publishes it; whether both were done.
+    pub fn publish(&mut self, alloc: Global, record: Entry<Op>) -> Result<bool, AllocError> {
+        Ok(self.append(alloc, record)? && self.publisher.publish().is_ok())
+    }
+
+    /// Appends the add of an entry and publishes it; whether both were done.
+    pub fn add(&mut self, alloc: Global, number: u64, given: &Given) -> Result<bool, AllocError> {
+        let record = add(alloc, number, given)?;
+        self.publish(alloc, record)
+    }
+}
+
+/// A node of a directory without entries, and so many seats.
+pub fn node_with<R: Wait>(
+    rt: &R,
     alloc: Global,
-    publisher: &mut Publisher<Node, &R>,
-    number: u64,
-    given: &Given,
-) -> Result<bool, AllocError> {
-    let record = add(alloc, number, given)?;
-    Ok(publisher.append(record).is_ok() && publisher.publish().is_ok())
+    count: usize,
+) -> Result<(Played<'_, R>, Vec<Seat<Node>>), Fail> {
+    let schema = Arc::new(alloc, built_in_schema(alloc)?)?;
+    let suffix = Name::read(alloc, &schema, "dc=example,dc=com")?;
+    let (publisher, all) = seats(rt, alloc, &schema, &Indexes::none(alloc), &suffix, count)?;
+    let store = Store::new(alloc, schema, Indexes::none(alloc), suffix);
+    let node = Played {
+        log: Vec::new(alloc),
+        executed: Executed::new(alloc, store),
+        publisher,
+    };
+    Ok((node, all))
 }

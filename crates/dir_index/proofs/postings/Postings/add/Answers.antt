@@ -1,15 +1,14 @@
-use Rattle.std.proofs.Common.{List, subst}
+use Rattle.std.proofs.Common.{List, [], ◌∷◌, ◌++◌, sym, ap, subst}
 use Rattle.dir_entry.specs.Entry.{KeyedAttribute}
-use Rattle.dir_index.specs.Marked.{lists_entry}
-use Rattle.dir_index.specs.Whole.{IsMoved}
-use Rattle.dir_index.proofs.Rows.{on_ok}
-use Rattle.dir_index.proofs.Listed.{here_above, added_lists}
+use Rattle.index_choice.specs.declared.kinds.Kinds.{Kinds}
+use Rattle.dir_index.specs.Whole.{PostingsModel, AreOf}
+use Rattle.dir_index.proofs.Listed.{all_rise, added_lists}
 use Rattle.dir_index.proofs.postings.Postings.add.Goals as goal
 
-pub change-requires : goal.change-requires
-change-requires c = here_above c.args.self.now c.args.number c.requires
-
 pub returns-clause-ok : goal.returns-clause-ok
-returns-clause-ok c =
-    let IsListed = λ (a : List KeyedAttribute). IsMoved c.args.self.now c.change.new.self c.args.number (lists_entry c.args.self.now.indexes a) in
-    on_ok c.change.result (λ h. added_lists c.args.self.now c.change.new.self c.args.number c.args.entry.now (subst IsListed c.attributes.ensures h)) c.change.ensures.ok
+returns-clause-ok c = λ es held below.
+    let m : PostingsModel = c.args.self.now in
+    let rise = all_rise m es held in
+    subst (λ (ix : List Kinds). AreOf (record { indexes = ix; lists = c.in_ok-self-inside.field-0 }) (es ++ record { number = c.args.number; entry = c.args.entry.now } ∷ [])) (sym (ap (λ x. x.indexes) c.self.view_is))
+    (subst (λ (a : List KeyedAttribute). AreOf (record { indexes = m.indexes; lists = c.in_ok-self-inside.field-0 }) (es ++ record { number = c.args.number; entry = a } ∷ [])) c.attributes.ensures
+    (added_lists m.indexes m.lists c.in_ok-self-inside.field-0 c.args.number c.attributes.result.now es (record { rising = c.in_ok-self-inside.ensures.rising rise; has = c.in_ok-self-inside.ensures.has rise }) held below))

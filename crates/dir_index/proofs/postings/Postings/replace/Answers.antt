@@ -1,15 +1,15 @@
-use Rattle.std.proofs.Common.{List, subst}
+use Rattle.std.proofs.Common.{List, sym, ap, subst}
 use Rattle.dir_entry.specs.Entry.{KeyedAttribute}
-use Rattle.dir_index.specs.Marked.{lists_entry}
-use Rattle.dir_index.specs.Whole.{IsMoved}
-use Rattle.dir_index.proofs.Rows.{on_ok}
-use Rattle.dir_index.proofs.Listed.{here_held, replaced_lists}
+use Rattle.index_choice.specs.declared.kinds.Kinds.{Kinds}
+use Rattle.dir_index.specs.Whole.{PostingsModel, AreOf, HasEntry, with_attributes}
+use Rattle.dir_index.proofs.Listed.{all_rise, replaced_lists}
 use Rattle.dir_index.proofs.postings.Postings.replace.Goals as goal
 
-pub change-requires : goal.change-requires
-change-requires c = rw c.attributes.ensures (here_held c.args.self.now c.args.number c.args.before.now c.requires)
-
 pub returns-clause-ok : goal.returns-clause-ok
-returns-clause-ok c =
-    let IsListed = λ (a : List KeyedAttribute). IsMoved c.args.self.now c.change.new.self c.args.number (lists_entry c.args.self.now.indexes a) in
-    on_ok c.change.result (λ h. replaced_lists c.args.self.now c.change.new.self c.args.number c.args.before.now c.args.after.now (subst IsListed c.attributes-2.ensures h)) c.change.ensures.ok
+returns-clause-ok c = λ es held there.
+    let m : PostingsModel = c.args.self.now in
+    let rise = all_rise m es held in
+    subst (λ (ix : List Kinds). AreOf (record { indexes = ix; lists = c.in_ok-self-inside.field-0 }) (with_attributes c.args.number c.args.after.now es)) (sym (ap (λ x. x.indexes) c.self.view_is))
+    (subst (λ (a : List KeyedAttribute). AreOf (record { indexes = m.indexes; lists = c.in_ok-self-inside.field-0 }) (with_attributes c.args.number a es)) c.attributes-2.ensures
+    (replaced_lists m.indexes m.lists c.in_ok-self-inside.field-0 c.args.number c.attributes.result.now c.attributes-2.result.now es (record { rising = c.in_ok-self-inside.ensures.rising rise; has = c.in_ok-self-inside.ensures.has rise }) held
+    (subst (λ (a : List KeyedAttribute). HasEntry es c.args.number a) (sym c.attributes.ensures) there)))

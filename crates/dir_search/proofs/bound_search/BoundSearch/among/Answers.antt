@@ -1,27 +1,21 @@
 use Rattle.std.proofs.Common.{subst, sym, List, ℕ}
 use Rattle.std.specs.Prelude.{IfOk}
 use Rattle.std.proofs.lemmas.Result.{IfOk-weaker}
-use Rattle.session_talk.specs.ldap_msg.View.{search_view}
-use Rattle.dir_kept.specs.dir_index.Whole.{lists_of}
+use Rattle.dir_kept.specs.session_talk.ldap_msg.View.{search_view}
+use Rattle.dir_kept.specs.Listed.{lists_of}
 use Rattle.search_plans.specs.Sets.{is_in}
 use Rattle.search_plans.specs.Runs.{is_open}
-use Rattle.dir_search.specs.Looks.{AreHere, AreNumbersOf}
+use Rattle.dir_search.specs.Looks.{AreHere}
 use Rattle.dir_search.specs.View.{FindsAmong}
-use Rattle.dir_search.proofs.Few.{among as found_among, scope_rises, true_here}
+use Rattle.dir_search.proofs.Few.{among as found_among, true_here}
 use Rattle.dir_search.proofs.bound_search.BoundSearch.among.Goals as goal
 
-pub guide-requires : goal.guide-requires
-guide-requires c = rw (c.tree-tree.ensures, c.postings-postings.ensures.indexes) c.postings-postings.ensures.lists
-
-pub start-requires-clause-rising : goal.start-requires-clause-rising
-start-requires-clause-rising c = scope_rises c.args.numbers.now c.args.self.now.indexed.now.tree.entries c.requires c.postings-postings.ensures.lists.numbered
-
 pub start-requires-clause-guides : goal.start-requires-clause-guides
-start-requires-clause-guides c = c.in_ok-sided.ensures.guides c.args.numbers.now (rw c.tree-tree.ensures c.requires)
+start-requires-clause-guides c = rw (c.tree-tree.ensures, c.of_set-scope.ensures) (c.in_ok-sided.ensures.guides c.args.numbers.now c.requires)
 
 pub show_found-requires : goal.show_found-requires
 show_found-requires c =
-    subst (λ (l : List ℕ). AreHere c.tree-tree.result.now.entries l) (sym c.in_ok-running.ensures.numbers) (true_here c.args.self.now.bound.now c.tree-tree.result.now.entries c.args.numbers.now)
+    subst (λ (l : List ℕ). AreHere c.tree-tree.result.now.entries l) (sym c.in_ok-running.ensures.numbers) (true_here c.args.self.now.bound.now c.tree-tree.result.now.entries c.of_set-scope.result)
 
 -- what is shown of the numbers that a run of the plans gives
 pub returns : goal.returns
@@ -29,16 +23,15 @@ returns c =
     let s = c.args.self.now.schema.now in
     let q = search_view c.args.self.now.request.now in
     let b = c.args.self.now.bound.now in
-    let ix = c.postings-postings.result.now.indexes in
-    let d = c.tree-tree.result.now.entries in
+    let ix = c.args.self.now.indexed.now.indexes in
+    let d = c.args.self.now.indexed.now.tree.entries in
     let ks = c.args.numbers.now in
-    let lists = lists_of c.postings-postings.result.now in
+    let lists = lists_of c.args.self.now.indexed.now in
     let sided = c.in_ok-sided.sided in
-    let are : AreNumbersOf ks d = rw c.tree-tree.ensures c.requires in
-    let shown = rw (c.in_ok-running.ensures.numbers, c.in_ok-running.ensures.undecided) at c.show_found.ensures in
+    let shown = rw (c.in_ok-running.ensures.numbers, c.in_ok-running.ensures.undecided, c.of_set-scope.ensures, c.tree-tree.ensures) at c.show_found.ensures in
     let found : IfOk c.show_found.result (λ a. FindsAmong a s q ix b d ks) =
     IfOk-weaker c.show_found.result _ _
     (λ a h. found_among a s q ix b d ks (is_open (is_in lists ks sided.must) (is_in lists ks sided.may)) sided.must sided.may
-    (rw c.tree-tree.ensures c.args.self.now.bound_on) (c.in_ok-sided.ensures.few ks are) c.in_ok-sided.ensures.plans (c.in_ok-sided.ensures.told ks are) h)
+    c.args.self.now.bound_on (c.in_ok-sided.ensures.few ks c.requires) c.in_ok-sided.ensures.plans (c.in_ok-sided.ensures.told ks c.requires) h)
     shown in
-    rw (c.tree-tree.ensures, c.postings-postings.ensures.indexes) at found
+    found

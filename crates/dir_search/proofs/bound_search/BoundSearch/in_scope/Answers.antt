@@ -1,6 +1,5 @@
 -- In each scope the numbers are those of the definition.
-use Rattle.std.proofs.Common.{false}
-use Rattle.session_talk.specs.ldap_msg.ldap_requests.declared.search.Scope.TheVariants.{BaseObject, SingleLevel, WholeSubtree, SubordinateSubtree}
+use Rattle.dir_kept.specs.session_talk.ldap_msg.ldap_requests.declared.search.Scope.TheVariants.{BaseObject, SingleLevel, WholeSubtree, SubordinateSubtree}
 use Rattle.dir_search.proofs.Answered.{among_same, among_scope}
 use Rattle.dir_search.proofs.Scoped.{numbers_nowhere}
 use Rattle.dir_search.proofs.bound_search.BoundSearch.in_scope.Goals as goal
@@ -15,9 +14,6 @@ pub returns-in-WholeSubtree : goal.returns-in-WholeSubtree
 returns-in-WholeSubtree c = among_scope c.subtree.result c.args.self.now WholeSubtree c.in-WholeSubtree.is c.subtree.ensures
 
 -- no entry is in the scope that is none
-pub among-requires : goal.among-requires
-among-requires c = (λ e. false, numbers_nowhere c.args.self.now.indexed.now.tree.entries)
-
 pub returns-in-SubordinateSubtree : goal.returns-in-SubordinateSubtree
 returns-in-SubordinateSubtree c =
-    among_scope c.among.result c.args.self.now SubordinateSubtree c.in-SubordinateSubtree.is (among_same c.among.result c.args.self.now _ _ (numbers_nowhere c.args.self.now.indexed.now.tree.entries) c.among.ensures)
+    among_scope c.nothing.result c.args.self.now SubordinateSubtree c.in-SubordinateSubtree.is (among_same c.nothing.result c.args.self.now _ _ (numbers_nowhere c.args.self.now.indexed.now.tree.entries) c.nothing.ensures)

@@ -1,9 +1,9 @@
 use Rattle.std.proofs.Common.{◌∙◌, refl, sym, ap, subst, List, ℕ, length, map, string_bytes}
 use Rattle.std.proofs.lemmas.List.{length-map}
-use Rattle.session_talk.specs.ldap_msg.Messages.{SearchResultEntryValue}
-use Rattle.session_talk.specs.ldap_msg.View.{entry_view}
+use Rattle.dir_kept.specs.session_talk.ldap_msg.Messages.{SearchResultEntryValue}
+use Rattle.dir_kept.specs.session_talk.ldap_msg.View.{entry_view}
 use Rattle.dir_kept.specs.Directory.{NamedEntry}
-use Rattle.session_talk.specs.ldap_msg.ldap_responses.declared.entry.SearchResultEntry.{SearchResultEntry}
+use Rattle.dir_kept.specs.session_talk.ldap_msg.ldap_responses.declared.entry.SearchResultEntry.{SearchResultEntry}
 use Rattle.dir_search.specs.Selection.{selected}
 use Rattle.dir_search.proofs.Limits.{SoFar, begins, shows}
 use Rattle.dir_search.proofs.Shown.{cut_short, all_shown}

@@ -1,12 +1,18 @@
-use Rattle.std.proofs.Common.{ap, ◌∙◌}
+use Rattle.std.proofs.Common.{ℕ, List, subst, sym, ◌≡◌, None}
 use Rattle.std.specs.Option.{option_map}
+use denote.Bor.{Bor}
 use Rattle.dir_entry.specs.ldap_dn.Names.{rdns}
-use Rattle.dir_tree.specs.Directory.{Entered, TreeModel, find, numbers, is_at_or_below}
-use Rattle.dir_tree.specs.Stored.{directory_of}
-use Rattle.dir_tree.proofs.ReadPlaces.{within_kept}
+use Rattle.dir_tree.specs.Directory.{TreeModel, Entered, numbers, is_at_or_below, find}
+use Rattle.dir_tree.specs.Kept.{shown}
+use Rattle.dir_tree.proofs.TreeReads.{within_read, none_read, some_rises}
 use Rattle.dir_tree.proofs.tree.Tree.subtree.Goals as goal
 
-pub returns : goal.returns
-returns c =
-    c.within_at.ensures ∙ within_kept (rdns c.args.name.now) (directory_of c.self.inside.entries.entries) c.self.inside.places c.self.invariant.kept
-    ∙ ap (λ (t : TreeModel). option_map (λ (e : Entered). numbers (is_at_or_below (rdns c.args.name.now)) t.entries) (find (rdns c.args.name.now) t.entries)) c.self.view_is
+pub returns-in-Some : goal.returns-in-Some
+returns-in-Some c =
+    subst (λ (v : TreeModel). option_map (λ (s : Bor (List ℕ)). s.now) c.within.result ≡ option_map (λ (e : Entered). numbers (is_at_or_below (rdns c.args.name.now)) v.entries) (find (rdns c.args.name.now) v.entries)) c.self.view_is
+    (within_read c.self.inside.roots c.self.invariant (rdns c.args.name.now) c.in-Some.number (option_map (λ (s : Bor (List ℕ)). s.now) c.within.result) (sym c.in-Some.ensures) c.within.ensures.set (some_rises c.within.result c.within.ensures.rises))
+
+pub returns-in-None : goal.returns-in-None
+returns-in-None c =
+    subst (λ (v : TreeModel). None ≡ option_map (λ (e : Entered). numbers (is_at_or_below (rdns c.args.name.now)) v.entries) (find (rdns c.args.name.now) v.entries)) c.self.view_is
+    (none_read c.self.inside.roots c.self.invariant (λ (e : Entered). numbers (is_at_or_below (rdns c.args.name.now)) (shown c.self.inside.roots)) (rdns c.args.name.now) (sym c.in-None.ensures))

@@ -1,0 +1,12 @@
+// Posting lists in several threads.
+// What must not be here: what runs.
+
+use crate::postings::Postings;
+use std::marker::{Send, Sync};
+
+fn crosses<T: Send + Sync>(_value: &T) {}
+
+/// Posting lists may be moved to other threads, and read by several at once.
+pub fn may_cross(postings: &Postings) {
+    crosses(postings);
+}

@@ -1,0 +1,125 @@
+// The map of posting lists. A change makes a new map that shares most of the old one.
+// What must not be here: entries, ranges.
+
+ghost use Rattle.std.specs.Prelude.{◌≡◌, ◌||◌, ◌&&◌, ℕ, [], not, cond, nat_eq, IfOk, option_copied};
+ghost use Rattle.std.specs.Option.{unwrap_or};
+ghost use Rattle.std.specs.Ordering.{nat_cmp};
+ghost use Rattle.std.specs.BTreeMap.{is_at};
+ghost use Rattle.std.specs.BTreeSet.{insert_key};
+ghost use Rattle.std.specs.Set.{remove_key};
+ghost use Rattle.dir_index.specs.declared.list_key.ListKey.{ListKey};
+ghost use Rattle.dir_index.specs.declared.posting.Posting.{Posting};
+ghost use Rattle.dir_index.specs.ListKeys.{key_of, is_same_list};
+ghost use Rattle.dir_index.specs.Marked.{has_posting};
+ghost use Rattle.dir_index.specs.Stored.{list_at, is_in, AllRise};
+
+use crate::list_key::ListKey;
+use crate::marks::Marks;
+use shared_map::{NumberSet, Shared, SharedMap};
+use std::alloc::{AllocError, Global};
+
+/// The lists by their keys; none is kept empty.
+pub type Lists = SharedMap<ListKey, NumberSet>;
+
+/// The numbers that may be there, and one more.
+fn with_number(
+    alloc: Global,
+    numbers: Option<&NumberSet>,
+    number: u64,
+) -> Result<NumberSet, AllocError>
+    ensures { IfOk result (λ s. s ≡ insert_key nat_cmp (unwrap_or (option_copied numbers.entry) []) number) }
+{
+    match numbers {
+        Some(numbers) => numbers.with(alloc, number),
+        None => Ok(NumberSet::of_one(number)),
+    }
+}
+
+/// The lists with a number in that of a key.
+fn enlisted(alloc: Global, lists: &Lists, key: &ListKey, number: u64) -> Result<Lists, AllocError>
+    ensures is { IfOk result (λ m. (k : ListKey) → list_at m k ≡ cond (is_same_list key.now k) (insert_key nat_cmp (list_at lists.now key.now) number) (list_at lists.now k)) }
+    ensures rising { IfOk result (λ m. AllRise lists.now → AllRise m) }
+{
+    let more = with_number(alloc, lists.get(key), number)?;
+    more.rises();
+    let now = lists.with(alloc, key.share()?, more)?;
+    Ok(now)
+}
+
+/// The lists with another one for a key; an empty one is not kept.
+fn rewritten(
+    alloc: Global,
+    lists: &Lists,
+    key: &ListKey,
+    numbers: NumberSet,
+) -> Result<Lists, AllocError>
+    ensures is { IfOk result (λ m. (k : ListKey) → list_at m k ≡ cond (is_same_list key.now k) numbers (list_at lists.now k)) }
+    ensures rising { IfOk result (λ m. AllRise lists.now → AllRise m) }
+{
+    lists.rises();
+    numbers.rises();
+    if numbers.is_empty() {
+        let fewer = lists.without(alloc, key)?;
+        return Ok(fewer);
+    }
+    let now = lists.with(alloc, key.share()?, numbers)?;
+    Ok(now)
+}
+
+/// The lists without a number in that of a key.
+fn struck(alloc: Global, lists: &Lists, key: &ListKey, number: u64) -> Result<Lists, AllocError>
+    ensures rising { IfOk result (λ m. AllRise lists.now → AllRise m) }
+    ensures is { IfOk result (λ m. (k : ListKey) → list_at m k ≡ cond (is_same_list key.now k) (remove_key (is_at (nat_cmp number)) (list_at lists.now key.now)) (list_at lists.now k)) }
+{
+    match lists.get(key) {
+        Some(numbers) => {
+            let fewer = numbers.without(alloc, number)?;
+            let now = rewritten(alloc, lists, key, fewer)?;
+            Ok(now)
+        }
+        None => {
+            let same = lists.share()?;
+            Ok(same)
+        }
+    }
+}
+
+/// The lists with a number in those of the keys that one set has and another hasn't.
+pub fn enlisted_in(
+    alloc: Global,
+    lists: &Lists,
+    marks: &Marks,
+    others: &Marks,
+    number: u64,
+) -> Result<Lists, AllocError>
+    ensures has { IfOk result (λ m. (p : Posting) (n : ℕ) → is_in m (key_of p) n ≡ ((nat_eq n number && (has_posting marks.now.keys p && not (has_posting others.now.keys p))) || is_in lists.now (key_of p) n)) }
+    ensures rising { IfOk result (λ m. AllRise lists.now → AllRise m) }
+{
+    let mut now = lists.share()?;
+    for key in marks {
+        if !others.contains(key) {
+            now = enlisted(alloc, &now, key, number)?;
+        }
+    }
+    Ok(now)
+}
+
+/// The lists without a number in those of the keys that one set has and another hasn't.
+pub fn struck_from(
+    alloc: Global,
+    lists: &Lists,
+    marks: &Marks,
+    others: &Marks,
+    number: u64,
+) -> Result<Lists, AllocError>
+    ensures has { IfOk result (λ m. AllRise lists.now → (p : Posting) (n : ℕ) → is_in m (key_of p) n ≡ (is_in lists.now (key_of p) n && not (nat_eq n number && (has_posting marks.now.keys p && not (has_posting others.now.keys p))))) }
+    ensures rising { IfOk result (λ m. AllRise lists.now → AllRise m) }
+{
+    let mut now = lists.share()?;
+    for key in marks {
+        if !others.contains(key) {
+            now = struck(alloc, &now, key, number)?;
+        }
+    }
+    Ok(now)
+}

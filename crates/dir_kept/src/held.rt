@@ -1,0 +1,11 @@
+// An entry where it is. It is made for whoever asks: the tree keeps relative names alone.
+// How it is found is not here.
+
+use dir_tree::{Name, SharedEntry};
+
+/// An entry with its name, as it is spelled.
+#[derive(Drop)]
+pub struct Standing<'a> {
+    pub name: Name,
+    pub entry: &'a SharedEntry,
+}

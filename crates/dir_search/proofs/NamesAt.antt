@@ -1,0 +1,69 @@
+-- Names read relative name by relative name, from their ends. Facts on lists flow in and out; no value of the program is here.
+use Rattle.std.proofs.Common.{◌≡◌, ◌<◌, ◌≤◌, ◌-◌, ℕ, zero, suc, List, [], ◌∷◌, ◌++◌, length, reverse, Option, None, Some, refl, sym, ap, ◌∙◌, arith}
+use Rattle.std.specs.Prelude.{option_copied, get_or}
+use Rattle.std.specs.Option.{option_map, option_and_then}
+use Rattle.std.specs.List.{slice_get}
+use Rattle.std.proofs.lemmas.List.{get_or-reverse, length-reverse, reverse-reverse}
+use Rattle.std.proofs.lemmas.Option.{slice_get-get_or}
+use denote.Bor.{Bor}
+use Rattle.dir_kept.specs.ldap_dn.Names.{RdnModel}
+use Rattle.dir_kept.specs.ldap_dn.Printed.{printed_name}
+use Rattle.dir_kept.specs.ldap_schema.Schema.{SchemaModel}
+use Rattle.dir_kept.specs.ldap_match.declared.truth.Truth.{Truth}
+use Rattle.dir_kept.specs.ldap_match.declared.truth.Truth.TheVariants.{Undefined}
+use Rattle.dir_kept.specs.dir_entry.Entry.{KeyedAttribute}
+use Rattle.dir_kept.specs.dir_tree.Directory.{Entered, entry_at}
+use Rattle.ldap_eval.specs.Bound.{bound_value}
+use Rattle.ldap_eval.specs.declared.bound.BoundFilter.{BoundFilter}
+use Rattle.dir_search.specs.Numbered.{name_of}
+use Rattle.dir_search.specs.Looks.{value_on}
+
+copied_now : {A : Type 0} (o : Option (Bor A)) → option_map (λ (r : Bor A). r.now) o ≡ option_copied o
+copied_now None = refl
+copied_now (Some r) = refl
+
+-- a place from the front is one from the end
+from_end : (l : List RdnModel) (at : ℕ) → at < length l → slice_get (reverse l) (length l - 1 - at) ≡ slice_get l at
+from_end [] at h = absurd (omega arith)
+from_end (x ∷ l) at h =
+    let n : length (reverse (x ∷ l)) ≡ length (x ∷ l) = length-reverse (x ∷ l) in
+    let in_end : length (x ∷ l) - 1 - at < length (x ∷ l) = omega arith in
+    let in_turned : length (x ∷ l) - 1 - at < length (reverse (x ∷ l)) = omega arith in
+    let back : length (x ∷ l) - 1 - (length (x ∷ l) - 1 - at) ≡ at = omega arith in
+    slice_get-get_or (reverse (x ∷ l)) (length (x ∷ l) - 1 - at) x in_turned
+    ∙ ap (λ (r : RdnModel). Some r) (get_or-reverse (x ∷ l) (length (x ∷ l) - 1 - at) x in_end ∙ ap (λ (k : ℕ). get_or (x ∷ l) k x) back)
+    ∙ sym (slice_get-get_or (x ∷ l) at x h)
+
+-- the relative name at a place of the name of an entry
+pub rdn_read : (o : Option Entered) (r : Option (Bor RdnModel)) (count at : ℕ) → count ≡ length (name_of o) → at < count → option_copied r ≡ option_and_then (λ (e : Entered). slice_get (reverse e.name) (count - 1 - at)) o
+    → option_map (λ (x : Bor RdnModel). x.now) r ≡ slice_get (name_of o) at
+rdn_read None r count at n h e = absurd (omega arith)
+rdn_read (Some e) r count at n h f =
+    let within : at < length e.name = omega arith in
+    copied_now r ∙ f ∙ ap (λ (m : ℕ). slice_get (reverse e.name) (m - 1 - at)) n ∙ from_end e.name at within
+
+pub count_some : (o : Option Entered) (n : ℕ) → Some n ≡ option_map (λ (e : Entered). length e.name) o → n ≡ length (name_of o)
+count_some None n h = absurd (cc h)
+count_some (Some e) n h = cc h
+
+pub count_none : (o : Option Entered) → ◌≡◌ {A = Option ℕ} None (option_map (λ (e : Entered). length e.name) o) → 0 ≡ length (name_of o)
+count_none None h = refl
+count_none (Some e) h = absurd (cc h)
+
+-- the value of a bound filter on an entry by its name and its attributes
+pub value_some : (b : BoundFilter) (o : Option Entered) (a : List KeyedAttribute) → Some a ≡ option_map (λ (e : Entered). e.entry) o → bound_value (name_of o) a b ≡ value_on b o
+value_some b None a h = absurd (cc h)
+value_some b (Some e) a h = let same : a ≡ e.entry = cc h in ap (λ (x : List KeyedAttribute). bound_value e.name x b) same
+
+pub value_none : (b : BoundFilter) (o : Option Entered) → ◌≡◌ {A = Option (List KeyedAttribute)} None (option_map (λ (e : Entered). e.entry) o) → Undefined ≡ value_on b o
+value_none b None h = refl
+value_none b (Some e) h = absurd (cc h)
+
+-- a name printed from its relative names, the last first
+pub printed_some : (s : SchemaModel) (o : Option Entered) (l : List RdnModel) → Some l ≡ option_map (λ (e : Entered). reverse e.name) o → printed_name s (reverse l) ≡ printed_name s (name_of o)
+printed_some s None l h = absurd (cc h)
+printed_some s (Some e) l h = let same : l ≡ reverse e.name = cc h in ap (λ (n : List RdnModel). printed_name s (reverse n)) same ∙ ap (printed_name s) (reverse-reverse e.name)
+
+pub printed_none : (s : SchemaModel) (o : Option Entered) → ◌≡◌ {A = Option (List RdnModel)} None (option_map (λ (e : Entered). reverse e.name) o) → [] ≡ printed_name s (name_of o)
+printed_none s None h = refl
+printed_none s (Some e) h = absurd (cc h)

@@ -1,0 +1,6 @@
+use Rattle.dir_seats.proofs.Begins.{begins_self}
+use Rattle.dir_seats.proofs.Kept.{sees}
+use Rattle.dir_seats.proofs.look.look.Goals as goal
+
+pub enter_as-requires : goal.enter_as-requires
+enter_as-requires c x = sees _ _ x x (begins_self x)

@@ -1,0 +1,30 @@
+use Rattle.std.proofs.Common.{◌≡◌, ◌∙◌, ap, sym, List, Result, Ok, map}
+use Rattle.std.specs.Arc.{arc_value}
+use Rattle.dir_kept.specs.ldap_dn.Names.{rdns}
+use Rattle.entry_updates.specs.ldap_updates.View.{modify_dn_view}
+use Rattle.dir_kept.specs.dir_entry.Entry.{attributes_of}
+use Rattle.dir_kept.specs.dir_tree.Directory as tree
+use Rattle.dir_kept.specs.dir_tree.Placed.{name_placed}
+use Rattle.dir_kept.specs.session_talk.Answers.{ReplyModel}
+use Rattle.dir_kept.specs.Directory.{NamedEntry}
+use Rattle.dir_kept.specs.Listed.{IndexedModel}
+use Rattle.dir_kept.specs.Places.{moved}
+use Rattle.dir_kept.specs.Replies.{then}
+use Rattle.dir_kept.specs.Stored.{named, directory}
+use Rattle.dir_store.specs.Updates.{MoveModel, renamed_all}
+use Rattle.dir_store.proofs.Spelled.{moved_placed}
+use Rattle.dir_store.proofs.store.Store.rename.Goals as goal
+
+-- the entries are those that move below the name that was asked, since it is placed as it stands
+pub returns-clause-ok : goal.returns-clause-ok
+returns-clause-ok c =
+    let t = c.self.inside.held.tree in
+    let f = c.in_ok-number.field-0 in
+    let asked = rw (c.deref.ensures, c.tree.ensures) at c.in_ok-number.ensures.ok in
+    let judged : renamed_all (directory (arc_value c.self.inside.schema) t) (modify_dn_view c.args.request.now) ≡ Ok (moved (rdns f.before) f.after (attributes_of f.entry) (map named t.entries)) =
+    ap (λ (r : Result MoveModel ReplyModel). then r (λ m. Ok (moved (rdns m.before) m.after m.attributes (map named t.entries)))) asked in
+    let placed = rw c.tree.ensures at c.in_ok-number.ensures.placed in
+    let renamed = rw (c.rdns.ensures, c.in_ok-entry.ensures) at c.in_ok-rename.ensures.ok in
+    let entries : c.rename.new.self.tree.entries ≡ tree.moved (rdns f.before) (name_placed (rdns t.suffix) f.after t.entries) f.entry t.entries = ap (λ (i : IndexedModel). i.tree.entries) renamed in
+    let made = moved_placed (rdns f.before) f.after (name_placed (rdns t.suffix) f.after t.entries) f.entry t.entries c.rename.new.self.tree.entries entries placed in
+    rw (← c.self.view_is) (judged ∙ ap (λ (l : List NamedEntry). Ok l) (sym made))

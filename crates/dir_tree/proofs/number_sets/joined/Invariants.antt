@@ -1,0 +1,9 @@
+use Rattle.std.proofs.Common.{ℕ, ◌≡◌, ◌||◌, length}
+use Rattle.shared_map.specs.Sets.{has_number}
+use Rattle.dir_tree.proofs.number_sets.joined.Given as goal
+
+abbrev pub invariant-loop-number : goal.invariant-loop-number
+invariant-loop-number l = (j : ℕ) → (has_number j l.rest || has_number j l.changed) ≡ (has_number j l.more || has_number j l.set)
+
+abbrev pub decreases-loop-number : goal.decreases-loop-number
+decreases-loop-number l = length l.rest

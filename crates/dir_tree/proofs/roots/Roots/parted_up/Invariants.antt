@@ -1,0 +1,9 @@
+use Rattle.std.proofs.Common.{◌-◌}
+use Rattle.dir_tree.specs.Superiors.{place_at, below_at}
+use Rattle.dir_tree.specs.Changes.{over_any}
+use Rattle.dir_tree.proofs.WayChanges.{Parting}
+use Rattle.dir_tree.proofs.roots.Roots.parted_up.Given as goal
+
+abbrev pub invariant-loop-i : goal.invariant-loop-i
+invariant-loop-i l =
+    Parting (λ x. over_any (l.self.reach - l.i) (place_at l.self.entries) x l.at) (λ x. over_any l.self.reach (place_at l.self.entries) x l.fn.from) (below_at l.self.levels) l.except l.numbers (below_at l.fn.levels) (below_at l.changed)

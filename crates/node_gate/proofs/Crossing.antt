@@ -1,0 +1,46 @@
+-- A node that threads share, and a session's gate to it, may cross threads, as rules for `search`: whoever runs the threads names them.
+use denote.RattleType.{RattleType}
+use denote.Ref.{NamedLft}
+use denote.Struct.Declared
+use denote.Param.Send.{IsSend, IsSync, sendable, struct_send, struct_sync, plain_send, recorded_send, recorded_sync, shr_send}
+use Rattle.std.proofs.Crossing.{crosses}
+use Rattle.std.proofs.string.String.TheSendSync as string
+use Rattle.std.proofs.sync.Condvar.TheSendSync as condvar
+use Rattle.std.proofs.sync.Mutex.TheSendSync as mutex
+use Rattle.node_gate.proofs.running.Call.TheSendSync as call
+use Rattle.node_gate.proofs.standing.LastStanding.TheSendSync as standing
+use Rattle.dir_node.proofs.Crossing.{node_send}
+use Rattle.dir_node.specs.declared.Device as Device
+use Rattle.dir_seats.proofs.Crossing.{publisher_send, teller_field_sync}
+pub use Rattle.dir_seats.proofs.Crossing.{seat_send}
+use Rattle.node_gate.specs.contracts.held.Here as Here
+use Rattle.node_gate.specs.contracts.held.Held as Held
+use Rattle.node_gate.specs.contracts.running.Running as Running
+use Rattle.node_gate.specs.contracts.gate.NodeGate as NodeGate
+
+module _ (D : RattleType) (g : Device.Ghosts D.Denot) where
+  held_send : (a : NamedLft) (R : RattleType) → IsSync R → IsSend D → IsSend (Held.the_row a R D g)
+  held_send a R y s =
+      recorded_send (Held.the_field a R D g).row _ _ (Held.the_type a R D g).to_one
+      (struct_send (Declared.shape (Held.the_type a R D g))
+      (node_send D g s, (publisher_send Here.the_row _ (shr_send _ _ R y), (search (crosses, sendable) depth 40, (plain_send _ _ _ _ _, tt)))))
+
+  pub running_sync : (a : NamedLft) (R : RattleType) → IsSync R → IsSend D → IsSync (Running.the_row a R D g)
+  running_sync a R y s =
+      let held : IsSend (Held.the_row a R D g) = held_send a R y s in
+      recorded_sync (Running.the_field a R D g).row _ _ (Running.the_type a R D g).to_one
+      (struct_sync (Declared.shape (Running.the_type a R D g)) (
+        search (held, mutex.the_sync) depth 20,
+        (standing.the_field_sync, (teller_field_sync Here.the_row, (condvar.the_field_sync, (search (call.the_send, mutex.the_sync) depth 20, (condvar.the_field_sync, tt))))),
+      ))
+
+  pub gate_send : (a b : NamedLft) (R P : RattleType) → IsSync R → IsSend D → IsSend P → IsSend (NodeGate.the_row a b R D P g)
+  gate_send a b R P y s p =
+      let running : IsSync (Running.the_row b R D g) = running_sync b R y s in
+      recorded_send (NodeGate.the_field a b R D P g).row _ _ (NodeGate.the_type a b R D P g).to_one
+      (struct_send (Declared.shape (NodeGate.the_type a b R D P g)) (
+        shr_send _ _ R y,
+        (search (running, sendable) depth 20, (p, (search (crosses, sendable, string.the_sync) depth 20, (plain_send _ _ _ _ _, tt)))),
+      ))
+
+pub ruleset gate_crosses = (running_sync, gate_send)
