@@ -58,7 +58,9 @@ class Replica:
                 "--password", PASSWORD, *self.cluster.words, *(["--fresh"] if fresh else []), *self.cluster.places_for(self.index)]
 
     def start(self, fresh: bool) -> None:
-        """Starts it, and waits until it listens."""
+        """Starts it, and waits until it listens. At its first start in a new cluster a view that an earlier cluster stored in the folder is given up."""
+        if fresh and os.path.exists(self.store()):
+            os.remove(self.store())
         # In a session of its own, so that Ctrl-C ends only who started it.
         self.process = subprocess.Popen(self.command(fresh), stdin=subprocess.DEVNULL, stdout=subprocess.PIPE, stderr=subprocess.PIPE, text=True,
                                         start_new_session=True, **self.options)

@@ -9,4 +9,4 @@ mod words;
 pub use clap::Error;
 pub use ldap_requests::Scope;
 pub use serving::{Password, Peer, Serving};
-pub use words::{Job, Opening, Question, read_words};
+pub use words::{Checking, Ground, Job, Opening, Question, read_words};

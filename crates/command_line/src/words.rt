@@ -12,6 +12,8 @@ pub enum Job<'a> {
     Answer(Opening<'a>),
     /// One search of the directory of an LDIF text.
     Search(Question<'a>),
+    /// Which records of an LDIF file a directory would refuse.
+    Check(Checking<'a>),
     /// An LDIF text becomes lines of adds.
     Import,
     /// Lines of a search's responses become an LDIF text.
@@ -33,8 +35,30 @@ pub struct Opening<'a> {
     pub index: Option<&'a str>,
 }
 
+/// What the records of an LDIF text are added to: a directory without entries.
+#[derive(Clone, Copy)]
+pub struct Ground<'a> {
+    /// The name of the schema's file; none for the built-in schema.
+    pub schema: Option<&'a str>,
+    /// The name of the index choice's file; none for no index.
+    pub index: Option<&'a str>,
+    /// The name of its root; none for the built-in one.
+    pub suffix: Option<&'a str>,
+}
+
+/// A file to be checked, as it is asked for.
+#[derive(Clone, Copy)]
+pub struct Checking<'a> {
+    pub ground: Ground<'a>,
+    /// The name of the file.
+    pub file: &'a str,
+}
+
 /// A search, as it is asked for.
 pub struct Question<'a> {
+    pub ground: Ground<'a>,
+    /// Whether its plan and its cost are shown in place of its entries.
+    pub explains: bool,
     pub base: &'a str,
     pub scope: Scope,
     pub filter: &'a str,
@@ -45,6 +69,8 @@ pub struct Question<'a> {
 impl<'a> Drop for Question<'a> {
     fn drop(self) {
         let Question {
+            ground: _,
+            explains: _,
             base: _,
             scope: _,
             filter: _,
@@ -68,8 +94,25 @@ const ANSWER_WORDS: &[Word] = &[
     INDEX_WORD,
 ];
 
+/// The word for the name of the root.
+const SUFFIX_WORD: Word = Word {
+    name: "suffix",
+    value: "DN",
+    takes: Takes::Text,
+    help: "The name of the root, in place of dc=example,dc=com",
+};
+
 /// The words of `search`.
 const SEARCH_WORDS: &[Word] = &[
+    SCHEMA_WORD,
+    INDEX_WORD,
+    SUFFIX_WORD,
+    Word {
+        name: "explain",
+        value: "",
+        takes: Takes::Nothing,
+        help: "Show which indexes serve the filter and what the search costs, in place of the entries",
+    },
     Word {
         name: "BASE",
         value: "",
@@ -98,6 +141,19 @@ const SEARCH_WORDS: &[Word] = &[
     },
 ];
 
+/// The words of `check`.
+const CHECK_WORDS: &[Word] = &[
+    SCHEMA_WORD,
+    INDEX_WORD,
+    SUFFIX_WORD,
+    Word {
+        name: "FILE",
+        value: "",
+        takes: Takes::Place,
+        help: "The LDIF file whose records are checked",
+    },
+];
+
 /// All commands, in the order of the help.
 const ORDERS: &[Order] = &[
     Order {
@@ -109,6 +165,11 @@ const ORDERS: &[Order] = &[
         name: "search",
         about: "Search the entries of an LDIF text: the input is LDIF, the answer is LDIF",
         words: SEARCH_WORDS,
+    },
+    Order {
+        name: "check",
+        about: "Check an LDIF file before it is served: each record that a directory would refuse is shown with its line, code and reason",
+        words: CHECK_WORDS,
     },
     Order {
         name: "import",
@@ -195,10 +256,33 @@ fn attributes_in<'a>(alloc: Global, matches: &ArgMatches<'a>) -> Result<Vec<&'a 
     Ok(attributes)
 }
 
+/// What records are added to.
+fn ground_in<'a>(alloc: Global, matches: &ArgMatches<'a>) -> Result<Ground<'a>, Error> {
+    let suffix = match matches.get_str("suffix") {
+        Some(suffix) => Some(as_text(alloc, suffix)?),
+        None => None,
+    };
+    Ok(Ground {
+        schema: matches.get_str("schema"),
+        index: matches.get_str("index"),
+        suffix,
+    })
+}
+
+/// What `check` is told.
+fn checking_in<'a>(alloc: Global, matches: &ArgMatches<'a>) -> Result<Checking<'a>, Error> {
+    Ok(Checking {
+        ground: ground_in(alloc, matches)?,
+        file: matches.get_str("FILE").unwrap_or(""),
+    })
+}
+
 /// What `search` is told.
 fn question_in<'a>(alloc: Global, matches: &ArgMatches<'a>) -> Result<Question<'a>, Error> {
     let attributes = attributes_in(alloc, matches)?;
     Ok(Question {
+        ground: ground_in(alloc, matches)?,
+        explains: matches.get_flag("explain"),
         base: as_text(alloc, matches.get_str("BASE").unwrap_or(""))?,
         scope: scope_of(matches.get_str("SCOPE").unwrap_or("")),
         filter: as_text(alloc, matches.get_str("FILTER").unwrap_or(""))?,
@@ -215,6 +299,7 @@ fn matched<'a>(alloc: Global, words: &'a [String]) -> Result<ArgMatches<'a>, Err
 fn job_in<'a>(alloc: Global, matches: &ArgMatches<'a>) -> Result<Job<'a>, Error> {
     match matches.subcommand() {
         Some(("search", inner)) => Ok(Job::Search(question_in(alloc, inner)?)),
+        Some(("check", inner)) => Ok(Job::Check(checking_in(alloc, inner)?)),
         Some(("import", _)) => Ok(Job::Import),
         Some(("export", _)) => Ok(Job::Export),
         Some(("lab", inner)) => Ok(Job::Lab(inner.get_str("index"))),

@@ -22,9 +22,13 @@ or_empty (Some name) = name
 abbrev pub name_of : SchemaModel → List ℕ → List RdnModel
 name_of s text = or_empty (name_of_text s text)
 
+-- the directory without entries, under a schema, whose root has this name
+abbrev pub empty_under : SchemaModel → List RdnModel → Directory
+empty_under s suffix = record { schema = s; suffix = suffix; entries = [] }
+
 -- the directory without entries, under a schema, whose root is dc=example,dc=com
 abbrev pub empty_directory : SchemaModel → Directory
-empty_directory s = record { schema = s; suffix = name_of s (codes "dc=example,dc=com"); entries = [] }
+empty_directory s = empty_under s (name_of s (codes "dc=example,dc=com"))
 
 -- the directory at first: without entries, or after the sample's adds, the operations 1 to 6
 abbrev pub directory_at_first : SchemaModel → Bool → Directory

@@ -3,3 +3,4 @@ pub mod Begun
 pub mod Status
 pub mod Opened
 pub mod Texts
+pub mod Checked

@@ -6,9 +6,8 @@ use Rattle.filter_text.specs.ldap_filter.Tree.{Tree}
 use Rattle.local_directory.specs.ldap_requests.declared.search.Scope.{Scope}
 use Rattle.local_directory.specs.ldap_requests.declared.search.DerefAliases.TheVariants.{NeverDerefAliases}
 use Rattle.local_directory.specs.ldap_msg.Messages.{SearchRequestValue}
-use Rattle.schema_reader.specs.BuiltIn.{built_in}
 use Rattle.local_directory.specs.Searched.{IsSearched}
-use Rattle.dird_commands.specs.Begun.{empty_directory}
+use Rattle.local_directory.specs.dir_kept.Directory.{Directory}
 
 -- where the octets of an input and an output are known, the output has grown by what is made of the input
 abbrev pub Turns : (List ℕ → List ℕ → Type 0) → Option (List ℕ) → Option (List ℕ) → Option (List ℕ) → Type 0
@@ -29,8 +28,8 @@ pub record IsRequestOf (base : List ℕ) (scope : Scope) (filter : List ℕ) (at
     attributes = attributes;
   }
 
--- what is made of an LDIF text: the answer to the request of these words, over the directory that its records add
-pub record IsAnswerTo (base : List ℕ) (scope : Scope) (filter : List ℕ) (attributes : List (List ℕ)) (text made : List ℕ) : Type 0 where
+-- what is made of an LDIF text: the answer to the request of these words, over the directory that its records make of this one
+pub record IsAnswerTo (d : Directory) (base : List ℕ) (scope : Scope) (filter : List ℕ) (attributes : List (List ℕ)) (text made : List ℕ) : Type 0 where
   pub request : SearchRequestValue
   pub asked : IsRequestOf base scope filter attributes request
-  pub searched : IsSearched (empty_directory built_in) text request made
+  pub searched : IsSearched d text request made

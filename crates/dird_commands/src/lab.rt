@@ -1,8 +1,11 @@
 //! The lab: the lines of a script flow in, what real replicas answer flows out. No rule of replication or of the directory is here, and no line's
 //! meaning: those stand in the crates below.
 
+use crate::explaining::{script_refusal, session_refusal};
 use crate::fault::Fault;
 use crate::local::root_name;
+use crate::reasons::write_refusal;
+use crate::refusal::Refusal;
 use hex_session::next_line;
 use lab_script::{LabReply, ReplyBy, SearchAnswer, Status, play};
 use local_directory::{Indexes, Schema};
@@ -17,13 +20,19 @@ pub fn play_script<R: BufRead, W: Write>(
     indexes: Indexes,
     input: &mut R,
     output: &mut W,
-) -> Result<(), Fault> {
+) -> Result<(), Refusal> {
     let suffix = root_name(alloc, &schema)?;
-    let lines = read_lines(alloc, input)?;
-    let replies = play(alloc, schema, indexes, suffix, &lines)?;
+    let lines = match read_lines(alloc, input) {
+        Ok(lines) => lines,
+        Err(fault) => return Err(session_refusal(alloc, fault)),
+    };
+    let replies = match play(alloc, schema, indexes, suffix, &lines) {
+        Ok(replies) => replies,
+        Err(error) => return Err(script_refusal(alloc, &lines, Fault::from(error))),
+    };
     match write_replies(&replies, output) {
         Ok(()) => Ok(()),
-        Err(_) => Err(Fault::CannotWrite),
+        Err(error) => Err(write_refusal(alloc, error.kind())),
     }
 }
 

@@ -15,13 +15,13 @@ use std::io::{BufRead, Write};
 use std::sync::Arc;
 
 /// The manager's name.
-const MANAGER: &str = "cn=admin,dc=example,dc=com";
+pub const MANAGER: &str = "cn=admin,dc=example,dc=com";
 
 /// The manager's password.
 const PASSWORD: &str = "secret";
 
 /// The name of the directory's root.
-const SUFFIX: &str = "dc=example,dc=com";
+pub const SUFFIX: &str = "dc=example,dc=com";
 
 /// What a session's directory begins with.
 #[derive(Drop)]

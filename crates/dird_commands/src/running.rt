@@ -1,17 +1,22 @@
 //! One run: words, a system of named files, an input and two outputs come in, the exit status goes out, or what is to be served. Nothing else here
 //! touches the system.
-use crate::fault::Fault;
+use crate::checking::check_file;
+use crate::cost::explain_input;
+use crate::explaining::opening_refusal;
 use crate::files::ReadFiles;
 use crate::lab::play_script;
 use crate::local::{Options, answer_session};
-use crate::opening::{indexes_of, schema_of};
+use crate::opening::{empty_of, indexes_of, schema_of};
+use crate::reasons::write_refusal;
+use crate::refusal::Refusal;
 use crate::service::{Service, service_of};
 use crate::status::Status;
 use crate::texts::{export_input, import_input, search_input};
-use command_line::{Error, Job, Opening, read_words};
+use command_line::{Checking, Error, Job, Opening, Question, read_words};
 use hex_session::SessionEnd;
 use std::alloc::Global;
 use std::io::{BufRead, Write};
+use std::sync::Arc;
 
 /// What became of a run.
 #[derive(Drop)]
@@ -38,13 +43,13 @@ pub fn run<'a, S: ReadFiles, R: BufRead, W: Write, F: Write>(
                 let _ = write!(faults, "{error}");
                 return Ran::Ended(Status::BadCommandLine);
             }
-            return Ran::Ended(tell(output, faults, &error));
+            return Ran::Ended(tell(alloc, output, faults, &error));
         }
     };
     match perform_whole(system, alloc, job, input, output) {
         Ok(ran) => ran,
-        Err(fault) => {
-            let _ = writeln!(faults, "{fault}");
+        Err(refusal) => {
+            refusal.tell(faults);
             Ran::Ended(Status::Refused)
         }
     }
@@ -63,12 +68,20 @@ fn status_of(end: SessionEnd) -> Status {
 }
 
 /// Tells what the words ask to be told: how the program is used, or its version.
-fn tell<W: Write, F: Write>(output: &mut W, faults: &mut F, text: &Error) -> Status {
-    if write!(output, "{text}").is_ok() && output.flush().is_ok() {
-        return Status::Done;
+fn tell<W: Write, F: Write>(alloc: Global, output: &mut W, faults: &mut F, text: &Error) -> Status {
+    match write_text(output, text) {
+        Ok(()) => Status::Done,
+        Err(error) => {
+            write_refusal(alloc, error.kind()).tell(faults);
+            Status::Refused
+        }
     }
-    let _ = writeln!(faults, "{}", Fault::CannotWrite);
-    Status::Refused
+}
+
+/// Writes a text, and hands it on.
+fn write_text<W: Write>(output: &mut W, text: &Error) -> std::io::Result<()> {
+    write!(output, "{text}")?;
+    output.flush()
 }
 
 /// Does the job, and hands on all that it wrote.
@@ -78,11 +91,11 @@ fn perform_whole<'a, S: ReadFiles, R: BufRead, W: Write>(
     job: Job<'a>,
     input: &mut R,
     output: &mut W,
-) -> Result<Ran<'a>, Fault> {
+) -> Result<Ran<'a>, Refusal> {
     let ran = perform(system, alloc, job, input, output)?;
     match output.flush() {
         Ok(()) => Ok(ran),
-        Err(_) => Err(Fault::CannotWrite),
+        Err(error) => Err(write_refusal(alloc, error.kind())),
     }
 }
 
@@ -93,10 +106,11 @@ fn perform<'a, S: ReadFiles, R: BufRead, W: Write>(
     job: Job<'a>,
     input: &mut R,
     output: &mut W,
-) -> Result<Ran<'a>, Fault> {
+) -> Result<Ran<'a>, Refusal> {
     match job {
         Job::Answer(opening) => answer(system, alloc, opening, input, output),
-        Job::Search(question) => done(search_input(alloc, &question, input, output)),
+        Job::Search(question) => done(search(system, alloc, &question, input, output)),
+        Job::Check(checking) => check(system, alloc, &checking, output),
         Job::Import => done(import_input(alloc, input, output)),
         Job::Export => done(export_input(alloc, input, output)),
         Job::Lab(index) => done(lab(system, alloc, index, input, output)),
@@ -105,7 +119,7 @@ fn perform<'a, S: ReadFiles, R: BufRead, W: Write>(
 }
 
 /// What became of a run whose job has no status of its own.
-fn done<'a>(told: Result<(), Fault>) -> Result<Ran<'a>, Fault> {
+fn done<'a>(told: Result<(), Refusal>) -> Result<Ran<'a>, Refusal> {
     told?;
     Ok(Ran::Ended(Status::Done))
 }
@@ -117,16 +131,46 @@ fn answer<'a, S: ReadFiles, R: BufRead, W: Write>(
     opening: Opening<'_>,
     input: &mut R,
     output: &mut W,
-) -> Result<Ran<'a>, Fault> {
+) -> Result<Ran<'a>, Refusal> {
     let schema = schema_of(system, alloc, opening.schema)?;
     let indexes = indexes_of(system, alloc, &schema, opening.index)?;
     let options = Options {
-        schema,
+        schema: Arc::try_clone(&schema)?,
         indexes,
         sample: opening.sample,
     };
-    let end = answer_session(alloc, options, input, output)?;
-    Ok(Ran::Ended(status_of(end)))
+    match answer_session(alloc, options, input, output) {
+        Ok(end) => Ok(Ran::Ended(status_of(end))),
+        Err(fault) => Err(opening_refusal(alloc, &schema, fault)),
+    }
+}
+
+/// One search of the directory of the input's records, once the schema, the index choice and the suffix are read; or what it costs.
+fn search<S: ReadFiles, R: BufRead, W: Write>(
+    system: &S,
+    alloc: Global,
+    question: &Question<'_>,
+    input: &mut R,
+    output: &mut W,
+) -> Result<(), Refusal> {
+    let empty = empty_of(system, alloc, &question.ground)?;
+    match question.explains {
+        true => explain_input(alloc, &empty, question, input, output),
+        false => search_input(alloc, &empty, question, input, output),
+    }
+}
+
+/// What a directory would refuse of a file, once the schema, the index choice and the suffix are read.
+fn check<'a, S: ReadFiles, W: Write>(
+    system: &S,
+    alloc: Global,
+    checking: &Checking<'_>,
+    output: &mut W,
+) -> Result<Ran<'a>, Refusal> {
+    let empty = empty_of(system, alloc, &checking.ground)?;
+    let text = system.read_text(alloc, checking.file)?;
+    let status = check_file(alloc, &empty, checking.file, text.as_bytes(), output)?;
+    Ok(Ran::Ended(status))
 }
 
 /// One script, once the index choice is read, under the built-in schema.
@@ -136,7 +180,7 @@ fn lab<S: ReadFiles, R: BufRead, W: Write>(
     index: Option<&str>,
     input: &mut R,
     output: &mut W,
-) -> Result<(), Fault> {
+) -> Result<(), Refusal> {
     let schema = schema_of(system, alloc, None)?;
     let indexes = indexes_of(system, alloc, &schema, index)?;
     play_script(alloc, schema, indexes, input, output)

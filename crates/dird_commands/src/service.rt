@@ -1,10 +1,12 @@
 //! What a replica is to serve: the words of `serve` and named files flow in; a schema, an index choice and names flow out beside them, to who
 //! called the program. Sockets, threads and the stored view are not here.
 
+use crate::explaining::name_refusal;
 use crate::fault::Fault;
 use crate::files::ReadFiles;
 use crate::local::name_of_text;
 use crate::opening::{indexes_of, schema_of};
+use crate::refusal::Refusal;
 use command_line::{Password, Serving};
 use local_directory::{Indexes, Name, Schema};
 use std::alloc::Global;
@@ -30,6 +32,14 @@ fn entry_name(alloc: Global, schema: &Schema, text: &str) -> Result<Name, Fault>
     Ok(name)
 }
 
+/// The same, behind this word of the command line.
+fn name_behind(alloc: Global, schema: &Schema, word: &str, text: &str) -> Result<Name, Refusal> {
+    match entry_name(alloc, schema, text) {
+        Ok(name) => Ok(name),
+        Err(fault) => Err(name_refusal(alloc, schema, word, text, fault)),
+    }
+}
+
 /// The first line of a text.
 fn first_line(text: &str) -> &str {
     match text.lines().next() {
@@ -43,7 +53,7 @@ fn password_of<S: ReadFiles>(
     files: &S,
     alloc: Global,
     password: Password<'_>,
-) -> Result<String, Fault> {
+) -> Result<String, Refusal> {
     match password {
         Password::Text(text) => Ok(String::from_str(alloc, text)?),
         Password::File(path) => {
@@ -58,11 +68,11 @@ pub fn service_of<'a, S: ReadFiles>(
     files: &S,
     alloc: Global,
     words: Serving<'a>,
-) -> Result<Service<'a>, Fault> {
+) -> Result<Service<'a>, Refusal> {
     let schema = schema_of(files, alloc, words.schema)?;
     let indexes = indexes_of(files, alloc, &schema, words.indexes)?;
-    let suffix = entry_name(alloc, &schema, words.suffix)?;
-    let manager = entry_name(alloc, &schema, words.manager)?;
+    let suffix = name_behind(alloc, &schema, "--suffix", words.suffix)?;
+    let manager = name_behind(alloc, &schema, "--manager", words.manager)?;
     let password = password_of(files, alloc, words.password)?;
     Ok(Service {
         schema,

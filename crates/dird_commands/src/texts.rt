@@ -5,41 +5,49 @@ ghost use Rattle.local_directory.specs.ldap_msg.View.{search_view};
 ghost use Rattle.local_directory.specs.ldif.Imports.{IsImport};
 ghost use Rattle.local_directory.specs.ldif.Exports.{IsExport};
 ghost use Rattle.local_directory.specs.Searched.{IsSearched};
-ghost use Rattle.schema_reader.specs.BuiltIn.{built_in};
-ghost use Rattle.dird_commands.specs.Begun.{empty_directory};
+ghost use Rattle.std.specs.Arc.{arc_value};
+ghost use Rattle.dird_commands.specs.Begun.{empty_under};
 ghost use Rattle.dird_commands.specs.Texts.{Turns, IsRequestOf, IsAnswerTo};
 
+use crate::explaining::{export_refusal, filter_refusal, import_refusal, search_refusal};
 use crate::fault::Fault;
-use crate::files::read_fault;
-use crate::local::empty;
+use crate::opening::EmptyDirectory;
+use crate::reasons::{read_refusal, write_refusal};
+use crate::refusal::Refusal;
 use command_line::Question;
 use filter_text::read_text;
-use local_directory::{
-    DerefAliases, Indexes, SearchRequest, export_text, import_text, search_text,
-};
-use schema_reader::built_in_schema;
+use local_directory::{DerefAliases, SearchRequest, export_text, import_text, search_text};
 use std::alloc::{AllocError, Global};
 use std::io::{BufRead, Write};
-use std::sync::Arc;
 
 /// The octets of an input, up to its end.
-fn read_all<R: BufRead>(alloc: Global, input: &mut R) -> Result<Vec<u8>, Fault>
+pub fn read_all<R: BufRead>(alloc: Global, input: &mut R) -> Result<Vec<u8>, Refusal>
     ensures { IfOk result (λ v. IfSome (R.remaining input.old) (λ xs. v.items ≡ xs)) }
 {
     let mut text = Vec::new(alloc);
     match input.read_to_end(&mut text) {
         Ok(_) => Ok(text),
-        Err(error) => Err(read_fault(error.kind())),
+        Err(error) => Err(read_refusal(alloc, "standard input", error.kind())),
     }
 }
 
 /// Writes octets.
-fn write_out<W: Write>(octets: &[u8], output: &mut W) -> Result<(), Fault>
+fn write_out<W: Write>(alloc: Global, octets: &[u8], output: &mut W) -> Result<(), Refusal>
     ensures { OnOk result (Appends (W.contents output.old) (W.contents output.new) octets.now) }
 {
     match output.write_all(octets) {
         Ok(()) => Ok(()),
-        Err(_) => Err(Fault::CannotWrite),
+        Err(error) => Err(write_refusal(alloc, error.kind())),
+    }
+}
+
+/// What is written of an LDIF text.
+fn imported(alloc: Global, text: &[u8]) -> Result<Vec<u8>, Refusal>
+    ensures { IfOk result (λ v. IsImport text.now v.items) }
+{
+    match import_text(alloc, text) {
+        Ok(lines) => Ok(lines),
+        Err(error) => Err(import_refusal(alloc, text, error)),
     }
 }
 
@@ -48,12 +56,22 @@ pub fn import_input<R: BufRead, W: Write>(
     alloc: Global,
     input: &mut R,
     output: &mut W,
-) -> Result<(), Fault>
+) -> Result<(), Refusal>
     ensures { OnOk result (Turns IsImport (R.remaining input.old) (W.contents output.old) (W.contents output.new)) }
 {
     let text = read_all(alloc, input)?;
-    let written = import_text(alloc, &text)?;
-    write_out(&written, output)
+    let written = imported(alloc, &text)?;
+    write_out(alloc, &written, output)
+}
+
+/// What is written of lines of hex.
+fn exported(alloc: Global, text: &[u8]) -> Result<Vec<u8>, Refusal>
+    ensures { IfOk result (λ v. IsExport text.now v.items) }
+{
+    match export_text(alloc, text) {
+        Ok(written) => Ok(written),
+        Err(error) => Err(export_refusal(alloc, text, error)),
+    }
 }
 
 /// Turns lines of hex, the responses to a search, into LDIF.
@@ -61,12 +79,12 @@ pub fn export_input<R: BufRead, W: Write>(
     alloc: Global,
     input: &mut R,
     output: &mut W,
-) -> Result<(), Fault>
+) -> Result<(), Refusal>
     ensures { OnOk result (Turns IsExport (R.remaining input.old) (W.contents output.old) (W.contents output.new)) }
 {
     let text = read_all(alloc, input)?;
-    let written = export_text(alloc, &text)?;
-    write_out(&written, output)
+    let written = exported(alloc, &text)?;
+    write_out(alloc, &written, output)
 }
 
 /// The texts of words.
@@ -97,26 +115,47 @@ fn request_of(alloc: Global, question: &Question<'_>) -> Result<SearchRequest, F
     })
 }
 
-/// What is shown of the directory of an LDIF text, whose records are added in order to one without entries, under the built-in schema.
-fn searched(alloc: Global, text: &[u8], request: &SearchRequest) -> Result<Vec<u8>, Fault>
-    ensures { IfOk result (λ v. IsSearched (empty_directory built_in) text.now (search_view request.now) v.items) }
+/// The search request of a question, whose filter is explained where it is refused.
+pub fn asked(alloc: Global, question: &Question<'_>) -> Result<SearchRequest, Refusal>
+    ensures { IfOk result (λ r. IsRequestOf question.now.base.now question.now.scope question.now.filter.now (map (λ w. w.now) question.now.attributes.items) (search_view r)) }
 {
-    let schema = Arc::new(alloc, built_in_schema(alloc)?)?;
-    let store = empty(alloc, schema, Indexes::none(alloc))?;
-    Ok(search_text(alloc, store, text, request)?)
+    match request_of(alloc, question) {
+        Ok(request) => Ok(request),
+        Err(fault) => Err(filter_refusal(alloc, question.filter, fault)),
+    }
+}
+
+/// What is shown of the directory of an LDIF text, whose records are added in order to one without entries.
+fn searched(
+    alloc: Global,
+    empty: &EmptyDirectory,
+    text: &[u8],
+    request: &SearchRequest,
+) -> Result<Vec<u8>, Refusal>
+    ensures { IfOk result (λ v. IsSearched (empty_under (arc_value empty.now.schema) empty.now.suffix) text.now (search_view request.now) v.items) }
+{
+    let store = empty.store(alloc)?;
+    match search_text(alloc, store, text, request) {
+        Ok(shown) => Ok(shown),
+        Err(error) => {
+            let base = request.base.as_str();
+            Err(search_refusal(alloc, &empty.schema, text, base, error))
+        }
+    }
 }
 
 /// Searches the directory of an LDIF text.
 pub fn search_input<R: BufRead, W: Write>(
     alloc: Global,
+    empty: &EmptyDirectory,
     question: &Question<'_>,
     input: &mut R,
     output: &mut W,
-) -> Result<(), Fault>
-    ensures { OnOk result (Turns (IsAnswerTo question.now.base.now question.now.scope question.now.filter.now (map (λ w. w.now) question.now.attributes.items)) (R.remaining input.old) (W.contents output.old) (W.contents output.new)) }
+) -> Result<(), Refusal>
+    ensures { OnOk result (Turns (IsAnswerTo (empty_under (arc_value empty.now.schema) empty.now.suffix) question.now.base.now question.now.scope question.now.filter.now (map (λ w. w.now) question.now.attributes.items)) (R.remaining input.old) (W.contents output.old) (W.contents output.new)) }
 {
-    let request = request_of(alloc, question)?;
+    let request = asked(alloc, question)?;
     let text = read_all(alloc, input)?;
-    let written = searched(alloc, &text, &request)?;
-    write_out(&written, output)
+    let written = searched(alloc, empty, &text, &request)?;
+    write_out(alloc, &written, output)
 }

@@ -1,0 +1,19 @@
+-- Checking a file: a text and what a directory refuses of it come in, the verdict goes out.
+use Rattle.std.specs.Prelude.{◌≡◌, ℕ, List, [], ◌∷◌}
+use Rattle.local_directory.specs.dir_kept.Directory.{Directory}
+use Rattle.local_directory.specs.declared.refused_record.RefusedRecord.{RefusedRecord}
+use Rattle.local_directory.specs.Checked.{IsChecked}
+use Rattle.dird_commands.specs.declared.status.Status.{Status}
+use Rattle.dird_commands.specs.declared.status.Status.TheVariants.{Done, Refused}
+
+-- done where nothing is refused
+abbrev pub verdict : List RefusedRecord → Status
+verdict [] = Done
+verdict (r ∷ rs) = Refused
+
+-- The verdict on a text is of all its records, each added in turn.
+pub record IsVerdict (d : Directory) (text : List ℕ) (status : Status) : Type 0 where
+  pub count : ℕ
+  pub refused : List RefusedRecord
+  pub checked : IsChecked d text count refused
+  pub is : status ≡ verdict refused

@@ -1,0 +1,61 @@
+//! Why the system refuses a file or a stream: a kind of error comes in, words for it go out, with the file's name.
+use crate::fault::Fault;
+use crate::refusal::Refusal;
+use explanations::shown;
+use std::alloc::{AllocError, Global};
+use std::io::ErrorKind;
+
+/// The words for the kinds that an administrator meets; the others have std's.
+const REASONS: &[(ErrorKind, &str)] = &[
+    (ErrorKind::NotFound, "no such file"),
+    (ErrorKind::PermissionDenied, "permission denied"),
+    (ErrorKind::IsADirectory, "it is a directory"),
+    (
+        ErrorKind::NotADirectory,
+        "a part of its path is no directory",
+    ),
+    (ErrorKind::InvalidData, "it is not UTF-8 text"),
+    (ErrorKind::InvalidInput, "it is no name of a file"),
+    (ErrorKind::StorageFull, "no space is left"),
+    (ErrorKind::BrokenPipe, "its reader has ended"),
+];
+
+/// Why the system refuses.
+fn reason(alloc: Global, kind: ErrorKind) -> Result<String, AllocError> {
+    for (known, words) in REASONS {
+        if *known == kind {
+            return String::from_str(alloc, words);
+        }
+    }
+    format!(in alloc; "{kind}")
+}
+
+/// What can't be read or written, and why.
+fn because(alloc: Global, what: &str, kind: ErrorKind) -> Result<String, AllocError> {
+    let what = shown(alloc, what.as_bytes())?;
+    let reason = reason(alloc, kind)?;
+    format!(in alloc; "{what}: {reason}")
+}
+
+/// A named file, or the input, that can't be read.
+pub fn read_refusal(alloc: Global, what: &str, kind: ErrorKind) -> Refusal {
+    if kind == ErrorKind::OutOfMemory {
+        return Refusal::from(Fault::NoMemory);
+    }
+    Refusal::explained(Fault::CannotRead, because(alloc, what, kind))
+}
+
+/// The output that can't be written.
+pub fn write_refusal(alloc: Global, kind: ErrorKind) -> Refusal {
+    Refusal::explained(Fault::CannotWrite, because(alloc, "standard output", kind))
+}
+
+/// A file of a secret that others may read.
+pub fn open_to_others(alloc: Global, path: &str) -> Refusal {
+    let name = shown(alloc, path.as_bytes());
+    let told = match name {
+        Ok(name) => format!(in alloc; "{name}: group or others may read it: chmod 600 {name}"),
+        Err(error) => Err(error),
+    };
+    Refusal::explained(Fault::OpenToOthers, told)
+}

@@ -1,0 +1,36 @@
+//! Explanations: a text and its refusal come in, a sentence for whoever wrote the text goes out: what is wrong there, and what was
+//! expected. What is refused is decided by others; here it is only put into words. So the contracts promise that each call is safe and
+//! returns, and nothing of its words; where the cause isn't found, the sentence says less.
+#![tactic(auto)]
+
+mod classes;
+mod codes;
+mod descriptions;
+mod filters;
+mod forms;
+mod hex_lines;
+mod indexes;
+mod ldif_lines;
+mod loops;
+mod names;
+mod pieces;
+mod records;
+mod refusal;
+mod repeats;
+mod rules;
+mod schemas;
+mod scripts;
+mod showing;
+mod unknown;
+
+pub use codes::code_word;
+pub use filters::filter_fault;
+pub use hex_lines::hex_line_fault;
+pub use indexes::index_fault;
+pub use ldif_lines::ldif_fault;
+pub use names::name_fault;
+pub use records::{Placed, record_fault};
+pub use refusal::{IndexRefusal, SchemaRefusal};
+pub use schemas::schema_fault;
+pub use scripts::script_fault;
+pub use showing::shown;
