@@ -1,0 +1,109 @@
+//! Writes frames and reads them: a string with its length and the number of its octets that aren't zero.
+ghost use Rattle.std.specs.Prelude.{◌≡◌, ◌<◌, ◌≤◌, ◌+◌, ◌%◌, ◌^◌, ◌++◌, ◌∷◌, [], nat_le, ◌&&◌, true, false, length, drop, OnOk, OnErr, IfSome, IfNone};
+ghost use Rattle.journal.specs.Frames.{digits, number, nonzeros, frame, is_whole, body_at, after};
+
+use std::alloc::AllocError;
+
+/// How many of these octets aren't zero.
+pub fn nonzeros(octets: &[u8]) -> u64
+    ensures { result ≡ nonzeros octets.now }
+{
+    let mut count = 0u64;
+    for octet in octets {
+        if *octet != 0 {
+            count += 1;
+        }
+    }
+    count
+}
+
+/// Seven bits, below a bit that is set.
+fn digit(number: u64) -> u8
+    ensures { result ≡ 128 + number % 128 }
+{
+    128 + (number % 128) as u8
+}
+
+/// The number of five digits.
+fn number(a: u8, b: u8, c: u8, d: u8, e: u8) -> u64
+    ensures { result ≡ number (a ∷ b ∷ c ∷ d ∷ e ∷ []) }
+{
+    let low = a.saturating_sub(128) as u64 + 128 * b.saturating_sub(128) as u64;
+    let high = d.saturating_sub(128) as u64 + 128 * e.saturating_sub(128) as u64;
+    low + 16_384 * c.saturating_sub(128) as u64 + 2_097_152 * high
+}
+
+/// Adds a number in five digits. Its only error is want of memory.
+fn put_number(out: &mut Vec<u8>, number: u64) -> Result<(), AllocError>
+    ensures ok { OnOk result (out.new.items ≡ out.old.items ++ digits 5 number) }
+    ensures kept { out.new.items ≡ out.old.items ++ drop (length out.old.items) out.new.items }
+{
+    let second = number / 128;
+    let third = second / 128;
+    let fourth = third / 128;
+    let fifth = fourth / 128;
+    out.extend_from_slice(&[
+        digit(number),
+        digit(second),
+        digit(third),
+        digit(fourth),
+        digit(fifth),
+    ])
+}
+
+/// Adds the frame of a string, or a part of it. Its only error is want of memory.
+fn put_frame(out: &mut Vec<u8>, string: &[u8]) -> Result<(), AllocError>
+    ensures ok { OnOk result (out.new.items ≡ out.old.items ++ frame string.now) }
+    ensures kept { out.new.items ≡ out.old.items ++ drop (length out.old.items) out.new.items }
+{
+    put_number(out, string.len() as u64)?;
+    put_number(out, nonzeros(string))?;
+    out.extend_from_slice(string)
+}
+
+/// Adds the frame of a string. At an error, which is want of memory, nothing has changed.
+pub fn put_string(out: &mut Vec<u8>, string: &[u8]) -> Result<(), AllocError>
+    ensures ok { OnOk result (out.new.items ≡ out.old.items ++ frame string.now) }
+    ensures err { OnErr result (out.new.items ≡ out.old.items) }
+{
+    let before = out.len();
+    match put_frame(out, string) {
+        Ok(()) => Ok(()),
+        Err(error) => {
+            out.truncate(before);
+            Err(error)
+        }
+    }
+}
+
+/// The string of the frame at the front, and the octets behind it; none where the front isn't a whole frame.
+pub fn next_string(octets: &[u8]) -> Option<(&[u8], &[u8])>
+    ensures whole { IfSome result (λ p. is_whole octets.now ≡ true) }
+    ensures string { IfSome result (λ p. p.0.now ≡ body_at octets.now) }
+    ensures behind { IfSome result (λ p. p.1.now ≡ after octets.now) }
+    ensures none { IfNone result (is_whole octets.now ≡ false) }
+{
+    let [a, b, c, d, e, f, g, h, i, j, rest @ ..] = octets else {
+        return None;
+    };
+    if !are_digits(*a, *b, *c, *d, *e) || !are_digits(*f, *g, *h, *i, *j) {
+        return None;
+    }
+    let length = number(*a, *b, *c, *d, *e);
+    if length > rest.len() as u64 {
+        return None;
+    }
+    let (string, behind) = rest.split_at(length as usize);
+    if nonzeros(string) == number(*f, *g, *h, *i, *j) {
+        Some((string, behind))
+    } else {
+        None
+    }
+}
+
+/// Whether all five have their top bit set.
+fn are_digits(a: u8, b: u8, c: u8, d: u8, e: u8) -> bool
+    ensures { result ≡ (nat_le 128 a && (nat_le 128 b && (nat_le 128 c && (nat_le 128 d && nat_le 128 e)))) }
+{
+    128 <= a && (128 <= b && (128 <= c && (128 <= d && 128 <= e)))
+}
