@@ -2,6 +2,7 @@
 inputs there were, and what was wrong, flows out."""
 from __future__ import annotations
 
+import errno
 import os
 import re
 import select
@@ -107,7 +108,8 @@ def connection_fault(port: int, octets: bytes, over_limit: bool) -> str:
     except (ConnectionResetError, BrokenPipeError):
         return ""
     except OSError as error:
-        return f"the connection isn't closed: {error}"
+        # Where the replica has closed before this end does, the system says that this end is no longer connected.
+        return "" if error.errno == errno.ENOTCONN else f"the connection isn't closed: {error}"
     return ""
 
 
