@@ -10,3 +10,4 @@ pub mod Recovery
 pub mod Step
 pub mod StepLaw
 pub mod Views
+pub mod Journaled

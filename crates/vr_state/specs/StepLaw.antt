@@ -1,14 +1,15 @@
 -- What each step keeps, whatever the other replicas do. In: the step of one replica. Out: the clauses of the law on steps.
 -- What holds of a whole cluster stands in the crate above, over all schedules.
-use Rattle.std.specs.Prelude.{◌≡◌, ℕ, ◌/◌, ◌<◌, ◌≤◌, ◌⊎◌, nat_le, true, false, List, length, take, Some, slice_index}
+use Rattle.std.specs.Prelude.{◌≡◌, ℕ, ◌/◌, ◌<◌, ◌≤◌, ◌⊎◌, nat_le, Bool, true, false, List, [], ◌∷◌, ◌++◌, length, take, Some, slice_index}
 use Rattle.log_entry.specs.declared.words.Entry.{Entry}
 use Rattle.vr_state.specs.declared.words.Latest.{Latest}
 use Rattle.vr_state.specs.declared.words.Reply.{Reply}
 use Rattle.vr_state.specs.declared.message.Change.{Change}
 use Rattle.vr_state.specs.declared.event.Event.{Event}
-use Rattle.vr_state.specs.declared.event.Event.TheVariants.{Request}
+use Rattle.vr_state.specs.declared.event.Event.TheVariants.{Request, Message}
+use Rattle.vr_state.specs.declared.message.PeerMessage.TheVariants.{NewState}
 use Rattle.vr_state.specs.Lists.{In, IsNamedIn}
-use Rattle.vr_state.specs.State.{State, is_normal}
+use Rattle.vr_state.specs.State.{State, is_normal, is_recovering}
 use Rattle.vr_state.specs.ClientTable.{latest}
 use Rattle.vr_state.specs.Outcome.{others, count, noted}
 use Rattle.vr_state.specs.NormalCase.{on_prepare_ok}
@@ -31,6 +32,26 @@ LogIsKept P = (n i : ℕ) (r : State P) (e : Event P) → is_normal (step n i r 
 abbrev pub LogOnlyGrows : Type 0 → Type 0
 LogOnlyGrows P = (n i : ℕ) (r : State P) (e : Event P) →
     is_normal r.status ≡ true → (step n i r e).state.view_number ≡ r.view_number → length r.log ≤ length (step n i r e).state.log
+
+-- The event is a NEWSTATE.
+abbrev pub brings_tail : {P : Type 0} → Event P → Bool
+brings_tail (Message from (NewState v x tail)) = true
+brings_tail _ = false
+
+-- The log of s is that of r, or has one record more; the last normal view is the same.
+pub record GoesOn {P : Type 0} (r s : State P) : Type 0 where
+  pub log : (s.log ≡ r.log) ⊎ ((e : Entry P) × (s.log ≡ r.log ++ e ∷ []))
+  pub last : s.last_normal_view ≡ r.last_normal_view
+
+-- While a replica is normal in one view, its log gets one record more at most, but at a NEWSTATE.
+abbrev pub LogGoesOn : Type 0 → Type 0
+LogGoesOn P = (n i : ℕ) (r : State P) (e : Event P) → brings_tail e ≡ false →
+    is_normal r.status ≡ true → (step n i r e).state.view_number ≡ r.view_number → GoesOn r (step n i r e).state
+
+-- A replica that isn't normal after a step has the last normal view that it had, and recovers if and only if it did.
+abbrev pub LastIsKept : Type 0 → Type 0
+LastIsKept P = (n i : ℕ) (r : State P) (e : Event P) → is_normal (step n i r e).state.status ≡ false →
+    ((step n i r e).state.last_normal_view ≡ r.last_normal_view) × (is_recovering (step n i r e).state.status ≡ is_recovering r.status)
 
 -- Each reply of a step names one of the records that the replica has committed after it.
 abbrev pub RepliesAreExecuted : Type 0 → Type 0

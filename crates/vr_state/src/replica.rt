@@ -61,11 +61,11 @@ impl<P: Drop> Drop for Replica<P> {
 }
 
 impl<P: Drop> Replica<P> {
-    ghost use Rattle.vr_state.specs.State.{first, recovering};
+    ghost use Rattle.vr_state.specs.State.{first, recovering, resuming};
     ghost use Rattle.vr_state.specs.Views.{state};
     ghost use Rattle.vr_state.specs.NormalCase.{append};
     ghost use Rattle.vr_state.specs.StateTransfer.{joined};
-    ghost use Rattle.vr_state.specs.ViewChange.{adopt};
+    ghost use Rattle.vr_state.specs.ViewChange.{adopt, own_change};
 
     /// The replica at the start of a cluster: normal in view 0, with nothing. Its only error is want of memory.
     pub fn first(alloc: Global, index: u64, count: u64) -> Result<Self, AllocError>
@@ -122,6 +122,76 @@ impl<P: Drop> Replica<P> {
             nonce,
             responses: Vec::new(alloc),
         })
+    }
+
+    /// The replica as it goes on in this view from what its journal kept, with at most so many records committed: normal where
+    /// this was its last normal view, changing to it else. Its only error is want of memory.
+    pub fn resuming(
+        alloc: Global,
+        index: u64,
+        count: u64,
+        view_number: u64,
+        commit_number: u64,
+        kept: Change<P>,
+    ) -> Result<Self, AllocError>
+        requires { index < count }
+        ensures state { IfOk result (λ replica. state replica ≡ resuming count view_number commit_number kept) }
+        ensures index { IfOk result (λ replica. replica.index ≡ index) }
+        ensures count { IfOk result (λ replica. replica.count ≡ count) }
+    {
+        let acknowledged = vec![in alloc; 0; count as usize]?;
+        let client_table = ClientTable::of_log(alloc, &kept.log)?;
+        let Change {
+            log,
+            last_normal_view,
+            commit_number: most,
+        } = kept;
+        let status = if last_normal_view == view_number {
+            Status::Normal
+        } else {
+            Status::ViewChange
+        };
+        Ok(Replica {
+            index,
+            count,
+            view_number,
+            status,
+            last_normal_view,
+            log,
+            commit_number: commit_number.min(most),
+            client_table,
+            acknowledged,
+            start_view_changes: Vec::new(alloc),
+            do_view_changes: Vec::new(alloc),
+            nonce: 0,
+            responses: Vec::new(alloc),
+        })
+    }
+
+    /// Its log, its last normal view and its commit-number, as its DOVIEWCHANGE would tell them. It takes no memory.
+    pub fn into_change(self) -> Change<P>
+        ensures { result ≡ own_change (state self) }
+    {
+        let Replica {
+            index: _,
+            count: _,
+            view_number: _,
+            status: _,
+            last_normal_view,
+            log,
+            commit_number,
+            client_table: _,
+            acknowledged: _,
+            start_view_changes: _,
+            do_view_changes: _,
+            nonce: _,
+            responses: _,
+        } = self;
+        Change {
+            log,
+            last_normal_view,
+            commit_number,
+        }
     }
 
     /// Appends a record and notes it in the client table. At an error nothing has changed.

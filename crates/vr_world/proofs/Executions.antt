@@ -7,14 +7,15 @@ use Rattle.vr_state.specs.Lists.{In}
 use Rattle.vr_state.specs.Outcome.{Outcome}
 use Rattle.vr_state.specs.State.{State}
 use Rattle.vr_state.specs.Step.{step}
+use Rattle.vr_state.specs.declared.message.Change.{Change}
 use Rattle.vr_state.specs.declared.words.Reply.{Reply}
 use Rattle.vr_state.specs.declared.event.Event.TheVariants as event
 use Rattle.vr_world.proofs.Moves.{put_same}
 use Rattle.vr_world.proofs.Telling.{answered_is}
 use Rattle.vr_world.specs.Acts.{given_by}
 use Rattle.vr_world.specs.Law.{GivenSince, RepliesAreExecuted}
-use Rattle.vr_world.specs.World.{has_used, World, ReplyBy, Message, WorldEvent, made, stepped, delivered, recovered, sent_as, happens}
-use Rattle.vr_world.specs.declared.events.WorldEvent.TheVariants.{Request, Deliver, Suspect, Beat, Crash, Recover}
+use Rattle.vr_world.specs.World.{has_used, World, ReplyBy, Message, WorldEvent, made, stepped, delivered, recovered, crashed, resumed, sent_as, happens}
+use Rattle.vr_world.specs.declared.events.WorldEvent.TheVariants.{Request, Deliver, Suspect, Beat, Crash, Recover, Resume}
 
 -- what is in one of two lists
 in_either : {A : Type 0} (x : A) (xs ys : List A) → In x (xs ++ ys) → In x xs ⊎ In x ys
@@ -74,14 +75,26 @@ module _ {P : Type 0} (n : ℕ) where
   given_recovered w i x (Some r) = none w w refl
   given_recovered w i x None = by_test (GivenSince w) (has_used x (w.nonces i)) _ _ (λ e. none w w refl) (λ e. none w _ refl)
 
+  -- a crash gives none
+  given_crashed : (w : World P) (i : ℕ) (o : Option (State P)) → GivenSince w (crashed i o w)
+  given_crashed w i None = none w w refl
+  given_crashed w i (Some r) = none w _ refl
+
+  -- nor does who goes on
+  given_resumed : (w : World P) (i k : ℕ) (o : Option (State P)) (c : Option (Change P)) → GivenSince w (resumed n i k o c w)
+  given_resumed w i k (Some r) c = none w w refl
+  given_resumed w i k None None = none w w refl
+  given_resumed w i k None (Some c) = none w _ refl
+
   -- of an event
   pub given_happens : (w : World P) (e : WorldEvent P) → GivenSince w (happens n w e)
   given_happens w (Request i e) = by_test (GivenSince w) (nat_lt i n) _ _ (λ k. given_stepped w i (λ r. step n i r (event.Request e)) (λ r. request_right n i r e) (w.replicas i)) (λ k. none w w refl)
   given_happens w (Deliver k) = given_delivered w (sent_as k w.messages)
   given_happens w (Suspect i) = by_test (GivenSince w) (nat_lt i n) _ _ (λ k. given_stepped w i (λ r. step n i r event.Suspect) (λ r. suspect_right n i r r.status) (w.replicas i)) (λ k. none w w refl)
   given_happens w (Beat i) = by_test (GivenSince w) (nat_lt i n) _ _ (λ k. given_stepped w i (λ r. step n i r event.Beat) (λ r. beat_right n i r r.status) (w.replicas i)) (λ k. none w w refl)
-  given_happens w (Crash i) = by_test (GivenSince w) (nat_lt i n) _ _ (λ k. none w _ refl) (λ k. none w w refl)
+  given_happens w (Crash i) = by_test (GivenSince w) (nat_lt i n) _ _ (λ k. given_crashed w i (w.replicas i)) (λ k. none w w refl)
   given_happens w (Recover i x) = by_test (GivenSince w) (nat_lt i n) _ _ (λ k. given_recovered w i x (w.replicas i)) (λ k. none w w refl)
+  given_happens w (Resume i x) = by_test (GivenSince w) (nat_lt i n) _ _ (λ k. given_resumed w i x (w.replicas i) (w.kept i)) (λ k. none w w refl)
 
 -- At each event the replies that are given name what their replica has committed by then.
 pub replies_are_executed : {P : Type 0} → RepliesAreExecuted P

@@ -4,7 +4,7 @@ use Rattle.std.proofs.Common.{◌≡◌, ℕ, suc, ◌/◌, ◌<◌, ◌≤◌, 
 use Rattle.std.specs.List.{list_any}
 use Rattle.vr_state.specs.Lists.{IsPrefix, In, Rising, EntryAt}
 use Rattle.vr_state.specs.Outcome.{indices, count, noted}
-use Rattle.vr_state.specs.State.{State, primary}
+use Rattle.vr_state.specs.State.{State, primary, resuming}
 use Rattle.vr_state.specs.declared.message.Change.{Change}
 use Rattle.vr_state.specs.declared.message.PeerMessage.{PeerMessage}
 use Rattle.vr_state.specs.declared.message.Response.{Response}
@@ -236,6 +236,16 @@ pub record Still {P : Type 0} (n : ℕ) (ms ms' : List (Message P)) (j : ℕ) : 
   pub said : (v q : ℕ) → has_said v q j ms' ≡ true → has_said v q j ms ≡ true
   pub begins : (v : ℕ) → primary n v ≡ j → Started v ms' → Started v ms
 
--- the invariant of a world, beside lists that stay
+-- a replica as it is, or as it would go on from what is kept of it
+abbrev pub or_kept : {P : Type 0} → ℕ → ℕ → Option (State P) → Option (Change P) → Option (State P)
+or_kept n v (Some r) c = Some r
+or_kept n v None None = None
+or_kept n v None (Some c) = Some (resuming n v c.commit_number c)
+
+-- each replica of a world, up or down
+abbrev pub all_of : {P : Type 0} → ℕ → World P → ℕ → Option (State P)
+all_of n w i = or_kept n (w.stored i) (w.replicas i) (w.kept i)
+
+-- the invariant of a world, beside lists that stay: of a replica that is down it says what holds once it goes on
 abbrev pub Holds : {P : Type 0} → ℕ → (ℕ → List (Entry P)) → World P → Type 0
-Holds n past w = Invariant n w.replicas w.stored (record { used = w.nonces; past = past }) w.messages
+Holds n past w = Invariant n (all_of n w) w.stored (record { used = w.nonces; past = past }) w.messages

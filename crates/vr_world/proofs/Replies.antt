@@ -6,6 +6,7 @@ use Rattle.vr_state.specs.Lists.{In, IsNamedIn}
 use Rattle.vr_state.specs.Outcome.{Outcome}
 use Rattle.vr_state.specs.State.{State}
 use Rattle.vr_state.specs.Step.{step}
+use Rattle.vr_state.specs.declared.message.Change.{Change}
 use Rattle.vr_state.specs.Words.{Entry}
 use Rattle.vr_state.specs.declared.words.Reply.{Reply}
 use Rattle.vr_world.proofs.Listed.{listed_committed}
@@ -14,9 +15,9 @@ use Rattle.vr_world.proofs.Runs.{happens_holds}
 use Rattle.vr_world.proofs.Invariant.{Holds}
 use Rattle.vr_world.proofs.Theorems.{committed_stays, replica_agrees}
 use Rattle.vr_world.specs.Law.{IsSize}
-use Rattle.vr_world.specs.World.{has_used, World, ReplyBy, Message, WorldEvent, answered, made, stepped, delivered, recovered, sent_as, happens, run}
+use Rattle.vr_world.specs.World.{has_used, World, ReplyBy, Message, WorldEvent, answered, made, stepped, delivered, recovered, crashed, resumed, sent_as, happens, run}
 use Rattle.vr_state.specs.declared.event.Event.TheVariants as event
-use Rattle.vr_world.specs.declared.events.WorldEvent.TheVariants.{Request, Deliver, Suspect, Beat, Crash, Recover}
+use Rattle.vr_world.specs.declared.events.WorldEvent.TheVariants.{Request, Deliver, Suspect, Beat, Crash, Recover, Resume}
 
 -- a reply was there or is new
 replies_new : (i : ℕ) (rs : List Reply) (ts : List ReplyBy) (t : ReplyBy) → In t (answered i rs ts) → In t ts ⊎ In t.reply rs
@@ -56,14 +57,26 @@ module _ {P : Type 0} (n : ℕ) (size : IsSize n) where
   replies_recovered w i x (Some r) = λ t h. inl h
   replies_recovered w i x None = by_test (RepliesFact w) (has_used x (w.nonces i)) _ _ (λ e t h. inl h) (λ e t h. inl h)
 
+  -- nor does a crash
+  replies_crashed : (w : World P) (i : ℕ) (o : Option (State P)) → RepliesFact w (crashed i o w)
+  replies_crashed w i None = λ t h. inl h
+  replies_crashed w i (Some r) = λ t h. inl h
+
+  -- nor does who goes on
+  replies_resumed : (w : World P) (i k : ℕ) (o : Option (State P)) (c : Option (Change P)) → RepliesFact w (resumed n i k o c w)
+  replies_resumed w i k (Some r) c = λ t h. inl h
+  replies_resumed w i k None None = λ t h. inl h
+  replies_resumed w i k None (Some c) = λ t h. inl h
+
   -- of an event
   replies_happen : (past : ℕ → List (Entry P)) (w : World P) (e : WorldEvent P) → Holds n past (happens n w e) → RepliesFact w (happens n w e)
   replies_happen past w (Request i e) = by_test (λ u. Holds n past u → RepliesFact w u) (nat_lt i n) _ _ (λ k inv. replies_stepped past w i (λ r. step n i r (event.Request e)) (λ r. request_right n i r e) (w.replicas i) inv) (λ k inv t h. inl h)
   replies_happen past w (Deliver k) = λ inv. replies_delivered past w (sent_as k w.messages) inv
   replies_happen past w (Suspect i) = by_test (λ u. Holds n past u → RepliesFact w u) (nat_lt i n) _ _ (λ k inv. replies_stepped past w i (λ r. step n i r event.Suspect) (λ r. suspect_right n i r r.status) (w.replicas i) inv) (λ k inv t h. inl h)
   replies_happen past w (Beat i) = by_test (λ u. Holds n past u → RepliesFact w u) (nat_lt i n) _ _ (λ k inv. replies_stepped past w i (λ r. step n i r event.Beat) (λ r. beat_right n i r r.status) (w.replicas i) inv) (λ k inv t h. inl h)
-  replies_happen past w (Crash i) = by_test (λ u. Holds n past u → RepliesFact w u) (nat_lt i n) _ _ (λ k inv t h. inl h) (λ k inv t h. inl h)
+  replies_happen past w (Crash i) = by_test (λ u. Holds n past u → RepliesFact w u) (nat_lt i n) _ _ (λ k inv. replies_crashed w i (w.replicas i)) (λ k inv t h. inl h)
   replies_happen past w (Recover i x) = by_test (λ u. Holds n past u → RepliesFact w u) (nat_lt i n) _ _ (λ k inv. replies_recovered w i x (w.replicas i)) (λ k inv t h. inl h)
+  replies_happen past w (Resume i x) = by_test (λ u. Holds n past u → RepliesFact w u) (nat_lt i n) _ _ (λ k inv. replies_resumed w i x (w.replicas i) (w.kept i)) (λ k inv t h. inl h)
 
   -- Over a whole schedule.
   pub replies_run : (past : ℕ → List (Entry P)) (es : List (WorldEvent P)) (w : World P) → Holds n past w → ((t : ReplyBy) → In t w.replies → IsNamedIn t.reply (listed_committed n w.messages)) → (t : ReplyBy) → In t (run n es w).replies → IsNamedIn t.reply (listed_committed n (run n es w).messages)

@@ -12,17 +12,17 @@ use Rattle.vr_world.proofs.Invariant.{Holds}
 use Rattle.vr_world.proofs.Recoveries.{recover_holds}
 use Rattle.vr_world.proofs.Agreement.{sent_said}
 use Rattle.vr_world.proofs.ChangeEvents.{suspect_fine, start_view_change_fine, do_view_change_fine, start_view_fine, new_state_fine, get_state_fine, recovery_fine, response_fine}
-use Rattle.vr_world.proofs.Invariant.{Given, Sent, ReplicaFact, Invariant}
+use Rattle.vr_world.proofs.Invariant.{Given, Sent, Invariant, all_of}
+use Rattle.vr_world.proofs.Resumptions.{there_up, all_made, crash_holds, resume_holds}
 use Rattle.vr_world.proofs.Listed.{listed}
-use Rattle.vr_world.proofs.Moves.{put_rule}
 use Rattle.vr_world.proofs.NormalEvents.{FineAt, settle_idle, request_fine, prepare_fine, prepare_ok_fine, commit_fine, beat_fine}
 use Rattle.vr_world.proofs.Said.{start_log_within}
 use Rattle.vr_world.proofs.Sends.{enveloped}
 use Rattle.vr_world.specs.Law.{IsSize}
-use Rattle.vr_world.specs.World.{World, Message, WorldEvent, stepped, delivered, crashed, sent_as, happens, run}
+use Rattle.vr_world.specs.World.{World, Message, WorldEvent, put, posted, stepped, delivered, sent_as, happens, run}
 use Rattle.vr_state.specs.declared.event.Event.TheVariants as event
 use Rattle.vr_state.specs.declared.message.PeerMessage.TheVariants.{Prepare, PrepareOk, Commit, StartViewChange, DoViewChange, StartView, GetState, NewState, Recovery, RecoveryResponse}
-use Rattle.vr_world.specs.declared.events.WorldEvent.TheVariants.{Request, Deliver, Suspect, Beat, Crash, Recover}
+use Rattle.vr_world.specs.declared.events.WorldEvent.TheVariants.{Request, Deliver, Suspect, Beat, Crash, Recover, Resume}
 
 module _ {P : Type 0} (n : ℕ) (size : IsSize n) (replicas : ℕ → Option (State P)) (stored : ℕ → ℕ) (given : Given P) (ms : List (Message P)) (inv : Invariant n replicas stored given ms) (i : ℕ) (r : State P) (up : replicas i ≡ Some r) where
   peer_fine : (from : ℕ) (b : PeerMessage P) → (from ≡ i → ⊥) → Sent (enveloped from i b) ms → FineAt n replicas stored given ms i (on_peer_message n i r from b)
@@ -61,28 +61,26 @@ as_sent {P} k ms m e = by_test (λ (o : Option (Message P)). o ≡ Some m → Se
 
 module _ {P : Type 0} (n : ℕ) (size : IsSize n) (past : ℕ → List (Entry P)) where
   -- a step keeps the invariant
-  step_holds : (w : World P) → Holds n past w → (i : ℕ) (step : State P → Outcome P) → ((r : State P) → w.replicas i ≡ Some r → FineAt n w.replicas w.stored (record { used = w.nonces; past = past }) w.messages i (step r)) → (o : Option (State P)) → w.replicas i ≡ o → Holds n past (stepped i step o w)
+  step_holds : (w : World P) → Holds n past w → (i : ℕ) (step : State P → Outcome P) → ((r : State P) → all_of n w i ≡ Some r → FineAt n (all_of n w) w.stored (record { used = w.nonces; past = past }) w.messages i (step r)) → (o : Option (State P)) → w.replicas i ≡ o → Holds n past (stepped i step o w)
   step_holds w inv i step h None e = inv
-  step_holds w inv i step h (Some r) e = h r e
+  step_holds w inv i step h (Some r) e =
+      subst (λ f. Invariant n f (put i (step r).state.view_number w.stored) (record { used = w.nonces; past = past }) (posted i (step r).sends w.messages)) (sym (all_made n i (step r) w)) (h r (there_up n w i r e))
 
   -- so does a delivery
   deliver_holds : (w : World P) → Holds n past w → (o : Option (Message P)) → ((m : Message P) → o ≡ Some m → Sent m w.messages) → Holds n past (delivered n o w)
   deliver_holds w inv None s = inv
   deliver_holds w inv (Some m) s = step_holds w inv m.to (λ r. step n m.to r (event.Message m.from m.body))
-      (λ r up. message_fine n size w.replicas w.stored (record { used = w.nonces; past = past }) w.messages inv m.to r up m.from m.body (s m refl)) (w.replicas m.to) refl
-
-  -- and a crash
-  crash_holds : (w : World P) → Holds n past w → (i : ℕ) → Holds n past (crashed i w)
-  crash_holds w inv i = record { sound = inv.sound; each = put_rule i None w.replicas (λ j x. ReplicaFact n w.stored (record { used = w.nonces; past = past }) w.messages j x) tt (λ j ne. inv.each j) }
+      (λ r up. message_fine n size (all_of n w) w.stored (record { used = w.nonces; past = past }) w.messages inv m.to r up m.from m.body (s m refl)) (w.replicas m.to) refl
 
   -- each event keeps the invariant
   pub happens_holds : (w : World P) → Holds n past w → (e : WorldEvent P) → Holds n past (happens n w e)
-  happens_holds w inv (Request i e) = by_test (Holds n past) (nat_lt i n) _ _ (λ t. step_holds w inv i (λ r. step n i r (event.Request e)) (λ r up. request_fine n size w.replicas w.stored (record { used = w.nonces; past = past }) w.messages inv i r up e) (w.replicas i) refl) (λ t. inv)
+  happens_holds w inv (Request i e) = by_test (Holds n past) (nat_lt i n) _ _ (λ t. step_holds w inv i (λ r. step n i r (event.Request e)) (λ r up. request_fine n size (all_of n w) w.stored (record { used = w.nonces; past = past }) w.messages inv i r up e) (w.replicas i) refl) (λ t. inv)
   happens_holds w inv (Deliver k) = deliver_holds w inv (sent_as k w.messages) (λ m e. as_sent k w.messages m e)
-  happens_holds w inv (Suspect i) = by_test (Holds n past) (nat_lt i n) _ _ (λ t. step_holds w inv i (λ r. step n i r event.Suspect) (λ r up. suspect_fine n size w.replicas w.stored (record { used = w.nonces; past = past }) w.messages inv i r up r.status) (w.replicas i) refl) (λ t. inv)
-  happens_holds w inv (Beat i) = by_test (Holds n past) (nat_lt i n) _ _ (λ t. step_holds w inv i (λ r. step n i r event.Beat) (λ r up. beat_fine n size w.replicas w.stored (record { used = w.nonces; past = past }) w.messages inv i r up) (w.replicas i) refl) (λ t. inv)
-  happens_holds w inv (Crash i) = by_test (Holds n past) (nat_lt i n) _ _ (λ t. crash_holds w inv i) (λ t. inv)
+  happens_holds w inv (Suspect i) = by_test (Holds n past) (nat_lt i n) _ _ (λ t. step_holds w inv i (λ r. step n i r event.Suspect) (λ r up. suspect_fine n size (all_of n w) w.stored (record { used = w.nonces; past = past }) w.messages inv i r up r.status) (w.replicas i) refl) (λ t. inv)
+  happens_holds w inv (Beat i) = by_test (Holds n past) (nat_lt i n) _ _ (λ t. step_holds w inv i (λ r. step n i r event.Beat) (λ r up. beat_fine n size (all_of n w) w.stored (record { used = w.nonces; past = past }) w.messages inv i r up) (w.replicas i) refl) (λ t. inv)
+  happens_holds w inv (Crash i) = by_test (Holds n past) (nat_lt i n) _ _ (λ t. crash_holds n past w inv i (w.replicas i) refl) (λ t. inv)
   happens_holds w inv (Recover i x) = by_test (Holds n past) (nat_lt i n) _ _ (λ t. recover_holds n past w inv i x (w.replicas i)) (λ t. inv)
+  happens_holds w inv (Resume i k) = by_test (Holds n past) (nat_lt i n) _ _ (λ t. resume_holds n past w inv i k (w.replicas i) (w.kept i) refl refl) (λ t. inv)
 
   -- A whole schedule keeps it.
   pub run_holds : (es : List (WorldEvent P)) (w : World P) → Holds n past w → Holds n past (run n es w)

@@ -9,7 +9,7 @@ use Rattle.vr_world.specs.Committed.{committed}
 use Rattle.vr_world.specs.World.{World, WorldEvent, Message, ReplyBy, happens, start, after, sent_as}
 use Rattle.vr_state.specs.declared.message.PeerMessage.TheVariants.{NewState}
 use Rattle.vr_state.specs.declared.words.Status.TheVariants.{Normal, ViewChange, Recovering}
-use Rattle.vr_world.specs.declared.events.WorldEvent.TheVariants.{Request, Deliver, Suspect, Beat, Crash, Recover}
+use Rattle.vr_world.specs.declared.events.WorldEvent.TheVariants.{Request, Deliver, Suspect, Beat, Crash, Recover, Resume}
 
 -- An event, some deliveries in turn, or a look at a replica.
 pub data Action : Type 0 where
@@ -98,6 +98,22 @@ start_view_repeated = refl
 stored_view_unheard : printed 3 (start 3) (ask 0 7 1 ∷ DeliverAll (2 ∷ 3 ∷ []) ∷ Do (Suspect 1) ∷ Do (Crash 1) ∷ Do (Recover 1 5) ∷ DeliverAll (6 ∷ 7 ∷ 8 ∷ []) ∷ Do (Suspect 1) ∷ DeliverAll (9 ∷ []) ∷ Look 1 ∷ Do (Suspect 1) ∷ Look 1 ∷ DeliverAll (10 ∷ 11 ∷ []) ∷ Look 0 ∷ Do (Suspect 2) ∷ DeliverAll (18 ∷ 21 ∷ 22 ∷ []) ∷ Do (Beat 1) ∷ DeliverAll (23 ∷ 25 ∷ 26 ∷ 28 ∷ 29 ∷ []) ∷ Look 1 ∷ [])
     ≡ Replied 0 7 1 1 ∷ IsIn 1 1 Recovering 0 0 ∷ IsIn 1 1 Recovering 0 0 ∷ IsIn 0 1 ViewChange 1 1 ∷ Replied 2 7 1 1 ∷ IsIn 1 2 Normal 1 1 ∷ []
 stored_view_unheard = refl
+
+-- A power cut of all three after an update was answered: they go on from their journals, and the update is committed again by a beat.
+power_cut : printed 3 (start 3) (ask 0 7 1 ∷ DeliverAll (1 ∷ 3 ∷ []) ∷ Do (Crash 0) ∷ Do (Crash 1) ∷ Do (Crash 2) ∷ Look 0 ∷ Do (Resume 0 0) ∷ Do (Resume 1 0) ∷ Do (Resume 2 0) ∷ Look 0 ∷ Look 1 ∷ Look 2 ∷ Do (Beat 0) ∷ DeliverAll (4 ∷ 6 ∷ []) ∷ Look 0 ∷ [])
+    ≡ Replied 0 7 1 1 ∷ IsDown 0 ∷ IsIn 0 0 Normal 1 0 ∷ IsIn 1 0 Normal 1 0 ∷ IsIn 2 0 Normal 0 0 ∷ Replied 0 7 1 1 ∷ IsIn 0 0 Normal 1 1 ∷ []
+power_cut = refl
+
+-- A power cut in mid view change, without the old primary: the two others go on changing, note one another again, and view 1 begins with the record.
+power_cut_in_a_change : printed 3 (start 3) (ask 0 7 1 ∷ DeliverAll (1 ∷ 3 ∷ []) ∷ Do (Suspect 1) ∷ Do (Suspect 2) ∷ Do (Crash 0) ∷ Do (Crash 1) ∷ Do (Crash 2) ∷ Do (Resume 1 0) ∷ Do (Resume 2 0) ∷ Look 1 ∷ Look 2 ∷ Do (Beat 1) ∷ Do (Beat 2) ∷ DeliverAll (9 ∷ 11 ∷ 12 ∷ []) ∷ Look 1 ∷ [])
+    ≡ Replied 0 7 1 1 ∷ IsIn 1 1 ViewChange 1 0 ∷ IsIn 2 1 ViewChange 0 0 ∷ IsIn 1 1 Normal 1 0 ∷ []
+power_cut_in_a_change = refl
+
+-- A power cut of all three, and one journal is lost: that replica recovers from the two that go on. It has no journal while it recovers, so a crash then
+-- leaves nothing to go on from.
+one_journal_lost : printed 3 (start 3) (ask 0 7 1 ∷ DeliverAll (1 ∷ 3 ∷ []) ∷ Do (Crash 0) ∷ Do (Crash 1) ∷ Do (Crash 2) ∷ Do (Resume 0 1) ∷ Do (Resume 1 0) ∷ Do (Recover 2 5) ∷ Do (Crash 2) ∷ Do (Resume 2 9) ∷ Look 2 ∷ Do (Recover 2 6) ∷ DeliverAll (6 ∷ 7 ∷ 8 ∷ 9 ∷ []) ∷ Look 0 ∷ Look 2 ∷ [])
+    ≡ Replied 0 7 1 1 ∷ IsDown 2 ∷ IsIn 0 0 Normal 1 1 ∷ IsIn 2 0 Normal 1 1 ∷ []
+one_journal_lost = refl
 
 -- a record
 abbrev one : Entry ℕ

@@ -5,22 +5,24 @@ use Rattle.vr_state.proofs.Laws.{prefix_trans, prefix_shorter, by_test, commits_
 use Rattle.vr_state.specs.Outcome.{Outcome}
 use Rattle.vr_state.specs.State.{State}
 use Rattle.vr_state.specs.Step.{step}
+use Rattle.vr_state.specs.declared.message.Change.{Change}
 use Rattle.vr_state.specs.Words.{Entry}
 use Rattle.vr_state.specs.declared.words.Status.{Status}
 use Rattle.vr_world.proofs.Invariant.{StateFact}
 use Rattle.vr_world.proofs.NormalEvents.{up_of}
 use Rattle.vr_world.proofs.Runs.{happens_holds}
-use Rattle.vr_world.proofs.Invariant.{Holds}
+use Rattle.vr_world.proofs.Invariant.{Holds, all_of}
+use Rattle.vr_world.proofs.Resumptions.{there_up}
 use Rattle.vr_world.proofs.Theorems.{after_holds, committed_stays, replica_agrees, run-append}
 use Rattle.vr_world.specs.Law.{CommitsAreHeld, StepsKeep}
-use Rattle.vr_world.specs.World.{has_used, World, Message, WorldEvent, made, stepped, delivered, recovered, sent_as, happens, start, after}
+use Rattle.vr_world.specs.World.{has_used, World, Message, WorldEvent, made, stepped, delivered, recovered, crashed, resumed, sent_as, happens, start, after}
 use Rattle.vr_state.specs.declared.event.Event.TheVariants as event
 use Rattle.vr_state.specs.declared.words.Status.TheVariants.{Normal, ViewChange, Recovering}
-use Rattle.vr_world.specs.declared.events.WorldEvent.TheVariants.{Request, Deliver, Suspect, Beat, Crash, Recover}
+use Rattle.vr_world.specs.declared.events.WorldEvent.TheVariants.{Request, Deliver, Suspect, Beat, Crash, Recover, Resume}
 
 -- a replica has what it has committed
 within_of : {P : Type 0} (n : ℕ) (past : ℕ → List (Entry P)) (w : World P) → Holds n past w → (i : ℕ) (r : State P) → w.replicas i ≡ Some r → r.commit_number ≤ length r.log
-within_of {P} n past w inv i r up = go r.status (up_of n w.replicas w.stored (record { used = w.nonces; past = past }) w.messages inv i r up).state
+within_of {P} n past w inv i r up = go r.status (up_of n (all_of n w) w.stored (record { used = w.nonces; past = past }) w.messages inv i r (there_up n w i r up)).state
   where
     go : (s : Status) → StateFact n w.stored (record { used = w.nonces; past = past }) w.messages i r s → r.commit_number ≤ length r.log
     go Normal h = h.active.within
@@ -63,15 +65,27 @@ module _ {P : Type 0} (n i : ℕ) (r s : State P) where
       (λ t. by_test (λ (y : Option (State P)). y ≡ Some s → r.commit_number ≤ s.commit_number) (i == k) _ (w.replicas i)
       (λ u. absurd (cc (e, f, ap w.replicas (eqb-true i k u)))) (λ u. rises_same w e))
 
+  -- where one crashed
+  rises_crashed : (w : World P) → w.replicas i ≡ Some r → (k : ℕ) (o : Option (State P)) → Rises (crashed k o w)
+  rises_crashed w e k None = rises_same w e
+  rises_crashed w e k (Some x) = by_test (λ (y : Option (State P)). y ≡ Some s → r.commit_number ≤ s.commit_number) (i == k) None (w.replicas i) (λ u f. absurd (cc f)) (λ u. rises_same w e)
+
+  -- where one goes on
+  rises_resumed : (w : World P) → w.replicas i ≡ Some r → (k x : ℕ) (o : Option (State P)) (c : Option (Change P)) → w.replicas k ≡ o → Rises (resumed n k x o c w)
+  rises_resumed w e k x (Some y) c f = rises_same w e
+  rises_resumed w e k x None None f = rises_same w e
+  rises_resumed w e k x None (Some c) f = by_test (λ (y : Option (State P)). y ≡ Some s → r.commit_number ≤ s.commit_number) (i == k) _ (w.replicas i)
+      (λ u. absurd (cc (e, f, ap w.replicas (eqb-true i k u)))) (λ u. rises_same w e)
+
   -- At each event.
   pub rises_happens : (w : World P) → w.replicas i ≡ Some r → (e : WorldEvent P) → Rises (happens n w e)
   rises_happens w up (Request k e) = by_test Rises (nat_lt k n) _ _ (λ t. rises_stepped w up k (λ x. step n k x (event.Request e)) (λ t. commits_rise n k r (event.Request e)) (w.replicas k) refl) (λ t. rises_same w up)
   rises_happens w up (Deliver k) = rises_delivered w up (sent_as k w.messages)
   rises_happens w up (Suspect k) = by_test Rises (nat_lt k n) _ _ (λ t. rises_stepped w up k (λ x. step n k x event.Suspect) (λ t. commits_rise n k r event.Suspect) (w.replicas k) refl) (λ t. rises_same w up)
   rises_happens w up (Beat k) = by_test Rises (nat_lt k n) _ _ (λ t. rises_stepped w up k (λ x. step n k x event.Beat) (λ t. commits_rise n k r event.Beat) (w.replicas k) refl) (λ t. rises_same w up)
-  rises_happens w up (Crash k) = by_test Rises (nat_lt k n) _ _
-      (λ t. by_test (λ (y : Option (State P)). y ≡ Some s → r.commit_number ≤ s.commit_number) (i == k) None (w.replicas i) (λ u f. absurd (cc f)) (λ u. rises_same w up)) (λ t. rises_same w up)
+  rises_happens w up (Crash k) = by_test Rises (nat_lt k n) _ _ (λ t. rises_crashed w up k (w.replicas k)) (λ t. rises_same w up)
   rises_happens w up (Recover k x) = by_test Rises (nat_lt k n) _ _ (λ t. rises_recovered w up k x (w.replicas k) refl) (λ t. rises_same w up)
+  rises_happens w up (Resume k x) = by_test Rises (nat_lt k n) _ _ (λ t. rises_resumed w up k x (w.replicas k) (w.kept k) refl) (λ t. rises_same w up)
 
 -- A step keeps what its replica has committed.
 pub steps_keep : {P : Type 0} → StepsKeep P

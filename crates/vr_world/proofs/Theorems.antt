@@ -7,6 +7,7 @@ use Rattle.vr_state.specs.Lists.{IsPrefix}
 use Rattle.vr_state.specs.Outcome.{Outcome, to_all, others}
 use Rattle.vr_state.specs.State.{State, primary, first}
 use Rattle.vr_state.specs.Step.{step}
+use Rattle.vr_state.specs.declared.message.Change.{Change}
 use Rattle.vr_state.specs.declared.message.Send.{Send}
 use Rattle.vr_state.specs.Words.{Entry}
 use Rattle.vr_state.specs.declared.words.Status.{Status}
@@ -18,15 +19,16 @@ use Rattle.vr_world.proofs.Listed.{listed, listed_committed}
 use Rattle.vr_world.proofs.Moves.{still_same, grows_same, adds_none}
 use Rattle.vr_world.proofs.NormalEvents.{up_of}
 use Rattle.vr_world.proofs.Runs.{run_holds}
-use Rattle.vr_world.proofs.Invariant.{Holds}
+use Rattle.vr_world.proofs.Invariant.{Holds, all_of, or_kept}
+use Rattle.vr_world.proofs.Resumptions.{there_up}
 use Rattle.vr_world.proofs.Said.{chosen_fact}
 use Rattle.vr_world.specs.Committed.{has_said, says, is_chosen}
 use Rattle.vr_world.specs.Law.{IsSize}
-use Rattle.vr_world.specs.World.{has_used, World, Message, WorldEvent, posted, stepped, delivered, recovered, sent_as, happens, start, run, after}
+use Rattle.vr_world.specs.World.{has_used, World, Message, WorldEvent, posted, stepped, delivered, recovered, crashed, resumed, sent_as, happens, start, run, after}
 use Rattle.vr_state.specs.declared.event.Event.TheVariants as event
 use Rattle.vr_state.specs.declared.message.PeerMessage.TheVariants.{Recovery}
 use Rattle.vr_state.specs.declared.words.Status.TheVariants.{Normal, ViewChange, Recovering}
-use Rattle.vr_world.specs.declared.events.WorldEvent.TheVariants.{Request, Deliver, Suspect, Beat, Crash, Recover}
+use Rattle.vr_world.specs.declared.events.WorldEvent.TheVariants.{Request, Deliver, Suspect, Beat, Crash, Recover, Resume}
 
 -- The invariant holds at the start.
 pub start_holds : {P : Type 0} (n : ℕ) → Holds {P = P} n (λ v. []) (start n)
@@ -38,7 +40,7 @@ start_holds {P} n = record {
     kept = λ v. prefix_nil [];
     rising = λ v. tt;
   };
-  each = λ i. by_test (λ o. ReplicaFact n (λ i. 0) (record { used = λ i. []; past = λ v. [] }) [] i o) (nat_lt i n) (Some (first n)) None (λ t. up i) (λ t. tt);
+  each = λ i. by_test (λ o. ReplicaFact n (λ i. 0) (record { used = λ i. []; past = λ v. [] }) [] i (or_kept n 0 o None)) (nat_lt i n) (Some (first n)) None (λ t. up i) (λ t. tt);
 }
   where
     owed : (i v q : ℕ) → (false ≡ true) ⊎ ((primary n v ≡ i) × (v ≡ 0) × (q ≤ 0)) → Below v q 0 0
@@ -64,7 +66,7 @@ start_holds {P} n = record {
 lists_stay : {P : Type 0} (n : ℕ) (past : ℕ → List (Entry P)) (w : World P) → Holds n past w → Holds n (λ v. listed v w.messages) w
 lists_stay {P} n past w inv = record {
   sound = sound_grows n w.stored old w.messages w.stored new w.messages g (adds_none n w.stored old w.messages w.stored new) (λ v. prefix_refl (listed v w.messages)) inv.sound.rising inv.sound;
-  each = λ j. replica_grows n w.stored old w.messages w.stored new w.messages g (adds_none n w.stored old w.messages w.stored new) j (w.replicas j) (still_same n w.messages j) refl (inv.each j);
+  each = λ j. replica_grows n w.stored old w.messages w.stored new w.messages g (adds_none n w.stored old w.messages w.stored new) j (all_of n w j) (still_same n w.messages j) refl (inv.each j);
 }
   where
     old : Given P
@@ -103,14 +105,26 @@ module _ {P : Type 0} (n v p j : ℕ) where
   said_recovered i x (Some r) w h = h
   said_recovered i x None w h = by_test Said (has_used x (w.nonces i)) _ _ (λ t. h) (λ t. said_posted v p j i (to_all n i (Recovery x)) w.messages h)
 
+  -- a crash
+  said_crashed : (i : ℕ) (o : Option (State P)) (w : World P) → Said w → Said (crashed i o w)
+  said_crashed i None w h = h
+  said_crashed i (Some r) w h = h
+
+  -- a return
+  said_resumed : (i k : ℕ) (o : Option (State P)) (c : Option (Change P)) (w : World P) → Said w → Said (resumed n i k o c w)
+  said_resumed i k (Some r) c w h = h
+  said_resumed i k None None w h = h
+  said_resumed i k None (Some c) w h = h
+
   -- an event
   said_happens : (w : World P) (e : WorldEvent P) → Said w → Said (happens n w e)
   said_happens w (Request i e) h = by_test Said (nat_lt i n) _ _ (λ t. said_stepped i (λ r. step n i r (event.Request e)) (w.replicas i) w h) (λ t. h)
   said_happens w (Deliver k) h = said_delivered (sent_as k w.messages) w h
   said_happens w (Suspect i) h = by_test Said (nat_lt i n) _ _ (λ t. said_stepped i (λ r. step n i r event.Suspect) (w.replicas i) w h) (λ t. h)
   said_happens w (Beat i) h = by_test Said (nat_lt i n) _ _ (λ t. said_stepped i (λ r. step n i r event.Beat) (w.replicas i) w h) (λ t. h)
-  said_happens w (Crash i) h = by_test Said (nat_lt i n) _ _ (λ t. h) (λ t. h)
+  said_happens w (Crash i) h = by_test Said (nat_lt i n) _ _ (λ t. said_crashed i (w.replicas i) w h) (λ t. h)
   said_happens w (Recover i x) h = by_test Said (nat_lt i n) _ _ (λ t. said_recovered i x (w.replicas i) w h) (λ t. h)
+  said_happens w (Resume i k) h = by_test Said (nat_lt i n) _ _ (λ t. said_resumed i k (w.replicas i) (w.kept i) w h) (λ t. h)
 
   -- Through a whole schedule.
   pub said_run : (es : List (WorldEvent P)) (w : World P) → Said w → Said (run n es w)
@@ -146,7 +160,7 @@ committed_stays {P} n size past w inv es = go (longest_is n w.stored (record { u
 
 -- the first k records of a replica
 pub replica_agrees : {P : Type 0} (n : ℕ) → IsSize n → (past : ℕ → List (Entry P)) (w : World P) → Holds n past w → (i : ℕ) (r : State P) → w.replicas i ≡ Some r → IsPrefix (take r.commit_number r.log) (listed_committed n w.messages)
-replica_agrees {P} n size past w inv i r up = go r.status (up_of n w.replicas w.stored given w.messages inv i r up).state
+replica_agrees {P} n size past w inv i r up = go r.status (up_of n (all_of n w) w.stored given w.messages inv i r (there_up n w i r up)).state
   where
     given : Given P
     given = record { used = w.nonces; past = past }

@@ -1,11 +1,14 @@
 -- What replication promises, for every schedule. In: the world, and what is committed. Out: the clauses of the law.
 -- Safety alone: that anything is ever committed, or a recovery ever ends, is said nowhere.
-use Rattle.std.specs.Prelude.{◌≡◌, ℕ, ◌*◌, ◌+◌, ◌/◌, ◌≤◌, ◌⊎◌, List, [], ◌∷◌, ◌++◌, take, length, Some}
+use Rattle.std.specs.Prelude.{◌≡◌, ◌≢◌, ℕ, ◌*◌, ◌+◌, ◌/◌, ◌<◌, ◌≤◌, ◌⊎◌, Bool, true, false, List, [], ◌∷◌, ◌++◌, take, length, Some}
 use Rattle.vr_state.specs.Lists.{IsPrefix, In, Rising, IsNamedIn}
-use Rattle.vr_state.specs.State.{State}
+use Rattle.vr_state.specs.Outcome.{indices, count}
+use Rattle.vr_state.specs.State.{State, is_recovering, resuming}
+use Rattle.vr_state.specs.ViewChange.{own_change}
 use Rattle.vr_state.specs.Words.{Entry}
 use Rattle.vr_world.specs.Committed.{IsChosen, committed}
 use Rattle.vr_world.specs.World.{World, ReplyBy, WorldEvent, happens, after}
+use Rattle.vr_world.specs.declared.events.WorldEvent.TheVariants.{Crash, Recover, Resume}
 
 -- An odd number of replicas, three at least: 2f + 1.
 pub record IsSize (n : ℕ) : Type 0 where
@@ -67,3 +70,39 @@ abbrev pub StepsKeep : Type 0 → Type 0
 StepsKeep P = (n : ℕ) → IsSize n → (es : List (WorldEvent P)) (e : WorldEvent P) (i : ℕ) (r s : State P) →
     (after n es).replicas i ≡ Some r → (after n (es ++ e ∷ [])).replicas i ≡ Some s →
     IsPrefix (take r.commit_number r.log) (take s.commit_number s.log)
+
+-- A replica takes part: it is up, and doesn't recover.
+pub record TakesPart {P : Type 0} (w : World P) (j : ℕ) : Type 0 where
+  pub replica : State P
+  pub up : w.replicas j ≡ Some replica
+  pub active : is_recovering replica.status ≡ false
+
+-- Some replica that is up has all of this list at the beginning of its log.
+pub record IsHeld {P : Type 0} (w : World P) (l : List (Entry P)) : Type 0 where
+  pub index : ℕ
+  pub replica : State P
+  pub up : w.replicas index ≡ Some replica
+  pub all : IsPrefix l replica.log
+
+-- Of any majority of replicas that take part, one has all that is committed.
+abbrev pub MajoritiesHold : Type 0 → Type 0
+MajoritiesHold P = (n : ℕ) → IsSize n → (es : List (WorldEvent P)) (quorum : ℕ → Bool) → n / 2 < count quorum (indices n) →
+    ((j : ℕ) → quorum j ≡ true → TakesPart (after n es) j) → IsHeld (after n es) (committed n (after n es).messages)
+
+-- The event doesn't bring replica i back.
+abbrev pub IsApart : {P : Type 0} → ℕ → WorldEvent P → Type 0
+IsApart i (Recover j x) = j ≢ i
+IsApart i (Resume j k) = j ≢ i
+IsApart i _ = Unit {0}
+
+-- None of these events brings replica i back.
+abbrev pub AreApart : {P : Type 0} → ℕ → List (WorldEvent P) → Type 0
+AreApart i [] = Unit {0}
+AreApart i (e ∷ es) = IsApart i e × AreApart i es
+
+-- A replica that takes part, crashes and goes on from its journal has its view, its last normal view and its log as they were, whatever
+-- happened to the others meanwhile.
+abbrev pub JournalsKeep : Type 0 → Type 0
+JournalsKeep P = (n : ℕ) → IsSize n → (es more : List (WorldEvent P)) (i k : ℕ) (r : State P) →
+    i < n → (after n es).replicas i ≡ Some r → is_recovering r.status ≡ false → AreApart i more →
+    (after n (es ++ (Crash i ∷ (more ++ Resume i k ∷ [])))).replicas i ≡ Some (resuming n r.view_number k (own_change r))

@@ -2,8 +2,10 @@
 -- of events. Nothing of what is committed is said here: a world knows no more than its replicas and its network do.
 use Rattle.std.specs.Prelude.{ℕ, ◌-◌, ◌==◌, nat_lt, nat_le, Bool, cond, ◌&&◌, List, [], ◌∷◌, length, Option, Some, None, slice_get}
 use Rattle.std.specs.List.{list_any}
-use Rattle.vr_state.specs.Outcome.{Outcome, to_all}
-use Rattle.vr_state.specs.State.{State, first, recovering}
+use Rattle.vr_state.specs.Outcome.{Outcome, to_all, idle}
+use Rattle.vr_state.specs.State.{State, first, recovering, resuming, is_recovering}
+use Rattle.vr_state.specs.ViewChange.{own_change}
+use Rattle.vr_state.specs.declared.message.Change.{Change}
 use Rattle.vr_state.specs.Step.{step}
 use Rattle.vr_state.specs.declared.message.Send.{Send}
 use Rattle.vr_state.specs.declared.words.Reply.{Reply}
@@ -12,12 +14,13 @@ use Rattle.vr_state.specs.declared.message.PeerMessage.TheVariants.{Recovery}
 pub use Rattle.vr_world.specs.declared.words.Message.{Message}
 pub use Rattle.vr_world.specs.declared.words.ReplyBy.{ReplyBy}
 pub use Rattle.vr_world.specs.declared.events.WorldEvent.{WorldEvent}
-use Rattle.vr_world.specs.declared.events.WorldEvent.TheVariants.{Request, Deliver, Suspect, Beat, Crash, Recover}
+use Rattle.vr_world.specs.declared.events.WorldEvent.TheVariants.{Request, Deliver, Suspect, Beat, Crash, Recover, Resume}
 
 -- The world: the replicas that are up, what outlives their crashes, and all that was ever sent or answered.
 pub record World (P : Type 0) : Type 0 where
   pub replicas : ℕ → Option (State P)  -- by index; None where it is down
   pub stored : ℕ → ℕ  -- the view that outlives a crash
+  pub kept : ℕ → Option (Change P)  -- what the journal of one that is down has kept of it; None where that isn't whole
   pub nonces : ℕ → List ℕ  -- those that this replica has used
   pub messages : List (Message P)  -- each that was ever sent, the newest first
   pub replies : List ReplyBy  -- each that was ever given, the newest first
@@ -41,6 +44,7 @@ abbrev pub made : {P : Type 0} → ℕ → Outcome P → World P → World P
 made i d w = record {
   replicas = put i (Some d.state) w.replicas;
   stored = put i d.state.view_number w.stored;
+  kept = w.kept;
   nonces = w.nonces;
   messages = posted i d.sends w.messages;
   replies = answered i d.replies w.replies;
@@ -56,9 +60,20 @@ abbrev pub delivered : {P : Type 0} → ℕ → Option (Message P) → World P �
 delivered n None w = w
 delivered n (Some m) w = stepped m.to (λ r. step n m.to r (event.Message m.from m.body)) (w.replicas m.to) w
 
--- All but the stored view is lost.
-abbrev pub crashed : {P : Type 0} → ℕ → World P → World P
-crashed i w = record w { replicas = put i None w.replicas }
+-- What a journal keeps of a replica: what its DOVIEWCHANGE would tell. Nothing of one that recovers.
+abbrev pub kept_of : {P : Type 0} → State P → Option (Change P)
+kept_of r = cond (is_recovering r.status) None (Some (own_change r))
+
+-- A replica that is up crashes: all but the stored view and what its journal keeps is lost.
+abbrev pub crashed : {P : Type 0} → ℕ → Option (State P) → World P → World P
+crashed i None w = w
+crashed i (Some r) w = record w { replicas = put i None w.replicas; kept = put i (kept_of r) w.kept }
+
+-- A replica that is down goes on from its journal, in its stored view; nothing where its journal isn't whole.
+abbrev pub resumed : {P : Type 0} → ℕ → ℕ → ℕ → Option (State P) → Option (Change P) → World P → World P
+resumed n i k (Some r) c w = w
+resumed n i k None None w = w
+resumed n i k None (Some c) w = made i (idle (resuming n (w.stored i) k c)) (record w { kept = put i None w.kept })
 
 -- The nonce is one of those that were used.
 abbrev pub has_used : ℕ → List ℕ → Bool
@@ -82,14 +97,16 @@ happens n w (Request i e) = cond (nat_lt i n) (stepped i (λ r. step n i r (even
 happens n w (Deliver k) = delivered n (sent_as k w.messages) w
 happens n w (Suspect i) = cond (nat_lt i n) (stepped i (λ r. step n i r event.Suspect) (w.replicas i) w) w
 happens n w (Beat i) = cond (nat_lt i n) (stepped i (λ r. step n i r event.Beat) (w.replicas i) w) w
-happens n w (Crash i) = cond (nat_lt i n) (crashed i w) w
+happens n w (Crash i) = cond (nat_lt i n) (crashed i (w.replicas i) w) w
 happens n w (Recover i x) = cond (nat_lt i n) (recovered n i x (w.replicas i) w) w
+happens n w (Resume i k) = cond (nat_lt i n) (resumed n i k (w.replicas i) (w.kept i) w) w
 
 -- The first world: n replicas in view 0, and nothing sent.
 abbrev pub start : {P : Type 0} → ℕ → World P
 start n = record {
   replicas = λ i. cond (nat_lt i n) (Some (first n)) None;
   stored = λ i. 0;
+  kept = λ i. None;
   nonces = λ i. [];
   messages = [];
   replies = [];

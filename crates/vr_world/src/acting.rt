@@ -8,8 +8,9 @@ ghost use Rattle.vr_world.specs.Cluster.{world};
 ghost use Rattle.vr_world.specs.World.{made, sent_as};
 
 use crate::cluster::Cluster;
-use crate::moving::{keep_up, take_away};
+use crate::moving::{keep, keep_up, take_away};
 use crate::posting::{note_replies, post};
+use crate::resuming::kept_of;
 use crate::words::Message;
 use std::alloc::{AllocError, Global};
 use vr_recover::step;
@@ -85,13 +86,17 @@ fn copy_sent<P: Payload>(
     }))
 }
 
-/// A replica loses all but its stored view.
+/// A replica loses all but its stored view and what its journal keeps.
 pub fn crash<P: Drop>(cluster: &mut Cluster<P>, index: u64)
     ensures world { world cluster.new ≡ crashed_at cluster.old index }
     ensures count { cluster.new.count ≡ cluster.old.count }
 {
-    if index < cluster.count {
-        take_away(cluster, index);
+    if cluster.count <= index {
+        return;
+    }
+    match take_away(cluster, index) {
+        None => {}
+        Some(replica) => keep(cluster, index, kept_of(replica)),
     }
 }
 

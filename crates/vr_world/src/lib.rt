@@ -4,7 +4,7 @@
 #![tactic(auto)]
 
 ghost use Rattle.vr_world.specs.Law.{ChosenAgree, CommittedIsLongest, CommittedGrows, ReplicasAgree, CommitsAreHeld};
-ghost use Rattle.vr_world.specs.Law.{NumbersRise, RepliesAreCommitted, RepliesAreExecuted, StepsKeep};
+ghost use Rattle.vr_world.specs.Law.{NumbersRise, RepliesAreCommitted, RepliesAreExecuted, StepsKeep, MajoritiesHold, JournalsKeep};
 
 mod acting;
 pub mod cluster;
@@ -13,6 +13,7 @@ mod happening;
 mod moving;
 mod placing;
 mod posting;
+mod resuming;
 mod returning;
 pub mod words;
 
@@ -21,8 +22,9 @@ pub use events::WorldEvent;
 pub use words::ReplyBy;
 
 /// The law: for every odd number of replicas of at least three and every list of events (requests, deliveries of any message
-/// ever sent, suspicions, beats, crashes, recoveries) there is one list of committed records, which only grows. The payload
-/// may be anything. It says nothing of progress, and nothing of a network that forges messages.
+/// ever sent, suspicions, beats, crashes, recoveries, and replicas that go on from their journals) there is one list of
+/// committed records, which only grows. The payload may be anything. It says nothing of progress, and nothing of a network
+/// that forges messages.
 pub fn one_committed_list<P>()
     // Of two chosen lists one is a beginning of the other.
     ensures agree { ChosenAgree P }
@@ -42,4 +44,8 @@ pub fn one_committed_list<P>()
     ensures executed { RepliesAreExecuted P }
     // A step keeps the records that its replica has committed.
     ensures keep { StepsKeep P }
+    // Of any majority of replicas that are up and not recovering, one has all of it in its log.
+    ensures majorities { MajoritiesHold P }
+    // A replica that crashes and goes on from its journal has its view and its log as they were.
+    ensures journals { JournalsKeep P }
 {}
