@@ -29,7 +29,7 @@ open_bounds octets e =
     (ltb-true (number_at 10 octets) (2 ^ 63) two.1, ltb-true (number_at 18 octets) (2 ^ 63) three.1)
 
 slot_by : (octets : List ℕ) (b : Bool) → is_open octets ≡ b
-    → AreStorable (if b then Some (record { sequence = number_at 2 octets; cluster = cluster_of octets; pair = record { view = number_at 10 octets; restarts = number_at 18 octets } }) else None)
+    → AreStorable (if b then Some (record { sequence = number_at 2 octets; cluster = cluster_of octets; pair = record { view = number_at 10 octets; restarts = number_at 18 octets; journaled = slice_index octets 1 == 3 } }) else None)
 slot_by octets true e = let both = open_bounds octets e in record { view = both.0; restarts = both.1 }
 slot_by octets false e = tt
 

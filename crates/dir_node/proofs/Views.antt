@@ -38,7 +38,7 @@ stored_now n i r new e store made stored = stored_is n i r new e store made stor
 
 -- A device that holds a pair leaves it at every crash.
 pub left_pair : {D : Type 0} (seen : D → List ℕ) (may_leave : D → List ℕ → Type 0) (views : Stored D) (view restarts : ℕ) → Holds seen may_leave views view restarts
-    → (image : List ℕ) → may_leave views.device image → found views.cluster image ≡ own (record { view = view; restarts = restarts })
+    → (image : List ℕ) → may_leave views.device image → found views.cluster image ≡ own (record { view = view; restarts = restarts; journaled = false })
 left_pair seen may_leave views view restarts h image left = ap (found views.cluster) (h.settled image left) ∙ h.pair
 
 -- Where no device is called, a crash leaves what it would have left.
@@ -71,7 +71,7 @@ why_not_stored seen may_leave views former restarts view h (inl is_new) = absurd
 why_not_stored seen may_leave views former restarts view h (inr why) = elim why.1 [
   | inl v ↦ inl v
   | inr other ↦ elim other [
-    | inl r ↦ absurd (omega (arith, r, (found_storable views.cluster (seen views.device) (record { view = former; restarts = restarts }) h.pair).restarts))
+    | inl r ↦ absurd (omega (arith, r, (found_storable views.cluster (seen views.device) (record { view = former; restarts = restarts; journaled = false }) h.pair).restarts))
     | inr s ↦ inr s
   ]
 ]
@@ -92,11 +92,11 @@ why_no_start seen mid cluster image pair is same ready (inr why) = elim why.1 [
 -- What a start may leave: what the device might have left before, or one of the two pairs.
 pub started_left : {D : Type 0} (seen : D → List ℕ) (may_leave : D → List ℕ → Type 0) (moment : D → ℕ) (left_since : D → ℕ → List ℕ → Type 0) (old new : D) (mid : Stored D) (cluster : ℕ) (pair : Pair)
     → mid.cluster ≡ cluster → found cluster (seen old) ≡ own pair → seen mid.device ≡ seen old → LeavesOnly moment left_since old mid.device (may_leave old)
-    → (IsWellPlaced (seen mid.device) → LeavesOnly moment left_since mid.device new (IsFormerOrNew mid.cluster (found mid.cluster (seen mid.device)) (record { view = pair.view; restarts = pair.restarts + 1 })))
+    → (IsWellPlaced (seen mid.device) → LeavesOnly moment left_since mid.device new (IsFormerOrNew mid.cluster (found mid.cluster (seen mid.device)) (record { view = pair.view; restarts = pair.restarts + 1; journaled = false })))
     → IsWellPlaced (seen old) → LeavesOnly moment left_since old new (StartLeaves seen may_leave cluster old)
 started_left {D} seen may_leave moment left_since old new mid cluster pair one is same loaded stored placed =
     let P : List ℕ → Type 0 = StartLeaves seen may_leave cluster old in
-    let next : Pair = record { view = pair.view; restarts = pair.restarts + 1 } in
+    let next : Pair = record { view = pair.view; restarts = pair.restarts + 1; journaled = false } in
     let Q : List ℕ → Type 0 = IsFormerOrNew cluster (found cluster (seen mid.device)) next in
     let run : LeavesOnly moment left_since mid.device new Q =
     subst (λ (k : ℕ). LeavesOnly moment left_since mid.device new (IsFormerOrNew k (found k (seen mid.device)) next)) one (stored (subst IsWellPlaced (sym same) placed)) in

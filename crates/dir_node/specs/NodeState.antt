@@ -30,7 +30,7 @@ pub record NodeValue (D : Type 0) : Type 0 where
 
 -- the pair of a node: what a crash is to leave
 abbrev pub pair_of : {D : Type 0} → NodeValue D → Pair
-pair_of n = record { view = n.replica.view_number; restarts = n.restarts }
+pair_of n = record { view = n.replica.view_number; restarts = n.restarts; journaled = false }
 
 -- Every crash of the device leaves the pair of the replica's view and the restarts.
 abbrev pub KeepsPair : {D : Type 0} → (D → List ℕ → Type 0) → NodeValue D → Type 0
@@ -39,7 +39,7 @@ KeepsPair may_leave n = (image : List ℕ) → may_leave n.device image → foun
 -- A view store is ready, its device holds this pair, and all of that is settled.
 pub record Holds {D : Type 0} (seen : D → List ℕ) (may_leave : D → List ℕ → Type 0) (views : Stored D) (view restarts : ℕ) : Type 0 where
   pub ready : views.status ≡ status.Ready
-  pub pair : found views.cluster (seen views.device) ≡ own (record { view = view; restarts = restarts })
+  pub pair : found views.cluster (seen views.device) ≡ own (record { view = view; restarts = restarts; journaled = false })
   pub settled : Only (seen views.device) (may_leave views.device)
 
 -- Unless it has stopped, a node's device holds its pair.
@@ -83,17 +83,23 @@ pub record IsMade {D : Type 0} (config : NodeConfig) (r : State OpValue) (restar
   pub restarts_is : n.restarts ≡ restarts
   pub runs : n.is_halted ≡ false
 
--- A pair of the cluster's own was found.
+-- A pair of the cluster's own was found, that no journal goes with.
 abbrev pub IsOwn : Finding → Type 0
 IsOwn nothing = ⊥
 IsOwn foreign = ⊥
-IsOwn (own pair) = Unit {0}
+IsOwn (own pair) = pair.journaled ≡ false
 
--- the pair that a start leaves in the place of the one that is found: the same view, one restart more
+-- A pair of the cluster's own was found, and a journal goes with it.
+abbrev pub IsJournaled : Finding → Type 0
+IsJournaled nothing = ⊥
+IsJournaled foreign = ⊥
+IsJournaled (own pair) = pair.journaled ≡ true
+
+-- the pair that a start without a journal leaves in the place of the one that is found: the same view, one restart more
 abbrev pub started_pair : Finding → Pair
-started_pair nothing = record { view = 0; restarts = 0 }
-started_pair foreign = record { view = 0; restarts = 0 }
-started_pair (own p) = record { view = p.view; restarts = p.restarts + 1 }
+started_pair nothing = record { view = 0; restarts = 0; journaled = false }
+started_pair foreign = record { view = 0; restarts = 0; journaled = false }
+started_pair (own p) = record { view = p.view; restarts = p.restarts + 1; journaled = false }
 
 -- A start may leave what the device might have left before, or one of the two pairs.
 abbrev pub StartLeaves : {D : Type 0} → (D → List ℕ) → (D → List ℕ → Type 0) → ℕ → D → List ℕ → Type 0

@@ -2,7 +2,7 @@
 //! an event makes is decided below, who sends and who waits above.
 ghost use Rattle.std.specs.Prelude.{◌≡◌, ◌-◌, ◌<◌, ◌↔◌, ◌≤◌, true, false, length, slice_get, IfOk, OnOk, IfErr, IsErrOf, ◌≢◌};
 ghost use Rattle.dir_executed.specs.Executing.{directory_at, due_after, replies_at};
-ghost use Rattle.dir_node.specs.NodeState.{CannotStart, CannotStore, CatchesUp, IsMade, IsOwn, IsSameNode, KeepsPair, StartLeaves, given, pair_of, started_pair};
+ghost use Rattle.dir_node.specs.NodeState.{CannotStart, CannotStore, CatchesUp, IsJournaled, IsMade, IsOwn, IsSameNode, KeepsPair, StartLeaves, given, pair_of, started_pair};
 ghost use Rattle.dir_node.specs.Outcomes.{outcome_at, outcome_of, outcome_view, standing_of};
 ghost use Rattle.dir_node.specs.declared.error.NodeError.TheVariants as error;
 ghost use Rattle.view_store.specs.Device.{HasRisen, LeavesOnly};
@@ -97,6 +97,7 @@ impl<D: Device> Node<D> {
         ensures device_failed { IfErr result (λ r. r.error ≡ error.Store view_error.DeviceFailed
             → HasRisen (D.failure_count device) (D.failure_count r.device)) }
         ensures foreign_cluster { IfErr result (λ r. r.error ≢ error.Store view_error.ForeignCluster) }
+        ensures keeps_journal { IfErr result (λ r. r.error ≢ error.Store view_error.KeepsJournal) }
         ensures not_failed { IfErr result (λ r. r.error ≢ error.Store view_error.Failed) }
         ensures not_halted { IfErr result (λ r. r.error ≢ error.Halted) }
     {
@@ -164,13 +165,15 @@ impl<D: Device> Node<D> {
         ensures refused_moment { IfErr result (λ r. IsWellPlaced (D.seen device)
             → LeavesOnly D.moment D.left_since device r.device (StartLeaves D.seen D.may_leave config.cluster device)) }
 
-        // Want of memory writes nothing; nor do E22, where the pair has no next start, and E23, where another cluster's pair is found. E21 comes only
-        // where the device failed. There is no other error.
+        // Want of memory writes nothing; nor do E22, where the pair has no next start, E23, where another cluster's pair is found, and E25, where a
+        // journal goes with the pair. E21 comes only where the device failed. There is no other error.
         ensures no_memory { IfErr result (λ r. r.error ≡ error.NoMemory → D.seen r.device ≡ D.seen device) }
         ensures no_pair { IfErr result (λ r. r.error ≡ error.Store view_error.NoPair → CannotStart config.cluster (D.seen device)) }
         ensures no_pair_same { IfErr result (λ r. r.error ≡ error.Store view_error.NoPair → D.seen r.device ≡ D.seen device) }
         ensures foreign_cluster { IfErr result (λ r. r.error ≡ error.Store view_error.ForeignCluster → found config.cluster (D.seen device) ≡ foreign) }
         ensures foreign_same { IfErr result (λ r. r.error ≡ error.Store view_error.ForeignCluster → D.seen r.device ≡ D.seen device) }
+        ensures keeps_journal { IfErr result (λ r. r.error ≡ error.Store view_error.KeepsJournal → IsJournaled (found config.cluster (D.seen device))) }
+        ensures keeps_same { IfErr result (λ r. r.error ≡ error.Store view_error.KeepsJournal → D.seen r.device ≡ D.seen device) }
         ensures device_failed { IfErr result (λ r. r.error ≡ error.Store view_error.DeviceFailed
             → HasRisen (D.failure_count device) (D.failure_count r.device)) }
         ensures not_failed { IfErr result (λ r. r.error ≢ error.Store view_error.Failed) }
@@ -234,12 +237,13 @@ impl<D: Device> Node<D> {
             → CannotStore (step_of self.old.count self.old.index self.old.replica event).state.view_number (D.seen self.old.device) }
         ensures no_pair_same { IsErrOf result (NodeError.Store ViewStoreError.NoPair) → self.new.device ≡ self.old.device }
         ensures foreign_cluster { IsErrOf result (NodeError.Store ViewStoreError.ForeignCluster) → ⊥ }
+        ensures keeps_journal { IsErrOf result (NodeError.Store ViewStoreError.KeepsJournal) → ⊥ }
         ensures not_failed { IsErrOf result (NodeError.Store ViewStoreError.Failed) → ⊥ }
 
         // A crash at any moment of the call leaves the pair from before the step or from after it.
         ensures any_moment { self.old.is_halted ≡ false → IsWellPlaced (D.seen self.old.device)
             → LeavesOnly D.moment D.left_since self.old.device self.new.device (IsFormerOrNew self.old.cluster (own (pair_of self.old))
-            (record { view = (step_of self.old.count self.old.index self.old.replica event).state.view_number; restarts = self.old.restarts })) }
+            (record { view = (step_of self.old.count self.old.index self.old.replica event).state.view_number; restarts = self.old.restarts; journaled = false })) }
         ensures placed { OnOk result (IsWellPlaced (D.seen self.old.device) → IsWellPlaced (D.seen self.new.device)) }
     {
         if self.is_halted {

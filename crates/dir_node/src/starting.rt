@@ -1,7 +1,7 @@
 //! A node at its start: the device's pair and the replica that goes with it. A device flows in; the pair on it, a replica and its first outputs flow
 //! out. What is asked of the other replicas is decided below.
 ghost use Rattle.std.specs.Prelude.{◌≡◌, ◌≢◌, ◌<◌, ◌≤◌, length, IfOk, OnOk, IsErrOf};
-ghost use Rattle.dir_node.specs.NodeState.{CannotStart, Holds, IsOwn, StartLeaves, started_pair};
+ghost use Rattle.dir_node.specs.NodeState.{CannotStart, Holds, IsJournaled, IsOwn, StartLeaves, started_pair};
 ghost use Rattle.view_store.specs.Device.{HasRisen, LeavesOnly};
 ghost use Rattle.view_store.specs.Slots.{found, foreign, IsWellPlaced};
 ghost use Rattle.view_store.specs.declared.state.Status.TheVariants as status;
@@ -11,7 +11,7 @@ ghost use Rattle.vr_state.specs.Views.{outcome};
 use crate::error::NodeError;
 use dir_executed::Op;
 use std::alloc::Global;
-use view_store::{Device, MAX_NUMBER, ViewStore, ViewStoreError};
+use view_store::{Device, MAX_NUMBER, Pair, ViewStore, ViewStoreError};
 use vr_recover::recover;
 use vr_state::message::Outputs;
 use vr_state::replica::Replica;
@@ -27,10 +27,15 @@ pub fn start_store<D: Device>(views: &mut ViewStore<D>) -> Result<(), ViewStoreE
     ensures device_failed { IsErrOf result ViewStoreError.DeviceFailed
         → HasRisen (D.failure_count views.old.device) (D.failure_count views.new.device) }
     ensures foreign_cluster { IsErrOf result ViewStoreError.ForeignCluster → ⊥ }
+    ensures keeps_journal { IsErrOf result ViewStoreError.KeepsJournal → ⊥ }
     ensures not_failed { IsErrOf result ViewStoreError.Failed → ⊥ }
 {
     views.format()?;
-    views.store(0, 1)
+    views.store(Pair {
+        view: 0,
+        restarts: 1,
+        journaled: false,
+    })
 }
 
 /// The replica of a device's pair, with what it asks first; the device then holds the same view, and one restart more. That number is the
@@ -64,17 +69,26 @@ pub fn start_again<D: Device>(
     ensures foreign_cluster { IsErrOf result (NodeError.Store ViewStoreError.ForeignCluster)
         → found views.old.cluster (D.seen views.old.device) ≡ foreign }
     ensures foreign_same { IsErrOf result (NodeError.Store ViewStoreError.ForeignCluster) → D.seen views.new.device ≡ D.seen views.old.device }
+    ensures keeps_journal { IsErrOf result (NodeError.Store ViewStoreError.KeepsJournal)
+        → IsJournaled (found views.old.cluster (D.seen views.old.device)) }
+    ensures keeps_same { IsErrOf result (NodeError.Store ViewStoreError.KeepsJournal) → D.seen views.new.device ≡ D.seen views.old.device }
     ensures device_failed { IsErrOf result (NodeError.Store ViewStoreError.DeviceFailed)
         → HasRisen (D.failure_count views.old.device) (D.failure_count views.new.device) }
     ensures not_failed { IsErrOf result (NodeError.Store ViewStoreError.Failed) → ⊥ }
     ensures not_halted { IsErrOf result NodeError.Halted → ⊥ }
 {
-    let pair = views.load()?;
+    let held = views.load()?;
+    let pair = held.alone()?;
     if pair.restarts >= MAX_NUMBER {
         return Err(NodeError::Store(ViewStoreError::NoPair));
     }
     let restarts = pair.restarts + 1;
     let (replica, outputs) = recover(alloc, index, count, pair.view, restarts)?;
-    views.store(pair.view, restarts)?;
+    let next = Pair {
+        view: pair.view,
+        restarts,
+        journaled: false,
+    };
+    views.store(next)?;
     Ok((replica, outputs, restarts))
 }

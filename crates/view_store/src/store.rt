@@ -74,17 +74,17 @@ impl<D: Device> ViewStore<D> {
         device
     }
 
-    /// Stores a pair in the place of the former one, which may be of the first version; the new one names the cluster. A
+    /// Stores a pair in the place of the former one, which may be of an earlier version; the new one names the cluster. A
     /// crash at any moment of the call leaves one of the two; once it has answered Ok, the new one. After E21 every
     /// further call answers `Failed`.
-    pub fn store(&mut self, view: u64, restarts: u64) -> Result<(), ViewStoreError>
-        ensures stored { OnOk result (found self.old.cluster (D.seen self.new.device) ≡ own (record { view = view; restarts = restarts })) }
+    pub fn store(&mut self, pair: Pair) -> Result<(), ViewStoreError>
+        ensures stored { OnOk result (found self.old.cluster (D.seen self.new.device) ≡ own pair) }
 
-        // The slot that is taken then is of version 2 and names the cluster; its sequence is the next one.
+        // The slot that is taken then names the cluster and says whether there is a journal; its sequence is the next one.
         ensures version { OnOk result (taken_from (D.seen self.new.device) ≡ Some (record {
           sequence = sequence_of (taken_from (D.seen self.old.device)) + 1;
           cluster = Some self.old.cluster;
-          pair = record { view = view; restarts = restarts };
+          pair = pair;
         })) }
         ensures cluster { self.new.cluster ≡ self.old.cluster }
         ensures durable { OnOk result (Only (D.seen self.new.device) (D.may_leave self.new.device)) }
@@ -96,7 +96,7 @@ impl<D: Device> ViewStore<D> {
         // left, whole or stopped.
         ensures any_moment { self.old.status ≡ status.Ready → IsWellPlaced (D.seen self.old.device)
             → LeavesOnly D.moment D.left_since self.old.device self.new.device
-            (IsFormerOrNew self.old.cluster (found self.old.cluster (D.seen self.old.device)) (record { view = view; restarts = restarts })) }
+            (IsFormerOrNew self.old.cluster (found self.old.cluster (D.seen self.old.device)) pair) }
 
         // E21 only where the device failed, and then the store has failed; before that it was ready.
         ensures device_failed { IsErrOf result ViewStoreError.DeviceFailed → HasRisen (D.failure_count self.old.device) (D.failure_count self.new.device)
@@ -104,11 +104,12 @@ impl<D: Device> ViewStore<D> {
 
         // E22 exactly where the store isn't ready yet, or a number is past the greatest; nothing is written.
         ensures no_pair { IsErrOf result ViewStoreError.NoPair ↔ (self.old.status ≡ status.New) ⊎ ((self.old.status ≡ status.Ready)
-            × ((2 ^ 63 ≤ view) ⊎ (2 ^ 63 ≤ restarts) ⊎ (2 ^ 63 ≤ sequence_of (taken_from (D.seen self.old.device)) + 1))) }
+            × ((2 ^ 63 ≤ pair.view) ⊎ (2 ^ 63 ≤ pair.restarts) ⊎ (2 ^ 63 ≤ sequence_of (taken_from (D.seen self.old.device)) + 1))) }
         ensures no_pair_same { IsErrOf result ViewStoreError.NoPair → self.new ≡ self.old }
 
-        // Never E23: where another cluster's pair is found, the store isn't ready.
+        // Never E23: where another cluster's pair is found, the store isn't ready. Nor E25: what is stored is the caller's to say.
         ensures foreign_cluster { IsErrOf result ViewStoreError.ForeignCluster → ⊥ }
+        ensures keeps_journal { IsErrOf result ViewStoreError.KeepsJournal → ⊥ }
 
         // A store that has failed answers so, and calls no device.
         ensures failed { IsErrOf result ViewStoreError.Failed ↔ (self.old.status ≡ status.Failed) }
@@ -119,10 +120,9 @@ impl<D: Device> ViewStore<D> {
             State::Failed => return Err(ViewStoreError::Failed),
             State::Ready(sequence, gates) => (sequence, gates),
         };
-        if view > MAX_NUMBER || restarts > MAX_NUMBER || sequence >= MAX_NUMBER {
+        if pair.view > MAX_NUMBER || pair.restarts > MAX_NUMBER || sequence >= MAX_NUMBER {
             return Err(ViewStoreError::NoPair);
         }
-        let pair = Pair { view, restarts };
         match write_pair(&mut self.device, sequence, gates, self.cluster, pair) {
             Ok(()) => {
                 self.state = State::Ready(sequence + 1, opened_gates(sequence, gates));
@@ -155,6 +155,9 @@ impl<D: Device> ViewStore<D> {
         // E23 exactly where another cluster's pair is found; the store isn't ready then.
         ensures foreign_cluster { IsErrOf result ViewStoreError.ForeignCluster
             → (found self.old.cluster (D.seen self.old.device) ≡ foreign) × (self.new.status ≡ status.New) }
+
+        // Never E25: what goes with a pair is told by the pair.
+        ensures keeps_journal { IsErrOf result ViewStoreError.KeepsJournal → ⊥ }
 
         // E21 only where the device failed, and then the store has failed.
         ensures device_failed { IsErrOf result ViewStoreError.DeviceFailed
@@ -206,8 +209,9 @@ impl<D: Device> ViewStore<D> {
         ensures no_pair { IsErrOf result ViewStoreError.NoPair → (65 ≤ length (D.seen self.old.device))
             × (D.seen self.new.device ≡ D.seen self.old.device) × (self.new.status ≡ status.New) }
 
-        // Never E23: whosever pair the device holds, it is written over.
+        // Never E23, nor E25: whosever pair the device holds, it is written over.
         ensures foreign_cluster { IsErrOf result ViewStoreError.ForeignCluster → ⊥ }
+        ensures keeps_journal { IsErrOf result ViewStoreError.KeepsJournal → ⊥ }
 
         // E21 only where the device failed, and then the store has failed.
         ensures device_failed { IsErrOf result ViewStoreError.DeviceFailed

@@ -1,4 +1,4 @@
-use Rattle.std.proofs.Common.{ℕ, Option, unwrap_or, subst, sym}
+use Rattle.std.proofs.Common.{ℕ, false, Option, unwrap_or, subst, sym}
 use Rattle.dir_node.specs.NodeState.{CannotStore}
 use Rattle.dir_node.proofs.Views.{untouched, why_not_stored}
 use Rattle.dir_node.proofs.keeping.keep_pair.Goals as goal
@@ -7,7 +7,7 @@ use Rattle.dir_node.proofs.keeping.keep_pair.Goals as goal
 pub returns-in-None-clause-any_moment : goal.returns-in-None-clause-any_moment
 returns-in-None-clause-any_moment g c = λ placed.
     untouched g.D.Device.seen g.D.Device.may_leave g.D.Device.moment g.D.Device.left_since c.args.views.now.device c.args.views.now.cluster
-    (record { view = c.args.former; restarts = c.args.restarts }) (record { view = unwrap_or c.args.store c.args.former; restarts = c.args.restarts })
+    (record { view = c.args.former; restarts = c.args.restarts; journaled = false }) (record { view = unwrap_or c.args.store c.args.former; restarts = c.args.restarts; journaled = false })
     placed c.requires.held.pair c.requires.held.settled (g.met.D.Device.only_now c.args.views.now.device)
 
 -- the restarts were stored before

@@ -21,12 +21,16 @@ const VERSION_1: &str =
 const MIGRATED: &str =
     "a501000000000000000100000000000000000000000000000001000000000000a502000000000000000200000000000000000000000000000002000000000009";
 
+/// FIRST after (3, 2) was stored with a journal beside it.
+const WITH_JOURNAL: &str =
+    "a502000000000000000100000000000000000000000000000001000000000009a503000000000000000200000000000000030000000000000002000000000009";
+
 /// A slot that holds nothing.
 const EMPTY: &str = "0000000000000000000000000000000000000000000000000000000000000000";
 
 /// Two slots, and what cluster 9 loads of them. In turn: version 1 and 2; each beside a slot of the greater sequence, which
-/// decides; no version, no cluster in version 2, a cluster in version 1.
-const LOADS: [(&str, &str, Result<Pair, ViewStoreError>); 12] = [
+/// decides; no version, no cluster in version 2, a cluster in version 1; version 3, another cluster's and without a cluster.
+const LOADS: [(&str, &str, Result<Pair, ViewStoreError>); 15] = [
     (A_OF_ANY, EMPTY, Ok(A)),
     (A_OF_9, EMPTY, Ok(A)),
     (A_OF_8, EMPTY, Err(ViewStoreError::ForeignCluster)),
@@ -37,7 +41,7 @@ const LOADS: [(&str, &str, Result<Pair, ViewStoreError>); 12] = [
     (A_OF_9, B_OF_8, Err(ViewStoreError::ForeignCluster)),
     (A_OF_8, B_OF_9, Ok(B)),
     (
-        "a503000000000000000100000000000000000000000000000001000000000009",
+        "a504000000000000000100000000000000000000000000000001000000000009",
         EMPTY,
         Err(ViewStoreError::NoPair),
     ),
@@ -48,6 +52,21 @@ const LOADS: [(&str, &str, Result<Pair, ViewStoreError>); 12] = [
     ),
     (
         "a501000000000000000100000000000000000000000000000001000000000009",
+        EMPTY,
+        Err(ViewStoreError::NoPair),
+    ),
+    (
+        "a503000000000000000100000000000000000000000000000001000000000009",
+        EMPTY,
+        Ok(JOURNALED),
+    ),
+    (
+        "a503000000000000000100000000000000000000000000000001000000000008",
+        EMPTY,
+        Err(ViewStoreError::ForeignCluster),
+    ),
+    (
+        "a503000000000000000100000000000000000000000000000001000000000000",
         EMPTY,
         Err(ViewStoreError::NoPair),
     ),
@@ -76,12 +95,30 @@ const FATES: [Fate; 5] = [
 const A: Pair = Pair {
     view: 0,
     restarts: 1,
+    journaled: false,
 };
 
 const B: Pair = Pair {
     view: 3,
     restarts: 1,
+    journaled: false,
 };
+
+/// A, and a journal goes with it.
+const JOURNALED: Pair = Pair {
+    view: 0,
+    restarts: 1,
+    journaled: true,
+};
+
+/// A pair without a journal.
+fn pair(view: u64, restarts: u64) -> Pair {
+    Pair {
+        view,
+        restarts,
+        journaled: false,
+    }
+}
 
 fn device(alloc: Global, text: &str, fault: Fault) -> Result<MemoryDevice, Fail> {
     let bytes = hex::decode(alloc, text)?;
@@ -115,13 +152,13 @@ fn stores_the_pair_in_its_octets(rt: HostRuntime) -> Result<(), Fail> {
     store.format()?;
     assert_eq!(rt; store.load(), Err(ViewStoreError::NoPair));
     store.format()?;
-    store.store(0, 1)?;
+    store.store(pair(0, 1))?;
     assert_eq!(rt; store.load(), Ok(A));
     let first = store.into_device();
     assert!(rt; hex::encode(alloc, first.bytes())?.as_str() == FIRST);
     let mut store = ViewStore::new(first, nine(&rt));
     assert_eq!(rt; store.load(), Ok(A));
-    store.store(3, 1)?;
+    store.store(pair(3, 1))?;
     assert_eq!(rt; store.load(), Ok(B));
     let second = store.into_device();
     assert!(rt; hex::encode(alloc, second.bytes())?.as_str() == SECOND);
@@ -132,10 +169,10 @@ fn stores_the_pair_in_its_octets(rt: HostRuntime) -> Result<(), Fail> {
 fn refuses_what_is_no_pair(rt: HostRuntime) -> Result<(), Fail> {
     let alloc = rt.alloc();
     let mut store = ViewStore::new(device(alloc, FIRST, Fault::None)?, nine(&rt));
-    assert_eq!(rt; store.store(0, 2), Err(ViewStoreError::NoPair));
+    assert_eq!(rt; store.store(pair(0, 2)), Err(ViewStoreError::NoPair));
     assert_eq!(rt; store.load(), Ok(A));
-    assert_eq!(rt; store.store(1 << 63, 1), Err(ViewStoreError::NoPair));
-    assert_eq!(rt; store.store(1, 1 << 63), Err(ViewStoreError::NoPair));
+    assert_eq!(rt; store.store(pair(1 << 63, 1)), Err(ViewStoreError::NoPair));
+    assert_eq!(rt; store.store(pair(1, 1 << 63)), Err(ViewStoreError::NoPair));
     let kept = store.into_device();
     assert!(rt; hex::encode(alloc, kept.bytes())?.as_str() == FIRST);
     let long = MemoryDevice::new(alloc, vec![in alloc; 0u8; 65]?, ROOM, Fault::None)?;
@@ -156,10 +193,10 @@ fn stopped_store(
     let fault = Fault::StopAt(3usize.saturating_add(at));
     let mut store = ViewStore::new(device(alloc, text, fault)?, nine(rt));
     assert_eq!(rt; store.load(), Ok(A));
-    let stored = store.store(3, 1);
+    let stored = store.store(pair(3, 1));
     if at <= 6 {
         assert_eq!(rt; stored, Err(ViewStoreError::DeviceFailed));
-        assert_eq!(rt; store.store(3, 1), Err(ViewStoreError::Failed));
+        assert_eq!(rt; store.store(pair(3, 1)), Err(ViewStoreError::Failed));
         assert_eq!(rt; store.load(), Err(ViewStoreError::Failed));
     } else {
         assert_eq!(rt; stored, Ok(()));
@@ -204,7 +241,7 @@ fn a_load_settles_what_a_stop_left(rt: HostRuntime) -> Result<(), Fail> {
             left.set_fault(Fault::StopAt(left.count_of_calls().saturating_add(4)));
             let mut store = ViewStore::new(left, nine(&rt));
             let loaded = store.load()?;
-            assert_eq!(rt; store.store(5, 1), Err(ViewStoreError::DeviceFailed));
+            assert_eq!(rt; store.store(pair(5, 1)), Err(ViewStoreError::DeviceFailed));
             let left = store.into_device();
             for fate in FATES {
                 assert_eq!(rt; found_after_crash(&rt, alloc, &left, fate)?, Some(loaded));
@@ -230,7 +267,7 @@ fn a_first_store_that_stops_leaves_no_pair_or_the_new_one(rt: HostRuntime) -> Re
         ));
         let mut store = ViewStore::new(formatted, nine(&rt));
         store.format()?;
-        assert_eq!(rt; store.store(3, 1), Err(ViewStoreError::DeviceFailed));
+        assert_eq!(rt; store.store(pair(3, 1)), Err(ViewStoreError::DeviceFailed));
         let left = store.into_device();
         for fate in FATES {
             let pair = found_after_crash(&rt, alloc, &left, fate)?;
@@ -248,9 +285,27 @@ fn migrates_a_pair_of_version_1(rt: HostRuntime) -> Result<(), Fail> {
     let alloc = rt.alloc();
     let mut store = ViewStore::new(device(alloc, VERSION_1, Fault::None)?, nine(&rt));
     assert_eq!(rt; store.load(), Ok(A));
-    store.store(0, 2)?;
+    store.store(pair(0, 2))?;
     let migrated = store.into_device();
     assert!(rt; hex::encode(alloc, migrated.bytes())?.as_str() == MIGRATED);
+    Ok(())
+}
+
+#[test]
+fn a_pair_says_whether_a_journal_goes_with_it(rt: HostRuntime) -> Result<(), Fail> {
+    let alloc = rt.alloc();
+    let mut store = ViewStore::new(device(alloc, FIRST, Fault::None)?, nine(&rt));
+    assert_eq!(rt; store.load()?.alone(), Ok(A));
+    store.store(Pair {
+        view: 3,
+        restarts: 2,
+        journaled: true,
+    })?;
+    let pair = store.load()?;
+    assert_eq!(rt; pair.journaled, true);
+    assert_eq!(rt; pair.alone(), Err(ViewStoreError::KeepsJournal));
+    let kept = store.into_device();
+    assert!(rt; hex::encode(alloc, kept.bytes())?.as_str() == WITH_JOURNAL);
     Ok(())
 }
 
@@ -262,7 +317,7 @@ fn loads_the_slot_of_the_greater_sequence(rt: HostRuntime) -> Result<(), Fail> {
         let mut store = ViewStore::new(device(alloc, &text, Fault::None)?, nine(&rt));
         assert_eq!(rt; store.load(), want, "{text}");
         if want.is_err() {
-            assert_eq!(rt; store.store(0, 2), Err(ViewStoreError::NoPair), "{text}");
+            assert_eq!(rt; store.store(pair(0, 2)), Err(ViewStoreError::NoPair), "{text}");
         }
         let kept = store.into_device();
         assert!(rt; hex::encode(alloc, kept.bytes())?.as_str() == text.as_str());
@@ -293,12 +348,12 @@ fn check_failures(rt: &impl Abort, alloc: Global, text: &str) -> Result<(), Fail
         } else {
             assert_eq!(rt; loaded, Ok(A));
             assert_eq!(rt;
-                store.store(3, 1),
+                store.store(pair(3, 1)),
                 Err(ViewStoreError::DeviceFailed),
                 "call {at}"
             );
         }
-        assert_eq!(rt; store.store(3, 1), Err(ViewStoreError::Failed));
+        assert_eq!(rt; store.store(pair(3, 1)), Err(ViewStoreError::Failed));
         let _ = store.into_device();
     }
     Ok(())

@@ -15,7 +15,7 @@ returns-in_err-outputs-clause-any_moment g c =
     let l = g.D.Device.left_since in
     let s = g.D.Device.seen in
     let device = c.self.inside.views.device in
-    subst (λ (n : NodeValue g.row.D.Denot). n.is_halted ≡ false → IsWellPlaced (s n.device) → LeavesOnly m l n.device device (IsFormerOrNew n.cluster (own (pair_of n)) (record { view = (step_of n.count n.index n.replica c.args.event).state.view_number; restarts = n.restarts }))) c.self.view_is
+    subst (λ (n : NodeValue g.row.D.Denot). n.is_halted ≡ false → IsWellPlaced (s n.device) → LeavesOnly m l n.device device (IsFormerOrNew n.cluster (own (pair_of n)) (record { view = (step_of n.count n.index n.replica c.args.event).state.view_number; restarts = n.restarts; journaled = false }))) c.self.view_is
     (λ running placed. untouched s g.D.Device.may_leave m l device c.self.inside.views.cluster _ _ placed (c.self.invariant running).pair (c.self.invariant running).settled (g.met.D.Device.only_now device))
 
 -- the pair was not stored, or it was
@@ -26,8 +26,8 @@ returns-in-Err-clause-any_moment g c =
     let s = g.D.Device.seen in
     let r = c.self.inside.replica in
     let stored = stored_is r.count r.index (state r) (state c.step.new.replica) c.args.event c.in_ok-outputs.outputs.store (ap (λ o. o.state) c.in_ok-outputs.ensures.step) c.in_ok-outputs.ensures.store in
-    subst (λ (n : NodeValue g.row.D.Denot). n.is_halted ≡ false → IsWellPlaced (s n.device) → LeavesOnly m l n.device c.keep_pair.new.views.device (IsFormerOrNew n.cluster (own (pair_of n)) (record { view = (step_of n.count n.index n.replica c.args.event).state.view_number; restarts = n.restarts }))) c.self.view_is
-    (λ running placed. subst (λ (v : ℕ). LeavesOnly m l c.self.inside.views.device c.keep_pair.new.views.device (IsFormerOrNew c.self.inside.views.cluster (own (record { view = r.view_number; restarts = c.self.inside.restarts })) (record { view = v; restarts = c.self.inside.restarts }))) stored (c.keep_pair.ensures.any_moment placed))
+    subst (λ (n : NodeValue g.row.D.Denot). n.is_halted ≡ false → IsWellPlaced (s n.device) → LeavesOnly m l n.device c.keep_pair.new.views.device (IsFormerOrNew n.cluster (own (pair_of n)) (record { view = (step_of n.count n.index n.replica c.args.event).state.view_number; restarts = n.restarts; journaled = false }))) c.self.view_is
+    (λ running placed. subst (λ (v : ℕ). LeavesOnly m l c.self.inside.views.device c.keep_pair.new.views.device (IsFormerOrNew c.self.inside.views.cluster (own (record { view = r.view_number; restarts = c.self.inside.restarts; journaled = false })) (record { view = v; restarts = c.self.inside.restarts; journaled = false }))) stored (c.keep_pair.ensures.any_moment placed))
 
 pub returns-clause-any_moment : goal.returns-clause-any_moment
 returns-clause-any_moment g c =
@@ -36,8 +36,8 @@ returns-clause-any_moment g c =
     let s = g.D.Device.seen in
     let r = c.self.inside.replica in
     let stored = stored_is r.count r.index (state r) (state c.step.new.replica) c.args.event c.in_ok-outputs.outputs.store (ap (λ o. o.state) c.in_ok-outputs.ensures.step) c.in_ok-outputs.ensures.store in
-    subst (λ (n : NodeValue g.row.D.Denot). n.is_halted ≡ false → IsWellPlaced (s n.device) → LeavesOnly m l n.device c.keep_pair.new.views.device (IsFormerOrNew n.cluster (own (pair_of n)) (record { view = (step_of n.count n.index n.replica c.args.event).state.view_number; restarts = n.restarts }))) c.self.view_is
-    (λ running placed. subst (λ (v : ℕ). LeavesOnly m l c.self.inside.views.device c.keep_pair.new.views.device (IsFormerOrNew c.self.inside.views.cluster (own (record { view = r.view_number; restarts = c.self.inside.restarts })) (record { view = v; restarts = c.self.inside.restarts }))) stored (c.keep_pair.ensures.any_moment placed))
+    subst (λ (n : NodeValue g.row.D.Denot). n.is_halted ≡ false → IsWellPlaced (s n.device) → LeavesOnly m l n.device c.keep_pair.new.views.device (IsFormerOrNew n.cluster (own (pair_of n)) (record { view = (step_of n.count n.index n.replica c.args.event).state.view_number; restarts = n.restarts; journaled = false }))) c.self.view_is
+    (λ running placed. subst (λ (v : ℕ). LeavesOnly m l c.self.inside.views.device c.keep_pair.new.views.device (IsFormerOrNew c.self.inside.views.cluster (own (record { view = r.view_number; restarts = c.self.inside.restarts; journaled = false })) (record { view = v; restarts = c.self.inside.restarts; journaled = false }))) stored (c.keep_pair.ensures.any_moment placed))
 
 -- the view that could not be stored is the step's
 pub returns-in-Err-clause-no_pair : goal.returns-in-Err-clause-no_pair

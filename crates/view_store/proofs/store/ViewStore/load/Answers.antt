@@ -16,6 +16,7 @@ returns-in-Some-own_pair g c =
       any_moment = search rules;
       no_pair = search rules;
       foreign_cluster = search rules;
+      keeps_journal = search rules;
       device_failed = search rules;
       counted = search rules;
       failed = search rules;
