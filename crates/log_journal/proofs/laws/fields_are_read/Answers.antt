@@ -1,0 +1,5 @@
+use Rattle.log_journal.proofs.Reading.{fields_read}
+use Rattle.log_journal.proofs.laws.fields_are_read.Goals as goal
+
+pub returns : goal.returns
+returns c = fields_read
