@@ -38,6 +38,7 @@ class Replica:
         self.faults = world.count // 2
         self.stored_view = 0
         self.nonces: set[int] = set()
+        self.kept: Optional[tuple] = None
         self.is_up = True
         self.begin(NORMAL)
 
@@ -130,7 +131,10 @@ class Replica:
             self.send_all("change", self.stored_view)
 
     def crash(self) -> None:
-        self.is_up = False
+        """All is lost but the stored view and, of one that doesn't recover, what its journal keeps."""
+        if self.is_up:
+            self.is_up = False
+            self.kept = None if self.status == RECOVERING else (self.last, self.log, self.commit)
 
     def recover(self, nonce: int) -> None:
         if not self.is_up and nonce not in self.nonces:
@@ -139,6 +143,14 @@ class Replica:
             self.begin(RECOVERING)
             self.nonce = nonce
             self.send_all("recovery", nonce)
+
+    def resume(self, commit: Optional[int]) -> None:
+        """Goes on from its journal, with at most so many updates committed."""
+        if not self.is_up and self.kept is not None:
+            (last, log, most), self.kept = self.kept, None
+            self.is_up = True
+            self.begin(NORMAL if last == self.stored_view else CHANGING)
+            self.last, self.log, self.commit = last, log, most if commit is None else min(commit, most)
 
     def on_prepare(self, sender: int, view: int, record: Record, place: int, commit: int) -> None:
         if self.is_new(view):

@@ -49,8 +49,8 @@ impl Lab {
         }
     }
 
-    /// Plays a schedule from the first world on: requests, deliveries of any message that was ever sent, suspicions, beats, crashes, recoveries, and
-    /// searches between them. Its only error is want of memory, and then nothing is shown.
+    /// Plays a schedule from the first world on: requests, deliveries of any message that was ever sent, suspicions, beats, crashes, recoveries,
+    /// replicas that go on from their journals, and searches between them. Its only error is want of memory, and then nothing is shown.
     pub fn run(&self, alloc: Global, events: Vec<LabEvent>) -> Result<Vec<LabReply>, AllocError>
         // Each search of each schedule is answered from one beginning of the committed updates, no shorter than the number that was named; and with
         // success by exactly the entries in scope whose filter value is True, each once, in order of number, with just the selected attributes.

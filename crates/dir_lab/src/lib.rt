@@ -1,5 +1,5 @@
-//! A lab: replicas of a directory under every schedule. Requests, deliveries, losses, repeats, view changes, crashes, recoveries and searches flow
-//! in; what real replicas answer flows out, and the sentence that all of it is for stands here, as a clause of `Lab::run`. No clock, no network and
+//! A lab: replicas of a directory under every schedule. Requests, deliveries, losses, repeats, view changes, crashes, recoveries, returns over a journal
+//! and searches flow in; what real replicas answer flows out, and the sentence that all of it is for stands here, as a clause of `Lab::run`. No clock, no network and
 //! no file is here, and no text of a script.
 #![tactic(auto)]
 

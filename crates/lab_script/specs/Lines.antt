@@ -9,9 +9,9 @@ use Rattle.lab_script.specs.Each.{all_of}
 use Rattle.lab_script.specs.Updates.{IsUpdateText}
 use Rattle.lab_script.specs.Searches.{IsSearchText}
 use Rattle.lab_script.specs.declared.token.Token.{Token}
-use Rattle.lab_script.specs.declared.token.Token.TheVariants.{Replicas, Deliver, Suspect, Beat, Crash, Recover, State, Number}
+use Rattle.lab_script.specs.declared.token.Token.TheVariants.{Replicas, Deliver, Suspect, Beat, Crash, Recover, Resume, State, Number}
 use Rattle.lab_script.specs.Events.{EventValue, happens, search, state}
-use Rattle.lab_script.specs.Words.{Numbered, number_then, tokens_of, words_of}
+use Rattle.lab_script.specs.Words.{Numbered, greatest, number_then, tokens_of, words_of}
 
 -- `replicas N`, the first line: 3, 5 or 7 replicas.
 abbrev pub replicas_of : List Token → Option ℕ
@@ -34,13 +34,19 @@ abbrev pub deliveries_of : List Token → Option (List EventValue)
 deliveries_of [] = None
 deliveries_of (t ∷ ts) = all_of delivery_of (t ∷ ts)
 
--- `deliver K ..`, `suspect R`, `beat R`, `crash R`, `recover R X` and `state R`, and no other line of these.
+-- Replica r goes on from its journal, with at most k updates committed.
+abbrev pub resumes : ℕ → ℕ → EventValue
+resumes r k = happens (world.Resume r k)
+
+-- `deliver K ..`, `suspect R`, `beat R`, `crash R`, `recover R X`, `resume R`, `resume R K` and `state R`, and no other line of these.
 abbrev pub events_of : List Token → Option (List EventValue)
 events_of (Deliver ∷ ts) = deliveries_of ts
 events_of (Suspect ∷ Number r ∷ []) = Some (happens (world.Suspect r) ∷ [])
 events_of (Beat ∷ Number r ∷ []) = Some (happens (world.Beat r) ∷ [])
 events_of (Crash ∷ Number r ∷ []) = Some (happens (world.Crash r) ∷ [])
 events_of (Recover ∷ Number r ∷ Number x ∷ []) = Some (happens (world.Recover r x) ∷ [])
+events_of (Resume ∷ Number r ∷ []) = Some (resumes r greatest ∷ [])
+events_of (Resume ∷ Number r ∷ Number k ∷ []) = Some (resumes r k ∷ [])
 events_of (State ∷ Number r ∷ []) = Some (state r ∷ [])
 events_of _ = None
 
@@ -137,6 +143,6 @@ IsLineOf (search_line rest) line es = IsOne (IsSearch rest) es
 IsLineOf plain_line line es = events_by_words line ≡ Some es
 
 -- The events that a line after the first names: `request R C N OP`, `search R NAMED BASE|SCOPE|FILTER`, `deliver K ..`, `suspect R`, `beat R`,
--- `crash R`, `recover R X` and `state R`, and no other line.
+-- `crash R`, `recover R X`, `resume R`, `resume R K` and `state R`, and no other line.
 abbrev pub IsLine : List ℕ → List EventValue → Type 0
 IsLine line es = IsLineOf (kind_of line) line es

@@ -5,10 +5,10 @@ use Rattle.std.specs.List.{slice_split}
 use Rattle.lab_script.specs.Cuts.{Cut, cut}
 use Rattle.lab_script.specs.Each.{all_of}
 use Rattle.lab_script.specs.declared.token.Token.{Token}
-use Rattle.lab_script.specs.declared.token.Token.TheVariants.{Replicas, Deliver, Suspect, Beat, Crash, Recover, State, Number}
+use Rattle.lab_script.specs.declared.token.Token.TheVariants.{Replicas, Deliver, Suspect, Beat, Crash, Recover, Resume, State, Number}
 pub use Rattle.lab_script.specs.ldap_words.Numbers.{greatest, with_digit, number_after, number_of_digits}
 
--- What a word says: one of these seven, or a number.
+-- What a word says: one of these eight, or a number.
 abbrev pub token_of : List ℕ → Option Token
 token_of w =
     cond (bytes_eq w (codes "replicas")) (Some Replicas)
@@ -17,8 +17,9 @@ token_of w =
     (cond (bytes_eq w (codes "beat")) (Some Beat)
     (cond (bytes_eq w (codes "crash")) (Some Crash)
     (cond (bytes_eq w (codes "recover")) (Some Recover)
+    (cond (bytes_eq w (codes "resume")) (Some Resume)
     (cond (bytes_eq w (codes "state")) (Some State)
-    (option_map Number (number_of_digits w))))))))
+    (option_map Number (number_of_digits w)))))))))
 
 -- What these words say, if each says something.
 abbrev pub tokens_of : List (List ℕ) → Option (List Token)

@@ -3,7 +3,7 @@
 // What an event does isn't here.
 ghost use Rattle.std.specs.Prelude.{◌≡◌, List, [], ◌∷◌, map, IfOk, IsErrOf, MatchOption};
 ghost use Rattle.lab_script.specs.Events.{EventValue, event_view, happens};
-ghost use Rattle.lab_script.specs.Lines.{IsLine, IsOne, IsRequest, IsSearch, deliveries_of, delivery_of, events_by_words, events_of, first_line, replicas_of};
+ghost use Rattle.lab_script.specs.Lines.{IsLine, IsOne, IsRequest, IsSearch, deliveries_of, delivery_of, events_by_words, events_of, first_line, replicas_of, resumes};
 ghost use Rattle.lab_script.specs.Words.{tokens_of, words_of};
 
 use crate::cutting::{LineKind, kind_of};
@@ -13,6 +13,9 @@ use crate::searches::search_in;
 use crate::token::{Token, token_of, words_of};
 use dir_lab::{LabEvent, Op, WorldEvent};
 use std::alloc::{AllocError, Global};
+
+/// The greatest number that a script can write: no log is as long.
+const ALL_COMMITTED: u64 = 9_223_372_036_854_775_807;
 
 /// How many replicas the first line names.
 pub fn read_first(alloc: Global, line: &[u8]) -> Result<u64, LineError>
@@ -123,11 +126,29 @@ fn events_of(alloc: Global, tokens: &[Token]) -> Result<Vec<LabEvent>, LineError
             replica: *replica,
             nonce: *nonce,
         }),
+        [Token::Resume, Token::Number { value }] => resume(*value, ALL_COMMITTED),
+        [
+            Token::Resume,
+            Token::Number { value: replica },
+            Token::Number {
+                value: commit_number,
+            },
+        ] => resume(*replica, *commit_number),
         [Token::State, Token::Number { value }] => LabEvent::State { replica: *value },
         _ => return Err(LineError::BadLine),
     };
     let events = alone(alloc, event)?;
     Ok(events)
+}
+
+/// A replica goes on from its journal, with at most so many updates committed.
+fn resume(replica: u64, commit_number: u64) -> LabEvent
+    ensures { event_view result ≡ resumes replica commit_number }
+{
+    happens(WorldEvent::Resume {
+        replica,
+        commit_number,
+    })
 }
 
 /// Something happens.

@@ -17,6 +17,7 @@ pub enum Token {
     Beat,
     Crash,
     Recover,
+    Resume,
     State,
     Number { value: u64 },
 }
@@ -44,6 +45,8 @@ pub fn token_of(word: &[u8]) -> Option<Token>
         Some(Token::Crash)
     } else if is_text(word, b"recover") {
         Some(Token::Recover)
+    } else if is_text(word, b"resume") {
+        Some(Token::Resume)
     } else if is_text(word, b"state") {
         Some(Token::State)
     } else {
