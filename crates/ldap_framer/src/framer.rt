@@ -122,6 +122,19 @@ impl Framer {
         self.ready.pop_front()
     }
 
+    /// Gives back the memory that was kept for octets and for messages, where none are held. A stream that pauses between two messages keeps
+    /// nothing then.
+    pub fn rest(&mut self)
+        ensures { framed self.new ≡ framed self.old }
+    {
+        if self.buffer.is_empty() {
+            self.buffer = BytesMut::new(self.alloc);
+        }
+        if self.ready.is_empty() {
+            self.ready = VecDeque::new(self.alloc);
+        }
+    }
+
     /// The next message, left where it waits.
     pub fn peek(&self) -> Option<&Message>
         ensures { option_map (λ m. view m.now) result ≡ slice_get (framed self.now).ready 0 }
