@@ -1,0 +1,87 @@
+//! The queues of a table: by the turn since which it stands there, each place. Which place stands where is not here.
+ghost use Rattle.std.specs.Prelude.{◌≡◌, ◌&&◌, ℕ, cond, nat_eq, Some, None, IfSome, IfNone, IfOk, OnOk, OnErr};
+ghost use Rattle.std.specs.BTreeMap.{get};
+ghost use Rattle.std.specs.Ordering.{nat_cmp};
+ghost use Rattle.session_table.specs.Listed.{place_at, is_queue, IsFirstAt};
+ghost use Rattle.session_table.specs.declared.spot.Queue.{Queue};
+
+use crate::spot::Queue;
+use std::alloc::{AllocError, Global};
+use std::collections::BTreeMap;
+
+/// The places of one queue, by their turns.
+pub type Turns = BTreeMap<u64, usize>;
+
+/// All queues.
+#[derive(Drop)]
+pub struct Queues {
+    free: Turns,
+    silent: Turns,
+    inside: Turns,
+    unsent: Turns,
+}
+
+/// The place that has stood longest in a queue.
+fn first_of(turns: &Turns) -> Option<usize>
+    ensures some { IfSome result (λ p. IsFirstAt (get nat_cmp turns.now) p) }
+    ensures none { IfNone result ((t : ℕ) → get nat_cmp turns.now t ≡ None) }
+{
+    match turns.first_key_value() {
+        Some((_, place)) => Some(*place),
+        None => None,
+    }
+}
+
+impl Queues {
+    /// Queues in which nothing stands.
+    pub fn new(alloc: Global) -> Queues
+        ensures { (queue : Queue) (t : ℕ) → place_at result queue t ≡ None }
+    {
+        Queues {
+            free: BTreeMap::new(alloc),
+            silent: BTreeMap::new(alloc),
+            inside: BTreeMap::new(alloc),
+            unsent: BTreeMap::new(alloc),
+        }
+    }
+
+    /// A place stands in a queue, since this turn.
+    pub fn insert(&mut self, queue: Queue, turn: u64, place: usize) -> Result<(), AllocError>
+        ensures ok { OnOk result ((q : Queue) (t : ℕ)
+            → place_at self.new q t ≡ cond (is_queue queue q && nat_eq turn t) (Some place) (place_at self.old q t)) }
+        ensures err { OnErr result ((q : Queue) (t : ℕ) → place_at self.new q t ≡ place_at self.old q t) }
+    {
+        match queue {
+            Queue::Free => self.free.insert(turn, place)?,
+            Queue::Silent => self.silent.insert(turn, place)?,
+            Queue::Inside => self.inside.insert(turn, place)?,
+            Queue::Unsent => self.unsent.insert(turn, place)?,
+        };
+        Ok(())
+    }
+
+    /// What has stood in a queue since this turn stands there no more.
+    pub fn remove(&mut self, queue: Queue, turn: u64)
+        ensures { (q : Queue) (t : ℕ) → place_at self.new q t ≡ cond (is_queue queue q && nat_eq turn t) None (place_at self.old q t) }
+    {
+        match queue {
+            Queue::Free => self.free.remove(&turn),
+            Queue::Silent => self.silent.remove(&turn),
+            Queue::Inside => self.inside.remove(&turn),
+            Queue::Unsent => self.unsent.remove(&turn),
+        };
+    }
+
+    /// The place that has stood longest in a queue.
+    pub fn first(&self, queue: Queue) -> Option<usize>
+        ensures some { IfSome result (λ p. IsFirstAt (place_at self.now queue) p) }
+        ensures none { IfNone result ((t : ℕ) → place_at self.now queue t ≡ None) }
+    {
+        match queue {
+            Queue::Free => first_of(&self.free),
+            Queue::Silent => first_of(&self.silent),
+            Queue::Inside => first_of(&self.inside),
+            Queue::Unsent => first_of(&self.unsent),
+        }
+    }
+}

@@ -1,0 +1,23 @@
+//! Where a place of a table stands. Plain enums.
+
+/// The queues of a table.
+#[derive(Clone, Copy, Debug, PartialEq, Eq)]
+pub enum Queue {
+    /// Places without a session.
+    Free,
+    /// Those that wait for the beginning of a message.
+    Silent,
+    /// Those that wait for the rest of a message.
+    Inside,
+    /// Those that wait for the client to take an answer.
+    Unsent,
+}
+
+/// Where a place stands.
+#[derive(Clone, Copy, Debug)]
+pub enum Spot {
+    /// With whoever serves its session.
+    Away,
+    /// In this queue, since this turn.
+    In { queue: Queue, turn: u64 },
+}
