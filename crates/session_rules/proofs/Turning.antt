@@ -9,7 +9,7 @@ use Rattle.session_talk.specs.Talk.{Looked, RoleValue, EndedValue, Exchange, ask
 use Rattle.session_talk.specs.log_entry.declared.words.Client.{Client}
 use Rattle.message_rules.specs.Requests.{answering_of}
 use Rattle.session_rules.specs.Responses.{search_messages, compare_messages}
-use Rattle.session_rules.specs.Session.{ConfigValue, Reaction, at_once, due, nothing, a_search, a_compare, an_update, asked, after_search, after_compare, after_update, asked_state}
+use Rattle.session_rules.specs.Session.{ConfigValue, Reaction, at_once, due, nothing, a_search, a_compare, an_update, asked, number_seen, reading_from, after_search, after_compare, after_update, asked_state}
 use Rattle.session_rules.specs.Heard.{IsPending}
 use Rattle.session_rules.specs.Taken.{AreSaid, IsDone, HasTaken, OutcomeOf}
 use Rattle.session_rules.specs.Turns.{Outcome, reacts, searches, compares, updates, Inquiry, asks, Turn, answers, inquires}
@@ -54,24 +54,26 @@ module _ {D T : Type 0} (allows : D → Exchange T → D → Type 0) (t : State)
   }
 
   -- one question
-  pub one_search : (d e : D) (id : ℕ) (answering : Answering) (named : Named) (number : ℕ) (q : SearchRequestValue) (look : Looked Answer) →
-      allows d (searched number q look) e → AreSaid (search_messages id named.number look) GoesOn result → HasTaken allows d e (Outcome t id answering named (a_search number q)) t result
-  one_search d e id answering named number q look h said = record {
+  pub one_search : (d e : D) (s : State) (id : ℕ) (answering : Answering) (named : Named) (number : ℕ) (q : SearchRequestValue) (look : Looked Answer) →
+      allows d (searched number q look) e → t ≡ reading_from s (number_seen look) → AreSaid (search_messages id named.number look) GoesOn result →
+      HasTaken allows d e (Outcome s id answering named (a_search number q)) t result
+  one_search d e s id answering named number q look h is said = record {
     talk = searched number q look ∷ [];
-    reaction = after_search t id named look;
+    reaction = after_search s id named look;
     turn = searches number q look refl;
     along = goes h ends;
-    done = said_is_done (after_search t id named look) t result refl said;
+    done = said_is_done (after_search s id named look) t result is said;
   }
 
-  pub one_compare : (d e : D) (id : ℕ) (answering : Answering) (named : Named) (number : ℕ) (q : CompareRequestValue) (look : Looked ReplyModel) →
-      allows d (compared number q look) e → AreSaid (compare_messages id named.number look) GoesOn result → HasTaken allows d e (Outcome t id answering named (a_compare number q)) t result
-  one_compare d e id answering named number q look h said = record {
+  pub one_compare : (d e : D) (s : State) (id : ℕ) (answering : Answering) (named : Named) (number : ℕ) (q : CompareRequestValue) (look : Looked ReplyModel) →
+      allows d (compared number q look) e → t ≡ reading_from s (number_seen look) → AreSaid (compare_messages id named.number look) GoesOn result →
+      HasTaken allows d e (Outcome s id answering named (a_compare number q)) t result
+  one_compare d e s id answering named number q look h is said = record {
     talk = compared number q look ∷ [];
-    reaction = after_compare t id named look;
+    reaction = after_compare s id named look;
     turn = compares number q look refl;
     along = goes h ends;
-    done = said_is_done (after_compare t id named look) t result refl said;
+    done = said_is_done (after_compare s id named look) t result is said;
   }
 
   pub one_update : (d e : D) (s : State) (id : ℕ) (answering : Answering) (named : Named) (client : Client) (number : ℕ) (u : OpValue) (ended : EndedValue) →

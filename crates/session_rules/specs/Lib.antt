@@ -2,6 +2,7 @@ pub mod Responses
 pub mod Session
 pub mod Heard
 pub mod Turns
+pub mod Rising
 pub mod Taken
 pub mod View
 -- what layers above name of the crates below

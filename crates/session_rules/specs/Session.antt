@@ -7,7 +7,7 @@ use Rattle.message_rules.specs.ldap_msg.Messages.{SearchRequestValue, CompareReq
 use Rattle.session_talk.specs.ldap_op.Values.{OpValue}
 use Rattle.session_talk.specs.Answers.{ReplyModel, only, Answer}
 use Rattle.session_talk.specs.Clients.{named_client}
-use Rattle.session_talk.specs.Talk.{Looked, RoleValue, primary, backup, changing, recovering, EndedValue, done, stale, lost, refused_memory}
+use Rattle.session_talk.specs.Talk.{Looked, found, not_yet, gone, no_memory, RoleValue, primary, backup, changing, recovering, EndedValue, done, stale, lost, refused_memory}
 use Rattle.session_talk.specs.log_entry.declared.words.Client.{Client}
 use Rattle.message_rules.specs.Numbers.{greatest}
 use Rattle.message_rules.specs.Controls.{judged}
@@ -123,7 +123,7 @@ abbrev pub or_zero : Option ℕ → ℕ
 or_zero None = 0
 or_zero (Some n) = n
 
--- the number that a read names: that of the session's latest update, or a later one that its control names
+-- the number that a read names: the greatest that the session has seen, or a later one that its control names
 abbrev pub named_number : State → Named → ℕ
 named_number s named = max s.floor (or_zero named.number)
 
@@ -186,13 +186,24 @@ is_recovering recovering = true
 abbrev pub asked : ConfigValue → State → Pending → RequestValue → RoleValue → Asked
 asked c s p r role = cond (is_recovering role) (refusal s p 52) (asked_of c s p r role)
 
--- what a search comes to
-abbrev pub after_search : State → ℕ → Named → Looked Answer → Reaction
-after_search s id named look = record { state = s; responses = search_messages id named.number look; next = GoesOn }
+-- the number that a read was answered at; 0 where it has no answer
+abbrev pub number_seen : {A : Type 0} → Looked A → ℕ
+number_seen (found at a) = at
+number_seen (not_yet at) = 0
+number_seen gone = 0
+number_seen no_memory = 0
 
--- what a compare comes to
+-- the session reads from this number on, which it has seen or was told
+abbrev pub reading_from : State → ℕ → State
+reading_from s number = record s { floor = max s.floor number }
+
+-- what a search comes to: from where it was answered the session reads on
+abbrev pub after_search : State → ℕ → Named → Looked Answer → Reaction
+after_search s id named look = record { state = reading_from s (number_seen look); responses = search_messages id named.number look; next = GoesOn }
+
+-- what a compare comes to: from where it was answered the session reads on
 abbrev pub after_compare : State → ℕ → Named → Looked ReplyModel → Reaction
-after_compare s id named look = record { state = s; responses = compare_messages id named.number look; next = GoesOn }
+after_compare s id named look = record { state = reading_from s (number_seen look); responses = compare_messages id named.number look; next = GoesOn }
 
 -- the number of the last request of the session's own client, where an update was asked: its own, or one that a control names
 abbrev pub requests_after : ℕ → Option (ℕ × ℕ) → ℕ
@@ -202,10 +213,6 @@ requests_after n (Some named) = n
 -- the session once an update was asked: its own client's request is used up, where it was that
 abbrev pub asked_state : State → Named → State
 asked_state s named = record s { requests = requests_after s.requests named.request }
-
--- the session reads from its update on
-abbrev pub reading_from : State → ℕ → State
-reading_from s number = record s { floor = max s.floor number }
 
 -- What an update comes to: its reply, with its number where the request named one; unwillingToPerform (53) where the client has made a later
 -- request, other (80) where it isn't known what became of it, and without memory.

@@ -15,7 +15,7 @@ mod updating;
 
 pub use answered::{Answered, Next};
 pub use config::Config;
-pub use laws::{role_is_first, sessions_join};
+pub use laws::{reads_rise, role_is_first, sessions_join};
 pub use message_rules::{AnswerError, Name, Schema};
 pub use responses::disconnect;
 pub use session_talk::{

@@ -1,6 +1,6 @@
 //! A session's state from message to message. Nothing flows in; plain data flows out. What changes it is not here.
 ghost use Rattle.std.specs.Prelude.{◌≡◌};
-ghost use Rattle.session_rules.specs.Session.{at_first, named_number};
+ghost use Rattle.session_rules.specs.Session.{at_first, named_number, reading_from};
 
 use message_rules::{Identity, Named};
 
@@ -11,7 +11,8 @@ pub struct State {
     pub identity: Identity,
     /// The number of the last request of its own client, from 1; 0 before the first.
     pub requests: u64,
-    /// The number of its latest update, from which on it reads; 0 before the first.
+    /// The greatest number that it has seen, of its updates and of the states that its reads were answered from; 0 before
+    /// the first. It reads from there on, whichever seat serves it.
     pub floor: u64,
 }
 
@@ -25,6 +26,13 @@ impl State {
             requests: 0,
             floor: 0,
         }
+    }
+
+    /// Reads from this number on, which it has seen or was told.
+    pub fn read_from(&mut self, number: u64)
+        ensures { self.new ≡ reading_from self.old number }
+    {
+        self.floor = self.floor.max(number);
     }
 
     /// The number that a read names.

@@ -2,11 +2,11 @@
 //! state and the directory after it stay. Streams of octets are not here.
 ghost use Rattle.std.specs.Prelude.{◌≡◌, ◌∷◌, [], true, None};
 ghost use Rattle.message_rules.specs.ldap_msg.View.{view, request_view, bind_view, search_view, compare_view};
-ghost use Rattle.session_talk.specs.Talk.{RoleValue, Along, asked_role, learned, recovering};
-ghost use Rattle.session_talk.specs.View.{role_view};
+ghost use Rattle.session_talk.specs.Talk.{RoleValue, Along, asked_role, learned, looked, recovering};
+ghost use Rattle.session_talk.specs.View.{role_view, reply_view, answer_view};
 ghost use Rattle.message_rules.specs.Binding.{bound};
 ghost use Rattle.message_rules.specs.Requests.{update_of, answering_of};
-ghost use Rattle.session_rules.specs.Session.{a_search, a_compare, asked, asked_of, bound_reaction, named_number, is_recovering};
+ghost use Rattle.session_rules.specs.Session.{a_search, a_compare, asked, asked_of, bound_reaction, named_number, number_seen, is_recovering};
 ghost use Rattle.session_rules.specs.Taken.{IsDone, HasTaken, OutcomeOf};
 ghost use Rattle.session_rules.specs.Turns.{Inquiry, Turn};
 ghost use Rattle.session_rules.specs.View.{config_view};
@@ -21,7 +21,7 @@ use message_rules::{
     AnswerError, Answering, BindRequest, CompareRequest, Identity, Message, Request, ResultCode,
     SearchRequest, bind, update_in,
 };
-use session_talk::{Directory, Role};
+use session_talk::{Directory, Found, LookError, Reply, Role, SearchAnswer};
 use std::alloc::Global;
 
 /// Whether a replica has no state yet.
@@ -31,6 +31,26 @@ fn is_recovering(role: &Role) -> bool
     match role {
         Role::Recovering => true,
         Role::Primary | Role::Backup { .. } | Role::Changing => false,
+    }
+}
+
+/// The number that a search was answered at; 0 where it has no answer.
+fn search_number(outcome: &Result<Found<SearchAnswer>, LookError>) -> u64
+    ensures { result ≡ number_seen (looked answer_view outcome.now) }
+{
+    match outcome {
+        Ok(found) => found.at,
+        Err(LookError::NotYet { .. } | LookError::Gone | LookError::NoMemory) => 0,
+    }
+}
+
+/// The number that a compare was answered at; 0 where it has no answer.
+fn compare_number(outcome: &Result<Found<Reply>, LookError>) -> u64
+    ensures { result ≡ number_seen (looked reply_view outcome.now) }
+{
+    match outcome {
+        Ok(found) => found.at,
+        Err(LookError::NotYet { .. } | LookError::Gone | LookError::NoMemory) => 0,
     }
 }
 
@@ -61,19 +81,20 @@ impl Task<'_> {
         say_code(self.alloc, self.pending.id, Answering::Bind, bound.code)
     }
 
-    /// Asks for a search, and answers it.
+    /// Asks for a search, and answers it. The session reads on from where it was answered.
     #[tactic(auto, using(crate::proofs::Turning::one_search))]
     fn take_search<D: Directory>(
         &self,
-        state: &State,
+        state: &mut State,
         directory: &mut D,
         request: &SearchRequest,
     ) -> Result<Answered, AnswerError>
-        ensures { HasTaken D.allows directory.old directory.new (OutcomeOf state.now self.now.pending
-            (a_search (named_number state.now self.now.pending.named) (search_view request.now))) state.now result }
+        ensures { HasTaken D.allows directory.old directory.new (OutcomeOf state.old self.now.pending
+            (a_search (named_number state.old self.now.pending.named) (search_view request.now))) state.new result }
     {
         let number = state.named_number(self.pending.named);
         let outcome = directory.search(self.alloc, number, request);
+        state.read_from(search_number(&outcome));
         say_search(
             self.alloc,
             self.pending.id,
@@ -82,19 +103,20 @@ impl Task<'_> {
         )
     }
 
-    /// Asks for a compare, and answers it.
+    /// Asks for a compare, and answers it. The session reads on from where it was answered.
     #[tactic(auto, using(crate::proofs::Turning::one_compare))]
     fn take_compare<D: Directory>(
         &self,
-        state: &State,
+        state: &mut State,
         directory: &mut D,
         request: &CompareRequest,
     ) -> Result<Answered, AnswerError>
-        ensures { HasTaken D.allows directory.old directory.new (OutcomeOf state.now self.now.pending
-            (a_compare (named_number state.now self.now.pending.named) (compare_view request.now))) state.now result }
+        ensures { HasTaken D.allows directory.old directory.new (OutcomeOf state.old self.now.pending
+            (a_compare (named_number state.old self.now.pending.named) (compare_view request.now))) state.new result }
     {
         let number = state.named_number(self.pending.named);
         let outcome = directory.compare(self.alloc, number, request);
+        state.read_from(compare_number(&outcome));
         say_compare(
             self.alloc,
             self.pending.id,

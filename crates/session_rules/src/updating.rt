@@ -40,7 +40,7 @@ impl Task<'_> {
     {
         match ended {
             Ended::Done { number, reply } => {
-                state.floor = state.floor.max(number);
+                state.read_from(number);
                 self.say_done(number, reply)
             }
             Ended::Stale => self.refuse(state, ResultCode::UNWILLING_TO_PERFORM),
