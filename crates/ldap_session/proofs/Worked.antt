@@ -1,28 +1,26 @@
 -- What a session has written when it goes on or ends. Facts on definitions flow in and out; no value of the program is here.
-use Rattle.std.proofs.Common.{◌≡◌, ◌⊎◌, inl, inr, ℕ, List, [], ◌∷◌, ◌++◌, Option, None, Some, refl, ap, sym, subst, ◌∙◌, map, append_assoc, append-nil}
+use Rattle.std.proofs.Common.{◌≡◌, ◌⊎◌, inl, inr, ℕ, List, [], ◌∷◌, ◌++◌, true, false, Option, None, Some, refl, ap, sym, subst, ◌∙◌, map, append_assoc, append-nil}
 use Rattle.std.specs.Io.KnownBytes.{Appends}
 use Rattle.std.proofs.KnownBytes.{Appends-nil, Appends-trans}
 use Rattle.session_rules.specs.ldap_msg.Messages.{MessageValue}
-use Rattle.ldap_framer.specs.Stream.{Ending}
 use Rattle.ldap_framer.specs.Framed.{ending_of}
 use Rattle.session_rules.specs.session_talk.Talk.{Exchange}
 use Rattle.session_rules.specs.Responses.{notice}
 use Rattle.session_rules.specs.Session.{ConfigValue, Reaction}
-use Rattle.session_rules.specs.declared.answered.Answered.{Answered}
+use Rattle.session_rules.specs.declared.answered.Answered.{Answered as AnsweredValue}
 use Rattle.session_rules.specs.declared.answered.Next.{Next}
 use Rattle.session_rules.specs.declared.answered.Next.TheVariants.{GoesOn, Unbound as UnboundNext, Disconnected as DisconnectedNext}
-use Rattle.session_rules.specs.message_rules.declared.fault.AnswerError.{AnswerError}
-use Rattle.session_rules.specs.message_rules.declared.fault.AnswerError.TheVariants.{TooLong, NoMemory as NoMemoryError}
-use Rattle.ldap_session.specs.Octets.{joined, octets_of, IsFront}
-use Rattle.ldap_session.specs.View.{SessionValue}
-use Rattle.ldap_session.specs.Progress.{TakesNext, IsWritten, AnswersNext, FailsNext, IsIdle, Reached}
-use Rattle.ldap_session.specs.Serving.{IsStopped, IsFrontDue, IsEnd, Ends, IsCaughtUp}
-use Rattle.ldap_session.specs.Steps.{IsEarly, IsPut, HasPut, HasWorked}
+use Rattle.ldap_session.specs.Octets.{joined, octets_of, IsFront, HasWritten}
+use Rattle.ldap_session.specs.View.{SessionValue, ConversationValue}
+use Rattle.ldap_session.specs.Progress.{TakesNext, IsWritten, IsIdle, Reached}
+use Rattle.ldap_session.specs.Serving.{IsStopped, Ends, IsCaughtUp}
+use Rattle.ldap_session.specs.Conversing.{IsLast, TakesTurn, TakesLast, GivesNotice}
+use Rattle.ldap_session.specs.Steps.{IsEarly, HasPutLast, HasWorked}
 use Rattle.ldap_session.specs.declared.end.SessionEnd.{SessionEnd}
-use Rattle.ldap_session.specs.declared.end.SessionEnd.TheVariants.{Unbound, Disconnected, WriteFailed, NoMemory}
+use Rattle.ldap_session.specs.declared.end.SessionEnd.TheVariants.{Unbound, EndOfInput, Truncated, Disconnected, ReadFailed, WriteFailed, NoMemory}
 use Rattle.ldap_session.specs.declared.serving.Flow.TheVariants.{Goes, Ends as EndsWith}
-use Rattle.ldap_session.proofs.Written.{joined_octets, octets_append, whole_front}
-use Rattle.ldap_session.proofs.Progressed.{reached_more, ends_with, ends_here, goes_apart_too}
+use Rattle.ldap_session.proofs.Written.{joined_octets, octets_append}
+use Rattle.ldap_session.proofs.Progressed.{reached_more, ends_with, ends_here}
 
 -- a session that has answered some messages, and written so much for them
 pub record SoFar {D T : Type 0} (allows : D → Exchange T → D → Type 0) (c : ConfigValue) (old now : D) (s t : SessionValue) (output grown : Option (List ℕ)) : Type 0 where
@@ -38,7 +36,7 @@ begun allows c d s o = record {
 }
 
 -- the octets of what was answered are those of its messages
-octets_are : (given : Answered) (rs : List MessageValue) (next : Next) → IsWritten given rs next → joined (map (λ v. v.items) given.responses.items) ≡ octets_of rs
+pub octets_are : (given : AnsweredValue) (rs : List MessageValue) (next : Next) → IsWritten given rs next → joined (map (λ v. v.items) given.responses.items) ≡ octets_of rs
 octets_are given rs next w = ap joined w.octets ∙ joined_octets rs
 
 grown_by : {D T : Type 0} (allows : D → Exchange T → D → Type 0) (c : ConfigValue) (first old now e : D) (s0 s t : SessionValue) (o g : Option (List ℕ)) (octets read written : List ℕ) (a : Reaction) →
@@ -48,18 +46,20 @@ grown_by allows c first old now e s0 s t o g octets read written a w takes state
     subst (λ (l : List ℕ). Reached octets_of allows c first e t read l) (append_assoc written w.more (octets_of a.responses) ∙ ap (λ (l : List ℕ). written ++ (w.more ++ l)) (sym is))
     (reached_more octets_of octets_append allows c first now e s t read (written ++ w.more) a state goes takes (w.comes first read written r))
 
--- a message more is answered, and the session goes on
-pub more_answered : {D T : Type 0} (allows : D → Exchange T → D → Type 0) (c : ConfigValue) (old now e : D) (s0 s t : SessionValue) (o g h : Option (List ℕ)) (given : Answered) →
-    SoFar allows c old now s0 s o g →
-    AnswersNext allows c s t now e given ⊎ (IsIdle s t now e × (s.framed.fault ≡ None → ⊥) × IsWritten given (notice ∷ []) DisconnectedNext) →
-    HasPut g h (joined (map (λ v. v.items) given.responses.items)) given.next Goes → SoFar allows c old e s0 t o h
-more_answered allows c old now e s0 s t o g h given w (inl a) put = record {
-  more = w.more ++ put.more;
-  appended = Appends-trans o g h w.more put.more w.appended put.appended;
+-- what is written of octets that were kept where nothing was unsent
+kept_alone : (old more new taken : List ℕ) → old ≡ [] → new ≡ old ++ more → taken ≡ new → taken ≡ more
+kept_alone old more new taken none is all = all ∙ is ∙ ap (λ (l : List ℕ). l ++ more) none
+
+-- a message more is answered, what it is answered with is written, and the session goes on
+pub more_answered : {D T : Type 0} (allows : D → Exchange T → D → Type 0) (c : ConfigValue) (old now e : D) (s0 : SessionValue) (v w : ConversationValue) (o g h : Option (List ℕ)) →
+    SoFar allows c old now s0 v.session o g → v.unsent ≡ [] → TakesTurn allows c v w now e → HasWritten g h w.unsent true → SoFar allows c old e s0 w.session o h
+more_answered allows c old now e s0 v w o g h so none t put = record {
+  more = so.more ++ put.taken;
+  appended = Appends-trans o g h so.more put.taken so.appended put.grown;
   comes = λ first read written r.
-      grown_by allows c first old now e s0 s t o g put.more read written a.reaction w a.takes a.state (sym a.written.goes ∙ put.put.1) (put.put.0 ∙ octets_are given a.reaction.responses a.reaction.next a.written) r;
+      grown_by allows c first old now e s0 v.session w.session o g put.taken read written t.reaction so t.takes t.state t.goes
+      (kept_alone v.unsent (octets_of t.reaction.responses) w.unsent put.taken none t.unsent (put.whole refl)) r;
 }
-more_answered allows c old now e s0 s t o g h given w (inr n) put = absurd (goes_apart_too (sym n.2.goes ∙ put.put.1))
 
 -- all is answered
 pub all_answered : {D T : Type 0} (allows : D → Exchange T → D → Type 0) (c : ConfigValue) (old now e : D) (s0 s t : SessionValue) (o g : Option (List ℕ)) →
@@ -96,108 +96,118 @@ unbound_apart : UnboundNext ≡ DisconnectedNext → ⊥
 unbound_apart e = cc
 
 -- all responses to a message, behind all responses before it
-all_of : (rs qs : List MessageValue) (written more octets : List ℕ) → written ≡ octets_of rs → more ≡ octets → octets ≡ octets_of qs → written ++ more ≡ octets_of (rs ++ qs)
-all_of rs qs written more octets are is whose = ap (λ (l : List ℕ). l ++ more) are ∙ ap (λ (l : List ℕ). octets_of rs ++ l) (is ∙ whose) ∙ sym (octets_append rs qs)
+all_of : (rs qs : List MessageValue) (written more : List ℕ) → written ≡ octets_of rs → more ≡ octets_of qs → written ++ more ≡ octets_of (rs ++ qs)
+all_of rs qs written more are is = ap (λ (l : List ℕ). l ++ more) are ∙ ap (λ (l : List ℕ). octets_of rs ++ l) is ∙ sym (octets_append rs qs)
 
--- a message is answered, and the session ends with it
-put_last_answer : {D T : Type 0} (allows : D → Exchange T → D → Type 0) (c : ConfigValue) (first now e : D) (s t : SessionValue) (read written more : List ℕ) (given : Answered) (end : SessionEnd) →
-    (a : AnswersNext allows c s t now e given) → (r : Reached octets_of allows c first now s read written) →
-    IsPut more (joined (map (λ v. v.items) given.responses.items)) given.next (EndsWith end) → Ends octets_of allows c first e read (written ++ more) end
-put_last_answer allows c first now e s t read written more given end a r (inl (failed, front)) =
-    subst (λ (x : SessionEnd). Ends octets_of allows c first e read (written ++ more) x) (sym failed)
-    (ends_with octets_of allows c first now e s t read written more a.reaction WriteFailed a.takes r
-    (inl (front_of octets_of octets_append r.responses a.reaction.responses written more r.written_are (subst (λ (l : List ℕ). IsFront more l) (octets_are given a.reaction.responses a.reaction.next a.written) front))))
-put_last_answer allows c first now e s t read written more given end a r (inr (is, inl (next, ended))) =
-    subst (λ (x : SessionEnd). Ends octets_of allows c first e read (written ++ more) x) (sym ended)
-    (ends_with octets_of allows c first now e s t read written more a.reaction Unbound a.takes r
-    (sym a.written.goes ∙ next, all_of r.responses a.reaction.responses written more _ r.written_are is (octets_are given a.reaction.responses a.reaction.next a.written)))
-put_last_answer allows c first now e s t read written more given end a r (inr (is, inr (next, ended))) =
-    subst (λ (x : SessionEnd). Ends octets_of allows c first e read (written ++ more) x) (sym ended)
-    (ends_with octets_of allows c first now e s t read written more a.reaction Disconnected a.takes r
-    (inl (sym a.written.goes ∙ next, all_of r.responses a.reaction.responses written more _ r.written_are is (octets_are given a.reaction.responses a.reaction.next a.written))))
+-- what is written last, where a message is the last
+last_answer : {D T : Type 0} (allows : D → Exchange T → D → Type 0) (c : ConfigValue) (first now e : D) (s t : SessionValue) (read written more : List ℕ) (a : Reaction) (end : SessionEnd) →
+    TakesNext allows c s t now e a → Reached octets_of allows c first now s read written → IsLast end a.next (octets_of a.responses) more → Ends octets_of allows c first e read (written ++ more) end
+last_answer allows c first now e s t read written more a Unbound takes r last =
+    ends_with octets_of allows c first now e s t read written more a Unbound takes r (last.0, all_of r.responses a.responses written more r.written_are last.1)
+last_answer allows c first now e s t read written more a Disconnected takes r last =
+    ends_with octets_of allows c first now e s t read written more a Disconnected takes r (inl (last.0, all_of r.responses a.responses written more r.written_are last.1))
+last_answer allows c first now e s t read written more a WriteFailed takes r last =
+    ends_with octets_of allows c first now e s t read written more a WriteFailed takes r (inl (front_of octets_of octets_append r.responses a.responses written more r.written_are last))
+last_answer allows c first now e s t read written more a NoMemory takes r last =
+    ends_with octets_of allows c first now e s t read written more a NoMemory takes r (inl (front_of octets_of octets_append r.responses a.responses written more r.written_are last))
+last_answer allows c first now e s t read written more a EndOfInput takes r last = absurd last
+last_answer allows c first now e s t read written more a Truncated takes r last = absurd last
+last_answer allows c first now e s t read written more a ReadFailed takes r last = absurd last
 
--- what is no message is answered by the notice
-put_last_notice : {D T : Type 0} (allows : D → Exchange T → D → Type 0) (c : ConfigValue) (first now : D) (s : SessionValue) (read written more : List ℕ) (given : Answered) (end : SessionEnd) →
-    s.framed.ready ≡ [] → (s.framed.fault ≡ None → ⊥) → IsWritten given (notice ∷ []) DisconnectedNext → (r : Reached octets_of allows c first now s read written) →
-    IsPut more (joined (map (λ v. v.items) given.responses.items)) given.next (EndsWith end) → Ends octets_of allows c first now read (written ++ more) end
-put_last_notice allows c first now s read written more given end none fault w r (inl (failed, front)) =
-    subst (λ (x : SessionEnd). Ends octets_of allows c first now read (written ++ more) x) (sym failed)
-    (ends_here octets_of allows c first now s read written more WriteFailed r
-    (inr (
-      (refl, none, stopped_by s.framed.fault s.framed.rest fault),
-      front_of octets_of octets_append r.responses (notice ∷ []) written more r.written_are (subst (λ (l : List ℕ). IsFront more l) (octets_are given (notice ∷ []) DisconnectedNext w) front),
-    )))
-put_last_notice allows c first now s read written more given end none fault w r (inr (is, inl (next, ended))) = absurd (unbound_apart (sym next ∙ w.goes))
-put_last_notice allows c first now s read written more given end none fault w r (inr (is, inr (next, ended))) =
-    subst (λ (x : SessionEnd). Ends octets_of allows c first now read (written ++ more) x) (sym ended)
-    (ends_here octets_of allows c first now s read written more Disconnected r
-    (inr ((refl, none, stopped_by s.framed.fault s.framed.rest fault), all_of r.responses (notice ∷ []) written more _ r.written_are is (octets_are given (notice ∷ []) DisconnectedNext w))))
+-- the same, where what stands next is no message
+last_notice : {D T : Type 0} (allows : D → Exchange T → D → Type 0) (c : ConfigValue) (first now : D) (s : SessionValue) (read written more : List ℕ) (end : SessionEnd) →
+    s.framed.ready ≡ [] → (s.framed.fault ≡ None → ⊥) → Reached octets_of allows c first now s read written → IsLast end DisconnectedNext (octets_of (notice ∷ [])) more →
+    Ends octets_of allows c first now read (written ++ more) end
+last_notice allows c first now s read written more Unbound none fault r last = absurd (unbound_apart (sym last.0))
+last_notice allows c first now s read written more Disconnected none fault r last =
+    ends_here octets_of allows c first now s read written more Disconnected r
+    (inr ((refl, none, stopped_by s.framed.fault s.framed.rest fault), all_of r.responses (notice ∷ []) written more r.written_are last.1))
+last_notice allows c first now s read written more WriteFailed none fault r last =
+    ends_here octets_of allows c first now s read written more WriteFailed r
+    (inr ((refl, none, stopped_by s.framed.fault s.framed.rest fault), front_of octets_of octets_append r.responses (notice ∷ []) written more r.written_are last))
+last_notice allows c first now s read written more NoMemory none fault r last =
+    ends_here octets_of allows c first now s read written more NoMemory r
+    (inr ((refl, none, stopped_by s.framed.fault s.framed.rest fault), front_of octets_of octets_append r.responses (notice ∷ []) written more r.written_are last))
+last_notice allows c first now s read written more EndOfInput none fault r last = absurd last
+last_notice allows c first now s read written more Truncated none fault r last = absurd last
+last_notice allows c first now s read written more ReadFailed none fault r last = absurd last
 
-early_end : (more octets : List ℕ) (next : Next) (end : SessionEnd) → IsPut more octets next (EndsWith end) → IsEarly (EndsWith end)
-early_end more octets next end (inl (failed, front)) = subst (λ (x : SessionEnd). IsEarly (EndsWith x)) (sym failed) tt
-early_end more octets next end (inr (is, inl (goes, ended))) = subst (λ (x : SessionEnd). IsEarly (EndsWith x)) (sym ended) tt
-early_end more octets next end (inr (is, inr (goes, ended))) = subst (λ (x : SessionEnd). IsEarly (EndsWith x)) (sym ended) tt
+early_last : (end : SessionEnd) (next : Next) (octets more : List ℕ) → IsLast end next octets more → IsEarly (EndsWith end)
+early_last Unbound next octets more last = tt
+early_last Disconnected next octets more last = tt
+early_last WriteFailed next octets more last = tt
+early_last NoMemory next octets more last = tt
+early_last EndOfInput next octets more last = absurd last
+early_last Truncated next octets more last = absurd last
+early_last ReadFailed next octets more last = absurd last
+
+front_front : (xs ys zs : List ℕ) → IsFront xs ys → IsFront ys zs → IsFront xs zs
+front_front xs ys zs p q = record {
+  rest = p.rest ++ q.rest;
+  is = q.is ∙ ap (λ (l : List ℕ). l ++ q.rest) p.is ∙ append_assoc xs p.rest q.rest;
+}
+
+whole_is_front : (xs ys : List ℕ) → xs ≡ ys → IsFront xs ys
+whole_is_front xs ys e = record { rest = []; is = sym e ∙ sym (append-nil xs) }
+
+-- what is kept last is a front of what is due
+kept_front : (end : SessionEnd) (next : Next) (octets more : List ℕ) → IsLast end next octets more → IsFront more octets
+kept_front Unbound next octets more last = whole_is_front more octets last.1
+kept_front Disconnected next octets more last = whole_is_front more octets last.1
+kept_front WriteFailed next octets more last = last
+kept_front NoMemory next octets more last = last
+kept_front EndOfInput next octets more last = absurd last
+kept_front Truncated next octets more last = absurd last
+kept_front ReadFailed next octets more last = absurd last
+
+-- how a session ends of which what is kept last is written, or a front of that
+ended_as : (end flow_end : SessionEnd) (next : Next) (octets more kept : List ℕ) → IsLast end next octets kept →
+    ((flow_end ≡ end) × (more ≡ kept)) ⊎ ((flow_end ≡ WriteFailed) × IsFront more kept) → IsLast flow_end next octets more
+ended_as end flow_end next octets more kept last (inl (is, all)) =
+    subst (λ (x : SessionEnd). IsLast x next octets more) (sym is) (subst (λ (l : List ℕ). IsLast end next octets l) (sym all) last)
+ended_as end flow_end next octets more kept last (inr (failed, front)) =
+    subst (λ (x : SessionEnd). IsLast x next octets more) (sym failed) (front_front more kept octets front (kept_front end next octets kept last))
+
+kept_as : (flow_end end : SessionEnd) (old more new taken : List ℕ) → old ≡ [] → new ≡ old ++ more →
+    ((flow_end ≡ end) × (taken ≡ new)) ⊎ ((flow_end ≡ WriteFailed) × IsFront taken new) → ((flow_end ≡ end) × (taken ≡ more)) ⊎ ((flow_end ≡ WriteFailed) × IsFront taken more)
+kept_as flow_end end old more new taken none is (inl (ended, all)) = inl (ended, kept_alone old more new taken none is all)
+kept_as flow_end end old more new taken none is (inr (failed, front)) = inr (failed, subst (λ (l : List ℕ). IsFront taken l) (is ∙ ap (λ (l : List ℕ). l ++ more) none) front)
 
 -- the last word is written, or a front of it, and the session ends
-pub put_last : {D T : Type 0} (allows : D → Exchange T → D → Type 0) (c : ConfigValue) (old now e : D) (s0 s t : SessionValue) (o g h : Option (List ℕ)) (given : Answered) (end : SessionEnd) →
-    SoFar allows c old now s0 s o g →
-    AnswersNext allows c s t now e given ⊎ (IsIdle s t now e × (s.framed.fault ≡ None → ⊥) × IsWritten given (notice ∷ []) DisconnectedNext) →
-    HasPut g h (joined (map (λ v. v.items) given.responses.items)) given.next (EndsWith end) → HasWorked allows c old e s0 t o h (EndsWith end)
-put_last allows c old now e s0 s t o g h given end w (inl a) put = record {
-  more = w.more ++ put.more;
-  appended = Appends-trans o g h w.more put.more w.appended put.appended;
-  early = early_end put.more _ _ end put.put;
-  comes = λ first read written r.
-      subst (λ (l : List ℕ). Ends octets_of allows c first e read l end) (append_assoc written w.more put.more)
-      (put_last_answer allows c first now e s t read (written ++ w.more) put.more given end a (w.comes first read written r) put.put);
-}
-put_last allows c old now e s0 s t o g h given end w (inr (idle, fault, is)) put = record {
-  more = w.more ++ put.more;
-  appended = Appends-trans o g h w.more put.more w.appended put.appended;
-  early = early_end put.more _ _ end put.put;
-  comes = λ first read written r.
-      subst (λ (x : _). Ends octets_of allows c first x read (written ++ (w.more ++ put.more)) end) (sym idle.untouched)
-      (subst (λ (l : List ℕ). Ends octets_of allows c first now read l end) (append_assoc written w.more put.more)
-      (put_last_notice allows c first now s read (written ++ w.more) put.more given end idle.none fault is (w.comes first read written r) put.put));
-}
+pub put_last : {D T : Type 0} (allows : D → Exchange T → D → Type 0) (c : ConfigValue) (old now e : D) (s0 : SessionValue) (v w : ConversationValue) (o g h : Option (List ℕ)) (end flow_end : SessionEnd) →
+    SoFar allows c old now s0 v.session o g → v.unsent ≡ [] → TakesLast allows c v w now e end ⊎ GivesNotice v w now e end → HasPutLast g h w.unsent end flow_end →
+    HasWorked allows c old e s0 w.session o h (EndsWith flow_end)
+put_last allows c old now e s0 v w o g h end flow_end so none (inl t) put =
+    let last = ended_as end flow_end t.reaction.next (octets_of t.reaction.responses) put.more t.ends.more t.ends.last (kept_as flow_end end v.unsent t.ends.more w.unsent put.more none t.ends.unsent put.put) in
+    record {
+      more = so.more ++ put.more;
+      appended = Appends-trans o g h so.more put.more so.appended put.appended;
+      early = early_last flow_end t.reaction.next (octets_of t.reaction.responses) put.more last;
+      comes = λ first read written r.
+          subst (λ (l : List ℕ). Ends octets_of allows c first e read l flow_end) (append_assoc written so.more put.more)
+          (last_answer allows c first now e v.session w.session read (written ++ so.more) put.more t.reaction flow_end t.takes (so.comes first read written r) last);
+    }
+put_last allows c old now e s0 v w o g h end flow_end so none (inr n) put =
+    let last = ended_as end flow_end DisconnectedNext (octets_of (notice ∷ [])) put.more n.ends.more n.ends.last (kept_as flow_end end v.unsent n.ends.more w.unsent put.more none n.ends.unsent put.put) in
+    record {
+      more = so.more ++ put.more;
+      appended = Appends-trans o g h so.more put.more so.appended put.appended;
+      early = early_last flow_end DisconnectedNext (octets_of (notice ∷ [])) put.more last;
+      comes = λ first read written r.
+          subst (λ (x : _). Ends octets_of allows c first x read (written ++ (so.more ++ put.more)) flow_end) (sym n.idle.untouched)
+          (subst (λ (l : List ℕ). Ends octets_of allows c first now read l flow_end) (append_assoc written so.more put.more)
+          (last_notice allows c first now v.session read (written ++ so.more) put.more flow_end n.idle.none n.fault (so.comes first read written r) last));
+    }
 
--- which end an error is
-abbrev pub end_of : AnswerError → SessionEnd
-end_of TooLong = WriteFailed
-end_of NoMemoryError = NoMemory
-
--- an end after which a front of what is due is written
-front_end : (error : AnswerError) (next : Next) (more : List MessageValue) (ending : Ending) (rs : List MessageValue) (written : List ℕ) →
-    IsFrontDue octets_of next more ending rs written → IsEnd octets_of (end_of error) next more ending rs written
-front_end TooLong next more ending rs written f = f
-front_end NoMemoryError next more ending rs written f = f
-
-early_error : (error : AnswerError) → IsEarly (EndsWith (end_of error))
-early_error TooLong = tt
-early_error NoMemoryError = tt
-
--- a message can't be answered, and the session ends
-pub failed : {D T : Type 0} (allows : D → Exchange T → D → Type 0) (c : ConfigValue) (old now e : D) (s0 s t : SessionValue) (o g : Option (List ℕ)) (error : AnswerError) →
-    SoFar allows c old now s0 s o g →
-    FailsNext allows c s t now e error ⊎ (IsIdle s t now e × (s.framed.fault ≡ None → ⊥) × (error ≡ TooLong → ⊥)) → HasWorked allows c old e s0 t o g (EndsWith (end_of error))
-failed allows c old now e s0 s t o g error w (inl a) = record {
-  more = w.more;
-  appended = w.appended;
-  early = early_error error;
+-- a message is answered, and what it is answered with can't be written
+pub put_failed : {D T : Type 0} (allows : D → Exchange T → D → Type 0) (c : ConfigValue) (old now e : D) (s0 : SessionValue) (v w : ConversationValue) (o g h : Option (List ℕ)) →
+    SoFar allows c old now s0 v.session o g → v.unsent ≡ [] → TakesTurn allows c v w now e → HasWritten g h w.unsent false → HasWorked allows c old e s0 w.session o h (EndsWith WriteFailed)
+put_failed allows c old now e s0 v w o g h so none t put = record {
+  more = so.more ++ put.taken;
+  appended = Appends-trans o g h so.more put.taken so.appended put.grown;
+  early = tt;
   comes = λ first read written r.
-      let x = w.comes first read written r in
-      subst (λ (l : List ℕ). Ends octets_of allows c first e read l (end_of error)) (append-nil (written ++ w.more))
-      (ends_with octets_of allows c first now e s t read (written ++ w.more) [] a.reaction (end_of error) a.takes x
-      (front_end error _ _ _ _ _ (inl (front_of octets_of octets_append x.responses a.reaction.responses (written ++ w.more) [] x.written_are (no_front (octets_of a.reaction.responses))))));
-}
-failed allows c old now e s0 s t o g error w (inr (idle, fault, apart)) = record {
-  more = w.more;
-  appended = w.appended;
-  early = early_error error;
-  comes = λ first read written r.
-      let x = w.comes first read written r in
-      subst (λ (y : _). Ends octets_of allows c first y read (written ++ w.more) (end_of error)) (sym idle.untouched)
-      (subst (λ (l : List ℕ). Ends octets_of allows c first now read l (end_of error)) (append-nil (written ++ w.more))
-      (ends_here octets_of allows c first now s read (written ++ w.more) [] (end_of error) x
-      (front_end error _ _ _ _ _ (inl (whole_front (octets_of x.responses) (written ++ w.more) x.written_are)))));
+      subst (λ (l : List ℕ). Ends octets_of allows c first e read l WriteFailed) (append_assoc written so.more put.taken)
+      (last_answer allows c first now e v.session w.session read (written ++ so.more) put.taken t.reaction WriteFailed t.takes (so.comes first read written r)
+      (subst (λ (l : List ℕ). IsFront put.taken l) (t.unsent ∙ ap (λ (l : List ℕ). l ++ octets_of t.reaction.responses) none) put.front));
 }

@@ -67,7 +67,7 @@ map_append f [] ys = refl
 map_append f (x ∷ xs) ys = ap (λ (l : List _). f x ∷ l) (map_append f xs ys)
 
 -- the octets of a list are those of its first i, of the next, and of those behind it
-joined_at : {A : Type 0} (items : A → List ℕ) (list : List A) (i : ℕ) (x : A) → i < length list → x ≡ get_or list i x
+pub joined_at : {A : Type 0} (items : A → List ℕ) (list : List A) (i : ℕ) (x : A) → i < length list → x ≡ get_or list i x
     → joined (map items (take (i + 1) list)) ≡ joined (map items (take i list)) ++ items x
 joined_at items list i x lt is =
     ap (λ (l : List _). joined (map items l)) (take_more list i x lt ∙ ap (λ (y : _). take i list ++ y ∷ []) (sym is))
@@ -75,7 +75,7 @@ joined_at items list i x lt is =
     ∙ joined_append (map items (take i list)) (items x ∷ [])
     ∙ ap (λ (l : List ℕ). joined (map items (take i list)) ++ l) (append-nil (items x))
 
-joined_split : {A : Type 0} (items : A → List ℕ) (list : List A) (n : ℕ) → joined (map items list) ≡ joined (map items (take n list)) ++ joined (map items (drop n list))
+pub joined_split : {A : Type 0} (items : A → List ℕ) (list : List A) (n : ℕ) → joined (map items list) ≡ joined (map items (take n list)) ++ joined (map items (drop n list))
 joined_split items list n =
     ap (λ (l : List _). joined (map items l)) (sym (take-append-drop n list))
     ∙ ap joined (map_append items (take n list) (drop n list))

@@ -1,8 +1,10 @@
+pub mod Conversing
 pub mod Counting
 pub mod Octets
 pub mod Progress
 pub mod Serving
 pub mod Steps
+pub mod Visits
 pub mod Waiting
 pub mod View
 -- what layers above name of the crates below

@@ -33,3 +33,10 @@ pub record HasWritten (before after : Option (List ℕ)) (octets : List ℕ) (al
   pub grown : Appends before after taken
   pub front : IsFront taken octets
   pub whole : all ≡ true → taken ≡ octets
+
+-- octets have grown by a front of others: by all of them, where that is said
+pub record HasGrown (old new octets : List ℕ) (all : Bool) : Type 0 where
+  pub taken : List ℕ
+  pub grown : new ≡ old ++ taken
+  pub front : IsFront taken octets
+  pub whole : all ≡ true → taken ≡ octets

@@ -1,31 +1,35 @@
 -- The steps of a session that is served: reads, writes, pieces. What was read and written before and after flows in. The whole session is
 -- above.
-use Rattle.std.specs.Prelude.{◌≡◌, ◌⊎◌, ◌≤◌, ℕ, length, take, List, [], ◌++◌, Option}
+use Rattle.std.specs.Prelude.{◌≡◌, ◌⊎◌, ◌≤◌, ℕ, length, take, List, [], ◌++◌, Option, None}
 use Rattle.std.specs.Io.KnownBytes.{Appends, Consumes, IsAtEnd}
 use Rattle.session_rules.specs.session_talk.Talk.{Exchange}
 use Rattle.session_rules.specs.Session.{ConfigValue}
-use Rattle.session_rules.specs.declared.answered.Next.{Next}
-use Rattle.session_rules.specs.declared.answered.Next.TheVariants.{GoesOn, Unbound as UnboundNext, Disconnected as DisconnectedNext}
 use Rattle.ldap_session.specs.Octets.{octets_of, IsFront}
-use Rattle.ldap_session.specs.View.{SessionValue}
+use Rattle.ldap_session.specs.View.{SessionValue, ConversationValue}
 use Rattle.ldap_session.specs.Progress.{Reached}
 use Rattle.ldap_session.specs.Serving.{ComesTo}
+use Rattle.ldap_session.specs.declared.end.SessionEnd.{SessionEnd}
 use Rattle.ldap_session.specs.declared.end.SessionEnd.TheVariants.{Unbound, EndOfInput, Truncated, Disconnected, ReadFailed, WriteFailed, NoMemory}
 use Rattle.ldap_session.specs.declared.serving.Got.{Got}
 use Rattle.ldap_session.specs.declared.serving.Got.TheVariants.{Octets, End, Failed}
 use Rattle.ldap_session.specs.declared.serving.Flow.{Flow}
 use Rattle.ldap_session.specs.declared.serving.Flow.TheVariants.{Goes, Ends as EndsWith}
 
--- what a message is answered with is written, and the session goes on or ends as that says; or a front of it is, where the writer failed
-abbrev pub IsPut : List ℕ → List ℕ → Next → Flow → Type 0
-IsPut more octets next Goes = (more ≡ octets) × (next ≡ GoesOn)
-IsPut more octets next (EndsWith end) =
-    ((end ≡ WriteFailed) × IsFront more octets) ⊎ ((more ≡ octets) × (((next ≡ UnboundNext) × (end ≡ Unbound)) ⊎ ((next ≡ DisconnectedNext) × (end ≡ Disconnected))))
-
-pub record HasPut (output grown : Option (List ℕ)) (octets : List ℕ) (next : Next) (flow : Flow) : Type 0 where
+-- the last octets are written, and the session ends as was said; or a front of them is, where the writer failed
+pub record HasPutLast (output grown : Option (List ℕ)) (octets : List ℕ) (end ended : SessionEnd) : Type 0 where
   pub more : List ℕ
   pub appended : Appends output grown more
-  pub put : IsPut more octets next flow
+  pub put : ((ended ≡ end) × (more ≡ octets)) ⊎ ((ended ≡ WriteFailed) × IsFront more octets)
+
+-- nothing is unsent in a conversation that goes on
+pub record IsAllSent (v : ConversationValue) : Type 0 where
+  pub none_unsent : v.unsent ≡ []
+  pub goes_on : v.end ≡ None
+
+-- a fact for where a session goes on
+abbrev pub OnGoing : Flow → Type 0 → Type 0
+OnGoing Goes p = p
+OnGoing (EndsWith end) p = Unit {0}
 
 -- what a read took of an input, and gave
 abbrev pub HasGot : Option (List ℕ) → Option (List ℕ) → List ℕ → Got → Type 0

@@ -1,30 +1,41 @@
--- Which messages may have to wait for others. The messages that wait to be answered flow in; whether the next may wait flows out. How long
+-- Which messages may have to wait for others. The messages that are to be answered come in; what stands next comes out. How long it waits
 -- is not here.
-use Rattle.std.specs.Prelude.{List, [], ◌∷◌, Bool, true, false}
+use Rattle.std.specs.Prelude.{List, [], ◌∷◌, Bool, true, false, Option, Some, None, cond}
 use Rattle.session_rules.specs.ldap_msg.Messages.{MessageValue, OperationValue, request, response, RequestValue, bind, unbind, search, modify, add, delete, modify_dn, compare, abandon, extended_request}
+use Rattle.session_rules.specs.ldap_fields.declared.fault.MsgFault.{MsgFault}
+use Rattle.ldap_framer.specs.Framed.{Framed}
+use Rattle.ldap_session.specs.declared.due.Due.{Due}
+use Rattle.ldap_session.specs.declared.due.Due.TheVariants.{Nothing, Update, Other}
+use Rattle.ldap_session.specs.declared.end.SessionEnd.{SessionEnd}
 
--- a search and a compare are answered at once, from what is there
-abbrev pub reads : RequestValue → Bool
-reads (bind b) = false
-reads unbind = false
-reads (search q) = true
-reads (modify m) = false
-reads (add a) = false
-reads (delete name) = false
-reads (modify_dn m) = false
-reads (compare c) = true
-reads (abandon id) = false
-reads (extended_request x) = false
+-- the requests that may be updates: add, modify, delete and modifyDN, and the extended one, of which some are
+abbrev pub may_update : RequestValue → Bool
+may_update (bind b) = false
+may_update unbind = false
+may_update (search q) = false
+may_update (modify m) = true
+may_update (add a) = true
+may_update (delete name) = true
+may_update (modify_dn m) = true
+may_update (compare c) = false
+may_update (abandon id) = false
+may_update (extended_request x) = true
 
-abbrev pub is_read : OperationValue → Bool
-is_read (request r) = reads r
-is_read (response r) = false
+abbrev pub is_update : OperationValue → Bool
+is_update (request r) = may_update r
+is_update (response r) = false
 
-abbrev pub unless_read : Bool → Bool
-unless_read true = false
-unless_read false = true
+-- behind the last whole message: nothing, or what is no message
+abbrev pub due_at_last : Option MsgFault → Due
+due_at_last None = Nothing
+due_at_last (Some fault) = Other
 
--- whether the message that comes next may have to wait for others
-abbrev pub next_may_wait : List MessageValue → Bool
-next_may_wait [] = false
-next_may_wait (m ∷ ms) = unless_read (is_read m.op)
+-- what stands next in a stream
+abbrev pub due_of : List MessageValue → Option MsgFault → Due
+due_of [] fault = due_at_last fault
+due_of (m ∷ ms) fault = cond (is_update m.op) Update Other
+
+-- what stands next in a conversation that is over, or is not
+abbrev pub due : Option SessionEnd → Framed → Due
+due (Some end) f = Nothing
+due None f = due_of f.ready f.fault

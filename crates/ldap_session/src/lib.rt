@@ -2,14 +2,21 @@
 //! is decided below; sockets, lines and files are above.
 #![tactic(auto)]
 
+mod conversation;
+mod due;
 mod end;
 mod laws;
 mod serving;
 mod session;
 mod writing;
 
+pub use conversation::Conversation;
+pub use due::{Due, Step};
 pub use end::SessionEnd;
-pub use laws::one_update_a_message;
+pub use laws::{
+    conversation_begins, conversation_listens, conversation_speaks, is_session, is_with_one,
+    one_update_a_message,
+};
 pub use serving::serve;
 pub use session::Session;
 pub use session_rules::{

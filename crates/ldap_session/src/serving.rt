@@ -1,16 +1,18 @@
 //! Sessions served. A reader, a writer and a directory flow in; octets flow through, and how it ended flows out. What a message asks for is
 //! not here.
-ghost use Rattle.std.specs.Prelude.{◌<◌, map, length};
+ghost use Rattle.std.specs.Prelude.{◌≡◌, ◌<◌, [], length};
+ghost use Rattle.std.specs.Bool.{OnTrue};
 ghost use Rattle.session_rules.specs.View.{config_view};
-ghost use Rattle.ldap_session.specs.Octets.{joined};
-ghost use Rattle.ldap_session.specs.View.{session_view};
+ghost use Rattle.ldap_session.specs.Octets.{HasWritten};
+ghost use Rattle.ldap_session.specs.View.{conversation_view};
 ghost use Rattle.ldap_session.specs.Serving.{Served};
-ghost use Rattle.ldap_session.specs.Steps.{HasPut, HasGot, HasWorked, HasFlushed, HasFed};
+ghost use Rattle.ldap_session.specs.Steps.{HasPutLast, HasGot, HasWorked, HasFlushed, HasFed, IsAllSent, OnGoing};
 
+use crate::conversation::Conversation;
+use crate::due::{Due, Step};
 use crate::end::SessionEnd;
-use crate::session::Session;
 use crate::writing::hand_over;
-use session_rules::{AnswerError, Answered, Config, Directory, Next};
+use session_rules::{Config, Directory};
 use std::alloc::Global;
 use std::io::{ErrorKind, Read, Write};
 
@@ -51,44 +53,60 @@ fn read_some<R: Read>(reader: &mut R, buffer: &mut [u8]) -> Got
     }
 }
 
-/// Writes what a message is answered with; where what comes next may have to wait, the client gets it before.
-fn put_answered<W: Write>(writer: &mut W, answered: &Answered, is_urgent: bool) -> Flow
-    ensures { HasPut (W.contents writer.old) (W.contents writer.new) (joined (map (λ v. v.items) answered.now.responses.items)) answered.now.next result }
+/// Writes what is unsent; where an update comes next, which may have to wait, the client gets it before. Whether the writer took it all.
+fn put_unsent<W: Write>(writer: &mut W, conversation: &mut Conversation) -> bool
+    ensures written { HasWritten (W.contents writer.old) (W.contents writer.new) (conversation_view conversation.old).unsent result }
+    ensures sent { OnTrue result (conversation_view conversation.new ≡ record (conversation_view conversation.old) { unsent = [] }) }
+    ensures session { (conversation_view conversation.new).session ≡ (conversation_view conversation.old).session }
 {
-    if !hand_over(writer, &answered.responses, is_urgent) {
-        return Flow::Ends(SessionEnd::WriteFailed);
+    let is_urgent = conversation.due() == Due::Update;
+    let octets = conversation.unsent();
+    let count = octets.len();
+    if !hand_over(writer, octets, is_urgent) {
+        return false;
     }
-    match answered.next {
-        Next::GoesOn => Flow::Goes,
-        Next::Unbound => Flow::Ends(SessionEnd::Unbound),
-        Next::Disconnected => Flow::Ends(SessionEnd::Disconnected),
+    conversation.sent(count);
+    true
+}
+
+/// Writes what is unsent of a conversation that has ended so; how the session ends.
+fn put_last<W: Write>(
+    writer: &mut W,
+    conversation: &mut Conversation,
+    end: SessionEnd,
+) -> SessionEnd
+    ensures put { HasPutLast (W.contents writer.old) (W.contents writer.new) (conversation_view conversation.old).unsent end result }
+    ensures session { (conversation_view conversation.new).session ≡ (conversation_view conversation.old).session }
+{
+    if put_unsent(writer, conversation) {
+        end
+    } else {
+        SessionEnd::WriteFailed
     }
 }
 
 /// Answers all whole messages that are there.
 fn answer_ready<W: Write, D: Directory>(
     alloc: Global,
-    session: &mut Session,
+    conversation: &mut Conversation,
     config: &Config,
     directory: &mut D,
     writer: &mut W,
 ) -> Flow
-    ensures { HasWorked D.allows (config_view config.now) directory.old directory.new (session_view session.old) (session_view session.new)
-        (W.contents writer.old) (W.contents writer.new) result }
+    requires { IsAllSent (conversation_view conversation.old) }
+    ensures worked { HasWorked D.allows (config_view config.now) directory.old directory.new (conversation_view conversation.old).session
+        (conversation_view conversation.new).session (W.contents writer.old) (W.contents writer.new) result }
+    ensures sent { OnGoing result (IsAllSent (conversation_view conversation.new)) }
 {
     loop {
-        match session.answer(alloc, config, directory) {
-            Ok(None) => return Flow::Goes,
-            Ok(Some(answered)) => match put_answered(
-                writer,
-                &answered,
-                session.is_about_to_wait(),
-            ) {
-                Flow::Goes => {}
-                Flow::Ends(end) => return Flow::Ends(end),
-            },
-            Err(AnswerError::TooLong) => return Flow::Ends(SessionEnd::WriteFailed),
-            Err(AnswerError::NoMemory) => return Flow::Ends(SessionEnd::NoMemory),
+        match conversation.answer(alloc, config, directory) {
+            Step::Awaits => return Flow::Goes,
+            Step::Answered => {
+                if !put_unsent(writer, conversation) {
+                    return Flow::Ends(SessionEnd::WriteFailed);
+                }
+            }
+            Step::Ends(end) => return Flow::Ends(put_last(writer, conversation, end)),
         }
     }
 }
@@ -106,18 +124,20 @@ fn flushed<W: Write>(writer: &mut W, flow: Flow) -> Flow
 /// Answers the messages that a piece of the stream completes.
 fn answer_piece<W: Write, D: Directory>(
     alloc: Global,
-    session: &mut Session,
+    conversation: &mut Conversation,
     piece: &[u8],
     config: &Config,
     directory: &mut D,
     writer: &mut W,
 ) -> Flow
-    ensures { HasFed D.allows (config_view config.now) directory.old directory.new (session_view session.old) (session_view session.new) piece.now
-        (W.contents writer.old) (W.contents writer.new) result }
+    requires { IsAllSent (conversation_view conversation.old) }
+    ensures fed { HasFed D.allows (config_view config.now) directory.old directory.new (conversation_view conversation.old).session
+        (conversation_view conversation.new).session piece.now (W.contents writer.old) (W.contents writer.new) result }
+    ensures sent { OnGoing result (IsAllSent (conversation_view conversation.new)) }
 {
-    match session.feed(piece) {
+    match conversation.hear(piece) {
         Ok(()) => {
-            let flow = answer_ready(alloc, session, config, directory, writer);
+            let flow = answer_ready(alloc, conversation, config, directory, writer);
             flushed(writer, flow)
         }
         Err(_) => Flow::Ends(SessionEnd::NoMemory),
@@ -136,15 +156,15 @@ pub fn serve<R: Read, W: Write, D: Directory>(
     ensures { Served D.allows (config_view config.now) directory.old directory.new (R.remaining reader.old) (R.remaining reader.new)
         (W.contents writer.old) (W.contents writer.new) result }
 {
-    let mut session = Session::new(alloc);
+    let mut conversation = Conversation::new(alloc);
     let mut buffer = [0; PIECE];
     for _ in 0..u64::MAX {
         match read_some(reader, &mut buffer) {
-            Got::End => return session.end_of_input(),
+            Got::End => return conversation.end_of_input(),
             Got::Failed => return SessionEnd::ReadFailed,
             Got::Octets(count) => {
                 let piece = &buffer[..count];
-                match answer_piece(alloc, &mut session, piece, config, directory, writer) {
+                match answer_piece(alloc, &mut conversation, piece, config, directory, writer) {
                     Flow::Goes => {}
                     Flow::Ends(end) => return end,
                 }

@@ -7,22 +7,34 @@ ghost use Rattle.session_rules.specs.Session.{at_first};
 ghost use Rattle.session_rules.specs.View.{config_view};
 ghost use Rattle.ldap_session.specs.View.{session_view};
 ghost use Rattle.ldap_session.specs.Progress.{Answers, IsNoMessage, IsAtLast};
-ghost use Rattle.ldap_session.specs.Waiting.{is_read, next_may_wait};
+ghost use Rattle.ldap_session.specs.Waiting.{is_update, due_at_last, due_of};
 ghost use Rattle.session_rules.specs.ldap_msg.View.{view};
 
+use crate::due::Due;
 use crate::end::SessionEnd;
 use ldap_framer::{FrameFault, Framer, Message, ProtocolOp, Request};
 use session_rules::{AnswerError, Answered, Config, Directory, State, disconnect, take};
 use std::alloc::{AllocError, Global};
 
-/// Whether a message asks to read.
-fn is_read(message: &Message) -> bool
-    ensures { result ≡ is_read (view message.now).op }
+/// Whether a message may be an update.
+fn is_update(message: &Message) -> bool
+    ensures { result ≡ is_update (view message.now).op }
 {
-    matches!(
-        message.op,
-        ProtocolOp::Request(Request::Search(_) | Request::Compare(_))
-    )
+    match &message.op {
+        ProtocolOp::Request(request) => match request {
+            Request::Add(_)
+            | Request::Modify(_)
+            | Request::Delete(_)
+            | Request::ModifyDn(_)
+            | Request::Extended(_) => true,
+            Request::Bind(_)
+            | Request::Unbind
+            | Request::Search(_)
+            | Request::Compare(_)
+            | Request::Abandon(_) => false,
+        },
+        ProtocolOp::Response(_) => false,
+    }
 }
 
 /// A session: its stream as far as it is not answered, and who it is bound as. At its beginning it is anonymous.
@@ -87,14 +99,38 @@ impl Session {
         }
     }
 
-    /// Whether the message that comes next may have to wait for others: a search and a compare are answered at once from what is there.
-    pub fn is_about_to_wait(&self) -> bool
-        ensures { result ≡ next_may_wait (session_view self.now).framed.ready }
+    /// What stands next: only an update may have to wait for others.
+    pub fn due(&self) -> Due
+        ensures { result ≡ due_of (session_view self.now).framed.ready (session_view self.now).framed.fault }
     {
         match self.framer.peek() {
-            Some(message) => !is_read(message),
-            None => false,
+            Some(message) => {
+                if is_update(message) {
+                    Due::Update
+                } else {
+                    Due::Other
+                }
+            }
+            None => self.due_at_last(),
         }
+    }
+
+    /// What stands behind the last whole message.
+    fn due_at_last(&self) -> Due
+        ensures { result ≡ due_at_last (session_view self.now).framed.fault }
+    {
+        if self.framer.is_stopped() {
+            Due::Other
+        } else {
+            Due::Nothing
+        }
+    }
+
+    /// Gives back the memory that is kept for octets and messages, where none are held.
+    pub fn rest(&mut self)
+        ensures { session_view self.new ≡ session_view self.old }
+    {
+        self.framer.rest();
     }
 
     /// The notice, where what stands next is no message.

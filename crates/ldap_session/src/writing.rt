@@ -1,7 +1,7 @@
 // Octets written. Octets and a writer flow in; whether they were all taken flows out. What must not be here: messages.
-ghost use Rattle.std.specs.Prelude.{◌≡◌, ◌++◌, [], map, List, ℕ, IfSome, IfNone, true, false};
+ghost use Rattle.std.specs.Prelude.{◌≡◌, [], IfSome, IfNone};
 ghost use Rattle.std.specs.Io.KnownBytes.{Appends};
-ghost use Rattle.ldap_session.specs.Octets.{is_empty, joined, HasWritten, WritesSome};
+ghost use Rattle.ldap_session.specs.Octets.{is_empty, HasWritten, WritesSome};
 
 use std::io::{ErrorKind, Write};
 
@@ -47,18 +47,6 @@ pub fn write_octets<W: Write>(writer: &mut W, octets: &[u8]) -> bool
     false
 }
 
-/// Writes responses, one after the other; whether the writer took them all.
-fn write_responses<W: Write>(writer: &mut W, responses: &[Vec<u8>]) -> bool
-    ensures { HasWritten (W.contents writer.old) (W.contents writer.new) (joined (map (λ v. v.items) responses.now)) result }
-{
-    for response in responses {
-        if !write_octets(writer, response) {
-            return false;
-        }
-    }
-    true
-}
-
 /// Sees to it that what is written goes on its way; whether the writer did so.
 fn send_off<W: Write>(writer: &mut W) -> bool
     ensures { Appends (W.contents writer.old) (W.contents writer.new) [] }
@@ -66,12 +54,12 @@ fn send_off<W: Write>(writer: &mut W) -> bool
     writer.flush().is_ok()
 }
 
-/// Writes responses, and where they are urgent sends them off too; whether the writer did all that.
+/// Writes octets, and where they are urgent sends them off too; whether the writer did all that.
 #[tactic(auto, using(crate::proofs::Written::sent_off))]
-pub fn hand_over<W: Write>(writer: &mut W, responses: &[Vec<u8>], is_urgent: bool) -> bool
-    ensures { HasWritten (W.contents writer.old) (W.contents writer.new) (joined (map (λ v. v.items) responses.now)) result }
+pub fn hand_over<W: Write>(writer: &mut W, octets: &[u8], is_urgent: bool) -> bool
+    ensures { HasWritten (W.contents writer.old) (W.contents writer.new) octets.now result }
 {
-    if !write_responses(writer, responses) {
+    if !write_octets(writer, octets) {
         return false;
     }
     if is_urgent {

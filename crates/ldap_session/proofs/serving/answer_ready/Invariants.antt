@@ -1,13 +1,15 @@
 use Rattle.std.proofs.Common.{length}
 use Rattle.session_rules.specs.View.{config_view}
-use Rattle.ldap_session.specs.View.{session_view}
+use Rattle.ldap_session.specs.View.{conversation_view}
+use Rattle.ldap_session.specs.Steps.{IsAllSent}
 use Rattle.ldap_session.proofs.Worked.{SoFar}
 use Rattle.ldap_session.proofs.serving.answer_ready.Given as goal
 
--- the messages so far are answered
-abbrev pub invariant-loop-answered : goal.invariant-loop-answered
-invariant-loop-answered g l =
-    SoFar g.D.Directory.allows (config_view l.fn.config) l.fn.directory l.directory (session_view l.fn.session) (session_view l.session) (g.W.Write.contents l.fn.writer) (g.W.Write.contents l.writer)
+-- the messages so far are answered, and what they are answered with is written
+abbrev pub invariant-loop-writer : goal.invariant-loop-writer
+invariant-loop-writer g l =
+    SoFar g.D.Directory.allows (config_view l.fn.config) l.fn.directory l.directory (conversation_view l.fn.conversation).session (conversation_view l.conversation).session
+    (g.W.Write.contents l.fn.writer) (g.W.Write.contents l.writer) × IsAllSent (conversation_view l.conversation)
 
-abbrev pub decreases-loop-answered : goal.decreases-loop-answered
-decreases-loop-answered g l = length (session_view l.session).framed.ready
+abbrev pub decreases-loop-writer : goal.decreases-loop-writer
+decreases-loop-writer g l = length (conversation_view l.conversation).session.framed.ready

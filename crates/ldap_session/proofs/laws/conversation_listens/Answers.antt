@@ -1,0 +1,5 @@
+use Rattle.ldap_session.proofs.Conversed.{listens}
+use Rattle.ldap_session.proofs.laws.conversation_listens.Goals as goal
+
+pub returns : goal.returns
+returns g c = listens g.D.Directory.allows

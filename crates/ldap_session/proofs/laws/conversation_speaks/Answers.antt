@@ -1,0 +1,5 @@
+use Rattle.ldap_session.proofs.Conversed.{speaks}
+use Rattle.ldap_session.proofs.laws.conversation_speaks.Goals as goal
+
+pub returns : goal.returns
+returns g c = speaks g.D.Directory.allows

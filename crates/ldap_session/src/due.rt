@@ -1,0 +1,24 @@
+//! What stands next in a conversation, and what it came to. Plain enums. How a message is answered is not here.
+use crate::end::SessionEnd;
+
+/// What stands next in a conversation.
+#[derive(Clone, Copy, Debug, PartialEq, Eq)]
+pub enum Due {
+    /// No whole message, or the conversation is over.
+    Nothing,
+    /// A request that may be an update, and may have to wait for other replicas.
+    Update,
+    /// Any other message, or what is no message: it is answered from what is there.
+    Other,
+}
+
+/// What the next message came to.
+#[derive(Clone, Copy, Debug, PartialEq, Eq)]
+pub enum Step {
+    /// No whole message stood next.
+    Awaits,
+    /// It is answered, and the conversation goes on.
+    Answered,
+    /// It was the last, or the conversation was over.
+    Ends(SessionEnd),
+}
