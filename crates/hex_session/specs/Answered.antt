@@ -70,6 +70,21 @@ EndsBy ReadFailed next = ⊥
 EndsBy WriteFailed next = ⊥
 EndsBy NoMemory next = ⊥
 
+-- A session over lines ends with no fault: by the client, by the server, or where its input ends, between two messages or inside one.
+abbrev pub IsProperEnd : SessionEnd → Type 0
+IsProperEnd Unbound = Unit {0}
+IsProperEnd EndOfInput = Unit {0}
+IsProperEnd Truncated = Unit {0}
+IsProperEnd Disconnected = Unit {0}
+IsProperEnd ReadFailed = ⊥
+IsProperEnd WriteFailed = ⊥
+IsProperEnd NoMemory = ⊥
+
+-- the same of a flow that ends
+abbrev pub EndsProperly : Flow → Type 0
+EndsProperly Goes = Unit {0}
+EndsProperly (EndsWith end) = IsProperEnd end
+
 -- nothing has changed
 pub record IsUntouched {D : Type 0} (d e : D) (s t : SessionValue) (output grown : Option (List ℕ)) : Type 0 where
   pub directory : e ≡ d

@@ -5,7 +5,8 @@ ghost use Rattle.ldap_session.specs.session_rules.View.{config_view};
 ghost use Rattle.ldap_session.specs.View.{session_view};
 ghost use Rattle.hex_session.specs.Lines.{hex_lines};
 ghost use Rattle.hex_session.specs.Faults.{IsCutOff};
-ghost use Rattle.hex_session.specs.Answered.{HasPut, HasWorked, HasFailed, HasFlushed, HasNotFlushed, HasFed, HasFailedAt, Takes, FailsAt, Answers, Fails};
+ghost use Rattle.hex_session.specs.Answered.{HasPut, HasWorked, HasFailed, HasFlushed, HasNotFlushed, HasFed, HasFailedAt, Takes, FailsAt, Answers, Fails, IsProperEnd, EndsProperly};
+ghost use Rattle.ldap_session.specs.Progress.{IsAtLast};
 
 use crate::fault::LineFault;
 use crate::line::Line;
@@ -43,6 +44,17 @@ fn flushed<W: Write>(output: &mut W, next: Next) -> Result<Next, LineFault>
     match (next, output.flush()) {
         (Next::GoesOn, Err(_)) => Err(LineFault::CannotWrite),
         _ => Ok(next),
+    }
+}
+
+/// How a session ends where its input does: between two messages, or inside one.
+fn end_of_input(session: &Session) -> SessionEnd
+    ensures at_last { IsAtLast (session_view session.now) result }
+    ensures proper { IsProperEnd result }
+{
+    match session.end_of_input() {
+        SessionEnd::EndOfInput => SessionEnd::EndOfInput,
+        _ => SessionEnd::Truncated,
     }
 }
 
@@ -112,11 +124,12 @@ impl Terms<'_> {
     ) -> Result<Flow, LineFault>
         ensures ok { IfOk result (λ flow. Takes D.allows (config_view self.now.config) directory.old directory.new
             (session_view session.old) (session_view session.new) line (W.contents output.old) (W.contents output.new) flow) }
+        ensures end { IfOk result EndsProperly }
         ensures err { IfErr result (λ fault. FailsAt D.allows (config_view self.now.config) directory.old directory.new
             (session_view session.old) line (W.contents output.old) (W.contents output.new) fault) }
     {
         match line {
-            Line::End => Ok(Flow::Ends(session.end_of_input())),
+            Line::End => Ok(Flow::Ends(end_of_input(session))),
             Line::Blank => Ok(Flow::Goes),
             Line::Piece(piece) => match self.answer_piece(session, &piece, directory, output)? {
                 Next::GoesOn => Ok(Flow::Goes),
@@ -139,6 +152,8 @@ pub fn answer_lines<R: BufRead, W: Write, D: Directory>(
     // The output grows by the responses of a session over the stream that the lines spell.
     ensures ok { IfOk result (λ end. Answers D.allows (config_view config.now) directory.old directory.new (R.remaining input.old) (R.remaining input.new)
         (W.contents output.old) (W.contents output.new) end) }
+    // Whatever the input and the output are, a session that ends so was not cut short by a read or a write that failed, nor by want of memory.
+    ensures end { IfOk result IsProperEnd }
     // Before a line that can't be read all is answered and written; a front of that, where it can't be written or memory is wanting.
     ensures err { IfErr result (λ fault. Fails D.allows (config_view config.now) directory.old directory.new (R.remaining input.old)
         (W.contents output.old) (W.contents output.new) fault) }

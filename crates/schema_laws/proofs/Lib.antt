@@ -14,3 +14,5 @@ pub mod InEffect
 pub mod Lineages
 pub mod FirstLoops
 pub mod FirstFaults
+pub mod PairValues
+pub mod ReadEntries

@@ -30,7 +30,7 @@ use Rattle.schema_laws.proofs.PrintedAgain.{each_reverse}
 
 -- ---- a key among keys
 
-abbrev Holds : TypeAndKey → List TypeAndKey → Type 0
+abbrev pub Holds : TypeAndKey → List TypeAndKey → Type 0
 Holds k [] = ⊥
 Holds k (x ∷ xs) = (x ≡ k) ⊎ Holds k xs
 
@@ -63,7 +63,7 @@ one_more_by k x xs ys (inr h) = in_back k xs (x ∷ ys) (inr h)
 still_there : (k x : TypeAndKey) (n : ℕ) (ks : List TypeAndKey) → Holds k ks → Holds k (insert ks n x)
 still_there k x n ks h = one_more_by k x (take n ks) (drop n ks) (halves k n ks h)
 
-now_there : (x : TypeAndKey) (n : ℕ) (ks : List TypeAndKey) → Holds x (insert ks n x)
+pub now_there : (x : TypeAndKey) (n : ℕ) (ks : List TypeAndKey) → Holds x (insert ks n x)
 now_there x n ks = in_back x (take n ks) (x ∷ drop n ks) (inl refl)
 
 was_there_by : (k x : TypeAndKey) (xs ys : List TypeAndKey) → Holds k xs ⊎ Holds k (x ∷ ys) → (x ≡ k) ⊎ Holds k (xs ++ ys)
@@ -86,7 +86,7 @@ held_passes p k [] a h = absurd h
 held_passes p k (x ∷ xs) a (inl e) = ap p (sym e) ∙ left_true (p x) (list_all p xs) a
 held_passes p k (x ∷ xs) a (inr h) = held_passes p k xs (right_true (p x) (list_all p xs) a) h
 
-above_first : (x k : TypeAndKey) (xs : List TypeAndKey) → is_rising (x ∷ xs) ≡ true → Holds k xs → x.kind < k.kind
+pub above_first : (x k : TypeAndKey) (xs : List TypeAndKey) → is_rising (x ∷ xs) ≡ true → Holds k xs → x.kind < k.kind
 above_first x k xs r h =
     ltb-true x.kind k.kind (held_passes (λ z. nat_lt x.kind z.kind) k xs (left_true (list_all (λ z. nat_lt x.kind z.kind) xs) (is_rising xs) r) h)
 
@@ -116,14 +116,14 @@ same_lists (x ∷ xs) (y ∷ ys) r q f g =
 
 -- ---- the key of a type and a value
 
-record IsKeyed (s : SchemaModel) (v : TypeAndValue) (k : TypeAndKey) : Type 0 where
-  rule : Rule
-  is_rule : equality_of s v.kind ≡ Some rule
-  kind : k.kind ≡ v.kind
-  plainly : rule.family ≡ family.Name → ⊥
-  says : Meaning
-  means : plain.meaning s rule v.value ≡ Some says
-  key : key_at s rule v.value ≡ Some k.key
+pub record IsKeyed (s : SchemaModel) (v : TypeAndValue) (k : TypeAndKey) : Type 0 where
+  pub rule : Rule
+  pub is_rule : equality_of s v.kind ≡ Some rule
+  pub kind : k.kind ≡ v.kind
+  pub plainly : rule.family ≡ family.Name → ⊥
+  pub says : Meaning
+  pub means : plain.meaning s rule v.value ≡ Some says
+  pub key : key_at s rule v.value ≡ Some k.key
 
 no_name : (s : SchemaModel) (r : Rule) (f : Family) (v x : List ℕ) → family_key s r f v ≡ Some x → (f ≡ family.Name → ⊥) × (meant_key s r v ≡ Some x)
 no_name s r family.Name v x h = absurd (none_some h)
@@ -163,16 +163,16 @@ keyed_by s v k (Some r) e h =
       key = plain_key s r v.value plainly.0 ∙ both.2;
     }
 
-key_is : (s : SchemaModel) (v : TypeAndValue) (k : TypeAndKey) → type_and_key_of s v ≡ Some k → IsKeyed s v k
+pub key_is : (s : SchemaModel) (v : TypeAndValue) (k : TypeAndKey) → type_and_key_of s v ≡ Some k → IsKeyed s v k
 key_is s v k h = keyed_by s v k (equality_of s v.kind) refl h
 
 -- ---- keys in their places
 
-record IsPlaced (o : Option TypeAndKey) (ks ls : List TypeAndKey) : Type 0 where
-  k : TypeAndKey
-  is : o ≡ Some k
-  n : ℕ
-  there : insert ks n k ≡ ls
+pub record IsPlaced (o : Option TypeAndKey) (ks ls : List TypeAndKey) : Type 0 where
+  pub k : TypeAndKey
+  pub is : o ≡ Some k
+  pub n : ℕ
+  pub there : insert ks n k ≡ ls
 
 placed_by : (b : Bool) (k : TypeAndKey) (n : ℕ) (ks ls : List TypeAndKey) → cond b None (Some (insert ks n k)) ≡ Some ls → IsPlaced (Some k) ks ls
 placed_by true k n ks ls h = absurd (none_some h)
@@ -183,19 +183,19 @@ place_is None ks ls h = absurd (none_some h)
 place_is (Some k) ks ls h = placed_by (is_of_type k.kind (slice_get ks (count_below k.kind ks))) k (count_below k.kind ks) ks ls h
 
 -- the first type and value has its place, and the others follow
-record Begins (s : SchemaModel) (ks : List TypeAndKey) (v : TypeAndValue) (vs : List TypeAndValue) (js : List TypeAndKey) : Type 0 where
-  ls : List TypeAndKey
-  place : IsPlaced (type_and_key_of s v) ks ls
-  rest : keys_from s ls vs ≡ Some js
+pub record Begins (s : SchemaModel) (ks : List TypeAndKey) (v : TypeAndValue) (vs : List TypeAndValue) (js : List TypeAndKey) : Type 0 where
+  pub ls : List TypeAndKey
+  pub place : IsPlaced (type_and_key_of s v) ks ls
+  pub rest : keys_from s ls vs ≡ Some js
 
 begins_by : (s : SchemaModel) (ks : List TypeAndKey) (v : TypeAndValue) (vs : List TypeAndValue) (js : List TypeAndKey) (o : Option (List TypeAndKey)) → placed_if (type_and_key_of s v) ks ≡ o → next_keys o (λ ls. keys_from s ls vs) ≡ Some js → Begins s ks v vs js
 begins_by s ks v vs js None e h = absurd (none_some h)
 begins_by s ks v vs js (Some ls) e h = record { ls = ls; place = place_is (type_and_key_of s v) ks ls e; rest = h }
 
-begins : (s : SchemaModel) (ks : List TypeAndKey) (v : TypeAndValue) (vs : List TypeAndValue) (js : List TypeAndKey) → keys_from s ks (v ∷ vs) ≡ Some js → Begins s ks v vs js
+pub begins : (s : SchemaModel) (ks : List TypeAndKey) (v : TypeAndValue) (vs : List TypeAndValue) (js : List TypeAndKey) → keys_from s ks (v ∷ vs) ≡ Some js → Begins s ks v vs js
 begins s ks v vs js h = begins_by s ks v vs js (placed_if (type_and_key_of s v) ks) refl h
 
-stays : (s : SchemaModel) (k : TypeAndKey) (ks : List TypeAndKey) (vs : List TypeAndValue) (js : List TypeAndKey) → keys_from s ks vs ≡ Some js → Holds k ks → Holds k js
+pub stays : (s : SchemaModel) (k : TypeAndKey) (ks : List TypeAndKey) (vs : List TypeAndValue) (js : List TypeAndKey) → keys_from s ks vs ≡ Some js → Holds k ks → Holds k js
 stays s k ks [] js e h = subst (Holds k) (some_same e) h
 stays s k ks (v ∷ vs) js e h =
     let b = begins s ks v vs js e in
@@ -265,9 +265,9 @@ from_none s k vs (inr i) = i
 
 -- ---- relative names that were read
 
-record IsRead (s : SchemaModel) (r : RdnModel) : Type 0 where
-  keys : keys_from s [] r.spelling ≡ Some r.keys
-  rising : is_rising r.keys ≡ true
+pub record IsRead (s : SchemaModel) (r : RdnModel) : Type 0 where
+  pub keys : keys_from s [] r.spelling ≡ Some r.keys
+  pub rising : is_rising r.keys ≡ true
 
 made : ℕ → List ℕ → TypeAndKey
 made k v = record { kind = k; key = v }
@@ -346,7 +346,7 @@ each_read : (s : SchemaModel) {parts : List (List Token)} {rs : List RdnModel} �
 each_read s no_rdn = tt
 each_read s (an_rdn p r i q) = (record { keys = i.are_keys; rising = keys_rising s p r (rdn_is s p r i) }, each_read s q)
 
-all_read : (s : SchemaModel) {text : List ℕ} {name : List RdnModel} → IsNameText s text name → AllByRecursion (IsRead s) name
+pub all_read : (s : SchemaModel) {text : List ℕ} {name : List RdnModel} → IsNameText s text name → AllByRecursion (IsRead s) name
 all_read s (is_empty q b) = tt
 all_read s (has_rdns {text} {ts} {parts} {rs} q b p r) = each_reverse (IsRead s) rs (each_read s r)
 

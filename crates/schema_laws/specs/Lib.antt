@@ -3,3 +3,4 @@ pub mod Ruled
 pub mod MeaningNames
 pub mod Chains
 pub mod FirstFaults
+pub mod NamePairs

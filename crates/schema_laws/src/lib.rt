@@ -10,5 +10,8 @@ mod ruling;
 
 pub use chaining::{effects_are_inherited, loops_lead_back, missing_are_above};
 pub use faulting::refused_at_first_faults;
-pub use naming::{names_are_one_by_meaning, printed_is_read, read_names_are_read_again};
+pub use naming::{
+    entries_have_read_names, names_are_one_by_meaning, pairs_are_attributes, printed_is_read,
+    read_names_are_read_again,
+};
 pub use ruling::{built_in_rules_are_of_one_family, read_types_are_of_one_family};

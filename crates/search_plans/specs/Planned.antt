@@ -3,7 +3,7 @@
 use Rattle.std.specs.Prelude.{◌≡◌, ℕ, Bool, true, List}
 use Rattle.ldap_eval.specs.dir_entry.ldap_schema.Schema.{SchemaModel}
 use Rattle.ldap_eval.specs.dir_entry.ldap_dn.Names.{RdnModel}
-use Rattle.ldap_eval.specs.ldap_filter.Tree.{Tree}
+use Rattle.ldap_eval.specs.ldap_filter.Tree.{Tree, conj, disj, negation, item, Trees, no_trees, tree}
 use Rattle.ldap_eval.specs.dir_entry.Entry.{KeyedAttribute, attributes_of, IsKeyedBy}
 use Rattle.ldap_eval.specs.Value.{filter_value}
 use Rattle.dir_index.specs.index_choice.declared.kinds.Kinds.{Kinds}
@@ -28,11 +28,24 @@ OfEach s ix p says = (es : List Indexed) (scope : List ℕ) (n : ℕ) (name : Li
 abbrev pub IsTrueSet : SchemaModel → List Kinds → Tree → Plan → Type 0
 IsTrueSet s ix t p = OfEach s ix p (λ is_there name e. is_there ≡ is_match s t name e)
 
+-- each of the filters that the schema and the index choice decide is True
+abbrev pub DecidedMatch : SchemaModel → List Kinds → Trees → List RdnModel → List KeyedAttribute → Type 0
+DecidedMatch s ix no_trees name e = Unit {0}
+DecidedMatch s ix (tree t ts) name e = (is_decided s ix t ≡ true → is_match s t name e ≡ true) × DecidedMatch s ix ts name e
+
+-- of an `and`, each part that they decide is True; of another filter this says nothing
+abbrev pub DecidedPartsMatch : SchemaModel → List Kinds → Tree → List RdnModel → List KeyedAttribute → Type 0
+DecidedPartsMatch s ix (conj ts) name e = DecidedMatch s ix ts name e
+DecidedPartsMatch s ix (disj ts) name e = Unit {0}
+DecidedPartsMatch s ix (negation t) name e = Unit {0}
+DecidedPartsMatch s ix (item i) name e = Unit {0}
+
 -- Two plans are planned for a filter under a schema and an index choice: what must is True, and what is True may; where the schema and the index
--- choice decide the filter, both are its true set; and what may has values that hold each run of three octets that the filter's substrings items
--- ask for.
+-- choice decide the filter, both are its true set; on what may be True of an `and`, each part that they decide is True; and what may has values
+-- that hold each run of three octets that the filter's substrings items ask for.
 pub record ArePlansFor (s : SchemaModel) (ix : List Kinds) (t : Tree) (must may : Plan) : Type 0 where
   pub sound : OfEach s ix must (λ is_there name e. is_there ≡ true → is_match s t name e ≡ true)
   pub complete : OfEach s ix may (λ is_there name e. is_match s t name e ≡ true → is_there ≡ true)
   pub decided : is_decided s ix t ≡ true → IsTrueSet s ix t must × IsTrueSet s ix t may
+  pub parts : OfEach s ix may (λ is_there name e. is_there ≡ true → DecidedPartsMatch s ix t name e)
   pub runs : OfEach s ix may (λ is_there name e. is_there ≡ true → has_runs s ix (attributes_of e) t ≡ true)

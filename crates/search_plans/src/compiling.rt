@@ -139,8 +139,9 @@ pub fn compile(alloc: Global, filter: &BoundFilter, indexes: &Indexes) -> Result
     ensures runs { IfOk result (λ s. (e : List KeyedAttribute) → holds indexes.now e s.may ≡ true
         → has_runs_for indexes.now e filter.now ≡ true) }
     // By the filter that it is made of, and its value on entries: must lies in the true set, and the true set
-    // in may; where the schema and the index choice decide the filter, both are its true set; and what may be
-    // has values that hold each run that its substrings items ask for.
+    // in may; where the schema and the index choice decide the filter, both are its true set; on what may be of an
+    // `and`, each part that they decide is true; and what may be has values that hold each run that its substrings
+    // items ask for.
     ensures filters { IfOk result (λ s. (m : SchemaModel) (t : Tree) → IsBoundTo m t filter.now → IsMadeOf m t filter.now
         → ArePlansFor m indexes.now t s.must s.may) }
 {

@@ -98,6 +98,11 @@ impl<D: Device> ViewStore<D> {
             → LeavesOnly D.moment D.left_since self.old.device self.new.device
             (IsFormerOrNew self.old.cluster (found self.old.cluster (D.seen self.old.device)) pair) }
 
+        // So does a stop without a crash: after E21 the device gives the former pair or the new one, as `format` and stores
+        // leave it, to the store that is made over it anew.
+        ensures stopped { IsErrOf result ViewStoreError.DeviceFailed → IsWellPlaced (D.seen self.old.device)
+            → IsFormerOrNew self.old.cluster (found self.old.cluster (D.seen self.old.device)) pair (D.seen self.new.device) }
+
         // E21 only where the device failed, and then the store has failed; before that it was ready.
         ensures device_failed { IsErrOf result ViewStoreError.DeviceFailed → HasRisen (D.failure_count self.old.device) (D.failure_count self.new.device)
             × (self.old.status ≡ status.Ready) × (self.new.status ≡ status.Failed) }

@@ -50,7 +50,12 @@ returns-in-And-clause-filters c =
     let found = rw c.deref.ensures.value at c.every.ensures in
     if_ok_weaker _ _
     (λ s h m t stands made. planned c.sets_are_of_entries.ensures c.tests_are_items.ensures m c.args.indexes.now t c.args.filter.now s.must s.may
-    (side_of_and_true c.args.indexes.now _ c.args.filter.now c.in-And.filters s.must s.may c.in-And.is refl h) stands made)
+    (side_of_and_true c.args.indexes.now _ c.args.filter.now c.in-And.filters s.must s.may c.in-And.is refl h)
+    (λ v is n e k.
+    let both : bound.And c.in-And.filters ≡ bound.And v = sym c.in-And.is ∙ is in
+    let same : c.in-And.filters ≡ v = and_parts_same c.in-And.filters v both in
+    subst (λ (w : Vec BoundFilter Global). DecidedAreTrue c.args.indexes.now n e w.items) same (parts_of_every c.args.indexes.now c.in-And.filters.items s.must s.may h n e k))
+    stands made)
     c.every.result found
 
 pub returns-in_default : goal.returns-in_default
@@ -64,5 +69,5 @@ returns-in_default c = record {
   entries = if_ok_weaker _ _ (λ s h. h.bounds) c.side.result c.side.ensures;
   parts = if_ok_weaker _ _ (λ s h v is n e k. absurd (c.in_default.not-And v is)) c.side.result c.side.ensures;
   runs = if_ok_weaker _ _ (λ s h. h.runs refl) c.side.result c.side.ensures;
-  filters = if_ok_weaker _ _ (λ s h m t stands made. planned c.sets_are_of_entries.ensures c.tests_are_items.ensures m c.args.indexes.now t c.args.filter.now s.must s.may h stands made) c.side.result c.side.ensures;
+  filters = if_ok_weaker _ _ (λ s h m t stands made. planned c.sets_are_of_entries.ensures c.tests_are_items.ensures m c.args.indexes.now t c.args.filter.now s.must s.may h (λ v is n e k. absurd (c.in_default.not-And v is)) stands made) c.side.result c.side.ensures;
 }

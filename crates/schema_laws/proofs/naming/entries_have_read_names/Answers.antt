@@ -1,0 +1,5 @@
+use Rattle.schema_laws.proofs.ReadEntries.{entries_have_read_names}
+use Rattle.schema_laws.proofs.naming.entries_have_read_names.Goals as goal
+
+pub returns : goal.returns
+returns c = entries_have_read_names
