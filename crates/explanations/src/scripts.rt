@@ -21,6 +21,10 @@ const FORMS: &[(&[u8], &str)] = &[
     (b"beat", "'beat R', with a replica"),
     (b"crash", "'crash R', with a replica"),
     (b"recover", "'recover R X', with a replica and a nonce"),
+    (
+        b"resume",
+        "'resume R' or 'resume R K', with a replica and how much it has committed at most",
+    ),
     (b"state", "'state R', with a replica"),
 ];
 

@@ -1,5 +1,5 @@
 -- Octets that are put one behind the other. In: what stands after each. Out: what stands there in all.
-use Rattle.std.proofs.Common.{◌≡◌, ℕ, List, [], ◌∷◌, ◌++◌, refl, ap, ap₂, ◌∙◌, append_assoc}
+use Rattle.std.proofs.Common.{◌≡◌, ℕ, List, [], ◌∷◌, ◌++◌, ap, ap₂, ◌∙◌, append_assoc}
 use Rattle.log_journal.specs.Fields.{numeral, sum_of}
 
 -- five, behind what stood there

@@ -1,2 +1,10 @@
-pub mod Reading
+pub mod Along
+pub mod Batching
 pub mod Joining
+pub mod OfTaken
+pub mod OneTold
+pub mod Plain
+pub mod Putting
+pub mod Reading
+pub mod Texts
+pub mod ToldOn

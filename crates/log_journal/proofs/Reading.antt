@@ -1,11 +1,11 @@
 -- The string of fields is read as these fields. In: fields in range. Out: that law. Nothing of what a note means is here.
-use Rattle.std.proofs.Common.{◌≡◌, ◌<◌, ◌≤◌, ◌+◌, ◌-◌, ◌^◌, ℕ, nat_le, Bool, true, cond, ◌&&◌, List, [], ◌∷◌, ◌++◌, length, take, drop, Option, Some, None, refl, sym, ap, ap₂, ◌∙◌, arith, le-leb, length-append, slice_index}
+use Rattle.std.proofs.Common.{◌≡◌, ◌+◌, ◌-◌, ℕ, Bool, true, cond, ◌&&◌, List, length, drop, Some, None, refl, ap, ap₂, ◌∙◌, arith, le-leb, length-append}
 use Rattle.std.specs.Int.{w64, to_be_bytes, from_be_bytes}
 use Rattle.std.specs.Str.{bytes_eq}
 use Rattle.std.proofs.lemmas.List.{take_at, drop_at}
 use Rattle.std.proofs.lemmas.Slice.Eq.{bytes_eq-Decides}
 use Rattle.std.proofs.lemmas.Nat.{from_be_bytes-to_be_bytes_8}
-use Rattle.log_journal.specs.Fields.{Fields, numeral, number_octets, body_of, sum_of, string_of, number_at, fields_of, front_of, is_summed, fields_at, AreInRange, FieldsAreRead}
+use Rattle.log_journal.specs.Fields.{Fields, numeral, body_of, sum_of, string_of, fields_of, front_of, is_summed, fields_at, AreInRange, FieldsAreRead}
 
 module _ (f : Fields) (range : AreInRange f) where
   abbrev sum : List ℕ

@@ -1,5 +1,5 @@
 -- The octets of one note of a log's journal: its kind, five numbers, what follows them, and a sum of all that, which tells damage.
-use Rattle.std.specs.Prelude.{◌≡◌, ◌<◌, ◌^◌, ℕ, ◌-◌, nat_le, List, [], ◌∷◌, ◌++◌, length, take, drop, ◌&&◌, Bool, cond, Option, Some, None, slice_index}
+use Rattle.std.specs.Prelude.{◌≡◌, ◌<◌, ◌^◌, ℕ, ◌-◌, nat_le, List, ◌∷◌, ◌++◌, length, take, drop, ◌&&◌, Bool, cond, Option, Some, None, slice_index}
 use Rattle.std.specs.Str.{bytes_eq}
 use Rattle.std.specs.Int.{w64, to_be_bytes, from_be_bytes}
 use Rattle.sha2.specs.Sha256.{sha256}

@@ -1,2 +1,12 @@
+pub mod Batches
 pub mod Fields
+pub mod Framed
+pub mod Kept
+pub mod Notes
+pub mod Steps
+pub mod Taken
+pub mod Told
 pub mod Views
+-- what layers above name of the crates below
+pub use Rattle.journal.specs as journal
+pub use Rattle.vr_state.specs as vr_state

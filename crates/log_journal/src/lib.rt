@@ -2,8 +2,28 @@
 //! with a sum that tells damage; which notes a step makes, and what they keep of a replica, is defined in `vr_state`.
 #![tactic(auto)]
 
+mod alike;
+mod batch;
+mod error;
 mod fields;
+mod keeping;
 mod laws;
+mod notes;
+mod spelling;
+mod steps;
+mod taking;
+mod telling;
+mod told;
 
+pub use alike::count_alike;
+pub use batch::Batch;
+pub use error::NoteError;
 pub use fields::{Fields, read_fields, write_fields};
-pub use laws::fields_are_read;
+pub use journal::{Device, DeviceFailure, Found, Journal, JournalError, MemoryDevice, open};
+pub use keeping::keep_events;
+pub use laws::{batches_are_told, fields_are_read, one_is_told, taken_is_told, told_goes_on};
+pub use notes::{put_begin, put_commit, put_start};
+pub use steps::{Before, put_step};
+pub use taking::take_events;
+pub use telling::tell;
+pub use told::Told;

@@ -1,0 +1,23 @@
+-- One string more in a batch. In: octets that are the frames of their strings. Out: the same with a frame more, and what they are read as.
+use Rattle.std.proofs.Common.{◌≡◌, ◌<◌, ◌+◌, ◌^◌, ℕ, List, [], ◌∷◌, ◌++◌, length, sym, ap, ◌∙◌, subst, arith, append_assoc}
+use Rattle.std.proofs.lemmas.List.{append-nil}
+use Rattle.journal.specs.Frames.{frame, frames, recorded, FramesAreRead}
+use Rattle.log_journal.specs.Framed.{IsFramed}
+
+frames_more : (bs : List (List ℕ)) (s : List ℕ) → frames (bs ++ s ∷ []) ≡ frames bs ++ frame s
+frames_more [] s = append-nil (frame s)
+frames_more (b ∷ bs) s = ap (λ (l : List ℕ). frame b ++ l) (frames_more bs s) ∙ sym (append_assoc (frame b) (frames bs) (frame s))
+
+pub frame_length : (s : List ℕ) → length (frame s) ≡ length s + 10
+frame_length s = omega arith
+
+module _ (law : FramesAreRead) (old s new : List ℕ) (h : IsFramed old) (is : new ≡ old ++ frame s) (short : length new < 2 ^ 35) where
+  are_frames : new ≡ frames (recorded old ++ s ∷ [])
+  are_frames = is ∙ ap (λ (l : List ℕ). l ++ frame s) h.framed ∙ sym (frames_more (recorded old) s)
+
+  -- they are read as the strings and this one
+  pub read_more : recorded new ≡ recorded old ++ s ∷ []
+  read_more = ap recorded (are_frames ∙ sym (append-nil (frames (recorded old ++ s ∷ [])))) ∙ law (recorded old ++ s ∷ []) 0 (subst (λ (l : List ℕ). length l < 2 ^ 35) are_frames short)
+
+  pub framed_more : IsFramed new
+  framed_more = record { framed = are_frames ∙ ap frames (sym read_more); short = short }

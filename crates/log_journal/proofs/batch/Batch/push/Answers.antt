@@ -1,0 +1,14 @@
+use Rattle.std.proofs.Common.{◌<◌, ◌^◌, ℕ, List, [], ◌∷◌, ◌++◌, length, ap, ◌∙◌, arith, length-append}
+use Rattle.journal.specs.Frames.{frame}
+use Rattle.log_journal.proofs.Batching.{frame_length, read_more, framed_more}
+use Rattle.log_journal.proofs.batch.Batch.push.Goals as goal
+
+pub invariant_of-self-2 : goal.invariant_of-self-2
+invariant_of-self-2 c =
+    let short : length c.put_string.new.out.items < 2 ^ 35 = omega (arith, ap length c.in_ok-put_string.ensures.ok, length-append c.self.inside.octets.items (frame c.args.string.now), frame_length c.args.string.now, c.self.invariant.short) in
+    framed_more c.frames_are_read.ensures c.self.inside.octets.items c.args.string.now c.put_string.new.out.items c.self.invariant c.in_ok-put_string.ensures.ok short
+
+pub returns-clause-ok : goal.returns-clause-ok
+returns-clause-ok c =
+    let short : length c.put_string.new.out.items < 2 ^ 35 = omega (arith, ap length c.in_ok-put_string.ensures.ok, length-append c.self.inside.octets.items (frame c.args.string.now), frame_length c.args.string.now, c.self.invariant.short) in
+    read_more c.frames_are_read.ensures c.self.inside.octets.items c.args.string.now c.put_string.new.out.items c.self.invariant c.in_ok-put_string.ensures.ok short ∙ ap (λ (l : List (List ℕ)). l ++ c.args.string.now ∷ []) c.self.view_is

@@ -1,0 +1,5 @@
+use Rattle.log_journal.proofs.OneTold.{one_told}
+use Rattle.log_journal.proofs.laws.one_is_told.Goals as goal
+
+pub returns : goal.returns
+returns c = one_told c.one_op.ensures

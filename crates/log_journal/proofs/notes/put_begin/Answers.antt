@@ -1,0 +1,6 @@
+use Rattle.log_journal.specs.Notes.{Begin}
+use Rattle.log_journal.proofs.Putting.{one_put}
+use Rattle.log_journal.proofs.notes.put_begin.Goals as goal
+
+pub returns-clause-ok : goal.returns-clause-ok
+returns-clause-ok c = one_put (Begin c.args.cluster c.args.index c.args.count) _ _ _ c.in_ok-put_fields.ensures.ok c.plain.ensures

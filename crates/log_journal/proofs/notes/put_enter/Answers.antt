@@ -1,0 +1,7 @@
+use Rattle.log_journal.specs.Notes.{Step}
+use Rattle.vr_state.specs.Journaled.{Enter}
+use Rattle.log_journal.proofs.Putting.{one_put}
+use Rattle.log_journal.proofs.notes.put_enter.Goals as goal
+
+pub returns-clause-ok : goal.returns-clause-ok
+returns-clause-ok c = one_put (Step (Enter c.args.view_number)) _ _ _ c.in_ok-put_fields.ensures.ok c.plain.ensures

@@ -1,0 +1,12 @@
+use Rattle.std.proofs.Common.{ℕ, refl, sym, ap, ◌∙◌, rules}
+use Rattle.log_journal.specs.Notes.{Step, plain}
+use Rattle.vr_state.specs.Journaled.{Enter}
+use Rattle.log_journal.proofs.Plain.{told_is}
+use Rattle.log_journal.proofs.telling.take_enter.Goals as goal
+
+pub returns : goal.returns
+returns c = record {
+  note = Step (Enter c.args.fields.now.first);
+  is = c.is_number.ensures (search rules) ∙ ap (λ (k : ℕ). plain k c.args.fields.now.first 0 0 0 0) c.requires;
+  told = told_is _ _ refl refl refl refl refl refl refl refl (sym c.new.ensures) refl;
+}

@@ -1,0 +1,8 @@
+use Rattle.std.proofs.Common.{ap, ◌∙◌, arith}
+use Rattle.log_journal.specs.Told.{nothing_told}
+use Rattle.log_journal.proofs.ToldOn.{more_tells}
+use Rattle.log_journal.proofs.telling.tell.Goals as goal
+
+pub loop-string-preserved : goal.loop-string-preserved
+loop-string-preserved c = more_tells (λ v. v.items) c.args.strings.now c.loop-string.string-index c.string-item.result _ nothing_told _ _ (omega arith)
+    (c.as_slice.ensures.value ∙ ap (λ v. v.items) c.string-item.is) c.loop-string.invariant c.in_ok-take_string.ensures

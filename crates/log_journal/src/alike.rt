@@ -1,0 +1,30 @@
+//! How much of two logs is alike.
+ghost use Rattle.std.specs.Prelude.{◌≡◌, ◌≤◌, IsTrue, length, take};
+
+use crate::spelling::is_same;
+use ldap_op::Op;
+use std::alloc::Global;
+use vr_state::words::Entry;
+
+/// Whether two records are found equal.
+fn is_same_entry(alloc: Global, one: &Entry<Op>, other: &Entry<Op>) -> bool
+    ensures { IsTrue result → one.now ≡ other.now }
+{
+    one.client == other.client
+        && one.request_number == other.request_number
+        && is_same(alloc, &one.payload, &other.payload)
+}
+
+/// Up to where two logs are found alike, from the front.
+pub fn count_alike(alloc: Global, old: &[Entry<Op>], new: &[Entry<Op>]) -> usize
+    ensures alike { take result old.now ≡ take result new.now }
+    ensures within { result ≤ length new.now }
+{
+    let most = old.len().min(new.len());
+    for at in 0..most {
+        if !is_same_entry(alloc, &old[at], &new[at]) {
+            return at;
+        }
+    }
+    most
+}
