@@ -17,7 +17,8 @@ from serving import HOST
 
 NUMBER = 9
 PATIENCE = 10
-REFUSALS = r"no stored view|foreign cluster|cannot open the stored view"
+RECOVERS = re.compile(r"\S+Z view \d+: recovering\n")
+REFUSALS = r"(?:no stored view|foreign cluster|cannot open the stored view|E25)\n--store: .+"
 
 
 def stores(is_whole: bool) -> tuple[int, list[str]]:
@@ -42,14 +43,15 @@ def stores(is_whole: bool) -> tuple[int, list[str]]:
 
 
 def start_fault(command: list[str]) -> str:
-    """What is wrong with a start, which is ended as soon as it listens."""
+    """What is wrong with a start, which is ended as soon as it recovers: it has a view, and nobody to recover from."""
     with subprocess.Popen(command, stdin=subprocess.DEVNULL, stdout=subprocess.PIPE, stderr=subprocess.PIPE, text=True) as process:
         try:
-            if not select.select([process.stdout], [], [], PATIENCE)[0]:
-                return f"neither listens nor ends within {PATIENCE} s"
-            if process.stdout.readline().startswith("listening "):
+            if not select.select([process.stderr], [], [], PATIENCE)[0]:
+                return f"neither recovers nor ends within {PATIENCE} s"
+            first = process.stderr.readline()
+            if RECOVERS.fullmatch(first):
                 return ""
-            said = process.stderr.read().removesuffix("\n")
+            said = (first + process.stderr.read()).removesuffix("\n")
             status = process.wait(PATIENCE)
             return "" if status == 1 and re.fullmatch(REFUSALS, said) else f"status {status}, {said[-500:]!r}"
         finally:
@@ -73,12 +75,15 @@ def proper_frames() -> list[bytes]:
 
 
 def frames(is_whole: bool) -> tuple[int, list[str]]:
-    """Gives each damaged frame to a replica on a connection of its own: the replica closes it, and answers clients as before."""
-    proper = proper_frames()
-    damaged = [bytes.fromhex("0ffffffd"), bytes.fromhex("ffffffff")] + fronts(proper) + changes(proper, 16 if is_whole else 2)
+    """Gives each damaged frame to a replica on a connection of its own, behind a greeting, and each damaged greeting: the replica closes it, and answers
+    clients as before."""
     faults = []
     with tempfile.TemporaryDirectory() as folder:
         cluster = Cluster(folder, NUMBER)
+        greeting = cluster.greeting(1)
+        proper = proper_frames()
+        behind = [bytes.fromhex("0ffffffd"), bytes.fromhex("ffffffff")] + fronts(proper) + changes(proper, 16 if is_whole else 2)
+        damaged = [greeting + octets for octets in behind] + fronts([greeting]) + changes([greeting], 16 if is_whole else 2)
         replica = cluster.replicas[0]
         replica.start(True)
         try:

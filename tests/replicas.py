@@ -2,7 +2,9 @@
 from __future__ import annotations
 
 import functools
+import hashlib
 import os
+import re
 import socket
 import subprocess
 import threading
@@ -12,6 +14,8 @@ TOP = os.path.dirname(os.path.dirname(os.path.abspath(__file__)))
 SUFFIX = "dc=example,dc=com"
 MANAGER = "cn=admin,dc=example,dc=com"
 PASSWORD = "secret"
+# The time that begins a line of standard error, in UTC.
+TIME = re.compile(r"^\d{4}-\d\d-\d\dT\d\d:\d\d:\d\d\.\d{3}Z ")
 
 
 @functools.cache
@@ -44,6 +48,8 @@ class Replica:
         self.index = index
         self.process: subprocess.Popen | None = None
         self.lines: list[str] = []
+        # Whether it serves clients.
+        self.listens = threading.Event()
         # Further words for how the process is made.
         self.options: dict = {}
 
@@ -58,21 +64,31 @@ class Replica:
                 "--password", PASSWORD, *self.cluster.words, *(["--fresh"] if fresh else []), *self.cluster.places_for(self.index)]
 
     def start(self, fresh: bool) -> None:
-        """Starts it, and waits until it listens. At its first start in a new cluster a view that an earlier cluster stored in the folder is given up."""
+        """Starts it, and waits until it serves clients or says that it recovers. At its first start in a new cluster a view that an earlier cluster stored in the
+        folder is given up."""
         if fresh and os.path.exists(self.store()):
             os.remove(self.store())
+        self.listens.clear()
+        before = len(self.lines)
         # In a session of its own, so that Ctrl-C ends only who started it.
         self.process = subprocess.Popen(self.command(fresh), stdin=subprocess.DEVNULL, stdout=subprocess.PIPE, stderr=subprocess.PIPE, text=True,
                                         start_new_session=True, **self.options)
         threading.Thread(target=self._keep, args=(self.process.stderr,), daemon=True).start()
-        first = self.process.stdout.readline()
-        if not first.startswith("listening "):
-            time.sleep(0.2)
-            raise RuntimeError(f"replica {self.index} doesn't listen: {first!r} {self.lines}")
+        threading.Thread(target=self._listen, args=(self.process.stdout,), daemon=True).start()
+        while not self.listens.wait(0.005) and not any(line.endswith(": recovering") for line in self.lines[before:]):
+            if self.process.poll() is not None:
+                time.sleep(0.2)
+                raise RuntimeError(f"replica {self.index} doesn't start: {self.lines[before:]}")
+
+    def _listen(self, stream) -> None:
+        """Waits until it serves clients."""
+        if stream.readline().startswith("listening "):
+            self.listens.set()
 
     def _keep(self, stream) -> None:
+        """Keeps what it says on standard error, without the time; what it says of why it ends has none."""
         for line in stream:
-            self.lines.append(line.rstrip("\n"))
+            self.lines.append(TIME.sub("", line.rstrip("\n")))
 
     def kill(self) -> None:
         """Ends it at once, as a crash does."""
@@ -103,6 +119,13 @@ class Cluster:
     def places_for(self, index: int) -> list[str]:
         """The same words, as the replica of this index is told them."""
         return self.places()
+
+    def greeting(self, sender: int) -> bytes:
+        """The first frame on a connection of the replica of this index, where no file of a schema is named."""
+        clients = "".join(f"127.0.0.1:{port}\n" for port in self.ports[1::2])
+        digests = bytes(32) + b"".join(hashlib.sha256(text.encode()).digest() for text in (self.suffix, clients))
+        body = bytes([2]) + self.number.to_bytes(6, "big") + bytes([14, sender]) + digests
+        return len(body).to_bytes(4, "big") + body
 
     def ldap_port(self, index: int) -> int:
         return self.ports[2 * index + 1]

@@ -52,6 +52,7 @@ def primary(cluster: Cluster, seconds: float = 30.0) -> int:
 def names_at(cluster: Cluster, index: int, number: int, seconds: float = 20.0) -> set[str]:
     """The names of all entries at a replica, from a state no older than the update of this number."""
     end = time.time() + seconds
+    cluster.replicas[index].listens.wait(seconds)
     client = ldap.Client(HOST, cluster.ldap_port(index))
     while True:
         code, _, entries, _ = client.ask(ldap.search(SUFFIX, 2, ldap.present("objectClass"), ["1.1"]), [ldap.control(ldap.READ, str(number))])

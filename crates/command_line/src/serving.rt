@@ -58,6 +58,8 @@ pub struct Serving<'a> {
     pub idle: u64,
     /// How long a client may take nothing of what it is sent.
     pub take: u64,
+    /// Where monitors are answered, if they are.
+    pub metrics: Option<SocketAddr>,
     /// Whether this is the first start of its life.
     pub fresh: bool,
     /// All replicas, by index.
@@ -83,6 +85,7 @@ impl<'a> Drop for Serving<'a> {
             stall: _,
             idle: _,
             take: _,
+            metrics: _,
             fresh: _,
             peers: _,
         } = self;
@@ -208,6 +211,12 @@ const WORDS: &[Word] = &[
         help: "How long a backup hears nothing of its primary before it suspects it",
     },
     Word {
+        name: "metrics",
+        value: "ADDR",
+        takes: Takes::Text,
+        help: "Answer monitors over HTTP at this address, as 127.0.0.1:9389: /live, /ready and /metrics",
+    },
+    Word {
         name: "PEER",
         value: "",
         takes: Takes::Many { at_least_one: true },
@@ -288,6 +297,17 @@ fn password_in<'a>(alloc: Global, matches: &ArgMatches<'a>) -> Result<Password<'
     }
 }
 
+/// Where monitors are answered, if they are.
+fn metrics_in(alloc: Global, matches: &ArgMatches<'_>) -> Result<Option<SocketAddr>, Error> {
+    let Some(word) = matches.get_str("metrics") else {
+        return Ok(None);
+    };
+    match word.parse::<SocketAddr>() {
+        Ok(address) => Ok(Some(address)),
+        Err(_) => Err(refused(alloc, "--metrics takes an address, as 127.0.0.1:9389")),
+    }
+}
+
 /// What `serve` is told.
 pub fn serving_in<'a>(alloc: Global, matches: &ArgMatches<'a>) -> Result<Serving<'a>, Error> {
     let peers = peers_in(alloc, matches.get_strs("PEER").unwrap_or(&[]))?;
@@ -297,6 +317,7 @@ pub fn serving_in<'a>(alloc: Global, matches: &ArgMatches<'a>) -> Result<Serving
     }
     let (suffix, manager) = names_in(alloc, matches)?;
     let password = password_in(alloc, matches)?;
+    let metrics = metrics_in(alloc, matches)?;
     Ok(Serving {
         cluster: number_in(matches, "cluster"),
         index,
@@ -313,6 +334,7 @@ pub fn serving_in<'a>(alloc: Global, matches: &ArgMatches<'a>) -> Result<Serving
         stall: number_in(matches, "stall"),
         idle: number_in(matches, "idle"),
         take: number_in(matches, "take"),
+        metrics,
         fresh: matches.get_flag("fresh"),
         peers,
     })

@@ -27,7 +27,7 @@ fn main(rt: HostRuntime) -> io::Result<ExitCode> {
     );
     let status = match ran {
         Ran::Ended(status) => status,
-        Ran::Serves(service) => match serve_as_replica(&rt, alloc, service, &mut output) {
+        Ran::Serves(service) => match serve_as_replica(&rt, alloc, service) {
             Ok(()) => Status::Done,
             Err(fault) => {
                 let _ = writeln!(faults, "{fault}");

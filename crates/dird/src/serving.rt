@@ -1,10 +1,10 @@
 //! What the words of `serve` ask for becomes a running replica: the settings flow on to the server, and why it ended flows back. What a word or
 //! a file means is not here.
 use dird_commands::Service;
-use server::{Cluster, Limits, NodeConfig, Options, Place, ServerError, Times, serve};
+use server::{Cluster, Limits, NodeConfig, Options, Place, ServerError, Terms, Times, serve};
 use std::alloc::{AllocError, Global};
 use std::fs::{File, Files};
-use std::io::{Eprint, Write};
+use std::io::{Eprint, Print};
 use std::net::{Net, TcpListener, TcpStream};
 use std::sync::Wait;
 use std::thread::Threads;
@@ -22,29 +22,52 @@ fn places_of(alloc: Global, service: &Service<'_>) -> Result<Vec<Place>, AllocEr
     Ok(places)
 }
 
+/// The text that is there.
+fn text_in(text: &Option<String>) -> Option<&str> {
+    match text {
+        Some(text) => Some(text.as_str()),
+        None => None,
+    }
+}
+
+/// Where clients find the replicas, a line each.
+fn clients_of(alloc: Global, places: &[Place]) -> Result<String, AllocError> {
+    let mut clients = String::new(alloc);
+    for place in places {
+        let line = format!(in alloc; "{}\n", place.ldap_address)?;
+        clients.push_str(&line)?;
+    }
+    Ok(clients)
+}
+
+/// What all replicas must have alike.
+fn terms_of(alloc: Global, service: &Service<'_>, places: &[Place]) -> Result<Terms, AllocError> {
+    let clients = clients_of(alloc, places)?;
+    let schema = text_in(&service.schema_text);
+    Ok(Terms::of(schema, service.words.suffix, &clients))
+}
+
 /// Serves as a replica, until it is stopped.
-pub fn serve_as_replica<R, W: Write>(
-    rt: &R,
-    alloc: Global,
-    service: Service<'_>,
-    output: &mut W,
-) -> Result<(), ServerError>
+pub fn serve_as_replica<R>(rt: &R, alloc: Global, service: Service<'_>) -> Result<(), ServerError>
 where
     R: Net<Listener = TcpListener, Stream = TcpStream>
         + Files<File = File>
         + Threads
         + Wait
         + Clock
+        + Print
         + Eprint
         + Sync,
 {
     let places = places_of(alloc, &service)?;
+    let terms = terms_of(alloc, &service, &places)?;
     let Service {
         schema,
         indexes,
         suffix,
         manager,
         password,
+        schema_text: _,
         words,
     } = service;
     let Some(cluster) = Cluster::new(words.cluster) else {
@@ -75,6 +98,8 @@ where
             write: Duration::from_millis(words.take),
         },
         places: &places,
+        terms,
+        metrics: words.metrics,
     };
-    serve(rt, alloc, options, output)
+    serve(rt, alloc, options)
 }

@@ -17,7 +17,7 @@ use std::alloc::{AllocError, Global};
 use std::sync::Arc;
 
 /// The text of a named file; none for no name.
-fn text_of<S: ReadFiles>(
+pub fn text_of<S: ReadFiles>(
     files: &S,
     alloc: Global,
     path: Option<&str>,
@@ -56,20 +56,29 @@ fn told_text(text: &Option<String>) -> &str {
     }
 }
 
-/// The schema of a named file, and the built-in one for no name. It is read once, and shared by all who need it.
+/// The schema of the text of a named file, and the built-in one for no name. It is read once, and shared by all who need it.
+pub fn schema_told(
+    alloc: Global,
+    path: Option<&str>,
+    text: &Option<String>,
+) -> Result<Arc<Schema>, Refusal> {
+    match schema_of_text(alloc, text) {
+        Ok(schema) => Ok(Arc::new(alloc, schema)?),
+        Err(fault) => {
+            let text = told_text(text);
+            Err(schema_refusal(alloc, path.unwrap_or(""), text, fault))
+        }
+    }
+}
+
+/// The schema of a named file, and the built-in one for no name.
 pub fn schema_of<S: ReadFiles>(
     files: &S,
     alloc: Global,
     path: Option<&str>,
 ) -> Result<Arc<Schema>, Refusal> {
     let text = text_of(files, alloc, path)?;
-    match schema_of_text(alloc, &text) {
-        Ok(schema) => Ok(Arc::new(alloc, schema)?),
-        Err(fault) => {
-            let text = told_text(&text);
-            Err(schema_refusal(alloc, path.unwrap_or(""), text, fault))
-        }
-    }
+    schema_told(alloc, path, &text)
 }
 
 /// The index choice of a named file, and no index for no name.

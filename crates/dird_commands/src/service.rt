@@ -5,7 +5,7 @@ use crate::explaining::name_refusal;
 use crate::fault::Fault;
 use crate::files::ReadFiles;
 use crate::local::name_of_text;
-use crate::opening::{indexes_of, schema_of};
+use crate::opening::{indexes_of, schema_told, text_of};
 use crate::refusal::Refusal;
 use command_line::{Password, Serving};
 use local_directory::{Indexes, Name, Schema};
@@ -20,6 +20,8 @@ pub struct Service<'a> {
     pub suffix: Name,
     pub manager: Name,
     pub password: String,
+    /// The text of the schema's file, where one is named.
+    pub schema_text: Option<String>,
     pub words: Serving<'a>,
 }
 
@@ -69,7 +71,8 @@ pub fn service_of<'a, S: ReadFiles>(
     alloc: Global,
     words: Serving<'a>,
 ) -> Result<Service<'a>, Refusal> {
-    let schema = schema_of(files, alloc, words.schema)?;
+    let schema_text = text_of(files, alloc, words.schema)?;
+    let schema = schema_told(alloc, words.schema, &schema_text)?;
     let indexes = indexes_of(files, alloc, &schema, words.indexes)?;
     let suffix = name_behind(alloc, &schema, "--suffix", words.suffix)?;
     let manager = name_behind(alloc, &schema, "--manager", words.manager)?;
@@ -80,6 +83,7 @@ pub fn service_of<'a, S: ReadFiles>(
         suffix,
         manager,
         password,
+        schema_text,
         words,
     })
 }

@@ -10,7 +10,7 @@ use Rattle.dir_node.specs.NodeState.{IsOwn, started_pair}
 
 -- the view and the restarts of a start: view 0 and one restart, or the view that was found and one restart more
 abbrev pub pair_of_start : Bool → Finding → Pair
-pair_of_start true finding = record { view = 0; restarts = 1 }
+pair_of_start true finding = record { view = 0; restarts = 1; journaled = false }
 pair_of_start false finding = started_pair finding
 
 -- the replica after its start: normal in view 0, or recovering in the view that was found, with its restarts as its nonce

@@ -21,6 +21,8 @@ pub struct Here;
 pub struct Pulse {
     pub standing: Standing,
     pub view_number: u64,
+    /// The number of the last update that it has made.
+    pub last_update: u64,
     /// Whether the node has stopped for good, its device having failed.
     pub is_halted: bool,
 }
@@ -91,6 +93,7 @@ impl<'a, R: Wait, D: Device> Held<'a, R, D> {
         Pulse {
             standing: self.node.standing(),
             view_number: self.node.view_number(),
+            last_update: self.node.executed_len() as u64,
             is_halted: self.node.is_halted(),
         }
     }

@@ -13,7 +13,7 @@ mod weighted;
 
 pub use bytes::Bytes;
 pub use dialing::{Dial, SocketDialer};
-pub use framing::{Framing, StreamAge};
+pub use framing::Framing;
 pub use outbox::Outbox;
 pub use patience::Patience;
 pub use queue::Queue;

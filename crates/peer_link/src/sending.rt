@@ -1,6 +1,6 @@
 //! What waits is sent by a thread of its own: each item becomes frames here, which are written to a stream. What frames say is not here.
 use crate::dialing::Dial;
-use crate::framing::{Framing, StreamAge};
+use crate::framing::Framing;
 use crate::outbox::Outbox;
 use crate::patience::Patience;
 use std::io::Write;
@@ -23,16 +23,27 @@ fn was_idle<R: Clock>(rt: &R, last: &mut Option<Instant>) -> bool {
     was_idle
 }
 
-/// Makes a stream, as often as it takes; none where it is stopped meanwhile.
-fn dialed<R: Wait + Clock, T, D: Dial>(
+/// Writes the greeting; whether the stream took it.
+fn greet<T, F: Framing<T>, W: Write>(framing: &mut F, stream: &mut W) -> bool {
+    match framing.greeting() {
+        Some(greeting) => stream.write_all(greeting.as_slice()).is_ok(),
+        None => false,
+    }
+}
+
+/// Makes a stream and greets on it, as often as it takes; none where it is stopped meanwhile.
+fn dialed<R: Wait + Clock, T, F: Framing<T>, D: Dial>(
     rt: &R,
     outbox: &Outbox<T>,
+    framing: &mut F,
     dialer: &mut D,
 ) -> Option<D::Stream> {
     let mut patience = Patience::new();
     for _ in rt.forever() {
-        if let Some(stream) = dialer.dial() {
-            return Some(stream);
+        if let Some(mut stream) = dialer.dial() {
+            if greet(framing, &mut stream) {
+                return Some(stream);
+            }
         }
         if outbox.rest(rt, Duration::from_millis(patience.rest())) {
             break;
@@ -41,21 +52,21 @@ fn dialed<R: Wait + Clock, T, D: Dial>(
     None
 }
 
-/// Sees to it that there is a stream, and tells its age; none where it is stopped meanwhile.
-fn connected<R: Wait + Clock, T, D: Dial>(
+/// Sees to it that there is a stream; none where it is stopped meanwhile.
+fn connected<R: Wait + Clock, T, F: Framing<T>, D: Dial>(
     rt: &R,
     outbox: &Outbox<T>,
+    framing: &mut F,
     dialer: &mut D,
     held: Option<D::Stream>,
     was_idle: bool,
-) -> Option<(D::Stream, StreamAge)> {
+) -> Option<D::Stream> {
     if let Some(stream) = held {
         if !was_idle || dialer.is_open(&stream) {
-            return Some((stream, StreamAge::Used));
+            return Some(stream);
         }
     }
-    let stream = dialed(rt, outbox, dialer)?;
-    Some((stream, StreamAge::New))
+    dialed(rt, outbox, framing, dialer)
 }
 
 /// Writes all frames of the item that was begun; whether the stream took them.
@@ -76,25 +87,26 @@ fn write_frames<R: Wait, T, F: Framing<T>, W: Write>(
 }
 
 /// Sends what waits in a queue, item by item in the order of the queue, over a stream that is made again whenever it fails or the other end has
-/// closed it, until the queue is stopped. Frames are made here, once there is a stream for them, and outside the queue's lock. An item whose
-/// stream fails is lost, whole or in part, and so is the stream.
+/// closed it, until the queue is stopped. The first stream is made before there is an item, and a greeting is first on each. Frames are made
+/// here, once there is a stream for them, and outside the queue's lock. An item whose stream fails is lost, whole or in part, and so is the
+/// stream.
 pub fn send_all<R: Wait + Clock, T: Drop, F: Framing<T>, D: Dial>(
     rt: &R,
     outbox: &Outbox<T>,
     framing: &mut F,
     dialer: &mut D,
 ) {
-    let mut stream: Option<D::Stream> = None;
+    let mut stream = dialed(rt, outbox, framing, dialer);
     let mut last: Option<Instant> = None;
     for _ in rt.forever() {
         let Some(item) = outbox.take(rt) else {
             break;
         };
         let was_idle = was_idle(rt, &mut last);
-        let Some((mut open, age)) = connected(rt, outbox, dialer, stream, was_idle) else {
+        let Some(mut open) = connected(rt, outbox, framing, dialer, stream, was_idle) else {
             return;
         };
-        framing.begin(item, age);
+        framing.begin(item);
         stream = if write_frames(rt, framing, &mut open) {
             Some(open)
         } else {

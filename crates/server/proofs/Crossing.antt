@@ -41,5 +41,5 @@ clockwork_sync a b R y =
     recorded_sync (Clockwork.the_field a b R).row _ _ (Clockwork.the_type a b R).to_one
     (struct_sync (Declared.shape (Clockwork.the_type a b R)) (
       shr_sync _ _ R y,
-      (global_sync, (search (running, sendable) depth 10, (search (posts, sendable) depth 10, (search (rooms.the_sync, sendable) depth 10, (search (times.the_field_sync, sendable) depth 10, (search (instant.the_field_sync, sendable) depth 10, tt)))))),
+      (global_sync, (search (running, sendable) depth 10, (search (posts, sendable) depth 10, (search (rooms.the_sync, sendable) depth 10, (search (times.the_field_sync, sendable) depth 10, (search (instant.the_field_sync, sendable) depth 10, (search (crosses, sendable) depth 20, (search (crosses, sendable) depth 20, tt)))))))),
     ))

@@ -13,5 +13,5 @@ mod ticking;
 
 pub use node_gate::{Cluster, NodeConfig};
 pub use options::{Options, Times};
-pub use server_threads::{Limits, Place, ServerError};
+pub use server_threads::{Limits, Place, ServerError, Terms};
 pub use serving::serve;

@@ -22,6 +22,7 @@ fn fault_of_node(error: NodeError) -> ServerError {
         NodeError::NoMemory => ServerError::NoMemory,
         NodeError::Store(ViewStoreError::NoPair) => ServerError::NoStoredView,
         NodeError::Store(ViewStoreError::ForeignCluster) => ServerError::ForeignCluster,
+        NodeError::Store(ViewStoreError::KeepsJournal) => ServerError::KeepsJournal,
         NodeError::Store(_) | NodeError::Halted => ServerError::DeviceFailed,
     }
 }

@@ -1,6 +1,7 @@
 //! What a server is told. Plain data flows in and out. What is done with it is not here.
 use node_gate::{Name, NodeConfig};
-use server_threads::{Limits, Place};
+use server_threads::{Limits, Place, Terms};
+use std::net::SocketAddr;
 use std::time::Duration;
 
 /// When a replica moves by itself.
@@ -32,4 +33,8 @@ pub struct Options<'a> {
     pub limits: Limits,
     /// All replicas, by index.
     pub places: &'a [Place],
+    /// What all replicas must have alike.
+    pub terms: Terms,
+    /// Where monitors are answered, if they are.
+    pub metrics: Option<SocketAddr>,
 }

@@ -7,11 +7,12 @@ use crate::posts::{Posts, PostsAt};
 use crate::ticking::{Clockwork, clock_times, micros};
 use file_device::FileDevice;
 use node_gate::{Cluster, Here, NodeGate, Opened, Running, Seat};
-use server_threads::{Config, Place, Rooms, Server, ServerError, announce, make_rooms};
+use server_threads::{Choices, Config, Place, Rooms, Server, ServerError, make_rooms};
 use std::alloc::{AllocError, Global};
 use std::fs::{File, Files};
-use std::io::{Eprint, Write};
+use std::io::{Eprint, Print};
 use std::net::{Net, TcpListener, TcpStream};
+use std::sync::atomic::AtomicU64;
 use std::sync::{Arc, Wait};
 use std::thread::Threads;
 use std::time::{Clock, Instant};
@@ -60,7 +61,13 @@ fn run_in<'a, 'r, R>(
     terms: Terms<'_>,
 ) -> Result<(), ServerError>
 where
-    R: Net<Listener = TcpListener, Stream = TcpStream> + Threads + Wait + Clock + Eprint + Sync,
+    R: Net<Listener = TcpListener, Stream = TcpStream>
+        + Threads
+        + Wait
+        + Clock
+        + Print
+        + Eprint
+        + Sync,
 {
     let Ok(opened) = Instant::now(rt) else {
         return Err(ServerError::NoClock);
@@ -73,6 +80,8 @@ where
         rooms,
         times: terms.times,
         opened,
+        view_number: AtomicU64::new(0),
+        last_update: AtomicU64::new(0),
     };
     posts.asking.await_for(micros(clock.times.beat));
     let ways = ways(&clock, &rooms.uris, seats)?;
@@ -87,8 +96,8 @@ where
     server.run(ways, terms.waiting.max(1), &terms.config)
 }
 
-/// Sends what an opened node sends first, says where clients are heard, and runs all threads over what they share.
-fn serve_opened<R, W: Write>(
+/// Sends what an opened node sends first, and runs all threads over what they share.
+fn serve_opened<R>(
     rt: &R,
     alloc: Global,
     rooms: &Rooms,
@@ -96,10 +105,15 @@ fn serve_opened<R, W: Write>(
     cluster: Cluster,
     places: &[Place],
     terms: Terms<'_>,
-    output: &mut W,
 ) -> Result<(), ServerError>
 where
-    R: Net<Listener = TcpListener, Stream = TcpStream> + Threads + Wait + Clock + Eprint + Sync,
+    R: Net<Listener = TcpListener, Stream = TcpStream>
+        + Threads
+        + Wait
+        + Clock
+        + Print
+        + Eprint
+        + Sync,
 {
     let Opened {
         running,
@@ -114,17 +128,15 @@ where
         asking: Asking::new(),
     };
     posts.post_all(outputs.sends);
-    announce(output, &rooms.clients)?;
     run_in(rt, alloc, rooms, seats, &running, &posts, places, terms)
 }
 
 /// Opens the node, and serves by it.
-fn serve_in<R, W: Write>(
+fn serve_in<R>(
     rt: &R,
     alloc: Global,
     rooms: &Rooms,
     options: Options<'_>,
-    output: &mut W,
 ) -> Result<(), ServerError>
 where
     R: Net<Listener = TcpListener, Stream = TcpStream>
@@ -132,6 +144,7 @@ where
         + Threads
         + Wait
         + Clock
+        + Print
         + Eprint
         + Sync,
 {
@@ -164,27 +177,29 @@ where
         waiting,
         times,
     };
-    serve_opened(rt, alloc, rooms, opened, cluster, places, terms, output)
+    serve_opened(rt, alloc, rooms, opened, cluster, places, terms)
 }
 
-/// Serves as a replica: listens, opens its node, says so, and serves clients and the other replicas until the node has stopped for good. It
-/// ends only with an error; where the process is ended from outside, its replica has crashed in the protocol's sense.
-pub fn serve<R, W: Write>(
-    rt: &R,
-    alloc: Global,
-    options: Options<'_>,
-    output: &mut W,
-) -> Result<(), ServerError>
+/// Serves as a replica: listens to the others, opens its node, and serves them, and clients once the node has a state, until the node has stopped
+/// for good. Where clients are heard is said on standard output, once they are. It ends only with an error; where the process is ended from
+/// outside, its replica has crashed in the protocol's sense.
+pub fn serve<R>(rt: &R, alloc: Global, options: Options<'_>) -> Result<(), ServerError>
 where
     R: Net<Listener = TcpListener, Stream = TcpStream>
         + Files<File = File>
         + Threads
         + Wait
         + Clock
+        + Print
         + Eprint
         + Sync,
 {
     let index = options.node.index;
-    let rooms = make_rooms(rt, alloc, options.places, index, options.limits)?;
-    serve_in(rt, alloc, &rooms, options, output)
+    let choices = Choices {
+        limits: options.limits,
+        terms: options.terms,
+        metrics: options.metrics,
+    };
+    let rooms = make_rooms(rt, alloc, options.places, index, choices)?;
+    serve_in(rt, alloc, &rooms, options)
 }

@@ -4,10 +4,13 @@ use crate::options::Times;
 use crate::posts::{Posts, PostsAt};
 use crate::telling::tell_pulse;
 use file_device::FileDevice;
-use node_gate::{NodeError, Op, PeerMessage, Pulse, Running, Send, Ticked, copies, send_all};
-use server_threads::{Engine, Rooms, ServerError};
+use node_gate::{
+    NodeError, Op, PeerMessage, Pulse, Running, Send, Standing, Ticked, copies, send_all,
+};
+use server_threads::{Engine, Figures, Role, Rooms, ServerError};
 use std::alloc::Global;
 use std::sync::Wait;
+use std::sync::atomic::{AtomicU64, Ordering};
 use std::time::{Clock, Duration, Instant};
 
 /// How long threads may take to begin, in milliseconds.
@@ -23,6 +26,8 @@ struct Watch {
     /// What the last beat sent, and when that was sent last.
     beat: Vec<Send<Op>>,
     beat_at: u64,
+    /// When all threads that were to have begun had, last.
+    whole_at: u64,
 }
 
 /// A node with its clock.
@@ -36,6 +41,9 @@ pub struct Clockwork<'a, 'r, R: Wait> {
     pub times: Times,
     /// When the node was opened: its clock counts the microseconds from then on.
     pub opened: Instant,
+    /// The node's view, and its last update, when its clock was asked last.
+    pub view_number: AtomicU64,
+    pub last_update: AtomicU64,
 }
 
 impl<'a, 'r, R: Wait + Clock> Clockwork<'a, 'r, R> {
@@ -70,6 +78,8 @@ impl<'a, 'r, R: Wait + Clock> Clockwork<'a, 'r, R> {
     /// Takes note of what came of asking the clock.
     fn take(&self, watch: &mut Watch, ticked: Ticked, now: u64) -> u64 {
         let Ticked { pulse, wait, beat } = ticked;
+        self.view_number.store(pulse.view_number, Ordering::SeqCst);
+        self.last_update.store(pulse.last_update, Ordering::SeqCst);
         if !pulse.is_like(&watch.pulse) {
             tell_pulse(self.rt, self.alloc, &self.rooms.reporter, &pulse);
             watch.beat = Vec::new(self.alloc);
@@ -96,8 +106,22 @@ impl<'a, 'r, R: Wait + Clock> Clockwork<'a, 'r, R> {
     }
 
     /// Whether threads are missing that should have begun long ago.
-    fn is_short_of_threads(&self) -> bool {
-        self.now() >= THREADS_LIMIT * 1_000 && !self.rooms.crew.is_whole()
+    fn is_short_of_threads(&self, watch: &mut Watch) -> bool {
+        let now = self.now();
+        if self.rooms.crew.is_whole() {
+            watch.whole_at = now;
+        }
+        now.saturating_sub(watch.whole_at) >= THREADS_LIMIT * 1_000
+    }
+}
+
+/// What a replica does that stands so.
+fn role_of(standing: Standing) -> Role {
+    match standing {
+        Standing::Primary => Role::Primary,
+        Standing::Backup { primary: _ } => Role::Backup,
+        Standing::Changing => Role::Changing,
+        Standing::Recovering => Role::Recovering,
     }
 }
 
@@ -140,13 +164,14 @@ impl<'a, 'r, R: Wait + Clock> Engine for Clockwork<'a, 'r, R> {
             pulse,
             beat: Vec::new(self.alloc),
             beat_at: 0,
+            whole_at: 0,
         };
         for _ in self.rt.forever() {
             let wait = self.tick(&mut watch);
             if self.running.rest(self.rt, Duration::from_micros(wait)) {
                 break;
             }
-            if self.is_short_of_threads() {
+            if self.is_short_of_threads(&mut watch) {
                 return Err(ServerError::NoThread);
             }
             if watch.pulse.is_halted {
@@ -154,6 +179,15 @@ impl<'a, 'r, R: Wait + Clock> Engine for Clockwork<'a, 'r, R> {
             }
         }
         Ok(())
+    }
+
+    fn figures(&self) -> Figures {
+        Figures {
+            role: role_of(self.running.standing()),
+            view_number: self.view_number.load(Ordering::SeqCst),
+            last_update: self.last_update.load(Ordering::SeqCst),
+            sessions: self.rooms.sessions(),
+        }
     }
 
     fn stop(&self) {

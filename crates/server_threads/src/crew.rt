@@ -12,8 +12,8 @@ const READERS_EACH: u64 = 4;
 /// The most threads that read, where two for each other replica are no more.
 const MOST_READERS: u64 = 64;
 
-/// So many threads take connections, hand them on, look at strangers, and write what is said.
-const OTHER_THREADS: u64 = 6;
+/// So many threads take the connections of replicas, look at strangers, hand them on, wait for what clients may ask, and write what is said.
+const OTHER_THREADS: u64 = 5;
 
 /// How many threads of each of so many replicas read from other ones, each from one connection at a time: four for each other one, but 8 at
 /// least, and 64 at most or two for each other one.
@@ -33,19 +33,28 @@ pub fn readers(count: usize) -> u64
 #[derive(Drop)]
 pub struct Crew {
     begun: AtomicU64,
-    wanted: u64,
+    wanted: AtomicU64,
 }
 
 impl Crew {
-    /// Nobody has begun. Of so many replicas each has a writer for each other one, its readers, and six threads more.
-    pub fn new(count: usize) -> Crew {
+    /// Nobody has begun. Of so many replicas each has a writer for each other one, its readers, and five threads more, or six where
+    /// monitors are answered.
+    pub fn new(count: usize, has_monitors: bool) -> Crew {
         let others = (count as u64).saturating_sub(1);
         Crew {
             begun: AtomicU64::new(0),
-            wanted: others
-                .saturating_add(readers(count))
-                .saturating_add(OTHER_THREADS),
+            wanted: AtomicU64::new(
+                others
+                    .saturating_add(readers(count))
+                    .saturating_add(OTHER_THREADS)
+                    .saturating_add(u64::from(has_monitors)),
+            ),
         }
+    }
+
+    /// Clients are heard from now on: a thread that takes their connections is to begin.
+    pub fn open(&self) {
+        self.wanted.fetch_add(1, Ordering::SeqCst);
     }
 
     /// A thread has begun.
@@ -55,6 +64,6 @@ impl Crew {
 
     /// Whether all have.
     pub fn is_whole(&self) -> bool {
-        self.begun.load(Ordering::SeqCst) >= self.wanted
+        self.begun.load(Ordering::SeqCst) >= self.wanted.load(Ordering::SeqCst)
     }
 }

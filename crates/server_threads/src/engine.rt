@@ -1,5 +1,6 @@
 //! What the threads of a server ask of its node. Messages of other replicas flow in; what the node makes of them is not here, nor what a node is.
 use crate::fault::ServerError;
+use status_page::Figures;
 use vr_wire::{Op, PeerMessage};
 
 /// The node behind a server's threads.
@@ -13,6 +14,9 @@ pub trait Engine {
 
     /// Does what is due, moment by moment, until the node is stopped, or has stopped for good.
     fn run(&self) -> Result<(), ServerError>;
+
+    /// What the replica does. It waits for nobody.
+    fn figures(&self) -> Figures;
 
     /// Stops the node.
     fn stop(&self);

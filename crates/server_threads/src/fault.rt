@@ -1,30 +1,37 @@
-//! Why a server doesn't run, or stopped. Nothing flows in; plain data flows out.
+//! Why a server doesn't run, or stopped: a line that names the cause, and one that says what to mend.
 use std::alloc::{AllocError, AllocFailed};
+use std::net::SocketAddr;
 use thiserror::Error;
 
 /// Why a server doesn't run, or stopped.
 #[derive(Clone, Copy, Debug, PartialEq, Eq, Error)]
 pub enum ServerError {
     /// The file of the stored view can't be opened, or is another process's.
-    #[error("cannot open the stored view")]
+    #[error("cannot open the stored view\n--store: another process has the file open, its folder isn't there, or this user may not write to it")]
     CannotOpen,
     /// An address is another's, or not of this machine.
-    #[error("cannot listen")]
+    #[error("cannot listen\n{0}: another process listens there, it is no address of this machine, or its port is below 1024: check --id and PEER")]
+    CannotListenAt(SocketAddr),
+    /// No PEER has this replica's index.
+    #[error("cannot listen\n--id: no PEER has this place")]
     CannotListen,
     /// The file holds no stored view, or one that can't be counted on.
-    #[error("no stored view")]
+    #[error("no stored view\n--store: the file holds no view that counts: start with --fresh where this is the first start of the replica's life, else mend --store")]
     NoStoredView,
     /// The file of a first start holds a stored view already.
     #[error("stored view found\n--fresh: the file of --store holds what a replica has promised: start without --fresh, or move the file away where that may be forgotten")]
     HoldsView,
     /// The stored view is another cluster's.
-    #[error("foreign cluster")]
+    #[error("foreign cluster\n--store: the file's view is of another cluster: check --cluster and --store")]
     ForeignCluster,
+    /// A journal goes with the stored view, and none is given.
+    #[error("E25\n--store: a journal goes with the file's view, and no journal is given: start it with the program that wrote it")]
+    KeepsJournal,
     /// The file failed.
-    #[error("E21")]
+    #[error("E21\n--store: the file failed: mend the disk, and start again without --fresh")]
     DeviceFailed,
     /// The system gave fewer threads than the server needs.
-    #[error("no thread")]
+    #[error("no thread\nthe system gives fewer threads than the server needs: raise its limit of processes")]
     NoThread,
     /// The system has no clock that goes on.
     #[error("no clock")]

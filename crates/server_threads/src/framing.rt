@@ -1,19 +1,14 @@
 //! Messages become frames, in the thread that sends them and outside every lock. Queues and streams are not here.
 use crate::reporter::Reporter;
 use crate::telling::tell_lost;
-use peer_link::{Bytes, Framing, StreamAge};
+use peer_link::{Bytes, Framing};
+use replica_greeting::{Terms, greeting};
 use std::alloc::Global;
 use std::sync::Wait;
 use vr_wire::{Cluster, Frames, Op, PeerMessage, WireError};
 
 /// How many octets of a long message a part has: few enough that both ends hold little beside the message, and that each part is a sign of life in time.
 const PART: usize = 16_777_216;
-
-/// The longest frame that is first on a stream, where a stranger's may have no more.
-const FIRST: usize = 65_536;
-
-/// How many octets of a message a part has that may be first on a stream.
-const FIRST_PART: usize = 65_000;
 
 /// Makes the frames of messages to one replica: one of each message that fits in one, else its parts. A message that can't be made frames of is told of.
 pub struct MessageFrames<'a, R> {
@@ -22,6 +17,7 @@ pub struct MessageFrames<'a, R> {
     reporter: &'a Reporter,
     cluster: Cluster,
     sender: u8,
+    terms: Terms,
     to: usize,
     /// How many messages were begun: each has another number in its parts.
     number: u64,
@@ -37,6 +33,7 @@ impl<'a, R> Drop for MessageFrames<'a, R> {
             reporter: _,
             cluster: _,
             sender: _,
+            terms: _,
             to: _,
             number: _,
             frames: _,
@@ -45,13 +42,14 @@ impl<'a, R> Drop for MessageFrames<'a, R> {
 }
 
 impl<'a, R> MessageFrames<'a, R> {
-    /// Frames of this sender in this cluster, to the replica of this index.
+    /// Frames of this sender in this cluster, which has these terms, to the replica of this index.
     pub fn new(
         rt: &'a R,
         alloc: Global,
         reporter: &'a Reporter,
         cluster: Cluster,
         sender: u8,
+        terms: Terms,
         to: usize,
     ) -> MessageFrames<'a, R> {
         MessageFrames {
@@ -60,6 +58,7 @@ impl<'a, R> MessageFrames<'a, R> {
             reporter,
             cluster,
             sender,
+            terms,
             to,
             number: 0,
             frames: None,
@@ -74,19 +73,16 @@ impl<'a, R: Wait> MessageFrames<'a, R> {
         tell_lost(self.rt, self.alloc, self.reporter, self.to, error);
     }
 
-    /// The frames of the next message, for a stream of this age.
-    fn frames_of(&self, message: &PeerMessage<Op>, age: StreamAge) -> Result<Frames, WireError> {
-        let (most, part) = match age {
-            StreamAge::New => (FIRST, FIRST_PART),
-            StreamAge::Used => (usize::MAX, PART),
-        };
+    /// The frames of the next message.
+    fn frames_of(&self, message: &PeerMessage<Op>) -> Result<Frames, WireError> {
+        let (alloc, cluster, sender) = (self.alloc, self.cluster, self.sender);
         Frames::of(
-            self.alloc,
-            self.cluster,
-            self.sender,
+            alloc,
+            cluster,
+            sender,
             self.number,
-            most,
-            part,
+            usize::MAX,
+            PART,
             message,
         )
     }
@@ -109,9 +105,14 @@ fn bytes_of(octets: Vec<u8>) -> Result<Bytes, WireError> {
 }
 
 impl<'a, R: Wait> Framing<PeerMessage<Op>> for MessageFrames<'a, R> {
-    fn begin(&mut self, message: PeerMessage<Op>, age: StreamAge) {
+    fn greeting(&mut self) -> Option<Bytes> {
+        let octets = greeting(self.alloc, self.cluster, self.sender, &self.terms).ok()?;
+        Bytes::from_vec(octets).ok()
+    }
+
+    fn begin(&mut self, message: PeerMessage<Op>) {
         self.number = self.number.wrapping_add(1);
-        match self.frames_of(&message, age) {
+        match self.frames_of(&message) {
             Ok(frames) => self.frames = Some(frames),
             Err(error) => self.lose(error),
         }

@@ -10,6 +10,7 @@ use std::alloc::Global;
 use std::io;
 use std::net::TcpStream;
 use std::sync::Wait;
+use std::sync::atomic::{AtomicU64, Ordering};
 use std::time::Clock;
 
 /// A client, whose session's end is told.
@@ -18,6 +19,7 @@ pub struct Guest<'a, R: Clock> {
     rt: &'a R,
     alloc: Global,
     reporter: &'a Reporter,
+    sessions: &'a AtomicU64,
     client: Client<'a, R>,
 }
 
@@ -29,10 +31,12 @@ impl<'a, R: Wait + Clock> Arrives<'a, R, Rooms> for Guest<'a, R> {
         socket: TcpStream,
     ) -> io::Result<Guest<'a, R>> {
         let client = Client::arrive(rt, alloc, &rooms.client_door, socket)?;
+        rooms.sessions.fetch_add(1, Ordering::SeqCst);
         Ok(Guest {
             rt,
             alloc,
             reporter: &rooms.reporter,
+            sessions: &rooms.sessions,
             client,
         })
     }
@@ -53,6 +57,7 @@ impl<'a, R: Wait + Clock + Sync> Connection for Guest<'a, R> {
     }
 
     fn ended(&mut self, session: u64, end: SessionEnd) {
+        self.sessions.fetch_sub(1, Ordering::SeqCst);
         tell_session(self.rt, self.alloc, self.reporter, session, end);
     }
 }

@@ -1,4 +1,5 @@
 //! The first octets of a frame: whether it may be one that another replica of this cluster sends. What a frame says is not here.
+use replica_greeting::{HEADING as GREETING_HEADING, greeting_sender};
 use vr_wire::{Cluster, WireError, heading as kind_and_sender, rest};
 
 /// How many octets of a frame are looked at before more of it is read: its length, and what tells its version, cluster, kind and sender.
@@ -6,9 +7,6 @@ pub const HEADING: usize = 13;
 
 /// How many of them stand behind the length.
 pub const BEHIND_LENGTH: u32 = 9;
-
-/// How long a stranger's frame may be, its length included.
-const STRANGERS_MOST: u32 = 65_536;
 
 /// Whom frames are heard from.
 #[derive(Clone, Copy)]
@@ -49,12 +47,24 @@ impl Senders {
         Ok(left)
     }
 
-    /// The same for the frame of a stranger, which is refused as E20 too where it has more than 65,536 octets.
-    pub fn rest_of_strangers(&self, heading: [u8; HEADING]) -> Result<u32, WireError> {
-        let left = self.rest_of(heading)?;
-        if left > STRANGERS_MOST - HEADING as u32 {
-            return Err(WireError::BadFrame);
+    /// Whose greeting begins so, which is the first frame on each connection; or why it is none of another replica of this cluster, as it is told.
+    pub fn greeting_of(&self, heading: [u8; GREETING_HEADING]) -> Result<u8, &'static str> {
+        let sender = greeting_sender(heading, self.cluster).map_err(refusal_of)?;
+        if sender == self.own {
+            return Err("it has this replica's --id");
         }
-        Ok(left)
+        if !self.have(sender) {
+            return Err("E20");
+        }
+        Ok(sender)
+    }
+}
+
+/// Why a connection ended, as it is told.
+pub fn refusal_of(error: WireError) -> &'static str {
+    match error {
+        WireError::BadFrame => "E20",
+        WireError::ForeignFrame => "E24",
+        WireError::NoMemory => "out of memory",
     }
 }

@@ -1,7 +1,6 @@
-//! Strangers at the port for peers: connections that have shown no frame yet. They are looked at without waiting, all by one thread, and those
-//! whose first octets may begin a frame of another replica are handed to a thread that reads. Frames are not here.
+//! Strangers at the port for peers: connections that have shown no greeting yet. They are looked at without waiting, all by one thread, and those
+//! whose first octets may begin another replica's greeting are handed to a thread that reads. Frames are not here.
 use crate::heading::{HEADING, Senders};
-use crate::receiving::refusal_of;
 use crate::reporter::Reporter;
 use crate::telling::tell_peer_went;
 use client_link::{Door, Peer};
@@ -23,7 +22,7 @@ const LOOK: u64 = 10;
 enum Look {
     /// Not enough of a frame has come.
     Nothing,
-    /// The first octets may begin another replica's frame.
+    /// The first octets may begin another replica's greeting.
     Heading,
     /// It has to go, and why.
     Fault(&'static str),
@@ -85,9 +84,9 @@ fn shown(senders: &Senders, heading: [u8; HEADING], count: usize) -> Look {
     if count < HEADING {
         return Look::Nothing;
     }
-    match senders.rest_of_strangers(heading) {
+    match senders.greeting_of(heading) {
         Ok(_) => Look::Heading,
-        Err(error) => Look::Fault(refusal_of(error)),
+        Err(why) => Look::Fault(why),
     }
 }
 
@@ -165,7 +164,7 @@ impl<'a, R: Wait + Clock> Porch<'a, R> {
                 if !stranger.peer.is_late().unwrap_or(true) {
                     return Some(stranger);
                 }
-                self.send_away(stranger, "it showed no frame for too long");
+                self.send_away(stranger, "it showed no greeting for too long");
             }
             Look::Fault(why) => self.send_away(stranger, why),
         }
@@ -200,7 +199,7 @@ impl<'a, R: Wait + Clock> Porch<'a, R> {
     }
 
     /// Takes connections from one channel, and hands those that may be other replicas' to the other, until nobody comes any more. A connection
-    /// that shows no beginning of a frame within 2 seconds is closed, and so is one that shows a wrong one.
+    /// that shows no beginning of a greeting within 2 seconds is closed, and so is one that shows a wrong one.
     pub fn greet(
         &self,
         from: Receiver<(u64, Peer<'a, R>)>,

@@ -1,16 +1,23 @@
-//! What other replicas send: the frames of a connection become messages, which the node hears. What a message makes of it is not here.
+//! What other replicas send: a greeting, and then frames, which become messages that the node hears. What a message makes of it is not here.
 use crate::engine::Engine;
-use crate::heading::{BEHIND_LENGTH, HEADING, Senders};
+use crate::heading::{BEHIND_LENGTH, HEADING, Senders, refusal_of};
+use crate::links::Links;
 use crate::reporter::Reporter;
-use crate::telling::{tell_parts_lost, tell_peer_came, tell_peer_went};
+use crate::telling::{
+    tell_parts_lost, tell_peer_came, tell_peer_refused, tell_peer_twice, tell_peer_went,
+};
 use client_link::Peer;
 use crossbeam_channel::Receiver;
 use peer_link::{FrameEnd, read_head, read_more, read_rest};
+use replica_greeting::{Met, Term, Terms, meet};
 use std::alloc::Global;
 use std::io::Read;
 use std::sync::Wait;
 use std::time::Clock;
 use vr_wire::{Came, Gathering, WireError, rest};
+
+/// How many octets of a greeting follow its first ones.
+const GREETING_REST: u32 = 96;
 
 /// What all who read from other replicas share.
 #[derive(Drop)]
@@ -20,13 +27,9 @@ pub struct Hall<'a, R, E> {
     pub senders: Senders,
     pub engine: &'a E,
     pub reporter: &'a Reporter,
-}
-
-/// Whether a frame was heard on a connection before.
-#[derive(Clone, Copy, Debug, PartialEq, Eq)]
-enum Sort {
-    Stranger,
-    Known,
+    pub links: &'a Links,
+    /// What other replicas must have alike.
+    pub terms: Terms,
 }
 
 /// Why a connection ended, as it is told.
@@ -36,15 +39,6 @@ fn reason_of(end: FrameEnd) -> &'static str {
         FrameEnd::Cut => "it closed in the midst of a frame",
         FrameEnd::Failed => "it failed",
         FrameEnd::NoMemory => "out of memory",
-    }
-}
-
-/// Why a connection ended, as it is told.
-pub fn refusal_of(error: WireError) -> &'static str {
-    match error {
-        WireError::BadFrame => "E20",
-        WireError::ForeignFrame => "E24",
-        WireError::NoMemory => "out of memory",
     }
 }
 
@@ -59,15 +53,6 @@ fn heading_of(frame: &[u8]) -> Result<[u8; HEADING], &'static str> {
 }
 
 impl<'a, R: Wait + Clock, E: Engine> Hall<'a, R, E> {
-    /// How many octets of a frame are to come behind these first ones, or why the connection ends.
-    fn rest_of(&self, heading: [u8; HEADING], sort: Sort) -> Result<u32, &'static str> {
-        let left = match sort {
-            Sort::Stranger => self.senders.rest_of_strangers(heading),
-            Sort::Known => self.senders.rest_of(heading),
-        };
-        left.map_err(refusal_of)
-    }
-
     /// Reads the first octets of a frame. No more than these get room, whatever length is announced.
     fn next_heading<S: Read>(&self, reader: &mut S) -> Result<Vec<u8>, &'static str> {
         let head = read_head(reader).map_err(reason_of)?;
@@ -78,11 +63,22 @@ impl<'a, R: Wait + Clock, E: Engine> Hall<'a, R, E> {
     }
 
     /// Reads one frame whole, or why there is none.
-    fn next_frame<S: Read>(&self, reader: &mut S, sort: Sort) -> Result<Vec<u8>, &'static str> {
+    fn next_frame<S: Read>(&self, reader: &mut S) -> Result<Vec<u8>, &'static str> {
         let mut frame = self.next_heading(reader)?;
-        let left = self.rest_of(heading_of(&frame)?, sort)?;
+        let left = self
+            .senders
+            .rest_of(heading_of(&frame)?)
+            .map_err(refusal_of)?;
         read_more(reader, &mut frame, left).map_err(reason_of)?;
         Ok(frame)
+    }
+
+    /// Reads a greeting, and what it says beside the own terms.
+    fn greeting<S: Read>(&self, reader: &mut S) -> Result<Met, &'static str> {
+        let mut frame = self.next_heading(reader)?;
+        self.senders.greeting_of(heading_of(&frame)?)?;
+        read_more(reader, &mut frame, GREETING_REST).map_err(reason_of)?;
+        meet(&frame, self.senders.cluster, &self.terms).map_err(refusal_of)
     }
 
     /// Hands on what has come of a frame, and gives its sender; else why the connection ends.
@@ -114,62 +110,62 @@ impl<'a, R: Wait + Clock, E: Engine> Hall<'a, R, E> {
         self.hand_on(came)
     }
 
-    /// Reads one frame, and takes it.
+    /// Reads one frame, and takes it; gives its sender.
     fn take_next<S: Read>(
         &self,
         gathering: &mut Gathering,
         reader: &mut S,
-        sort: Sort,
     ) -> Result<u64, &'static str> {
-        let frame = self.next_frame(reader, sort)?;
+        let frame = self.next_frame(reader)?;
         self.take_frame(gathering, &frame)
     }
 
-    /// Takes note of who is heard.
-    fn note(&self, peer: &mut Option<u64>, sender: u64) {
-        if *peer != Some(sender) {
-            *peer = Some(sender);
-            tell_peer_came(self.rt, self.alloc, self.reporter, sender);
-        }
-    }
-
-    /// Reads the frames of one connection after its first, to its end.
-    fn read_all<S: Read>(
-        &self,
-        gathering: &mut Gathering,
-        reader: &mut S,
-        peer: &mut Option<u64>,
-    ) -> &'static str {
+    /// Reads the frames of the replica that greeted, to the end of the connection.
+    fn read_all<S: Read>(&self, reader: &mut S, peer: u64) -> &'static str {
+        let mut gathering = Gathering::new();
         for _ in self.rt.forever() {
-            match self.take_next(gathering, reader, Sort::Known) {
-                Ok(sender) => self.note(peer, sender),
+            match self.take_next(&mut gathering, reader) {
+                Ok(sender) if sender == peer => {}
+                Ok(_) => return "E20",
                 Err(reason) => return reason,
             }
         }
         "it ended"
     }
 
-    /// Hears one connection, to its end: a stranger's, until its first frame was heard.
-    fn hear_all(&self, stranger: Peer<'a, R>, peer: &mut Option<u64>) -> &'static str {
-        let Ok(mut reader) = stranger.seated(self.alloc) else {
-            return "out of memory";
-        };
-        let mut gathering = Gathering::new();
-        match self.take_next(&mut gathering, &mut reader, Sort::Stranger) {
-            Ok(sender) => {
-                self.note(peer, sender);
-                reader.get_mut().trust();
-                self.read_all(&mut gathering, &mut reader, peer)
-            }
-            Err(reason) => reason,
+    /// Hears a replica that greeted with the same terms, to the end of the connection.
+    fn hear_peer<S: Read>(&self, reader: &mut S, peer: u64) {
+        if self.links.come(self.rt, peer) {
+            tell_peer_twice(self.rt, self.alloc, self.reporter, peer);
+        } else {
+            tell_peer_came(self.rt, self.alloc, self.reporter, peer);
+        }
+        let reason = self.read_all(reader, peer);
+        self.links.go(self.rt, peer);
+        tell_peer_went(self.rt, self.alloc, self.reporter, Some(peer), reason);
+    }
+
+    /// Refuses a replica that has this term otherwise.
+    fn refuse(&self, peer: u64, term: Term) {
+        if self.links.refuse(self.rt, peer, term) {
+            tell_peer_refused(self.rt, self.alloc, self.reporter, peer, term);
         }
     }
 
     /// Hears one connection, to its end, and tells of it.
     fn hear(&self, stranger: Peer<'a, R>) {
-        let mut peer = None;
-        let reason = self.hear_all(stranger, &mut peer);
-        tell_peer_went(self.rt, self.alloc, self.reporter, peer, reason);
+        let Ok(mut reader) = stranger.seated(self.alloc) else {
+            tell_peer_went(self.rt, self.alloc, self.reporter, None, "out of memory");
+            return;
+        };
+        match self.greeting(&mut reader) {
+            Ok(Met::Alike { sender }) => {
+                reader.get_mut().trust();
+                self.hear_peer(&mut reader, u64::from(sender));
+            }
+            Ok(Met::Other { sender, term }) => self.refuse(u64::from(sender), term),
+            Err(reason) => tell_peer_went(self.rt, self.alloc, self.reporter, None, reason),
+        }
     }
 
     /// Hears connections one after the other, until the channel is closed and empty.

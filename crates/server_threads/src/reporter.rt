@@ -2,6 +2,7 @@
 //! whoever reads them. What the lines say is not here.
 use crate::lines::Lines;
 use crate::notes::Note;
+use jiff::Timestamp;
 use std::alloc::{AllocError, Global};
 use std::io::Eprint;
 use std::sync::{Condvar, CondvarTimeouts, Mutex, Wait};
@@ -20,15 +21,18 @@ pub trait NoteWriter {
     fn write_note(&mut self, note: &Note);
 }
 
-/// Standard error.
+/// Standard error. Each line begins with the time at which it is written, in UTC to the millisecond (RFC 3339).
 #[derive(Drop)]
 pub struct StandardError<'a, R> {
     pub rt: &'a R,
 }
 
-impl<'a, R: Eprint> NoteWriter for StandardError<'a, R> {
+impl<'a, R: Eprint + Clock> NoteWriter for StandardError<'a, R> {
     fn write_note(&mut self, note: &Note) {
-        let _ = eprintln!(self.rt; "{note}");
+        let _ = match Timestamp::now(self.rt) {
+            Ok(now) => eprintln!(self.rt; "{now:.3} {note}"),
+            Err(_) => eprintln!(self.rt; "{note}"),
+        };
     }
 }
 

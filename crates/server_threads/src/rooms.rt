@@ -1,14 +1,16 @@
-//! What a server's threads share. Addresses flow in; listeners, doors and queues flow out, as they are made before any thread begins, and a line
-//! that says where clients are heard. Threads are not here.
+//! What a server's threads share, made before any of them begins: the listeners of replicas and of monitors, doors, queues.
 use crate::crew::Crew;
 use crate::fault::ServerError;
+use crate::links::Links;
 use crate::places::Place;
 use crate::reporter::Reporter;
 use client_link::{Door, HasDoor, Limits};
 use peer_link::Outbox;
+use replica_greeting::Terms;
 use std::alloc::{AllocError, Global};
-use std::io::Write;
 use std::net::{Net, SocketAddr, TcpListener, TcpStream};
+use std::sync::Mutex;
+use std::sync::atomic::{AtomicU64, Ordering};
 use vr_wire::{Op, PeerMessage};
 
 /// How many messages wait for a replica, at most.
@@ -36,17 +38,33 @@ fn uris(alloc: Global, places: &[Place]) -> Result<Vec<String>, AllocError> {
 }
 
 /// A listener at this address.
-fn listen<R: Net<Listener = TcpListener, Stream = TcpStream>>(
+pub fn listen<R: Net<Listener = TcpListener, Stream = TcpStream>>(
     rt: &R,
     address: SocketAddr,
 ) -> Result<TcpListener, ServerError> {
-    TcpListener::bind(rt, address).map_err(|_| ServerError::CannotListen)
+    TcpListener::bind(rt, address).map_err(|_| ServerError::CannotListenAt(address))
+}
+
+/// How a server serves.
+#[derive(Clone, Copy)]
+pub struct Choices {
+    pub limits: Limits,
+    /// What all replicas must have alike.
+    pub terms: Terms,
+    /// Where monitors are answered, if they are.
+    pub metrics: Option<SocketAddr>,
 }
 
 /// What a server's threads share, as it is made before they begin.
 pub struct Rooms {
-    pub clients: TcpListener,
+    /// Where clients are to find the replica.
+    pub(crate) client_address: SocketAddr,
+    /// Where they are heard, once they are.
+    pub(crate) heard_at: Mutex<Option<SocketAddr>>,
     pub peers: TcpListener,
+    /// Where monitors are answered, if they are.
+    pub(crate) monitors: Option<TcpListener>,
+    pub(crate) monitor_door: Door,
     pub(crate) client_door: Door,
     pub(crate) peer_door: Door,
     pub(crate) boxes: Vec<Outbox<PeerMessage<Op>>>,
@@ -54,7 +72,19 @@ pub struct Rooms {
     pub crew: Crew,
     /// What is said on standard error.
     pub reporter: Reporter,
+    pub(crate) links: Links,
+    /// How many clients are connected.
+    pub(crate) sessions: AtomicU64,
     pub sender: u8,
+    /// What all replicas must have alike.
+    pub(crate) terms: Terms,
+}
+
+impl Rooms {
+    /// How many clients are connected.
+    pub fn sessions(&self) -> u64 {
+        self.sessions.load(Ordering::SeqCst)
+    }
 }
 
 /// The door at which clients wait.
@@ -68,27 +98,38 @@ impl HasDoor for Rooms {
 impl Drop for Rooms {
     fn drop(self) {
         let Rooms {
-            clients: _,
+            client_address: _,
+            heard_at: _,
             peers: _,
+            monitors: _,
+            monitor_door: _,
             client_door: _,
             peer_door: _,
             boxes: _,
             uris: _,
             crew: _,
             reporter: _,
+            links: _,
+            sessions: _,
             sender: _,
+            terms: _,
         } = self;
     }
 }
 
-/// The listeners of the replica of this index, and all that its threads share.
+/// The listeners of the replica of this index, and all that its threads share. Replicas that have other terms are refused.
 pub fn make_rooms<R: Net<Listener = TcpListener, Stream = TcpStream>>(
     rt: &R,
     alloc: Global,
     places: &[Place],
     index: u64,
-    limits: Limits,
+    choices: Choices,
 ) -> Result<Rooms, ServerError> {
+    let Choices {
+        limits,
+        terms,
+        metrics,
+    } = choices;
     let Some(place) = places.get(index as usize) else {
         return Err(ServerError::CannotListen);
     };
@@ -98,28 +139,29 @@ pub fn make_rooms<R: Net<Listener = TcpListener, Stream = TcpStream>>(
     let boxes = outboxes(alloc, places.len())?;
     let uris = uris(alloc, places)?;
     let reporter = Reporter::new(alloc)?;
-    let clients = listen(rt, place.ldap_address)?;
+    let links = Links::new(alloc, places.len())?;
+    // Clients are heard later; whether they can be is known from the start.
+    drop(listen(rt, place.ldap_address)?);
     let peers = listen(rt, place.peer_address)?;
+    let monitors = match metrics {
+        Some(address) => Some(listen(rt, address)?),
+        None => None,
+    };
     Ok(Rooms {
-        clients,
+        client_address: place.ldap_address,
+        heard_at: Mutex::new(None),
         peers,
+        monitors,
+        monitor_door: Door::new(limits),
         client_door: Door::new(limits),
         peer_door: Door::new(limits),
         boxes,
         uris,
-        crew: Crew::new(places.len()),
+        crew: Crew::new(places.len(), metrics.is_some()),
         reporter,
+        links,
+        sessions: AtomicU64::new(0),
         sender,
+        terms,
     })
-}
-
-/// Says where clients are heard.
-pub fn announce<W: Write>(output: &mut W, listener: &TcpListener) -> Result<(), ServerError> {
-    let Ok(address) = listener.local_addr() else {
-        return Err(ServerError::CannotListen);
-    };
-    match writeln!(output, "listening {address}").and_then(|()| output.flush()) {
-        Ok(()) => Ok(()),
-        Err(_) => Err(ServerError::CannotWrite),
-    }
 }

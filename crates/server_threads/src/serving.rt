@@ -6,21 +6,25 @@ use crate::fault::ServerError;
 use crate::framing::MessageFrames;
 use crate::guests::Guest;
 use crate::heading::Senders;
+use crate::monitoring::Monitoring;
 use crate::places::Place;
 use crate::porch::Porch;
 use crate::receiving::Hall;
 use crate::reporter::StandardError;
-use crate::rooms::Rooms;
+use crate::rooms::{Rooms, listen};
 use client_link::{Config, Directory, Door, Peer, accept_all, close, serve_all};
 use crossbeam_channel::{Receiver, Sender, bounded};
 use peer_link::{SocketDialer, send_all};
 use std::alloc::{AllocError, Global};
 use std::io::Eprint;
-use std::net::{Net, TcpListener, TcpStream};
+use std::net::{Net, SocketAddr, TcpListener, TcpStream};
 use std::sync::Wait;
 use std::thread::{self, Threads};
 use std::time::{Clock, Duration};
 use vr_wire::Cluster;
+
+/// How often it is looked whether the node has a state, in milliseconds.
+const LOOK: u64 = 10;
 
 /// How long a connection to a replica may take to be made, in milliseconds.
 const DIAL_LIMIT: u64 = 2_000;
@@ -38,7 +42,13 @@ pub struct Server<'a, R, E> {
 
 impl<'a, R, E> Server<'a, R, E>
 where
-    R: Net<Listener = TcpListener, Stream = TcpStream> + Threads + Wait + Clock + Eprint + Sync,
+    R: Net<Listener = TcpListener, Stream = TcpStream>
+        + Threads
+        + Wait
+        + Clock
+        + Print
+        + Eprint
+        + Sync,
     E: Engine + Sync,
 {
     /// Sends messages to one replica, until its queue is stopped.
@@ -49,7 +59,8 @@ where
             let sender = self.rooms.sender;
             let reporter = &self.rooms.reporter;
             let (rt, alloc, cluster) = (self.rt, self.alloc, self.cluster);
-            let mut frames = MessageFrames::new(rt, alloc, reporter, cluster, sender, to);
+            let terms = self.rooms.terms;
+            let mut frames = MessageFrames::new(rt, alloc, reporter, cluster, sender, terms, to);
             send_all(self.rt, outbox, &mut frames, &mut dialer);
         }
     }
@@ -88,9 +99,35 @@ where
     }
 
     /// Takes the connections of clients, until the server closes.
-    fn take_clients(&self, to: Sender<(u64, Guest<'a, R>)>) {
+    fn take_clients(&self, listener: &TcpListener, to: Sender<(u64, Guest<'a, R>)>) {
         self.rooms.crew.begin();
-        accept_all(self.rt, self.alloc, &self.rooms.clients, self.rooms, to);
+        accept_all(self.rt, self.alloc, listener, self.rooms, to);
+    }
+
+    /// Waits until the node has a state that clients may ask: before, a client had better go on to another replica. Whether the server goes on.
+    fn wait_for_state(&self) -> bool {
+        let mut goes_on = false;
+        for _ in self.rt.forever() {
+            goes_on = !self.rooms.client_door.is_closed();
+            if !goes_on || self.engine.figures().role.serves() {
+                break;
+            }
+            thread::sleep(self.rt, Duration::from_millis(LOOK));
+        }
+        goes_on
+    }
+
+    /// Listens to clients, and says where. Who stops the server afterwards knows it too.
+    fn open_door(&self) -> Result<TcpListener, ServerError> {
+        let listener = listen(self.rt, self.rooms.client_address)?;
+        let Ok(address) = listener.local_addr() else {
+            return Err(ServerError::CannotListenAt(self.rooms.client_address));
+        };
+        *self.rooms.heard_at.lock(self.rt) = Some(address);
+        match println!(self.rt; "listening {address}") {
+            Ok(()) => Ok(listener),
+            Err(_) => Err(ServerError::CannotWrite),
+        }
     }
 
     /// Whom frames are heard from.
@@ -110,6 +147,8 @@ where
             senders: self.senders(),
             engine: self.engine,
             reporter: &self.rooms.reporter,
+            links: &self.rooms.links,
+            terms: self.rooms.terms,
         }
     }
 
@@ -218,39 +257,58 @@ where
         Ok(())
     }
 
-    /// Serves clients, until the server closes.
+    /// Serves the clients of a listener, until the server closes.
+    fn serve_at<D: Directory + Send + Drop>(
+        &self,
+        listener: &TcpListener,
+        ways: Vec<D>,
+        waiting: usize,
+        config: &Config<'_>,
+    ) -> Result<(), AllocError> {
+        let (to_seats, connections) = bounded(self.alloc, waiting)?;
+        let ((), served) = thread::join(
+            self.rt,
+            || {
+                self.take_clients(listener, to_seats);
+            },
+            || self.seat_clients(connections, ways, config),
+        );
+        served
+    }
+
+    /// Serves clients, once the node has a state, until the server closes.
     fn serve_clients<D: Directory + Send + Drop>(
         &self,
         ways: Vec<D>,
         waiting: usize,
         config: &Config<'_>,
-    ) -> Result<(), AllocError> {
+    ) -> Result<(), ServerError> {
         self.rooms.crew.begin();
-        let (to_seats, connections) = bounded(self.alloc, waiting)?;
-        let ((), served) = thread::join(
-            self.rt,
-            || {
-                self.take_clients(to_seats);
-            },
-            || self.seat_clients(connections, ways, config),
-        );
-        served?;
+        if !self.wait_for_state() {
+            return Ok(());
+        }
+        let listener = self.open_door()?;
+        // Who stopped the server before it was known where clients are heard has woken nobody.
+        if !self.rooms.client_door.is_closed() {
+            self.rooms.crew.open();
+            self.serve_at(&listener, ways, waiting, config)?;
+        }
         Ok(())
     }
 
     /// Whatever ended badly ends the server.
-    fn end_with(&self, ended: Result<(), AllocError>) -> Result<(), AllocError> {
+    fn end_with<F>(&self, ended: Result<(), F>) -> Result<(), F> {
         if ended.is_err() {
             self.engine.stop();
         }
         ended
     }
 
-    /// Lets nobody in at this door any more, and wakes who waits for a connection.
-    fn shut(&self, door: &Door, listener: &TcpListener) {
-        match listener.local_addr() {
-            Ok(address) => close(self.rt, door, address),
-            Err(_) => door.shut(),
+    /// Lets nobody in at this door any more, and wakes who waits for a connection at this address.
+    fn shut(&self, door: &Door, address: Option<SocketAddr>) {
+        match address {
+            Some(address) => close(self.rt, door, address),
+            None => door.shut(),
         }
     }
 
@@ -260,8 +318,14 @@ where
         for outbox in &self.rooms.boxes {
             outbox.stop(self.rt);
         }
-        self.shut(&self.rooms.client_door, &self.rooms.clients);
-        self.shut(&self.rooms.peer_door, &self.rooms.peers);
+        self.rooms.client_door.shut();
+        let heard_at = *self.rooms.heard_at.lock(self.rt);
+        self.shut(&self.rooms.client_door, heard_at);
+        let peers = self.rooms.peers.local_addr().ok();
+        self.shut(&self.rooms.peer_door, peers);
+        if let Some(monitors) = &self.rooms.monitors {
+            self.shut(&self.rooms.monitor_door, monitors.local_addr().ok());
+        }
     }
 
     /// Serves clients, and runs the node's clock in the thread that calls, until that ends; then all threads end.
@@ -285,7 +349,7 @@ where
         Ok(())
     }
 
-    /// All threads but the one that writes what is said.
+    /// All threads but the one that writes what is said and the one that answers monitors.
     fn run_all<D: Directory + Send + Drop>(
         &self,
         ways: Vec<D>,
@@ -300,6 +364,34 @@ where
         served?;
         linked?;
         Ok(())
+    }
+
+    /// Answers monitors, where they are, until the server closes.
+    fn serve_monitors(&self) {
+        if let Some(listener) = &self.rooms.monitors {
+            let monitoring = Monitoring {
+                rt: self.rt,
+                alloc: self.alloc,
+                rooms: self.rooms,
+                engine: self.engine,
+            };
+            monitoring.serve_all(listener);
+        }
+    }
+
+    /// All threads but the one that writes what is said.
+    fn run_beside_monitors<D: Directory + Send + Drop>(
+        &self,
+        ways: Vec<D>,
+        waiting: usize,
+        config: &Config<'_>,
+    ) -> Result<(), ServerError> {
+        let ((), ended) = thread::join(
+            self.rt,
+            || self.serve_monitors(),
+            || self.run_all(ways, waiting, config),
+        );
+        ended
     }
 
     /// Writes what is said on standard error, until nothing more will be.
@@ -321,7 +413,7 @@ where
             self.rt,
             || self.write_what_is_said(),
             || {
-                let ended = self.run_all(ways, waiting, config);
+                let ended = self.run_beside_monitors(ways, waiting, config);
                 self.rooms.reporter.stop(self.rt);
                 ended
             },

@@ -1,6 +1,7 @@
 //! What a server says of its connections, a line an event.
 use crate::reporter::Reporter;
 use client_link::SessionEnd;
+use replica_greeting::Term;
 use std::alloc::Global;
 use std::sync::Wait;
 use vr_wire::WireError;
@@ -8,6 +9,37 @@ use vr_wire::WireError;
 /// A peer that was heard on a connection for the first time.
 pub fn tell_peer_came<R: Wait>(rt: &R, alloc: Global, reporter: &Reporter, sender: u64) {
     reporter.say(rt, format!(in alloc; "replica {sender} came"));
+}
+
+/// A peer that is heard on a connection more while its last one is open.
+pub fn tell_peer_twice<R: Wait>(rt: &R, alloc: Global, reporter: &Reporter, sender: u64) {
+    reporter.say(
+        rt,
+        format!(in alloc;
+            "replica {sender} came again before its last connection went: if this is said often, two replicas have its --id"
+        ),
+    );
+}
+
+/// What a replica has otherwise that must be alike, with the word that tells it.
+fn term_named(term: Term) -> &'static str {
+    match term {
+        Term::Schema => "its schema is another (--schema)",
+        Term::Suffix => "its suffix is another (--suffix)",
+        Term::Clients => "its clients' addresses are others, or in another order (PEER)",
+    }
+}
+
+/// A peer that isn't heard, since it was started with something else that must be alike.
+pub fn tell_peer_refused<R: Wait>(
+    rt: &R,
+    alloc: Global,
+    reporter: &Reporter,
+    sender: u64,
+    term: Term,
+) {
+    let why = term_named(term);
+    reporter.say(rt, format!(in alloc; "replica {sender} is refused: {why}"));
 }
 
 /// A connection to a peer that ended.

@@ -11,7 +11,12 @@ use std::process::Abort;
 use std::test::Fail;
 
 /// The numbers of the scope that are in the plan's set.
-fn members(alloc: Global, plan: &Plan, shelf: &Shelf, scope: &Scope) -> Result<Vec<u64>, AllocError> {
+fn members(
+    alloc: Global,
+    plan: &Plan,
+    shelf: &Shelf,
+    scope: &Scope,
+) -> Result<Vec<u64>, AllocError> {
     let mut members = Vec::new(alloc);
     for number in 0..8 {
         if scope.has(number) && contains(plan, shelf, scope, number) {

@@ -317,7 +317,11 @@ fn loads_the_slot_of_the_greater_sequence(rt: HostRuntime) -> Result<(), Fail> {
         let mut store = ViewStore::new(device(alloc, &text, Fault::None)?, nine(&rt));
         assert_eq!(rt; store.load(), want, "{text}");
         if want.is_err() {
-            assert_eq!(rt; store.store(pair(0, 2)), Err(ViewStoreError::NoPair), "{text}");
+            assert_eq!(rt;
+                store.store(pair(0, 2)),
+                Err(ViewStoreError::NoPair),
+                "{text}"
+            );
         }
         let kept = store.into_device();
         assert!(rt; hex::encode(alloc, kept.bytes())?.as_str() == text.as_str());

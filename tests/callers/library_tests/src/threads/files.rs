@@ -38,30 +38,26 @@ fn a_file_is_made_in_the_folder_of_its_path(rt: HostRuntime) -> Result<(), Fail>
     Ok(())
 }
 
+/// A pair without a journal.
+fn pair(view: u64, restarts: u64) -> Pair {
+    Pair {
+        view,
+        restarts,
+        journaled: false,
+    }
+}
+
 #[test]
 fn a_stored_view_is_loaded_from_its_file(rt: HostRuntime) -> Result<(), Fail> {
     let path = "stored_view_of_a_replica";
     let _was_there = fs::remove_file(&rt, path).is_ok();
     let cluster = Cluster::new(9).expect(&rt, "9 is the number of a cluster");
     let mut first = ViewStore::new(FileDevice::open(&rt, rt.alloc(), path)?, cluster);
-    assert!(rt; first.format().is_ok() && first.store(3, 1).is_ok());
+    assert!(rt; first.format().is_ok() && first.store(pair(3, 1)).is_ok());
     drop(first);
     let mut second = ViewStore::new(FileDevice::open(&rt, rt.alloc(), path)?, cluster);
-    assert!(rt;
-        second.load()
-            == Ok(Pair {
-                view: 3,
-                restarts: 1
-            })
-    );
-    assert!(rt;
-        second.store(4, 2).is_ok()
-            && second.load()
-                == Ok(Pair {
-                    view: 4,
-                    restarts: 2
-                })
-    );
+    assert!(rt; second.load() == Ok(pair(3, 1)));
+    assert!(rt; second.store(pair(4, 2)).is_ok() && second.load() == Ok(pair(4, 2)));
     drop(second);
     let other = Cluster::new(8).expect(&rt, "8 is the number of a cluster");
     let mut third = ViewStore::new(FileDevice::open(&rt, rt.alloc(), path)?, other);

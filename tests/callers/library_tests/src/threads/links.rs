@@ -2,7 +2,7 @@
 
 use crate::threads::signal::Signal;
 use peer_link::{
-    Bytes, Dial, FrameEnd, Framing, Outbox, StreamAge, SocketDialer, read_head, read_rest, send_all,
+    Bytes, Dial, FrameEnd, Framing, Outbox, SocketDialer, read_head, read_rest, send_all,
 };
 use std::alloc::{AllocError, Global};
 use std::io::Write;
@@ -21,7 +21,11 @@ struct AsTheyAre {
 }
 
 impl Framing<Bytes> for AsTheyAre {
-    fn begin(&mut self, frame: Bytes, _age: StreamAge) {
+    fn greeting(&mut self) -> Option<Bytes> {
+        Some(Bytes::new())
+    }
+
+    fn begin(&mut self, frame: Bytes) {
         self.next = Some(frame);
     }
 
@@ -222,7 +226,7 @@ impl<'a, R: Wait> Dial for PaperDialer<'a, R> {
     }
 }
 
-/// Makes two frames of each number below 100, the number and 100 more; of 7 none. As it begins with 1 it puts 9 into the queue itself, which would
+/// Greets by 200. Makes two frames of each number below 100, the number and 100 more; of 7 none. As it begins with 1 it puts 9 into the queue itself, which would
 /// wait for ever if the queue's lock were held.
 #[derive(Drop)]
 struct InTwo<'a, R> {
@@ -233,7 +237,11 @@ struct InTwo<'a, R> {
 }
 
 impl<'a, R: Wait> Framing<u8> for InTwo<'a, R> {
-    fn begin(&mut self, number: u8, _age: StreamAge) {
+    fn greeting(&mut self) -> Option<Bytes> {
+        Bytes::from_vec(vec![in self.alloc; 200].ok()?).ok()
+    }
+
+    fn begin(&mut self, number: u8) {
         if number == 1 {
             self.outbox.put(self.rt, 9, 1);
         }
@@ -279,6 +287,6 @@ fn items_become_frames_in_their_order_outside_the_lock(rt: HostRuntime) -> Resul
         },
     );
     assert!(rt; has_come);
-    assert!(rt; written.lock(&rt).as_slice() == &[1u8, 101, 2, 102, 3, 103, 9, 109][..]);
+    assert!(rt; written.lock(&rt).as_slice() == &[200u8, 1, 101, 2, 102, 3, 103, 9, 109][..]);
     Ok(())
 }

@@ -6,8 +6,9 @@ use crate::threads::signal::Signal;
 use client_link::Limits;
 use hex::decode;
 use ldap_session::{Config, Name};
+use replica_greeting::{Terms, greeting};
 use schema_reader::built_in_schema;
-use server_threads::{Engine, Place, Rooms, Server, ServerError, make_rooms};
+use server_threads::{Choices, Engine, Figures, Place, Role, Rooms, Server, ServerError, make_rooms};
 use std::alloc::Global;
 use std::io::{self, ErrorKind, Read, Write};
 use std::net::{Net, SocketAddr, TcpListener, TcpStream};
@@ -21,20 +22,34 @@ use vr_wire::{Cluster, Op, PeerMessage};
 /// Replica 1 of cluster 9 says that six records are committed.
 const COMMIT: &str = "0000001902000000000009030100000000000000050000000000000006";
 
-/// The first octets of what replica 0 doesn't hear: another version, another cluster, no kind, itself, nobody, a longer frame than a stranger's may
-/// be, and one without a sender.
+/// The first octets of what replica 0 doesn't take for a greeting: another version, another cluster, the kind of a message, itself, nobody, a longer
+/// frame and a shorter one.
 const WRONG: [&str; 7] = [
-    "00000019010000000000090301",
-    "000000190200000000000a0301",
-    "00000019020000000000090701",
-    "00000019020000000000090300",
-    "00000019020000000000090302",
-    "0000fffd020000000000090301",
-    "00000008020000000000090301",
+    "00000069010000000000090e01",
+    "000000690200000000000a0e01",
+    "00000069020000000000090301",
+    "00000069020000000000090e00",
+    "00000069020000000000090e02",
+    "0000006a020000000000090e01",
+    "00000008020000000000090e01",
 ];
 
-/// The first octets of such a frame, not enough to tell who sends it.
-const BEGUN: [u8; 12] = [0, 0, 0, 0x19, 2, 0, 0, 0, 0, 0, 9, 3];
+/// The first octets of a greeting, not enough to tell who sends it.
+const BEGUN: [u8; 12] = [0, 0, 0, 0x69, 2, 0, 0, 0, 0, 0, 9, 14];
+
+/// The terms of the cluster, and those of one with another schema.
+fn terms(schema: Option<&str>) -> Terms {
+    Terms::of(schema, "dc=example,dc=com", "127.0.0.1:389\n")
+}
+
+/// How the servers of these tests serve.
+fn choices() -> Choices {
+    Choices {
+        limits: Limits::usual(),
+        terms: terms(None),
+        metrics: None,
+    }
+}
 
 /// A node that counts what it hears.
 #[derive(Drop)]
@@ -60,6 +75,15 @@ impl<'a, R: Wait + Clock> Engine for Ear<'a, R> {
         Ok(())
     }
 
+    fn figures(&self) -> Figures {
+        Figures {
+            role: Role::Recovering,
+            view_number: 0,
+            last_update: 0,
+            sessions: 0,
+        }
+    }
+
     fn stop(&self) {
         self.is_over.give(self.rt);
     }
@@ -82,7 +106,7 @@ fn places() -> [Place; 2] {
 }
 
 /// Runs a server for no clients, until its node is over.
-fn run<R: Net<Listener = TcpListener, Stream = TcpStream> + Threads + Wait + Clock + Eprint + Sync>(
+fn run<R: Net<Listener = TcpListener, Stream = TcpStream> + Threads + Wait + Clock + Print + Eprint + Sync>(
     rt: &R,
     alloc: Global,
     rooms: &Rooms,
@@ -136,6 +160,13 @@ fn open_for<R: Net<Stream = TcpStream> + Clock>(
     if is_closed { Ok(open) } else { Ok(u128::MAX) }
 }
 
+/// Replica 1's greeting with these terms, and its commit-number behind it.
+fn greeting_and_commit(alloc: Global, cluster: Cluster, terms: &Terms) -> io::Result<Vec<u8>> {
+    let mut octets = greeting(alloc, cluster, 1, terms)?;
+    octets.extend_from_slice(&octets_of(alloc, COMMIT)?)?;
+    Ok(octets)
+}
+
 /// Strangers that say nothing, so many, and then another replica: how long that waits until it is heard, in milliseconds.
 fn heard_among<R: Net<Stream = TcpStream> + Wait + Clock>(
     rt: &R,
@@ -143,6 +174,7 @@ fn heard_among<R: Net<Stream = TcpStream> + Wait + Clock>(
     at: SocketAddr,
     silent: usize,
     ear: &Ear<'_, R>,
+    octets: &[u8],
 ) -> io::Result<u128> {
     let mut streams = Vec::new(alloc);
     for _ in 0..silent {
@@ -150,7 +182,7 @@ fn heard_among<R: Net<Stream = TcpStream> + Wait + Clock>(
     }
     let begin = Instant::now(rt)?;
     let mut stream = TcpStream::connect(rt, at)?;
-    stream.write_all(&octets_of(alloc, COMMIT)?)?;
+    stream.write_all(octets)?;
     let _has_heard = ear.has_heard.wait(rt, Duration::from_secs(20));
     Ok(Instant::now(rt)?.saturating_duration_since(begin).as_millis())
 }
@@ -187,13 +219,14 @@ fn longest_wrong<R: Net<Stream = TcpStream> + Clock>(
 #[test]
 fn silent_strangers_keep_no_replica_out(rt: HostRuntime) -> Result<(), Fail> {
     let cluster = Cluster::new(9).expect(&rt, "9 is the number of a cluster");
-    let rooms = make_rooms(&rt, rt.alloc(), &places(), 0, Limits::usual())?;
+    let rooms = make_rooms(&rt, rt.alloc(), &places(), 0, choices())?;
     let at = rooms.peers.local_addr()?;
     let ear = new_ear(&rt, rt.alloc());
+    let octets = greeting_and_commit(rt.alloc(), cluster, &terms(None))?;
     let (ended, waited) = thread::join(
         &rt,
         || run(&rt, rt.alloc(), &rooms, &ear, cluster),
-        || and_stop(&ear, heard_among(&rt, rt.alloc(), at, 100, &ear)),
+        || and_stop(&ear, heard_among(&rt, rt.alloc(), at, 100, &ear, &octets)),
     );
     ended?;
     let waited = waited?;
@@ -205,7 +238,7 @@ fn silent_strangers_keep_no_replica_out(rt: HostRuntime) -> Result<(), Fail> {
 #[test]
 fn a_silent_stranger_is_closed_after_two_seconds(rt: HostRuntime) -> Result<(), Fail> {
     let cluster = Cluster::new(9).expect(&rt, "9 is the number of a cluster");
-    let rooms = make_rooms(&rt, rt.alloc(), &places(), 0, Limits::usual())?;
+    let rooms = make_rooms(&rt, rt.alloc(), &places(), 0, choices())?;
     let at = rooms.peers.local_addr()?;
     let ear = new_ear(&rt, rt.alloc());
     let (ended, (none, begun)) = thread::join(
@@ -227,7 +260,7 @@ fn a_silent_stranger_is_closed_after_two_seconds(rt: HostRuntime) -> Result<(), 
 #[test]
 fn wrong_beginnings_are_refused_at_once(rt: HostRuntime) -> Result<(), Fail> {
     let cluster = Cluster::new(9).expect(&rt, "9 is the number of a cluster");
-    let rooms = make_rooms(&rt, rt.alloc(), &places(), 0, Limits::usual())?;
+    let rooms = make_rooms(&rt, rt.alloc(), &places(), 0, choices())?;
     let at = rooms.peers.local_addr()?;
     let ear = new_ear(&rt, rt.alloc());
     let (ended, longest) = thread::join(
@@ -238,6 +271,25 @@ fn wrong_beginnings_are_refused_at_once(rt: HostRuntime) -> Result<(), Fail> {
     ended?;
     let longest = longest?;
     assert!(rt; longest < 1000, "{longest} ms");
+    assert!(rt; ear.heard.lock(&rt).is_empty());
+    Ok(())
+}
+
+#[test]
+fn a_replica_with_another_schema_is_not_heard(rt: HostRuntime) -> Result<(), Fail> {
+    let cluster = Cluster::new(9).expect(&rt, "9 is the number of a cluster");
+    let rooms = make_rooms(&rt, rt.alloc(), &places(), 0, choices())?;
+    let at = rooms.peers.local_addr()?;
+    let ear = new_ear(&rt, rt.alloc());
+    let octets = greeting_and_commit(rt.alloc(), cluster, &terms(Some("a schema")))?;
+    let (ended, open) = thread::join(
+        &rt,
+        || run(&rt, rt.alloc(), &rooms, &ear, cluster),
+        || and_stop(&ear, open_for(&rt, at, &octets)),
+    );
+    ended?;
+    let open = open?;
+    assert!(rt; open < 1000, "{open} ms");
     assert!(rt; ear.heard.lock(&rt).is_empty());
     Ok(())
 }

@@ -2,7 +2,8 @@
 
 use crate::threads::signal::Signal;
 use ldap_op::Update;
-use peer_link::{Framing, StreamAge};
+use peer_link::Framing;
+use replica_greeting::{Met, Term, Terms, meet};
 use server_threads::{MessageFrames, Note, NoteWriter, Reporter};
 use std::alloc::{AllocError, Global};
 use std::process::Abort;
@@ -13,7 +14,7 @@ use std::time::{Clock, Duration};
 use vr_state::log::Log;
 use vr_state::message::Snapshot;
 use vr_state::words::{Client, Entry};
-use vr_wire::{Came, Cluster, Gathering, Op, PeerMessage};
+use vr_wire::{Cluster, Op, PeerMessage};
 
 /// Keeps what it writes, and waits inside each write until it is let go.
 #[derive(Drop)]
@@ -36,7 +37,13 @@ impl<'a, R: Wait + Clock> NoteWriter for Blocked<'a, R> {
 }
 
 /// Says one line, and when that is being written 312 equal ones, 200 different ones, and one that there is no memory for; then lets the writer go.
-fn say_all<R: Wait + Clock>(rt: &R, alloc: Global, reporter: &Reporter, entered: &Signal, free: &Signal) -> bool {
+fn say_all<R: Wait + Clock>(
+    rt: &R,
+    alloc: Global,
+    reporter: &Reporter,
+    entered: &Signal,
+    free: &Signal,
+) -> bool {
     reporter.say(rt, format!(in alloc; "a"));
     let has_entered = entered.wait(rt, Duration::from_secs(20));
     for _ in 0..312 {
@@ -111,27 +118,29 @@ fn of_six(alloc: Global) -> Result<PeerMessage<Op>, AllocError> {
     })
 }
 
-/// A stranger's frame may have 65,536 octets, and who opens a stream is a stranger at first.
+/// The terms of a cluster with this suffix.
+fn terms_under(suffix: &str) -> Terms {
+    Terms::of(None, suffix, "127.0.0.1:389\n")
+}
+
 #[test]
-fn the_first_message_on_a_stream_goes_in_frames_of_strangers(rt: HostRuntime) -> Result<(), Fail> {
+fn a_greeting_tells_the_terms(rt: HostRuntime) -> Result<(), Fail> {
     let cluster = Cluster::new(9).expect(&rt, "9 is the number of a cluster");
     let reporter = Reporter::new(rt.alloc())?;
-    let mut frames = MessageFrames::new(&rt, rt.alloc(), &reporter, cluster, 0, 1);
-    let mut gathering = Gathering::new();
-    frames.begin(of_six(rt.alloc())?, StreamAge::New);
-    let mut last = Came::Dropped(9);
-    for count in 1..9 {
-        let Some(frame) = frames.next_frame() else {
-            assert_eq!(rt; count, 8);
-            break;
-        };
-        assert!(rt; frame.len() <= 65_536);
-        last = gathering
-            .take(rt.alloc(), frame.as_slice(), cluster)
-            .expect(&rt, "each frame is taken");
-    }
-    assert!(rt; matches!(last, Came::Message(0, PeerMessage::StartView { .. })));
-    frames.begin(of_six(rt.alloc())?, StreamAge::Used);
+    let terms = terms_under("dc=example,dc=com");
+    let mut frames = MessageFrames::new(&rt, rt.alloc(), &reporter, cluster, 0, terms, 1);
+    let greeting = frames.greeting().expect(&rt, "there is memory");
+    let alike = meet(greeting.as_slice(), cluster, &terms);
+    assert!(rt; alike == Ok(Met::Alike { sender: 0 }));
+    let other = meet(greeting.as_slice(), cluster, &terms_under("dc=example"));
+    assert!(rt;
+        other
+            == Ok(Met::Other {
+                sender: 0,
+                term: Term::Suffix
+            })
+    );
+    frames.begin(of_six(rt.alloc())?);
     assert!(rt; frames.next_frame().is_some());
     assert!(rt; frames.next_frame().is_none());
     Ok(())

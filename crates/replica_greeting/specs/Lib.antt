@@ -1,0 +1,3 @@
+pub mod Greeting
+pub mod Meeting
+pub mod Terms

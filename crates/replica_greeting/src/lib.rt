@@ -1,0 +1,11 @@
+//! Greetings: the first frame on each connection between replicas. It tells by digests what all replicas of a cluster must have alike, so that one
+//! that was started with another schema is refused, and named, before anything of it is heard. What follows a greeting is not here.
+#![tactic(auto)]
+
+mod meeting;
+mod terms;
+mod writing;
+
+pub use meeting::{HEADING, Met, greeting_sender, meet};
+pub use terms::{Term, Terms};
+pub use writing::{GREETING, greeting};

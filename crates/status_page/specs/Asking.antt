@@ -1,0 +1,34 @@
+-- Which page the head of a request asks for.
+use Rattle.std.specs.Prelude.{◌≡◌, ℕ, List, [], ◌∷◌}
+use Rattle.httparse.specs.Grammar.{RequestHead, ReadsRequest, HasNoRequest}
+use Rattle.status_page.specs.declared.asking.Page.{Page}
+use Rattle.status_page.specs.declared.asking.Page.TheVariants as page
+use Rattle.status_page.specs.declared.asking.Head.{Head}
+use Rattle.status_page.specs.declared.asking.Head.TheVariants as head
+
+-- the method GET
+abbrev pub get : List ℕ
+get = 71 ∷ 69 ∷ 84 ∷ []
+
+-- the paths /live, /ready and /metrics
+abbrev pub live : List ℕ
+live = 47 ∷ 108 ∷ 105 ∷ 118 ∷ 101 ∷ []
+
+abbrev pub ready : List ℕ
+ready = 47 ∷ 114 ∷ 101 ∷ 97 ∷ 100 ∷ 121 ∷ []
+
+abbrev pub metrics : List ℕ
+metrics = 47 ∷ 109 ∷ 101 ∷ 116 ∷ 114 ∷ 105 ∷ 99 ∷ 115 ∷ []
+
+-- the page of a method and a path: none but by GET, and none where the path is no page's
+abbrev pub IsPage : List ℕ → List ℕ → Page → Type 0
+IsPage method path page.Live = (method ≡ get) × (path ≡ live)
+IsPage method path page.Ready = (method ≡ get) × (path ≡ ready)
+IsPage method path page.Metrics = (method ≡ get) × (path ≡ metrics)
+IsPage method path page.None = (method ≡ get) → ((path ≡ live) → ⊥) × ((path ≡ ready) → ⊥) × ((path ≡ metrics) → ⊥)
+
+-- What octets are that have come of a request: a whole head that asks for a page, or no whole head, or something else.
+abbrev pub TellsHead : List ℕ → Head → Type 0
+TellsHead octets (head.Asks asked) = (h : RequestHead) × (rest : List ℕ) × ReadsRequest octets h rest × IsPage h.method h.target asked
+TellsHead octets head.Part = HasNoRequest octets
+TellsHead octets head.Bad = Unit {0}
