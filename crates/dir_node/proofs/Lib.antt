@@ -1,3 +1,7 @@
 pub mod Bounds
-pub mod Views
 pub mod Crossing
+pub mod Handling
+pub mod Logging
+pub mod Restarts
+pub mod Starts
+pub mod Views

@@ -1,8 +1,14 @@
+pub mod Faults
+pub mod Handling
+pub mod Logged
 pub mod NodeState
 pub mod Outcomes
+pub mod Restarting
+pub mod Ways
 -- what layers above name of the crates below
 pub use Rattle.dir_executed.specs as dir_executed
 pub use Rattle.dir_executed.specs.dir_store as dir_store
+pub use Rattle.log_journal.specs as log_journal
 pub use Rattle.view_store.specs as view_store
 pub use Rattle.vr_recover.specs as vr_recover
 pub use Rattle.vr_state.specs as vr_state

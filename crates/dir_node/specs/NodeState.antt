@@ -1,9 +1,11 @@
--- A node as its callers see it, and what an event makes of it. The state of a replica, what it has executed and a device flow in; what a crash
--- leaves and what is handed out flow out. Steps are defined in vr_state, pairs on a device in view_store, what is executed in dir_executed.
-use Rattle.std.specs.Prelude.{◌≡◌, ◌⊎◌, ℕ, ◌+◌, ◌≤◌, ◌^◌, ◌++◌, List, [], Bool, true, false}
+-- A node as its callers see it, and what an event makes of it. The state of a replica, what it has executed, a device and a journal flow in; what a
+-- crash leaves and what is handed out flow out. Steps are defined in vr_state, pairs on a device in view_store, what a journal tells in log_journal,
+-- what is executed in dir_executed.
+use Rattle.std.specs.Prelude.{◌≡◌, ◌⊎◌, ℕ, ◌+◌, ◌≤◌, ◌^◌, ◌++◌, List, [], Bool, true, false, Option, is_some}
 use Rattle.std.specs.Arc.{arc_value}
 use Rattle.dir_executed.specs.dir_store.ldap_op.Values.{OpValue}
 use Rattle.dir_executed.specs.Executing.{ExecutedValue, IsFront}
+use Rattle.log_journal.specs.journal.declared.journal.Journal.{Journal}
 use Rattle.view_store.specs.declared.slot.Pair.{Pair}
 use Rattle.view_store.specs.declared.state.Status.TheVariants as status
 use Rattle.view_store.specs.Device.{Only}
@@ -14,37 +16,53 @@ use Rattle.vr_state.specs.declared.message.Outputs.{Outputs}
 use Rattle.vr_state.specs.Words.{Entry}
 use Rattle.vr_state.specs.Outcome as steps
 use Rattle.vr_state.specs.State.{State}
+use Rattle.log_journal.specs.Told.{Told}
+use Rattle.dir_node.specs.Logged.{IsHeldIn, IsToldIn, LeavesTold, head_of}
 use Rattle.dir_node.specs.declared.config.NodeConfig.{NodeConfig}
 
--- a node: its place among the replicas, its cluster, the replica's state, what it has executed, the device of its pair, how often it was started, and
--- whether it has stopped for good
-pub record NodeValue (D : Type 0) : Type 0 where
+-- a node: its place among the replicas, its cluster, the replica's state, what it has executed, the device of its pair, its journal where it keeps one,
+-- how often it was started, whether it has stopped for good, and how much is to be committed before sessions are served
+pub record NodeValue (D J : Type 0) : Type 0 where
   pub index : ℕ
   pub count : ℕ
   pub cluster : ℕ
   pub replica : State OpValue
   pub executed : ExecutedValue
   pub device : D
+  pub journal : Option (Journal J)
   pub restarts : ℕ
   pub is_halted : Bool
+  pub catch_up : ℕ
 
 -- the pair of a node: what a crash is to leave
-abbrev pub pair_of : {D : Type 0} → NodeValue D → Pair
-pair_of n = record { view = n.replica.view_number; restarts = n.restarts; journaled = false }
+abbrev pub pair_of : {D J : Type 0} → NodeValue D J → Pair
+pair_of n = record { view = n.replica.view_number; restarts = n.restarts; journaled = is_some n.journal }
+
+-- what the journal of a node tells beside its replica
+abbrev pub head : {D J : Type 0} → NodeValue D J → Told
+head n = head_of n.cluster n.index n.count n.restarts
 
 -- Every crash of the device leaves the pair of the replica's view and the restarts.
-abbrev pub KeepsPair : {D : Type 0} → (D → List ℕ → Type 0) → NodeValue D → Type 0
+abbrev pub KeepsPair : {D J : Type 0} → (D → List ℕ → Type 0) → NodeValue D J → Type 0
 KeepsPair may_leave n = (image : List ℕ) → may_leave n.device image → found n.cluster image ≡ own (pair_of n)
 
+-- Every crash of the journal's device, where there is one, leaves a journal of this node: its restarts, and the replica's view, last normal view and
+-- log, all of it.
+abbrev pub KeepsLog : {D J : Type 0} → (J → List ℕ → Type 0) → NodeValue D J → Type 0
+KeepsLog may_leave n = LeavesTold may_leave n.journal (head n) n.replica
+
 -- A view store is ready, its device holds this pair, and all of that is settled.
-pub record Holds {D : Type 0} (seen : D → List ℕ) (may_leave : D → List ℕ → Type 0) (views : Stored D) (view restarts : ℕ) : Type 0 where
+pub record Holds {D : Type 0} (seen : D → List ℕ) (may_leave : D → List ℕ → Type 0) (views : Stored D) (pair : Pair) : Type 0 where
   pub ready : views.status ≡ status.Ready
-  pub pair : found views.cluster (seen views.device) ≡ own (record { view = view; restarts = restarts; journaled = false })
+  pub holds : found views.cluster (seen views.device) ≡ own pair
   pub settled : Only (seen views.device) (may_leave views.device)
 
--- Unless it has stopped, a node's device holds its pair.
-abbrev pub IsStored : {D : Type 0} → (D → List ℕ) → (D → List ℕ → Type 0) → Stored D → ℕ → ℕ → Bool → Type 0
-IsStored seen may_leave views view restarts is_halted = is_halted ≡ false → Holds seen may_leave views view restarts
+-- A node that runs: the device holds its pair, and its journal, where it keeps one, is settled and tells its replica.
+pub record IsRunning {D J : Type 0} (seen : D → List ℕ) (may_leave : D → List ℕ → Type 0) (log_seen : J → List ℕ) (log_may_leave : J → List ℕ → Type 0)
+    (views : Stored D) (journal : Option (Journal J)) (index count : ℕ) (r : State OpValue) (restarts : ℕ) : Type 0 where
+  pub stored : Holds seen may_leave views (record { view = r.view_number; restarts = restarts; journaled = is_some journal })
+  pub held : IsHeldIn log_seen log_may_leave journal
+  pub told : IsToldIn log_seen journal (head_of views.cluster index count restarts) r
 
 -- A view can't be stored: it is past the greatest number, or the sequence of pairs on the device is at its end.
 abbrev pub CannotStore : ℕ → List ℕ → Type 0
@@ -60,7 +78,7 @@ CatchesUp false old due new = new ≡ old ++ due
 CatchesUp true old due new = IsFront old due new
 
 -- What no event changes.
-pub record IsSameNode {D : Type 0} (old new : NodeValue D) : Type 0 where
+pub record IsSameNode {D J : Type 0} (old new : NodeValue D J) : Type 0 where
   pub index : new.index ≡ old.index
   pub count : new.count ≡ old.count
   pub cluster : new.cluster ≡ old.cluster
@@ -68,13 +86,14 @@ pub record IsSameNode {D : Type 0} (old new : NodeValue D) : Type 0 where
   pub suffix : new.executed.suffix ≡ old.executed.suffix
   pub indexes : new.executed.indexes ≡ old.executed.indexes
   pub restarts : new.restarts ≡ old.restarts
+  pub journaled : is_some new.journal ≡ is_some old.journal
 
 -- nothing executed yet, over a configuration's schema, root and indexes
 abbrev pub nothing_executed : NodeConfig → ExecutedValue
 nothing_executed config = record { schema = arc_value config.schema; suffix = config.suffix; indexes = config.indexes; records = [] }
 
 -- A node as it is made of a configuration: this state of its replica, nothing executed, so many restarts.
-pub record IsMade {D : Type 0} (config : NodeConfig) (r : State OpValue) (restarts : ℕ) (n : NodeValue D) : Type 0 where
+pub record IsMade {D J : Type 0} (config : NodeConfig) (r : State OpValue) (restarts : ℕ) (n : NodeValue D J) : Type 0 where
   pub index_is : n.index ≡ config.index
   pub count_is : n.count ≡ config.count
   pub cluster_is : n.cluster ≡ config.cluster

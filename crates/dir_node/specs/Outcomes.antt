@@ -31,19 +31,19 @@ outcome_view Stale = stale
 outcome_view Lost = lost
 
 -- the record at this place is executed with this reply, or may still come where the node runs as the normal primary of its view
-abbrev pub outcome_at : {D : Type 0} → NodeValue D → ℕ → Option ReplyModel → OutcomeValue
+abbrev pub outcome_at : {D J : Type 0} → NodeValue D J → ℕ → Option ReplyModel → OutcomeValue
 outcome_at n p (Some reply) = done p reply
 outcome_at n p None = cond (not n.is_halted && leads n.count n.index n.replica n.replica.view_number) pending lost
 
 -- the client's latest record against the number that is asked for
-abbrev pub outcome_by : {D : Type 0} → NodeValue D → ℕ → Option Latest → OutcomeValue
+abbrev pub outcome_by : {D J : Type 0} → NodeValue D J → ℕ → Option Latest → OutcomeValue
 outcome_by n number None = lost
 outcome_by n number (Some l) =
     cond (nat_lt number l.request_number) stale
     (cond (l.request_number == number) (outcome_at n l.op_number (slice_get (replies_at n.executed) (l.op_number - 1))) lost)
 
 -- what became of a client's request of this number
-abbrev pub outcome_of : {D : Type 0} → NodeValue D → Client → ℕ → OutcomeValue
+abbrev pub outcome_of : {D J : Type 0} → NodeValue D J → Client → ℕ → OutcomeValue
 outcome_of n client number = outcome_by n number (latest client n.replica.log)
 
 -- where a replica of this index stands, by its view's primary and its status
@@ -53,5 +53,5 @@ standing_by index leader status.ViewChange = Changing
 standing_by index leader status.Recovering = Recovering
 
 -- where a node stands
-abbrev pub standing_of : {D : Type 0} → NodeValue D → Standing
+abbrev pub standing_of : {D J : Type 0} → NodeValue D J → Standing
 standing_of n = cond n.is_halted Recovering (standing_by n.index (primary n.count n.replica.view_number) n.replica.status)

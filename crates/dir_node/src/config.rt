@@ -2,6 +2,8 @@
 
 use crate::error::NodeError;
 use dir_executed::{Indexes, Name, Op, Schema};
+use log_journal::Device as JournalDevice;
+use std::alloc::AllocError;
 use std::sync::Arc;
 use view_store::{Cluster, Device};
 use vr_state::message::Outputs;
@@ -26,17 +28,28 @@ pub struct NodeConfig {
 /// What an event at a node gives out.
 #[derive(Drop)]
 pub struct Handled {
-    /// What the step sends and answers; its view is stored.
+    /// What the step sends and answers; its view is stored, and its notes are settled.
     pub outputs: Outputs<Op>,
     /// Whether committed records are left to be executed, for want of memory. The next event goes on with them.
     pub behind: bool,
 }
 
-/// A start that was refused, and the device.
+/// What a batch of events at a node gives out.
 #[derive(Drop)]
-pub struct Refused<D: Device> {
+pub struct AllHandled {
+    /// What each event sends and answers, in their order; none of one that was left out for want of memory.
+    pub outputs: Vec<Result<Outputs<Op>, AllocError>>,
+    /// Whether committed records are left to be executed, for want of memory. The next event goes on with them.
+    pub behind: bool,
+}
+
+/// A start that was refused, and the devices.
+#[derive(Drop)]
+pub struct Refused<D: Device, J: JournalDevice> {
     /// Why it was.
     pub error: NodeError,
-    /// The device, to start with again.
+    /// The pair's device, to start with again.
     pub device: D,
+    /// The journal's, where one was given.
+    pub journal: Option<J>,
 }

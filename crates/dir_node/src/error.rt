@@ -2,6 +2,7 @@
 ghost use Rattle.std.specs.Prelude.{◌≡◌};
 ghost use Rattle.dir_node.specs.declared.error.NodeError.TheVariants.{NoMemory, Store};
 
+use log_journal::NoteError;
 use std::alloc::AllocError;
 use thiserror::Error;
 use view_store::ViewStoreError;
@@ -15,7 +16,16 @@ pub enum NodeError {
     /// The pair could not be loaded or stored. From then on a node answers `Halted`.
     #[error("{0}")]
     Store(ViewStoreError),
-    /// The pair could not be stored at an earlier event.
+    /// The journal could not be read or written. From then on a node answers `Halted`.
+    #[error("{0}")]
+    Journal(NoteError),
+    /// The journal is another cluster's; nothing was written.
+    #[error("E23: the journal of another cluster")]
+    ForeignJournal,
+    /// The journal is another replica's, or doesn't go with the pair; at a first start, it isn't empty. Nothing was written.
+    #[error("E26: stale journal")]
+    StaleJournal,
+    /// The pair or the journal could not be written at an earlier event.
     #[error("the node has stopped")]
     Halted,
 }

@@ -1,18 +1,26 @@
-//! A running replica: its state, the directory after what it has executed, and its stored pair, which change together, one event at a time.
-//! Events flow in; what is to be sent and answered flows out. Locks, threads, sockets and octets of frames are not here.
+//! A running replica: its state, the directory after what it has executed, its stored pair, and its journal where it keeps one, which change together,
+//! one event or one batch at a time. Events flow in; what is to be sent and answered flows out. Locks, threads, sockets and octets of frames are not here.
 #![tactic(auto)]
 
 mod config;
 mod error;
+mod fault;
 mod keeping;
+mod made;
 mod node;
+mod opening;
 mod outcome;
+mod owner;
+mod restarting;
 mod standing;
 mod starting;
+mod taking;
+mod way;
 
-pub use config::{Handled, NodeConfig, Refused};
+pub use config::{AllHandled, Handled, NodeConfig, Refused};
 pub use dir_executed::{Executed, Indexes, Name, Op, Reply, Schema, Store};
 pub use error::NodeError;
+pub use log_journal::{Device as JournalDevice, NoteError};
 pub use node::Node;
 pub use outcome::Outcome;
 pub use standing::Standing;

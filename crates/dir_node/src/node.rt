@@ -1,64 +1,66 @@
-//! A node: a replica, what it has executed, and the device of its stored pair. Events flow in; outputs flow out once the view is stored. Which step
-//! an event makes is decided below, who sends and who waits above.
-ghost use Rattle.std.specs.Prelude.{◌≡◌, ◌-◌, ◌<◌, ◌↔◌, ◌≤◌, true, false, length, slice_get, IfOk, OnOk, IfErr, IsErrOf, ◌≢◌};
+//! A node: a replica, what it has executed, the device of its stored pair, and its journal where it keeps one. Events flow in; outputs flow out once the
+//! journal is settled and the view is stored. Which step an event makes is decided below, who sends and who waits above.
+ghost use Rattle.std.specs.Prelude.{◌≡◌, ◌-◌, ◌==◌, ◌∷◌, [], ◌↔◌, true, false, None, is_some, length, slice_get, IfOk, OnOk, IsErrOf};
 ghost use Rattle.dir_executed.specs.Executing.{directory_at, due_after, replies_at};
-ghost use Rattle.dir_node.specs.NodeState.{CannotStart, CannotStore, CatchesUp, IsJournaled, IsMade, IsOwn, IsSameNode, KeepsPair, StartLeaves, given, pair_of, started_pair};
+ghost use Rattle.dir_node.specs.Handling.{MakesSteps, left_to_catch_up};
+ghost use Rattle.dir_node.specs.Logged.{HasRisenIn, LeavesOnlyIn, TellsSome, device_in};
+ghost use Rattle.dir_node.specs.NodeState.{CannotStore, CatchesUp, IsRunning, IsSameNode, KeepsLog, KeepsPair, given, head, pair_of};
 ghost use Rattle.dir_node.specs.Outcomes.{outcome_at, outcome_of, outcome_view, standing_of};
-ghost use Rattle.dir_node.specs.declared.error.NodeError.TheVariants as error;
 ghost use Rattle.view_store.specs.Device.{HasRisen, LeavesOnly};
-ghost use Rattle.view_store.specs.Slots.{found, foreign, own, IsWellPlaced};
+ghost use Rattle.view_store.specs.Slots.{own, IsWellPlaced};
 ghost use Rattle.view_store.specs.Store.{IsFormerOrNew};
-ghost use Rattle.view_store.specs.declared.fault.ViewStoreError.TheVariants as view_error;
-ghost use Rattle.vr_recover.specs.Rules.{recovers};
-ghost use Rattle.vr_state.specs.Outcome.{idle};
-ghost use Rattle.vr_state.specs.State.{first, recovering};
 ghost use Rattle.vr_state.specs.Step.{step as step_of};
+ghost use Rattle.vr_state.specs.Views.{state};
 
-use crate::config::{Handled, NodeConfig, Refused};
+use crate::config::{AllHandled, Handled};
 use crate::error::NodeError;
-use crate::keeping::keep_pair;
+use crate::fault::Untaken;
+use crate::keeping::{execute_due, follow};
 use crate::outcome::Outcome;
 use crate::standing::Standing;
-use crate::starting::{start_again, start_store};
+use crate::taking::{take_all, take_one};
 use dir_executed::{Executed, Op, Store};
+use log_journal::{Device as JournalDevice, Journal, NoteError};
 use std::alloc::Global;
 use std::marker::Model;
-use view_store::{Device, ViewStore, ViewStoreError};
-use vr_recover::step;
+use view_store::{Device, Pair, ViewStore, ViewStoreError};
 use vr_state::event::Event;
-use vr_state::message::Outputs;
 use vr_state::replica::Replica;
-use vr_state::sending::sending;
 use vr_state::standing::leads;
 use vr_state::words::{Client, Entry, Status};
 
-/// A running replica. It is `Drop` where its device is; whoever shares it puts it into a lock.
-pub struct Node<D: Device> {
+/// A running replica. It is `Drop` where its devices are; whoever shares it puts it into a lock.
+pub struct Node<D: Device, J: JournalDevice> {
     replica: Replica<Op>,
     executed: Executed,
     views: ViewStore<D>,
+    journal: Option<Journal<J>>,
     restarts: u64,
     is_halted: bool,
+    catch_up: u64,
 }
 
 // Not derived: see "What the gate takes" in docs/ARCHITECTURE.md.
-impl<D: Device + Drop> Drop for Node<D> {
+impl<D: Device + Drop, J: JournalDevice + Drop> Drop for Node<D, J> {
     fn drop(self) {
         let Node {
             replica: _,
             executed: _,
             views: _,
+            journal: _,
             restarts: _,
             is_halted: _,
+            catch_up: _,
         } = self;
     }
 }
 
-impl<D: Device> Model for Node<D> {
-    ghost use Rattle.dir_node.specs.NodeState.{NodeValue, IsStored};
+impl<D: Device, J: JournalDevice> Model for Node<D, J> {
+    ghost use Rattle.std.specs.Prelude.{◌≡◌, false};
+    ghost use Rattle.dir_node.specs.NodeState.{NodeValue, IsRunning};
     ghost use Rattle.vr_state.specs.Views.{state};
 
-    ghost Value = { NodeValue D };
+    ghost Value = { NodeValue D J };
 
     ghost view = { λ n. record {
       index = n.replica.index;
@@ -67,147 +69,53 @@ impl<D: Device> Model for Node<D> {
       replica = state n.replica;
       executed = n.executed;
       device = n.views.device;
+      journal = n.journal;
       restarts = n.restarts;
       is_halted = n.is_halted;
+      catch_up = n.catch_up;
     } };
 
-    ghost invariant = { λ n. IsStored D.seen D.may_leave n.views n.replica.view_number n.restarts n.is_halted };
+    ghost invariant = { λ n. n.is_halted ≡ false
+        → IsRunning D.seen D.may_leave J.seen J.may_leave n.views n.journal n.replica.index n.replica.count (state n.replica) n.restarts };
 }
 
-impl<D: Device> Node<D> {
-    /// The node of a replica's first start, once in its life: its device holds view 0 and one restart, and it is normal in view 0. What takes memory
-    /// comes first: a start that is refused memory calls no device.
-    pub fn fresh(
-        alloc: Global,
-        device: D,
-        config: NodeConfig,
-    ) -> Result<(Node<D>, Outputs<Op>), Refused<D>>
-        requires within { config.index < config.count }
-        ensures made { IfOk result (λ made. IsMade config (first config.count) 1 made.0) }
-        ensures outputs { IfOk result (λ made. given made.0.replica made.1 ≡ idle (first config.count)) }
-
-        // Every crash from then on leaves view 0 and one restart. A stop inside the call promises nothing.
-        ensures kept { IfOk result (λ made. KeepsPair D.may_leave made.0) }
-        ensures placed { IfOk result (λ made. IsWellPlaced (D.seen made.0.device)) }
-
-        // Want of memory comes before the device is called, E22 where the device is longer than 64 octets, E21 where it failed; nothing else.
-        ensures no_memory { IfErr result (λ r. r.error ≡ error.NoMemory → r.device ≡ device) }
-        ensures no_pair { IfErr result (λ r. r.error ≡ error.Store view_error.NoPair → 65 ≤ length (D.seen device)) }
-        ensures no_pair_same { IfErr result (λ r. r.error ≡ error.Store view_error.NoPair → D.seen r.device ≡ D.seen device) }
-        ensures device_failed { IfErr result (λ r. r.error ≡ error.Store view_error.DeviceFailed
-            → HasRisen (D.failure_count device) (D.failure_count r.device)) }
-        ensures foreign_cluster { IfErr result (λ r. r.error ≢ error.Store view_error.ForeignCluster) }
-        ensures keeps_journal { IfErr result (λ r. r.error ≢ error.Store view_error.KeepsJournal) }
-        ensures not_failed { IfErr result (λ r. r.error ≢ error.Store view_error.Failed) }
-        ensures not_halted { IfErr result (λ r. r.error ≢ error.Halted) }
+impl<D: Device, J: JournalDevice> Node<D, J> {
+    /// A node that runs, and has executed nothing yet.
+    pub(crate) fn assembled(
+        replica: Replica<Op>,
+        executed: Executed,
+        views: ViewStore<D>,
+        journal: Option<Journal<J>>,
+        restarts: u64,
+        catch_up: u64,
+    ) -> Node<D, J>
+        requires { IsRunning D.seen D.may_leave J.seen J.may_leave views journal replica.index replica.count (state replica) restarts }
+        ensures { result ≡ record {
+          index = replica.index;
+          count = replica.count;
+          cluster = views.cluster;
+          replica = state replica;
+          executed = executed;
+          device = views.device;
+          journal = journal;
+          restarts = restarts;
+          is_halted = false;
+          catch_up = catch_up;
+        } }
     {
-        let NodeConfig {
-            schema,
-            indexes,
-            suffix,
-            cluster,
-            index,
-            count,
-        } = config;
-        let replica = match Replica::first(alloc, index, count) {
-            Ok(replica) => replica,
-            Err(_) => {
-                return Err(Refused {
-                    error: NodeError::NoMemory,
-                    device,
-                });
-            }
-        };
-        let executed = Executed::new(alloc, Store::new(alloc, schema, indexes, suffix));
-        let outputs = sending(alloc, Vec::new(alloc));
-        let mut views = ViewStore::new(device, cluster);
-        match start_store(&mut views) {
-            Ok(()) => {
-                let node = Node {
-                    replica,
-                    executed,
-                    views,
-                    restarts: 1,
-                    is_halted: false,
-                };
-                Ok((node, outputs))
-            }
-            Err(error) => Err(Refused {
-                error: NodeError::Store(error),
-                device: views.into_device(),
-            }),
+        Node {
+            replica,
+            executed,
+            views,
+            journal,
+            restarts,
+            is_halted: false,
+            catch_up,
         }
     }
 
-    /// The node of a later start: it recovers in its stored view, with the number of this start as its nonce, which its device holds before anything is
-    /// given out.
-    pub fn reopen(
-        alloc: Global,
-        device: D,
-        config: NodeConfig,
-    ) -> Result<(Node<D>, Outputs<Op>), Refused<D>>
-        requires within { config.index < config.count }
-
-        // A pair of the cluster's own is found; the replica is one after its recover event, in that view, with one restart more as its nonce.
-        ensures own { OnOk result (IsOwn (found config.cluster (D.seen device))) }
-        ensures made { let pair = started_pair (found config.cluster (D.seen device)) in
-            IfOk result (λ made. IsMade config (recovering config.count pair.view pair.restarts) pair.restarts made.0) }
-        ensures outputs { let pair = started_pair (found config.cluster (D.seen device)) in
-            IfOk result (λ made. given made.0.replica made.1 ≡ recovers config.count config.index pair.view pair.restarts) }
-
-        // Every crash from then on leaves that pair.
-        ensures kept { IfOk result (λ made. KeepsPair D.may_leave made.0) }
-        ensures placed { IfOk result (λ made. IsWellPlaced (D.seen device) → IsWellPlaced (D.seen made.0.device)) }
-
-        // A crash at any moment of the call leaves what the device might have left before, or the former pair or the new one.
-        ensures any_moment { IfOk result (λ made. IsWellPlaced (D.seen device)
-            → LeavesOnly D.moment D.left_since device made.0.device (StartLeaves D.seen D.may_leave config.cluster device)) }
-        ensures refused_moment { IfErr result (λ r. IsWellPlaced (D.seen device)
-            → LeavesOnly D.moment D.left_since device r.device (StartLeaves D.seen D.may_leave config.cluster device)) }
-
-        // Want of memory writes nothing; nor do E22, where the pair has no next start, E23, where another cluster's pair is found, and E25, where a
-        // journal goes with the pair. E21 comes only where the device failed. There is no other error.
-        ensures no_memory { IfErr result (λ r. r.error ≡ error.NoMemory → D.seen r.device ≡ D.seen device) }
-        ensures no_pair { IfErr result (λ r. r.error ≡ error.Store view_error.NoPair → CannotStart config.cluster (D.seen device)) }
-        ensures no_pair_same { IfErr result (λ r. r.error ≡ error.Store view_error.NoPair → D.seen r.device ≡ D.seen device) }
-        ensures foreign_cluster { IfErr result (λ r. r.error ≡ error.Store view_error.ForeignCluster → found config.cluster (D.seen device) ≡ foreign) }
-        ensures foreign_same { IfErr result (λ r. r.error ≡ error.Store view_error.ForeignCluster → D.seen r.device ≡ D.seen device) }
-        ensures keeps_journal { IfErr result (λ r. r.error ≡ error.Store view_error.KeepsJournal → IsJournaled (found config.cluster (D.seen device))) }
-        ensures keeps_same { IfErr result (λ r. r.error ≡ error.Store view_error.KeepsJournal → D.seen r.device ≡ D.seen device) }
-        ensures device_failed { IfErr result (λ r. r.error ≡ error.Store view_error.DeviceFailed
-            → HasRisen (D.failure_count device) (D.failure_count r.device)) }
-        ensures not_failed { IfErr result (λ r. r.error ≢ error.Store view_error.Failed) }
-        ensures not_halted { IfErr result (λ r. r.error ≢ error.Halted) }
-    {
-        let NodeConfig {
-            schema,
-            indexes,
-            suffix,
-            cluster,
-            index,
-            count,
-        } = config;
-        let mut views = ViewStore::new(device, cluster);
-        match start_again(alloc, &mut views, index, count) {
-            Ok((replica, outputs, restarts)) => {
-                let node = Node {
-                    replica,
-                    executed: Executed::new(alloc, Store::new(alloc, schema, indexes, suffix)),
-                    views,
-                    restarts,
-                    is_halted: false,
-                };
-                Ok((node, outputs))
-            }
-            Err(error) => Err(Refused {
-                error,
-                device: views.into_device(),
-            }),
-        }
-    }
-
-    /// Handles one event: the replica makes its step, its view is stored where it grew, and what is committed is executed. Only then is anything given
-    /// out. Where the pair can't be stored, nothing is given out, and the node has stopped for good.
+    /// Handles one event: the replica makes its step, its journal, where it keeps one, is settled, its view is stored where it grew, and what is committed is
+    /// executed. Only then is anything given out. Where the journal or the pair can't be written, nothing is given out, and the node has stopped for good.
     pub fn handle(&mut self, alloc: Global, event: Event<Op>) -> Result<Handled, NodeError>
         // The replica makes its step, and the outputs are the step's.
         ensures step { IfOk result (λ h. given self.new.replica h.outputs ≡ step_of self.old.count self.old.index self.old.replica event) }
@@ -216,13 +124,15 @@ impl<D: Device> Node<D> {
         ensures executed { IfOk result (λ h. CatchesUp h.behind self.old.executed.records
             (due_after (length self.old.executed.records) self.new.replica.commit_number self.new.replica.log) self.new.executed.records) }
 
-        // Every crash from then on leaves the replica's pair.
+        // Every crash from then on leaves the replica's pair, and a journal that tells the replica.
         ensures kept { OnOk result (KeepsPair D.may_leave self.new) }
+        ensures logged { OnOk result (KeepsLog J.may_leave self.new) }
         ensures running { OnOk result (self.new.is_halted ≡ false) }
         ensures same { IsSameNode self.old self.new }
+        ensures catch_up { OnOk result (self.new.catch_up ≡ left_to_catch_up self.old.catch_up self.new.replica) }
 
-        // A refused growth changes nothing.
-        ensures no_memory { IsErrOf result NodeError.NoMemory → self.new ≡ self.old }
+        // A refused growth changes nothing; a journal stays as it is read.
+        ensures no_memory { IsErrOf result NodeError.NoMemory → self.new ≡ record self.old { journal = self.new.journal } }
 
         // A node that has stopped answers so, and changes nothing.
         ensures halted { IsErrOf result NodeError.Halted ↔ (self.old.is_halted ≡ true) }
@@ -240,33 +150,168 @@ impl<D: Device> Node<D> {
         ensures keeps_journal { IsErrOf result (NodeError.Store ViewStoreError.KeepsJournal) → ⊥ }
         ensures not_failed { IsErrOf result (NodeError.Store ViewStoreError.Failed) → ⊥ }
 
-        // A crash at any moment of the call leaves the pair from before the step or from after it.
+        // It stops too where its journal can't be written, and then the pair's device isn't called: E21 only where the journal's device has failed. Without a
+        // journal that doesn't happen.
+        ensures log_stops { (e : NoteError) → IsErrOf result (NodeError.Journal e)
+            → (self.new.is_halted ≡ true) × (self.new.executed ≡ self.old.executed) × (self.new.device ≡ self.old.device) }
+        ensures log_failed { IsErrOf result (NodeError.Journal NoteError.DeviceFailed)
+            → HasRisenIn J.failure_count (device_in self.old.journal) (device_in self.new.journal) }
+        ensures no_journal { (e : NoteError) → self.old.journal ≡ None → IsErrOf result (NodeError.Journal e) → ⊥ }
+        ensures foreign_journal { IsErrOf result NodeError.ForeignJournal → ⊥ }
+        ensures stale_journal { IsErrOf result NodeError.StaleJournal → ⊥ }
+
+        // A crash at any moment of the call leaves the pair from before the step or from after it, and a journal that tells the replica from before it or
+        // from after it.
         ensures any_moment { self.old.is_halted ≡ false → IsWellPlaced (D.seen self.old.device)
             → LeavesOnly D.moment D.left_since self.old.device self.new.device (IsFormerOrNew self.old.cluster (own (pair_of self.old))
-            (record { view = (step_of self.old.count self.old.index self.old.replica event).state.view_number; restarts = self.old.restarts; journaled = false })) }
+            (record (pair_of self.old) { view = (step_of self.old.count self.old.index self.old.replica event).state.view_number })) }
+        ensures any_log_moment { self.old.is_halted ≡ false
+            → LeavesOnlyIn J.moment J.left_since (device_in self.old.journal) (device_in self.new.journal)
+            (TellsSome (head self.old) self.old.count self.old.index self.old.replica (event ∷ [])) }
         ensures placed { OnOk result (IsWellPlaced (D.seen self.old.device) → IsWellPlaced (D.seen self.new.device)) }
     {
         if self.is_halted {
             return Err(NodeError::Halted);
         }
         let former = self.replica.view_number;
-        let outputs = step(alloc, &mut self.replica, event)?;
-        match keep_pair(&mut self.views, former, self.restarts, outputs.store) {
-            Ok(()) => {}
+        let outputs = match take_one(alloc, &mut self.replica, &mut self.journal, event) {
+            Ok(outputs) => outputs,
+            Err(Untaken::NoMemory) => return Err(NodeError::NoMemory),
+            Err(Untaken::Journal(error)) => {
+                self.is_halted = true;
+                return Err(NodeError::Journal(error));
+            }
+        };
+        let pair = Pair {
+            view: self.replica.view_number,
+            restarts: self.restarts,
+            journaled: self.journal.is_some(),
+        };
+        match follow(
+            alloc,
+            &mut self.views,
+            &mut self.executed,
+            &self.replica,
+            former,
+            pair,
+        ) {
+            Ok(behind) => {
+                self.catch_up = left_to_catch_up(self.catch_up, &self.replica);
+                Ok(Handled { outputs, behind })
+            }
             Err(error) => {
                 self.is_halted = true;
-                return Err(NodeError::Store(error));
+                Err(NodeError::Store(error))
             }
         }
-        let behind = match self.executed.advance(
-            alloc,
-            self.replica.log.as_slice(),
-            self.replica.commit_number,
-        ) {
-            Ok(()) => false,
-            Err(_) => true,
+    }
+
+    /// Handles a batch of events, one after another: the replica makes their steps, its journal, where it keeps one, is settled by one write and one sync, its
+    /// view is stored where it grew, and what is committed is executed. Only then is anything given out. Where the journal or the pair can't be written,
+    /// nothing is given out, and the node has stopped for good.
+    pub fn handle_all(
+        &mut self,
+        alloc: Global,
+        events: Vec<Event<Op>>,
+    ) -> Result<AllHandled, NodeError>
+        // Each event makes its step, and its outputs are the step's, or it is left out for want of memory.
+        ensures steps { IfOk result (λ h. MakesSteps self.old.count self.old.index self.old.replica events.items h.outputs.items self.new.replica) }
+
+        // The committed records that come next are executed, all of them unless it is behind.
+        ensures executed { IfOk result (λ h. CatchesUp h.behind self.old.executed.records
+            (due_after (length self.old.executed.records) self.new.replica.commit_number self.new.replica.log) self.new.executed.records) }
+
+        // Every crash from then on leaves the replica's pair, and a journal that tells the replica.
+        ensures kept { OnOk result (KeepsPair D.may_leave self.new) }
+        ensures logged { OnOk result (KeepsLog J.may_leave self.new) }
+        ensures running { OnOk result (self.new.is_halted ≡ false) }
+        ensures same { IsSameNode self.old self.new }
+        ensures catch_up { OnOk result (self.new.catch_up ≡ left_to_catch_up self.old.catch_up self.new.replica) }
+
+        // Without a journal the whole batch may be refused memory, and changes nothing then; with one, single events are.
+        ensures no_memory { IsErrOf result NodeError.NoMemory → (self.new ≡ self.old) × (self.old.journal ≡ None) }
+
+        // A node that has stopped answers so, and changes nothing.
+        ensures halted { IsErrOf result NodeError.Halted ↔ (self.old.is_halted ≡ true) }
+        ensures halted_same { IsErrOf result NodeError.Halted → self.new ≡ self.old }
+
+        // It stops where the pair can't be stored, executes nothing then, and gives nothing out: E21 only where the device has failed, E22 only where
+        // the view is past the greatest number or the sequence of pairs is at its end, and then nothing is written. There is no other cause.
+        ensures stops { (e : ViewStoreError) → IsErrOf result (NodeError.Store e) → (self.new.is_halted ≡ true) × (self.new.executed ≡ self.old.executed) }
+        ensures device_failed { IsErrOf result (NodeError.Store ViewStoreError.DeviceFailed)
+            → HasRisen (D.failure_count self.old.device) (D.failure_count self.new.device) }
+        ensures no_pair { IsErrOf result (NodeError.Store ViewStoreError.NoPair)
+            → CannotStore self.new.replica.view_number (D.seen self.old.device) }
+        ensures no_pair_same { IsErrOf result (NodeError.Store ViewStoreError.NoPair) → self.new.device ≡ self.old.device }
+        ensures foreign_cluster { IsErrOf result (NodeError.Store ViewStoreError.ForeignCluster) → ⊥ }
+        ensures keeps_journal { IsErrOf result (NodeError.Store ViewStoreError.KeepsJournal) → ⊥ }
+        ensures not_failed { IsErrOf result (NodeError.Store ViewStoreError.Failed) → ⊥ }
+
+        // It stops too where its journal can't be written, and then the pair's device isn't called: E21 only where the journal's device has failed. Without a
+        // journal that doesn't happen.
+        ensures log_stops { (e : NoteError) → IsErrOf result (NodeError.Journal e)
+            → (self.new.is_halted ≡ true) × (self.new.executed ≡ self.old.executed) × (self.new.device ≡ self.old.device) }
+        ensures log_failed { IsErrOf result (NodeError.Journal NoteError.DeviceFailed)
+            → HasRisenIn J.failure_count (device_in self.old.journal) (device_in self.new.journal) }
+        ensures no_journal { (e : NoteError) → self.old.journal ≡ None → IsErrOf result (NodeError.Journal e) → ⊥ }
+        ensures foreign_journal { IsErrOf result NodeError.ForeignJournal → ⊥ }
+        ensures stale_journal { IsErrOf result NodeError.StaleJournal → ⊥ }
+
+        // A crash at any moment of the call leaves the pair from before the batch or from after it, and a journal that tells the replica after some first of
+        // the events that were taken.
+        ensures any_moment { self.old.is_halted ≡ false → IsWellPlaced (D.seen self.old.device)
+            → LeavesOnly D.moment D.left_since self.old.device self.new.device (IsFormerOrNew self.old.cluster (own (pair_of self.old))
+            (record (pair_of self.old) { view = self.new.replica.view_number })) }
+        ensures any_log_moment { self.old.is_halted ≡ false
+            → LeavesOnlyIn J.moment J.left_since (device_in self.old.journal) (device_in self.new.journal)
+            (TellsSome (head self.old) self.old.count self.old.index self.old.replica events.items) }
+        ensures placed { OnOk result (IsWellPlaced (D.seen self.old.device) → IsWellPlaced (D.seen self.new.device)) }
+    {
+        if self.is_halted {
+            return Err(NodeError::Halted);
+        }
+        let former = self.replica.view_number;
+        let outputs = match take_all(alloc, &mut self.replica, &mut self.journal, events) {
+            Ok(outputs) => outputs,
+            Err(Untaken::NoMemory) => return Err(NodeError::NoMemory),
+            Err(Untaken::Journal(error)) => {
+                self.is_halted = true;
+                return Err(NodeError::Journal(error));
+            }
         };
-        Ok(Handled { outputs, behind })
+        let pair = Pair {
+            view: self.replica.view_number,
+            restarts: self.restarts,
+            journaled: self.journal.is_some(),
+        };
+        match follow(
+            alloc,
+            &mut self.views,
+            &mut self.executed,
+            &self.replica,
+            former,
+            pair,
+        ) {
+            Ok(behind) => {
+                self.catch_up = left_to_catch_up(self.catch_up, &self.replica);
+                Ok(AllHandled { outputs, behind })
+            }
+            Err(error) => {
+                self.is_halted = true;
+                Err(NodeError::Store(error))
+            }
+        }
+    }
+
+    /// Executes the committed records that come next, before any event: after a start over a journal, all that it says is committed. Whether some of these
+    /// are left for want of memory; they are executed after the next event.
+    pub fn execute_due(&mut self, alloc: Global) -> bool
+        ensures executed { CatchesUp result self.old.executed.records
+            (due_after (length self.old.executed.records) self.old.replica.commit_number self.old.replica.log) self.new.executed.records }
+        ensures same { IsSameNode self.old self.new }
+        ensures nothing_else { self.new ≡ record self.old { executed = self.new.executed } }
+    {
+        execute_due(alloc, &mut self.executed, &self.replica)
     }
 
     /// What became of a client's request. The client's latest record is found in the client table, and its reply by its place: no log is walked, and no
@@ -357,6 +402,13 @@ impl<D: Device> Node<D> {
         self.executed.len()
     }
 
+    /// How many records its log has.
+    pub fn log_len(&self) -> u64
+        ensures { result ≡ length self.now.replica.log }
+    {
+        self.replica.log.len() as u64
+    }
+
     /// The replica's view.
     pub fn view_number(&self) -> u64
         ensures { result ≡ self.now.replica.view_number }
@@ -392,17 +444,70 @@ impl<D: Device> Node<D> {
         self.replica.count
     }
 
-    /// The device, for the node to be opened again.
-    pub fn into_device(self) -> D
-        ensures { result ≡ self.device }
+    /// Whether it has committed as much as its log had when it went on from its journal, or all of a log that replaced that one. It has where it started
+    /// in another way.
+    pub fn is_caught_up(&self) -> bool
+        ensures { result ≡ (self.now.catch_up == 0) }
+    {
+        self.catch_up == 0
+    }
+
+    /// Whether it keeps a journal.
+    pub fn is_journaled(&self) -> bool
+        ensures { result ≡ is_some self.now.journal }
+    {
+        self.journal.is_some()
+    }
+
+    /// The devices, for the node to be opened again.
+    pub fn into_devices(self) -> (D, Option<J>)
+        ensures device { result.0 ≡ self.device }
+        ensures journal { result.1 ≡ device_in self.journal }
     {
         let Node {
             views,
+            journal,
             replica: _,
             executed: _,
             restarts: _,
             is_halted: _,
+            catch_up: _,
         } = self;
-        views.into_device()
+        (views.into_device(), device_of(journal))
+    }
+}
+
+impl<D: Device, J: JournalDevice + Drop> Node<D, J> {
+    /// The pair's device, for the node to be opened again.
+    pub fn into_device(self) -> D
+        ensures { result ≡ self.device }
+    {
+        let (device, _) = self.into_devices();
+        device
+    }
+}
+
+/// The device of a journal.
+pub fn device_of<J: JournalDevice>(journal: Option<Journal<J>>) -> Option<J>
+    ensures { result ≡ device_in journal }
+{
+    match journal {
+        Some(journal) => {
+            let Journal { device, end: _ } = journal;
+            Some(device)
+        }
+        None => None,
+    }
+}
+
+/// How much of a log is still to be committed before sessions are served.
+fn left_to_catch_up(before: u64, replica: &Replica<Op>) -> u64
+    ensures { result ≡ left_to_catch_up before (state replica.now) }
+{
+    let most = before.min(replica.log.len() as u64);
+    if most <= replica.commit_number {
+        0
+    } else {
+        most
     }
 }

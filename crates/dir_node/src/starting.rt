@@ -1,6 +1,6 @@
-//! A node at its start: the device's pair and the replica that goes with it. A device flows in; the pair on it, a replica and its first outputs flow
+//! A node without a journal at its start: the device's pair and the replica that goes with it. A device flows in; the pair on it, a replica and its first outputs flow
 //! out. What is asked of the other replicas is decided below.
-ghost use Rattle.std.specs.Prelude.{◌≡◌, ◌≢◌, ◌<◌, ◌≤◌, length, IfOk, OnOk, IsErrOf};
+ghost use Rattle.std.specs.Prelude.{◌≡◌, ◌≢◌, ◌<◌, ◌≤◌, false, length, IfOk, OnOk, IsErrOf};
 ghost use Rattle.dir_node.specs.NodeState.{CannotStart, Holds, IsJournaled, IsOwn, StartLeaves, started_pair};
 ghost use Rattle.view_store.specs.Device.{HasRisen, LeavesOnly};
 ghost use Rattle.view_store.specs.Slots.{found, foreign, IsWellPlaced};
@@ -10,16 +10,20 @@ ghost use Rattle.vr_state.specs.Views.{outcome};
 
 use crate::error::NodeError;
 use dir_executed::Op;
+use log_journal::NoteError;
 use std::alloc::Global;
 use view_store::{Device, MAX_NUMBER, Pair, ViewStore, ViewStoreError};
 use vr_recover::recover;
 use vr_state::message::Outputs;
 use vr_state::replica::Replica;
 
-/// Makes a device hold the pair of a replica's first start: view 0, one restart. A stop inside it promises nothing.
-pub fn start_store<D: Device>(views: &mut ViewStore<D>) -> Result<(), ViewStoreError>
+/// Makes a device hold the pair of a replica's first start: view 0, one restart, and whether a journal goes with it. A stop inside it promises nothing.
+pub fn start_store<D: Device>(
+    views: &mut ViewStore<D>,
+    journaled: bool,
+) -> Result<(), ViewStoreError>
     requires new { views.old.status ≢ status.Failed }
-    ensures held { OnOk result (Holds D.seen D.may_leave views.new 0 1) }
+    ensures held { OnOk result (Holds D.seen D.may_leave views.new (record { view = 0; restarts = 1; journaled = journaled })) }
     ensures cluster { OnOk result (views.new.cluster ≡ views.old.cluster) }
     ensures placed { OnOk result (IsWellPlaced (D.seen views.new.device)) }
     ensures no_pair { IsErrOf result ViewStoreError.NoPair → 65 ≤ length (D.seen views.old.device) }
@@ -34,7 +38,7 @@ pub fn start_store<D: Device>(views: &mut ViewStore<D>) -> Result<(), ViewStoreE
     views.store(Pair {
         view: 0,
         restarts: 1,
-        journaled: false,
+        journaled,
     })
 }
 
@@ -54,7 +58,7 @@ pub fn start_again<D: Device>(
     ensures restarts { IfOk result (λ s. s.2 ≡ (started_pair (found views.old.cluster (D.seen views.old.device))).restarts) }
     ensures index { IfOk result (λ s. s.0.index ≡ index) }
     ensures count { IfOk result (λ s. s.0.count ≡ count) }
-    ensures held { IfOk result (λ s. Holds D.seen D.may_leave views.new s.0.view_number s.2) }
+    ensures held { IfOk result (λ s. Holds D.seen D.may_leave views.new (record { view = s.0.view_number; restarts = s.2; journaled = false })) }
     ensures cluster { OnOk result (views.new.cluster ≡ views.old.cluster) }
     ensures placed { OnOk result (IsWellPlaced (D.seen views.old.device) → IsWellPlaced (D.seen views.new.device)) }
 
@@ -76,6 +80,9 @@ pub fn start_again<D: Device>(
         → HasRisen (D.failure_count views.old.device) (D.failure_count views.new.device) }
     ensures not_failed { IsErrOf result (NodeError.Store ViewStoreError.Failed) → ⊥ }
     ensures not_halted { IsErrOf result NodeError.Halted → ⊥ }
+    ensures no_journal { (f : NoteError) → IsErrOf result (NodeError.Journal f) → ⊥ }
+    ensures foreign_journal { IsErrOf result NodeError.ForeignJournal → ⊥ }
+    ensures stale_journal { IsErrOf result NodeError.StaleJournal → ⊥ }
 {
     let held = views.load()?;
     let pair = held.alone()?;

@@ -9,7 +9,7 @@ pub enum FileDeviceError {
     #[error("the file is in use by another process")]
     InUse,
     /// It has more octets than a device may have.
-    #[error("the file is too long for a stored view")]
+    #[error("the file is too long")]
     TooLong,
     #[error("no memory")]
     NoMemory,

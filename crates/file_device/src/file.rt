@@ -12,7 +12,7 @@ use view_store::DeviceFailure;
 const MAX_OCTETS: usize = 4096;
 
 /// How many octets are read at once, at most.
-const PIECE: usize = 512;
+const PIECE: usize = 65_536;
 
 /// A file as a device. Every octet that was read or written is kept beside it, and a read or a length that the file answers otherwise is a
 /// failure. Nothing is claimed of what a crash leaves of a file: as a device it names no outcome of a crash at all, so what the contract of a
@@ -48,11 +48,9 @@ impl FileDevice {
     ) -> Result<FileDevice, FileDeviceError>
         ensures { IfOk result (λ device. (length device.image.items ≤ 4096) × (device.failures ≡ 0)) }
     {
-        let mut options = OpenOptions::new();
-        options.read(true).write(true).create(true);
-        let mut file = options.open(rt, path).map_err(failed)?;
+        let mut file = open_file(rt, path)?;
         lock(&file)?;
-        let image = read_image(alloc, &mut file)?;
+        let image = read_image(alloc, &mut file, MAX_OCTETS)?;
         if image.is_empty() {
             sync_folder(rt, path).map_err(failed)?;
         }
@@ -75,8 +73,18 @@ impl FileDevice {
     }
 }
 
-fn failed(error: Error) -> FileDeviceError {
+pub(crate) fn failed(error: Error) -> FileDeviceError {
     FileDeviceError::Failed(error.kind())
+}
+
+/// A file to read and write, which is made where there is none.
+pub(crate) fn open_file<R: Files<File = File>>(
+    rt: &R,
+    path: &str,
+) -> Result<File, FileDeviceError> {
+    let mut options = OpenOptions::new();
+    options.read(true).write(true).create(true);
+    options.open(rt, path).map_err(failed)
 }
 
 /// The folder in which a file of this name is.
@@ -89,12 +97,12 @@ fn folder_of(path: &str) -> &str {
 }
 
 /// Has the operating system write what names its folder holds, where one of them may be new.
-fn sync_folder<R: Files<File = File>>(rt: &R, path: &str) -> io::Result<()> {
+pub(crate) fn sync_folder<R: Files<File = File>>(rt: &R, path: &str) -> io::Result<()> {
     File::open(rt, folder_of(path))?.sync_all()
 }
 
 /// Takes the file for this process alone.
-fn lock(file: &File) -> Result<(), FileDeviceError> {
+pub(crate) fn lock(file: &File) -> Result<(), FileDeviceError> {
     match file.try_lock() {
         Ok(()) => Ok(()),
         Err(TryLockError::WouldBlock) => Err(FileDeviceError::InUse),
@@ -119,9 +127,13 @@ fn read_some(file: &mut File, piece: &mut [u8]) -> Result<Option<usize>, FileDev
     }
 }
 
-/// Reads all octets of a file.
-fn read_image(alloc: Global, file: &mut File) -> Result<Vec<u8>, FileDeviceError>
-    ensures { IfOk result (λ image. length image.items ≤ 4096) }
+/// Reads all octets of a file, so many at most.
+pub(crate) fn read_image(
+    alloc: Global,
+    file: &mut File,
+    most: usize,
+) -> Result<Vec<u8>, FileDeviceError>
+    ensures { IfOk result (λ image. length image.items ≤ most) }
 {
     let mut image = Vec::new(alloc);
     let mut piece = [0u8; PIECE];
@@ -129,7 +141,7 @@ fn read_image(alloc: Global, file: &mut File) -> Result<Vec<u8>, FileDeviceError
         let Some(count) = read_some(file, &mut piece)? else {
             return Ok(image);
         };
-        if count > MAX_OCTETS - image.len() {
+        if count > most - image.len() {
             return Err(FileDeviceError::TooLong);
         }
         if image.extend_from_slice(&piece[..count]).is_err() {

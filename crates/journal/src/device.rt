@@ -1,7 +1,8 @@
 //! The device under a journal: what a read gives, and what a crash may leave. No format is here.
-ghost use Rattle.std.specs.Prelude.{◌≡◌, ◌≤◌, ◌+◌, List, ℕ, length, take, drop, IfOk, OnOk};
-ghost use Rattle.journal.specs.Device.{Only, Follows, Mixed, Holds, Elapses, HasCause};
+ghost use Rattle.std.specs.Prelude.{◌≡◌, ◌≤◌, ◌+◌, ◌++◌, List, ℕ, length, take, drop, replicate, IfOk, OnOk, IsErrOf};
+ghost use Rattle.journal.specs.Device.{Only, Follows, Mixed, Holds, Grown, Longer, Elapses, HasCause, HasRisen};
 
+use crate::fault::GrowthError;
 use thiserror::Error;
 
 /// The device itself failed: a call was not done, or done in part.
@@ -60,6 +61,17 @@ pub trait Device {
         ensures crash { (c : List ℕ) → may_leave self.new c → may_leave self.old c }
         ensures time { Elapses (moment self.old) (moment self.new) (left_since self.old) (left_since self.new) (may_leave self.new) }
         ensures cause { HasCause (failure_count self.old) (failure_count self.new) result };
+
+    /// Joins so many zeros to the end and settles them: a crash after it leaves them behind what it might have left before. A
+    /// crash during it, or after an error, leaves some first of them there.
+    fn grow(&mut self, octets: u64) -> Result<(), GrowthError>
+        ensures grown { OnOk result (seen self.new ≡ seen self.old ++ replicate octets 0) }
+        ensures durable { OnOk result (Follows (Longer octets) (may_leave self.old) (may_leave self.new)) }
+        ensures full { IsErrOf result GrowthError.Full → seen self.new ≡ seen self.old }
+        ensures crash { Follows (Grown octets) (may_leave self.old) (may_leave self.new) }
+        ensures time { Elapses (moment self.old) (moment self.new) (left_since self.old) (left_since self.new) (may_leave self.new) }
+        ensures later { failure_count self.old ≤ failure_count self.new }
+        ensures cause { IsErrOf result GrowthError.DeviceFailed → HasRisen (failure_count self.old) (failure_count self.new) };
 
     /// This moment is one of those since an earlier one.
     ghost counts_now: { (device : Self) (t : ℕ) (c : List ℕ) → t ≤ moment device → may_leave device c → left_since device t c };

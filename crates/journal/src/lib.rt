@@ -11,10 +11,11 @@ mod memory;
 mod memory_device;
 mod opening;
 mod record;
+mod reserving;
 mod splicing;
 
 pub use device::{Device, DeviceFailure};
-pub use fault::JournalError;
+pub use fault::{GrowthError, JournalError};
 pub use frames::{next_string, nonzeros, put_string};
 pub use journal::Journal;
 pub use laws::frames_are_read;

@@ -1,10 +1,10 @@
 //! A device in memory, for tests: it fails or stops at a call that was set beforehand. It keeps a record of its calls,
 //! from which follows what a crash may leave.
-ghost use Rattle.std.specs.Prelude.{◌≡◌, ◌⊎◌, List, ℕ, ◌++◌, ◌∷◌, [], ◌≤◌, ◌+◌, length, IfOk, OnOk, OnErr};
+ghost use Rattle.std.specs.Prelude.{◌≡◌, ◌⊎◌, List, ℕ, ◌++◌, ◌∷◌, [], ◌≤◌, ◌+◌, ◌-◌, length, IfOk, OnOk, OnErr};
 
 use crate::device::DeviceFailure;
 use crate::record::{Call, Fault};
-use crate::splicing::spliced;
+use crate::splicing::{longer, spliced};
 use std::alloc::{AllocError, Global};
 use std::marker::Model;
 
@@ -16,6 +16,7 @@ pub struct MemoryDevice {
     bytes: Vec<u8>,
     calls: Vec<Call>,
     room: usize,
+    limit: usize,
     fault: Fault,
     failures: u64,
 }
@@ -34,7 +35,7 @@ impl Model for MemoryDevice {
 }
 
 impl MemoryDevice {
-    ghost use Rattle.journal.specs.Memory.{seen_after, MayLeave, event, write, counted};
+    ghost use Rattle.journal.specs.Memory.{seen_after, MayLeave, event, write, grow, counted};
 
     /// A device that holds these bytes, all of them settled, with room for the record of so many calls. A call past that
     /// fails.
@@ -54,6 +55,7 @@ impl MemoryDevice {
             bytes,
             calls,
             room,
+            limit: usize::MAX,
             fault,
             failures: 0,
         })
@@ -102,7 +104,7 @@ impl MemoryDevice {
         requires { at + length octets.now ≤ length (seen_after self.old.base self.old.events) }
         ensures ok { OnOk result (self.new ≡ record self.old { events = write at octets.now is_done ∷ self.old.events }) }
         ensures err { OnErr result (self.new ≡ self.old) }
-        ensures long { (c : List ℕ) → MayLeave self.old.base self.old.events c → length c ≡ length (seen_after self.old.base self.old.events) }
+        ensures long { (c : List ℕ) → MayLeave self.old.base self.old.events c → length (seen_after self.old.base self.old.events) ≤ length c }
     {
         let octets = octets.to_vec(self.alloc)?;
         if is_done {
@@ -121,6 +123,26 @@ impl MemoryDevice {
             })?;
         }
         Ok(())
+    }
+
+    /// Grows, or notes a growth that was not done.
+    pub(crate) fn grow_by(&mut self, octets: usize, is_done: bool) -> Result<(), AllocError>
+        ensures ok { OnOk result (self.new ≡ record self.old { events = grow octets is_done ∷ self.old.events }) }
+        ensures err { OnErr result (self.new ≡ self.old) }
+    {
+        if is_done {
+            let next = longer(self.alloc, &self.bytes, octets)?;
+            self.calls.push(Call::Grow { octets, is_done })?;
+            self.bytes = next;
+        } else {
+            self.calls.push(Call::Grow { octets, is_done })?;
+        }
+        Ok(())
+    }
+
+    /// Whether it may have so many octets more.
+    pub(crate) fn may_grow(&self, octets: u64) -> bool {
+        self.bytes.len() <= self.limit && octets <= (self.limit - self.bytes.len()) as u64
     }
 
     /// How often it has failed.
@@ -144,6 +166,13 @@ impl MemoryDevice {
         ensures { result ≡ length self.now.events }
     {
         self.calls.len()
+    }
+
+    /// Sets how many octets it may have at most. It has no limit at first.
+    pub fn set_limit(&mut self, octets: usize)
+        ensures { self.new ≡ self.old }
+    {
+        self.limit = octets;
     }
 
     /// Sets what is to go wrong from here on.

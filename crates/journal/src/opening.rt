@@ -107,6 +107,7 @@ pub fn open<D: Device>(alloc: Global, device: &mut D) -> Result<Found, JournalEr
     ensures strings { IfOk result (λ found. octets_of found.strings.items ≡ recorded (D.seen device.old)) }
     ensures settled { IfOk result (λ found. IsSettled (D.seen device.new) (D.may_leave device.new) (recorded (D.seen device.old)) found.end) }
     ensures any_moment { LeavesOnly D.moment D.left_since device.old device.new (λ c. recorded c ≡ recorded (D.seen device.old)) }
+    ensures later { D.failure_count device.old ≤ D.failure_count device.new }
     ensures failed { IsErrOf result JournalError.DeviceFailed → HasRisen (D.failure_count device.old) (D.failure_count device.new) }
 {
     let octets = read_all(alloc, device)?;

@@ -1,5 +1,5 @@
 //! A batch of strings as the frames that a journal takes, built up string by string.
-ghost use Rattle.std.specs.Prelude.{◌≡◌, ◌<◌, ◌^◌, ◌++◌, ◌∷◌, [], length, OnOk, OnErr};
+ghost use Rattle.std.specs.Prelude.{◌≡◌, ◌<◌, ◌^◌, ◌++◌, ◌∷◌, [], length, IsTrue, OnOk, OnErr};
 ghost use Rattle.journal.specs.Frames.{frames, recorded};
 
 use crate::error::NoteError;
@@ -67,7 +67,9 @@ impl Batch {
     }
 
     /// Whether there are none.
-    pub fn is_empty(&self) -> bool {
+    pub fn is_empty(&self) -> bool
+        ensures { IsTrue result → self.now ≡ [] }
+    {
         self.octets.is_empty()
     }
 }

@@ -15,10 +15,13 @@ pub enum NoteError {
     /// The string is no note.
     #[error("E28: damaged journal")]
     Damaged,
+    /// The journal is of another version.
+    #[error("E27: another version")]
+    AnotherVersion,
     /// The update has no octets that are read as it: an add of an attribute without values, or more than 4294967295 octets.
     #[error("E3: the update can't be written")]
     Unwritable,
-    /// There is no room for the batch.
+    /// There is no room for the batch, and the device can't grow.
     #[error("E29: journal full")]
     Full,
     /// The device failed.

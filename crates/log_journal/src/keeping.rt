@@ -1,7 +1,7 @@
 //! A replica and its journal go along: a batch of events is taken, and its notes are settled by one write and one sync.
 //! What is sent or answered for it is handed out by the caller, after that.
-ghost use Rattle.std.specs.Prelude.{◌≡◌, ◌≢◌, ◌≤◌, ◌<◌, ◌+◌, ◌^◌, ◌++◌, [], length, IsTrue, IfOk, OnOk, OnErr, IsErrOf};
-ghost use Rattle.journal.specs.Device.{HasCause, HasRisen, LeavesOnly, Only};
+ghost use Rattle.std.specs.Prelude.{◌≡◌, ◌≢◌, ◌≤◌, ◌<◌, ◌+◌, ◌^◌, ◌++◌, length, IfOk, OnOk, IsErrOf};
+ghost use Rattle.journal.specs.Device.{HasRisen, LeavesOnly};
 ghost use Rattle.journal.specs.Frames.{recorded};
 ghost use Rattle.journal.specs.Journal.{IsGrown, IsSettled};
 ghost use Rattle.log_journal.specs.Kept.{IsHeld, IsMemory, IsMemoryOfTaken};
@@ -13,40 +13,44 @@ use crate::batch::Batch;
 use crate::error::NoteError;
 use crate::laws::{taken_is_told, told_goes_on};
 use crate::taking::take_events;
-use journal::{Device, DeviceFailure, Journal};
+use journal::{Device, GrowthError, Journal};
 use ldap_op::Op;
 use std::alloc::{AllocError, Global};
 use vr_state::event::Event;
 use vr_state::message::Outputs;
 use vr_state::replica::Replica;
 
-/// A device may have fewer octets.
-const MOST: u64 = 0x8000_0000_0000_0000;
+/// Why a batch isn't settled whose device didn't grow.
+fn note_of_growth(error: GrowthError) -> NoteError
+    ensures { result ≡ NoteError.DeviceFailed → error ≡ GrowthError.DeviceFailed }
+{
+    match error {
+        GrowthError::Full => NoteError::Full,
+        GrowthError::DeviceFailed => NoteError::DeviceFailed,
+    }
+}
 
-/// How many octets a journal's device has.
-fn length_of<J: Device>(journal: &mut Journal<J>) -> Result<u64, DeviceFailure>
+/// Makes room for so many octets. E29 where the device can't grow so far.
+fn make_room<J: Device>(journal: &mut Journal<J>, octets: u64) -> Result<(), NoteError>
     requires { IsHeld J.seen J.may_leave journal.old }
-    ensures length { IfOk result (λ n. n ≡ length (J.seen journal.new.device)) }
-    ensures held { IsHeld J.seen J.may_leave journal.new }
-    ensures seen { J.seen journal.new.device ≡ J.seen journal.old.device }
-    ensures end { journal.new.end ≡ journal.old.end }
-    ensures any_moment { LeavesOnly J.moment J.left_since journal.old.device journal.new.device (λ c. c ≡ J.seen journal.old.device) }
-    ensures cause { HasCause (J.failure_count journal.old.device) (J.failure_count journal.new.device) result }
+    ensures held { OnOk result (IsHeld J.seen J.may_leave journal.new) }
+    ensures strings { OnOk result (recorded (J.seen journal.new.device) ≡ recorded (J.seen journal.old.device)) }
+    ensures room { OnOk result (journal.new.end + octets ≤ length (J.seen journal.new.device)) }
+    ensures small { OnOk result (length (J.seen journal.new.device) < 2 ^ 63) }
+    ensures any_moment { LeavesOnly J.moment J.left_since journal.old.device journal.new.device
+        (λ c. recorded c ≡ recorded (J.seen journal.old.device)) }
+    ensures later { J.failure_count journal.old.device ≤ J.failure_count journal.new.device }
+    ensures device_failed { IsErrOf result NoteError.DeviceFailed → HasRisen (J.failure_count journal.old.device) (J.failure_count journal.new.device) }
 {
-    let length = journal.device.len()?;
-    Ok(length)
+    match journal.reserve(octets) {
+        Ok(()) => Ok(()),
+        Err(error) => Err(note_of_growth(error)),
+    }
 }
 
-/// Whether so many octets more find room behind the end.
-fn fits(length: u64, end: u64, octets: u64) -> bool
-    ensures room { IsTrue result → end + octets ≤ length }
-    ensures small { IsTrue result → end + octets < 2 ^ 63 }
-{
-    length < MOST && octets <= length && end <= length - octets
-}
-
-/// Settles a batch of strings by one write and one sync. E29 where the device has no room for it: nothing is written then.
-fn settle<J: Device>(journal: &mut Journal<J>, batch: &Batch) -> Result<(), NoteError>
+/// Settles a batch of strings by one write and one sync, after more of each where the device must grow first; no strings cost
+/// neither. E29 where it can't grow so far: nothing is written then but zeros. After an error the journal must be opened again.
+pub fn settle<J: Device>(journal: &mut Journal<J>, batch: &Batch) -> Result<(), NoteError>
     requires { IsHeld J.seen J.may_leave journal.old }
     ensures held { OnOk result (IsHeld J.seen J.may_leave journal.new) }
     ensures strings { OnOk result (recorded (J.seen journal.new.device) ≡ recorded (J.seen journal.old.device) ++ batch.now) }
@@ -54,11 +58,11 @@ fn settle<J: Device>(journal: &mut Journal<J>, batch: &Batch) -> Result<(), Note
         (IsGrown (recorded (J.seen journal.old.device)) batch.now) }
     ensures device_failed { IsErrOf result NoteError.DeviceFailed → HasRisen (J.failure_count journal.old.device) (J.failure_count journal.new.device) }
 {
-    let octets = batch.octets();
-    let length = length_of(journal)?;
-    if !fits(length, journal.end, octets.len() as u64) {
-        return Err(NoteError::Full);
+    if batch.is_empty() {
+        return Ok(());
     }
+    let octets = batch.octets();
+    make_room(journal, octets.len() as u64)?;
     journal.append(octets)?;
     Ok(())
 }
@@ -71,6 +75,7 @@ fn before_the_device(error: NoteError) -> NoteError
         NoteError::NoMemory => NoteError::NoMemory,
         NoteError::Unwritable => NoteError::Unwritable,
         NoteError::Full => NoteError::Full,
+        NoteError::AnotherVersion => NoteError::AnotherVersion,
         NoteError::Damaged | NoteError::DeviceFailed => NoteError::Damaged,
     }
 }

@@ -19,8 +19,10 @@ pub use alike::count_alike;
 pub use batch::Batch;
 pub use error::NoteError;
 pub use fields::{Fields, read_fields, write_fields};
-pub use journal::{Device, DeviceFailure, Found, Journal, JournalError, MemoryDevice, open};
-pub use keeping::keep_events;
+pub use journal::{
+    Device, DeviceFailure, Found, GrowthError, Journal, JournalError, MemoryDevice, open,
+};
+pub use keeping::{keep_events, settle};
 pub use laws::{batches_are_told, fields_are_read, one_is_told, taken_is_told, told_goes_on};
 pub use notes::{put_begin, put_commit, put_start};
 pub use steps::{Before, put_step};

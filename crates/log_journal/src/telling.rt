@@ -66,10 +66,10 @@ fn take_begin(told: &mut Told, fields: &Fields<'_>) -> Result<(), NoteError>
     requires { fields.now.kind ≡ 0 }
     ensures { OnOk result (Takes (fields_view fields.now) (told_view told.old) (told_view told.new)) }
 {
-    if !is_plain(fields) {
-        return Err(NoteError::Damaged);
-    }
     if fields.first != VERSION {
+        return Err(NoteError::AnotherVersion);
+    }
+    if !is_plain(fields) {
         return Err(NoteError::Damaged);
     }
     told.cluster = fields.second;

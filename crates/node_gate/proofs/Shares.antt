@@ -6,5 +6,5 @@ use Rattle.dir_node.specs.NodeState.{NodeValue}
 use Rattle.dir_node.specs.Outcomes.{outcome_of}
 use Rattle.node_gate.specs.Shared.{IsEnded, EndsAs}
 
-pub ended_so : (D : Type 0) (n : NodeValue D) (client : Client) (number : ℕ) (e : EndedValue) → EndsAs (outcome_of n client number) e → IsEnded D client number e
-ended_so D n client number e p = record { node = n; is = p }
+pub ended_so : (D J : Type 0) (n : NodeValue D J) (client : Client) (number : ℕ) (e : EndedValue) → EndsAs (outcome_of n client number) e → IsEnded D J client number e
+ended_so D J n client number e p = record { node = n; is = p }

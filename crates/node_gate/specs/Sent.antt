@@ -15,6 +15,6 @@ pub data TakesAll {P : Type 0} (takes : P → ℕ → PeerMessage OpValue → P 
       TakesAll takes p (send ∷ sends) r
 
 -- It took what the step of some node at an event sends, in the step's order.
-pub record TakesStep {P : Type 0} (D : Type 0) (takes : P → ℕ → PeerMessage OpValue → P → Type 0) (event : Event OpValue) (before after : P) : Type 0 where
-  pub node : NodeValue D
+pub record TakesStep {P : Type 0} (D J : Type 0) (takes : P → ℕ → PeerMessage OpValue → P → Type 0) (event : Event OpValue) (before after : P) : Type 0 where
+  pub node : NodeValue D J
   pub taken : TakesAll takes before (step node.count node.index node.replica event).sends after

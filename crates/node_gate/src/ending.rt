@@ -4,12 +4,17 @@ ghost use Rattle.dir_seats.specs.session_talk.View.{ended_view};
 ghost use Rattle.dir_node.specs.Outcomes.{outcome_of};
 ghost use Rattle.node_gate.specs.Shared.{EndsAs};
 
-use dir_node::{Client, Device, Node, Outcome};
+use dir_node::{Client, Device, JournalDevice, Node, Outcome};
 use dir_seats::Ended;
 use std::alloc::Global;
 
 /// How a client's request of this number ended; one that is still to come counts as lost.
-pub fn ended_at<D: Device>(alloc: Global, node: &Node<D>, client: Client, number: u64) -> Ended
+pub fn ended_at<D: Device, J: JournalDevice>(
+    alloc: Global,
+    node: &Node<D, J>,
+    client: Client,
+    number: u64,
+) -> Ended
     ensures { EndsAs (outcome_of node.now client number) (ended_view result) }
 {
     match node.outcome(client, number) {

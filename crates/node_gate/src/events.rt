@@ -3,16 +3,17 @@
 ghost use Rattle.std.specs.Prelude.{◌≡◌, IfOk, length};
 ghost use Rattle.dir_node.specs.dir_executed.Executing.{due_after};
 ghost use Rattle.dir_node.specs.NodeState.{CatchesUp, IsSameNode, given};
+ghost use Rattle.dir_node.specs.Handling.{MakesSteps};
 ghost use Rattle.dir_node.specs.vr_state.Step.{step as step_of};
 ghost use Rattle.node_gate.specs.dir_seats.Lists.{IsBeginning};
 
-use dir_node::{Device, Event, Handled, Node, NodeError, Op};
+use dir_node::{AllHandled, Device, Event, Handled, JournalDevice, Node, NodeError, Op};
 use std::alloc::Global;
 
 /// Hands an event to a node.
-pub fn handle_node<D: Device>(
+pub fn handle_node<D: Device, J: JournalDevice>(
     alloc: Global,
-    node: &mut Node<D>,
+    node: &mut Node<D, J>,
     event: Event<Op>,
 ) -> Result<Handled, NodeError>
     ensures begins { IsBeginning node.old.executed node.new.executed }
@@ -22,4 +23,29 @@ pub fn handle_node<D: Device>(
     ensures same { IsSameNode node.old node.new }
 {
     node.handle(alloc, event)
+}
+
+/// Hands a batch of events to a node.
+pub fn handle_node_all<D: Device, J: JournalDevice>(
+    alloc: Global,
+    node: &mut Node<D, J>,
+    events: Vec<Event<Op>>,
+) -> Result<AllHandled, NodeError>
+    ensures begins { IsBeginning node.old.executed node.new.executed }
+    ensures steps { IfOk result (λ h. MakesSteps node.old.count node.old.index node.old.replica events.items h.outputs.items node.new.replica) }
+    ensures executed { IfOk result (λ h. CatchesUp h.behind node.old.executed.records
+        (due_after (length node.old.executed.records) node.new.replica.commit_number node.new.replica.log) node.new.executed.records) }
+    ensures same { IsSameNode node.old node.new }
+{
+    node.handle_all(alloc, events)
+}
+
+/// Has a node execute what is committed, before any event.
+pub fn execute_node<D: Device, J: JournalDevice>(alloc: Global, node: &mut Node<D, J>) -> bool
+    ensures begins { IsBeginning node.old.executed node.new.executed }
+    ensures executed { CatchesUp result node.old.executed.records
+        (due_after (length node.old.executed.records) node.old.replica.commit_number node.old.replica.log) node.new.executed.records }
+    ensures nothing_else { node.new ≡ record node.old { executed = node.new.executed } }
+{
+    node.execute_due(alloc)
 }

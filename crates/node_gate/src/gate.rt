@@ -1,39 +1,44 @@
 // A session's gate to a running node. Updates flow in; how they ended flows out. What must not be here: reads, how replicas agree.
 ghost use Rattle.std.specs.Prelude.{◌≡◌};
 ghost use Rattle.dir_seats.specs.session_talk.View.{ended_view};
-ghost use Rattle.node_gate.specs.Shared.{IsUpdated};
+ghost use Rattle.node_gate.specs.Shared.{IsRefused, IsUpdated};
 
 use crate::held::Here;
 use crate::peers::Peers;
 use crate::running::Running;
-use dir_node::{Client, Device, Entry, Event, NodeError, Op, Standing};
+use dir_node::{Client, Device, Entry, Event, JournalDevice, NodeError, Op, Standing};
 use dir_seats::{Ended, Gate, Role, Told, Update};
 use std::alloc::Global;
 use std::sync::Wait;
+use std::sync::atomic::AtomicBool;
 
 /// One session's way to a node for updates. The runtime is a part of it, since an update waits for its outcome.
 #[derive(Drop)]
-pub struct NodeGate<'a, 'r, R: Wait, D: Device, P> {
+pub struct NodeGate<'a, 'r, R: Wait, D: Device, J: JournalDevice, P> {
     rt: &'a R,
-    running: &'a Running<'r, R, D>,
+    running: &'a Running<'r, R, D, J>,
     peers: P,
     /// The URI of each replica, by index (RFC 4516).
     uris: &'a [String],
+    /// Whether the client has left whose update is waited for.
+    has_left: &'a AtomicBool,
     asked: u64,
 }
 
-impl<'a, 'r, R: Wait, D: Device, P> NodeGate<'a, 'r, R, D, P> {
+impl<'a, 'r, R: Wait, D: Device, J: JournalDevice, P> NodeGate<'a, 'r, R, D, J, P> {
     pub fn new(
         rt: &'a R,
-        running: &'a Running<'r, R, D>,
+        running: &'a Running<'r, R, D, J>,
         peers: P,
         uris: &'a [String],
-    ) -> NodeGate<'a, 'r, R, D, P> {
+        has_left: &'a AtomicBool,
+    ) -> NodeGate<'a, 'r, R, D, J, P> {
         NodeGate {
             rt,
             running,
             peers,
             uris,
+            has_left,
             asked: 0,
         }
     }
@@ -50,35 +55,47 @@ impl<'a, 'r, R: Wait, D: Device, P> NodeGate<'a, 'r, R, D, P> {
     }
 }
 
-impl<'a, 'r, R: Wait, D: Device, P: Peers> NodeGate<'a, 'r, R, D, P> {
-    /// Hands a request to the node, and waits for its outcome.
+/// How an update ends that the node doesn't take.
+fn ended_by(error: NodeError) -> Ended
+    ensures { IsRefused (ended_view result) }
+{
+    match error {
+        NodeError::NoMemory => Ended::NoMemory,
+        _ => Ended::Lost,
+    }
+}
+
+impl<'a, 'r, R: Wait, D: Device, J: JournalDevice, P: Peers> NodeGate<'a, 'r, R, D, J, P> {
+    /// Hands a request to the node, and waits for its outcome, or until its client has left: then it counts as lost, and goes on.
     fn ask(&mut self, alloc: Global, client: Client, number: u64, payload: Op) -> Ended
-        ensures ended { IsUpdated D client number (ended_view result) }
+        ensures ended { IsUpdated D J client number (ended_view result) }
         ensures asked { self.new.asked ≡ self.old.asked }
     {
-        let entry = Entry {
-            client,
-            request_number: number,
-            payload,
+        let event = Event::Request {
+            entry: Entry {
+                client,
+                request_number: number,
+                payload,
+            },
         };
-        match self
-            .running
-            .handle(self.rt, alloc, &mut self.peers, Event::Request { entry })
-        {
-            Ok(()) => self.running.settled(self.rt, alloc, client, number),
-            Err(NodeError::NoMemory) => Ended::NoMemory,
-            Err(NodeError::Store(_) | NodeError::Halted) => Ended::Lost,
+        match self.running.give(self.rt, alloc, &mut self.peers, event) {
+            Ok(after) => {
+                self.running
+                    .settled(self.rt, alloc, client, number, after, self.has_left)
+            }
+            Err(error) => ended_by(error),
         }
     }
 }
 
-impl<'a, 'r, R: Wait, D: Device, P: Peers> Gate<Option<Told<Here>>> for NodeGate<'a, 'r, R, D, P> {
+impl<'a, 'r, R: Wait, D: Device, J: JournalDevice, P: Peers> Gate<Option<Told<Here>>>
+    for NodeGate<'a, 'r, R, D, J, P> {
     ghost use Rattle.std.specs.Prelude.{◌≡◌, ◌+◌, min};
     ghost use Rattle.dir_seats.specs.session_talk.Counting.{updates_of, greatest_count};
     ghost use Rattle.node_gate.specs.Shared.{gates};
 
     // An update ends as its outcome at some state of the node; the count rises by one with each.
-    ghost allows = { λ d x e. (e.asked ≡ min (d.asked + updates_of x) greatest_count) × gates D x };
+    ghost allows = { λ d x e. (e.asked ≡ min (d.asked + updates_of x) greatest_count) × gates D J x };
 
     ghost count = { λ d. d.asked };
 

@@ -3,11 +3,17 @@
 ghost use Rattle.std.specs.Prelude.{◌≡◌, IsTrue, IfOk};
 ghost use Rattle.dir_node.specs.vr_state.declared.event.Event.TheVariants as event;
 ghost use Rattle.node_gate.specs.Given.{IsGiven, HasAll};
-ghost use Rattle.node_gate.specs.Handled.{HasHandled};
+ghost use Rattle.node_gate.specs.Batches.{HasHandledAll};
+ghost use Rattle.node_gate.specs.Handled.{HasExecuted, HasHandled};
+ghost use Rattle.node_gate.specs.Shared.{standing_to_sessions};
 
-use crate::events::handle_node;
+use crate::events::{execute_node, handle_node, handle_node_all};
+use crate::inbox::Heard;
 pub use dir_node::Standing;
-use dir_node::{Client, Device, Event, Handled, Node, NodeError, Op, Outcome, PeerMessage, Status};
+use dir_node::{
+    AllHandled, Client, Device, Event, Handled, JournalDevice, Node, NodeError, Op, Outcome,
+    PeerMessage, Status,
+};
 use dir_seats::Publisher;
 use replica_clock::{Asked, ReplicaClock, Sign, sign_of};
 use std::alloc::Global;
@@ -36,22 +42,25 @@ impl Pulse {
 
 /// The node, what its seats see of it, its clock, and whether those who wait are to go on. What its seats see, and what they are to see next, is a
 /// beginning of what it has executed.
-pub struct Held<'a, R: Wait, D: Device> {
-    node: Node<D>,
+pub struct Held<'a, R: Wait, D: Device, J: JournalDevice> {
+    node: Node<D, J>,
     publisher: Publisher<Here, &'a R>,
     clock: ReplicaClock,
     pub is_stopping: bool,
+    /// How many of the events that were posted the node has had.
+    pub had: u64,
     ghost shows: { IsGiven node.executed publisher },
 }
 
 // Not derived: see "What the gate takes" in docs/ARCHITECTURE.md.
-impl<'a, R: Wait, D: Device + Drop> Drop for Held<'a, R, D> {
+impl<'a, R: Wait, D: Device + Drop, J: JournalDevice + Drop> Drop for Held<'a, R, D, J> {
     fn drop(self) {
         let Held {
             node: _,
             publisher: _,
             clock: _,
             is_stopping: _,
+            had: _,
         } = self;
     }
 }
@@ -65,13 +74,13 @@ pub fn status_of(standing: Standing) -> Status {
     }
 }
 
-impl<'a, R: Wait, D: Device> Held<'a, R, D> {
+impl<'a, R: Wait, D: Device, J: JournalDevice> Held<'a, R, D, J> {
     /// A node, and the publisher to its seats.
     pub fn new(
-        node: Node<D>,
+        node: Node<D, J>,
         publisher: Publisher<Here, &'a R>,
         clock: ReplicaClock,
-    ) -> Held<'a, R, D>
+    ) -> Held<'a, R, D, J>
         requires shows { IsGiven node.executed publisher }
     {
         Held {
@@ -79,10 +88,11 @@ impl<'a, R: Wait, D: Device> Held<'a, R, D> {
             publisher,
             clock,
             is_stopping: false,
+            had: 0,
         }
     }
 
-    pub fn node(&self) -> &Node<D>
+    pub fn node(&self) -> &Node<D, J>
         ensures { result.now ≡ self.now.node }
     {
         &self.node
@@ -95,6 +105,18 @@ impl<'a, R: Wait, D: Device> Held<'a, R, D> {
             view_number: self.node.view_number(),
             last_update: self.node.executed_len() as u64,
             is_halted: self.node.is_halted(),
+        }
+    }
+
+    /// How the node stands to sessions: one that went on from its journal is as one that recovers, until it has committed as much
+    /// as it may have shown before.
+    pub fn standing(&self) -> Standing
+        ensures { result ≡ standing_to_sessions self.now.node }
+    {
+        if self.node.is_caught_up() {
+            self.node.standing()
+        } else {
+            Standing::Recovering
         }
     }
 
@@ -113,6 +135,43 @@ impl<'a, R: Wait, D: Device> Held<'a, R, D> {
             outputs,
             behind: behind || !is_shown,
         })
+    }
+
+    /// Hands a batch of events to the node, and shows its seats what it then has executed. It is behind too where there was no
+    /// memory to show all.
+    pub fn handle_all(
+        &mut self,
+        alloc: Global,
+        events: Vec<Event<Op>>,
+    ) -> Result<AllHandled, NodeError>
+        ensures { IfOk result (λ h. HasHandledAll self.old.node events.items h self.new.node self.new.publisher) }
+    {
+        let AllHandled { outputs, behind } = handle_node_all(alloc, &mut self.node, events)?;
+        let sees_all = self.show();
+        Ok(AllHandled {
+            outputs,
+            behind: behind || !sees_all,
+        })
+    }
+
+    /// Has the node execute what is committed, before any event, and shows its seats what it then has executed. Whether some of that is left for want of
+    /// memory.
+    pub fn execute_due(&mut self, alloc: Global) -> bool
+        ensures { HasExecuted self.old.node result self.new.node self.new.publisher }
+    {
+        let behind = execute_node(alloc, &mut self.node);
+        let sees_all = self.show();
+        behind || !sees_all
+    }
+
+    /// The clock is told of the messages that were heard, and of what the node does after them.
+    pub fn hear_all(&mut self, heard: &[Heard], now: u64)
+        ensures node { self.new.node ≡ self.old.node }
+    {
+        self.note(now);
+        for one in heard {
+            self.clock.hear(one.from, one.sign, one.at);
+        }
     }
 
     /// Hands the message of another replica to the node, and tells its clock of it.
@@ -171,10 +230,13 @@ impl<'a, R: Wait, D: Device> Held<'a, R, D> {
         true
     }
 
-    /// Whether somebody waits for what becomes of a request.
-    pub fn is_awaited(&self, client: Client, number: u64) -> bool {
+    /// Whether somebody waits for what becomes of a request, that is this one of the events that were posted.
+    pub fn is_awaited(&self, client: Client, number: u64, after: u64) -> bool {
         if self.is_stopping {
             return false;
+        }
+        if self.had < after {
+            return true;
         }
         match self.node.outcome(client, number) {
             Outcome::Pending => true,

@@ -1,13 +1,16 @@
 // Opens a node for threads to share, over a device: puts it into its lock, makes its seats, and hands on what its start sends. What must not be
 // here: files, sockets.
-ghost use Rattle.std.specs.Prelude.{◌≡◌, ◌<◌, ◌≤◌, true, false, IfOk, OnOk};
-ghost use Rattle.dir_node.specs.NodeState.{IsMade, given};
+ghost use Rattle.std.specs.Prelude.{◌≡◌, ◌<◌, ◌≤◌, true, false, Some, None, IfOk, OnOk};
+ghost use Rattle.dir_node.specs.NodeState.{IsMade, given, nothing_executed};
+ghost use Rattle.dir_node.specs.Restarting.{IsRestarted};
+ghost use Rattle.dir_node.specs.log_journal.journal.Frames.{recorded};
 ghost use Rattle.dir_node.specs.view_store.Slots.{found};
-ghost use Rattle.node_gate.specs.Starting.{MayStart, outcome_of_start, pair_of_start, state_of_start};
+ghost use Rattle.node_gate.specs.Starting.{IsOpenedOver, IsPlain, MayStart, outcome_of_start, pair_of_start, state_of_start};
 
 use crate::held::Here;
+use crate::inbox::Inbox;
 use crate::running::Running;
-use dir_node::{Device, Node, NodeConfig, NodeError, Op, Outputs};
+use dir_node::{Device, JournalDevice, Node, NodeConfig, NodeError, Op, Outputs};
 use dir_seats::{Seat, seats};
 use replica_clock::Times;
 use std::alloc::Global;
@@ -15,8 +18,8 @@ use std::sync::Wait;
 
 /// A node that threads share, as it begins.
 #[derive(Drop)]
-pub struct Opened<'a, R: Wait, D: Device> {
-    pub running: Running<'a, R, D>,
+pub struct Opened<'a, R: Wait, D: Device, J: JournalDevice> {
+    pub running: Running<'a, R, D, J>,
     pub seats: Vec<Seat<Here>>,
     /// What its start sends.
     pub outputs: Outputs<Op>,
@@ -25,82 +28,97 @@ pub struct Opened<'a, R: Wait, D: Device> {
 }
 
 /// The node of a first start.
-fn start_first<D: Device + Drop>(
+fn start_first<D: Device + Drop, J: JournalDevice + Drop>(
     alloc: Global,
     device: D,
+    journal: Option<J>,
     config: NodeConfig,
-) -> Result<(Node<D>, Outputs<Op>), NodeError>
+) -> Result<(Node<D, J>, Outputs<Op>), NodeError>
     requires within { config.index < config.count }
     ensures made { let finding = found config.cluster (D.seen device) in
         IfOk result (λ made. IsMade config (state_of_start true config.count finding) (pair_of_start true finding).restarts made.0) }
     ensures outputs { let finding = found config.cluster (D.seen device) in
         IfOk result (λ made. given made.0.replica made.1 ≡ outcome_of_start true config.count config.index finding) }
 {
-    match Node::fresh(alloc, device, config) {
+    match Node::fresh(alloc, device, journal, config) {
         Ok(made) => Ok(made),
         Err(refused) => Err(refused.error),
     }
 }
 
 /// The node of a later start.
-fn start_again<D: Device + Drop>(
+fn start_again<D: Device + Drop, J: JournalDevice + Drop>(
     alloc: Global,
     device: D,
+    journal: Option<J>,
     config: NodeConfig,
-) -> Result<(Node<D>, Outputs<Op>), NodeError>
+) -> Result<(Node<D, J>, Outputs<Op>), NodeError>
     requires within { config.index < config.count }
-    ensures own { OnOk result (MayStart false (found config.cluster (D.seen device))) }
-    ensures made { let finding = found config.cluster (D.seen device) in
+    ensures own { journal ≡ None → OnOk result (MayStart false (found config.cluster (D.seen device))) }
+    ensures made { journal ≡ None → let finding = found config.cluster (D.seen device) in
         IfOk result (λ made. IsMade config (state_of_start false config.count finding) (pair_of_start false finding).restarts made.0) }
-    ensures outputs { let finding = found config.cluster (D.seen device) in
+    ensures outputs { journal ≡ None → let finding = found config.cluster (D.seen device) in
         IfOk result (λ made. given made.0.replica made.1 ≡ outcome_of_start false config.count config.index finding) }
+    ensures restarted { (j : J) → journal ≡ Some j → IfOk result (λ made. IsRestarted config (found config.cluster (D.seen device))
+        (recorded (J.seen j)) made.0 made.1) }
+    ensures nothing { IfOk result (λ made. made.0.executed ≡ nothing_executed config) }
 {
-    match Node::reopen(alloc, device, config) {
+    match Node::reopen(alloc, device, journal, config) {
         Ok(made) => Ok(made),
         Err(refused) => Err(refused.error),
     }
 }
 
 /// The node of a first or a later start. It has executed nothing yet.
-fn start<D: Device + Drop>(
+fn start<D: Device + Drop, J: JournalDevice + Drop>(
     alloc: Global,
     device: D,
+    journal: Option<J>,
     config: NodeConfig,
     is_fresh: bool,
-) -> Result<(Node<D>, Outputs<Op>), NodeError>
+) -> Result<(Node<D, J>, Outputs<Op>), NodeError>
     requires within { config.index < config.count }
-    ensures own { OnOk result (MayStart is_fresh (found config.cluster (D.seen device))) }
-    ensures made { let finding = found config.cluster (D.seen device) in
+    ensures own { IsPlain is_fresh journal → OnOk result (MayStart is_fresh (found config.cluster (D.seen device))) }
+    ensures made { IsPlain is_fresh journal → let finding = found config.cluster (D.seen device) in
         IfOk result (λ made. IsMade config (state_of_start is_fresh config.count finding) (pair_of_start is_fresh finding).restarts made.0) }
-    ensures outputs { let finding = found config.cluster (D.seen device) in
+    ensures outputs { IsPlain is_fresh journal → let finding = found config.cluster (D.seen device) in
         IfOk result (λ made. given made.0.replica made.1 ≡ outcome_of_start is_fresh config.count config.index finding) }
+    ensures restarted { (j : J) → is_fresh ≡ false → journal ≡ Some j
+        → IfOk result (λ made. IsRestarted config (found config.cluster (D.seen device)) (recorded (J.seen j)) made.0 made.1) }
+    ensures nothing { IfOk result (λ made. made.0.executed ≡ nothing_executed config) }
 {
     if is_fresh {
-        start_first(alloc, device, config)
+        start_first(alloc, device, journal, config)
     } else {
-        start_again(alloc, device, config)
+        start_again(alloc, device, journal, config)
     }
 }
 
 /// The node of a first or a later start over a device, and so many seats, 1 to 32, which see what it has executed. What a seat takes in memory is
-/// made first; the errors are those of the start.
-pub fn open<'a, R: Wait, D: Device + Drop>(
+/// made first; the errors are those of the start. Where it goes on from a journal, it has executed what that says is committed when it comes back, so that
+/// its clock and its threads begin after that.
+pub fn open<'a, R: Wait, D: Device + Drop, J: JournalDevice + Drop>(
     rt: &'a R,
     alloc: Global,
     device: D,
+    journal: Option<J>,
     config: NodeConfig,
     is_fresh: bool,
     count: usize,
     times: Times,
-) -> Result<Opened<'a, R, D>, NodeError>
+) -> Result<Opened<'a, R, D, J>, NodeError>
     requires within { config.index < config.count }
     requires seats { (0 < count) × (count ≤ 32) }
 
     // The replica starts for the first time, or from the pair that was found: what it sends is what such a start sends, and its restarts are the pair's.
-    ensures own { OnOk result (MayStart is_fresh (found config.cluster (D.seen device))) }
-    ensures outputs { let finding = found config.cluster (D.seen device) in
+    ensures own { IsPlain is_fresh journal → OnOk result (MayStart is_fresh (found config.cluster (D.seen device))) }
+    ensures outputs { IsPlain is_fresh journal → let finding = found config.cluster (D.seen device) in
         IfOk result (λ opened. given (state_of_start is_fresh config.count finding) opened.outputs ≡ outcome_of_start is_fresh config.count config.index finding) }
-    ensures restarts { IfOk result (λ opened. opened.restarts ≡ (pair_of_start is_fresh (found config.cluster (D.seen device))).restarts) }
+    ensures restarts { IsPlain is_fresh journal → IfOk result (λ opened. opened.restarts ≡ (pair_of_start is_fresh (found config.cluster (D.seen device))).restarts) }
+
+    // A later start that keeps a journal goes on from it, or recovers and begins it, as its strings say.
+    ensures restarted { (j : J) → is_fresh ≡ false → journal ≡ Some j
+        → IfOk result (λ opened. IsOpenedOver D J config (found config.cluster (D.seen device)) (recorded (J.seen j)) opened.outputs opened.restarts) }
 {
     let (publisher, seats) = seats(
         rt,
@@ -111,10 +129,21 @@ pub fn open<'a, R: Wait, D: Device + Drop>(
         count,
     )?;
     let teller = publisher.teller()?;
-    let (node, outputs) = start(alloc, device, config, is_fresh)?;
+    let has_journal = journal.is_some();
+    let (node, outputs) = start(alloc, device, journal, config, is_fresh)?;
     let restarts = node.restarts();
+    let inbox = if has_journal {
+        Some(Inbox::new(alloc))
+    } else {
+        None
+    };
+    let running = Running::new(node, publisher, teller, times, inbox);
+    if has_journal {
+        // What is left for want of memory is executed after the first event.
+        let _is_behind = running.execute_due(rt, alloc);
+    }
     Ok(Opened {
-        running: Running::new(node, publisher, teller, times),
+        running,
         seats,
         outputs,
         restarts,

@@ -9,15 +9,17 @@ ghost use Rattle.node_gate.specs.Shared.{IsEnded};
 
 use crate::ending::ended_at;
 use crate::held::{Held, Here, Pulse, status_of};
+use crate::inbox::Inbox;
 use crate::peers::{Peers, send_all};
 use crate::standing::LastStanding;
 use dir_node::{
-    Client, Device, Event, Handled, Node, NodeError, Op, Outputs, PeerMessage, Send, Standing,
-    copy_message,
+    Client, Device, Event, JournalDevice, Node, NodeError, Op, Outputs, PeerMessage, Send,
+    Standing, copy_message,
 };
 use dir_seats::{Ended, Publisher, Teller, Told};
 use replica_clock::{Asked, Due, ReplicaClock, Times};
 use std::alloc::{AllocError, Global};
+use std::sync::atomic::{AtomicBool, Ordering};
 use std::sync::{Condvar, CondvarTimeouts, Mutex, Wait};
 use std::time::{Clock, Duration};
 
@@ -30,24 +32,30 @@ struct Call {
 }
 
 /// A node under its lock, with a condition that is told of each change, and one for the thread that asks its clock.
-pub struct Running<'a, R: Wait, D: Device> {
-    held: Mutex<Held<'a, R, D>>,
-    /// The standing after the last event, for who doesn't wait for the lock.
-    standing: LastStanding,
+pub struct Running<'a, R: Wait, D: Device, J: JournalDevice> {
+    pub(crate) held: Mutex<Held<'a, R, D, J>>,
+    /// The standing to sessions after the last event, for who doesn't wait for the lock.
+    pub(crate) standing: LastStanding,
     teller: Teller<Here>,
-    changed: Condvar,
+    pub(crate) changed: Condvar,
+    /// Events that wait for the thread that drives a node with a journal; none without one.
+    pub(crate) inbox: Option<Inbox>,
+    /// What the last beat of that thread has sent, until the thread of the clock takes it.
+    pub(crate) beat: Mutex<Option<Vec<Send<Op>>>>,
     call: Mutex<Call>,
     called: Condvar,
 }
 
 // Not derived: see "What the gate takes" in docs/ARCHITECTURE.md.
-impl<'a, R: Wait, D: Device + Drop> Drop for Running<'a, R, D> {
+impl<'a, R: Wait, D: Device + Drop, J: JournalDevice + Drop> Drop for Running<'a, R, D, J> {
     fn drop(self) {
         let Running {
             held: _,
             standing: _,
             teller: _,
             changed: _,
+            inbox: _,
+            beat: _,
             call: _,
             called: _,
         } = self;
@@ -78,7 +86,7 @@ pub fn copies(alloc: Global, sends: &[Send<Op>]) -> Result<Vec<Send<Op>>, AllocE
 }
 
 /// Hands over what a step sends.
-fn send_outputs<P: Peers>(peers: &mut P, outputs: Outputs<Op>)
+pub(crate) fn send_outputs<P: Peers>(peers: &mut P, outputs: Outputs<Op>)
     ensures { TakesAll P.takes peers.old outputs.sends.items peers.new }
 {
     let Outputs {
@@ -90,13 +98,13 @@ fn send_outputs<P: Peers>(peers: &mut P, outputs: Outputs<Op>)
 }
 
 /// Hands an event to the node, and over what its step sends.
-fn take<R: Wait, D: Device, P: Peers>(
+fn take<R: Wait, D: Device, J: JournalDevice, P: Peers>(
     alloc: Global,
-    held: &mut Held<'_, R, D>,
+    held: &mut Held<'_, R, D, J>,
     peers: &mut P,
     event: Event<Op>,
 ) -> Result<(), NodeError>
-    ensures sent { OnOk result (TakesStep D P.takes event peers.old peers.new) }
+    ensures sent { OnOk result (TakesStep D J P.takes event peers.old peers.new) }
     ensures nothing { OnErr result (peers.new ≡ peers.old) }
 {
     let handled = held.handle(alloc, event)?;
@@ -105,15 +113,15 @@ fn take<R: Wait, D: Device, P: Peers>(
 }
 
 /// Hands the message of another replica to the node, likewise.
-fn take_message<R: Wait, D: Device, P: Peers>(
+fn take_message<R: Wait, D: Device, J: JournalDevice, P: Peers>(
     alloc: Global,
-    held: &mut Held<'_, R, D>,
+    held: &mut Held<'_, R, D, J>,
     peers: &mut P,
     from: u64,
     message: PeerMessage<Op>,
     now: u64,
 ) -> Result<(), NodeError>
-    ensures sent { OnOk result (TakesStep D P.takes (event.Message from message) peers.old peers.new) }
+    ensures sent { OnOk result (TakesStep D J P.takes (event.Message from message) peers.old peers.new) }
     ensures nothing { OnErr result (peers.new ≡ peers.old) }
 {
     let handled = held.hear(alloc, from, message, now)?;
@@ -122,9 +130,9 @@ fn take_message<R: Wait, D: Device, P: Peers>(
 }
 
 /// Lets the node make a beat, and copies what it sends. Without memory what it gives out is lost, and a node that stopped shows in its pulse.
-fn beat<R: Wait, D: Device, P: Peers>(
+fn beat<R: Wait, D: Device, J: JournalDevice, P: Peers>(
     alloc: Global,
-    held: &mut Held<'_, R, D>,
+    held: &mut Held<'_, R, D, J>,
     peers: &mut P,
 ) -> Option<Vec<Send<Op>>> {
     let Ok(handled) = held.handle(alloc, Event::Beat) else {
@@ -136,9 +144,9 @@ fn beat<R: Wait, D: Device, P: Peers>(
 }
 
 /// Does what is due; copies of what a beat has sent.
-fn act<R: Wait, D: Device, P: Peers>(
+fn act<R: Wait, D: Device, J: JournalDevice, P: Peers>(
     alloc: Global,
-    held: &mut Held<'_, R, D>,
+    held: &mut Held<'_, R, D, J>,
     peers: &mut P,
     due: Due,
 ) -> Option<Vec<Send<Op>>> {
@@ -152,14 +160,15 @@ fn act<R: Wait, D: Device, P: Peers>(
     }
 }
 
-impl<'a, R: Wait, D: Device> Running<'a, R, D> {
+impl<'a, R: Wait, D: Device, J: JournalDevice> Running<'a, R, D, J> {
     /// A node for threads to share, the publisher to its seats, and what tells what that shows. Its clock begins at the moment 0.
     pub(crate) fn new(
-        node: Node<D>,
+        node: Node<D, J>,
         publisher: Publisher<Here, &'a R>,
         teller: Teller<Here>,
         times: Times,
-    ) -> Running<'a, R, D>
+        inbox: Option<Inbox>,
+    ) -> Running<'a, R, D, J>
         requires shows { IsGiven node.executed publisher }
     {
         let status = status_of(node.standing());
@@ -171,17 +180,29 @@ impl<'a, R: Wait, D: Device> Running<'a, R, D> {
             status,
             0,
         );
+        let held = Held::new(node, publisher, clock);
         Running {
-            standing: LastStanding::new(node.standing()),
+            standing: LastStanding::new(held.standing()),
             teller,
-            held: Mutex::new(Held::new(node, publisher, clock)),
+            held: Mutex::new(held),
             changed: Condvar::new(),
+            inbox,
+            beat: Mutex::new(None),
             call: Mutex::new(Call {
                 is_early: false,
                 is_stopping: false,
             }),
             called: Condvar::new(),
         }
+    }
+
+    /// Has the node execute what is committed, before any event, so that the first one needn't: after a start over a journal that is all that it says is
+    /// committed. Whether some of that is left for want of memory; it is executed after the next event.
+    pub fn execute_due(&self, rt: &R, alloc: Global) -> bool {
+        let mut held = self.held.lock(rt);
+        let behind = held.execute_due(alloc);
+        self.standing.set(held.standing());
+        behind
     }
 
     /// Hands an event to the node, which shows the seats what it then has executed; hands over what the step sends, in the order of the steps; and tells
@@ -193,12 +214,12 @@ impl<'a, R: Wait, D: Device> Running<'a, R, D> {
         peers: &mut P,
         event: Event<Op>,
     ) -> Result<(), NodeError>
-        ensures sent { OnOk result (TakesStep D P.takes event peers.old peers.new) }
+        ensures sent { OnOk result (TakesStep D J P.takes event peers.old peers.new) }
         ensures nothing { OnErr result (peers.new ≡ peers.old) }
     {
         let mut held = self.held.lock(rt);
         let done = take(alloc, &mut held, peers, event);
-        self.standing.set(held.node().standing());
+        self.standing.set(held.standing());
         drop(held);
         self.changed.notify_all();
         done
@@ -214,14 +235,14 @@ impl<'a, R: Wait, D: Device> Running<'a, R, D> {
         message: PeerMessage<Op>,
         now: u64,
     ) -> Result<(), NodeError>
-        ensures sent { OnOk result (TakesStep D P.takes (event.Message from message) peers.old peers.new) }
+        ensures sent { OnOk result (TakesStep D J P.takes (event.Message from message) peers.old peers.new) }
         ensures nothing { OnErr result (peers.new ≡ peers.old) }
     {
         let mut held = self.held.lock(rt);
         let before = held.ask_at();
         let done = take_message(alloc, &mut held, peers, from, message, now);
         let is_early = held.ask_at() < before;
-        self.standing.set(held.node().standing());
+        self.standing.set(held.standing());
         drop(held);
         self.changed.notify_all();
         if is_early {
@@ -236,35 +257,65 @@ impl<'a, R: Wait, D: Device> Running<'a, R, D> {
     }
 
     /// The clock is to be asked earlier than it said.
-    fn call_early(&self, rt: &R) {
+    pub(crate) fn call_early(&self, rt: &R) {
         self.call.lock(rt).is_early = true;
         self.called.notify_all();
     }
 
-    /// Asks the node's clock, at this moment, and does what is due, as `handle` does; none, where another thread has the node just then.
+    /// Asks the node's clock, at this moment, and does what is due, as `handle` does, or posts it where events wait for the thread
+    /// that drives the node; none, where another thread has the node just then.
     pub fn tick<P: Peers>(&self, rt: &R, alloc: Global, peers: &mut P, now: u64) -> Option<Ticked> {
+        match &self.inbox {
+            Some(inbox) => self.tick_beside(rt, inbox, now),
+            None => self.tick_alone(rt, alloc, peers, now),
+        }
+    }
+
+    /// Asks the node's clock, and does what is due.
+    fn tick_alone<P: Peers>(
+        &self,
+        rt: &R,
+        alloc: Global,
+        peers: &mut P,
+        now: u64,
+    ) -> Option<Ticked> {
         let mut held = self.held.try_lock()?;
         let Asked { due, wait } = held.ask(now);
         let beat = act(alloc, &mut held, peers, due);
         held.note(now);
         let pulse = held.pulse();
-        self.standing.set(pulse.standing);
+        self.standing.set(held.standing());
         drop(held);
         self.changed.notify_all();
         Some(Ticked { pulse, wait, beat })
     }
 
     #[tactic(auto, using(crate::proofs::Shares::ended_so))]
-    /// Waits while what becomes of a client's request is still to come, and gives how it ended.
-    pub fn settled(&self, rt: &R, alloc: Global, client: Client, number: u64) -> Ended
-        ensures { IsEnded D client number (ended_view result) }
+    /// Waits until the node has had so many of the events that were posted, and while what becomes of a client's request is still to
+    /// come, but only as long as nobody says that the client has left; gives how it ended.
+    pub fn settled(
+        &self,
+        rt: &R,
+        alloc: Global,
+        client: Client,
+        number: u64,
+        after: u64,
+        has_left: &AtomicBool,
+    ) -> Ended
+        ensures { IsEnded D J client number (ended_view result) }
     {
         let held = self.changed.wait_while(
             rt,
             self.held.lock(rt),
-            |held| held.is_awaited(client, number),
+            |held| held.is_awaited(client, number, after) && !has_left.load(Ordering::SeqCst),
         );
         ended_at(alloc, held.node(), client, number)
+    }
+
+    /// Has those who wait for an outcome look again whether their clients have left. It takes no lock: who begins to wait meanwhile looks after
+    /// the next event, or when the clock is asked next.
+    pub fn look_again(&self) {
+        self.changed.notify_all();
     }
 
     /// The standing of the node after some event of the call or the last before it. It waits for nobody.
@@ -301,6 +352,9 @@ impl<'a, R: Wait, D: Device> Running<'a, R, D> {
     pub fn stop(&self, rt: &R) {
         self.held.lock(rt).is_stopping = true;
         self.changed.notify_all();
+        if let Some(inbox) = &self.inbox {
+            inbox.stop(rt);
+        }
         self.call.lock(rt).is_stopping = true;
         self.called.notify_all();
     }

@@ -1,5 +1,4 @@
 -- What a message of another replica says of its sender, by the message's kind.
-use Rattle.std.specs.Prelude.{ℕ}
 use Rattle.vr_state.specs.declared.message.PeerMessage.{PeerMessage}
 use Rattle.vr_state.specs.declared.message.PeerMessage.TheVariants as kind
 pub use Rattle.replica_clock.specs.declared.sign.Sign.{Sign}

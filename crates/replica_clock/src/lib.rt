@@ -3,9 +3,11 @@
 #![tactic(auto)]
 
 mod clock;
+mod pace;
 mod sign;
 mod times;
 
 pub use clock::{Asked, Due, ReplicaClock};
+pub use pace::Pace;
 pub use sign::{Sign, sign_of};
 pub use times::Times;

@@ -1,6 +1,8 @@
+use Rattle.std.proofs.Common.{ap}
 use Rattle.node_gate.proofs.Grows.{begins}
 use Rattle.node_gate.proofs.events.handle_node.Goals as goal
 
 -- each end of the call leaves a beginning
 pub returns-clause-begins : goal.returns-clause-begins
-returns-clause-begins g c = begins _ _ _ _ c.handle.ensures.executed c.handle.ensures.same c.handle.ensures.no_memory c.handle.ensures.halted_same c.handle.ensures.stops
+returns-clause-begins g c = begins (λ h. h.behind) _ _ _ _ c.handle.ensures.executed c.handle.ensures.same (λ h. ap (λ n. n.executed) (c.handle.ensures.no_memory h)) c.handle.ensures.halted_same
+    c.handle.ensures.stops c.handle.ensures.log_stops c.handle.ensures.foreign_journal c.handle.ensures.stale_journal

@@ -1,0 +1,48 @@
+-- Which refusals the parts of a node's start may give. A refusal flows in.
+use Rattle.std.specs.Prelude.{ℕ}
+use Rattle.log_journal.specs.declared.error.NoteError.TheVariants as note
+use Rattle.view_store.specs.declared.fault.ViewStoreError.TheVariants as view
+use Rattle.dir_node.specs.declared.error.NodeError.{NodeError}
+use Rattle.dir_node.specs.declared.error.NodeError.TheVariants.{NoMemory, Store, Journal, ForeignJournal, StaleJournal, Halted}
+
+-- Want of memory, or what reading and spelling notes may give: no device has failed.
+abbrev pub IsNoteFault : NodeError → Type 0
+IsNoteFault NoMemory = Unit {0}
+IsNoteFault (Journal note.DeviceFailed) = ⊥
+IsNoteFault (Journal _) = Unit {0}
+IsNoteFault _ = ⊥
+
+-- What reading a journal may give.
+abbrev pub IsLogFault : NodeError → Type 0
+IsLogFault NoMemory = Unit {0}
+IsLogFault (Journal _) = Unit {0}
+IsLogFault ForeignJournal = Unit {0}
+IsLogFault StaleJournal = Unit {0}
+IsLogFault (Store _) = ⊥
+IsLogFault Halted = ⊥
+
+-- What writing a start may give.
+abbrev pub IsWriteFault : NodeError → Type 0
+IsWriteFault (Journal note.DeviceFailed) = Unit {0}
+IsWriteFault (Journal note.Full) = Unit {0}
+IsWriteFault (Store view.DeviceFailed) = Unit {0}
+IsWriteFault (Store view.NoPair) = Unit {0}
+IsWriteFault _ = ⊥
+
+-- A start that is refused so has written nothing, but for what it cleared behind the strings of its journal.
+abbrev pub IsEarly : NodeError → Type 0
+IsEarly NoMemory = Unit {0}
+IsEarly ForeignJournal = Unit {0}
+IsEarly StaleJournal = Unit {0}
+IsEarly (Journal note.Damaged) = Unit {0}
+IsEarly (Journal note.AnotherVersion) = Unit {0}
+IsEarly (Store view.ForeignCluster) = Unit {0}
+IsEarly (Store view.KeepsJournal) = Unit {0}
+IsEarly _ = ⊥
+
+-- What a start without a journal may give.
+abbrev pub IsPairFault : NodeError → Type 0
+IsPairFault NoMemory = Unit {0}
+IsPairFault (Store view.Failed) = ⊥
+IsPairFault (Store _) = Unit {0}
+IsPairFault _ = ⊥

@@ -1,0 +1,8 @@
+use Rattle.std.proofs.Common.{◌≡◌, Option, Some, None, refl}
+use Rattle.dir_node.specs.NodeState.{nothing_executed}
+use Rattle.node_gate.proofs.opening.start_again.Goals as goal
+
+pub returns-in-Ok-clause-nothing : goal.returns-in-Ok-clause-nothing
+returns-in-Ok-clause-nothing g c =
+    elim c.args.journal as (λ (j : Option g.row.J.Denot). c.args.journal ≡ j → c.in-Ok.made.0.executed ≡ nothing_executed c.args.config)
+    [ None ↦ λ e. (c.in-Ok.ensures.made e).executed_is | Some j ↦ λ e. (c.in-Ok.ensures.restarted j e).made.executed_is ] refl

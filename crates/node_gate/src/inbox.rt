@@ -1,0 +1,174 @@
+//! Events that wait for the thread that drives a node with a journal: it takes all of them at once, so that one sync settles them all.
+use dir_node::{Event, NodeError, Op, PeerMessage};
+use replica_clock::{Sign, sign_of};
+use std::alloc::{AllocError, Global};
+use std::mem;
+use std::sync::{Condvar, Mutex, Wait};
+
+/// How many events wait, at most: who brings one more waits until there is room.
+const EVENTS: usize = 4_096;
+
+/// What the clock is told of a message that was heard.
+#[derive(Clone, Copy)]
+pub struct Heard {
+    pub from: u64,
+    pub sign: Sign,
+    pub at: u64,
+}
+
+/// Events in the order in which they came.
+#[derive(Drop)]
+pub struct Batch {
+    pub events: Vec<Event<Op>>,
+    pub heard: Vec<Heard>,
+    /// Which of the events is the clock's last beat, if one is.
+    pub beat_at: Option<usize>,
+    /// The number of the last event, of all that were ever posted.
+    pub last: u64,
+}
+
+impl Batch {
+    fn new(alloc: Global, last: u64) -> Batch {
+        Batch {
+            events: Vec::new(alloc),
+            heard: Vec::new(alloc),
+            beat_at: None,
+            last,
+        }
+    }
+
+    /// Adds an event; its number. At an error nothing has changed.
+    fn push(&mut self, event: Event<Op>) -> Result<u64, AllocError> {
+        self.events.push(event)?;
+        self.last = self.last.saturating_add(1);
+        Ok(self.last)
+    }
+
+    /// Adds a message. At an error nothing has changed.
+    fn push_message(
+        &mut self,
+        from: u64,
+        message: PeerMessage<Op>,
+        at: u64,
+    ) -> Result<u64, AllocError> {
+        let sign = sign_of(&message);
+        self.heard.reserve(1)?;
+        let number = self.push(Event::Message { from, message })?;
+        self.heard.push(Heard { from, sign, at })?;
+        Ok(number)
+    }
+
+    /// Adds a beat. At an error nothing has changed.
+    fn push_beat(&mut self) -> Result<u64, AllocError> {
+        let place = self.events.len();
+        let number = self.push(Event::Beat)?;
+        self.beat_at = Some(place);
+        Ok(number)
+    }
+}
+
+/// What waits.
+#[derive(Drop)]
+struct Waiting {
+    batch: Batch,
+    is_stopping: bool,
+}
+
+/// Events that wait, with a condition that is told when some came, and one that is told when they were taken.
+pub struct Inbox {
+    waiting: Mutex<Waiting>,
+    came: Condvar,
+    taken: Condvar,
+}
+
+// Not derived: see "What the gate takes" in docs/ARCHITECTURE.md.
+impl Drop for Inbox {
+    fn drop(self) {
+        let Inbox {
+            waiting: _,
+            came: _,
+            taken: _,
+        } = self;
+    }
+}
+
+impl Inbox {
+    pub fn new(alloc: Global) -> Inbox {
+        Inbox {
+            waiting: Mutex::new(Waiting {
+                batch: Batch::new(alloc, 0),
+                is_stopping: false,
+            }),
+            came: Condvar::new(),
+            taken: Condvar::new(),
+        }
+    }
+
+    /// Posts an event, once there is room; its number. `Halted` where nobody takes events any more.
+    pub fn post<R: Wait>(&self, rt: &R, event: Event<Op>) -> Result<u64, NodeError> {
+        let mut waiting = self.taken.wait_while(rt, self.waiting.lock(rt), |waiting| {
+            waiting.batch.events.len() >= EVENTS && !waiting.is_stopping
+        });
+        if waiting.is_stopping {
+            return Err(NodeError::Halted);
+        }
+        let number = waiting.batch.push(event)?;
+        drop(waiting);
+        self.came.notify_all();
+        Ok(number)
+    }
+
+    /// Posts the message of another replica that came at this moment, likewise.
+    pub fn post_message<R: Wait>(
+        &self,
+        rt: &R,
+        from: u64,
+        message: PeerMessage<Op>,
+        at: u64,
+    ) -> Result<u64, NodeError> {
+        let mut waiting = self.taken.wait_while(rt, self.waiting.lock(rt), |waiting| {
+            waiting.batch.events.len() >= EVENTS && !waiting.is_stopping
+        });
+        if waiting.is_stopping {
+            return Err(NodeError::Halted);
+        }
+        let number = waiting.batch.push_message(from, message, at)?;
+        drop(waiting);
+        self.came.notify_all();
+        Ok(number)
+    }
+
+    /// Posts a beat of the clock, or a suspicion: it waits for no room, and without memory it is lost.
+    pub fn post_due<R: Wait>(&self, rt: &R, is_beat: bool) {
+        let mut waiting = self.waiting.lock(rt);
+        let _posted = if is_beat {
+            waiting.batch.push_beat().is_ok()
+        } else {
+            waiting.batch.push(Event::Suspect).is_ok()
+        };
+        drop(waiting);
+        self.came.notify_all();
+    }
+
+    /// All events that wait, once there are some; none where nobody is to take events any more.
+    pub fn take<R: Wait>(&self, rt: &R, alloc: Global) -> Option<Batch> {
+        let mut waiting = self.came.wait_while(rt, self.waiting.lock(rt), |waiting| {
+            waiting.batch.events.is_empty() && !waiting.is_stopping
+        });
+        if waiting.is_stopping {
+            return None;
+        }
+        let next = Batch::new(alloc, waiting.batch.last);
+        let batch = mem::replace(&mut waiting.batch, next);
+        drop(waiting);
+        self.taken.notify_all();
+        Some(batch)
+    }
+
+    /// Nobody takes events any more.
+    pub fn stop<R: Wait>(&self, rt: &R) {
+        self.waiting.lock(rt).is_stopping = true;
+        self.came.notify_all();
+        self.taken.notify_all();
+    }
+}
