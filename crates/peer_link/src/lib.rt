@@ -2,6 +2,7 @@
 //! again whenever it fails; the frames of a stream are read. What a frame says is not here.
 #![tactic(auto)]
 
+mod address;
 mod dialing;
 mod framing;
 mod outbox;
@@ -11,6 +12,7 @@ mod reading;
 mod sending;
 mod weighted;
 
+pub use address::Address;
 pub use bytes::Bytes;
 pub use dialing::{Dial, SocketDialer};
 pub use framing::Framing;

@@ -12,8 +12,12 @@ const READERS_EACH: u64 = 4;
 /// The most threads that read, where two for each other replica are no more.
 const MOST_READERS: u64 = 64;
 
-/// So many threads take the connections of replicas, look at strangers, hand them on, wait for what clients may ask, and write what is said.
-const OTHER_THREADS: u64 = 5;
+/// So many threads take the connections of replicas, look at strangers, hand them on, wait for what clients may ask, drive the node, and
+/// write what is said.
+const OTHER_THREADS: u64 = 6;
+
+/// So many threads more take the connections of clients, read for them and update.
+const CLIENT_THREADS: u64 = 3;
 
 /// How many threads of each of so many replicas read from other ones, each from one connection at a time: four for each other one, but 8 at
 /// least, and 64 at most or two for each other one.
@@ -37,7 +41,7 @@ pub struct Crew {
 }
 
 impl Crew {
-    /// Nobody has begun. Of so many replicas each has a writer for each other one, its readers, and five threads more, or six where
+    /// Nobody has begun. Of so many replicas each has a writer for each other one, its readers, and six threads more, or seven where
     /// monitors are answered.
     pub fn new(count: usize, has_monitors: bool) -> Crew {
         let others = (count as u64).saturating_sub(1);
@@ -52,9 +56,9 @@ impl Crew {
         }
     }
 
-    /// Clients are heard from now on: a thread that takes their connections is to begin.
+    /// Clients are heard from now on: threads for them are to begin.
     pub fn open(&self) {
-        self.wanted.fetch_add(1, Ordering::SeqCst);
+        self.wanted.fetch_add(CLIENT_THREADS, Ordering::SeqCst);
     }
 
     /// A thread has begun.

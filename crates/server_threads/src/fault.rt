@@ -12,6 +12,9 @@ pub enum ServerError {
     /// An address is another's, or not of this machine.
     #[error("cannot listen\n{0}: another process listens there, it is no address of this machine, or its port is below 1024: check --id and PEER")]
     CannotListenAt(SocketAddr),
+    /// A host's name in this replica's PEER has no address.
+    #[error("cannot listen\n--id: a host's name in the PEER of this replica can't be looked up: mend the name, or write an address")]
+    NoSuchHost,
     /// No PEER has this replica's index.
     #[error("cannot listen\n--id: no PEER has this place")]
     CannotListen,
@@ -25,8 +28,29 @@ pub enum ServerError {
     #[error("foreign cluster\n--store: the file's view is of another cluster: check --cluster and --store")]
     ForeignCluster,
     /// A journal goes with the stored view, and none is given.
-    #[error("E25\n--store: a journal goes with the file's view, and no journal is given: start it with the program that wrote it")]
+    #[error("E25\n--store: a journal goes with the file's view, and none is given: start with --journal and the file that it keeps")]
     KeepsJournal,
+    /// The file of the journal can't be opened, or is another process's.
+    #[error("cannot open the journal\n--journal: another process has the file open, its folder isn't there, or this user may not write to it")]
+    CannotOpenJournal,
+    /// The journal is another cluster's.
+    #[error("E23 foreign cluster\n--journal: the file is a journal of another cluster: check --cluster and --journal")]
+    ForeignJournal,
+    /// The journal is another replica's, or doesn't go with the stored view.
+    #[error("E26 stale journal\n--journal: the file doesn't go with the view of --store, or is another replica's: find the one that does, or give it up: move it away, and the replica begins a new one from what the others know")]
+    StaleJournal,
+    /// The journal is of another version.
+    #[error("E27 another version\n--journal: another version of the program wrote the file: start with that version")]
+    OtherJournal,
+    /// The journal is damaged.
+    #[error("E28 damaged journal\n--journal: the file holds what no replica wrote: check the disk, then give it up: move it away, and the replica begins a new one from what the others know")]
+    DamagedJournal,
+    /// The journal can't grow.
+    #[error("E29 journal full\n--journal: the disk has no room left for the file: make room, and start again without --fresh")]
+    JournalFull,
+    /// The journal's file failed.
+    #[error("E21\n--journal: the file failed: mend the disk, and start again without --fresh")]
+    JournalFailed,
     /// The file failed.
     #[error("E21\n--store: the file failed: mend the disk, and start again without --fresh")]
     DeviceFailed,

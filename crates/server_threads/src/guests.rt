@@ -1,63 +1,69 @@
-//! Clients of a server. A socket comes in, and a connection for a session goes out, which says how its session ended. What a session answers is not
-//! here.
+//! What is told of a server's sessions, a line an event. What a session answers is not here.
+use crate::addresses::Addresses;
+use crate::crew::Crew;
+use crate::engine::Engine;
 use crate::reporter::Reporter;
-use crate::rooms::Rooms;
-use crate::telling::tell_session;
-use client_link::{
-    Arrives, Client, ClientWriter, Connection, ElementHeading, PieceReader, SessionEnd,
-};
+use crate::telling::{tell_begin, tell_end, tell_let_go, tell_session};
+use client_link::SessionEnd;
+use session_hall::{Away, Tells};
 use std::alloc::Global;
-use std::io;
-use std::net::TcpStream;
+use std::net::SocketAddr;
 use std::sync::Wait;
 use std::sync::atomic::{AtomicU64, Ordering};
-use std::time::Clock;
 
-/// A client, whose session's end is told.
+/// Who is told of a server's sessions.
 #[derive(Drop)]
-pub struct Guest<'a, R: Clock> {
-    rt: &'a R,
-    alloc: Global,
-    reporter: &'a Reporter,
-    sessions: &'a AtomicU64,
-    client: Client<'a, R>,
+pub struct Teller<'a, R, E> {
+    pub rt: &'a R,
+    pub alloc: Global,
+    pub crew: &'a Crew,
+    pub sessions: &'a AtomicU64,
+    pub engine: &'a E,
+    pub reporter: &'a Reporter,
+    /// The addresses of the clients, where sessions are logged.
+    pub addresses: Option<&'a Addresses>,
 }
 
-impl<'a, R: Wait + Clock> Arrives<'a, R, Rooms> for Guest<'a, R> {
-    fn arrive(
-        rt: &'a R,
-        alloc: Global,
-        rooms: &'a Rooms,
-        socket: TcpStream,
-    ) -> io::Result<Guest<'a, R>> {
-        let client = Client::arrive(rt, alloc, &rooms.client_door, socket)?;
-        rooms.sessions.fetch_add(1, Ordering::SeqCst);
-        Ok(Guest {
-            rt,
-            alloc,
-            reporter: &rooms.reporter,
-            sessions: &rooms.sessions,
-            client,
-        })
+impl<'a, R: Wait, E> Teller<'a, R, E> {
+    /// The address of a session's client, which is over, where sessions are logged.
+    fn address_of(&self, session: u64) -> Option<SocketAddr> {
+        match self.addresses {
+            Some(addresses) => addresses.go(self.rt, session),
+            None => None,
+        }
     }
 }
 
-impl<'a, R: Wait + Clock + Sync> Connection for Guest<'a, R> {
-    type Reader = PieceReader<'a, R, ElementHeading>;
-
-    type Writer = ClientWriter<'a, R>;
-
-    fn ends(
-        &mut self,
-    ) -> (
-        &mut PieceReader<'a, R, ElementHeading>,
-        &mut ClientWriter<'a, R>,
-    ) {
-        self.client.ends()
+impl<'a, R: Wait, E: Engine> Tells for Teller<'a, R, E> {
+    fn begins(&self) {
+        self.crew.begin();
     }
 
-    fn ended(&mut self, session: u64, end: SessionEnd) {
+    fn came(&self, session: u64, address: SocketAddr) {
+        self.sessions.fetch_add(1, Ordering::SeqCst);
+        if let Some(addresses) = self.addresses {
+            addresses.come(self.rt, session, address);
+            tell_begin(self.rt, self.alloc, self.reporter, session, address);
+        }
+    }
+
+    fn ended(&self, session: u64, end: SessionEnd) {
         self.sessions.fetch_sub(1, Ordering::SeqCst);
-        tell_session(self.rt, self.alloc, self.reporter, session, end);
+        match self.address_of(session) {
+            Some(address) => tell_end(self.rt, self.alloc, self.reporter, session, address, end),
+            None => tell_session(self.rt, self.alloc, self.reporter, session, end),
+        }
+    }
+
+    fn let_go(&self, session: u64, why: Away) {
+        if why != Away::Full {
+            self.sessions.fetch_sub(1, Ordering::SeqCst);
+        }
+        let address = self.address_of(session);
+        tell_let_go(self.rt, self.alloc, self.reporter, session, address, why);
+    }
+
+    fn left(&self) {
+        self.engine.look_again();
     }
 }

@@ -3,6 +3,7 @@
 //! its stored view are not here.
 #![tactic(auto)]
 
+mod addresses;
 mod crew;
 mod engine;
 mod fault;
@@ -12,6 +13,9 @@ mod heading;
 mod laws;
 mod lines;
 mod links;
+mod logged;
+mod logging;
+mod logs;
 mod monitoring;
 mod notes;
 mod places;
@@ -21,6 +25,7 @@ mod receiving;
 mod reporter;
 mod rooms;
 mod serving;
+mod showing;
 mod telling;
 
 pub use client_link::{Config, Limits};
@@ -30,10 +35,14 @@ pub use fault::ServerError;
 pub use framing::MessageFrames;
 pub use laws::none_uncounted;
 pub use lines::Lines;
+pub use logged::Logged;
+pub use logs::Logs;
 pub use notes::Note;
+pub use peer_link::Address;
 pub use places::Place;
 pub use replica_greeting::Terms;
 pub use reporter::{NoteWriter, Reporter, StandardError};
 pub use rooms::{Choices, Rooms, make_rooms};
 pub use serving::Server;
+pub use session_hall::Deaf;
 pub use status_page::{Figures, Role};

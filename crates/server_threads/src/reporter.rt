@@ -8,9 +8,6 @@ use std::io::Eprint;
 use std::sync::{Condvar, CondvarTimeouts, Mutex, Wait};
 use std::time::{Clock, Duration};
 
-/// How many notes wait to be written, at most.
-const NOTES: usize = 128;
-
 /// How long the thread that writes rests after it has written what waited, in milliseconds. Equal lines that come one after the other meanwhile
 /// are written once, with their number.
 const REST: u64 = 200;
@@ -43,7 +40,7 @@ struct Held {
     is_stopping: bool,
 }
 
-/// Lines that wait to be written. At most 128 runs of equal lines do; a line for which there is no room is counted, and the number is written
+/// Lines that wait to be written. At most so many runs of equal lines do; a line for which there is no room is counted, and the number is written
 /// where the line would have been.
 pub struct Reporter {
     held: Mutex<Held>,
@@ -61,9 +58,9 @@ impl Drop for Reporter {
 }
 
 impl Reporter {
-    /// Nothing was said yet. Lines may be said at once; they are written when a thread writes them.
-    pub fn new(alloc: Global) -> Result<Reporter, AllocError> {
-        let lines = Lines::new(alloc, NOTES)?;
+    /// Nothing was said yet, and so many notes may wait. Lines may be said at once; they are written when a thread writes them.
+    pub fn new(alloc: Global, most: usize) -> Result<Reporter, AllocError> {
+        let lines = Lines::new(alloc, most)?;
         Ok(Reporter {
             held: Mutex::new(Held {
                 lines,

@@ -1,8 +1,10 @@
-//! What a server's threads share, made before any of them begins: the listeners of replicas and of monitors, doors, queues.
+//! What a server's threads share, made before any of them begins: the listener of replicas, doors, queues.
+use crate::addresses::Addresses;
 use crate::crew::Crew;
 use crate::fault::ServerError;
 use crate::links::Links;
-use crate::places::Place;
+use crate::logs::Logs;
+use crate::places::{Place, own};
 use crate::reporter::Reporter;
 use client_link::{Door, HasDoor, Limits};
 use peer_link::Outbox;
@@ -10,7 +12,7 @@ use replica_greeting::Terms;
 use std::alloc::{AllocError, Global};
 use std::net::{Net, SocketAddr, TcpListener, TcpStream};
 use std::sync::Mutex;
-use std::sync::atomic::{AtomicU64, Ordering};
+use std::sync::atomic::{AtomicBool, AtomicU64, Ordering};
 use vr_wire::{Op, PeerMessage};
 
 /// How many messages wait for a replica, at most.
@@ -28,13 +30,22 @@ fn outboxes(alloc: Global, count: usize) -> Result<Vec<Outbox<PeerMessage<Op>>>,
     Ok(boxes)
 }
 
-/// The URI of each replica (RFC 4516), by index.
-fn uris(alloc: Global, places: &[Place]) -> Result<Vec<String>, AllocError> {
+/// The URI of each replica, by index.
+fn uris(alloc: Global, places: &[Place<'_>]) -> Result<Vec<String>, AllocError> {
     let mut uris = Vec::new(alloc);
     for place in places {
-        uris.push(format!(in alloc; "ldap://{}", place.ldap_address)?)?;
+        uris.push(place.referral(alloc)?)?;
     }
     Ok(uris)
+}
+
+/// For each of so many threads that update, that nobody has left.
+fn leaves(alloc: Global, count: usize) -> Result<Vec<AtomicBool>, AllocError> {
+    let mut leaves = Vec::with_capacity(alloc, count)?;
+    for _ in 0..count {
+        leaves.push(AtomicBool::new(false))?;
+    }
+    Ok(leaves)
 }
 
 /// A listener at this address.
@@ -51,8 +62,11 @@ pub struct Choices {
     pub limits: Limits,
     /// What all replicas must have alike.
     pub terms: Terms,
+    /// How many threads update.
+    pub updates: usize,
     /// Where monitors are answered, if they are.
     pub metrics: Option<SocketAddr>,
+    pub logs: Logs,
 }
 
 /// What a server's threads share, as it is made before they begin.
@@ -72,12 +86,19 @@ pub struct Rooms {
     pub crew: Crew,
     /// What is said on standard error.
     pub reporter: Reporter,
+    pub logs: Logs,
+    /// The addresses of clients, where sessions are logged.
+    pub(crate) addresses: Option<Addresses>,
     pub(crate) links: Links,
-    /// How many clients are connected.
-    pub(crate) sessions: AtomicU64,
     pub sender: u8,
     /// What all replicas must have alike.
     pub(crate) terms: Terms,
+    /// How many clients are connected.
+    pub(crate) sessions: AtomicU64,
+    /// For each thread that updates, whether the client of its update has left.
+    pub leaves: Vec<AtomicBool>,
+    /// What is never so: nobody leaves who waits for nothing.
+    pub stays: AtomicBool,
 }
 
 impl Rooms {
@@ -109,26 +130,32 @@ impl Drop for Rooms {
             uris: _,
             crew: _,
             reporter: _,
+            logs: _,
+            addresses: _,
             links: _,
-            sessions: _,
             sender: _,
             terms: _,
+            sessions: _,
+            leaves: _,
+            stays: _,
         } = self;
     }
 }
 
-/// The listeners of the replica of this index, and all that its threads share. Replicas that have other terms are refused.
+/// The listeners of the replica of this index, and all that its threads share, of which so many update. Replicas that have other terms are refused.
 pub fn make_rooms<R: Net<Listener = TcpListener, Stream = TcpStream>>(
     rt: &R,
     alloc: Global,
-    places: &[Place],
+    places: &[Place<'_>],
     index: u64,
     choices: Choices,
 ) -> Result<Rooms, ServerError> {
     let Choices {
         limits,
         terms,
+        updates,
         metrics,
+        logs,
     } = choices;
     let Some(place) = places.get(index as usize) else {
         return Err(ServerError::CannotListen);
@@ -138,17 +165,23 @@ pub fn make_rooms<R: Net<Listener = TcpListener, Stream = TcpStream>>(
     };
     let boxes = outboxes(alloc, places.len())?;
     let uris = uris(alloc, places)?;
-    let reporter = Reporter::new(alloc)?;
+    let reporter = Reporter::new(alloc, logs.notes())?;
     let links = Links::new(alloc, places.len())?;
+    let leaves = leaves(alloc, updates)?;
     // Clients are heard later; whether they can be is known from the start.
-    drop(listen(rt, place.ldap_address)?);
-    let peers = listen(rt, place.peer_address)?;
+    let client_address = own(rt, place.ldap_address)?;
+    drop(listen(rt, client_address)?);
+    let peers = listen(rt, own(rt, place.peer_address)?)?;
     let monitors = match metrics {
         Some(address) => Some(listen(rt, address)?),
         None => None,
     };
+    let addresses = match logs.connections {
+        true => Some(Addresses::new(alloc)),
+        false => None,
+    };
     Ok(Rooms {
-        client_address: place.ldap_address,
+        client_address,
         heard_at: Mutex::new(None),
         peers,
         monitors,
@@ -159,9 +192,13 @@ pub fn make_rooms<R: Net<Listener = TcpListener, Stream = TcpStream>>(
         uris,
         crew: Crew::new(places.len(), metrics.is_some()),
         reporter,
+        logs,
+        addresses,
         links,
-        sessions: AtomicU64::new(0),
         sender,
         terms,
+        sessions: AtomicU64::new(0),
+        leaves,
+        stays: AtomicBool::new(false),
     })
 }

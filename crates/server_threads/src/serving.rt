@@ -1,20 +1,25 @@
 //! The threads of a server, and how they end. What they share flows in, with a directory for each seat; clients and replicas are served until the
 //! node behind them ends. What the node does is not here.
+ghost use denote.Param.Send.{IsSend, IsSync};
+
 use crate::crew::readers as readers_of;
 use crate::engine::Engine;
 use crate::fault::ServerError;
 use crate::framing::MessageFrames;
-use crate::guests::Guest;
+use crate::guests::Teller;
 use crate::heading::Senders;
+use crate::logged::Logged;
 use crate::monitoring::Monitoring;
 use crate::places::Place;
 use crate::porch::Porch;
 use crate::receiving::Hall;
 use crate::reporter::StandardError;
 use crate::rooms::{Rooms, listen};
-use client_link::{Config, Directory, Door, Peer, accept_all, close, serve_all};
+use crate::telling::tell_room;
+use client_link::{Config, Directory, Door, Peer, accept_all, close};
 use crossbeam_channel::{Receiver, Sender, bounded};
 use peer_link::{SocketDialer, send_all};
+use session_hall::{Hall as Sessions, Terms, descriptors, serve_sessions};
 use std::alloc::{AllocError, Global};
 use std::io::Eprint;
 use std::net::{Net, SocketAddr, TcpListener, TcpStream};
@@ -37,7 +42,7 @@ pub struct Server<'a, R, E> {
     pub rooms: &'a Rooms,
     pub engine: &'a E,
     pub cluster: Cluster,
-    pub places: &'a [Place],
+    pub places: &'a [Place<'a>],
 }
 
 impl<'a, R, E> Server<'a, R, E>
@@ -96,38 +101,6 @@ where
             &self.rooms.peer_door,
             to,
         );
-    }
-
-    /// Takes the connections of clients, until the server closes.
-    fn take_clients(&self, listener: &TcpListener, to: Sender<(u64, Guest<'a, R>)>) {
-        self.rooms.crew.begin();
-        accept_all(self.rt, self.alloc, listener, self.rooms, to);
-    }
-
-    /// Waits until the node has a state that clients may ask: before, a client had better go on to another replica. Whether the server goes on.
-    fn wait_for_state(&self) -> bool {
-        let mut goes_on = false;
-        for _ in self.rt.forever() {
-            goes_on = !self.rooms.client_door.is_closed();
-            if !goes_on || self.engine.figures().role.serves() {
-                break;
-            }
-            thread::sleep(self.rt, Duration::from_millis(LOOK));
-        }
-        goes_on
-    }
-
-    /// Listens to clients, and says where. Who stops the server afterwards knows it too.
-    fn open_door(&self) -> Result<TcpListener, ServerError> {
-        let listener = listen(self.rt, self.rooms.client_address)?;
-        let Ok(address) = listener.local_addr() else {
-            return Err(ServerError::CannotListenAt(self.rooms.client_address));
-        };
-        *self.rooms.heard_at.lock(self.rt) = Some(address);
-        match println!(self.rt; "listening {address}") {
-            Ok(()) => Ok(listener),
-            Err(_) => Err(ServerError::CannotWrite),
-        }
     }
 
     /// Whom frames are heard from.
@@ -246,52 +219,112 @@ where
         passed
     }
 
-    /// Serves the clients that were taken, each in a seat.
-    fn seat_clients<D: Directory + Send + Drop>(
-        &self,
-        connections: Receiver<(u64, Guest<'a, R>)>,
-        ways: Vec<D>,
-        config: &Config<'_>,
-    ) -> Result<(), AllocError> {
-        let _ways = serve_all(self.rt, self.alloc, connections, ways, config)?;
-        Ok(())
+    /// How many sessions there may be: as many as were asked for, and as the system has descriptors for.
+    fn room(&self, sessions: usize) -> usize {
+        match descriptors() {
+            Some(most) => {
+                if most < sessions as u64 {
+                    tell_room(self.rt, self.alloc, &self.rooms.reporter, most as usize);
+                    most as usize
+                } else {
+                    sessions
+                }
+            }
+            None => sessions,
+        }
     }
 
-    /// Serves the clients of a listener, until the server closes.
-    fn serve_at<D: Directory + Send + Drop>(
-        &self,
-        listener: &TcpListener,
-        ways: Vec<D>,
-        waiting: usize,
-        config: &Config<'_>,
-    ) -> Result<(), AllocError> {
-        let (to_seats, connections) = bounded(self.alloc, waiting)?;
-        let ((), served) = thread::join(
-            self.rt,
-            || {
-                self.take_clients(listener, to_seats);
-            },
-            || self.seat_clients(connections, ways, config),
-        );
-        served
+    /// Waits until the node has a state that clients may ask: before, a client had better go on to another replica. Whether the server goes on.
+    fn wait_for_state(&self) -> bool {
+        let mut goes_on = false;
+        for _ in self.rt.forever() {
+            goes_on = !self.rooms.client_door.is_closed();
+            if !goes_on || self.engine.figures().role.serves() {
+                break;
+            }
+            thread::sleep(self.rt, Duration::from_millis(LOOK));
+        }
+        goes_on
     }
 
-    /// Serves clients, once the node has a state, until the server closes.
-    fn serve_clients<D: Directory + Send + Drop>(
+    /// Listens to clients, and says where. Who stops the server afterwards knows it too.
+    fn open_door(&self) -> Result<TcpListener, ServerError> {
+        let listener = listen(self.rt, self.rooms.client_address)?;
+        let Ok(address) = listener.local_addr() else {
+            return Err(ServerError::CannotListenAt(self.rooms.client_address));
+        };
+        *self.rooms.heard_at.lock(self.rt) = Some(address);
+        match println!(self.rt; "listening {address}") {
+            Ok(()) => Ok(listener),
+            Err(_) => Err(ServerError::CannotWrite),
+        }
+    }
+
+    /// A directory of which updates and slow searches are logged.
+    fn logged<D>(&self, way: D) -> Logged<'a, R, D> {
+        let rooms: &'a Rooms = self.rooms;
+        Logged::new(self.rt, &rooms.reporter, rooms.logs, way)
+    }
+
+    /// The directories that are read, so.
+    fn logged_ways<D: Drop>(&self, ways: Vec<D>) -> Result<Vec<Logged<'a, R, D>>, AllocError> {
+        let mut logged = Vec::with_capacity(self.alloc, ways.len())?;
+        for way in ways {
+            logged.push(self.logged(way))?;
+        }
+        Ok(logged)
+    }
+
+    /// Those that are updated, so, each with its thread.
+    fn logged_gates<U: Drop>(
+        &self,
+        gates: Vec<(usize, U)>,
+    ) -> Result<Vec<(usize, Logged<'a, R, U>)>, AllocError> {
+        let mut logged = Vec::with_capacity(self.alloc, gates.len())?;
+        for (thread, way) in gates {
+            logged.push((thread, self.logged(way)))?;
+        }
+        Ok(logged)
+    }
+
+    /// Serves clients, once the node has a state, until the server closes: reads by one list of directories, updates by the other.
+    fn serve_clients<D: Directory + Send + Drop, U: Directory + Send + Drop>(
         &self,
         ways: Vec<D>,
-        waiting: usize,
+        gates: Vec<(usize, U)>,
+        sessions: usize,
         config: &Config<'_>,
     ) -> Result<(), ServerError> {
         self.rooms.crew.begin();
+        let teller = Teller {
+            rt: self.rt,
+            alloc: self.alloc,
+            crew: &self.rooms.crew,
+            sessions: &self.rooms.sessions,
+            engine: self.engine,
+            reporter: &self.rooms.reporter,
+            addresses: self.rooms.addresses.as_ref(),
+        };
+        let terms = Terms {
+            config: *config,
+            sessions: self.room(sessions),
+            seats: ways.len(),
+            leaves: self.rooms.leaves.as_slice(),
+        };
+        let door = &self.rooms.client_door;
+        let Ok(hall) = Sessions::new(self.rt, self.alloc, door, &teller, terms) else {
+            return Err(ServerError::NoMemory);
+        };
         if !self.wait_for_state() {
             return Ok(());
         }
         let listener = self.open_door()?;
         // Who stopped the server before it was known where clients are heard has woken nobody.
-        if !self.rooms.client_door.is_closed() {
+        if !door.is_closed() {
             self.rooms.crew.open();
-            self.serve_at(&listener, ways, waiting, config)?;
+            let ways = self.logged_ways(ways)?;
+            let gates = self.logged_gates(gates)?;
+            serve_sessions(&hall, &listener, ways, gates)?;
         }
         Ok(())
     }
@@ -328,21 +361,41 @@ where
         }
     }
 
-    /// Serves clients, and runs the node's clock in the thread that calls, until that ends; then all threads end.
-    fn serve_and_tick<D: Directory + Send + Drop>(
-        &self,
-        ways: Vec<D>,
-        waiting: usize,
-        config: &Config<'_>,
-    ) -> Result<(), ServerError> {
-        let (served, ticked) = thread::join(
+    /// Drives the node, until it is stopped.
+    fn drive(&self) -> Result<(), ServerError> {
+        self.rooms.crew.begin();
+        self.end_with(self.engine.drive())
+    }
+
+    /// Drives the node and runs its clock, until that ends; then all threads end. Why the node stopped is told before that its clock did.
+    fn drive_and_tick(&self) -> Result<(), ServerError> {
+        let (driven, ticked) = thread::join(
             self.rt,
-            || self.end_with(self.serve_clients(ways, waiting, config)),
+            || self.drive(),
             || {
                 let ticked = self.engine.run();
                 self.stop();
                 ticked
             },
+        );
+        driven?;
+        ticked
+    }
+
+    /// Serves clients, and runs the node in the thread that calls, until that ends; then all threads end.
+    fn serve_and_tick<D: Directory + Send + Drop, U: Directory + Send + Drop>(
+        &self,
+        ways: Vec<D>,
+        gates: Vec<(usize, U)>,
+        sessions: usize,
+        config: &Config<'_>,
+    ) -> Result<(), ServerError> {
+        let (served, ticked) = thread::join(
+            self.rt,
+            ||
+                requires { IsSync R.row × IsSync E.row × IsSend D.row × IsSend U.row }
+            { self.end_with(self.serve_clients(ways, gates, sessions, config)) },
+            || self.drive_and_tick(),
         );
         ticked?;
         served?;
@@ -350,16 +403,19 @@ where
     }
 
     /// All threads but the one that writes what is said and the one that answers monitors.
-    fn run_all<D: Directory + Send + Drop>(
+    fn run_all<D: Directory + Send + Drop, U: Directory + Send + Drop>(
         &self,
         ways: Vec<D>,
-        waiting: usize,
+        gates: Vec<(usize, U)>,
+        sessions: usize,
         config: &Config<'_>,
     ) -> Result<(), ServerError> {
         let (linked, served) = thread::join(
             self.rt,
             || self.end_with(self.link()),
-            || self.serve_and_tick(ways, waiting, config),
+            ||
+                requires { IsSync R.row × IsSync E.row × IsSend D.row × IsSend U.row }
+            { self.serve_and_tick(ways, gates, sessions, config) },
         );
         served?;
         linked?;
@@ -380,16 +436,19 @@ where
     }
 
     /// All threads but the one that writes what is said.
-    fn run_beside_monitors<D: Directory + Send + Drop>(
+    fn run_beside_monitors<D: Directory + Send + Drop, U: Directory + Send + Drop>(
         &self,
         ways: Vec<D>,
-        waiting: usize,
+        gates: Vec<(usize, U)>,
+        sessions: usize,
         config: &Config<'_>,
     ) -> Result<(), ServerError> {
         let ((), ended) = thread::join(
             self.rt,
             || self.serve_monitors(),
-            || self.run_all(ways, waiting, config),
+            ||
+                requires { IsSync R.row × IsSync E.row × IsSend D.row × IsSend U.row }
+            { self.run_all(ways, gates, sessions, config) },
         );
         ended
     }
@@ -403,17 +462,20 @@ where
 
     /// All threads, to the end of the last: clients, replicas, and the node's clock, in the thread that calls. What was said by then is written
     /// before it ends.
-    pub fn run<D: Directory + Send + Drop>(
+    pub fn run<D: Directory + Send + Drop, U: Directory + Send + Drop>(
         &self,
         ways: Vec<D>,
-        waiting: usize,
+        gates: Vec<(usize, U)>,
+        sessions: usize,
         config: &Config<'_>,
     ) -> Result<(), ServerError> {
         let ((), ended) = thread::join(
             self.rt,
             || self.write_what_is_said(),
-            || {
-                let ended = self.run_beside_monitors(ways, waiting, config);
+            ||
+                requires { IsSync R.row × IsSync E.row × IsSend D.row × IsSend U.row }
+            {
+                let ended = self.run_beside_monitors(ways, gates, sessions, config);
                 self.rooms.reporter.stop(self.rt);
                 ended
             },

@@ -2,7 +2,9 @@
 use crate::reporter::Reporter;
 use client_link::SessionEnd;
 use replica_greeting::Term;
+use session_hall::Away;
 use std::alloc::Global;
+use std::net::SocketAddr;
 use std::sync::Wait;
 use vr_wire::WireError;
 
@@ -69,6 +71,40 @@ fn fault_of(end: SessionEnd) -> Option<&'static str> {
     }
 }
 
+/// A session that begins, where sessions are logged.
+pub fn tell_begin<R: Wait>(
+    rt: &R,
+    alloc: Global,
+    reporter: &Reporter,
+    session: u64,
+    address: SocketAddr,
+) {
+    reporter.say(
+        rt,
+        format!(in alloc; "session {session} began: client {address}"),
+    );
+}
+
+/// How a session ended, where sessions are logged.
+pub fn tell_end<R: Wait>(
+    rt: &R,
+    alloc: Global,
+    reporter: &Reporter,
+    session: u64,
+    address: SocketAddr,
+    end: SessionEnd,
+) {
+    let why = match end {
+        SessionEnd::Unbound => "unbind",
+        SessionEnd::EndOfInput => "its client closed the connection",
+        _ => fault_of(end).unwrap_or("it closed"),
+    };
+    reporter.say(
+        rt,
+        format!(in alloc; "session {session} ended: {why}: client {address}"),
+    );
+}
+
 /// A session that ended badly.
 pub fn tell_session<R: Wait>(
     rt: &R,
@@ -80,6 +116,37 @@ pub fn tell_session<R: Wait>(
     if let Some(why) = fault_of(end) {
         reporter.say(rt, format!(in alloc; "session {session} ended: {why}"));
     }
+}
+
+/// A session that was let go.
+pub fn tell_let_go<R: Wait>(
+    rt: &R,
+    alloc: Global,
+    reporter: &Reporter,
+    session: u64,
+    address: Option<SocketAddr>,
+    why: Away,
+) {
+    let why = match why {
+        Away::Longest => "it was silent for longest, and no further session had room",
+        Away::Full => "there is no room for it, and no session is silent",
+        Away::NoDescriptor => "it was silent for longest, and the system has no descriptor left",
+    };
+    let line = match address {
+        Some(address) => format!(in alloc; "session {session} let go: {why}: client {address}"),
+        None => format!(in alloc; "session {session} let go: {why}"),
+    };
+    reporter.say(rt, line);
+}
+
+/// How many sessions the system lets in, where that is fewer than were asked for.
+pub fn tell_room<R: Wait>(rt: &R, alloc: Global, reporter: &Reporter, sessions: usize) {
+    reporter.say(
+        rt,
+        format!(in alloc;
+            "room for {sessions} sessions: the system's limit of descriptors lets in no more"
+        ),
+    );
 }
 
 /// A message that couldn't be made a frame of.

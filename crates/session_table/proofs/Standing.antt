@@ -6,7 +6,7 @@ use Rattle.std.proofs.lemmas.Option.{slice_get_within}
 use Rattle.session_table.specs.Places.{IsAway, IsIn, IsLongest, NoneIn, HasPut}
 use Rattle.session_table.specs.Listed.{is_queue, IsFirstAt, Tells, AllTell}
 use Rattle.session_table.specs.declared.spot.Queue.{Queue}
-use Rattle.session_table.specs.declared.spot.Queue.TheVariants.{Free, Silent, Inside, Unsent}
+use Rattle.session_table.specs.declared.spot.Queue.TheVariants.{Silent, Inside, Unsent}
 use Rattle.session_table.specs.declared.spot.Spot.{Spot}
 use Rattle.session_table.specs.declared.spot.Spot.TheVariants.{Away, In}
 
@@ -42,19 +42,12 @@ is_in_set spots p x q queue t within is = by (eqb_tells q p)
 
 -- whether two queues are one
 queue_tells : (a b : Queue) → ((is_queue a b ≡ true) × (a ≡ b)) ⊎ ((is_queue a b ≡ false) × (a ≡ b → ⊥))
-queue_tells Free Free = inl (refl, refl)
-queue_tells Free Silent = inr (refl, λ e. cc)
-queue_tells Free Inside = inr (refl, λ e. cc)
-queue_tells Free Unsent = inr (refl, λ e. cc)
-queue_tells Silent Free = inr (refl, λ e. cc)
 queue_tells Silent Silent = inl (refl, refl)
 queue_tells Silent Inside = inr (refl, λ e. cc)
 queue_tells Silent Unsent = inr (refl, λ e. cc)
-queue_tells Inside Free = inr (refl, λ e. cc)
 queue_tells Inside Silent = inr (refl, λ e. cc)
 queue_tells Inside Inside = inl (refl, refl)
 queue_tells Inside Unsent = inr (refl, λ e. cc)
-queue_tells Unsent Free = inr (refl, λ e. cc)
 queue_tells Unsent Silent = inr (refl, λ e. cc)
 queue_tells Unsent Inside = inr (refl, λ e. cc)
 queue_tells Unsent Unsent = inl (refl, refl)

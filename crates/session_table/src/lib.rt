@@ -1,4 +1,4 @@
-//! Whose place in a table is free, and which places wait, for what, and since when. Each place stands in one queue, or is away with whoever
+//! Which places of a table wait, for what, and since when. Each place stands in one queue, or is away: free, or with whoever
 //! serves its session. Sessions, clocks, sockets and locks are above.
 #![tactic(auto)]
 

@@ -15,7 +15,6 @@ pub type Turns = BTreeMap<u64, usize>;
 /// All queues.
 #[derive(Drop)]
 pub struct Queues {
-    free: Turns,
     silent: Turns,
     inside: Turns,
     unsent: Turns,
@@ -38,7 +37,6 @@ impl Queues {
         ensures { (queue : Queue) (t : ℕ) → place_at result queue t ≡ None }
     {
         Queues {
-            free: BTreeMap::new(alloc),
             silent: BTreeMap::new(alloc),
             inside: BTreeMap::new(alloc),
             unsent: BTreeMap::new(alloc),
@@ -52,7 +50,6 @@ impl Queues {
         ensures err { OnErr result ((q : Queue) (t : ℕ) → place_at self.new q t ≡ place_at self.old q t) }
     {
         match queue {
-            Queue::Free => self.free.insert(turn, place)?,
             Queue::Silent => self.silent.insert(turn, place)?,
             Queue::Inside => self.inside.insert(turn, place)?,
             Queue::Unsent => self.unsent.insert(turn, place)?,
@@ -65,7 +62,6 @@ impl Queues {
         ensures { (q : Queue) (t : ℕ) → place_at self.new q t ≡ cond (is_queue queue q && nat_eq turn t) None (place_at self.old q t) }
     {
         match queue {
-            Queue::Free => self.free.remove(&turn),
             Queue::Silent => self.silent.remove(&turn),
             Queue::Inside => self.inside.remove(&turn),
             Queue::Unsent => self.unsent.remove(&turn),
@@ -78,7 +74,6 @@ impl Queues {
         ensures none { IfNone result ((t : ℕ) → place_at self.now queue t ≡ None) }
     {
         match queue {
-            Queue::Free => first_of(&self.free),
             Queue::Silent => first_of(&self.silent),
             Queue::Inside => first_of(&self.inside),
             Queue::Unsent => first_of(&self.unsent),

@@ -3,8 +3,6 @@
 /// The queues of a table.
 #[derive(Clone, Copy, Debug, PartialEq, Eq)]
 pub enum Queue {
-    /// Places without a session.
-    Free,
     /// Those that wait for the beginning of a message.
     Silent,
     /// Those that wait for the rest of a message.

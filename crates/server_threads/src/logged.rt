@@ -1,0 +1,124 @@
+//! A directory whose updates and slow searches are logged. Each request goes on to it, and its answer comes back as it is. What a line says is not
+//! here.
+ghost use Rattle.std.specs.Prelude.{◌≡◌};
+
+use crate::logging::{tell_slow, tell_update, text_of_update};
+use crate::logs::Logs;
+use crate::reporter::Reporter;
+use client_link::Directory;
+use session_hall::{
+    Client, CompareRequest, Ended, Found, LookError, Reply, Role, SearchAnswer, SearchRequest,
+    Update,
+};
+use std::alloc::{AllocError, Global};
+use std::marker::Model;
+use std::sync::Wait;
+
+/// A directory whose updates and slow searches are logged. Contracts see it as that directory.
+#[derive(Drop)]
+pub struct Logged<'a, R, D> {
+    rt: &'a R,
+    reporter: &'a Reporter,
+    logs: Logs,
+    directory: D,
+}
+
+impl<'a, R, D> Model for Logged<'a, R, D> {
+    ghost Value = { D };
+
+    ghost view = { λ l. l.directory };
+}
+
+impl<'a, R, D> Logged<'a, R, D> {
+    /// A directory of which this is logged, to this reporter.
+    pub fn new(rt: &'a R, reporter: &'a Reporter, logs: Logs, directory: D) -> Logged<'a, R, D>
+        ensures { result ≡ directory }
+    {
+        Logged {
+            rt,
+            reporter,
+            logs,
+            directory,
+        }
+    }
+}
+
+impl<'a, R: Wait, D> Logged<'a, R, D> {
+    /// Logs a search that was answered, where it evaluated its filter on too many entries.
+    fn log_search(
+        &self,
+        alloc: Global,
+        request: &SearchRequest,
+        found: &Result<Found<SearchAnswer>, LookError>,
+    ) {
+        if let Ok(found) = found {
+            let tests = found.answer.tests as u64;
+            if tests > self.logs.slow {
+                tell_slow(self.rt, alloc, self.reporter, request, tests);
+            }
+        }
+    }
+
+    /// What an update asks for, as it is logged; none, where none is.
+    fn text_of(&self, alloc: Global, update: &Update) -> Option<Result<String, AllocError>> {
+        if self.logs.updates {
+            Some(text_of_update(alloc, update))
+        } else {
+            None
+        }
+    }
+
+    /// Logs how an update ended, where it is to be.
+    fn log_update(
+        &self,
+        alloc: Global,
+        client: Client,
+        text: Option<Result<String, AllocError>>,
+        ended: &Ended,
+    ) {
+        if let Some(text) = text {
+            tell_update(self.rt, alloc, self.reporter, client, text, ended);
+        }
+    }
+}
+
+impl<'a, R: Wait, D: Directory> Directory for Logged<'a, R, D> {
+    type Told = D::Told;
+
+    ghost allows = { D.allows };
+
+    fn search(
+        &mut self,
+        alloc: Global,
+        named: u64,
+        request: &SearchRequest,
+    ) -> Result<Found<SearchAnswer>, LookError> {
+        let found = self.directory.search(alloc, named, request);
+        self.log_search(alloc, request, &found);
+        found
+    }
+
+    fn compare(
+        &mut self,
+        alloc: Global,
+        named: u64,
+        request: &CompareRequest,
+    ) -> Result<Found<Reply>, LookError> {
+        self.directory.compare(alloc, named, request)
+    }
+
+    fn learn(&mut self, told: D::Told) {
+        self.directory.learn(told);
+    }
+
+    fn role(&mut self, alloc: Global) -> (Role, D::Told) {
+        self.directory.role(alloc)
+    }
+
+    fn update(&mut self, alloc: Global, client: Client, number: u64, update: Update) -> Ended {
+        let text = self.text_of(alloc, &update);
+        let ended = self.directory.update(alloc, client, number, update);
+        self.log_update(alloc, client, text, &ended);
+        ended
+    }
+}

@@ -1,0 +1,5 @@
+pub mod Attended
+pub mod Crossing
+pub mod Lined
+pub mod Posted
+pub mod Standing

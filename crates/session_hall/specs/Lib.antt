@@ -1,0 +1,4 @@
+pub mod Attending
+pub mod Posting
+pub mod Stands
+pub mod Tabling
