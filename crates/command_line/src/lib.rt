@@ -2,11 +2,15 @@
 //! what a text in it means (a name, a filter), is not here.
 #![tactic(auto)]
 
+mod logs;
+mod places;
 mod rows;
 mod serving;
 mod words;
 
 pub use clap::Error;
 pub use ldap_requests::Scope;
-pub use serving::{Password, Peer, Serving};
+pub use logs::Logs;
+pub use places::{Address, Peer};
+pub use serving::{Password, Serving};
 pub use words::{Checking, Ground, Job, Opening, Question, read_words};

@@ -11,6 +11,8 @@ pub enum Takes {
     Nothing,
     /// The text behind it; it may be left out.
     Text,
+    /// The text behind it; it may be left out, or be there several times.
+    Texts,
     /// The text behind it; it can't be left out.
     Wanted,
     /// The number behind it, between these two; it can't be left out.
@@ -75,6 +77,7 @@ fn argument<'a>(alloc: Global, word: &Word) -> Arg<'a> {
                 .action(ArgAction::SetTrue)
         }
         Takes::Text => named(alloc, word),
+        Takes::Texts => named(alloc, word).action(ArgAction::Append),
         Takes::Wanted => named(alloc, word).required(true),
         Takes::Number { first, last } => number(alloc, word, first, last).required(true),
         Takes::Count { last, default } => number(alloc, word, 1, last).default_value(default),

@@ -1,5 +1,7 @@
 //! The words of `serve`: what a replica is told. Matched words flow in, and a replica's settings flow out, or why they are none. What a
 //! replica does with them is not here.
+use crate::logs::{Logs, logs_of};
+use crate::places::{Peer, peer_of};
 use crate::rows::{INDEX_WORD, Order, SCHEMA_WORD, Takes, Word, command_of, refusal_by};
 use crate::words::as_text;
 use clap::{ArgMatches, Error};
@@ -12,14 +14,8 @@ const LAST_CLUSTER: i64 = 281_474_976_710_655;
 /// The greatest number of milliseconds that may be asked for, a day.
 const LONGEST: i64 = 86_400_000;
 
-/// Where one replica is found.
-#[derive(Clone, Copy)]
-pub struct Peer {
-    /// Where the other replicas find it.
-    pub peer_address: SocketAddr,
-    /// Where clients find it.
-    pub ldap_address: SocketAddr,
-}
+/// The greatest number of entries that may be told, more than any directory has.
+const MOST_ENTRIES: i64 = 4_294_967_295;
 
 /// How the manager's password is told.
 #[derive(Clone, Copy)]
@@ -37,6 +33,8 @@ pub struct Serving<'a> {
     pub index: u64,
     /// The name of the file of its stored view.
     pub store: &'a str,
+    /// The name of the file of its journal; none for a replica that keeps its log in memory alone.
+    pub journal: Option<&'a str>,
     pub suffix: &'a str,
     pub manager: &'a str,
     pub password: Password<'a>,
@@ -44,10 +42,12 @@ pub struct Serving<'a> {
     pub schema: Option<&'a str>,
     /// The name of the index choice's file; none for no index.
     pub indexes: Option<&'a str>,
-    /// How many sessions are served at once.
+    /// How many threads read.
     pub seats: u64,
-    /// How many connections wait for a seat, at most, beside those that the system keeps.
-    pub waiting: u64,
+    /// How many sessions there may be.
+    pub sessions: u64,
+    /// How many threads wait for updates.
+    pub updates: u64,
     /// How often it sends again.
     pub beat: u64,
     /// How long a backup hears nothing of its primary before it suspects it.
@@ -60,10 +60,14 @@ pub struct Serving<'a> {
     pub take: u64,
     /// Where monitors are answered, if they are.
     pub metrics: Option<SocketAddr>,
+    /// What is logged beside what is always told.
+    pub logs: Logs,
+    /// On more than so many entries a search evaluates its filter that is logged.
+    pub slow: u64,
     /// Whether this is the first start of its life.
     pub fresh: bool,
     /// All replicas, by index.
-    pub peers: Vec<Peer>,
+    pub peers: Vec<Peer<'a>>,
 }
 
 // Not derived: see "What the gate takes" in docs/ARCHITECTURE.md.
@@ -73,19 +77,23 @@ impl<'a> Drop for Serving<'a> {
             cluster: _,
             index: _,
             store: _,
+            journal: _,
             suffix: _,
             manager: _,
             password: _,
             schema: _,
             indexes: _,
             seats: _,
-            waiting: _,
+            sessions: _,
+            updates: _,
             beat: _,
             suspect: _,
             stall: _,
             idle: _,
             take: _,
             metrics: _,
+            logs: _,
+            slow: _,
             fresh: _,
             peers: _,
         } = self;
@@ -114,6 +122,12 @@ const WORDS: &[Word] = &[
         value: "FILE",
         takes: Takes::Wanted,
         help: "The file of the replica's stored view, its own for its whole life",
+    },
+    Word {
+        name: "journal",
+        value: "FILE",
+        takes: Takes::Text,
+        help: "The file of the replica's journal: it keeps the log, so that not even the end of all replicas at once loses an update",
     },
     Word {
         name: "fresh",
@@ -154,16 +168,25 @@ const WORDS: &[Word] = &[
             last: 32,
             default: "8",
         },
-        help: "How many sessions are served at once, at most 32",
+        help: "How many threads read, at most 32",
     },
     Word {
-        name: "waiting",
+        name: "sessions",
         value: "N",
         takes: Takes::Count {
-            last: 4096,
-            default: "64",
+            last: 1_000_000,
+            default: "10000",
         },
-        help: "How many connections wait for a seat, at most; more wait in the system",
+        help: "How many sessions there may be, as far as the system has descriptors; then the one that was silent for longest goes",
+    },
+    Word {
+        name: "updates",
+        value: "N",
+        takes: Takes::Count {
+            last: 256,
+            default: "8",
+        },
+        help: "How many threads wait for updates, at most 256",
     },
     Word {
         name: "stall",
@@ -217,10 +240,25 @@ const WORDS: &[Word] = &[
         help: "Answer monitors over HTTP at this address, as 127.0.0.1:9389: /live, /ready and /metrics",
     },
     Word {
+        name: "log",
+        value: "WHAT",
+        takes: Takes::Texts,
+        help: "Log on standard error each session's begin and end (connections), each update (updates), or both (connections,updates)",
+    },
+    Word {
+        name: "slow",
+        value: "N",
+        takes: Takes::Count {
+            last: MOST_ENTRIES,
+            default: "10000",
+        },
+        help: "Log each search that evaluates its filter on more than so many entries, for want of an index",
+    },
+    Word {
         name: "PEER",
         value: "",
         takes: Takes::Many { at_least_one: true },
-        help: "Each replica of the cluster in order, 3, 5 or 7: where replicas find it and where clients do, as 127.0.0.1:4000,127.0.0.1:3890",
+        help: "Each replica of the cluster in order, 3, 5 or 7: where replicas find it and where clients do, as 127.0.0.1:4000,127.0.0.1:3890 or one.example.com:4000,one.example.com:389; behind a further comma the URI that clients are referred to, where it is another, as ldaps://one.example.com",
     },
 ];
 
@@ -231,22 +269,13 @@ pub const SERVE: Order = Order {
     words: WORDS,
 };
 
-/// Where a replica is found, by its word; none, where that isn't two addresses with a comma between them.
-fn peer_of(word: &str) -> Option<Peer> {
-    let (peer, ldap) = word.split_once(',')?;
-    Some(Peer {
-        peer_address: peer.parse::<SocketAddr>().ok()?,
-        ldap_address: ldap.parse::<SocketAddr>().ok()?,
-    })
-}
-
 /// An error in the words of `serve`.
 fn refused(alloc: Global, message: &str) -> Error {
     refusal_by(command_of(alloc, &SERVE), message)
 }
 
 /// The replicas of a cluster, by their words.
-fn peers_in(alloc: Global, words: &[&str]) -> Result<Vec<Peer>, Error> {
+fn peers_in<'a>(alloc: Global, words: &[&'a str]) -> Result<Vec<Peer<'a>>, Error> {
     if !matches!(words.len(), 3 | 5 | 7) {
         return Err(refused(alloc, "a cluster has 3, 5 or 7 replicas"));
     }
@@ -255,7 +284,10 @@ fn peers_in(alloc: Global, words: &[&str]) -> Result<Vec<Peer>, Error> {
         match peer_of(word) {
             Some(peer) => peers.push(peer)?,
             None => {
-                return Err(refused(alloc, "a PEER is two addresses with a comma between them"));
+                return Err(refused(
+                    alloc,
+                    "a PEER is two addresses, or names of hosts, with their ports and a comma between them, and behind a further comma the URI that clients are referred to, where it is another",
+                ));
             }
         }
     }
@@ -308,6 +340,17 @@ fn metrics_in(alloc: Global, matches: &ArgMatches<'_>) -> Result<Option<SocketAd
     }
 }
 
+/// What is logged.
+fn logs_in(alloc: Global, matches: &ArgMatches<'_>) -> Result<Logs, Error> {
+    match logs_of(matches.get_strs("log").unwrap_or(&[])) {
+        Some(logs) => Ok(logs),
+        None => Err(refused(
+            alloc,
+            "--log takes connections, updates, or both with a comma between them",
+        )),
+    }
+}
+
 /// What `serve` is told.
 pub fn serving_in<'a>(alloc: Global, matches: &ArgMatches<'a>) -> Result<Serving<'a>, Error> {
     let peers = peers_in(alloc, matches.get_strs("PEER").unwrap_or(&[]))?;
@@ -318,23 +361,28 @@ pub fn serving_in<'a>(alloc: Global, matches: &ArgMatches<'a>) -> Result<Serving
     let (suffix, manager) = names_in(alloc, matches)?;
     let password = password_in(alloc, matches)?;
     let metrics = metrics_in(alloc, matches)?;
+    let logs = logs_in(alloc, matches)?;
     Ok(Serving {
         cluster: number_in(matches, "cluster"),
         index,
         store: text_in(matches, "store"),
+        journal: matches.get_str("journal"),
         suffix,
         manager,
         password,
         schema: matches.get_str("schema"),
         indexes: matches.get_str("index"),
         seats: number_in(matches, "seats"),
-        waiting: number_in(matches, "waiting"),
+        sessions: number_in(matches, "sessions"),
+        updates: number_in(matches, "updates"),
         beat: number_in(matches, "beat"),
         suspect: number_in(matches, "suspect"),
         stall: number_in(matches, "stall"),
         idle: number_in(matches, "idle"),
         take: number_in(matches, "take"),
         metrics,
+        logs,
+        slow: number_in(matches, "slow"),
         fresh: matches.get_flag("fresh"),
         peers,
     })

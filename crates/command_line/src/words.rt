@@ -192,7 +192,7 @@ const ORDERS: &[Order] = &[
 /// The program's own words.
 fn program<'a>(alloc: Global) -> Command<'a> {
     Command::new(alloc, "dird")
-        .version("0.1.0")
+        .version("0.2.0")
         .about("An LDAPv3 directory server whose answers are proved")
         .subcommand_required(true)
         .arg_required_else_help(true)

@@ -1,7 +1,10 @@
 //! What the words of `serve` ask for becomes a running replica: the settings flow on to the server, and why it ended flows back. What a word or
 //! a file means is not here.
+use command_line::Address as Told;
 use dird_commands::Service;
-use server::{Cluster, Limits, NodeConfig, Options, Place, ServerError, Terms, Times, serve};
+use server::{
+    Address, Cluster, Limits, Logs, NodeConfig, Options, Place, ServerError, Terms, Times, serve,
+};
 use std::alloc::{AllocError, Global};
 use std::fs::{File, Files};
 use std::io::{Eprint, Print};
@@ -10,13 +13,22 @@ use std::sync::Wait;
 use std::thread::Threads;
 use std::time::{Clock, Duration};
 
+/// Where a socket is found.
+fn address_of(address: Told<'_>) -> Address<'_> {
+    match address {
+        Told::Numbers(address) => Address::Numbers(address),
+        Told::Name { host, port } => Address::Name { host, port },
+    }
+}
+
 /// Where the replicas are.
-fn places_of(alloc: Global, service: &Service<'_>) -> Result<Vec<Place>, AllocError> {
+fn places_of<'a>(alloc: Global, service: &Service<'a>) -> Result<Vec<Place<'a>>, AllocError> {
     let mut places = Vec::new(alloc);
     for peer in &service.words.peers {
         places.push(Place {
-            peer_address: peer.peer_address,
-            ldap_address: peer.ldap_address,
+            peer_address: address_of(peer.peer_address),
+            ldap_address: address_of(peer.ldap_address),
+            uri: peer.uri,
         })?;
     }
     Ok(places)
@@ -30,18 +42,30 @@ fn text_in(text: &Option<String>) -> Option<&str> {
     }
 }
 
+/// Where clients find a replica: where it hears them, and the URI that they are referred to, where that is another.
+fn client_line(alloc: Global, place: &Place<'_>) -> Result<String, AllocError> {
+    match place.uri {
+        Some(uri) => format!(in alloc; "{} {uri}\n", place.ldap_address),
+        None => format!(in alloc; "{}\n", place.ldap_address),
+    }
+}
+
 /// Where clients find the replicas, a line each.
-fn clients_of(alloc: Global, places: &[Place]) -> Result<String, AllocError> {
+fn clients_of(alloc: Global, places: &[Place<'_>]) -> Result<String, AllocError> {
     let mut clients = String::new(alloc);
     for place in places {
-        let line = format!(in alloc; "{}\n", place.ldap_address)?;
+        let line = client_line(alloc, place)?;
         clients.push_str(&line)?;
     }
     Ok(clients)
 }
 
 /// What all replicas must have alike.
-fn terms_of(alloc: Global, service: &Service<'_>, places: &[Place]) -> Result<Terms, AllocError> {
+fn terms_of(
+    alloc: Global,
+    service: &Service<'_>,
+    places: &[Place<'_>],
+) -> Result<Terms, AllocError> {
     let clients = clients_of(alloc, places)?;
     let schema = text_in(&service.schema_text);
     Ok(Terms::of(schema, service.words.suffix, &clients))
@@ -85,9 +109,11 @@ where
         manager,
         password: &password,
         store: words.store,
+        journal: words.journal,
         is_fresh: words.fresh,
         seats: words.seats as usize,
-        waiting: words.waiting as usize,
+        sessions: words.sessions as usize,
+        updates: words.updates as usize,
         times: Times {
             beat: Duration::from_millis(words.beat),
             suspect: Duration::from_millis(words.suspect),
@@ -100,6 +126,11 @@ where
         places: &places,
         terms,
         metrics: words.metrics,
+        logs: Logs {
+            connections: words.logs.connections,
+            updates: words.logs.updates,
+            slow: words.slow,
+        },
     };
     serve(rt, alloc, options)
 }

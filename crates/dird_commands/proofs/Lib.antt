@@ -1,2 +1,3 @@
 pub mod Sampled
 pub mod Beginning
+pub mod Reading

@@ -1,5 +1,5 @@
 -- How a session begins: its directory, and who may change it. A schema flows in; the directory and what its sessions share flow out.
-use Rattle.std.specs.Prelude.{ℕ, List, [], Bool, true, false, codes, Option, None, Some}
+use Rattle.std.specs.Prelude.{◌≡◌, ◌⊎◌, ℕ, List, [], Bool, true, false, codes, Option, None, Some}
 use Rattle.local_directory.specs.ldap_schema.Schema.{SchemaModel}
 use Rattle.local_directory.specs.ldap_dn.Names.{RdnModel}
 use Rattle.local_directory.specs.ldap_dn.Texts.{name_of_text}
@@ -11,7 +11,10 @@ use Rattle.hex_session.specs.session_rules.Session.{ConfigValue}
 use Rattle.local_directory.specs.Local.{LocalValue}
 use Rattle.local_directory.specs.Allows.{allows}
 use Rattle.hex_session.specs.ldap_session.declared.end.SessionEnd.{SessionEnd}
-use Rattle.hex_session.specs.Answered.{Answers}
+use Rattle.hex_session.specs.Answered.{Answers, Fails}
+use Rattle.hex_session.specs.declared.fault.LineFault.{LineFault}
+use Rattle.dird_commands.specs.declared.fault.Fault.{Fault}
+use Rattle.dird_commands.specs.Undone.{line_fault}
 use Rattle.dird_commands.specs.Sample.{sample}
 
 abbrev pub or_empty : Option (List RdnModel) → List RdnModel
@@ -57,3 +60,12 @@ local_at_first s with_sample = record { directory = directory_at_first s with_sa
 abbrev pub AnswersFrom : SchemaModel → Bool → Option (List ℕ) → Option (List ℕ) → Option (List ℕ) → Option (List ℕ) → SessionEnd → Type 0
 AnswersFrom s with_sample input left output grown end =
     (after : LocalValue) × Answers allows (config_of s) (local_at_first s with_sample) after input left output grown end
+
+-- A session over a local directory that ends by a fault has written nothing, since it did not begin; or it has written what such a session over lines
+-- has written by then.
+abbrev pub IsCutFrom : ConfigValue → LocalValue → LocalValue → Option (List ℕ) → Option (List ℕ) → Option (List ℕ) → Fault → Type 0
+IsCutFrom c d e input output grown fault = (grown ≡ output) ⊎ ((error : LineFault) × (fault ≡ line_fault error) × Fails allows c d e input output grown error)
+
+-- the same from its beginning on
+abbrev pub FailsFrom : SchemaModel → Bool → Option (List ℕ) → Option (List ℕ) → Option (List ℕ) → Fault → Type 0
+FailsFrom s with_sample input output grown fault = (after : LocalValue) × IsCutFrom (config_of s) (local_at_first s with_sample) after input output grown fault

@@ -4,3 +4,5 @@ pub mod Status
 pub mod Opened
 pub mod Texts
 pub mod Checked
+pub mod Undone
+pub mod Played

@@ -1,15 +1,16 @@
 //! Checks an LDIF file before it is served: prints each record that a directory would refuse, with its line, its result code and the reason.
-ghost use Rattle.std.specs.Prelude.{◌≡◌, IfOk};
+ghost use Rattle.std.specs.Prelude.{◌≡◌, IfOk, IfErr};
 ghost use Rattle.std.specs.Arc.{arc_value};
 ghost use Rattle.dird_commands.specs.Begun.{empty_under};
 ghost use Rattle.local_directory.specs.Checked.{IsChecked};
 ghost use Rattle.dird_commands.specs.Checked.{verdict, IsVerdict};
+ghost use Rattle.dird_commands.specs.Undone.{IsCheckCause, IsUnchecked};
 
 use crate::explaining::{check_refusal, record_told};
 use crate::opening::EmptyDirectory;
-use crate::reasons::write_refusal;
 use crate::refusal::Refusal;
 use crate::status::Status;
+use crate::texts::write_out;
 use explanations::{code_word, shown};
 use local_directory::{Checked, RefusedRecord, Schema, check_text};
 use std::alloc::{AllocError, Global};
@@ -33,36 +34,35 @@ fn line_of(
     format!(in alloc; "{path} {told} (code {code}, {word})")
 }
 
-/// Writes a line.
-fn write_line<W: Write>(alloc: Global, output: &mut W, line: &str) -> Result<(), Refusal> {
-    match writeln!(output, "{line}") {
-        Ok(()) => Ok(()),
-        Err(error) => Err(write_refusal(alloc, error.kind())),
-    }
-}
-
-/// Writes the refused records, as far as they are printed.
-fn write_refused<W: Write>(
+/// The lines of the refused records, as far as they are printed.
+fn lines_of(
     alloc: Global,
     schema: &Schema,
     path: &str,
     text: &[u8],
     refused: &[RefusedRecord],
-    output: &mut W,
-) -> Result<(), Refusal> {
+) -> Result<String, AllocError> {
+    let mut lines = String::new(alloc);
     for record in refused.iter().take(MOST) {
         let line = line_of(alloc, schema, path, text, *record)?;
-        write_line(alloc, output, &line)?;
+        lines.push_str(&line)?;
+        lines.push_str("\n")?;
     }
-    Ok(())
+    Ok(lines)
 }
 
-/// Writes how many records there are, and how many of them are refused.
-fn write_counts<W: Write>(alloc: Global, checked: &Checked, output: &mut W) -> Result<(), Refusal> {
+/// What is printed: the lines of refused records, and how many records there are and how many of them are refused.
+fn report(
+    alloc: Global,
+    schema: &Schema,
+    path: &str,
+    text: &[u8],
+    checked: &Checked,
+) -> Result<String, AllocError> {
     let count = checked.count;
     let refused = checked.refused.len();
-    let line = format!(in alloc; "{count} records, {refused} refused")?;
-    write_line(alloc, output, &line)
+    let lines = lines_of(alloc, schema, path, text, &checked.refused)?;
+    format!(in alloc; "{lines}{count} records, {refused} refused\n")
 }
 
 /// Done where nothing is refused.
@@ -82,7 +82,8 @@ fn checked(
     path: &str,
     text: &[u8],
 ) -> Result<Checked, Refusal>
-    ensures { IfOk result (λ c. IsChecked (empty_under (arc_value empty.now.schema) empty.now.suffix) text.now c.count c.refused.items) }
+    ensures err { IfErr result (λ refusal. IsCheckCause refusal.fault text.now) }
+    ensures ok { IfOk result (λ c. IsChecked (empty_under (arc_value empty.now.schema) empty.now.suffix) text.now c.count c.refused.items) }
 {
     let store = empty.store(alloc)?;
     match check_text(alloc, store, text) {
@@ -99,11 +100,20 @@ pub fn check_file<W: Write>(
     text: &[u8],
     output: &mut W,
 ) -> Result<Status, Refusal>
-    ensures { IfOk result (λ s. IsVerdict (empty_under (arc_value empty.now.schema) empty.now.suffix) text.now s) }
+    ensures ok { IfOk result (λ s. IsVerdict (empty_under (arc_value empty.now.schema) empty.now.suffix) text.now s) }
+    // Nothing is written but where the output can't be written; which refusal it is.
+    ensures err { IfErr result (λ refusal. IsUnchecked refusal.fault text.now (W.contents output.old) (W.contents output.new)) }
 {
-    let checked = checked(alloc, empty, path, text)?;
-    let refused = checked.refused.as_slice();
-    write_refused(alloc, &empty.schema, path, text, refused, output)?;
-    write_counts(alloc, &checked, output)?;
-    Ok(verdict_on(refused))
+    let checked = match checked(alloc, empty, path, text) {
+        Ok(checked) => checked,
+        Err(refusal) => return Err(refusal),
+    };
+    let told = match report(alloc, &empty.schema, path, text, &checked) {
+        Ok(told) => told,
+        Err(error) => return Err(Refusal::from(error)),
+    };
+    match write_out(alloc, told.as_bytes(), output) {
+        Ok(()) => Ok(verdict_on(&checked.refused)),
+        Err(refusal) => Err(refusal),
+    }
 }

@@ -1,5 +1,8 @@
 //! Faults of texts get their explanations: a fault and the text that it is of come in, a refusal with both lines goes out. What is
 //! refused was decided before; nothing here changes it.
+ghost use Rattle.std.specs.Prelude.{◌≡◌};
+ghost use Rattle.dird_commands.specs.Undone.{import_fault, export_fault, search_fault};
+
 use crate::fault::Fault;
 use crate::local::{MANAGER, SUFFIX, name_of_text};
 use crate::refusal::Refusal;
@@ -81,7 +84,9 @@ fn index_rule(number: u32) -> Option<IndexRefusal> {
 }
 
 /// The fault of a schema's text.
-pub fn schema_refusal(alloc: Global, path: &str, text: &str, fault: Fault) -> Refusal {
+pub fn schema_refusal(alloc: Global, path: &str, text: &str, fault: Fault) -> Refusal
+    ensures { result.fault ≡ fault }
+{
     let Fault::Placed { number, place } = fault else {
         return Refusal::from(fault);
     };
@@ -101,7 +106,9 @@ pub fn index_refusal(
     path: &str,
     text: &str,
     fault: Fault,
-) -> Refusal {
+) -> Refusal
+    ensures { result.fault ≡ fault }
+{
     let Fault::Placed { number, place } = fault else {
         return Refusal::from(fault);
     };
@@ -115,13 +122,9 @@ pub fn index_refusal(
 }
 
 /// The fault of a name, which this word tells.
-pub fn name_refusal(
-    alloc: Global,
-    schema: &Schema,
-    word: &str,
-    text: &str,
-    fault: Fault,
-) -> Refusal {
+pub fn name_refusal(alloc: Global, schema: &Schema, word: &str, text: &str, fault: Fault) -> Refusal
+    ensures { result.fault ≡ fault }
+{
     match fault {
         Fault::BadName => {
             let told = name_fault(alloc, schema, text);
@@ -138,7 +141,9 @@ fn filter_told(alloc: Global, text: &str, place: usize) -> Result<String, AllocE
 }
 
 /// The fault of a filter's text.
-pub fn filter_refusal(alloc: Global, text: &str, fault: Fault) -> Refusal {
+pub fn filter_refusal(alloc: Global, text: &str, fault: Fault) -> Refusal
+    ensures { result.fault ≡ fault }
+{
     let told = match fault {
         Fault::Placed { place, .. } => filter_told(alloc, text, place),
         Fault::TooDeep => sentence(alloc, "FILTER: more than 128 filters, one in another"),
@@ -152,14 +157,17 @@ pub fn filter_refusal(alloc: Global, text: &str, fault: Fault) -> Refusal {
 }
 
 /// The fault of an LDIF text that is to become messages.
-pub fn import_refusal(alloc: Global, text: &[u8], error: ImportError) -> Refusal {
+pub fn import_refusal(alloc: Global, text: &[u8], error: ImportError) -> Refusal
+    ensures { result.fault ≡ import_fault error }
+{
+    let fault = Fault::from(error);
     let told = match error {
         ImportError::BadLdif { line } => in_input(alloc, line, ldif_fault(alloc, text, line)),
         ImportError::TooLong => sentence(alloc, "a record is over 4294967295 octets long"),
         ImportError::TooManyRecords => sentence(alloc, "there are over 2147483647 records"),
-        ImportError::NoMemory => return Refusal::from(Fault::NoMemory),
+        ImportError::NoMemory => return Refusal::from(fault),
     };
-    Refusal::explained(Fault::from(error), told)
+    Refusal::explained(fault, told)
 }
 
 /// What the code says that a search ended with.
@@ -169,7 +177,10 @@ fn code_told(alloc: Global, number: u32) -> Result<String, AllocError> {
 }
 
 /// The fault of lines of hex that are to become LDIF.
-pub fn export_refusal(alloc: Global, text: &[u8], error: ExportError) -> Refusal {
+pub fn export_refusal(alloc: Global, text: &[u8], error: ExportError) -> Refusal
+    ensures { result.fault ≡ export_fault error }
+{
+    let fault = Fault::from(error);
     let told = match error {
         ExportError::BadHexLine { line } => {
             in_input(alloc, line, hex_line_fault(alloc, text, line))
@@ -183,9 +194,9 @@ pub fn export_refusal(alloc: Global, text: &[u8], error: ExportError) -> Refusal
             alloc,
             "a line is no entry of a search (searchResEntry) that LDIF can show, nor its end",
         ),
-        ExportError::NoMemory => return Refusal::from(Fault::NoMemory),
+        ExportError::NoMemory => return Refusal::from(fault),
     };
-    Refusal::explained(Fault::from(error), told)
+    Refusal::explained(fault, told)
 }
 
 /// What is wrong with a record that is refused with a code.
@@ -217,7 +228,9 @@ fn answer_told(
 }
 
 /// The fault of an LDIF file that is checked.
-pub fn check_refusal(alloc: Global, path: &str, text: &[u8], error: SearchError) -> Refusal {
+pub fn check_refusal(alloc: Global, path: &str, text: &[u8], error: SearchError) -> Refusal
+    ensures { result.fault ≡ search_fault error }
+{
     let told = match error {
         SearchError::BadLdif { line } => {
             in_file(alloc, path, line, ldif_fault(alloc, text, line))
@@ -237,7 +250,9 @@ pub fn search_refusal(
     text: &[u8],
     base: &str,
     error: SearchError,
-) -> Refusal {
+) -> Refusal
+    ensures { result.fault ≡ search_fault error }
+{
     let told = match error {
         SearchError::BadLdif { line } => in_input(alloc, line, ldif_fault(alloc, text, line)),
         SearchError::Refused { number, code } => record_told(alloc, schema, text, number, code),
@@ -262,7 +277,9 @@ fn script_told(alloc: Global, lines: &[Vec<u8>], number: u64) -> Result<String, 
 }
 
 /// The fault of a lab script.
-pub fn script_refusal(alloc: Global, lines: &[Vec<u8>], fault: Fault) -> Refusal {
+pub fn script_refusal(alloc: Global, lines: &[Vec<u8>], fault: Fault) -> Refusal
+    ensures { result.fault ≡ fault }
+{
     match fault {
         Fault::BadLine(number) => { Refusal::explained(fault, script_told(alloc, lines, number)) }
         _ => Refusal::from(fault),
@@ -275,7 +292,9 @@ fn hex_told(alloc: Global, number: u64) -> Result<String, AllocError> {
 }
 
 /// The fault of a session over lines.
-pub fn session_refusal(alloc: Global, fault: Fault) -> Refusal {
+pub fn session_refusal(alloc: Global, fault: Fault) -> Refusal
+    ensures { result.fault ≡ fault }
+{
     let told = match fault {
         Fault::BadHexLine(number) => hex_told(alloc, number),
         Fault::TooLong => sentence(alloc, "a response is over 4294967295 octets long"),
@@ -287,7 +306,9 @@ pub fn session_refusal(alloc: Global, fault: Fault) -> Refusal {
 }
 
 /// The fault of a session over a directory of this schema: of its lines, or of the names that the directory begins with.
-pub fn opening_refusal(alloc: Global, schema: &Schema, fault: Fault) -> Refusal {
+pub fn opening_refusal(alloc: Global, schema: &Schema, fault: Fault) -> Refusal
+    ensures { result.fault ≡ fault }
+{
     let Fault::BadName = fault else {
         return session_refusal(alloc, fault);
     };

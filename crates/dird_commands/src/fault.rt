@@ -1,7 +1,7 @@
 //! What ends a run early, with the text that goes to standard error.
 
 ghost use Rattle.std.specs.Prelude.{◌≡◌};
-ghost use Rattle.dird_commands.specs.declared.fault.Fault.TheVariants.{NoMemory};
+ghost use Rattle.dird_commands.specs.declared.fault.Fault.TheVariants.{Placed, NoMemory};
 
 use filter_text::FilterTextError;
 use hex_session::LineFault;
@@ -45,6 +45,10 @@ pub enum Fault {
 }
 
 impl From<LineFault> for Fault {
+    ghost use Rattle.dird_commands.specs.Undone.{line_fault};
+
+    ghost from_gives = { λ error fault. fault ≡ line_fault error };
+
     fn from(error: LineFault) -> Fault {
         match error {
             LineFault::BadHexLine(number) => Fault::BadHexLine(number),
@@ -57,6 +61,10 @@ impl From<LineFault> for Fault {
 }
 
 impl From<ScriptError> for Fault {
+    ghost use Rattle.dird_commands.specs.Played.{script_fault};
+
+    ghost from_gives = { λ error fault. fault ≡ script_fault error };
+
     fn from(error: ScriptError) -> Fault {
         match error {
             ScriptError::BadLine { number } => Fault::BadLine(number),
@@ -66,7 +74,9 @@ impl From<ScriptError> for Fault {
 }
 
 /// The refusal of this number at a line or a place.
-fn placed(number: u32, place: usize) -> Fault {
+fn placed(number: u32, place: usize) -> Fault
+    ensures { result ≡ Placed number place }
+{
     Fault::Placed { number, place }
 }
 
@@ -94,6 +104,10 @@ impl From<IndexError> for Fault {
 }
 
 impl From<FilterTextError> for Fault {
+    ghost use Rattle.dird_commands.specs.Undone.{filter_fault};
+
+    ghost from_gives = { λ error fault. fault ≡ filter_fault error };
+
     fn from(error: FilterTextError) -> Fault {
         match error {
             FilterTextError::BadFilterText { at } => placed(18, at),
@@ -105,20 +119,47 @@ impl From<FilterTextError> for Fault {
 }
 
 impl From<ImportError> for Fault {
+    ghost use Rattle.dird_commands.specs.Undone.{import_fault};
+
+    ghost from_gives = { λ error fault. fault ≡ import_fault error };
+
     fn from(error: ImportError) -> Fault {
-        Fault::Import(error)
+        match error {
+            ImportError::NoMemory => Fault::NoMemory,
+            ImportError::BadLdif { .. } | ImportError::TooLong | ImportError::TooManyRecords => {
+                Fault::Import(error)
+            }
+        }
     }
 }
 
 impl From<ExportError> for Fault {
+    ghost use Rattle.dird_commands.specs.Undone.{export_fault};
+
+    ghost from_gives = { λ error fault. fault ≡ export_fault error };
+
     fn from(error: ExportError) -> Fault {
-        Fault::Export(error)
+        match error {
+            ExportError::NoMemory => Fault::NoMemory,
+            ExportError::BadHexLine { .. }
+            | ExportError::Code { .. }
+            | ExportError::NoDoneMessage
+            | ExportError::BadMessage => Fault::Export(error),
+        }
     }
 }
 
 impl From<SearchError> for Fault {
+    ghost use Rattle.dird_commands.specs.Undone.{search_fault};
+
+    ghost from_gives = { λ error fault. fault ≡ search_fault error };
+
     fn from(error: SearchError) -> Fault {
-        Fault::Search(error)
+        match error {
+            SearchError::NoMemory => Fault::NoMemory,
+            SearchError::BadLdif { .. } | SearchError::Refused { .. } | SearchError::Code { .. } =>
+                Fault::Search(error),
+        }
     }
 }
 

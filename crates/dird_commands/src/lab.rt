@@ -1,5 +1,9 @@
 //! The lab: the lines of a script flow in, what real replicas answer flows out. No rule of replication or of the directory is here, and no line's
 //! meaning: those stand in the crates below.
+ghost use Rattle.std.specs.Prelude.{◌≡◌, map, codes, IfOk, IfErr, IfSome};
+ghost use Rattle.std.specs.Arc.{arc_value};
+ghost use Rattle.dird_commands.specs.Undone.{IsUnread};
+ghost use Rattle.dird_commands.specs.Played.{AreLines, IsScriptCause, IsUnplayed};
 
 use crate::explaining::{script_refusal, session_refusal};
 use crate::fault::Fault;
@@ -20,15 +24,14 @@ pub fn play_script<R: BufRead, W: Write>(
     indexes: Indexes,
     input: &mut R,
     output: &mut W,
-) -> Result<(), Refusal> {
-    let suffix = root_name(alloc, &schema)?;
-    let lines = match read_lines(alloc, input) {
-        Ok(lines) => lines,
-        Err(fault) => return Err(session_refusal(alloc, fault)),
-    };
-    let replies = match play(alloc, schema, indexes, suffix, &lines) {
+) -> Result<(), Refusal>
+    // Nothing is written but where the output can't be written; which refusal it is.
+    ensures err { IfErr result (λ refusal. IsUnplayed (arc_value schema) refusal.fault (R.remaining input.old)
+        (W.contents output.old) (W.contents output.new)) }
+{
+    let replies = match replies_of(alloc, schema, indexes, input) {
         Ok(replies) => replies,
-        Err(error) => return Err(script_refusal(alloc, &lines, Fault::from(error))),
+        Err(refusal) => return Err(refusal),
     };
     match write_replies(&replies, output) {
         Ok(()) => Ok(()),
@@ -36,8 +39,34 @@ pub fn play_script<R: BufRead, W: Write>(
     }
 }
 
-/// All lines, without their ends.
-fn read_lines<R: BufRead>(alloc: Global, input: &mut R) -> Result<Vec<Vec<u8>>, Fault> {
+/// What a script shows.
+fn replies_of<R: BufRead>(
+    alloc: Global,
+    schema: Arc<Schema>,
+    indexes: Indexes,
+    input: &mut R,
+) -> Result<Vec<LabReply>, Refusal>
+    ensures err { IfErr result (λ refusal. IsScriptCause (arc_value schema) refusal.fault (R.remaining input.old)) }
+{
+    let suffix = match root_name(alloc, &schema) {
+        Ok(suffix) => suffix,
+        Err(fault) => return Err(Refusal::from(fault)),
+    };
+    let lines = match read_lines(alloc, input) {
+        Ok(lines) => lines,
+        Err(fault) => return Err(session_refusal(alloc, fault)),
+    };
+    match play(alloc, schema, indexes, suffix, &lines) {
+        Ok(replies) => Ok(replies),
+        Err(error) => Err(script_refusal(alloc, &lines, Fault::from(error))),
+    }
+}
+
+/// All lines, without their ends. The 18446744073709551615th counts as one that can't be read.
+fn read_lines<R: BufRead>(alloc: Global, input: &mut R) -> Result<Vec<Vec<u8>>, Fault>
+    ensures ok { IfOk result (λ v. IfSome (R.remaining input.old) (λ text. AreLines text (map (λ line. line.items) v.items))) }
+    ensures err { IfErr result IsUnread }
+{
     let mut lines = Vec::new(alloc);
     for _ in 0..u64::MAX {
         match next_line(alloc, input)? {
@@ -45,7 +74,7 @@ fn read_lines<R: BufRead>(alloc: Global, input: &mut R) -> Result<Vec<Vec<u8>>, 
             None => return Ok(lines),
         }
     }
-    Ok(lines)
+    Err(Fault::CannotRead)
 }
 
 /// Writes what a lab shows, in order.

@@ -1,10 +1,11 @@
 //! One session over a local directory: an input flows in, an output flows out. The words of a command line are not here.
-ghost use Rattle.std.specs.Prelude.{◌≡◌, ◌+◌, codes, IfOk};
+ghost use Rattle.std.specs.Prelude.{◌≡◌, ◌+◌, codes, IfOk, IfErr};
 ghost use Rattle.std.specs.Arc.{arc_value};
 ghost use Rattle.local_directory.specs.dir_kept.Stored.{NumbersBelow};
 ghost use Rattle.local_directory.specs.Allows.{allows};
 ghost use Rattle.hex_session.specs.Answered.{Answers};
-ghost use Rattle.dird_commands.specs.Begun.{name_of, config_of, empty_directory, directory_at_first, number_at_first, AnswersFrom};
+ghost use Rattle.dird_commands.specs.Begun.{name_of, config_of, empty_directory, directory_at_first, number_at_first, AnswersFrom, IsCutFrom, FailsFrom};
+ghost use Rattle.dird_commands.specs.Played.{IsUnnamed};
 
 use crate::fault::Fault;
 use crate::sample::add_sample;
@@ -36,7 +37,8 @@ pub struct Options {
 
 /// The name of a text.
 pub fn name_of_text(alloc: Global, schema: &Schema, text: &str) -> Result<Name, Fault>
-    ensures { IfOk result (λ name. name ≡ name_of schema.now text.now) }
+    ensures ok { IfOk result (λ name. name ≡ name_of schema.now text.now) }
+    ensures err { IfErr result (λ fault. IsUnnamed schema.now text.now fault) }
 {
     match Name::read(alloc, schema, text) {
         Ok(name) => Ok(name),
@@ -47,7 +49,8 @@ pub fn name_of_text(alloc: Global, schema: &Schema, text: &str) -> Result<Name, 
 
 /// The name of the directory's root.
 pub fn root_name(alloc: Global, schema: &Schema) -> Result<Name, Fault>
-    ensures { IfOk result (λ name. name ≡ name_of schema.now (codes "dc=example,dc=com")) }
+    ensures ok { IfOk result (λ name. name ≡ name_of schema.now (codes "dc=example,dc=com")) }
+    ensures err { IfErr result (λ fault. IsUnnamed schema.now (codes "dc=example,dc=com") fault) }
 {
     name_of_text(alloc, schema, SUFFIX)
 }
@@ -98,8 +101,10 @@ fn answer_over<R: BufRead, W: Write>(
     input: &mut R,
     output: &mut W,
 ) -> Result<SessionEnd, Fault>
-    ensures { IfOk result (λ end. Answers allows (config_of schema.now) directory.old directory.new (R.remaining input.old) (R.remaining input.new)
+    ensures ok { IfOk result (λ end. Answers allows (config_of schema.now) directory.old directory.new (R.remaining input.old) (R.remaining input.new)
         (W.contents output.old) (W.contents output.new) end) }
+    ensures err { IfErr result (λ fault. IsCutFrom (config_of schema.now) directory.old directory.new (R.remaining input.old)
+        (W.contents output.old) (W.contents output.new) fault) }
 {
     let manager = manager_name(alloc, schema)?;
     let config = Config {
@@ -110,8 +115,10 @@ fn answer_over<R: BufRead, W: Write>(
         restarts: 0,
         session: 1,
     };
-    let end = answer_lines(alloc, &config, directory, input, output)?;
-    Ok(end)
+    match answer_lines(alloc, &config, directory, input, output) {
+        Ok(end) => Ok(end),
+        Err(error) => Err(Fault::from(error)),
+    }
 }
 
 /// One session over a directory of its own: each line of the input is a piece of the stream in hex, each response a line of the output.
@@ -122,8 +129,11 @@ pub fn answer_session<R: BufRead, W: Write>(
     output: &mut W,
 ) -> Result<SessionEnd, Fault>
     // The output grows by the responses of a session over the stream that the lines spell, along a talk with the directory that begins so.
-    ensures { IfOk result (λ end. AnswersFrom (arc_value options.schema) options.sample (R.remaining input.old) (R.remaining input.new)
+    ensures ok { IfOk result (λ end. AnswersFrom (arc_value options.schema) options.sample (R.remaining input.old) (R.remaining input.new)
         (W.contents output.old) (W.contents output.new) end) }
+    // At a fault it has written nothing, where it did not begin, or what such a session has written by then.
+    ensures err { IfErr result (λ fault. FailsFrom (arc_value options.schema) options.sample (R.remaining input.old)
+        (W.contents output.old) (W.contents output.new) fault) }
 {
     let Options {
         schema,

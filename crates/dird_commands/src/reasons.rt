@@ -1,4 +1,6 @@
 //! Why the system refuses a file or a stream: a kind of error comes in, words for it go out, with the file's name.
+ghost use Rattle.std.specs.Prelude.{◌≡◌, ◌⊎◌};
+
 use crate::fault::Fault;
 use crate::refusal::Refusal;
 use explanations::shown;
@@ -38,7 +40,9 @@ fn because(alloc: Global, what: &str, kind: ErrorKind) -> Result<String, AllocEr
 }
 
 /// A named file, or the input, that can't be read.
-pub fn read_refusal(alloc: Global, what: &str, kind: ErrorKind) -> Refusal {
+pub fn read_refusal(alloc: Global, what: &str, kind: ErrorKind) -> Refusal
+    ensures { (result.fault ≡ Fault.CannotRead) ⊎ (result.fault ≡ Fault.NoMemory) }
+{
     if kind == ErrorKind::OutOfMemory {
         return Refusal::from(Fault::NoMemory);
     }
@@ -46,7 +50,9 @@ pub fn read_refusal(alloc: Global, what: &str, kind: ErrorKind) -> Refusal {
 }
 
 /// The output that can't be written.
-pub fn write_refusal(alloc: Global, kind: ErrorKind) -> Refusal {
+pub fn write_refusal(alloc: Global, kind: ErrorKind) -> Refusal
+    ensures { result.fault ≡ Fault.CannotWrite }
+{
     Refusal::explained(Fault::CannotWrite, because(alloc, "standard output", kind))
 }
 

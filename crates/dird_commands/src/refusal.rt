@@ -1,5 +1,8 @@
 //! What a run that is refused tells: the fault in one line, and a second line that says what to mend, in which file, word or line.
 
+ghost use Rattle.std.specs.Prelude.{◌≡◌};
+ghost use Rattle.dird_commands.specs.declared.fault.Fault.TheVariants.{NoMemory};
+
 use crate::fault::Fault;
 use std::alloc::{AllocError, AllocFailed};
 use std::io::Write;
@@ -13,7 +16,9 @@ pub struct Refusal {
 
 impl Refusal {
     /// A fault with what was made to explain it.
-    pub fn explained(fault: Fault, explanation: Result<String, AllocError>) -> Refusal {
+    pub fn explained(fault: Fault, explanation: Result<String, AllocError>) -> Refusal
+        ensures { result.fault ≡ fault }
+    {
         Refusal {
             fault,
             explanation: explanation.ok(),
@@ -30,6 +35,8 @@ impl Refusal {
 }
 
 impl From<Fault> for Refusal {
+    ghost from_gives = { λ fault refusal. refusal.fault ≡ fault };
+
     fn from(fault: Fault) -> Refusal {
         Refusal {
             fault,
@@ -39,12 +46,16 @@ impl From<Fault> for Refusal {
 }
 
 impl From<AllocError> for Refusal {
+    ghost from_gives = { λ _ refusal. refusal.fault ≡ NoMemory };
+
     fn from(_e: AllocError) -> Refusal {
         Refusal::from(Fault::NoMemory)
     }
 }
 
 impl<T: Drop> From<AllocFailed<T>> for Refusal {
+    ghost from_gives = { λ _ refusal. refusal.fault ≡ NoMemory };
+
     fn from(_e: AllocFailed<T>) -> Refusal {
         Refusal::from(Fault::NoMemory)
     }

@@ -1,7 +1,11 @@
 //! Result codes by their names (RFC 4511 4.1.9, appendix A), with what each says of an entry that is added or a search.
+ghost use Rattle.std.specs.Prelude.{◌≡◌};
+ghost use Rattle.explanations.specs.Codes.{later_words, word_among, word_of};
 
 /// What a result code says.
-pub fn code_word(code: u32) -> &'static str {
+pub fn code_word(code: u32) -> &'static str
+    ensures { result.now ≡ word_of code }
+{
     match code {
         1 => "operations error",
         2 => "protocol error",
@@ -22,7 +26,9 @@ pub fn code_word(code: u32) -> &'static str {
 }
 
 /// As `code_word`, of the codes from 35 on.
-fn later_word(code: u32) -> &'static str {
+fn later_word(code: u32) -> &'static str
+    ensures { result.now ≡ word_among later_words code }
+{
     match code {
         49 => "invalid credentials",
         50 => "insufficient access rights",

@@ -1,5 +1,5 @@
 //! Texts of filters (RFC 4515 3): what was expected at the octet where no filter's text goes on. All before it begins a filter.
-use crate::showing::{said, shown};
+use crate::showing::{octet_shown, said};
 use std::alloc::{AllocError, Global};
 
 /// What is round a place, the innermost last.
@@ -143,7 +143,7 @@ fn found(alloc: Global, next: Option<u8>) -> Result<String, AllocError> {
     match next {
         None => said(alloc, "the end of the text"),
         Some(octet) => {
-            let octet = shown(alloc, &[octet])?;
+            let octet = octet_shown(alloc, octet)?;
             format!(in alloc; "'{octet}'")
         }
     }

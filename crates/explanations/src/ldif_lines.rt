@@ -1,5 +1,9 @@
 //! Texts of LDIF (RFC 2849): what is wrong with the line that is refused, by what came before it.
-use crate::showing::{said, shown};
+ghost use Rattle.std.specs.Prelude.{◌≡◌};
+ghost use Rattle.schema_meaning.specs.schema_text.Words.{ends_with};
+ghost use Rattle.schema_meaning.specs.schema_text.Texts.{without_return};
+
+use crate::showing::{octet_shown, said, shown};
 use ldap_words::{is_description, is_same_word};
 use std::alloc::{AllocError, Global};
 
@@ -21,11 +25,24 @@ pub const NOTHING: Before = Before {
     begun: false,
 };
 
+/// Whether a line ends with a CR.
+fn ends_with_return(line: &[u8]) -> bool
+    ensures { result ≡ ends_with 13 line.now }
+{
+    match line.last() {
+        Some(last) => *last == b'\r',
+        None => false,
+    }
+}
+
 /// A line without the CR at its end.
-pub fn without_return(line: &[u8]) -> &[u8] {
-    match line {
-        [front @ .., b'\r'] => front,
-        _ => line,
+pub fn without_return(line: &[u8]) -> &[u8]
+    ensures { result.now ≡ without_return line.now }
+{
+    if ends_with_return(line) {
+        &line[..line.len() - 1]
+    } else {
+        line
     }
 }
 
@@ -125,7 +142,7 @@ fn is_base64(octet: u8) -> bool {
 fn base64_fault(alloc: Global, value: &[u8]) -> Result<String, AllocError> {
     for octet in value.trim_ascii_start() {
         if !is_base64(*octet) {
-            let octet = shown(alloc, &[*octet])?;
+            let octet = octet_shown(alloc, *octet)?;
             return format!(in alloc; "'{octet}' is no digit of base64");
         }
     }

@@ -1,6 +1,7 @@
 //! Explanations: a text and its refusal come in, a sentence for whoever wrote the text goes out: what is wrong there, and what was
-//! expected. What is refused is decided by others; here it is only put into words. So the contracts promise that each call is safe and
-//! returns, and nothing of its words; where the cause isn't found, the sentence says less.
+//! expected. What is refused is decided by others; here it is only put into words. The contracts pin the words of codes and of lines of
+//! hex, and which line of a record an unknown type is told of. Of other words they promise that each call is safe and returns; where the
+//! cause isn't found, the sentence says less.
 #![tactic(auto)]
 
 mod classes;

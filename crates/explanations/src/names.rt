@@ -1,5 +1,5 @@
 //! Texts of distinguished names (RFC 4514 3): which part is no name's, and why. Whether a part is one is asked of the reader of names.
-use crate::showing::{said, shown};
+use crate::showing::{octet_shown, said, shown};
 use ldap_match::{Name, NameError, Schema, TypeId};
 use std::alloc::{AllocError, Global};
 
@@ -94,7 +94,7 @@ fn value_fault(
         );
     }
     if let Some(octet) = bare_mark(value) {
-        let octet = shown(alloc, &[octet])?;
+        let octet = octet_shown(alloc, octet)?;
         return format!(in alloc; "the '{octet}' in a value comes behind a backslash");
     }
     let name = shown(alloc, name)?;

@@ -1,5 +1,10 @@
 //! Records of LDIF whose add a directory refuses: which line of them, by the result code. What a code is given for is decided by the
 //! directory; here a line is sought that the code is given for.
+ghost use Rattle.std.specs.Prelude.{◌≡◌, IfOk, drop, nat_eq, string_bytes};
+ghost use Rattle.std.specs.List.{position};
+ghost use Rattle.explanations.specs.Codes.{word_of};
+ghost use Rattle.explanations.specs.Records.{name_line, word_in, is_unknown, unknown_line};
+
 use crate::classes::{class_fault, is_object_class};
 use crate::codes::code_word;
 use crate::ldif_lines::{RecordLine, lines_of_record};
@@ -32,19 +37,34 @@ pub struct Pair<'a> {
     pub value: Option<&'a [u8]>,
 }
 
+/// Where the first colon of a line is.
+fn colon(line: &[u8]) -> Option<usize>
+    ensures { result ≡ position (λ octet. nat_eq octet 58) line.now }
+{
+    line.iter().position(|octet| *octet == b':')
+}
+
 /// What a line says.
-pub fn pair_of(line: &[u8]) -> Pair<'_> {
-    let at = line.iter().position(|octet| *octet == b':');
-    match at.and_then(|at| line.split_at_checked(at)) {
-        Some((word, [_, b':', ..])) => Pair { word, value: None },
-        Some((word, [_, value @ ..])) => Pair {
-            word,
-            value: Some(without_spaces(value)),
-        },
-        _ => Pair {
+pub fn pair_of(line: &[u8]) -> Pair<'_>
+    ensures { result.word.now ≡ word_in line.now }
+{
+    match colon(line) {
+        None => Pair {
             word: line,
             value: None,
         },
+        Some(at) => Pair {
+            word: &line[..at],
+            value: value_of(&line[at + 1..]),
+        },
+    }
+}
+
+/// The value behind a colon; none, where it is in base64.
+fn value_of(behind: &[u8]) -> Option<&[u8]> {
+    match behind {
+        [b':', ..] => None,
+        _ => Some(without_spaces(behind)),
     }
 }
 
@@ -58,7 +78,9 @@ fn without_spaces(value: &[u8]) -> &[u8] {
 }
 
 /// The line of a record's name.
-fn name_line(lines: &[RecordLine]) -> usize {
+fn name_line(lines: &[RecordLine]) -> usize
+    ensures { result ≡ name_line lines.now }
+{
     match lines {
         [first, ..] => first.number,
         [] => 0,
@@ -66,7 +88,10 @@ fn name_line(lines: &[RecordLine]) -> usize {
 }
 
 /// A sentence of the whole record.
-fn at_name(lines: &[RecordLine], sentence: String) -> Placed {
+fn at_name(lines: &[RecordLine], sentence: String) -> Placed
+    ensures line { result.line ≡ name_line lines.now }
+    ensures sentence { string_bytes result.sentence ≡ string_bytes sentence }
+{
     Placed {
         line: name_line(lines),
         sentence,
@@ -74,7 +99,10 @@ fn at_name(lines: &[RecordLine], sentence: String) -> Placed {
 }
 
 /// What a code says alone.
-fn by_code(alloc: Global, lines: &[RecordLine], code: u32) -> Result<Placed, AllocError> {
+fn by_code(alloc: Global, lines: &[RecordLine], code: u32) -> Result<Placed, AllocError>
+    ensures line { IfOk result (λ p. p.line ≡ name_line lines.now) }
+    ensures sentence { IfOk result (λ p. string_bytes p.sentence ≡ word_of code) }
+{
     Ok(at_name(lines, said(alloc, code_word(code))?))
 }
 
@@ -95,20 +123,42 @@ fn bad_name(alloc: Global, schema: &Schema, lines: &[RecordLine]) -> Result<Plac
     Ok(at_name(lines, format!(in alloc; "invalid name: {part}")?))
 }
 
+/// The lines of a record behind its name.
+fn values(lines: &[RecordLine]) -> &[RecordLine]
+    ensures { result.now ≡ drop 1 lines.now }
+{
+    match lines {
+        [] => lines,
+        [_, rest @ ..] => rest,
+    }
+}
+
+/// Whether the schema lacks the type of a line.
+fn is_unknown(schema: &Schema, line: &[u8]) -> bool
+    ensures { result ≡ is_unknown schema.now line.now }
+{
+    schema.find_octets(pair_of(line).word).is_none()
+}
+
+/// A line whose type the schema lacks.
+fn no_type(alloc: Global, line: &RecordLine) -> Result<Placed, AllocError>
+    ensures { IfOk result (λ p. p.line ≡ line.now.number) }
+{
+    let word = shown(alloc, pair_of(line.octets.as_slice()).word)?;
+    let sentence = format!(in alloc; "no attribute type '{word}' in the schema")?;
+    Ok(Placed {
+        line: line.number,
+        sentence,
+    })
+}
+
 /// A value whose type the schema lacks: 17.
-fn unknown_type(
-    alloc: Global,
-    schema: &Schema,
-    lines: &[RecordLine],
-) -> Result<Placed, AllocError> {
-    for line in lines.iter().skip(1) {
-        let word = pair_of(line.octets.as_slice()).word;
-        if schema.find_octets(word).is_none() {
-            let word = shown(alloc, word)?;
-            return Ok(Placed {
-                line: line.number,
-                sentence: format!(in alloc; "no attribute type '{word}' in the schema")?,
-            });
+fn unknown_type(alloc: Global, schema: &Schema, lines: &[RecordLine]) -> Result<Placed, AllocError>
+    ensures { IfOk result (λ p. p.line ≡ unknown_line schema.now lines.now) }
+{
+    for line in values(lines) {
+        if is_unknown(schema, line.octets.as_slice()) {
+            return no_type(alloc, line);
         }
     }
     by_code(alloc, lines, 17)

@@ -1,11 +1,15 @@
 //! A description that is bad beside others: a name or an object identifier that is there already.
+ghost use Rattle.std.specs.Prelude.{◌≡◌, ◌<◌, IfSome};
+
 use crate::showing::shown;
 use ldap_words::lower_case;
 use schema_meaning::{Called, Description, IndexedText, names};
 use std::alloc::{AllocError, Global};
 
 /// The description that stands in a line.
-pub fn at_line(descriptions: &[Description], line: usize) -> Option<(usize, &Description)> {
+pub fn at_line(descriptions: &[Description], line: usize) -> Option<(usize, &Description)>
+    ensures found { IfSome result (λ p. p.1.now.line ≡ line) }
+{
     for (number, description) in descriptions.iter().enumerate() {
         if description.line() == line {
             return Some((number, description));
@@ -23,14 +27,18 @@ pub fn title(alloc: Global, description: &Description) -> Result<String, AllocEr
 }
 
 /// The line before this one that has a description called so.
-fn line_before(called: &Called, word: &[u8], line: usize) -> Option<usize> {
+fn line_before(called: &Called, word: &[u8], line: usize) -> Option<usize>
+    ensures { IfSome result (λ found. found < line) }
+{
     let number = called.find(word)?;
     let found = called.all().get(number)?.line();
     if found < line { Some(found) } else { None }
 }
 
 /// The line before this one that has a type or a class called so.
-fn earlier_line(text: &IndexedText, word: &[u8], line: usize) -> Option<usize> {
+fn earlier_line(text: &IndexedText, word: &[u8], line: usize) -> Option<usize>
+    ensures { IfSome result (λ found. found < line) }
+{
     match line_before(text.types(), word, line) {
         Some(found) => Some(found),
         None => line_before(text.classes(), word, line),

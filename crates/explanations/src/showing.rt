@@ -1,4 +1,7 @@
 //! Octets of a text as they are shown in a sentence: on one line, and not too long.
+ghost use Rattle.std.specs.Prelude.{◌≡◌, IfOk, string_bytes};
+ghost use Rattle.explanations.specs.Lines.{octet_shown};
+
 use std::alloc::{AllocError, Global};
 use std::fmt::Write;
 
@@ -56,7 +59,21 @@ pub fn shown(alloc: Global, octets: &[u8]) -> Result<String, AllocError> {
     Ok(sentence)
 }
 
+/// An octet of a text as it is shown in a sentence: itself, or a backslash and two hexadecimal digits where it is no ASCII that prints.
+pub fn octet_shown(alloc: Global, octet: u8) -> Result<String, AllocError>
+    ensures { IfOk result (λ s. string_bytes s ≡ octet_shown octet) }
+{
+    if octet < 32 || 126 < octet {
+        let (high, low) = (octet / 16, octet % 16);
+        return format!(in alloc; "\\{high:x}{low:x}");
+    }
+    let character = char::from(octet);
+    format!(in alloc; "{character}")
+}
+
 /// A sentence that needs no word of the text.
-pub fn said(alloc: Global, sentence: &str) -> Result<String, AllocError> {
+pub fn said(alloc: Global, sentence: &str) -> Result<String, AllocError>
+    ensures { IfOk result (λ s. string_bytes s ≡ sentence.now) }
+{
     String::from_str(alloc, sentence)
 }

@@ -3,7 +3,6 @@
 //! pass octets on, is decided below.
 #![tactic(auto)]
 
-mod asking;
 mod opening;
 mod options;
 mod posts;
@@ -13,5 +12,5 @@ mod ticking;
 
 pub use node_gate::{Cluster, NodeConfig};
 pub use options::{Options, Times};
-pub use server_threads::{Limits, Place, ServerError, Terms};
+pub use server_threads::{Address, Limits, Logs, Place, ServerError, Terms};
 pub use serving::serve;

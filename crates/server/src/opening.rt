@@ -1,14 +1,23 @@
-//! A node opened over its file. Settings flow in; a node in its lock, with its seats and its first outputs, flows out, or why there is none.
+//! Opens a node over its files, and says why there is none.
 ghost use Rattle.std.specs.Prelude.{◌<◌, ◌≤◌};
 
-use file_device::{FileDevice, FileDeviceError, ViewStore};
-use node_gate::{Cluster, NodeConfig, NodeError, Opened, Times, ViewStoreError, open};
+use file_device::{FileDevice, FileDeviceError, JournalFile, ViewStore};
+use node_gate::{Cluster, NodeConfig, NodeError, NoteError, Opened, Times, ViewStoreError, open};
 use server_threads::ServerError;
 use std::alloc::Global;
 use std::fs::{File, Files};
 use std::sync::Wait;
 
-/// Why a server doesn't run whose file can't be had.
+/// The names of a replica's files.
+#[derive(Clone, Copy)]
+pub struct Names<'a> {
+    /// That of its stored view.
+    pub store: &'a str,
+    /// That of its journal, where it keeps one.
+    pub journal: Option<&'a str>,
+}
+
+/// Why a server doesn't run whose file of the stored view can't be had.
 fn fault_of_device(error: FileDeviceError) -> ServerError {
     match error {
         FileDeviceError::NoMemory => ServerError::NoMemory,
@@ -16,13 +25,35 @@ fn fault_of_device(error: FileDeviceError) -> ServerError {
     }
 }
 
-/// Why a server doesn't run whose node can't be opened.
-fn fault_of_node(error: NodeError) -> ServerError {
+/// Why a server doesn't run whose journal's file can't be had.
+fn fault_of_journal_file(error: FileDeviceError) -> ServerError {
+    match error {
+        FileDeviceError::NoMemory => ServerError::NoMemory,
+        _ => ServerError::CannotOpenJournal,
+    }
+}
+
+/// Why a server doesn't run, or stopped, whose journal refused a call.
+fn fault_of_journal(error: NoteError) -> ServerError {
+    match error {
+        NoteError::NoMemory => ServerError::NoMemory,
+        NoteError::Damaged => ServerError::DamagedJournal,
+        NoteError::AnotherVersion => ServerError::OtherJournal,
+        NoteError::Full => ServerError::JournalFull,
+        NoteError::Unwritable | NoteError::DeviceFailed => ServerError::JournalFailed,
+    }
+}
+
+/// Why a server doesn't run, or stopped, whose node refused a call.
+pub fn fault_of_node(error: NodeError) -> ServerError {
     match error {
         NodeError::NoMemory => ServerError::NoMemory,
         NodeError::Store(ViewStoreError::NoPair) => ServerError::NoStoredView,
         NodeError::Store(ViewStoreError::ForeignCluster) => ServerError::ForeignCluster,
         NodeError::Store(ViewStoreError::KeepsJournal) => ServerError::KeepsJournal,
+        NodeError::Journal(error) => fault_of_journal(error),
+        NodeError::ForeignJournal => ServerError::ForeignJournal,
+        NodeError::StaleJournal => ServerError::StaleJournal,
         NodeError::Store(_) | NodeError::Halted => ServerError::DeviceFailed,
     }
 }
@@ -52,21 +83,37 @@ fn device_of<R: Files<File = File>>(
     }
 }
 
-/// The node of a first or a later start, over the file of this name, and so many seats.
+/// The device of the journal, where one is kept.
+fn journal_of<R: Files<File = File>>(
+    rt: &R,
+    alloc: Global,
+    journal: Option<&str>,
+) -> Result<Option<JournalFile>, ServerError> {
+    match journal {
+        Some(path) => match JournalFile::open(rt, alloc, path) {
+            Ok(device) => Ok(Some(device)),
+            Err(error) => Err(fault_of_journal_file(error)),
+        },
+        None => Ok(None),
+    }
+}
+
+/// The node of a first or a later start, over the files of these names, and so many seats.
 pub fn open_node<'a, R: Files<File = File> + Wait>(
     rt: &'a R,
     alloc: Global,
-    store: &str,
+    files: Names<'_>,
     config: NodeConfig,
     is_fresh: bool,
     seats: usize,
     times: Times,
-) -> Result<Opened<'a, R, FileDevice>, ServerError>
+) -> Result<Opened<'a, R, FileDevice, JournalFile>, ServerError>
     requires seats { (0 < seats) × (seats ≤ 32) }
 {
     if config.index >= config.count {
         return Err(ServerError::CannotListen);
     }
-    let device = device_of(rt, alloc, store, config.cluster, is_fresh)?;
-    open(rt, alloc, device, config, is_fresh, seats, times).map_err(fault_of_node)
+    let device = device_of(rt, alloc, files.store, config.cluster, is_fresh)?;
+    let journal = journal_of(rt, alloc, files.journal)?;
+    open(rt, alloc, device, journal, config, is_fresh, seats, times).map_err(fault_of_node)
 }

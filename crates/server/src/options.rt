@@ -1,6 +1,6 @@
 //! What a server is told. Plain data flows in and out. What is done with it is not here.
 use node_gate::{Name, NodeConfig};
-use server_threads::{Limits, Place, Terms};
+use server_threads::{Limits, Logs, Place, Terms};
 use std::net::SocketAddr;
 use std::time::Duration;
 
@@ -23,18 +23,24 @@ pub struct Options<'a> {
     pub password: &'a str,
     /// The name of the file of the stored view.
     pub store: &'a str,
+    /// The name of the file of the journal, where the replica keeps one.
+    pub journal: Option<&'a str>,
     /// Whether this is the first start of the replica's life.
     pub is_fresh: bool,
-    /// How many sessions are served at once; 1 to 32, and what is outside counts as the nearer of the two.
+    /// How many threads read; 1 to 32, and what is outside counts as the nearer of the two.
     pub seats: usize,
-    /// How many connections wait for a seat, at most.
-    pub waiting: usize,
+    /// How many sessions there may be; fewer, where the system has fewer descriptors.
+    pub sessions: usize,
+    /// How many threads wait for updates; 1 to 256, and what is outside counts as the nearer of the two.
+    pub updates: usize,
     pub times: Times,
     pub limits: Limits,
     /// All replicas, by index.
-    pub places: &'a [Place],
+    pub places: &'a [Place<'a>],
     /// What all replicas must have alike.
     pub terms: Terms,
     /// Where monitors are answered, if they are.
     pub metrics: Option<SocketAddr>,
+    /// What is logged beside what is always told.
+    pub logs: Logs,
 }

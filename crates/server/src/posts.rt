@@ -1,23 +1,25 @@
 //! Messages on their way from the node to other replicas: each goes into the queue of its receiver. How one becomes a frame is not here.
-use crate::asking::Asking;
-use node_gate::{Cluster, Op, PeerMessage, Peers, Send};
+use node_gate::{Cluster, Op, Pace, PeerMessage, Peers, Send};
 use server_threads::Rooms;
-use std::sync::Wait;
+use std::sync::{Mutex, Wait};
 
-/// The queues to all replicas of a cluster, and when state was asked for.
+/// The queues to all replicas of a cluster, and when state may be asked for again.
 #[derive(Drop)]
 pub struct Posts<'a, R> {
     pub rt: &'a R,
     pub cluster: Cluster,
     pub rooms: &'a Rooms,
-    pub asking: Asking,
+    /// State isn't asked for again while its answer may be on its way.
+    pub asking: Mutex<Pace>,
 }
 
 impl<'a, R: Wait> Posts<'a, R> {
     /// Puts a message into the queue to the replica of this index, at this moment. One that asks for state again too early is lost, as the network
     /// may lose it.
     fn post(&self, now: u64, to: u64, message: PeerMessage<Op>) {
-        if matches!(message, PeerMessage::GetState { .. }) && !self.asking.ask(now) {
+        if matches!(message, PeerMessage::GetState { .. })
+            && !self.asking.lock(self.rt).take_turn(now)
+        {
             return;
         }
         self.rooms.post(self.rt, to, message);

@@ -1,42 +1,73 @@
 //! A replica put together: its node, its queues and its clock, handed to its threads. Settings flow in; clients and replicas are served until the
 //! node has stopped for good. Listeners and threads are not here.
-use crate::asking::Asking;
-use crate::opening::open_node;
+use crate::opening::{Names, open_node};
 use crate::options::{Options, Times};
 use crate::posts::{Posts, PostsAt};
-use crate::ticking::{Clockwork, clock_times, micros};
-use file_device::FileDevice;
-use node_gate::{Cluster, Here, NodeGate, Opened, Running, Seat};
-use server_threads::{Choices, Config, Place, Rooms, Server, ServerError, make_rooms};
+use crate::ticking::{Clockwork, clock_times};
+use file_device::{FileDevice, JournalFile};
+use node_gate::{Cluster, Here, NodeGate, Opened, Pace, Running, Seat, Told};
+use server_threads::{Choices, Config, Deaf, Place, Rooms, Server, ServerError, make_rooms};
 use std::alloc::{AllocError, Global};
 use std::fs::{File, Files};
 use std::io::{Eprint, Print};
 use std::net::{Net, TcpListener, TcpStream};
-use std::sync::atomic::AtomicU64;
-use std::sync::{Arc, Wait};
+use std::sync::atomic::{AtomicBool, AtomicU64};
+use std::sync::{Arc, Mutex, Wait};
 use std::thread::Threads;
 use std::time::{Clock, Instant};
 
 /// The greatest number of seats.
 const SEATS: usize = 32;
 
+/// The greatest number of threads that update.
+const UPDATES: usize = 256;
+
 /// One session's way to the node: a seat for its reads, a gate for its updates.
-type Way<'a, 'r, R> = (Seat<Here>, NodeGate<'a, 'r, R, FileDevice, PostsAt<'a, R>>);
+type Way<'a, 'r, R> = (
+    Seat<Here>,
+    NodeGate<'a, 'r, R, FileDevice, JournalFile, PostsAt<'a, R>>,
+);
+
+/// One thread's way to the node for updates alone.
+type Updates<'a, 'r, R> = (
+    Deaf<Option<Told<Here>>>,
+    NodeGate<'a, 'r, R, FileDevice, JournalFile, PostsAt<'a, R>>,
+);
+
+/// A way to the node's updates, and what says that the client of one has left.
+fn gate<'a, 'r, R: Wait>(
+    clock: &Clockwork<'a, 'r, R>,
+    has_left: &'a AtomicBool,
+) -> NodeGate<'a, 'r, R, FileDevice, JournalFile, PostsAt<'a, R>> {
+    let posts = PostsAt {
+        posts: clock.posts,
+        now: 0,
+    };
+    let rooms: &'a Rooms = clock.rooms;
+    NodeGate::new(clock.rt, clock.running, posts, &rooms.uris, has_left)
+}
+
+/// A way to the node for each thread that updates.
+fn gates<'a, 'r, R: Wait>(
+    clock: &Clockwork<'a, 'r, R>,
+) -> Result<Vec<(usize, Updates<'a, 'r, R>)>, AllocError> {
+    let rooms: &'a Rooms = clock.rooms;
+    let mut gates = Vec::new(clock.alloc);
+    for (thread, has_left) in rooms.leaves.iter().enumerate() {
+        gates.push((thread, (Deaf::new(), gate(clock, has_left))))?;
+    }
+    Ok(gates)
+}
 
 /// A gate beside each seat.
 fn ways<'a, 'r, R: Wait>(
     clock: &Clockwork<'a, 'r, R>,
-    uris: &'a [String],
     seats: Vec<Seat<Here>>,
 ) -> Result<Vec<Way<'a, 'r, R>>, AllocError> {
+    let rooms: &'a Rooms = clock.rooms;
     let mut ways = Vec::new(clock.alloc);
     for seat in seats {
-        let posts = PostsAt {
-            posts: clock.posts,
-            now: 0,
-        };
-        let gate = NodeGate::new(clock.rt, clock.running, posts, uris);
-        ways.push((seat, gate))?;
+        ways.push((seat, gate(clock, &rooms.stays)))?;
     }
     Ok(ways)
 }
@@ -45,7 +76,7 @@ fn ways<'a, 'r, R: Wait>(
 #[derive(Clone, Copy)]
 struct Terms<'a> {
     config: Config<'a>,
-    waiting: usize,
+    sessions: usize,
     times: Times,
 }
 
@@ -55,9 +86,9 @@ fn run_in<'a, 'r, R>(
     alloc: Global,
     rooms: &'a Rooms,
     seats: Vec<Seat<Here>>,
-    running: &'a Running<'r, R, FileDevice>,
+    running: &'a Running<'r, R, FileDevice, JournalFile>,
     posts: &'a Posts<'a, R>,
-    places: &'a [Place],
+    places: &'a [Place<'a>],
     terms: Terms<'_>,
 ) -> Result<(), ServerError>
 where
@@ -83,8 +114,7 @@ where
         view_number: AtomicU64::new(0),
         last_update: AtomicU64::new(0),
     };
-    posts.asking.await_for(micros(clock.times.beat));
-    let ways = ways(&clock, &rooms.uris, seats)?;
+    let ways = ways(&clock, seats)?;
     let server = Server {
         rt,
         alloc,
@@ -93,7 +123,8 @@ where
         cluster: posts.cluster,
         places,
     };
-    server.run(ways, terms.waiting.max(1), &terms.config)
+    let gates = gates(&clock)?;
+    server.run(ways, gates, terms.sessions, &terms.config)
 }
 
 /// Sends what an opened node sends first, and runs all threads over what they share.
@@ -101,9 +132,9 @@ fn serve_opened<R>(
     rt: &R,
     alloc: Global,
     rooms: &Rooms,
-    opened: Opened<'_, R, FileDevice>,
+    opened: Opened<'_, R, FileDevice, JournalFile>,
     cluster: Cluster,
-    places: &[Place],
+    places: &[Place<'_>],
     terms: Terms<'_>,
 ) -> Result<(), ServerError>
 where
@@ -125,7 +156,7 @@ where
         rt,
         cluster,
         rooms,
-        asking: Asking::new(),
+        asking: Mutex::new(Pace::new(clock_times(&terms.times))),
     };
     posts.post_all(outputs.sends);
     run_in(rt, alloc, rooms, seats, &running, &posts, places, terms)
@@ -154,16 +185,18 @@ where
         manager,
         password,
         store,
+        journal,
         is_fresh,
         seats,
-        waiting,
+        sessions,
         times,
         places,
         ..
     } = options;
     let cluster = node.cluster;
     let seats = seats.clamp(1, SEATS);
-    let opened = open_node(rt, alloc, store, node, is_fresh, seats, clock_times(&times))?;
+    let files = Names { store, journal };
+    let opened = open_node(rt, alloc, files, node, is_fresh, seats, clock_times(&times))?;
     let config = Config {
         schema: &schema,
         manager: &manager,
@@ -174,7 +207,7 @@ where
     };
     let terms = Terms {
         config,
-        waiting,
+        sessions: sessions.max(1),
         times,
     };
     serve_opened(rt, alloc, rooms, opened, cluster, places, terms)
@@ -198,7 +231,9 @@ where
     let choices = Choices {
         limits: options.limits,
         terms: options.terms,
+        updates: options.updates.clamp(1, UPDATES),
         metrics: options.metrics,
+        logs: options.logs,
     };
     let rooms = make_rooms(rt, alloc, options.places, index, choices)?;
     serve_in(rt, alloc, &rooms, options)

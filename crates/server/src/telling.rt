@@ -15,3 +15,22 @@ pub fn tell_pulse<R: Wait>(rt: &R, alloc: Global, reporter: &Reporter, pulse: &P
     };
     reporter.say(rt, line);
 }
+
+/// A replica that goes on from its journal, with so many records.
+pub fn tell_resumed<R: Wait>(
+    rt: &R,
+    alloc: Global,
+    reporter: &Reporter,
+    records: u64,
+    view_number: u64,
+) {
+    reporter.say(
+        rt,
+        format!(in alloc; "journal: {records} records, resuming in view {view_number}"),
+    );
+}
+
+/// A replica that has committed as much as its journal told, so that clients are heard.
+pub fn tell_caught_up<R: Wait>(rt: &R, alloc: Global, reporter: &Reporter) {
+    reporter.say(rt, format!(in alloc; "caught up"));
+}

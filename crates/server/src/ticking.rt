@@ -1,11 +1,12 @@
 //! A node with its clock: what other replicas sent, and what a replica does by itself. Messages and time flow in; events flow to the node. What is due,
 //! and when, is decided by `replica_clock`; what an event makes is not here.
+use crate::opening::fault_of_node;
 use crate::options::Times;
 use crate::posts::{Posts, PostsAt};
-use crate::telling::tell_pulse;
-use file_device::FileDevice;
+use crate::telling::{tell_caught_up, tell_pulse, tell_resumed};
+use file_device::{FileDevice, JournalFile};
 use node_gate::{
-    NodeError, Op, PeerMessage, Pulse, Running, Send, Standing, Ticked, copies, send_all,
+    NodeError, Op, Pace, PeerMessage, Pulse, Running, Send, Standing, Ticked, copies, send_all,
 };
 use server_threads::{Engine, Figures, Role, Rooms, ServerError};
 use std::alloc::Global;
@@ -23,9 +24,9 @@ const AGAIN: u64 = 2_000;
 #[derive(Drop)]
 struct Watch {
     pulse: Pulse,
-    /// What the last beat sent, and when that was sent last.
+    /// What the last beat sent, and when that may be sent again.
     beat: Vec<Send<Op>>,
-    beat_at: u64,
+    pace: Pace,
     /// When all threads that were to have begun had, last.
     whole_at: u64,
 }
@@ -35,7 +36,7 @@ struct Watch {
 pub struct Clockwork<'a, 'r, R: Wait> {
     pub rt: &'a R,
     pub alloc: Global,
-    pub running: &'a Running<'r, R, FileDevice>,
+    pub running: &'a Running<'r, R, FileDevice, JournalFile>,
     pub posts: &'a Posts<'a, R>,
     pub rooms: &'a Rooms,
     pub times: Times,
@@ -65,10 +66,9 @@ impl<'a, 'r, R: Wait + Clock> Clockwork<'a, 'r, R> {
 
     /// Sends the last beat once more, where the node is at a step for longer than a beat: the others are to know that their primary is there.
     fn beat_again(&self, watch: &mut Watch, now: u64) {
-        if now.saturating_sub(watch.beat_at) < micros(self.times.beat) {
+        if !watch.pace.take_turn(now) {
             return;
         }
-        watch.beat_at = now;
         if let Ok(sends) = copies(self.alloc, watch.beat.as_slice()) {
             let mut posts = self.posts_at(now);
             send_all(&mut posts, sends);
@@ -86,7 +86,7 @@ impl<'a, 'r, R: Wait + Clock> Clockwork<'a, 'r, R> {
         }
         if let Some(beat) = beat {
             watch.beat = beat;
-            watch.beat_at = now;
+            watch.pace.note(now);
         }
         watch.pulse = pulse;
         wait
@@ -103,6 +103,18 @@ impl<'a, 'r, R: Wait + Clock> Clockwork<'a, 'r, R> {
                 AGAIN
             }
         }
+    }
+
+    /// Says once that the node has caught up with what its journal told, when it has; whether it has.
+    fn tell_progress(&self, was_caught_up: bool) -> bool {
+        if was_caught_up {
+            return true;
+        }
+        let is_caught_up = self.running.is_caught_up(self.rt);
+        if is_caught_up {
+            tell_caught_up(self.rt, self.alloc, &self.rooms.reporter);
+        }
+        is_caught_up
     }
 
     /// Whether threads are missing that should have begun long ago.
@@ -140,16 +152,16 @@ impl<'a, 'r, R: Wait + Clock> Engine for Clockwork<'a, 'r, R> {
     fn hear(&self, from: u64, message: PeerMessage<Op>) -> bool {
         let now = self.now();
         if matches!(message, PeerMessage::NewState { .. }) {
-            self.posts.asking.answered();
+            self.posts.asking.lock(self.rt).reset();
         }
         let mut posts = self.posts_at(now);
         match self
             .running
-            .hear(self.rt, self.alloc, &mut posts, from, message, now)
+            .give_message(self.rt, self.alloc, &mut posts, from, message, now)
         {
             // Without memory the message is lost, as the network may lose one.
             Ok(()) | Err(NodeError::NoMemory) => true,
-            Err(NodeError::Store(_) | NodeError::Halted) => false,
+            Err(_) => false,
         }
     }
 
@@ -160,10 +172,19 @@ impl<'a, 'r, R: Wait + Clock> Engine for Clockwork<'a, 'r, R> {
     fn run(&self) -> Result<(), ServerError> {
         let pulse = self.running.pulse(self.rt);
         tell_pulse(self.rt, self.alloc, &self.rooms.reporter, &pulse);
+        if let Some(records) = self.running.resumed(self.rt) {
+            tell_resumed(
+                self.rt,
+                self.alloc,
+                &self.rooms.reporter,
+                records,
+                pulse.view_number,
+            );
+        }
         let mut watch = Watch {
             pulse,
             beat: Vec::new(self.alloc),
-            beat_at: 0,
+            pace: Pace::new(clock_times(&self.times)),
             whole_at: 0,
         };
         for _ in self.rt.forever() {
@@ -179,6 +200,26 @@ impl<'a, 'r, R: Wait + Clock> Engine for Clockwork<'a, 'r, R> {
             }
         }
         Ok(())
+    }
+
+    fn drive(&self) -> Result<(), ServerError> {
+        let mut was_caught_up = self.running.is_caught_up(self.rt);
+        for _ in self.rt.forever() {
+            let Some(batch) = self.running.next_batch(self.rt, self.alloc) else {
+                break;
+            };
+            let now = self.now();
+            let mut posts = self.posts_at(now);
+            self.running
+                .handle_batch(self.rt, self.alloc, &mut posts, batch, now)
+                .map_err(fault_of_node)?;
+            was_caught_up = self.tell_progress(was_caught_up);
+        }
+        Ok(())
+    }
+
+    fn look_again(&self) {
+        self.running.look_again();
     }
 
     fn figures(&self) -> Figures {

@@ -1,4 +1,5 @@
 //! A replica's figures. Plain data; where they come from is not here.
+ghost use Rattle.std.specs.Prelude.{◌≡◌};
 
 /// What a replica does.
 #[derive(Clone, Copy, Debug, PartialEq, Eq)]
@@ -23,13 +24,19 @@ pub struct Figures {
 }
 
 impl Role {
+    ghost use Rattle.status_page.specs.Pages.{serves, role_word};
+
     /// Whether the replica serves clients.
-    pub fn serves(self) -> bool {
+    pub fn serves(self) -> bool
+        ensures { result ≡ serves self }
+    {
         matches!(self, Role::Primary | Role::Backup)
     }
 
     /// Its name.
-    pub fn name(self) -> &'static str {
+    pub fn name(self) -> &'static str
+        ensures { result.now ≡ role_word self }
+    {
         match self {
             Role::Primary => "primary",
             Role::Backup => "backup",

@@ -1,63 +1,127 @@
 //! The octets of a response.
+ghost use Rattle.std.specs.Prelude.{◌≡◌, IfOk, string_bytes};
+ghost use Rattle.status_page.specs.Pages.{head, response, figure, has, role_sample, role_samples, sample};
+ghost use Rattle.status_page.specs.Pages.{metrics_text, ready_octets, page_octets, bad_request_octets};
+
 use crate::asking::Page;
 use crate::figures::{Figures, Role};
 use std::alloc::{AllocError, Global};
 
-/// A response of this status, with this text.
-fn response(alloc: Global, status: &str, text: &str) -> Result<String, AllocError> {
-    let length = text.len();
+/// What a response of this status begins with, before a text of this length.
+fn head(alloc: Global, status: &str, length: usize) -> Result<String, AllocError>
+    ensures { IfOk result (λ s. string_bytes s ≡ head status.now length) }
+{
     format!(in alloc;
-        "HTTP/1.1 {status}\r\nContent-Type: text/plain; version=0.0.4; charset=utf-8\r\nContent-Length: {length}\r\nConnection: close\r\n\r\n{text}"
+        "HTTP/1.1 {status}\r\nContent-Type: text/plain; version=0.0.4; charset=utf-8\r\nContent-Length: {length}\r\nConnection: close\r\n\r\n"
     )
 }
 
+/// A response of this status, with this text.
+fn response(alloc: Global, status: &str, text: &str) -> Result<String, AllocError>
+    ensures { IfOk result (λ s. string_bytes s ≡ response status.now text.now) }
+{
+    let mut octets = head(alloc, status, text.len())?;
+    octets.push_str(text)?;
+    Ok(octets)
+}
+
 /// 1 for the role that the replica has, and 0 for another.
-fn has(figures: &Figures, role: Role) -> u64 {
-    u64::from(figures.role == role)
+fn has(own: Role, role: Role) -> u64
+    ensures { result ≡ has own role }
+{
+    u64::from(own == role)
+}
+
+/// A figure: what it means and its kind, and then its samples.
+fn figure(
+    alloc: Global,
+    name: &str,
+    help: &str,
+    kind: &str,
+    samples: &str,
+) -> Result<String, AllocError>
+    ensures { IfOk result (λ s. string_bytes s ≡ figure name.now help.now kind.now samples.now) }
+{
+    format!(in alloc; "# HELP {name} {help}\n# TYPE {name} {kind}\n{samples}")
+}
+
+/// A figure with one sample.
+fn single(
+    alloc: Global,
+    name: &str,
+    help: &str,
+    kind: &str,
+    number: u64,
+) -> Result<String, AllocError>
+    ensures { IfOk result (λ s. string_bytes s ≡ figure name.now help.now kind.now (sample name.now number)) }
+{
+    let sample = format!(in alloc; "{name} {number}\n")?;
+    figure(alloc, name, help, kind, &sample)
+}
+
+/// A sample of a role.
+fn role_sample(alloc: Global, own: Role, role: Role) -> Result<String, AllocError>
+    ensures { IfOk result (λ s. string_bytes s ≡ role_sample own role) }
+{
+    let name = role.name();
+    let is_it = has(own, role);
+    format!(in alloc; "dird_role{{role=\"{name}\"}} {is_it}\n")
+}
+
+/// The samples of all roles.
+fn roles(alloc: Global, own: Role) -> Result<String, AllocError>
+    ensures { IfOk result (λ s. string_bytes s ≡ role_samples own) }
+{
+    let primary = role_sample(alloc, own, Role::Primary)?;
+    let backup = role_sample(alloc, own, Role::Backup)?;
+    let changing = role_sample(alloc, own, Role::Changing)?;
+    let recovering = role_sample(alloc, own, Role::Recovering)?;
+    format!(in alloc; "{primary}{backup}{changing}{recovering}")
 }
 
 /// The replica's figures, in the text form that Prometheus reads.
-fn metrics(alloc: Global, figures: &Figures) -> Result<String, AllocError> {
-    let mut text = String::new(alloc);
-    text.push_str(
-        "# HELP dird_role What the replica does: 1 for its role, 0 for the others.\n# TYPE dird_role gauge\n",
+fn metrics(alloc: Global, figures: &Figures) -> Result<String, AllocError>
+    ensures { IfOk result (λ s. string_bytes s ≡ metrics_text figures.now) }
+{
+    let samples = roles(alloc, figures.role)?;
+    let role = figure(
+        alloc,
+        "dird_role",
+        "What the replica does: 1 for its role, 0 for the others.",
+        "gauge",
+        &samples,
     )?;
-    for role in [
-        Role::Primary,
-        Role::Backup,
-        Role::Changing,
-        Role::Recovering,
-    ] {
-        let (name, is_it) = (role.name(), has(figures, role));
-        let line = format!(in alloc; "dird_role{{role=\"{name}\"}} {is_it}\n")?;
-        text.push_str(&line)?;
-    }
-    let Figures {
-        role: _,
-        view_number,
-        last_update,
-        sessions,
-    } = *figures;
-    let rest = format!(in alloc;
-        "# HELP dird_view The number of the replica's view.\n# TYPE dird_view gauge\ndird_view {view_number}\n# HELP dird_last_update The number of the last update that the replica has made.\n# TYPE dird_last_update counter\ndird_last_update {last_update}\n# HELP dird_sessions How many clients are connected.\n# TYPE dird_sessions gauge\ndird_sessions {sessions}\n"
+    let view = single(
+        alloc,
+        "dird_view",
+        "The number of the replica's view.",
+        "gauge",
+        figures.view_number,
     )?;
-    text.push_str(&rest)?;
-    Ok(text)
+    let last_update = single(
+        alloc,
+        "dird_last_update",
+        "The number of the last update that the replica has made.",
+        "counter",
+        figures.last_update,
+    )?;
+    let sessions = single(
+        alloc,
+        "dird_sessions",
+        "How many clients are connected.",
+        "gauge",
+        figures.sessions,
+    )?;
+    format!(in alloc; "{role}{view}{last_update}{sessions}")
 }
 
-/// The response to a request for this page. `/ready` is 503 where the replica doesn't serve clients. Its only error is want of memory.
-pub fn page(alloc: Global, page: Page, figures: &Figures) -> Result<String, AllocError> {
+/// The response to a request for this page. Its only error is want of memory.
+pub fn page(alloc: Global, page: Page, figures: &Figures) -> Result<String, AllocError>
+    ensures { IfOk result (λ s. string_bytes s ≡ page_octets page figures.now) }
+{
     match page {
         Page::Live => response(alloc, "200 OK", "live\n"),
-        Page::Ready => {
-            let name = figures.role.name();
-            let text = format!(in alloc; "{name}\n")?;
-            if figures.role.serves() {
-                response(alloc, "200 OK", &text)
-            } else {
-                response(alloc, "503 Service Unavailable", &text)
-            }
-        }
+        Page::Ready => ready(alloc, figures.role),
         Page::Metrics => {
             let text = metrics(alloc, figures)?;
             response(alloc, "200 OK", &text)
@@ -66,8 +130,23 @@ pub fn page(alloc: Global, page: Page, figures: &Figures) -> Result<String, Allo
     }
 }
 
-/// The response to what is no request.
-pub fn bad_request(alloc: Global) -> Result<String, AllocError> {
+/// Whether the replica serves clients, and its role.
+fn ready(alloc: Global, role: Role) -> Result<String, AllocError>
+    ensures { IfOk result (λ s. string_bytes s ≡ ready_octets role) }
+{
+    let name = role.name();
+    let text = format!(in alloc; "{name}\n")?;
+    if role.serves() {
+        response(alloc, "200 OK", &text)
+    } else {
+        response(alloc, "503 Service Unavailable", &text)
+    }
+}
+
+/// The response to what is no request. Its only error is want of memory.
+pub fn bad_request(alloc: Global) -> Result<String, AllocError>
+    ensures { IfOk result (λ s. string_bytes s ≡ bad_request_octets) }
+{
     response(
         alloc,
         "400 Bad Request",

@@ -4,9 +4,11 @@ use denote.Param.Send.{IsSend, IsSync, sendable, param_sync}
 use denote.Ref.{NamedLft}
 use Rattle.file_device.specs.contracts.device.FileDeviceDevice.TheImpl as DeviceRule
 use Rattle.file_device.specs.contracts.file.FileDevice as FileDevice
+use Rattle.file_device.specs.contracts.journal_calls.JournalFileDevice.TheImpl as JournalRule
+use Rattle.file_device.specs.contracts.journal_file.JournalFile as JournalFile
 use Rattle.node_gate.proofs.Crossing.{seat_send}
 use Rattle.node_gate.specs.contracts.gate.NodeGate as NodeGate
-use Rattle.server.proofs.Crossing.{way_send, clockwork_sync}
+use Rattle.server.proofs.Crossing.{way_send, deaf_send, clockwork_sync}
 use Rattle.server.specs.contracts.posts.PostsAt as PostsAt
 use Rattle.server.specs.contracts.ticking.Clockwork as Clockwork
 use Rattle.server.proofs.serving.run_in.Goals as goal
@@ -14,9 +16,16 @@ use Rattle.server.proofs.serving.run_in.Goals as goal
 pub run-requires-send-D : goal.run-requires-send-D
 run-requires-send-D g c κs within =
     let s : IsSync g.row.R = search (rules, c.requires-raw) parts 8 in
-    let w : (a b d : NamedLft) → IsSend (NodeGate.the_row a b (Param.param 0 g.row.R) FileDevice.the_row (PostsAt.the_row d (Param.param 0 g.row.R)) DeviceRule.ghosts) =
+    let w : (a b d : NamedLft) → IsSend (NodeGate.the_row a b (Param.param 0 g.row.R) FileDevice.the_row JournalFile.the_row (PostsAt.the_row d (Param.param 0 g.row.R)) DeviceRule.ghosts JournalRule.ghosts) =
     λ a b d. way_send a b d (Param.param 0 g.row.R) (param_sync 0 g.row.R s) in
     search (w, seat_send, sendable) depth 40
+
+pub run-requires-send-U : goal.run-requires-send-U
+run-requires-send-U g c κs within =
+    let s : IsSync g.row.R = search (rules, c.requires-raw) parts 8 in
+    let w : (a b d : NamedLft) → IsSend (NodeGate.the_row a b (Param.param 0 g.row.R) FileDevice.the_row JournalFile.the_row (PostsAt.the_row d (Param.param 0 g.row.R)) DeviceRule.ghosts JournalRule.ghosts) =
+    λ a b d. way_send a b d (Param.param 0 g.row.R) (param_sync 0 g.row.R s) in
+    search (w, deaf_send, sendable) depth 40
 
 pub run-requires-sync-E : goal.run-requires-sync-E
 run-requires-sync-E g c κs within =

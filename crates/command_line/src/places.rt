@@ -1,0 +1,106 @@
+//! Where the replicas of a cluster are found, by the words of the command line. A word flows in, and what it names flows out, or that it names
+//! nothing. Look-ups are not here.
+use std::net::SocketAddr;
+
+/// Where a socket is found.
+#[derive(Clone, Copy, Debug, PartialEq, Eq)]
+pub enum Address<'a> {
+    /// An address with its port.
+    Numbers(SocketAddr),
+    /// A host's name with a port.
+    Name { host: &'a str, port: u16 },
+}
+
+/// Where one replica is found.
+#[derive(Clone, Copy)]
+pub struct Peer<'a> {
+    /// Where the other replicas find it.
+    pub peer_address: Address<'a>,
+    /// Where it hears clients.
+    pub ldap_address: Address<'a>,
+    /// The URI that clients are referred to; none for that of the address at which it hears them.
+    pub uri: Option<&'a str>,
+}
+
+/// How many characters the name of a host has, at most (RFC 1035 2.3.4).
+const LONGEST: usize = 253;
+
+/// Whether a character may stand in the name of a host.
+fn is_in_host(character: char) -> bool {
+    character.is_ascii_alphanumeric() || matches!(character, '-' | '.' | '_')
+}
+
+/// The last part of a host's name, behind its last dot.
+fn last_part(host: &str) -> &str {
+    match host.rsplit_once('.') {
+        Some((_, last)) => last,
+        None => host,
+    }
+}
+
+/// Whether a text is the name of a host (RFC 1123 2.1), whose last part begins with a letter: else it may be an address that is spelled badly.
+fn is_host(text: &str) -> bool {
+    text.len() <= LONGEST
+        && text.chars().all(is_in_host)
+        && !text.starts_with(['.', '-'])
+        && !text.contains("..")
+        && last_part(text).starts_with(|first: char| first.is_ascii_alphabetic())
+}
+
+/// Where a socket is found, by its word; none, where that is neither an address nor a host's name, with a port.
+fn address_of(word: &str) -> Option<Address<'_>> {
+    if let Ok(address) = word.parse::<SocketAddr>() {
+        return Some(Address::Numbers(address));
+    }
+    let (host, port) = word.rsplit_once(':')?;
+    if !is_host(host) {
+        return None;
+    }
+    Some(Address::Name {
+        host,
+        port: port.parse::<u16>().ok()?,
+    })
+}
+
+/// Whether a character may stand in a URI (RFC 3986 2), escapes and all.
+fn is_in_uri(character: char) -> bool {
+    character.is_ascii_graphic()
+        && !matches!(
+            character,
+            '"' | '<' | '>' | '\\' | '^' | '`' | '{' | '|' | '}'
+        )
+}
+
+/// A URI that clients may be referred to, with a host (RFC 4516 2); none, where the word isn't one.
+fn uri_of(word: &str) -> Option<&str> {
+    let behind = match word.strip_prefix("ldap://") {
+        Some(behind) => behind,
+        None => word.strip_prefix("ldaps://")?,
+    };
+    if behind.is_empty() || behind.starts_with('/') || !word.chars().all(is_in_uri) {
+        return None;
+    }
+    Some(word)
+}
+
+/// The second address of a PEER, and the URI behind it, where there is one.
+fn clients_of(word: &str) -> Option<(Address<'_>, Option<&str>)> {
+    match word.split_once(',') {
+        Some((address, uri)) => {
+            let uri = uri_of(uri)?;
+            Some((address_of(address)?, Some(uri)))
+        }
+        None => Some((address_of(word)?, None)),
+    }
+}
+
+/// Where a replica is found, by its word; none, where that isn't two addresses, and a URI or none, with commas between them.
+pub fn peer_of(word: &str) -> Option<Peer<'_>> {
+    let (peer, clients) = word.split_once(',')?;
+    let (ldap_address, uri) = clients_of(clients)?;
+    Some(Peer {
+        peer_address: address_of(peer)?,
+        ldap_address,
+        uri,
+    })
+}

@@ -1,0 +1,3 @@
+pub mod Codes
+pub mod Lines
+pub mod Records

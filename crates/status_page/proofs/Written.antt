@@ -1,0 +1,19 @@
+-- What a format writes, in another order of its parts.
+use Rattle.std.proofs.Common.{◌≡◌, ℕ, List, ◌++◌, Result, Some, IfOk, IfSome, refl, ap, ◌∙◌, append_assoc}
+use Rattle.std.proofs.lemmas.Result.{IfOk-weaker}
+use Rattle.status_page.specs.Pages.{figure}
+
+pub written_as : {E : Type 0} {S : Type 0} (octets : S → List ℕ) (r : Result S E) (xs ys : List ℕ) → xs ≡ ys →
+    IfOk r (λ s. IfSome (Some xs) (λ bs. octets s ≡ bs)) → IfOk r (λ s. octets s ≡ ys)
+written_as octets r xs ys e h = IfOk-weaker r (λ s. octets s ≡ xs) (λ s. octets s ≡ ys) (λ s p. p ∙ e) h
+
+-- four parts, one after the other
+pub four : (a b c d k l m n : List ℕ) → a ≡ k → b ≡ l → c ≡ m → d ≡ n → a ++ (b ++ (c ++ d)) ≡ k ++ l ++ m ++ n
+four a b c d k l m n p q r s = rw (p, q, r, s) (simp append_assoc)
+
+-- a figure with other samples, that are the same octets
+pub figure_of : {E : Type 0} {S : Type 0} (octets : S → List ℕ) (r : Result S E) (name help kind shown samples : List ℕ) → shown ≡ samples →
+    IfOk r (λ s. octets s ≡ figure name help kind shown) → IfOk r (λ s. octets s ≡ figure name help kind samples)
+figure_of octets r name help kind shown samples e h =
+    IfOk-weaker r (λ s. octets s ≡ figure name help kind shown) (λ s. octets s ≡ figure name help kind samples)
+    (λ s p. p ∙ ap (λ (x : List ℕ). figure name help kind x) e) h

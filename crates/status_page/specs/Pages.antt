@@ -1,0 +1,95 @@
+-- What the pages say: a page and a replica's figures come in, the octets of its response go out.
+use Rattle.std.specs.Prelude.{ℕ, List, [], ◌∷◌, ◌++◌, length, Bool, true, false, if◌then◌else◌, codes, decimal}
+use Rattle.status_page.specs.declared.asking.Page.{Page}
+use Rattle.status_page.specs.declared.asking.Page.TheVariants as page
+use Rattle.status_page.specs.declared.figures.Role.{Role}
+use Rattle.status_page.specs.declared.figures.Role.TheVariants.{Primary, Backup, Changing, Recovering}
+use Rattle.status_page.specs.declared.figures.Figures.{Figures}
+
+-- the word for a role
+abbrev pub role_word : Role → List ℕ
+role_word Primary = codes "primary"
+role_word Backup = codes "backup"
+role_word Changing = codes "changing"
+role_word Recovering = codes "recovering"
+
+-- the roles that serve clients
+abbrev pub serves : Role → Bool
+serves Primary = true
+serves Backup = true
+serves Changing = false
+serves Recovering = false
+
+-- a line with its end (RFC 9112 2.2)
+abbrev pub line : List ℕ → List ℕ
+line text = text ++ 13 ∷ 10 ∷ []
+
+-- what a response of this status begins with, before a text of this length, after which the connection is closed
+-- (RFC 9112 4, 6.2, 9.6)
+abbrev pub head : List ℕ → ℕ → List ℕ
+head status n =
+    line (codes "HTTP/1.1 " ++ status)
+    ++ line (codes "Content-Type: text/plain; version=0.0.4; charset=utf-8")
+    ++ line (codes "Content-Length: " ++ decimal n)
+    ++ line (codes "Connection: close")
+    ++ line []
+
+-- a response with its text
+abbrev pub response : List ℕ → List ℕ → List ℕ
+response status text = head status (length text) ++ text
+
+-- the text form of Prometheus: what a figure means and its kind, and then its samples, a line each
+abbrev pub figure : List ℕ → List ℕ → List ℕ → List ℕ → List ℕ
+figure name help kind samples =
+    codes "# HELP " ++ name ++ codes " " ++ help ++ codes "\n# TYPE " ++ name ++ codes " " ++ kind ++ codes "\n"
+    ++ samples
+
+-- a sample of a figure
+abbrev pub sample : List ℕ → ℕ → List ℕ
+sample name n = name ++ codes " " ++ decimal n ++ codes "\n"
+
+-- whether a replica has this role, as a number: 1 where it has, and 0 where not
+abbrev pub has : Role → Role → ℕ
+has Primary Primary = 1
+has Backup Backup = 1
+has Changing Changing = 1
+has Recovering Recovering = 1
+has own role = 0
+
+-- a role's sample: 1 for the one that the replica has
+abbrev pub role_sample : Role → Role → List ℕ
+role_sample own role = sample (codes "dird_role{role=\"" ++ role_word role ++ codes "\"}") (has own role)
+
+-- a sample for each role
+abbrev pub role_samples : Role → List ℕ
+role_samples own =
+    role_sample own Primary ++ role_sample own Backup ++ role_sample own Changing ++ role_sample own Recovering
+
+-- all figures of a replica, each once
+abbrev pub metrics_text : Figures → List ℕ
+metrics_text f =
+    figure (codes "dird_role") (codes "What the replica does: 1 for its role, 0 for the others.") (codes "gauge")
+    (role_samples f.role)
+    ++ figure (codes "dird_view") (codes "The number of the replica's view.") (codes "gauge")
+    (sample (codes "dird_view") f.view_number)
+    ++ figure (codes "dird_last_update") (codes "The number of the last update that the replica has made.")
+    (codes "counter")
+    (sample (codes "dird_last_update") f.last_update)
+    ++ figure (codes "dird_sessions") (codes "How many clients are connected.") (codes "gauge")
+    (sample (codes "dird_sessions") f.sessions)
+
+-- whether the replica serves clients, and its role
+abbrev pub ready_octets : Role → List ℕ
+ready_octets role =
+    response (if serves role then codes "200 OK" else codes "503 Service Unavailable") (role_word role ++ codes "\n")
+
+-- the response to a request for a page
+abbrev pub page_octets : Page → Figures → List ℕ
+page_octets page.Live f = response (codes "200 OK") (codes "live\n")
+page_octets page.Ready f = ready_octets f.role
+page_octets page.Metrics f = response (codes "200 OK") (metrics_text f)
+page_octets page.None f = response (codes "404 Not Found") (codes "GET /live, /ready or /metrics\n")
+
+-- the response to what is no request
+abbrev pub bad_request_octets : List ℕ
+bad_request_octets = response (codes "400 Bad Request") (codes "no request that is understood here\n")
