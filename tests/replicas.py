@@ -5,6 +5,7 @@ import functools
 import hashlib
 import os
 import re
+import signal
 import socket
 import subprocess
 import threading
@@ -14,6 +15,8 @@ TOP = os.path.dirname(os.path.dirname(os.path.abspath(__file__)))
 SUFFIX = "dc=example,dc=com"
 MANAGER = "cn=admin,dc=example,dc=com"
 PASSWORD = "secret"
+# What is said by a replica that waits for others before it serves clients.
+WAITS = re.compile(r": recovering$|, resuming in view ")
 # The time that begins a line of standard error, in UTC.
 TIME = re.compile(r"^\d{4}-\d\d-\d\dT\d\d:\d\d:\d\d\.\d{3}Z ")
 
@@ -57,17 +60,31 @@ class Replica:
         """The file of its stored view."""
         return os.path.join(self.cluster.folder, f"view-{self.index}")
 
+    def journal(self) -> str:
+        """The file of its journal, where it keeps one."""
+        return os.path.join(self.cluster.folder, f"journal-{self.index}")
+
+    def files(self) -> list[str]:
+        """The words that name its files."""
+        return ["--store", self.store(), *(["--journal", self.journal()] if self.cluster.keeps_journals else [])]
+
     def command(self, fresh: bool) -> list[str]:
         """The command line that starts it."""
         return [self.cluster.program, "serve", "--cluster", str(self.cluster.number), "--id", str(self.index),
-                "--store", self.store(), "--suffix", self.cluster.suffix, "--manager", self.cluster.manager,
+                *self.files(), "--suffix", self.cluster.suffix, "--manager", self.cluster.manager,
                 "--password", PASSWORD, *self.cluster.words, *(["--fresh"] if fresh else []), *self.cluster.places_for(self.index)]
 
+    def forget(self) -> None:
+        """Gives up what an earlier cluster stored in the folder."""
+        for file in (self.store(), self.journal()):
+            if os.path.exists(file):
+                os.remove(file)
+
     def start(self, fresh: bool) -> None:
-        """Starts it, and waits until it serves clients or says that it recovers. At its first start in a new cluster a view that an earlier cluster stored in the
-        folder is given up."""
-        if fresh and os.path.exists(self.store()):
-            os.remove(self.store())
+        """Starts it, and waits until it serves clients or says that it recovers or goes on from its journal. At its first start in a new cluster what an earlier
+        cluster stored in the folder is given up."""
+        if fresh:
+            self.forget()
         self.listens.clear()
         before = len(self.lines)
         # In a session of its own, so that Ctrl-C ends only who started it.
@@ -75,7 +92,7 @@ class Replica:
                                         start_new_session=True, **self.options)
         threading.Thread(target=self._keep, args=(self.process.stderr,), daemon=True).start()
         threading.Thread(target=self._listen, args=(self.process.stdout,), daemon=True).start()
-        while not self.listens.wait(0.005) and not any(line.endswith(": recovering") for line in self.lines[before:]):
+        while not self.listens.wait(0.005) and not any(WAITS.search(line) for line in self.lines[before:]):
             if self.process.poll() is not None:
                 time.sleep(0.2)
                 raise RuntimeError(f"replica {self.index} doesn't start: {self.lines[before:]}")
@@ -90,6 +107,15 @@ class Replica:
         for line in stream:
             self.lines.append(TIME.sub("", line.rstrip("\n")))
 
+    def pause(self) -> None:
+        """Stops all of its threads, and comes back when the last one stands still: until then it may still acknowledge an update."""
+        self.process.send_signal(signal.SIGSTOP)
+        os.waitid(os.P_PID, self.process.pid, os.WSTOPPED)
+
+    def go_on(self) -> None:
+        """Lets it run again."""
+        self.process.send_signal(signal.SIGCONT)
+
     def kill(self) -> None:
         """Ends it at once, as a crash does."""
         if self.process is not None:
@@ -101,8 +127,10 @@ class Replica:
 class Cluster:
     """Replicas, by index."""
 
-    def __init__(self, folder: str, number: int = 1, count: int = 3, words: list[str] = [], ports: list[int] | None = None, suffix: str = SUFFIX):
+    def __init__(self, folder: str, number: int = 1, count: int = 3, words: list[str] = [], ports: list[int] | None = None, suffix: str = SUFFIX,
+                 keeps_journals: bool = False):
         self.program = program()
+        self.keeps_journals = keeps_journals
         self.folder = folder
         self.number = number
         self.words = words

@@ -87,8 +87,8 @@ def raise_up(cluster: Cluster) -> None:
             replica.start(False)
 
 
-def play(tests: list[Callable[[Cluster], None]], words: list[str]) -> int:
-    """Plays the tests one after the other with one cluster, tells of each, and gives the status to end with."""
+def play_one(tests: list[Callable[[Cluster], None]], words: list[str]) -> tuple[int, int]:
+    """Plays the tests one after the other with one cluster, tells of each, and gives how many passed and how many failed."""
     passed = failed = 0
     with tempfile.TemporaryDirectory() as folder:
         cluster = Cluster(folder, 9, 3, WORDS + words)
@@ -109,5 +109,28 @@ def play(tests: list[Callable[[Cluster], None]], words: list[str]) -> int:
                     raise_up(cluster)
         finally:
             cluster.kill()
+    return passed, failed
+
+
+def play(*groups: tuple[list[Callable[[Cluster], None]], list[str]]) -> int:
+    """Plays groups of tests, each with a cluster of its own that is told these words, and gives the status to end with."""
+    counts = [play_one(tests, words) for tests, words in groups]
+    passed, failed = sum(count[0] for count in counts), sum(count[1] for count in counts)
     print(f"{passed} passed, {failed} failed")
+    return 1 if failed else 0
+
+
+def play_each(tests: list[Callable[[], None]]) -> int:
+    """Plays the tests one after the other, each of which makes what it needs, tells of each, and gives the status to end with."""
+    failed = 0
+    for test in tests:
+        began = time.time()
+        try:
+            test()
+            print(f"ok {test.__name__} {time.time() - began:.1f} s", flush=True)
+        except Exception:
+            failed += 1
+            print(f"FAILED {test.__name__}", flush=True)
+            traceback.print_exc()
+    print(f"{len(tests) - failed} passed, {failed} failed")
     return 1 if failed else 0

@@ -6,6 +6,8 @@
 #[cfg(test)]
 mod frames;
 #[cfg(test)]
+mod journals;
+#[cfg(test)]
 mod measured;
 #[cfg(test)]
 mod nodes;

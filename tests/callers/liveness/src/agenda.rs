@@ -36,6 +36,8 @@ pub enum What {
     },
     /// The next fault.
     Fault,
+    /// All replicas crash at once.
+    PowerCut,
     /// The slow time of the network ends.
     Calm {
         turn: u64,

@@ -71,6 +71,10 @@ impl World {
             let until = self.machines[to].busy_until;
             return self.agenda.put(until, What::Request { client, number, to });
         }
+        // One that went on from its journal serves nobody before it knows as much as it may have shown.
+        if self.machines[to].catch_up > 0 {
+            return Ok(());
+        }
         let entry = Entry {
             client: name_of(client),
             request_number: number,

@@ -1,12 +1,14 @@
 //! Faults: crashes and restarts, cuts, pauses and slow times, and their end.
 
 use crate::agenda::What;
+use crate::mark::Mark;
 use crate::setting::Kind;
 use crate::timer::{SUSPECT, Timer};
 use crate::world::World;
 use std::alloc::AllocError;
 use vr_recover::recover;
-use vr_state::words::Status;
+use vr_state::message::{Change, Send};
+use vr_state::replica::Replica;
 
 impl World {
     /// The next fault happens, and the one after it is put down.
@@ -85,7 +87,18 @@ impl World {
     /// A replica crashes, and starts again after so long.
     pub fn crash(&mut self, at: usize, rest: u64) -> Result<(), AllocError> {
         self.crashes += 1;
-        self.machines[at].replica = None;
+        let outlives = self.machines[at].outlives();
+        self.machines[at].kept = match self.machines[at].replica.take() {
+            Some(replica) => {
+                if outlives {
+                    Some(replica.into_change())
+                } else {
+                    None
+                }
+            }
+            None => None,
+        };
+        self.machines[at].catch_up = 0;
         self.machines[at].is_down = true;
         self.machines[at].is_doomed = false;
         self.machines[at].busy_until = 0;
@@ -109,7 +122,60 @@ impl World {
             .put(self.now + rest, What::Restart { machine: at, life })
     }
 
-    /// A replica starts again, recovering in its stored view.
+    /// All replicas crash at once, where a majority outlives that: those with journals, but for who was recovering.
+    pub fn on_power_cut(&mut self) -> Result<(), AllocError> {
+        let mut outliving = 0;
+        for machine in self.machines.iter() {
+            if machine.outlives() {
+                outliving += 1;
+            }
+        }
+        if self.is_healed || outliving <= self.machines.len() / 2 {
+            return Ok(());
+        }
+        self.power_cuts += 1;
+        for at in 0..self.machines.len() {
+            if self.machines[at].replica.is_some() {
+                let rest = self.power.spread(20_000, 20_000_000);
+                self.crash(at, rest)?;
+            }
+        }
+        Ok(())
+    }
+
+    /// A replica goes on from its journal, which may have forgotten how much is committed.
+    fn resume(&mut self, at: usize, kept: Change<Mark>) -> Result<Replica<Mark>, AllocError> {
+        let count = self.machines.len() as u64;
+        let view = self.machines[at].stored_view;
+        let most = kept.commit_number;
+        let commit = if self.power.hits(500) {
+            most
+        } else {
+            self.power.below(most + 1)
+        };
+        let replica = Replica::resuming(self.alloc, at as u64, count, view, commit, kept)?;
+        self.machines[at].catch_up = replica.log.len() as u64;
+        self.machines[at].is_down = false;
+        Ok(replica)
+    }
+
+    /// The replica of a start, with what it sends: it goes on from its journal, or recovers in its stored view.
+    fn started(
+        &mut self,
+        at: usize,
+        life: u64,
+    ) -> Result<(Replica<Mark>, Vec<Send<Mark>>), AllocError> {
+        if let Some(kept) = self.machines[at].kept.take() {
+            let replica = self.resume(at, kept)?;
+            return Ok((replica, Vec::new(self.alloc)));
+        }
+        let count = self.machines.len() as u64;
+        let view = self.machines[at].stored_view;
+        let (replica, outputs) = recover(self.alloc, at as u64, count, view, life + 1)?;
+        Ok((replica, outputs.sends))
+    }
+
+    /// A replica starts again.
     pub fn on_restart(&mut self, at: usize, life: u64) -> Result<(), AllocError> {
         if self.machines[at].replica.is_some() || self.machines[at].starts != life {
             return Ok(());
@@ -117,7 +183,8 @@ impl World {
         let count = self.machines.len() as u64;
         let view = self.machines[at].stored_view;
         let now = self.machines[at].local(self.now);
-        let (replica, outputs) = recover(self.alloc, at as u64, count, view, life + 1)?;
+        let (replica, sends) = self.started(at, life)?;
+        let status = replica.status;
         let machine = &mut self.machines[at];
         machine.starts = life + 1;
         machine.replica = Some(replica);
@@ -126,7 +193,7 @@ impl World {
             at as u64,
             count,
             view,
-            Status::Recovering,
+            status,
             now,
         );
         machine.compared = 0;
@@ -137,7 +204,7 @@ impl World {
             self.close(into, until)?;
         }
         self.show(at)?;
-        for send in outputs.sends {
+        for send in sends {
             let to = send.to as usize;
             self.send(at, to, send.into_message())?;
         }

@@ -26,12 +26,14 @@ pub enum Wrong {
     Request,
     /// All is in one view, and not all have committed the same.
     Commits,
+    /// A replica that went on from its journal serves no clients.
+    Gate,
     /// All is well, but wasn't at the deadline.
     Late,
 }
 
 /// What may be wrong, by the names that the command line has for it.
-pub const WRONGS: [(&str, Wrong); 8] = [
+pub const WRONGS: [(&str, Wrong); 9] = [
     ("Unsafe", Wrong::Unsafe),
     ("StuckRecovery", Wrong::StuckRecovery),
     ("LongRecovery", Wrong::LongRecovery),
@@ -40,6 +42,7 @@ pub const WRONGS: [(&str, Wrong); 8] = [
     ("Request", Wrong::Request),
     ("Commits", Wrong::Commits),
     ("Late", Wrong::Late),
+    ("Gate", Wrong::Gate),
 ];
 
 impl Wrong {
@@ -117,6 +120,9 @@ impl World {
         for machine in self.machines.iter() {
             if commit_of(machine) != commit {
                 return Wrong::Commits;
+            }
+            if machine.catch_up > 0 {
+                return Wrong::Gate;
             }
         }
         Wrong::Nothing

@@ -2,7 +2,7 @@
 
 use crate::mark::Mark;
 use crate::timer::Timer;
-use vr_state::message::PeerMessage;
+use vr_state::message::{Change, PeerMessage};
 use vr_state::replica::Replica;
 use vr_state::words::Status;
 
@@ -15,6 +15,11 @@ pub struct Machine {
     /// On its disk: the view, and how often it has started.
     pub stored_view: u64,
     pub starts: u64,
+    /// Whether its log is on its disk too, and what of it a crash left; none while it's up, or where it was recovering.
+    pub has_journal: bool,
+    pub kept: Option<Change<Mark>>,
+    /// How much is to be committed before clients are served: as much as its log had when it went on from its journal.
+    pub catch_up: u64,
     /// Whether it has crashed and isn't normal again.
     pub is_down: bool,
     /// Its clock goes so many thousandths as fast as the true time, from this moment on.
@@ -38,6 +43,22 @@ pub struct Machine {
 }
 
 impl Machine {
+    /// Takes note of what is committed, where clients wait for it.
+    pub fn look_back(&mut self) {
+        if let Some(replica) = &self.replica {
+            let most = self.catch_up.min(replica.log.len() as u64);
+            self.catch_up = if most <= replica.commit_number { 0 } else { most };
+        }
+    }
+
+    /// Whether all that it has promised is on its disk or in its memory, and outlives a crash.
+    pub fn outlives(&self) -> bool {
+        match &self.replica {
+            Some(replica) => self.has_journal && replica.status != Status::Recovering,
+            None => self.kept.is_some(),
+        }
+    }
+
     /// What its clock shows at this time.
     pub fn local(&self, time: u64) -> u64 {
         self.offset + time * self.speed / 1000

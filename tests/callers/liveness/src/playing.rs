@@ -12,6 +12,7 @@ struct Tally {
     failed: u64,
     steps: u64,
     crashes: u64,
+    power_cuts: u64,
     answered: u64,
     needless: u64,
     hasty: u64,
@@ -31,6 +32,7 @@ pub fn play(rt: &HostRuntime, wish: &Wish) -> io::Result<bool> {
         failed: 0,
         steps: 0,
         crashes: 0,
+        power_cuts: 0,
         answered: 0,
         needless: 0,
         hasty: 0,
@@ -53,8 +55,8 @@ pub fn play(rt: &HostRuntime, wish: &Wish) -> io::Result<bool> {
     }
     println!(rt; "")?;
     println!(rt;
-        "{} steps, {} crashes, {} requests answered, {} needless suspicions at last",
-        tally.steps, tally.crashes, tally.answered, tally.needless
+        "{} steps, {} crashes, {} power cuts, {} requests answered, {} needless suspicions at last",
+        tally.steps, tally.crashes, tally.power_cuts, tally.answered, tally.needless
     )?;
     if tally.hasty > 0 {
         println!(rt;
@@ -98,6 +100,7 @@ fn play_one(rt: &HostRuntime, wish: &Wish, seed: u64, tally: &mut Tally) -> io::
     let wrong = world.wrong();
     tally.steps += world.steps;
     tally.crashes += world.crashes;
+    tally.power_cuts += world.power_cuts;
     tally.answered += world.answered;
     tally.needless += world.needless;
     tally.hasty += world.hasty;

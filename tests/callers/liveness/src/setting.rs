@@ -40,10 +40,13 @@ pub const LOSSES: u64 = 1 << 9;
 
 pub const DELAYS: u64 = 1 << 10;
 
-pub const ALL: u64 = (1 << 11) - 1;
+/// Some replicas, or all, have their logs on their disks, and all of them may crash at once.
+pub const JOURNALS: u64 = 1 << 11;
+
+pub const ALL: u64 = (1 << 12) - 1;
 
 /// The names of the bits, in their order.
-pub const NAMES: [&str; 11] = [
+pub const NAMES: [&str; 12] = [
     "quick-crash",
     "slow-crash",
     "store-crash",
@@ -55,6 +58,7 @@ pub const NAMES: [&str; 11] = [
     "speeds",
     "losses",
     "delays",
+    "journals",
 ];
 
 const KINDS: [Kind; 8] = [

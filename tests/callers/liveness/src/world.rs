@@ -6,7 +6,7 @@ use crate::clients::Caller;
 use crate::links::{Flight, Flights, Link};
 use crate::machine::Machine;
 use crate::mark::Mark;
-use crate::setting::{Plan, Setting};
+use crate::setting::{JOURNALS, Plan, Setting};
 use crate::timer::{SUSPECT, Timer};
 use replica_clock::{Due, Sign, sign_of};
 use std::alloc::{AllocError, Global};
@@ -24,6 +24,8 @@ pub struct World {
     pub setting: Setting,
     pub plan: Plan,
     pub chance: Chance,
+    /// What says who has a journal, and when all crash at once, so that other lives of a seed are as they were.
+    pub power: Chance,
     pub now: u64,
     pub agenda: Agenda,
     pub machines: Vec<Machine>,
@@ -45,6 +47,7 @@ pub struct World {
     pub notes: String,
     pub steps: u64,
     pub crashes: u64,
+    pub power_cuts: u64,
     pub answered: u64,
     /// How often, after all faults have ended, a replica suspected a primary that led its view.
     pub needless: u64,
@@ -57,7 +60,8 @@ impl World {
     pub fn new(alloc: Global, setting: Setting, seed: u64) -> Result<World, AllocError> {
         let mut chance = Chance::new(seed);
         let plan = Plan::new(&setting, &mut chance);
-        let mut world = World::empty(alloc, setting, plan, chance);
+        let power = Chance::new(seed ^ 0x6a6f_7572_6e61_6c73);
+        let mut world = World::empty(alloc, setting, plan, chance, power);
         for at in 0..plan.count {
             world.add_machine(at)?;
         }
@@ -70,16 +74,24 @@ impl World {
         let first = world.chance.between(1, plan.gap);
         world.agenda.put(first, What::Fault)?;
         world.agenda.put(setting.faults_time, What::Heal)?;
+        world.give_journals()?;
         Ok(world)
     }
 
     /// A run with no replicas yet.
-    fn empty(alloc: Global, setting: Setting, plan: Plan, chance: Chance) -> World {
+    fn empty(
+        alloc: Global,
+        setting: Setting,
+        plan: Plan,
+        chance: Chance,
+        power: Chance,
+    ) -> World {
         World {
             alloc,
             setting,
             plan,
             chance,
+            power,
             now: 0,
             agenda: Agenda::new(alloc),
             machines: Vec::new(alloc),
@@ -96,6 +108,7 @@ impl World {
             notes: String::new(alloc),
             steps: 0,
             crashes: 0,
+            power_cuts: 0,
             answered: 0,
             needless: 0,
             hasty: 0,
@@ -123,6 +136,9 @@ impl World {
             ),
             stored_view: 0,
             starts: 1,
+            has_journal: false,
+            kept: None,
+            catch_up: 0,
             is_down: false,
             speed,
             offset,
@@ -136,6 +152,22 @@ impl World {
             led_at: 0,
         })?;
         self.ask_again(at)
+    }
+
+    /// In half of the runs some replicas, or all, have journals, and all crash at once up to three times.
+    fn give_journals(&mut self) -> Result<(), AllocError> {
+        if self.setting.kinds & JOURNALS == 0 || self.power.hits(500) {
+            return Ok(());
+        }
+        let are_all = self.power.hits(500);
+        for at in 0..self.machines.len() {
+            self.machines[at].has_journal = are_all || self.power.hits(700);
+        }
+        for _ in 0..self.power.between(1, 3) {
+            let time = self.power.below(self.setting.faults_time);
+            self.agenda.put(time, What::PowerCut)?;
+        }
+        Ok(())
     }
 
     fn add_caller(&mut self, client: usize) -> Result<(), AllocError> {
@@ -189,6 +221,7 @@ impl World {
             What::Request { client, number, to } => self.on_request(client, number, to),
             What::Restart { machine, life } => self.on_restart(machine, life),
             What::Fault => self.on_fault(),
+            What::PowerCut => self.on_power_cut(),
             What::Calm { turn } => {
                 if turn == self.slow_turn {
                     self.slow_delay = 0;
@@ -332,6 +365,7 @@ impl World {
         let machine = &mut self.machines.as_mut_slice()[at];
         let now = machine.local(self.now);
         machine.timer.hear(from, sign, now);
+        machine.look_back();
         if let Sign::Leads { view_number } = sign {
             if view_number == machine.view() && view_number % self.plan.count as u64 == from {
                 machine.led_at = now;
@@ -360,6 +394,7 @@ impl World {
         if replica.status == Status::Normal {
             machine.is_down = false;
         }
+        machine.look_back();
         self.steps += 1;
         if let Some((from, sign)) = sign {
             self.hear(at, from, sign)?;

@@ -9,6 +9,7 @@ use dir_node::{
     PeerMessage,
 };
 use dir_store::Update;
+use journal::MemoryDevice as Log;
 use schema_reader::built_in_schema;
 use std::alloc::Global;
 use std::io::{Eprint, Print};
@@ -50,10 +51,10 @@ fn config(alloc: Global) -> Result<NodeConfig, Fault>
 }
 
 /// The node of that replica at its first start, over a device in memory: the primary of view 0.
-fn begun(alloc: Global) -> Result<Node<MemoryDevice>, Fault> {
+fn begun(alloc: Global) -> Result<Node<MemoryDevice, Log>, Fault> {
     let config = config(alloc)?;
     let device = MemoryDevice::new(alloc, Vec::new(alloc), ROOM, DeviceFault::None)?;
-    match Node::fresh(alloc, device, config) {
+    match Node::fresh(alloc, device, None, config) {
         Ok((node, _)) => Ok(node),
         Err(_) => Err(Fault::NoNode),
     }
@@ -62,14 +63,14 @@ fn begun(alloc: Global) -> Result<Node<MemoryDevice>, Fault> {
 /// Hands an event to a node.
 fn handle<D: Device>(
     alloc: Global,
-    node: &mut Node<D>,
+    node: &mut Node<D, Log>,
     event: Event<Op>,
 ) -> Result<Handled, NodeError> {
     node.handle(alloc, event)
 }
 
 /// Hands an event to a node; how many replies it gives out.
-fn replies<D: Device>(alloc: Global, node: &mut Node<D>, event: Event<Op>) -> Result<usize, Fault> {
+fn replies<D: Device>(alloc: Global, node: &mut Node<D, Log>, event: Event<Op>) -> Result<usize, Fault> {
     match handle(alloc, node, event) {
         Ok(handled) => Ok(handled.outputs.replies.len()),
         Err(_) => Err(Fault::NoNode),
@@ -101,7 +102,7 @@ fn acknowledgement(number: u64) -> Event<Op> {
 }
 
 /// An update is asked for, acknowledged by one backup, committed, executed and answered: two events.
-fn update<D: Device>(alloc: Global, node: &mut Node<D>, op: &Op, number: u64) -> Result<(), Fault> {
+fn update<D: Device>(alloc: Global, node: &mut Node<D, Log>, op: &Op, number: u64) -> Result<(), Fault> {
     let event = request(op, number)?;
     let before = replies(alloc, node, event)?;
     let after = replies(alloc, node, acknowledgement(number))?;
@@ -115,7 +116,7 @@ fn update<D: Device>(alloc: Global, node: &mut Node<D>, op: &Op, number: u64) ->
 /// The updates from this number to before that one.
 fn updates<D: Device>(
     alloc: Global,
-    node: &mut Node<D>,
+    node: &mut Node<D, Log>,
     op: &Op,
     from: u64,
     to: u64,
@@ -130,7 +131,7 @@ fn updates<D: Device>(
 fn window<D: Device>(
     clock: &impl Clock,
     alloc: Global,
-    node: &mut Node<D>,
+    node: &mut Node<D, Log>,
     op: &Op,
     from: u64,
 ) -> Result<u64, Fault> {
@@ -144,7 +145,7 @@ fn window<D: Device>(
 fn windows<D: Device>(
     clock: &impl Clock,
     alloc: Global,
-    node: &mut Node<D>,
+    node: &mut Node<D, Log>,
     op: &Op,
     from: u64,
 ) -> Result<Vec<u64>, Fault> {
@@ -161,7 +162,7 @@ fn windows<D: Device>(
 fn measure_at<D: Device>(
     rt: &(impl Clock + Eprint),
     alloc: Global,
-    node: &mut Node<D>,
+    node: &mut Node<D, Log>,
     op: &Op,
     records: u64,
 ) -> Result<(), Fault> {
@@ -178,7 +179,7 @@ fn measure_at<D: Device>(
 fn measure_all<D: Device>(
     rt: &(impl Clock + Eprint),
     alloc: Global,
-    node: &mut Node<D>,
+    node: &mut Node<D, Log>,
     op: &Op,
     most: u64,
 ) -> Result<(), Fault> {

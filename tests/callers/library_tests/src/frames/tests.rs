@@ -5,7 +5,7 @@ use std::alloc::Global;
 use std::process::Abort;
 use std::test::*;
 use vr_state::message::PeerMessage;
-use vr_wire::{Cluster, WireError, read, rest, write};
+use vr_wire::{Came, Cluster, Frames, Gathering, WireError, read, rest, write};
 
 /// Replica 0 of cluster 9 says in view 0 that four records are committed.
 const COMMIT: &str = "0000001902000000000009030000000000000000000000000000000004";
@@ -215,5 +215,85 @@ fn knows_the_limit(rt: HostRuntime) -> Result<(), Fail> {
     assert_eq!(rt; rest([0x0f, 0xff, 0xff, 0xfd]), Err(WireError::BadFrame));
     assert_eq!(rt; rest([0x0f, 0xff, 0xff, 0xfc]), Ok(268_435_452));
     assert_eq!(rt; rest([0xff, 0xff, 0xff, 0xff]), Err(WireError::BadFrame));
+    Ok(())
+}
+
+/// The frames of a message in cluster 9, where a frame has at most 10 octets: its parts, of so many octets of the message each.
+fn parts_of(
+    rt: &impl Abort,
+    alloc: Global,
+    number: u64,
+    size: usize,
+    text: &str,
+) -> Result<Vec<Vec<u8>>, Fail> {
+    let (sender, message) = read(alloc, &decode(alloc, text)?, cluster(rt, 9))?;
+    let mut frames = Frames::of(alloc, cluster(rt, 9), sender, number, 10, size, &message)?;
+    let mut parts = Vec::new(alloc);
+    for _ in 0..1000 {
+        match frames.next(alloc)? {
+            Some(frame) => parts.push(frame)?,
+            None => break,
+        }
+    }
+    Ok(parts)
+}
+
+/// What comes of these frames, a letter each: p for a part, d for one that is dropped, m for the message of `text`, ? for another.
+fn come_of(
+    rt: &impl Abort,
+    alloc: Global,
+    frames: &[&Vec<u8>],
+    text: &str,
+) -> Result<String, Fail> {
+    let mut gathering = Gathering::new();
+    let mut told = String::new(alloc);
+    for frame in frames {
+        let letter = match gathering.take(alloc, frame, cluster(rt, 9))? {
+            Came::Part(_) => 'p',
+            Came::Dropped(_) => 'd',
+            Came::Message(sender, message) => {
+                let again = write(alloc, cluster(rt, 9), sender, &message)?;
+                if encode(alloc, again)?.as_str() == text { 'm' } else { '?' }
+            }
+        };
+        told.push(letter)?;
+    }
+    Ok(told)
+}
+
+/// The STARTVIEW of the table: 85 octets are cut in parts, its kind and those behind its sender.
+const LONG: &str = "0000005d020000000000090601000000000000000600000000000000010000000200000000000000000000000000000000070000000000000002000000064a0464633d780100000000000000010000000000000001000000000000000300000000";
+
+#[test]
+fn parts_give_their_message_and_nothing_else_does(rt: HostRuntime) -> Result<(), Fail> {
+    let alloc = rt.alloc();
+    let parts = parts_of(&rt, alloc, 7, 32, LONG)?;
+    let others = parts_of(&rt, alloc, 8, 32, LONG)?;
+    let commit = decode(alloc, COMMIT)?;
+    assert_eq!(&rt; parts.len(), 3);
+    assert!(&rt; encode(alloc, &parts[2])?.as_str() == "0000002e020000000000090d0100000000000000070000000200000003010000000000000001000000000000000300000000");
+    let [a, b, c] = [&parts[0], &parts[1], &parts[2]];
+    let rows: [(&str, &[&Vec<u8>], &str); 7] = [
+        ("all in their order", &[a, b, c], "ppm"),
+        ("one lost", &[a, c], "pd"),
+        ("one doubled", &[a, b, b, c], "ppdd"),
+        ("another message between", &[a, b, &commit, c], "pp?d"),
+        ("one of another message", &[a, &others[1], c], "pdd"),
+        ("begun anew", &[a, b, a, b, c], "ppppm"),
+        ("two messages", &[a, b, c, &others[0], &others[1], &others[2]], "ppmppm"),
+    ];
+    for (name, frames, wanted) in rows {
+        let told = come_of(&rt, alloc, frames, LONG)?;
+        assert!(&rt; told.as_str() == wanted, "{name}: {told}");
+    }
+    for size in 1..90 {
+        let parts = parts_of(&rt, alloc, 1, size, LONG)?;
+        let mut frames = Vec::new(alloc);
+        for part in &parts {
+            frames.push(part)?;
+        }
+        let told = come_of(&rt, alloc, &frames, LONG)?;
+        assert!(&rt; told.ends_with('m') && told.len() == 85_usize.div_ceil(size), "{size}: {told}");
+    }
     Ok(())
 }

@@ -3,7 +3,7 @@
 
 use crate::nodes::frames::{COMMIT_1, PREPARE_ADD};
 use crate::nodes::player::{handle, heard};
-use crate::nodes::sample::{SEVEN, device, fresh};
+use crate::nodes::sample::{SEVEN, Log, device, fresh};
 use dir_node::{Device, Node, Outcome};
 use std::alloc::Global;
 use std::process::Abort;
@@ -14,7 +14,7 @@ use view_store::Fault;
 fn hand_over<D: Device>(
     rt: &impl Abort,
     alloc: Global,
-    node: &mut Node<D>,
+    node: &mut Node<D, Log>,
     text: &str,
 ) -> Option<bool> {
     for _ in 0..2 {
@@ -28,7 +28,7 @@ fn hand_over<D: Device>(
 }
 
 /// Whether client 7's request 5 is done, as the first record and with success.
-fn is_done<D: Device>(node: &Node<D>) -> bool {
+fn is_done<D: Device>(node: &Node<D, Log>) -> bool {
     match node.outcome(SEVEN, 5) {
         Outcome::Done { number, reply } => number == 1 && reply.code.number() == 0,
         Outcome::Pending => false,
@@ -39,7 +39,7 @@ fn is_done<D: Device>(node: &Node<D>) -> bool {
 
 /// A backup takes a record in, and hears twice that it is committed: the first time it is executed unless the node says that it is left, and then at
 /// the second.
-fn check<D: Device>(rt: &impl Abort, alloc: Global, node: &mut Node<D>) {
+fn check<D: Device>(rt: &impl Abort, alloc: Global, node: &mut Node<D, Log>) {
     assert_eq!(rt; hand_over(rt, alloc, node, PREPARE_ADD), Some(false));
     let first = hand_over(rt, alloc, node, COMMIT_1);
     assert_eq!(rt; first, Some(node.executed_len() == 0));

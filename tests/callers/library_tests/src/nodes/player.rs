@@ -1,7 +1,7 @@
 //! Rows that are played at a node: what happens to it or what it is asked flows in, and what it says is compared with the words that the row has.
 //! What any event should give is not here.
 
-use crate::nodes::sample::{SEVEN, nine};
+use crate::nodes::sample::{SEVEN, Log, nine};
 use crate::nodes::telling::{add_word, words_of_event, words_of_outcome, words_of_standing};
 use dir_node::{Device, Entry, Event, Handled, Node, NodeError, Op};
 use ldap_op::read_op;
@@ -51,7 +51,7 @@ pub fn heard(rt: &impl Abort, alloc: Global, text: &str) -> Option<Event<Op>> {
 /// Hands an event to a node.
 pub fn handle<D: Device>(
     alloc: Global,
-    node: &mut Node<D>,
+    node: &mut Node<D, Log>,
     event: Event<Op>,
 ) -> Result<Handled, NodeError> {
     node.handle(alloc, event)
@@ -61,7 +61,7 @@ pub fn handle<D: Device>(
 fn after<D: Device>(
     rt: &impl Abort,
     alloc: Global,
-    node: &mut Node<D>,
+    node: &mut Node<D, Log>,
     event: Event<Op>,
 ) -> Result<String, Fail> {
     match handle(alloc, node, event) {
@@ -74,7 +74,7 @@ fn after<D: Device>(
 pub fn said<D: Device>(
     rt: &impl Abort,
     alloc: Global,
-    node: &mut Node<D>,
+    node: &mut Node<D, Log>,
     given: Given,
 ) -> Result<String, Fail> {
     match given {
@@ -106,7 +106,7 @@ pub fn joined(alloc: Global, words: &[&str]) -> Result<String, AllocError> {
 fn check_row<D: Device>(
     rt: &impl Abort,
     alloc: Global,
-    node: &mut Node<D>,
+    node: &mut Node<D, Log>,
     row: &Row,
 ) -> Result<(), Fail> {
     let (given, want) = row;
@@ -120,7 +120,7 @@ fn check_row<D: Device>(
 pub fn play<D: Device>(
     rt: &impl Abort,
     alloc: Global,
-    node: &mut Node<D>,
+    node: &mut Node<D, Log>,
     rows: &[Row],
 ) -> Result<(), Fail> {
     for row in rows {

@@ -2,6 +2,7 @@
 ghost use Rattle.std.specs.Prelude.{◌≡◌, ◌<◌, IfOk};
 
 use dir_node::{Client, Cluster, Indexes, Name, Node, NodeConfig, NodeError, Op, Outputs, Refused};
+pub use journal::MemoryDevice as Log;
 use schema_reader::built_in_schema;
 use std::alloc::Global;
 use std::process::Abort;
@@ -34,7 +35,7 @@ pub const SEVEN: Client = Client {
 };
 
 /// A node over a device in memory, and what it gave out first.
-pub type Made = (Node<MemoryDevice>, Outputs<Op>);
+pub type Made = (Node<MemoryDevice, Log>, Outputs<Op>);
 
 /// The cluster of the sample.
 pub fn nine(rt: &impl Abort) -> Cluster {
@@ -75,11 +76,11 @@ pub fn begin(
     cluster: Cluster,
     index: u64,
     device: MemoryDevice,
-) -> Result<Result<Made, Refused<MemoryDevice>>, Fail>
+) -> Result<Result<Made, Refused<MemoryDevice, Log>>, Fail>
     requires { index < 3 }
 {
     let config = config(alloc, cluster, index)?;
-    Ok(Node::fresh(alloc, device, config))
+    Ok(Node::fresh(alloc, device, None, config))
 }
 
 /// A later start of a replica of a cluster.
@@ -88,15 +89,15 @@ pub fn begin_again(
     cluster: Cluster,
     index: u64,
     device: MemoryDevice,
-) -> Result<Result<Made, Refused<MemoryDevice>>, Fail>
+) -> Result<Result<Made, Refused<MemoryDevice, Log>>, Fail>
     requires { index < 3 }
 {
     let config = config(alloc, cluster, index)?;
-    Ok(Node::reopen(alloc, device, config))
+    Ok(Node::reopen(alloc, device, None, config))
 }
 
 /// What a start made, which isn't refused.
-fn made(made: Result<Made, Refused<MemoryDevice>>) -> Result<Made, NodeError> {
+fn made(made: Result<Made, Refused<MemoryDevice, Log>>) -> Result<Made, NodeError> {
     match made {
         Ok(made) => Ok(made),
         Err(refused) => Err(refused.error),

@@ -4,7 +4,7 @@ ghost use Rattle.std.specs.Prelude.{◌<◌};
 
 use crate::nodes::frames::{RECOVERY_2, RECOVERY_3, RECOVERY_4};
 use crate::nodes::player::{Given, joined, said};
-use crate::nodes::sample::{FIRST, Made, begin, begin_again, device, fresh, nine, octets, reopen};
+use crate::nodes::sample::{FIRST, Log, Made, begin, begin_again, device, fresh, nine, octets, reopen};
 use crate::nodes::telling::words_of;
 use dir_node::{Cluster, NodeError, Refused, ViewStoreError};
 use std::alloc::Global;
@@ -109,7 +109,7 @@ fn a_later_start_asks_with_a_new_nonce(rt: HostRuntime) -> Result<(), Fail> {
 fn check_refused(
     rt: &impl Abort,
     alloc: Global,
-    made: Result<Made, Refused<MemoryDevice>>,
+    made: Result<Made, Refused<MemoryDevice, Log>>,
     error: ViewStoreError,
     text: &str,
 ) -> Result<(), Fail> {

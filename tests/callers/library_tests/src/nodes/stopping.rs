@@ -5,7 +5,7 @@ use crate::nodes::frames::{
     CHANGE_OF_1, LATER_BY_0, LATER_BY_2, RECOVERY_OF_1, TOLD_BY_0, TOLD_BY_2,
 };
 use crate::nodes::player::{Given, Row, joined, play};
-use crate::nodes::sample::{ADD, ROOM, device, fresh, octets, reopen};
+use crate::nodes::sample::{ADD, ROOM, Log, device, fresh, octets, reopen};
 use crate::nodes::telling::words_of;
 use dir_node::Node;
 use std::alloc::Global;
@@ -72,7 +72,7 @@ const IN_VIEW_1: &[Row] = &[
 ];
 
 /// Replica 1 at its first start, over an empty device to which this is to happen.
-fn started(rt: &impl Abort, alloc: Global, fault: Fault) -> Result<Node<MemoryDevice>, Fail> {
+fn started(rt: &impl Abort, alloc: Global, fault: Fault) -> Result<Node<MemoryDevice, Log>, Fail> {
     let (node, _) = fresh(rt, alloc, 1, device(alloc, "", fault)?)?;
     Ok(node)
 }
@@ -89,7 +89,7 @@ fn crashed(
     alloc: Global,
     device: &MemoryDevice,
     fate: Fate,
-) -> Result<Node<MemoryDevice>, Fail> {
+) -> Result<Node<MemoryDevice, Log>, Fail> {
     let left = device.left_by_crash(alloc, fate)?;
     let left = MemoryDevice::new(alloc, left, ROOM, Fault::None)?;
     let (node, outputs) = reopen(rt, alloc, 1, left)?;

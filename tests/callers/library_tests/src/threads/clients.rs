@@ -1,16 +1,17 @@
-//! Clients that misbehave, over this machine's loopback: silent ones, ones that stop inside a message, and a crowd. Octets of a bind flow in;
-//! that it is answered, or that a connection is closed, is looked at.
+//! Clients that misbehave, over this machine's loopback: silent ones, ones that stop inside a message, a crowd, and one that goes while its update
+//! waits. That a bind is answered, that a connection is closed, and what the hall tells of its sessions is looked at.
 
 use crate::threads::sessions::directory;
 use crate::threads::signal::Signal;
-use client_link::{Arrives, Client, Connection, Door, Limits, accept_all, close, serve_all};
-use crossbeam_channel::{Receiver, Sender};
+use client_link::{Door, Limits, SessionEnd, close};
 use ldap_session::{Config, Name};
 use schema_reader::built_in_schema;
+use session_hall::{Away, Hall, Tells, Terms, serve_sessions};
 use std::alloc::Global;
 use std::io::{Read, Write};
 use std::net::{Net, SocketAddr, TcpListener, TcpStream};
 use std::process::Abort;
+use std::sync::atomic::{AtomicBool, AtomicU64, Ordering};
 use std::sync::Wait;
 use std::test::*;
 use std::thread::Threads;
@@ -22,34 +23,76 @@ const BIND: &[u8] = b"0,\x02\x01\x01`'\x02\x01\x03\x04\x1acn=admin,dc=example,dc
 
 const BOUND: &[u8; 14] = b"0\x0c\x02\x01\x01a\x07\x0a\x01\x00\x04\x00\x04\x00";
 
-/// How many places a server of these tests has.
-const PLACES: usize = 2;
+/// A delete.
+const DELETE: &[u8] = b"0\x0a\x02\x01\x02J\x05cn=No";
+
+/// How many threads of a server of these tests read.
+const SEATS: usize = 2;
 
 /// How many clients a crowd has.
 const CROWD: usize = 300;
 
-/// The limits of these tests: one is short, and no test lasts as long as the others.
-fn limits(message: u64, idle: u64) -> Limits {
+/// The limits of these tests: no test lasts as long as the others.
+fn limits(message: u64) -> Limits {
     Limits {
         message: Duration::from_millis(message),
-        idle: Duration::from_millis(idle),
+        idle: Duration::from_secs(50),
         write: Duration::from_secs(50),
     }
 }
 
-/// Serves the clients of a channel until it is closed.
-fn serve<'a, R: Net<Listener = TcpListener, Stream = TcpStream> + Threads + Wait + Clock + Sync>(
+/// Counts what a hall tells.
+#[derive(Drop)]
+struct Counts<'a, R> {
+    rt: &'a R,
+    /// The client of an update has left.
+    left: Signal,
+    let_go: AtomicU64,
+    failed: AtomicU64,
+}
+
+fn counts<'a, R>(rt: &'a R) -> Counts<'a, R> {
+    Counts {
+        rt,
+        left: Signal::new(),
+        let_go: AtomicU64::new(0),
+        failed: AtomicU64::new(0),
+    }
+}
+
+impl<'a, R: Wait> Tells for Counts<'a, R> {
+    fn begins(&self) {}
+
+    fn came(&self, _session: u64, _address: SocketAddr) {}
+
+    fn ended(&self, _session: u64, end: SessionEnd) {
+        if matches!(end, SessionEnd::ReadFailed | SessionEnd::WriteFailed) {
+            self.failed.fetch_add(1, Ordering::SeqCst);
+        }
+    }
+
+    fn let_go(&self, _session: u64, why: Away) {
+        if matches!(why, Away::Longest) {
+            self.let_go.fetch_add(1, Ordering::SeqCst);
+        }
+    }
+
+    fn left(&self) {
+        self.left.give(self.rt);
+    }
+}
+
+/// Serves clients until the door is closed, with room for so many. An update of the first one waits until its client has left.
+fn run<'a, R: Net<Listener = TcpListener, Stream = TcpStream> + Threads + Wait + Clock + Sync>(
     rt: &'a R,
     alloc: Global,
-    from: Receiver<(u64, Client<'a, R>)>,
+    listener: &TcpListener,
+    door: &Door,
+    counts: &Counts<'a, R>,
+    sessions: usize,
 ) -> Result<(), Fail> {
     let schema = built_in_schema(alloc)?;
     let manager = Name::read(alloc, &schema, "cn=admin,dc=example,dc=com")?;
-    let never = Signal::new();
-    let mut directories = Vec::new(alloc);
-    for _ in 0..PLACES {
-        directories.push(directory(rt, &never))?;
-    }
     let config = Config {
         schema: &schema,
         manager: &manager,
@@ -58,25 +101,22 @@ fn serve<'a, R: Net<Listener = TcpListener, Stream = TcpStream> + Threads + Wait
         restarts: 1,
         session: 0,
     };
-    let _directories = serve_all(rt, alloc, from, directories, &config)?;
+    let leaves = [AtomicBool::new(false)];
+    let terms = Terms {
+        config,
+        sessions,
+        seats: SEATS,
+        leaves: &leaves,
+    };
+    let mut seats = Vec::new(alloc);
+    for _ in 0..SEATS {
+        seats.push(directory(rt, &counts.left))?;
+    }
+    let mut updates = Vec::new(alloc);
+    updates.push((0, directory(rt, &counts.left)))?;
+    let hall = Hall::new(rt, alloc, door, counts, terms)?;
+    serve_sessions(&hall, listener, seats, updates)?;
     Ok(())
-}
-
-/// Takes clients and serves them until the door is closed.
-fn run<'a, R: Net<Listener = TcpListener, Stream = TcpStream> + Threads + Wait + Clock + Sync>(
-    rt: &'a R,
-    alloc: Global,
-    listener: &TcpListener,
-    door: &'a Door,
-) -> Result<(), Fail> {
-    let (to, from): (Sender<(u64, Client<'a, R>)>, Receiver<(u64, Client<'a, R>)>) =
-        crossbeam_channel::bounded(alloc, 4)?;
-    let (served, ()) = thread::join(
-        rt,
-        || serve(rt, alloc, from),
-        || accept_all(rt, alloc, listener, door, to),
-    );
-    served
 }
 
 /// Whether a client's bind is answered.
@@ -126,10 +166,11 @@ fn and_close<R: Net<Stream = TcpStream>, T>(rt: &R, door: &Door, at: SocketAddr,
 fn a_client_that_stops_inside_a_message_is_closed(rt: HostRuntime) -> Result<(), Fail> {
     let listener = TcpListener::bind(&rt, "127.0.0.1:0")?;
     let at = listener.local_addr()?;
-    let door = Door::new(limits(50, 50_000));
+    let door = Door::new(limits(50));
+    let counts = counts(&rt);
     let (ended, (closed, bound)) = thread::join(
         &rt,
-        || run(&rt, rt.alloc(), &listener, &door),
+        || run(&rt, rt.alloc(), &listener, &door, &counts, 8),
         || {
             let closed = is_closed(&rt, at, &BIND[..20]);
             and_close(&rt, &door, at, (closed, is_bound(&rt, at)))
@@ -137,6 +178,7 @@ fn a_client_that_stops_inside_a_message_is_closed(rt: HostRuntime) -> Result<(),
     );
     ended?;
     assert!(rt; closed? && bound?);
+    assert_eq!(rt; counts.failed.load(Ordering::SeqCst), 1);
     Ok(())
 }
 
@@ -144,14 +186,16 @@ fn a_client_that_stops_inside_a_message_is_closed(rt: HostRuntime) -> Result<(),
 fn silent_clients_give_their_places_up(rt: HostRuntime) -> Result<(), Fail> {
     let listener = TcpListener::bind(&rt, "127.0.0.1:0")?;
     let at = listener.local_addr()?;
-    let door = Door::new(limits(50_000, 50));
+    let door = Door::new(limits(50_000));
+    let counts = counts(&rt);
     let (ended, bound) = thread::join(
         &rt,
-        || run(&rt, rt.alloc(), &listener, &door),
-        || { and_close(&rt, &door, at, bound_among(&rt, rt.alloc(), at, PLACES)) },
+        || run(&rt, rt.alloc(), &listener, &door, &counts, 2),
+        || { and_close(&rt, &door, at, bound_among(&rt, rt.alloc(), at, 2)) },
     );
     ended?;
     assert!(rt; bound?);
+    assert_eq!(rt; counts.let_go.load(Ordering::SeqCst), 1);
     Ok(())
 }
 
@@ -159,10 +203,11 @@ fn silent_clients_give_their_places_up(rt: HostRuntime) -> Result<(), Fail> {
 fn a_crowd_leaves_the_server_alive(rt: HostRuntime) -> Result<(), Fail> {
     let listener = TcpListener::bind(&rt, "127.0.0.1:0")?;
     let at = listener.local_addr()?;
-    let door = Door::new(limits(50_000, 10));
+    let door = Door::new(limits(50_000));
+    let counts = counts(&rt);
     let (ended, bound) = thread::join(
         &rt,
-        || run(&rt, rt.alloc(), &listener, &door),
+        || run(&rt, rt.alloc(), &listener, &door, &counts, 2),
         || { and_close(&rt, &door, at, bound_among(&rt, rt.alloc(), at, CROWD)) },
     );
     ended?;
@@ -170,63 +215,37 @@ fn a_crowd_leaves_the_server_alive(rt: HostRuntime) -> Result<(), Fail> {
     Ok(())
 }
 
-/// How many octets the answer of a test has that is taken slowly.
-const LONG_ANSWER: usize = 67_108_864;
-
-/// Takes 65,536 octets every 100 milliseconds, up to the end of the stream, but for no longer than 40 seconds.
-fn take_slowly<R: Net<Stream = TcpStream> + Clock>(
-    rt: &R,
-    alloc: Global,
-    at: SocketAddr,
-) -> io::Result<()> {
+/// A client that asks for an update, and closes its stream with its answer to the bind unread, which resets it; then another's update is answered.
+fn leave_and_update<R: Net<Stream = TcpStream> + Clock>(rt: &R, at: SocketAddr) -> io::Result<bool> {
+    let mut leaver = TcpStream::connect(rt, at)?;
+    leaver.write_all(BIND)?;
+    leaver.write_all(DELETE)?;
+    thread::sleep(rt, Duration::from_millis(300));
+    drop(leaver);
     let mut stream = TcpStream::connect(rt, at)?;
-    let mut piece = Vec::new(alloc);
-    piece.resize(65_536, 0u8)?;
-    for _ in 0..400 {
-        thread::sleep(rt, Duration::from_millis(100));
-        if matches!(stream.read(&mut piece), Ok(0) | Err(_)) {
-            break;
-        }
-    }
-    Ok(())
-}
-
-/// Writes a long answer to the next client, and gives how long it took until that failed, in milliseconds; 0, where it didn't.
-fn write_until_it_fails<R: Wait + Clock + Sync>(
-    rt: &R,
-    alloc: Global,
-    listener: &TcpListener,
-    door: &Door,
-) -> io::Result<u128> {
-    let (socket, _) = listener.accept()?;
-    let mut client = Client::arrive(rt, alloc, door, socket)?;
-    let mut answer = Vec::new(alloc);
-    answer.resize(LONG_ANSWER, 0u8)?;
-    let begin = Instant::now(rt)?;
-    let (_, writer) = client.ends();
-    if writer.write_all(&answer).is_ok() {
-        return Ok(0);
-    }
-    Ok(Instant::now(rt)?.saturating_duration_since(begin).as_millis())
+    stream.set_read_timeout(Some(Duration::from_secs(10)))?;
+    stream.write_all(BIND)?;
+    stream.write_all(DELETE)?;
+    let mut answers = [0u8; 15];
+    stream.read_exact(&mut answers)?;
+    Ok(true)
 }
 
 #[test]
-fn a_client_that_takes_its_answer_too_slowly_is_sent_away(rt: HostRuntime) -> Result<(), Fail> {
+fn an_update_whose_client_is_gone_holds_no_thread(rt: HostRuntime) -> Result<(), Fail> {
     let listener = TcpListener::bind(&rt, "127.0.0.1:0")?;
     let at = listener.local_addr()?;
-    let door = Door::new(Limits {
-        message: Duration::from_secs(50),
-        idle: Duration::from_secs(50),
-        write: Duration::from_millis(300),
-    });
-    let (failed, taken) = thread::join(
+    let door = Door::new(limits(50_000));
+    let counts = counts(&rt);
+    let (ended, answered) = thread::join(
         &rt,
-        || write_until_it_fails(&rt, rt.alloc(), &listener, &door),
-        || take_slowly(&rt, rt.alloc(), at),
+        || run(&rt, rt.alloc(), &listener, &door, &counts, 8),
+        || { and_close(&rt, &door, at, leave_and_update(&rt, at)) },
     );
-    taken?;
-    let failed = failed?;
-    assert!(rt; 300 <= failed && failed < 20_000, "{failed} ms");
+    ended?;
+    assert!(rt; answered?);
+    assert!(rt; counts.left.has_come(&rt));
+    assert!(rt; counts.failed.load(Ordering::SeqCst) >= 1);
     Ok(())
 }
 
@@ -251,7 +270,7 @@ fn closing_takes_no_longer_than_a_second_where_nobody_listens(rt: HostRuntime) -
     let listener = TcpListener::bind(&rt, "127.0.0.1:0")?;
     let at = listener.local_addr()?;
     let _waiting = fill(&rt, rt.alloc(), at)?;
-    let door = Door::new(limits(50, 50));
+    let door = Door::new(limits(50));
     let begin = Instant::now(&rt)?;
     close(&rt, &door, at);
     let took = Instant::now(&rt)?.saturating_duration_since(begin).as_millis();

@@ -2,7 +2,7 @@
 
 use crate::threads::signal::Signal;
 use peer_link::{
-    Bytes, Dial, FrameEnd, Framing, Outbox, SocketDialer, read_head, read_rest, send_all,
+    Address, Bytes, Dial, FrameEnd, Framing, Outbox, SocketDialer, read_head, read_rest, send_all,
 };
 use std::alloc::{AllocError, Global};
 use std::io::Write;
@@ -127,7 +127,7 @@ fn a_closed_link_is_made_again(rt: HostRuntime) -> Result<(), Fail> {
         &rt,
         || and_stop(&rt, &outbox, take_two(&rt, rt.alloc(), &listener, &outbox)),
         || {
-            let mut dialer = SocketDialer::new(&rt, at, Duration::from_secs(5));
+            let mut dialer = SocketDialer::new(&rt, Address::Numbers(at), Duration::from_secs(5));
             send_all(&rt, &outbox, &mut AsTheyAre { next: None }, &mut dialer);
         },
     );
@@ -147,7 +147,7 @@ fn an_idle_link_that_was_closed_loses_no_frame(rt: HostRuntime) -> Result<(), Fa
         &rt,
         || and_stop(&rt, &outbox, take_late(&rt, rt.alloc(), &listener, &outbox)),
         || {
-            let mut dialer = SocketDialer::new(&rt, at, Duration::from_secs(5));
+            let mut dialer = SocketDialer::new(&rt, Address::Numbers(at), Duration::from_secs(5));
             send_all(&rt, &outbox, &mut AsTheyAre { next: None }, &mut dialer);
         },
     );

@@ -8,7 +8,9 @@ use hex::decode;
 use ldap_session::{Config, Name};
 use replica_greeting::{Terms, greeting};
 use schema_reader::built_in_schema;
-use server_threads::{Choices, Engine, Figures, Place, Role, Rooms, Server, ServerError, make_rooms};
+use server_threads::{
+    Address, Choices, Engine, Figures, Logs, Place, Role, Rooms, Server, ServerError, make_rooms,
+};
 use std::alloc::Global;
 use std::io::{self, ErrorKind, Read, Write};
 use std::net::{Net, SocketAddr, TcpListener, TcpStream};
@@ -47,7 +49,13 @@ fn choices() -> Choices {
     Choices {
         limits: Limits::usual(),
         terms: terms(None),
+        updates: 1,
         metrics: None,
+        logs: Logs {
+            connections: false,
+            updates: false,
+            slow: 10_000,
+        },
     }
 }
 
@@ -75,6 +83,12 @@ impl<'a, R: Wait + Clock> Engine for Ear<'a, R> {
         Ok(())
     }
 
+    fn drive(&self) -> Result<(), ServerError> {
+        Ok(())
+    }
+
+    fn look_again(&self) {}
+
     fn figures(&self) -> Figures {
         Figures {
             role: Role::Recovering,
@@ -90,17 +104,19 @@ impl<'a, R: Wait + Clock> Engine for Ear<'a, R> {
 }
 
 /// Where two replicas of these tests are found: this one anywhere, the other nowhere.
-fn places() -> [Place; 2] {
-    let anywhere = SocketAddr::from(([127, 0, 0, 1], 0));
-    let nowhere = SocketAddr::from(([127, 0, 0, 1], 1));
+fn places() -> [Place<'static>; 2] {
+    let anywhere = Address::Numbers(SocketAddr::from(([127, 0, 0, 1], 0)));
+    let nowhere = Address::Numbers(SocketAddr::from(([127, 0, 0, 1], 1)));
     [
         Place {
             peer_address: anywhere,
             ldap_address: anywhere,
+            uri: None,
         },
         Place {
             peer_address: nowhere,
             ldap_address: nowhere,
+            uri: None,
         },
     ]
 }
@@ -124,6 +140,7 @@ fn run<R: Net<Listener = TcpListener, Stream = TcpStream> + Threads + Wait + Clo
         session: 0,
     };
     let ways: Vec<(NoReads, Holding<'_, R>)> = Vec::new(alloc);
+    let gates: Vec<(usize, (NoReads, Holding<'_, R>))> = Vec::new(alloc);
     let server = Server {
         rt,
         alloc,
@@ -132,7 +149,7 @@ fn run<R: Net<Listener = TcpListener, Stream = TcpStream> + Threads + Wait + Clo
         cluster,
         places: &places(),
     };
-    server.run(ways, 1, &config)?;
+    server.run(ways, gates, 1, &config)?;
     Ok(())
 }
 

@@ -60,7 +60,7 @@ fn say_all<R: Wait + Clock>(
 
 #[test]
 fn nobody_waits_for_standard_error_and_no_line_goes_uncounted(rt: HostRuntime) -> Result<(), Fail> {
-    let reporter = Reporter::new(rt.alloc())?;
+    let reporter = Reporter::new(rt.alloc(), 128)?;
     let (entered, free) = (Signal::new(), Signal::new());
     let written = Mutex::new(Vec::new(rt.alloc()));
     let ((), has_entered) = thread::join(
@@ -126,7 +126,7 @@ fn terms_under(suffix: &str) -> Terms {
 #[test]
 fn a_greeting_tells_the_terms(rt: HostRuntime) -> Result<(), Fail> {
     let cluster = Cluster::new(9).expect(&rt, "9 is the number of a cluster");
-    let reporter = Reporter::new(rt.alloc())?;
+    let reporter = Reporter::new(rt.alloc(), 128)?;
     let terms = terms_under("dc=example,dc=com");
     let mut frames = MessageFrames::new(&rt, rt.alloc(), &reporter, cluster, 0, terms, 1);
     let greeting = frames.greeting().expect(&rt, "there is memory");
