@@ -1,8 +1,8 @@
 -- Sessions in turn, and the one talk that they are.
 use Rattle.std.specs.Prelude.{ℕ, [], ◌++◌}
-use Rattle.ldap_session.specs.session_talk.Talk.{Exchange, ends}
-use Rattle.ldap_session.proofs.session_talk.Talks.{talks_join}
-use Rattle.ldap_session.specs.session_rules.Session.{ConfigValue}
+use Rattle.ldap_session.specs.directory_api.Talk.{Exchange, ends}
+use Rattle.ldap_session.proofs.directory_api.Talks.{talks_join}
+use Rattle.ldap_session.specs.session_handler.Session.{ConfigValue}
 use Rattle.client_link.specs.Served.{HasServed, none, one_more, HasServedSome, GoesAlong, config_of}
 
 pub none_served : {D T : Type 0} (allows : D → Exchange T → D → Type 0) (c : ConfigValue) (d : D) → HasServedSome allows c d d

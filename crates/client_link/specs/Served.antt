@@ -1,12 +1,12 @@
 -- Sessions that one directory served, one after the other. The directory before and after and what the sessions share flow in; whose sessions
 -- they were flows out. Threads and channels are not here.
 use Rattle.std.specs.Prelude.{ℕ, List, [], ◌∷◌, ◌++◌}
-use Rattle.ldap_session.specs.session_talk.Talk.{Exchange, Along}
-use Rattle.ldap_session.specs.session_rules.ldap_msg.Messages.{MessageValue}
-use Rattle.ldap_session.specs.session_rules.Session.{ConfigValue, at_first}
-use Rattle.ldap_session.specs.session_rules.Turns.{Session}
-use Rattle.ldap_session.specs.session_rules.declared.state.State.{State}
-use Rattle.ldap_session.specs.session_rules.declared.answered.Next.{Next}
+use Rattle.ldap_session.specs.directory_api.Talk.{Exchange, Along}
+use Rattle.ldap_session.specs.session_handler.ldap_msg.Messages.{MessageValue}
+use Rattle.ldap_session.specs.session_handler.Session.{ConfigValue, at_first}
+use Rattle.ldap_session.specs.session_handler.Turns.{Session}
+use Rattle.ldap_session.specs.session_handler.declared.state.State.{State}
+use Rattle.ldap_session.specs.session_handler.declared.answered.Next.{Next}
 
 -- what the sessions of a server share, for the session of this number
 abbrev pub config_of : ConfigValue → ℕ → ConfigValue

@@ -2,7 +2,7 @@
 //! not here.
 ghost use Rattle.std.specs.Prelude.{◌≡◌, ℕ, ◌<◌, IfOk, vec_len, length, slice_index_or};
 ghost use denote.Param.Send.{IsSend, IsSync};
-ghost use Rattle.ldap_session.specs.session_rules.View.{config_view};
+ghost use Rattle.ldap_session.specs.session_handler.View.{config_view};
 ghost use Rattle.client_link.specs.Served.{HasServed, HasServedSome, config_of};
 
 use crate::connection::Connection;

@@ -1,17 +1,17 @@
 -- Success shows exactly what was asked for. The definition of answers flows in; the plain sentence on it flows out.
 use Rattle.std.proofs.Common.{◌≡◌, ℕ, suc, arith, List, [], ◌∷◌, map, filter, length, take, nat_lt, Bool, true, false, cond, ◌&&◌, inl, inr, Option, Some, refl, sym, ap, ◌∙◌, subst, true≢false}
 use Rattle.std.proofs.lemmas.Bool.{and_from, and_parts}
-use Rattle.dir_executed.specs.dir_store.ldap_dn.Names.{RdnModel, rdns}
-use Rattle.dir_executed.specs.dir_store.ldap_dn.Texts.{name_of_text}
-use Rattle.dir_search.specs.dir_kept.Directory.{Directory, NamedEntry}
-use Rattle.dir_executed.specs.dir_store.Order.{NumbersAbove, NumbersAreRising}
-use Rattle.dir_executed.specs.dir_store.Updates.{directory_of}
-use Rattle.dir_search.specs.dir_kept.Replies.{not_found}
-use Rattle.dir_search.specs.session_talk.Answers.{only}
-use Rattle.dir_executed.proofs.dir_store.Rises.{entries_rise}
+use Rattle.state_machine.specs.dir_store.ldap_dn.Names.{RdnModel, rdns}
+use Rattle.state_machine.specs.dir_store.ldap_dn.Texts.{name_of_text}
+use Rattle.dir_search.specs.indexed_tree.Directory.{Directory, NamedEntry}
+use Rattle.state_machine.specs.dir_store.Order.{NumbersAbove, NumbersAreRising}
+use Rattle.state_machine.specs.dir_store.Updates.{directory_of}
+use Rattle.dir_search.specs.indexed_tree.Replies.{not_found}
+use Rattle.dir_search.specs.directory_api.Answers.{only}
+use Rattle.state_machine.proofs.dir_store.Rises.{entries_rise}
 use Rattle.dir_search.specs.ldap_msg.Messages.{SearchRequestValue, SearchResultEntryValue}
 use Rattle.dir_search.specs.Answer.{answer_of, found_at, limited, matching, dse_matching, in_scope, is_match, is_subordinate, stands}
-use Rattle.dir_search.specs.session_talk.Answers.{Answer, refused}
+use Rattle.dir_search.specs.directory_api.Answers.{Answer, refused}
 use Rattle.dir_lab.specs.Exact.{IsAmong, AreExactly, is_of_root_dse, SuccessIsExact}
 use Rattle.dir_search.specs.Scopes.{is_in_scope}
 use Rattle.dir_search.specs.Selection.{selected}

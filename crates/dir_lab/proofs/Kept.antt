@@ -5,14 +5,14 @@ use Rattle.std.proofs.lemmas.Bool.{cases_lt}
 use Rattle.std.proofs.lemmas.List.{length-set}
 use Rattle.std.proofs.lemmas.Option.{slice_get_past, slice_get-get_or}
 use Rattle.vr_state.specs.State.{State}
-use Rattle.vr_state.specs.Words.{Entry}
+use Rattle.vr_state.specs.Words.{LogEntry}
 use Rattle.vr_world.specs.Cluster.{up_state, world}
 use Rattle.vr_world.specs.World.{World}
 use Rattle.vr_world.specs.declared.cluster.Cluster.{Cluster}
-use Rattle.dir_executed.specs.Executing.{ExecutedValue}
-use Rattle.dir_executed.specs.dir_store.ldap_schema.Schema.{SchemaModel}
-use Rattle.dir_executed.specs.dir_store.ldap_dn.Names.{RdnModel}
-use Rattle.dir_executed.specs.dir_store.ldap_op.Values.{OpValue}
+use Rattle.state_machine.specs.Executing.{ExecutedValue}
+use Rattle.state_machine.specs.dir_store.ldap_schema.Schema.{SchemaModel}
+use Rattle.state_machine.specs.dir_store.ldap_dn.Names.{RdnModel}
+use Rattle.state_machine.specs.dir_store.ldap_op.Values.{OpValue}
 use Rattle.dir_lab.specs.Executions.{records_of, records_in, records_by, caught_up, all_caught_up, IsOver, AreOver, IsAdvancedAt}
 
 -- what is written is there,
@@ -85,7 +85,7 @@ up_to_all cluster old new k end kept up u = λ t. λ j. each j (cases_lt j clust
         ∙ sym (ap (λ (o : Option (State OpValue)). caught_up (records_by old j) o) (ap up_state (slice_get_past cluster.up.items j (omega (arith, up, le)))))
 
 -- nothing is kept at first
-pub none_by : (n : ℕ) (kept : List (Option ExecutedValue)) → kept ≡ replicate n None → ◌≡◌ {A = ℕ → List (Entry OpValue)} (records_by kept) (λ i. [])
+pub none_by : (n : ℕ) (kept : List (Option ExecutedValue)) → kept ≡ replicate n None → ◌≡◌ {A = ℕ → List (LogEntry OpValue)} (records_by kept) (λ i. [])
 none_by n kept e = λ t. λ i. (ap (λ (l : List (Option ExecutedValue)). records_by l i) e ∙ each n i) t
   where
     each : (n i : ℕ) → records_by (replicate n None) i ≡ []

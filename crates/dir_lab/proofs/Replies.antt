@@ -7,7 +7,7 @@ use Rattle.std.proofs.lemmas.List.{reverse-append, length-reverse, map-append}
 use Rattle.vr_state.proofs.Laws.{prefix_refl, prefix_trans, prefix_length}
 use Rattle.vr_state.specs.Lists.{IsPrefix, In, IsNamedIn}
 use Rattle.vr_state.specs.State.{State, is_recovering}
-use Rattle.vr_state.specs.Words.{Entry}
+use Rattle.vr_state.specs.Words.{LogEntry}
 use Rattle.vr_world.specs.Committed.{committed}
 use Rattle.vr_world.specs.Law.{IsSize, IsExecuted, GivenSince}
 use Rattle.vr_world.specs.World.{World, start, after, happens}
@@ -16,13 +16,13 @@ use Rattle.vr_world.specs.declared.words.ReplyBy.{ReplyBy}
 use Rattle.vr_world.proofs.Laws.{committed_grows, replicas_agree, replies_are_executed, run-append}
 use Rattle.dir_search.specs.ldap_msg.Messages.{SearchRequestValue}
 use Rattle.dir_search.specs.ldap_msg.View.{search_view}
-use Rattle.dir_executed.specs.Executing.{ops_of}
-use Rattle.dir_executed.specs.dir_store.ldap_schema.Schema.{SchemaModel}
-use Rattle.dir_executed.specs.dir_store.ldap_dn.Names.{RdnModel}
-use Rattle.dir_executed.specs.dir_store.ldap_op.Values.{OpValue}
-use Rattle.dir_executed.specs.dir_kept.Directory.{Directory}
-use Rattle.dir_executed.specs.dir_store.Updates.{applied, directory_after, directory_of, empty_directory, replies_after, replies_of}
-use Rattle.dir_executed.proofs.dir_store.Joins.{replies_join}
+use Rattle.state_machine.specs.Executing.{ops_of}
+use Rattle.state_machine.specs.dir_store.ldap_schema.Schema.{SchemaModel}
+use Rattle.state_machine.specs.dir_store.ldap_dn.Names.{RdnModel}
+use Rattle.state_machine.specs.dir_store.ldap_op.Values.{OpValue}
+use Rattle.state_machine.specs.indexed_tree.Directory.{Directory}
+use Rattle.state_machine.specs.dir_store.Updates.{applied, directory_after, directory_of, empty_directory, replies_after, replies_of}
+use Rattle.state_machine.proofs.dir_store.Joins.{replies_join}
 use Rattle.dir_search.specs.Answer.{answer}
 use Rattle.dir_lab.specs.Headline.{committed_by, IsReplyOf, RepliesAreOfCommitted}
 use Rattle.dir_lab.specs.Schedule.{happenings, executed, executions, found, told, given_since, shown_by, shown_from}
@@ -56,13 +56,13 @@ fine_both Is [] ys h k = k
 fine_both Is (x ∷ xs) ys h k = (h.0, fine_both Is xs ys h.1 k)
 
 -- replies that are told
-fine_told : (Is : ReplyBy → ℕ → Type 0) (s : SchemaModel) (root : List RdnModel) (records : ℕ → List (Entry OpValue)) (ts : List ReplyBy)
+fine_told : (Is : ReplyBy → ℕ → Type 0) (s : SchemaModel) (root : List RdnModel) (records : ℕ → List (LogEntry OpValue)) (ts : List ReplyBy)
     → ((t : ReplyBy) → In t ts → Fine Is (told s root records t)) → AllFine Is (map (told s root records) ts)
 fine_told Is s root records [] h = tt
 fine_told Is s root records (t ∷ ts) h = (h t (inl refl), fine_told Is s root records ts (λ u i. h u (inr i)))
 
 -- what a search shows is no reply,
-fine_found : (Is : ReplyBy → ℕ → Type 0) (s : SchemaModel) (root : List RdnModel) (records : List (Entry OpValue)) (named : ℕ) (q : SearchRequestValue) (o : Option (State OpValue)) → Fine Is (found s root records named q o)
+fine_found : (Is : ReplyBy → ℕ → Type 0) (s : SchemaModel) (root : List RdnModel) (records : List (LogEntry OpValue)) (named : ℕ) (q : SearchRequestValue) (o : Option (State OpValue)) → Fine Is (found s root records named q o)
 fine_found Is s root records named q None = tt
 fine_found Is s root records named q (Some r) = by (is_recovering r.status) (nat_lt r.commit_number named)
   where
@@ -124,22 +124,22 @@ replies_length : (d : Directory) (n : ℕ) (ops : List OpValue) → length (repl
 replies_length d n [] = refl
 replies_length d n (u ∷ ops) = ap suc (replies_length (applied d (n + 1) u) (n + 1) ops)
 
-ops_length : (es : List (Entry OpValue)) → length (ops_of es) ≡ length es
+ops_length : (es : List (LogEntry OpValue)) → length (ops_of es) ≡ length es
 ops_length [] = refl
 ops_length (e ∷ es) = ap suc (ops_length es)
 
 -- the place of a record that is named
-place : (t : ReplyBy) (records : List (Entry OpValue)) → IsNamedIn t.reply records → t.reply.op_number - 1 < length records
+place : (t : ReplyBy) (records : List (LogEntry OpValue)) → IsNamedIn t.reply records → t.reply.op_number - 1 < length records
 place t records h =
     omega (arith, h.at.op_number, prefix_length h.at.within, length-append h.at.front (h.entry ∷ []))
 
 -- a reply over a beginning of what is committed
-module _ (s : SchemaModel) (root : List RdnModel) (all : List (Entry OpValue)) (t : ReplyBy) (records : List (Entry OpValue)) (begins : IsPrefix records all) (named : IsNamedIn t.reply records) where
+module _ (s : SchemaModel) (root : List RdnModel) (all : List (LogEntry OpValue)) (t : ReplyBy) (records : List (LogEntry OpValue)) (begins : IsPrefix records all) (named : IsNamedIn t.reply records) where
   -- the replies to all go on from those to the beginning
   goes_on : replies_of s root (ops_of all) ≡ replies_of s root (ops_of records) ++ replies_after (directory_after (empty_directory s root) 0 (ops_of records)) (0 + length (ops_of records)) (ops_of begins.rest)
   goes_on =
-      ap (λ (l : List (Entry OpValue)). replies_of s root (ops_of l)) (sym begins.is)
-      ∙ ap (λ l. replies_of s root l) (map-append (λ (e : Entry OpValue). e.payload) records begins.rest)
+      ap (λ (l : List (LogEntry OpValue)). replies_of s root (ops_of l)) (sym begins.is)
+      ∙ ap (λ l. replies_of s root l) (map-append (λ (e : LogEntry OpValue). e.payload) records begins.rest)
       ∙ replies_join (empty_directory s root) 0 (ops_of records) (ops_of begins.rest)
 
   -- so its code is that of the reply to the record at its place
@@ -154,7 +154,7 @@ module _ (s : SchemaModel) (root : List RdnModel) (all : List (Entry OpValue)) (
         code = ap code_or_other found.1;
       }
 
-module _ (s : SchemaModel) (root : List RdnModel) (n : ℕ) (size : IsSize n) (all : List (Entry OpValue)) where
+module _ (s : SchemaModel) (root : List RdnModel) (n : ℕ) (size : IsSize n) (all : List (LogEntry OpValue)) where
   -- the replies of one event
   fine_event : (past : List (WorldEvent OpValue)) (e : WorldEvent OpValue) → IsPrefix (committed n (happens n (after n past) e).messages) all
       → AllFine (IsReplyOf s root all) (map (told s root (executions (happens n (after n past) e))) (given_since (after n past) (happens n (after n past) e)))
@@ -174,7 +174,7 @@ module _ (s : SchemaModel) (root : List RdnModel) (n : ℕ) (size : IsSize n) (a
       same = run-append n past (e ∷ []) (start n)
 
       one : (t : ReplyBy) → IsExecuted new t → IsReplyOf s root all t (code_at (replies_of s root (ops_of (executions new t.replica))) t.reply.op_number)
-      one t x = subst (λ (l : List (Entry OpValue)). IsReplyOf s root all t (code_at (replies_of s root (ops_of l)) t.reply.op_number)) (sym (ap executed x.up))
+      one t x = subst (λ (l : List (LogEntry OpValue)). IsReplyOf s root all t (code_at (replies_of s root (ops_of l)) t.reply.op_number)) (sym (ap executed x.up))
           (of_all s root all t (take x.replica.commit_number x.replica.log)
           (prefix_trans (subst (λ (w : World OpValue). IsPrefix (take x.replica.commit_number x.replica.log) (committed n w.messages)) same
           (replicas_agree n size (past ++ e ∷ []) t.replica x.replica (subst (λ (w : World OpValue). w.replicas t.replica ≡ Some x.replica) (sym same) x.up))) begins) x.named)

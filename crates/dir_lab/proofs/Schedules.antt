@@ -1,14 +1,14 @@
 -- A whole schedule. What one event keeps flows in; that a lab shows what the definition of a schedule has flows out, and how what is shown is cut.
 use Rattle.std.proofs.lemmas.List.{map-append}
 use Rattle.std.proofs.Common.{◌≡◌, ℕ, Bool, true, cond, map, List, [], ◌∷◌, ◌++◌, refl, sym, ap, ap₂, ◌∙◌, subst, append_assoc, append-nil}
-use Rattle.vr_state.specs.Words.{Entry}
+use Rattle.vr_state.specs.Words.{LogEntry}
 use Rattle.vr_world.specs.Law.{IsSize}
 use Rattle.vr_world.specs.World.{World, run, after, happens}
 use Rattle.vr_world.specs.declared.events.WorldEvent.{WorldEvent}
 use Rattle.vr_world.proofs.Laws.{run-append}
-use Rattle.dir_executed.specs.dir_store.ldap_schema.Schema.{SchemaModel}
-use Rattle.dir_executed.specs.dir_store.ldap_dn.Names.{RdnModel}
-use Rattle.dir_executed.specs.dir_store.ldap_op.Values.{OpValue}
+use Rattle.state_machine.specs.dir_store.ldap_schema.Schema.{SchemaModel}
+use Rattle.state_machine.specs.dir_store.ldap_dn.Names.{RdnModel}
+use Rattle.state_machine.specs.dir_store.ldap_op.Values.{OpValue}
 use Rattle.dir_lab.specs.Executions.{all_caught_up, played_from, played}
 use Rattle.dir_lab.specs.Schedule.{happening, happenings, executions, shown_at, shown_from, shown_by}
 use Rattle.dir_lab.specs.Shown.{Shown, shown_view}
@@ -19,7 +19,7 @@ use Rattle.dir_lab.proofs.Steps.{kept_on, kept_first, one_more}
 
 module _ (s : SchemaModel) (root : List RdnModel) (n : ℕ) (size : IsSize n) where
   -- from the world after some events on
-  played_is : (past : List (WorldEvent OpValue)) (es : List LabEvent) (records : ℕ → List (Entry OpValue)) → records ≡ executions (after n past)
+  played_is : (past : List (WorldEvent OpValue)) (es : List LabEvent) (records : ℕ → List (LogEntry OpValue)) → records ≡ executions (after n past)
       → played_from s root n es (after n past) records ≡ shown_from s root n es (after n past)
   played_is past [] records h = refl
   played_is past (Happens e ∷ es) records h =
@@ -56,7 +56,7 @@ shown-append s root n (e ∷ es) more w =
     here = shown_at s root n (executions (run n (happening e) w)) w (run n (happening e) w) e
 
 -- At the end all is shown.
-pub shown_all : (s : SchemaModel) (root : List RdnModel) (n : ℕ) (rest : List LabEvent) (w : World OpValue) (records : ℕ → List (Entry OpValue)) (xs all : List Shown)
+pub shown_all : (s : SchemaModel) (root : List RdnModel) (n : ℕ) (rest : List LabEvent) (w : World OpValue) (records : ℕ → List (LogEntry OpValue)) (xs all : List Shown)
     → xs ++ played_from s root n rest w records ≡ all → rest ≡ [] → xs ≡ all
 shown_all s root n rest w records xs all h none = sym (append-nil xs) ∙ ap (λ (l : List LabEvent). xs ++ played_from s root n l w records) (sym none) ∙ h
 

@@ -11,11 +11,11 @@ use Rattle.vr_world.specs.declared.events.WorldEvent.{WorldEvent}
 use Rattle.vr_world.proofs.Laws.{committed_grows, commits_are_held, replicas_agree}
 use Rattle.dir_search.specs.ldap_msg.Messages.{SearchRequestValue}
 use Rattle.dir_search.specs.ldap_msg.View.{search_view}
-use Rattle.dir_executed.specs.Executing.{ops_of}
-use Rattle.dir_executed.specs.dir_store.ldap_schema.Schema.{SchemaModel}
-use Rattle.dir_executed.specs.dir_store.ldap_dn.Names.{RdnModel}
-use Rattle.dir_executed.specs.dir_store.ldap_op.Values.{OpValue}
-use Rattle.dir_executed.specs.dir_store.Updates.{directory_of}
+use Rattle.state_machine.specs.Executing.{ops_of}
+use Rattle.state_machine.specs.dir_store.ldap_schema.Schema.{SchemaModel}
+use Rattle.state_machine.specs.dir_store.ldap_dn.Names.{RdnModel}
+use Rattle.state_machine.specs.dir_store.ldap_op.Values.{OpValue}
+use Rattle.state_machine.specs.dir_store.Updates.{directory_of}
 use Rattle.dir_search.specs.Answer.{answer}
 use Rattle.dir_lab.proofs.Exact.{success_is_exact}
 use Rattle.dir_lab.specs.Headline.{committed_by, IsAway, IsAnswerAt, IsTold, SearchesAreTold}

@@ -4,12 +4,12 @@ use Rattle.std.proofs.Common.{◌≡◌, ℕ, nat_lt, Bool, true, false, cond, L
 use Rattle.std.proofs.Math.Seq.{drop-append_seam}
 use Rattle.vr_state.specs.Lists.{IsPrefix}
 use Rattle.vr_state.specs.State.{State, first}
-use Rattle.vr_state.specs.Words.{Entry}
+use Rattle.vr_state.specs.Words.{LogEntry}
 use Rattle.vr_world.specs.Law.{IsSize}
 use Rattle.vr_world.specs.World.{World, happens, start, after}
 use Rattle.vr_world.specs.declared.events.WorldEvent.{WorldEvent}
 use Rattle.vr_world.proofs.Laws.{steps_keep, run-append}
-use Rattle.dir_executed.specs.dir_store.ldap_op.Values.{OpValue}
+use Rattle.state_machine.specs.dir_store.ldap_op.Values.{OpValue}
 use Rattle.dir_lab.specs.Executions.{caught_up, all_caught_up}
 use Rattle.dir_lab.specs.Schedule.{executed, executions}
 
@@ -37,7 +37,7 @@ kept_on n size es e = λ t. λ i. each i t
         (one_caught_up n size es e i ((after n es).replicas i) ((after n (es ++ e ∷ [])).replicas i) refl refl)
 
 -- Nothing is committed at the start.
-pub kept_first : (n : ℕ) → ◌≡◌ {A = ℕ → List (Entry OpValue)} (λ i. []) (executions (start n))
+pub kept_first : (n : ℕ) → ◌≡◌ {A = ℕ → List (LogEntry OpValue)} (λ i. []) (executions (start n))
 kept_first n = λ t. λ i. each (nat_lt i n) t
   where
     each : (b : Bool) → [] ≡ executed (cond b (Some (first n)) None)

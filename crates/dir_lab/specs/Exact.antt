@@ -1,16 +1,16 @@
 -- What an answer with success shows, in plain words: exactly the entries that were asked for, each once, in order of number, with just the selected
 -- attributes. A directory, a search request and its answer flow in; whether it is so flows out. How an answer is made is above.
 use Rattle.std.specs.Prelude.{◌≡◌, List, [], ◌∷◌, map, Bool, true, false, ◌&&◌, ◌⊎◌, Some}
-use Rattle.dir_executed.specs.dir_store.ldap_schema.Schema.{SchemaModel}
-use Rattle.dir_executed.specs.dir_store.ldap_dn.Names.{RdnModel, rdns}
-use Rattle.dir_executed.specs.dir_store.ldap_dn.Texts.{name_of_text}
-use Rattle.dir_executed.specs.dir_store.ldap_op.Values.{OpValue}
-use Rattle.dir_search.specs.dir_kept.Directory.{Directory, NamedEntry}
-use Rattle.dir_executed.specs.dir_store.Order.{NumbersAreRising}
-use Rattle.dir_executed.specs.dir_store.Updates.{directory_of}
+use Rattle.state_machine.specs.dir_store.ldap_schema.Schema.{SchemaModel}
+use Rattle.state_machine.specs.dir_store.ldap_dn.Names.{RdnModel, rdns}
+use Rattle.state_machine.specs.dir_store.ldap_dn.Texts.{name_of_text}
+use Rattle.state_machine.specs.dir_store.ldap_op.Values.{OpValue}
+use Rattle.dir_search.specs.indexed_tree.Directory.{Directory, NamedEntry}
+use Rattle.state_machine.specs.dir_store.Order.{NumbersAreRising}
+use Rattle.state_machine.specs.dir_store.Updates.{directory_of}
 use Rattle.dir_search.specs.ldap_msg.Messages.{SearchRequestValue, SearchResultEntryValue}
 use Rattle.dir_search.specs.Answer.{answer, is_match, is_base, is_empty}
-use Rattle.dir_search.specs.session_talk.Answers.{Answer}
+use Rattle.dir_search.specs.directory_api.Answers.{Answer}
 use Rattle.dir_search.specs.Scopes.{is_in_scope}
 use Rattle.dir_search.specs.Selection.{selected}
 

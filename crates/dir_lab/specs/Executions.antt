@@ -2,12 +2,12 @@
 -- it flow in; the lists after it, and what is shown from them, flow out. That they are what the replicas have committed is proved, and not said here.
 use Rattle.std.specs.Prelude.{◌≡◌, ◌≢◌, ℕ, List, [], ◌∷◌, ◌++◌, map, length, Option, Some, None, slice_get}
 use Rattle.vr_state.specs.State.{State}
-use Rattle.vr_state.specs.Words.{Entry}
+use Rattle.vr_state.specs.Words.{LogEntry}
 use Rattle.vr_world.specs.World.{World, run, start}
-use Rattle.dir_executed.specs.Executing.{ExecutedValue, due_after}
-use Rattle.dir_executed.specs.dir_store.ldap_schema.Schema.{SchemaModel}
-use Rattle.dir_executed.specs.dir_store.ldap_dn.Names.{RdnModel}
-use Rattle.dir_executed.specs.dir_store.ldap_op.Values.{OpValue}
+use Rattle.state_machine.specs.Executing.{ExecutedValue, due_after}
+use Rattle.state_machine.specs.dir_store.ldap_schema.Schema.{SchemaModel}
+use Rattle.state_machine.specs.dir_store.ldap_dn.Names.{RdnModel}
+use Rattle.state_machine.specs.dir_store.ldap_op.Values.{OpValue}
 use Rattle.dir_lab.specs.Shown.{Shown, shown_view}
 use Rattle.dir_lab.specs.declared.running.Running.{Running}
 use Rattle.vr_world.specs.Cluster.{world as world_of}
@@ -16,36 +16,36 @@ use Rattle.dir_lab.specs.declared.events.LabEvent.{LabEvent}
 use Rattle.dir_lab.specs.declared.events.LabEvent.TheVariants.{Happens, Search, State as Question}
 
 -- what was executed, where something is kept
-abbrev pub records_of : Option ExecutedValue → List (Entry OpValue)
+abbrev pub records_of : Option ExecutedValue → List (LogEntry OpValue)
 records_of None = []
 records_of (Some e) = e.records
 
 -- what is kept at a place
-abbrev pub records_in : Option (Option ExecutedValue) → List (Entry OpValue)
+abbrev pub records_in : Option (Option ExecutedValue) → List (LogEntry OpValue)
 records_in None = []
 records_in (Some o) = records_of o
 
 -- what is kept, by index
-abbrev pub records_by : List (Option ExecutedValue) → ℕ → List (Entry OpValue)
+abbrev pub records_by : List (Option ExecutedValue) → ℕ → List (LogEntry OpValue)
 records_by kept i = records_in (slice_get kept i)
 
 -- What was executed goes on with what a replica's log has next; where the replica is down, nothing is kept.
-abbrev pub caught_up : List (Entry OpValue) → Option (State OpValue) → List (Entry OpValue)
+abbrev pub caught_up : List (LogEntry OpValue) → Option (State OpValue) → List (LogEntry OpValue)
 caught_up done None = []
 caught_up done (Some r) = done ++ due_after (length done) r.commit_number r.log
 
 -- So at each replica of a world.
-abbrev pub all_caught_up : (ℕ → List (Entry OpValue)) → World OpValue → ℕ → List (Entry OpValue)
+abbrev pub all_caught_up : (ℕ → List (LogEntry OpValue)) → World OpValue → ℕ → List (LogEntry OpValue)
 all_caught_up records w i = caught_up (records i) (w.replicas i)
 
 -- After an event; at a question nothing is executed.
-abbrev pub moved_on : (ℕ → List (Entry OpValue)) → World OpValue → LabEvent → ℕ → List (Entry OpValue)
+abbrev pub moved_on : (ℕ → List (LogEntry OpValue)) → World OpValue → LabEvent → ℕ → List (LogEntry OpValue)
 moved_on records w (Happens e) = all_caught_up records w
 moved_on records w (Search i named q) = records
 moved_on records w (Question i) = records
 
 -- What a lab shows at all of these, from this world and these lists on.
-abbrev pub played_from : SchemaModel → List RdnModel → ℕ → List LabEvent → World OpValue → (ℕ → List (Entry OpValue)) → List Shown
+abbrev pub played_from : SchemaModel → List RdnModel → ℕ → List LabEvent → World OpValue → (ℕ → List (LogEntry OpValue)) → List Shown
 played_from s root n [] w records = []
 played_from s root n (e ∷ es) w records =
     shown_at s root n (moved_on records (run n (happening e) w) e) w (run n (happening e) w) e

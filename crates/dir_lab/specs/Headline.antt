@@ -3,7 +3,7 @@
 use Rattle.std.specs.Prelude.{◌≡◌, ℕ, ◌<◌, ◌≤◌, ◌-◌, ◌⊎◌, List, [], ◌∷◌, ◌++◌, length, take, true, false, Option, Some, None, slice_get}
 use Rattle.vr_state.specs.Lists.{IsPrefix, In, IsNamedIn, Rising}
 use Rattle.vr_state.specs.State.{State, is_recovering}
-use Rattle.vr_state.specs.Words.{Entry}
+use Rattle.vr_state.specs.Words.{LogEntry}
 use Rattle.vr_world.specs.World.{after}
 use Rattle.vr_world.specs.declared.words.ReplyBy.{ReplyBy}
 use Rattle.vr_world.specs.Committed.{IsChosen, committed}
@@ -11,14 +11,14 @@ use Rattle.vr_world.specs.Law.{IsSize}
 use Rattle.dir_search.specs.ldap_msg.Messages.{SearchRequestValue}
 use Rattle.dir_search.specs.ldap_msg.View.{search_view}
 use Rattle.dir_search.specs.ldap_msg.ldap_requests.declared.search.SearchRequest.{SearchRequest}
-use Rattle.dir_executed.specs.Executing.{ops_of}
-use Rattle.dir_executed.specs.dir_store.ldap_schema.Schema.{SchemaModel}
-use Rattle.dir_executed.specs.dir_store.ldap_dn.Names.{RdnModel}
-use Rattle.dir_executed.specs.dir_store.ldap_op.Values.{OpValue}
-use Rattle.dir_search.specs.session_talk.Answers.{ReplyModel}
-use Rattle.dir_executed.specs.dir_store.Updates.{directory_of, replies_of}
+use Rattle.state_machine.specs.Executing.{ops_of}
+use Rattle.state_machine.specs.dir_store.ldap_schema.Schema.{SchemaModel}
+use Rattle.state_machine.specs.dir_store.ldap_dn.Names.{RdnModel}
+use Rattle.state_machine.specs.dir_store.ldap_op.Values.{OpValue}
+use Rattle.dir_search.specs.directory_api.Answers.{ReplyModel}
+use Rattle.state_machine.specs.dir_store.Updates.{directory_of, replies_of}
 use Rattle.dir_search.specs.Answer.{answer}
-use Rattle.dir_search.specs.session_talk.Answers.{Answer}
+use Rattle.dir_search.specs.directory_api.Answers.{Answer}
 use Rattle.dir_lab.specs.Exact.{IsExact}
 use Rattle.dir_lab.specs.Shown.{Shown, Replied, Unavailable, NotYet, Answered}
 use Rattle.dir_lab.specs.Schedule.{happenings, shown_by}
@@ -26,7 +26,7 @@ use Rattle.dir_lab.specs.declared.events.LabEvent.{LabEvent}
 use Rattle.dir_lab.specs.declared.events.LabEvent.TheVariants.{Search}
 
 -- what is committed in the world after a schedule
-abbrev pub committed_by : ℕ → List LabEvent → List (Entry OpValue)
+abbrev pub committed_by : ℕ → List LabEvent → List (LogEntry OpValue)
 committed_by n es = committed n (after n (happenings es)).messages
 
 -- a replica that is up and not recovering
@@ -42,8 +42,8 @@ IsAway (Some r) = is_recovering r.status ≡ true
 
 -- The answer of a search over one beginning of what is committed, of this length; and where its code is success: exactly the entries in scope whose
 -- filter value is True, each once, in order of number, with just the selected attributes.
-pub record IsAnswerAt (s : SchemaModel) (root : List RdnModel) (committed : List (Entry OpValue)) (at : ℕ) (q : SearchRequestValue) (a : Answer) : Type 0 where
-  pub beginning : List (Entry OpValue)
+pub record IsAnswerAt (s : SchemaModel) (root : List RdnModel) (committed : List (LogEntry OpValue)) (at : ℕ) (q : SearchRequestValue) (a : Answer) : Type 0 where
+  pub beginning : List (LogEntry OpValue)
   pub begins : IsPrefix beginning committed
   pub counts : length beginning ≡ at
   pub answers : a ≡ answer (directory_of s root (ops_of beginning)) q
@@ -51,7 +51,7 @@ pub record IsAnswerAt (s : SchemaModel) (root : List RdnModel) (committed : List
 
 -- What is shown for a search at a replica, in the state that it has then: unavailable, where it is down or recovering; else, at its commit-number:
 -- not yet, where that is below the number that was named, and else the answer over one beginning of what is committed, of that length.
-pub record IsTold (s : SchemaModel) (root : List RdnModel) (committed : List (Entry OpValue)) (o : Option (State OpValue)) (named : ℕ) (q : SearchRequestValue)
+pub record IsTold (s : SchemaModel) (root : List RdnModel) (committed : List (LogEntry OpValue)) (o : Option (State OpValue)) (named : ℕ) (q : SearchRequestValue)
     (shown : Shown) : Type 0 where
   pub unavailable : IsAway o → shown ≡ Unavailable
   pub not_yet : (r : Answers o) → r.replica.commit_number < named → shown ≡ NotYet r.replica.commit_number
@@ -72,7 +72,7 @@ SearchesAreTold s root n es shown = IsSize n → (before behind : List LabEvent)
     → IsShownBehind (shown_by s root n before) shown (IsTold s root (committed_by n es) ((after n (happenings before)).replicas i) named (search_view q))
 
 -- a reply's code is that of the reply to the record at its place
-pub record IsReplyOf (s : SchemaModel) (root : List RdnModel) (committed : List (Entry OpValue)) (t : ReplyBy) (shown : ℕ) : Type 0 where
+pub record IsReplyOf (s : SchemaModel) (root : List RdnModel) (committed : List (LogEntry OpValue)) (t : ReplyBy) (shown : ℕ) : Type 0 where
   pub named : IsNamedIn t.reply committed
   pub reply : ReplyModel
   pub at : slice_get (replies_of s root (ops_of committed)) (t.reply.op_number - 1) ≡ Some reply
@@ -86,8 +86,8 @@ RepliesAreOfCommitted s root n es shown = IsSize n → (t : ReplyBy) (code : ℕ
 -- What is committed after a schedule is one list: it begins with each list that is chosen in any view, of which one begins with the other; it only
 -- grows; it begins with what each replica has committed, which its log has; and each client's request numbers rise along it.
 pub record CommittedIsOne (n : ℕ) (es : List LabEvent) : Type 0 where
-  pub agree : (a b : List (Entry OpValue)) → IsChosen n (after n (happenings es)).messages a → IsChosen n (after n (happenings es)).messages b → IsPrefix a b ⊎ IsPrefix b a
-  pub longest : (a : List (Entry OpValue)) → IsChosen n (after n (happenings es)).messages a → IsPrefix a (committed_by n es)
+  pub agree : (a b : List (LogEntry OpValue)) → IsChosen n (after n (happenings es)).messages a → IsChosen n (after n (happenings es)).messages b → IsPrefix a b ⊎ IsPrefix b a
+  pub longest : (a : List (LogEntry OpValue)) → IsChosen n (after n (happenings es)).messages a → IsPrefix a (committed_by n es)
   pub chosen : (committed_by n es ≡ []) ⊎ IsChosen n (after n (happenings es)).messages (committed_by n es)
   pub grows : (more : List LabEvent) → IsPrefix (committed_by n es) (committed_by n (es ++ more))
   pub replicas : (i : ℕ) (r : State OpValue) → (after n (happenings es)).replicas i ≡ Some r → IsPrefix (take r.commit_number r.log) (committed_by n es)

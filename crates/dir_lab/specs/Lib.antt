@@ -6,4 +6,4 @@ pub mod Exact
 -- what layers above name of the crates below
 pub use Rattle.vr_world.specs as vr_world
 pub use Rattle.dir_search.specs as dir_search
-pub use Rattle.dir_executed.specs as dir_executed
+pub use Rattle.state_machine.specs as state_machine

@@ -4,10 +4,10 @@ use Rattle.std.specs.Prelude.{ℕ, ◌-◌, List, length, Option, Some, None, sl
 use Rattle.vr_state.specs.State.{State}
 use Rattle.vr_state.specs.declared.words.Status.{Status}
 use Rattle.vr_world.specs.declared.words.ReplyBy.{ReplyBy}
-use Rattle.dir_search.specs.session_talk.Answers.{ReplyModel}
-use Rattle.dir_executed.specs.dir_store.ldap_op.Values.{OpValue}
-use Rattle.dir_search.specs.session_talk.Answers.{Answer}
-use Rattle.dir_search.specs.session_talk.View.{answer_view}
+use Rattle.dir_search.specs.directory_api.Answers.{ReplyModel}
+use Rattle.state_machine.specs.dir_store.ldap_op.Values.{OpValue}
+use Rattle.dir_search.specs.directory_api.Answers.{Answer}
+use Rattle.dir_search.specs.directory_api.View.{answer_view}
 use Rattle.dir_lab.specs.declared.events.LabReply.{LabReply}
 use Rattle.dir_lab.specs.declared.events.LabReply.TheVariants as lab
 

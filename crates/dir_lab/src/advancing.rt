@@ -6,7 +6,7 @@ ghost use Rattle.dir_lab.specs.Executions.{AreOver, IsAdvancedAt, all_caught_up,
 
 use crate::executions::catch_up;
 use crate::lab::Lab;
-use dir_executed::{Executed, Op};
+use state_machine::{Executed, Op};
 use std::alloc::{AllocError, Global};
 use std::mem::replace;
 use vr_world::Cluster;

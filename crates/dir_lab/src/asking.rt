@@ -5,7 +5,7 @@ ghost use Rattle.vr_state.specs.Views.{state};
 ghost use Rattle.dir_lab.specs.Shown.{shown_view, standing};
 
 use crate::events::LabReply;
-use dir_executed::Op;
+use state_machine::Op;
 use vr_state::replica::Replica;
 
 /// What is shown of the state of a replica with this index.

@@ -7,7 +7,7 @@ ghost use Rattle.vr_state.specs.Views.{state};
 ghost use Rattle.dir_lab.specs.Executions.{IsOver, caught_up, records_of};
 
 use crate::lab::Lab;
-use dir_executed::{Executed, Op, Store};
+use state_machine::{Executed, Op, Store};
 use std::alloc::{AllocError, Global};
 use std::sync::Arc;
 use vr_state::replica::Replica;

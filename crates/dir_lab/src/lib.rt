@@ -1,6 +1,15 @@
 //! A lab: replicas of a directory under every schedule. Requests, deliveries, losses, repeats, view changes, crashes, recoveries, returns over a journal
 //! and searches flow in; what real replicas answer flows out, and the sentence that all of it is for stands here, as a clause of `Lab::run`. No clock, no network and
 //! no file is here, and no text of a script.
+//!
+//! Real replicas of a directory under a schedule. After each event each replica that is up executes what it has committed (`advancing`),
+//! and replies are shown with their codes (`telling`). A search is answered from what its replica has executed (`searching`).
+//! `proofs/Steps` proves from the law that these stores are what the replicas have committed. What a schedule shows is defined from the
+//! world alone (`specs/Schedule`), its promise in `specs/Headline`.
+//!
+//! Proved, **the headline**: every search of every schedule is answered from one beginning of the committed updates. Every reply to an
+//! update is that of the committed record at its place, whatever the index choice (`Lab::run` `searches`, `replies`, `committed`, `shown`).
+//! An answer with success shows exactly what is asked for (`success_is_exact`).
 #![tactic(auto)]
 
 mod advancing;
@@ -13,10 +22,10 @@ mod running;
 mod searching;
 mod telling;
 
-pub use dir_executed::{Executed, Op, Store};
 pub use dir_search::{Indexes, Name, Schema, SearchAnswer, SearchRequest};
 pub use events::{LabEvent, LabReply};
 pub use lab::Lab;
 pub use laws::success_is_exact;
-pub use vr_state::words::{Client, Entry, Status};
+pub use state_machine::{Executed, Op, Store};
+pub use vr_state::words::{Client, LogEntry, Status};
 pub use vr_world::{ReplyBy, WorldEvent};

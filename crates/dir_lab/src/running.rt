@@ -13,8 +13,8 @@ use crate::events::{LabEvent, LabReply};
 use crate::lab::Lab;
 use crate::searching::search_at;
 use crate::telling::{show_replies, since};
-use dir_executed::{Executed, Op};
 use dir_search::SearchRequest;
+use state_machine::{Executed, Op};
 use std::alloc::{AllocError, Global};
 use vr_world::{Cluster, WorldEvent};
 

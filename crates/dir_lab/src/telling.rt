@@ -3,16 +3,16 @@
 ghost use Rattle.std.specs.Prelude.{◌≡◌, ◌++◌, drop, map, OnOk};
 ghost use Rattle.std.specs.Arc.{arc_value};
 ghost use Rattle.std.specs.Option.{option_map};
-ghost use Rattle.dir_executed.specs.Executing.{ops_of, replies_at};
-ghost use Rattle.dir_executed.specs.dir_store.Updates.{replies_of};
+ghost use Rattle.state_machine.specs.Executing.{ops_of, replies_at};
+ghost use Rattle.state_machine.specs.dir_store.Updates.{replies_of};
 ghost use Rattle.dir_lab.specs.Executions.{AreOver, IsOverAt, records_by, records_in};
 ghost use Rattle.dir_lab.specs.Schedule.{told};
 ghost use Rattle.dir_lab.specs.Shown.{code_at, shown_view};
 
 use crate::events::LabReply;
 use crate::lab::Lab;
-use dir_executed::Executed;
 use dir_search::ResultCode;
+use state_machine::Executed;
 use std::alloc::AllocError;
 use vr_world::ReplyBy;
 

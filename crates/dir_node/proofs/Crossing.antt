@@ -4,8 +4,8 @@ use denote.Struct.Declared
 use denote.Param.Send.{IsSend, sendable, struct_send, plain_send, recorded_send, view_send}
 use Rattle.std.proofs.Crossing.{crosses}
 use Rattle.std.proofs.MapsCrossing.{crosses as maps_cross}
-use Rattle.dir_executed.proofs.Crossing.{executed_send}
-use Rattle.dir_executed.proofs.Op.TheSendSync as op
+use Rattle.state_machine.proofs.Crossing.{executed_send}
+use Rattle.state_machine.proofs.Op.TheSendSync as op
 use Rattle.journal.proofs.journal.Journal.TheSendSync as journal
 use Rattle.journal.specs.declared.device.Device as JournalDevice
 use Rattle.view_store.proofs.ViewStore.TheSendSync as views

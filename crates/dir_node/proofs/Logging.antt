@@ -1,6 +1,6 @@
 -- A journal goes along with its node. A journal before and after, and what it tells, flow in; what it then tells, and what a crash leaves of it, flows out.
 use Rattle.std.proofs.Common.{◌≡◌, ℕ, List, [], ◌∷◌, ◌++◌, Bool, Option, Some, None, is_some, refl, sym, ap, ◌∙◌, subst}
-use Rattle.dir_executed.specs.dir_store.ldap_op.Values.{OpValue}
+use Rattle.state_machine.specs.dir_store.ldap_op.Values.{OpValue}
 use Rattle.log_journal.specs.Kept.{IsHeld, IsMemory}
 use Rattle.log_journal.specs.Told.{Told}
 use Rattle.log_journal.specs.journal.Device.{LeavesOnly}

@@ -1,7 +1,7 @@
 -- What a start notes is told. A way over a journal, and strings that spell what it notes, flow in; that the journal then tells the replica flows out.
 use Rattle.std.proofs.Common.{◌≡◌, ◌+◌, ◌≤◌, ℕ, min, zero, suc, Bool, true, false, cond, not, ◌&&◌, nat_lt, ◌==◌, List, [], ◌∷◌, ◌++◌, inl, inr, refl, sym, ap, ◌∙◌, subst, arith}
 use Rattle.std.proofs.lemmas.Bool.{and_parts}
-use Rattle.dir_executed.specs.dir_store.ldap_op.Values.{OpValue}
+use Rattle.state_machine.specs.dir_store.ldap_op.Values.{OpValue}
 use Rattle.log_journal.specs.Kept.{IsMemory}
 use Rattle.log_journal.specs.Notes.{Note, Start, SpellAll, Puts}
 use Rattle.log_journal.specs.Told.{Told, Tells, nothing_told, told_by, nothing_kept}

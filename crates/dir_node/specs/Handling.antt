@@ -1,7 +1,7 @@
 -- What a batch of events makes of a replica. Events and what each gave flow in; the replica's state before and after is related.
 use Rattle.std.specs.Prelude.{◌≡◌, ℕ, min, cond, nat_le, List, [], ◌∷◌, length, Result, Ok, Err}
 use Rattle.std.specs.declared.alloc.AllocError.{AllocError}
-use Rattle.dir_executed.specs.dir_store.ldap_op.Values.{OpValue}
+use Rattle.state_machine.specs.dir_store.ldap_op.Values.{OpValue}
 use Rattle.vr_state.specs.State.{State}
 use Rattle.vr_state.specs.Step.{step}
 use Rattle.vr_state.specs.declared.event.Event.{Event}

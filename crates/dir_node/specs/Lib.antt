@@ -6,8 +6,8 @@ pub mod Outcomes
 pub mod Restarting
 pub mod Ways
 -- what layers above name of the crates below
-pub use Rattle.dir_executed.specs as dir_executed
-pub use Rattle.dir_executed.specs.dir_store as dir_store
+pub use Rattle.state_machine.specs as state_machine
+pub use Rattle.state_machine.specs.dir_store as dir_store
 pub use Rattle.log_journal.specs as log_journal
 pub use Rattle.view_store.specs as view_store
 pub use Rattle.vr_recover.specs as vr_recover

@@ -1,10 +1,10 @@
 -- A node as its callers see it, and what an event makes of it. The state of a replica, what it has executed, a device and a journal flow in; what a
 -- crash leaves and what is handed out flow out. Steps are defined in vr_state, pairs on a device in view_store, what a journal tells in log_journal,
--- what is executed in dir_executed.
+-- what is executed in state_machine.
 use Rattle.std.specs.Prelude.{◌≡◌, ◌⊎◌, ℕ, ◌+◌, ◌≤◌, ◌^◌, ◌++◌, List, [], Bool, true, false, Option, is_some}
 use Rattle.std.specs.Arc.{arc_value}
-use Rattle.dir_executed.specs.dir_store.ldap_op.Values.{OpValue}
-use Rattle.dir_executed.specs.Executing.{ExecutedValue, IsFront}
+use Rattle.state_machine.specs.dir_store.ldap_op.Values.{OpValue}
+use Rattle.state_machine.specs.Executing.{ExecutedValue, IsFront}
 use Rattle.log_journal.specs.journal.declared.journal.Journal.{Journal}
 use Rattle.view_store.specs.declared.slot.Pair.{Pair}
 use Rattle.view_store.specs.declared.state.Status.TheVariants as status
@@ -13,7 +13,7 @@ use Rattle.view_store.specs.Slots.{Finding, nothing, foreign, own, found, taken_
 use Rattle.view_store.specs.Store.{IsFormerOrNew}
 use Rattle.view_store.specs.Stored.{Stored}
 use Rattle.vr_state.specs.declared.message.Outputs.{Outputs}
-use Rattle.vr_state.specs.Words.{Entry}
+use Rattle.vr_state.specs.Words.{LogEntry}
 use Rattle.vr_state.specs.Outcome as steps
 use Rattle.vr_state.specs.State.{State}
 use Rattle.log_journal.specs.Told.{Told}
@@ -73,7 +73,7 @@ abbrev pub given : State OpValue → Outputs OpValue → steps.Outcome OpValue
 given r out = record { state = r; sends = out.sends.items; replies = out.replies.items }
 
 -- What is executed grows by the records that are due: by all of them, or, where the node is behind, by a front that leaves some.
-abbrev pub CatchesUp : Bool → (old due new : List (Entry OpValue)) → Type 0
+abbrev pub CatchesUp : Bool → (old due new : List (LogEntry OpValue)) → Type 0
 CatchesUp false old due new = new ≡ old ++ due
 CatchesUp true old due new = IsFront old due new
 

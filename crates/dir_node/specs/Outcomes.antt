@@ -1,9 +1,9 @@
 -- What became of a client's request at a node, and where the node stands. A node flows in; one of four outcomes, or one of four standings, flows out.
 -- The client table and the reply to each record are defined below.
 use Rattle.std.specs.Prelude.{ℕ, ◌-◌, ◌&&◌, not, cond, nat_lt, ◌==◌, Option, Some, None, slice_get}
-use Rattle.dir_executed.specs.Executing.{replies_at}
-use Rattle.dir_executed.specs.session_talk.Answers.{ReplyModel}
-use Rattle.dir_executed.specs.session_talk.View.{reply_view}
+use Rattle.state_machine.specs.Executing.{replies_at}
+use Rattle.state_machine.specs.directory_api.Answers.{ReplyModel}
+use Rattle.state_machine.specs.directory_api.View.{reply_view}
 use Rattle.vr_state.specs.ClientTable.{latest}
 use Rattle.vr_state.specs.Words.{Client}
 use Rattle.vr_state.specs.declared.words.Latest.{Latest}

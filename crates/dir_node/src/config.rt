@@ -1,8 +1,8 @@
 //! What a node is made with, and what its calls give out. Plain data flows in and out. What a node does is not here.
 
 use crate::error::NodeError;
-use dir_executed::{Indexes, Name, Op, Schema};
 use log_journal::Device as JournalDevice;
+use state_machine::{Indexes, Name, Op, Schema};
 use std::alloc::AllocError;
 use std::sync::Arc;
 use view_store::{Cluster, Device};

@@ -1,7 +1,7 @@
 //! What a start over a journal hands out, and what is to be settled before. Plain data. How it is made is not here.
 
-use dir_executed::Op;
 use log_journal::Batch;
+use state_machine::Op;
 use view_store::Pair;
 use vr_state::message::Outputs;
 use vr_state::replica::Replica;

@@ -1,7 +1,7 @@
 //! A node: a replica, what it has executed, the device of its stored pair, and its journal where it keeps one. Events flow in; outputs flow out once the
 //! journal is settled and the view is stored. Which step an event makes is decided below, who sends and who waits above.
 ghost use Rattle.std.specs.Prelude.{◌≡◌, ◌-◌, ◌==◌, ◌∷◌, [], ◌↔◌, true, false, None, is_some, length, slice_get, IfOk, OnOk, IsErrOf};
-ghost use Rattle.dir_executed.specs.Executing.{directory_at, due_after, replies_at};
+ghost use Rattle.state_machine.specs.Executing.{directory_at, due_after, replies_at};
 ghost use Rattle.dir_node.specs.Handling.{MakesSteps, left_to_catch_up};
 ghost use Rattle.dir_node.specs.Logged.{HasRisenIn, LeavesOnlyIn, TellsSome, device_in};
 ghost use Rattle.dir_node.specs.NodeState.{CannotStore, CatchesUp, IsRunning, IsSameNode, KeepsLog, KeepsPair, given, head, pair_of};
@@ -19,15 +19,15 @@ use crate::keeping::{execute_due, follow};
 use crate::outcome::Outcome;
 use crate::standing::Standing;
 use crate::taking::{take_all, take_one};
-use dir_executed::{Executed, Op, Store};
 use log_journal::{Device as JournalDevice, Journal, NoteError};
+use state_machine::{Executed, Op, Store};
 use std::alloc::Global;
 use std::marker::Model;
 use view_store::{Device, Pair, ViewStore, ViewStoreError};
 use vr_state::event::Event;
 use vr_state::replica::Replica;
 use vr_state::standing::leads;
-use vr_state::words::{Client, Entry, Status};
+use vr_state::words::{Client, LogEntry, Status};
 
 /// A running replica. It is `Drop` where its devices are; whoever shares it puts it into a lock.
 pub struct Node<D: Device, J: JournalDevice> {
@@ -389,7 +389,7 @@ impl<D: Device, J: JournalDevice> Node<D, J> {
     }
 
     /// The records that it has executed, in their order.
-    pub fn executed_records(&self) -> &[Entry<Op>]
+    pub fn executed_records(&self) -> &[LogEntry<Op>]
         ensures { result.now ≡ self.now.executed.records }
     {
         self.executed.records()

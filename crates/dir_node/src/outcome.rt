@@ -1,6 +1,6 @@
 //! What became of a client's request. Nothing flows in; plain data flows out. How it is found is not here.
 
-use dir_executed::Reply;
+use state_machine::Reply;
 
 /// What became of a client's request.
 #[derive(Debug)]

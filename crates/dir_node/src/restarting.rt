@@ -25,11 +25,11 @@ use crate::error::NodeError;
 use crate::made::Made;
 use crate::owner::Owner;
 use crate::way::Way;
-use dir_executed::Op;
 use log_journal::{
     Batch, Device as JournalDevice, Found, Journal, JournalError, NoteError, Told, open, put_begin,
     put_start, settle, tell,
 };
+use state_machine::Op;
 use std::alloc::{AllocError, Global};
 use view_store::{Device, MAX_NUMBER, Pair, ViewStore, ViewStoreError};
 use vr_recover::recover;

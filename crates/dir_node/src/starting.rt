@@ -9,8 +9,8 @@ ghost use Rattle.vr_recover.specs.Rules.{recovers};
 ghost use Rattle.vr_state.specs.Views.{outcome};
 
 use crate::error::NodeError;
-use dir_executed::Op;
 use log_journal::NoteError;
+use state_machine::Op;
 use std::alloc::Global;
 use view_store::{Device, MAX_NUMBER, Pair, ViewStore, ViewStoreError};
 use vr_recover::recover;

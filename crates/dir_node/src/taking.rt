@@ -10,8 +10,8 @@ ghost use Rattle.vr_state.specs.Step.{step as step_of};
 ghost use Rattle.vr_state.specs.Views.{state};
 
 use crate::fault::Untaken;
-use dir_executed::Op;
 use log_journal::{Device as JournalDevice, Journal, NoteError, keep_events};
+use state_machine::Op;
 use std::alloc::{AllocError, Global};
 use vr_recover::step;
 use vr_state::event::Event;

@@ -2,25 +2,25 @@
 use Rattle.std.proofs.Common.{◌≡◌, ◌∙◌, ◌≤◌, ℕ, List, length, Result, sym, subst}
 use Rattle.std.specs.Prelude.{IfOk}
 use Rattle.std.proofs.Common.{Bool, true, false, ◌&&◌, not, Option, None, Some, ap}
-use Rattle.dir_kept.specs.ldap_schema.Schema.{SchemaModel}
+use Rattle.indexed_tree.specs.ldap_schema.Schema.{SchemaModel}
 use Rattle.ldap_eval.specs.declared.bound.BoundFilter.{BoundFilter}
-use Rattle.dir_kept.specs.session_talk.ldap_msg.Messages.{SearchRequestValue}
-use Rattle.dir_kept.specs.session_talk.ldap_msg.ldap_requests.declared.search.Scope.{Scope}
-use Rattle.dir_kept.specs.session_talk.ldap_msg.ldap_requests.declared.search.Scope.TheVariants.{BaseObject, SingleLevel, WholeSubtree, SubordinateSubtree}
-use Rattle.dir_kept.specs.index_choice.declared.kinds.Kinds.{Kinds}
-use Rattle.dir_kept.specs.ldap_dn.Names.{RdnModel, rdns}
-use Rattle.dir_kept.specs.dir_tree.Directory.{Entered}
-use Rattle.dir_kept.specs.Listed.{StoreModel}
+use Rattle.indexed_tree.specs.directory_api.ldap_msg.Messages.{SearchRequestValue}
+use Rattle.indexed_tree.specs.directory_api.ldap_msg.ldap_requests.declared.search.Scope.{Scope}
+use Rattle.indexed_tree.specs.directory_api.ldap_msg.ldap_requests.declared.search.Scope.TheVariants.{BaseObject, SingleLevel, WholeSubtree, SubordinateSubtree}
+use Rattle.indexed_tree.specs.index_choice.declared.kinds.Kinds.{Kinds}
+use Rattle.indexed_tree.specs.ldap_dn.Names.{RdnModel, rdns}
+use Rattle.indexed_tree.specs.dir_tree.Directory.{Entered}
+use Rattle.indexed_tree.specs.Listed.{StoreModel}
 use Rattle.dir_search.specs.Among.{FindsOf, FindsWhere}
 use Rattle.dir_search.specs.Answer.{is_subordinate, is_empty, is_base, stands}
-use Rattle.dir_kept.specs.session_talk.Answers.{Answer}
+use Rattle.indexed_tree.specs.directory_api.Answers.{Answer}
 use Rattle.dir_search.specs.Counted.{IsCountAtBase, IsCountFrom, IsCountAt}
 use Rattle.dir_search.specs.Evaluated.{IsFewAt}
 use Rattle.dir_search.specs.Numbered.{found_of}
 use Rattle.dir_search.specs.Scopes.{is_in_scope}
 use Rattle.dir_search.specs.View.{Finds, FindsAmong}
 use Rattle.dir_search.specs.declared.bound_search.BoundSearch.{BoundSearch}
-use Rattle.dir_kept.specs.session_talk.declared.search_answer.SearchAnswer.{SearchAnswer}
+use Rattle.indexed_tree.specs.directory_api.declared.search_answer.SearchAnswer.{SearchAnswer}
 
 -- among the same numbers
 pub among_same : {E : Type 0} (r : Result SearchAnswer E) (b : BoundSearch) (ks ls : List ℕ) → ks ≡ ls → IfOk r (FindsOf b ks) → IfOk r (FindsOf b ls)

@@ -1,14 +1,14 @@
 -- A compare of the entry that a name has, known by its attributes. Facts on lists flow in and out; no value of the program is here.
 use Rattle.std.proofs.Common.{◌≡◌, List, Option, None, Some, refl, sym, ap, ◌∙◌, is_some, Ok, Err, ℕ}
 use Rattle.std.specs.Option.{option_map}
-use Rattle.dir_kept.specs.ldap_dn.Names.{RdnModel, rdns}
-use Rattle.dir_kept.specs.dir_entry.Entry.{AttributeModel}
-use Rattle.dir_kept.specs.Directory.{Directory, NamedEntry}
-use Rattle.dir_kept.specs.Places.{entry_named}
-use Rattle.dir_kept.specs.Replies.{entry_asked, or_refused, not_found}
-use Rattle.dir_kept.specs.session_talk.Answers.{only}
-use Rattle.dir_kept.specs.ldap_schema.Schema.{SchemaModel, find}
-use Rattle.dir_kept.specs.session_talk.ldap_msg.ldap_requests.Values.{AssertionValue}
+use Rattle.indexed_tree.specs.ldap_dn.Names.{RdnModel, rdns}
+use Rattle.indexed_tree.specs.dir_entry.Entry.{AttributeModel}
+use Rattle.indexed_tree.specs.Directory.{Directory, NamedEntry}
+use Rattle.indexed_tree.specs.Places.{entry_named}
+use Rattle.indexed_tree.specs.Replies.{entry_asked, or_refused, not_found}
+use Rattle.indexed_tree.specs.directory_api.Answers.{only}
+use Rattle.indexed_tree.specs.ldap_schema.Schema.{SchemaModel, find}
+use Rattle.indexed_tree.specs.directory_api.ldap_msg.ldap_requests.Values.{AssertionValue}
 use Rattle.dir_search.specs.Compared.{code_on, reply_on}
 
 -- the reply on an entry is told by its attributes

@@ -5,18 +5,18 @@ use Rattle.std.specs.Option.{option_map}
 use Rattle.std.specs.List.{AllByRecursion, slice_get}
 use Rattle.std.proofs.lemmas.List.{length-map}
 use Rattle.std.proofs.lemmas.Option.{slice_get-map}
-use Rattle.dir_kept.specs.ldap_schema.Schema.{SchemaModel}
-use Rattle.dir_kept.specs.dir_entry.Entry.{attributes_of}
-use Rattle.dir_kept.specs.ldap_dn.Names.{RdnModel, rdns}
+use Rattle.indexed_tree.specs.ldap_schema.Schema.{SchemaModel}
+use Rattle.indexed_tree.specs.dir_entry.Entry.{attributes_of}
+use Rattle.indexed_tree.specs.ldap_dn.Names.{RdnModel, rdns}
 use Rattle.ldap_filter.specs.Tree.{Tree, Trees, no_trees, tree}
-use Rattle.dir_kept.specs.session_talk.ldap_msg.Messages.{SearchRequestValue}
+use Rattle.indexed_tree.specs.directory_api.ldap_msg.Messages.{SearchRequestValue}
 use Rattle.ldap_eval.specs.Bound.{IsBoundTo}
 use Rattle.ldap_eval.specs.Made.{IsMadeOf, AreMadeOf}
 use Rattle.ldap_eval.specs.declared.bound.BoundFilter.{BoundFilter}
-use Rattle.dir_kept.specs.index_choice.declared.kinds.Kinds.{Kinds}
-use Rattle.dir_kept.specs.dir_tree.Directory.{Entered, TreeModel, NumbersRise, entry_at, numbers}
-use Rattle.dir_kept.specs.Directory.{NamedEntry}
-use Rattle.dir_kept.specs.Stored.{named, directory, AreKeyedBy}
+use Rattle.indexed_tree.specs.index_choice.declared.kinds.Kinds.{Kinds}
+use Rattle.indexed_tree.specs.dir_tree.Directory.{Entered, TreeModel, NumbersRise, entry_at, numbers}
+use Rattle.indexed_tree.specs.Directory.{NamedEntry}
+use Rattle.indexed_tree.specs.Stored.{named, directory, AreKeyedBy}
 use Rattle.search_plans.specs.Bounds.{is_decided as is_bound_decided}
 use Rattle.search_plans.specs.Held.{has_runs}
 use Rattle.search_plans.proofs.Decided.{decided_same, runs_same}
@@ -28,7 +28,7 @@ use Rattle.dir_search.specs.Looks.{true_numbers, has_runs_on, leaves_open_on, up
 use Rattle.dir_search.specs.Numbered.{put_some, entries_of}
 use Rattle.dir_search.specs.Scopes.{is_in_scope}
 use Rattle.dir_search.specs.View.{FindsAmong}
-use Rattle.dir_kept.specs.session_talk.declared.search_answer.SearchAnswer.{SearchAnswer}
+use Rattle.indexed_tree.specs.directory_api.declared.search_answer.SearchAnswer.{SearchAnswer}
 use Rattle.dir_search.proofs.Few.{true_here, bound_on, found_true}
 use Rattle.dir_search.proofs.Limits.{keyed_at}
 use Rattle.dir_search.proofs.Numbers.{numbers_are}

@@ -2,16 +2,16 @@
 -- entries flow in and out; no value of the program is here.
 use Rattle.std.proofs.Common.{◌≡◌, ◌<◌, ℕ, Bool, true, false, cond, not, ◌||◌, ◌&&◌, List, [], ◌∷◌, Some, Vec, Global, map, nat_eq, refl, sym, ap, ap₂, ◌∙◌, subst, inl, inr, eqb-true}
 use Rattle.std.specs.List.{AllByRecursion}
-use Rattle.dir_kept.specs.ldap_match.declared.truth.Truth.TheVariants.{True}
-use Rattle.dir_kept.specs.dir_entry.Entry.{KeyedAttribute}
-use Rattle.dir_kept.specs.ldap_dn.Names.{RdnModel}
+use Rattle.indexed_tree.specs.ldap_match.declared.truth.Truth.TheVariants.{True}
+use Rattle.indexed_tree.specs.dir_entry.Entry.{KeyedAttribute}
+use Rattle.indexed_tree.specs.ldap_dn.Names.{RdnModel}
 use Rattle.ldap_eval.specs.Bound.{bound_value}
 use Rattle.ldap_eval.specs.declared.bound.BoundFilter.{BoundFilter}
 use Rattle.ldap_eval.specs.declared.bound.BoundFilter.TheVariants as bound
-use Rattle.dir_kept.specs.index_choice.declared.kinds.Kinds.{Kinds}
-use Rattle.dir_kept.specs.dir_index.Postings.{has_number, IsRising, postings_of}
-use Rattle.dir_kept.specs.dir_tree.Directory.{Entered, entry_at, numbers, AllAbove, NumbersRise}
-use Rattle.dir_kept.specs.Listed.{IndexedModel, listed_of, lists_of}
+use Rattle.indexed_tree.specs.index_choice.declared.kinds.Kinds.{Kinds}
+use Rattle.indexed_tree.specs.dir_index.Postings.{has_number, IsRising, postings_of}
+use Rattle.indexed_tree.specs.dir_tree.Directory.{Entered, entry_at, numbers, AllAbove, NumbersRise}
+use Rattle.indexed_tree.specs.Listed.{IndexedModel, listed_of, lists_of}
 use Rattle.search_plans.specs.Sets.{is_in, holds, AreNumbered, HasEntry, Guides, SetsAreOfEntries}
 use Rattle.search_plans.specs.declared.plan.Plan.{Plan}
 use Rattle.search_plans.specs.Bounds.{is_decided, BoundsSets, DecidedAreTrue}

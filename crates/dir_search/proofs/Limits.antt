@@ -5,14 +5,14 @@ use Rattle.std.specs.List.{slice_get}
 use Rattle.std.proofs.lemmas.Bool.Decides.{nat_tests}
 use Rattle.std.proofs.lemmas.List.{take_at, append-nil, length-drop}
 use Rattle.std.proofs.lemmas.Option.{slice_get_past}
-use Rattle.dir_kept.specs.session_talk.ldap_msg.Messages.{SearchResultEntryValue}
-use Rattle.dir_kept.specs.ldap_schema.Schema.{SchemaModel}
-use Rattle.dir_kept.specs.dir_entry.Entry.{IsKeyedBy}
-use Rattle.dir_kept.specs.dir_tree.Directory.{Entered, entry_at}
-use Rattle.dir_kept.specs.Directory.{NamedEntry}
-use Rattle.dir_kept.specs.Stored.{named, AreKeyedBy}
+use Rattle.indexed_tree.specs.directory_api.ldap_msg.Messages.{SearchResultEntryValue}
+use Rattle.indexed_tree.specs.ldap_schema.Schema.{SchemaModel}
+use Rattle.indexed_tree.specs.dir_entry.Entry.{IsKeyedBy}
+use Rattle.indexed_tree.specs.dir_tree.Directory.{Entered, entry_at}
+use Rattle.indexed_tree.specs.Directory.{NamedEntry}
+use Rattle.indexed_tree.specs.Stored.{named, AreKeyedBy}
 use Rattle.dir_search.specs.Answer.{limited}
-use Rattle.dir_kept.specs.session_talk.Answers.{Answer}
+use Rattle.indexed_tree.specs.directory_api.Answers.{Answer}
 use Rattle.dir_search.specs.Looks.{AreHere}
 use Rattle.dir_search.specs.Numbered.{put_some, entries_of}
 

@@ -6,13 +6,13 @@ use Rattle.std.specs.List.{slice_get}
 use Rattle.std.proofs.lemmas.List.{get_or-reverse, length-reverse, reverse-reverse}
 use Rattle.std.proofs.lemmas.Option.{slice_get-get_or}
 use denote.Bor.{Bor}
-use Rattle.dir_kept.specs.ldap_dn.Names.{RdnModel}
-use Rattle.dir_kept.specs.ldap_dn.Printed.{printed_name}
-use Rattle.dir_kept.specs.ldap_schema.Schema.{SchemaModel}
-use Rattle.dir_kept.specs.ldap_match.declared.truth.Truth.{Truth}
-use Rattle.dir_kept.specs.ldap_match.declared.truth.Truth.TheVariants.{Undefined}
-use Rattle.dir_kept.specs.dir_entry.Entry.{KeyedAttribute}
-use Rattle.dir_kept.specs.dir_tree.Directory.{Entered, entry_at}
+use Rattle.indexed_tree.specs.ldap_dn.Names.{RdnModel}
+use Rattle.indexed_tree.specs.ldap_dn.Printed.{printed_name}
+use Rattle.indexed_tree.specs.ldap_schema.Schema.{SchemaModel}
+use Rattle.indexed_tree.specs.ldap_match.declared.truth.Truth.{Truth}
+use Rattle.indexed_tree.specs.ldap_match.declared.truth.Truth.TheVariants.{Undefined}
+use Rattle.indexed_tree.specs.dir_entry.Entry.{KeyedAttribute}
+use Rattle.indexed_tree.specs.dir_tree.Directory.{Entered, entry_at}
 use Rattle.ldap_eval.specs.Bound.{bound_value}
 use Rattle.ldap_eval.specs.declared.bound.BoundFilter.{BoundFilter}
 use Rattle.dir_search.specs.Numbered.{name_of}

@@ -1,12 +1,12 @@
 -- The entries of the numbers that the tree keeps. Facts on lists flow in and out; no value of the program is here.
 use Rattle.std.proofs.Common.{◌≡◌, ◌<◌, ℕ, List, [], ◌∷◌, refl, ap, ◌∙◌, arith, Bool, true, false, cond, filter, map, Option, None, Some, nat_eq}
 use Rattle.std.specs.Option.{option_map}
-use Rattle.dir_kept.specs.ldap_schema.Schema.{SchemaModel}
-use Rattle.dir_kept.specs.ldap_dn.Printed.{printed_name}
-use Rattle.dir_kept.specs.dir_entry.Entry.{KeyedAttribute, attributes_of}
-use Rattle.dir_kept.specs.session_talk.ldap_msg.Messages.{SearchResultEntryValue}
-use Rattle.dir_kept.specs.Stored.{named}
-use Rattle.dir_kept.specs.dir_tree.Directory.{Entered, entry_at, numbers, AllAbove, NumbersRise}
+use Rattle.indexed_tree.specs.ldap_schema.Schema.{SchemaModel}
+use Rattle.indexed_tree.specs.ldap_dn.Printed.{printed_name}
+use Rattle.indexed_tree.specs.dir_entry.Entry.{KeyedAttribute, attributes_of}
+use Rattle.indexed_tree.specs.directory_api.ldap_msg.Messages.{SearchResultEntryValue}
+use Rattle.indexed_tree.specs.Stored.{named}
+use Rattle.indexed_tree.specs.dir_tree.Directory.{Entered, entry_at, numbers, AllAbove, NumbersRise}
 use Rattle.dir_search.specs.Numbered.{put_some, entries_of, name_of}
 use Rattle.dir_search.specs.Selection.{attributes_selected, selected}
 

@@ -5,7 +5,7 @@ use Rattle.std.specs.List.{list_any}
 use Rattle.std.specs.Ordering.{is_eq, nat_cmp}
 use Rattle.std.proofs.lemmas.Bool.{or_left}
 use Rattle.std.proofs.lemmas.Bool.Decides.{nat_tests}
-use Rattle.dir_kept.specs.ldap_schema.Schema.{TypeModel, superior_of, superiors}
+use Rattle.indexed_tree.specs.ldap_schema.Schema.{TypeModel, superior_of, superiors}
 
 -- one step up a chain
 one_up : (ts : List TypeModel) (t u k m : ℕ) → k ≡ suc m → superior_of ts t ≡ Some u → superiors k ts t ≡ u ∷ superiors m ts u

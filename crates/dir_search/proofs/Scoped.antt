@@ -2,15 +2,15 @@
 use Rattle.std.proofs.Common.{◌≡◌, ℕ, suc, length, Bool, true, false, cond, List, [], ◌∷◌, Option, Some, None, map, filter, refl, sym, ap, ◌∙◌}
 use Rattle.std.specs.Prelude.{is_some}
 use Rattle.std.specs.Option.{option_map}
-use Rattle.dir_kept.specs.ldap_schema.Schema.{SchemaModel}
-use Rattle.dir_kept.specs.ldap_dn.Names.{RdnModel, rdns}
-use Rattle.dir_kept.specs.session_talk.ldap_msg.ldap_requests.declared.search.Scope.{Scope}
-use Rattle.dir_kept.specs.session_talk.ldap_msg.Messages.{SearchRequestValue}
-use Rattle.dir_kept.specs.dir_tree.Directory as tree
-use Rattle.dir_kept.specs.dir_tree.Directory.{NameKey, Entered, TreeModel, NumbersRise, name_eq, begins, find, numbers, is_at_or_below}
-use Rattle.dir_kept.specs.Directory.{NamedEntry}
-use Rattle.dir_kept.specs.Places.{entry_named}
-use Rattle.dir_kept.specs.Stored.{named, directory}
+use Rattle.indexed_tree.specs.ldap_schema.Schema.{SchemaModel}
+use Rattle.indexed_tree.specs.ldap_dn.Names.{RdnModel, rdns}
+use Rattle.indexed_tree.specs.directory_api.ldap_msg.ldap_requests.declared.search.Scope.{Scope}
+use Rattle.indexed_tree.specs.directory_api.ldap_msg.Messages.{SearchRequestValue}
+use Rattle.indexed_tree.specs.dir_tree.Directory as tree
+use Rattle.indexed_tree.specs.dir_tree.Directory.{NameKey, Entered, TreeModel, NumbersRise, name_eq, begins, find, numbers, is_at_or_below}
+use Rattle.indexed_tree.specs.Directory.{NamedEntry}
+use Rattle.indexed_tree.specs.Places.{entry_named}
+use Rattle.indexed_tree.specs.Stored.{named, directory}
 use Rattle.dir_search.specs.Answer.{is_empty, is_match, in_scope, limited, stands, found_at}
 use Rattle.dir_search.specs.Numbered.{found_of}
 use Rattle.dir_search.specs.Scopes.{is_right_under, is_in_scope}

@@ -7,8 +7,8 @@ use Rattle.std.specs.Str.{bytes_eq}
 use Rattle.std.proofs.lemmas.Bool.{or_right}
 use Rattle.std.proofs.lemmas.Bool.Decides.{same_from_decides}
 use Rattle.std.proofs.lemmas.Slice.Eq.{bytes_eq-Decides}
-use Rattle.dir_kept.specs.ldap_schema.Schema.{SchemaModel, is_under}
-use Rattle.dir_kept.specs.dir_entry.Entry.{KeyedAttribute, attributes_of}
+use Rattle.indexed_tree.specs.ldap_schema.Schema.{SchemaModel, is_under}
+use Rattle.indexed_tree.specs.dir_entry.Entry.{KeyedAttribute, attributes_of}
 use Rattle.dir_search.specs.Compared.{has_under}
 
 -- some selector passes, at some place

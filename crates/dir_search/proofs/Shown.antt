@@ -3,14 +3,14 @@ use Rattle.std.proofs.Common.{◌≡◌, ◌<◌, ℕ, zero, suc, Bool, true, Li
 use Rattle.std.specs.Prelude.{filter, nat_le}
 use Rattle.std.specs.List.{slice_get}
 use Rattle.std.proofs.lemmas.Bool.Decides.{nat_tests}
-use Rattle.dir_kept.specs.session_talk.ldap_msg.Messages.{SearchResultEntryValue}
-use Rattle.dir_kept.specs.dir_tree.Directory.{Entered}
-use Rattle.dir_kept.specs.Directory.{NamedEntry}
+use Rattle.indexed_tree.specs.directory_api.ldap_msg.Messages.{SearchResultEntryValue}
+use Rattle.indexed_tree.specs.dir_tree.Directory.{Entered}
+use Rattle.indexed_tree.specs.Directory.{NamedEntry}
 use Rattle.dir_search.specs.Counted.{first_past}
 use Rattle.dir_search.specs.Looks.{up_to}
 use Rattle.dir_search.specs.View.{Shows}
-use Rattle.dir_kept.specs.session_talk.View.{answer_view}
-use Rattle.dir_kept.specs.session_talk.declared.search_answer.SearchAnswer.{SearchAnswer}
+use Rattle.indexed_tree.specs.directory_api.View.{answer_view}
+use Rattle.indexed_tree.specs.directory_api.declared.search_answer.SearchAnswer.{SearchAnswer}
 use Rattle.dir_search.proofs.Limits.{SoFar, stops, stops_at, ends, ends_before}
 
 -- a limit that is set ends a search at its place; a search that finds no more ends nowhere before

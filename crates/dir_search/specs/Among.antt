@@ -1,12 +1,12 @@
 -- What a search finds whose filter is bound. The search, and numbers or a test of names, flow in; whether an answer is what it finds among the entries
 -- of these flows out. Only this crate's own contracts speak of it.
 use Rattle.std.specs.Prelude.{ℕ, List, Bool}
-use Rattle.dir_kept.specs.ldap_dn.Names.{rdns}
-use Rattle.dir_kept.specs.session_talk.ldap_msg.View.{search_view}
-use Rattle.dir_kept.specs.dir_tree.Directory.{NameKey, numbers}
+use Rattle.indexed_tree.specs.ldap_dn.Names.{rdns}
+use Rattle.indexed_tree.specs.directory_api.ldap_msg.View.{search_view}
+use Rattle.indexed_tree.specs.dir_tree.Directory.{NameKey, numbers}
 use Rattle.dir_search.specs.View.{FindsAmong}
 use Rattle.dir_search.specs.declared.bound_search.BoundSearch.{BoundSearch}
-use Rattle.dir_kept.specs.session_talk.declared.search_answer.SearchAnswer.{SearchAnswer}
+use Rattle.indexed_tree.specs.directory_api.declared.search_answer.SearchAnswer.{SearchAnswer}
 
 -- what is found among the entries of these numbers
 abbrev pub FindsOf : BoundSearch → List ℕ → SearchAnswer → Type 0

@@ -1,18 +1,18 @@
 -- The answer of a search: RFC 4511 4.5.1, 4.5.2 and 4.1.9. A directory and a search request flow in; the result code, matchedDN and what is
 -- shown of each entry flow out.
 use Rattle.std.specs.Prelude.{ℕ, List, [], ◌∷◌, Bool, true, false, ◌&&◌, ◌||◌, cond, map, filter, take, length, nat_lt, Option, None, Some, is_some}
-use Rattle.dir_kept.specs.ldap_schema.Schema.{SchemaModel}
+use Rattle.indexed_tree.specs.ldap_schema.Schema.{SchemaModel}
 use Rattle.ldap_filter.specs.Tree.{Tree}
-use Rattle.dir_kept.specs.ldap_dn.Names.{RdnModel, rdns}
-use Rattle.dir_kept.specs.ldap_dn.Texts.{name_of_text}
-use Rattle.dir_kept.specs.session_talk.ldap_msg.ldap_requests.declared.search.Scope.{Scope}
-use Rattle.dir_kept.specs.session_talk.ldap_msg.ldap_requests.declared.search.Scope.TheVariants.{BaseObject, SingleLevel, WholeSubtree, SubordinateSubtree}
-use Rattle.dir_kept.specs.session_talk.ldap_msg.Messages.{SearchRequestValue, SearchResultEntryValue}
+use Rattle.indexed_tree.specs.ldap_dn.Names.{RdnModel, rdns}
+use Rattle.indexed_tree.specs.ldap_dn.Texts.{name_of_text}
+use Rattle.indexed_tree.specs.directory_api.ldap_msg.ldap_requests.declared.search.Scope.{Scope}
+use Rattle.indexed_tree.specs.directory_api.ldap_msg.ldap_requests.declared.search.Scope.TheVariants.{BaseObject, SingleLevel, WholeSubtree, SubordinateSubtree}
+use Rattle.indexed_tree.specs.directory_api.ldap_msg.Messages.{SearchRequestValue, SearchResultEntryValue}
 use Rattle.ldap_eval.specs.Value.{filter_value}
-use Rattle.dir_kept.specs.Directory.{Directory, NamedEntry}
-use Rattle.dir_kept.specs.Places.{entry_named}
-use Rattle.dir_kept.specs.Replies.{not_found}
-use Rattle.dir_kept.specs.session_talk.Answers.{Answer, only, refused}
+use Rattle.indexed_tree.specs.Directory.{Directory, NamedEntry}
+use Rattle.indexed_tree.specs.Places.{entry_named}
+use Rattle.indexed_tree.specs.Replies.{not_found}
+use Rattle.indexed_tree.specs.directory_api.Answers.{Answer, only, refused}
 use Rattle.dir_search.specs.Scopes.{is_in_scope}
 use Rattle.dir_search.specs.Selection.{selected}
 use Rattle.dir_search.specs.RootDse.{dse_attributes, dse_selected}

@@ -1,18 +1,18 @@
 -- The reply to a compare: RFC 4511 4.10. A directory and a request flow in; a code and matchedDN flow out.
 use Rattle.std.specs.Prelude.{ℕ, List, Bool, cond, not, Option, None, Some, Result, Ok, Err}
 use Rattle.std.specs.List.{list_any}
-use Rattle.dir_kept.specs.ldap_schema.Schema.{SchemaModel, find, is_under}
-use Rattle.dir_kept.specs.ldap_match.Item.{equal, is_of_syntax}
-use Rattle.dir_kept.specs.ldap_match.declared.truth.Truth.{Truth}
-use Rattle.dir_kept.specs.ldap_match.declared.truth.Truth.TheVariants.{True, False, Undefined}
+use Rattle.indexed_tree.specs.ldap_schema.Schema.{SchemaModel, find, is_under}
+use Rattle.indexed_tree.specs.ldap_match.Item.{equal, is_of_syntax}
+use Rattle.indexed_tree.specs.ldap_match.declared.truth.Truth.{Truth}
+use Rattle.indexed_tree.specs.ldap_match.declared.truth.Truth.TheVariants.{True, False, Undefined}
 use Rattle.ldap_eval.specs.Value.{item_on_type}
-use Rattle.dir_kept.specs.session_talk.ldap_msg.ldap_requests.Values.{AssertionValue}
-use Rattle.dir_kept.specs.session_talk.ldap_msg.Messages.{CompareRequestValue}
-use Rattle.dir_kept.specs.dir_entry.Entry.{AttributeModel}
-use Rattle.dir_kept.specs.Directory.{Directory, NamedEntry}
-use Rattle.dir_kept.specs.Replies.{then}
-use Rattle.dir_kept.specs.session_talk.Answers.{ReplyModel, only}
-use Rattle.dir_kept.specs.Replies.{name_asked, entry_asked}
+use Rattle.indexed_tree.specs.directory_api.ldap_msg.ldap_requests.Values.{AssertionValue}
+use Rattle.indexed_tree.specs.directory_api.ldap_msg.Messages.{CompareRequestValue}
+use Rattle.indexed_tree.specs.dir_entry.Entry.{AttributeModel}
+use Rattle.indexed_tree.specs.Directory.{Directory, NamedEntry}
+use Rattle.indexed_tree.specs.Replies.{then}
+use Rattle.indexed_tree.specs.directory_api.Answers.{ReplyModel, only}
+use Rattle.indexed_tree.specs.Replies.{name_asked, entry_asked}
 
 -- compareTrue (6), compareFalse (5), and invalidAttributeSyntax (21) where nobody can tell
 abbrev pub code_of_truth : Truth → ℕ

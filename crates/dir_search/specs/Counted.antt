@@ -2,15 +2,15 @@
 -- filter. Bound filters, and numbers in posting lists, are not here.
 use Rattle.std.specs.Prelude.{◌≡◌, ℕ, true, ◌&&◌, not, cond, Bool, List, length, map, filter, nat_le, nat_lt, Option, None, Some}
 use Rattle.std.specs.List.{slice_get}
-use Rattle.dir_kept.specs.ldap_dn.Names.{RdnModel, rdns}
-use Rattle.dir_kept.specs.ldap_dn.Texts.{name_of_text}
-use Rattle.dir_kept.specs.session_talk.ldap_msg.Messages.{SearchRequestValue}
-use Rattle.dir_kept.specs.dir_entry.Entry.{KeyedAttribute}
-use Rattle.dir_kept.specs.index_choice.declared.kinds.Kinds.{Kinds}
-use Rattle.dir_kept.specs.dir_tree.Directory.{Entered}
-use Rattle.dir_kept.specs.Directory.{Directory, NamedEntry}
-use Rattle.dir_kept.specs.Listed.{StoreModel}
-use Rattle.dir_kept.specs.Stored.{named, AreKeyedBy}
+use Rattle.indexed_tree.specs.ldap_dn.Names.{RdnModel, rdns}
+use Rattle.indexed_tree.specs.ldap_dn.Texts.{name_of_text}
+use Rattle.indexed_tree.specs.directory_api.ldap_msg.Messages.{SearchRequestValue}
+use Rattle.indexed_tree.specs.dir_entry.Entry.{KeyedAttribute}
+use Rattle.indexed_tree.specs.index_choice.declared.kinds.Kinds.{Kinds}
+use Rattle.indexed_tree.specs.dir_tree.Directory.{Entered}
+use Rattle.indexed_tree.specs.Directory.{Directory, NamedEntry}
+use Rattle.indexed_tree.specs.Listed.{StoreModel}
+use Rattle.indexed_tree.specs.Stored.{named, AreKeyedBy}
 use Rattle.search_plans.specs.Sets.{holds}
 use Rattle.search_plans.specs.declared.plan.Plan.{Plan}
 use Rattle.search_plans.specs.Planned.{ArePlansFor}

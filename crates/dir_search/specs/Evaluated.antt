@@ -2,14 +2,14 @@
 -- plans and numbers in posting lists are not here.
 use Rattle.std.specs.Prelude.{◌≡◌, ◌<◌, ◌≤◌, ℕ, true, ◌&&◌, not, Bool, List, length, filter, nat_le, Option, None, Some}
 use Rattle.std.specs.List.{slice_get}
-use Rattle.dir_kept.specs.ldap_schema.Schema.{SchemaModel}
-use Rattle.dir_kept.specs.ldap_dn.Names.{RdnModel}
-use Rattle.dir_kept.specs.ldap_dn.Texts.{name_of_text}
+use Rattle.indexed_tree.specs.ldap_schema.Schema.{SchemaModel}
+use Rattle.indexed_tree.specs.ldap_dn.Names.{RdnModel}
+use Rattle.indexed_tree.specs.ldap_dn.Texts.{name_of_text}
 use Rattle.ldap_filter.specs.Tree.{Tree, conj, Trees, no_trees, tree}
-use Rattle.dir_kept.specs.session_talk.ldap_msg.Messages.{SearchRequestValue}
-use Rattle.dir_kept.specs.index_choice.declared.kinds.Kinds.{Kinds}
-use Rattle.dir_kept.specs.Directory.{Directory, NamedEntry}
-use Rattle.dir_kept.specs.Listed.{StoreModel}
+use Rattle.indexed_tree.specs.directory_api.ldap_msg.Messages.{SearchRequestValue}
+use Rattle.indexed_tree.specs.index_choice.declared.kinds.Kinds.{Kinds}
+use Rattle.indexed_tree.specs.Directory.{Directory, NamedEntry}
+use Rattle.indexed_tree.specs.Listed.{StoreModel}
 use Rattle.search_plans.specs.Decided.{is_decided}
 use Rattle.search_plans.specs.Held.{has_runs}
 use Rattle.dir_search.specs.Answer.{is_match, in_scope, matching, is_empty, is_base, is_subordinate, stands}

@@ -11,10 +11,10 @@ pub mod Evaluated
 pub mod View
 pub mod Among
 -- what layers above name of the crates below
-pub use Rattle.dir_kept.specs.session_talk.ldap_msg as ldap_msg
-pub use Rattle.dir_kept.specs.ldap_schema as ldap_schema
-pub use Rattle.dir_kept.specs.ldap_dn as ldap_dn
-pub use Rattle.dir_kept.specs.index_choice as index_choice
-pub use Rattle.dir_kept.specs.dir_tree as dir_tree
-pub use Rattle.dir_kept.specs as dir_kept
-pub use Rattle.dir_kept.specs.session_talk as session_talk
+pub use Rattle.indexed_tree.specs.directory_api.ldap_msg as ldap_msg
+pub use Rattle.indexed_tree.specs.ldap_schema as ldap_schema
+pub use Rattle.indexed_tree.specs.ldap_dn as ldap_dn
+pub use Rattle.indexed_tree.specs.index_choice as index_choice
+pub use Rattle.indexed_tree.specs.dir_tree as dir_tree
+pub use Rattle.indexed_tree.specs as indexed_tree
+pub use Rattle.indexed_tree.specs.directory_api as directory_api

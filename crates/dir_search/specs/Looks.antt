@@ -3,21 +3,21 @@
 use Rattle.std.specs.Prelude.{◌≡◌, ◌≤◌, ℕ, Bool, true, false, List, length, filter, nat_le, Option, None, Some, is_some, Vec}
 use Rattle.std.specs.Global.{Global}
 use Rattle.std.specs.List.{AllByRecursion}
-use Rattle.dir_kept.specs.ldap_match.declared.truth.Truth.{Truth}
-use Rattle.dir_kept.specs.ldap_match.declared.truth.Truth.TheVariants.{True, Undefined}
-use Rattle.dir_kept.specs.ldap_dn.Names.{RdnModel, rdns}
-use Rattle.dir_kept.specs.session_talk.ldap_msg.Messages.{SearchRequestValue}
-use Rattle.dir_kept.specs.ldap_schema.Schema.{SchemaModel}
+use Rattle.indexed_tree.specs.ldap_match.declared.truth.Truth.{Truth}
+use Rattle.indexed_tree.specs.ldap_match.declared.truth.Truth.TheVariants.{True, Undefined}
+use Rattle.indexed_tree.specs.ldap_dn.Names.{RdnModel, rdns}
+use Rattle.indexed_tree.specs.directory_api.ldap_msg.Messages.{SearchRequestValue}
+use Rattle.indexed_tree.specs.ldap_schema.Schema.{SchemaModel}
 use Rattle.ldap_filter.specs.Tree.{Tree}
 use Rattle.ldap_eval.specs.Bound.{bound_value, IsBoundTo}
 use Rattle.ldap_eval.specs.Made.{IsMadeOf}
 use Rattle.ldap_eval.specs.declared.bound.BoundFilter.{BoundFilter}
 use Rattle.ldap_eval.specs.declared.bound.BoundFilter.TheVariants as bound
-use Rattle.dir_kept.specs.index_choice.declared.kinds.Kinds.{Kinds}
-use Rattle.dir_kept.specs.dir_index.Postings.{has_number}
-use Rattle.dir_kept.specs.dir_tree.Directory.{Entered, entry_at, numbers}
-use Rattle.dir_kept.specs.Directory.{Directory}
-use Rattle.dir_kept.specs.Stored.{named}
+use Rattle.indexed_tree.specs.index_choice.declared.kinds.Kinds.{Kinds}
+use Rattle.indexed_tree.specs.dir_index.Postings.{has_number}
+use Rattle.indexed_tree.specs.dir_tree.Directory.{Entered, entry_at, numbers}
+use Rattle.indexed_tree.specs.Directory.{Directory}
+use Rattle.indexed_tree.specs.Stored.{named}
 use Rattle.search_plans.specs.Bounds.{is_decided}
 use Rattle.search_plans.specs.OctetRuns.{has_runs_for}
 use Rattle.search_plans.specs.Planned.{ArePlansFor}

@@ -1,13 +1,13 @@
 -- Entries by their numbers. Numbers and entries flow in; the entries of the numbers flow out, and what a search shows of them. Scopes are not
 -- here.
 use Rattle.std.specs.Prelude.{ℕ, List, [], ◌∷◌, map, filter, Option, None, Some}
-use Rattle.dir_kept.specs.ldap_schema.Schema.{SchemaModel}
-use Rattle.dir_kept.specs.session_talk.ldap_msg.Messages.{SearchRequestValue}
-use Rattle.dir_kept.specs.ldap_dn.Names.{RdnModel}
-use Rattle.dir_kept.specs.dir_tree.Directory.{Entered, entry_at}
-use Rattle.dir_kept.specs.Stored.{named}
+use Rattle.indexed_tree.specs.ldap_schema.Schema.{SchemaModel}
+use Rattle.indexed_tree.specs.directory_api.ldap_msg.Messages.{SearchRequestValue}
+use Rattle.indexed_tree.specs.ldap_dn.Names.{RdnModel}
+use Rattle.indexed_tree.specs.dir_tree.Directory.{Entered, entry_at}
+use Rattle.indexed_tree.specs.Stored.{named}
 use Rattle.dir_search.specs.Answer.{is_match, limited}
-use Rattle.dir_kept.specs.session_talk.Answers.{Answer}
+use Rattle.indexed_tree.specs.directory_api.Answers.{Answer}
 use Rattle.dir_search.specs.Selection.{selected}
 
 -- an entry, where there is one, in front

@@ -4,8 +4,8 @@ use Rattle.std.specs.Prelude.{ℕ, List, [], ◌∷◌, Bool, true, false, ◌||
 use Rattle.std.specs.List.{list_any}
 use Rattle.std.specs.Ordering.{nat_cmp}
 use Rattle.std.specs.BTreeSet.{BTreeSet, contains}
-use Rattle.dir_kept.specs.ldap_schema.Schema.{SchemaModel, superiors}
-use Rattle.dir_kept.specs.session_talk.ldap_msg.ldap_requests.declared.search.SearchRequest.{SearchRequest}
+use Rattle.indexed_tree.specs.ldap_schema.Schema.{SchemaModel, superiors}
+use Rattle.indexed_tree.specs.directory_api.ldap_msg.ldap_requests.declared.search.SearchRequest.{SearchRequest}
 use Rattle.dir_search.specs.Selection.{is_selected}
 use Rattle.dir_search.specs.declared.resolving.Selection.{Selection}
 

@@ -2,13 +2,13 @@
 use Rattle.std.specs.Prelude.{ℕ, List, [], ◌∷◌, ◌++◌, Bool, cond, codes, Result, Ok, Err, Option, Some, None}
 use Rattle.std.specs.List.{list_any}
 use Rattle.std.specs.Str.{str_eq_ignore_ascii_case}
-use Rattle.dir_kept.specs.ldap_schema.Schema.{SchemaModel, find}
-use Rattle.dir_kept.specs.ldap_dn.Printed.{printed_name}
-use Rattle.dir_kept.specs.dir_entry.Entry.{AttributeModel}
-use Rattle.dir_kept.specs.dir_entry.Adding.{with_attribute}
-use Rattle.dir_kept.specs.session_talk.ldap_msg.ldap_parts.Values.{PartialAttributeValue}
-use Rattle.dir_kept.specs.session_talk.ldap_msg.Messages.{SearchResultEntryValue}
-use Rattle.dir_kept.specs.Directory.{Directory}
+use Rattle.indexed_tree.specs.ldap_schema.Schema.{SchemaModel, find}
+use Rattle.indexed_tree.specs.ldap_dn.Printed.{printed_name}
+use Rattle.indexed_tree.specs.dir_entry.Entry.{AttributeModel}
+use Rattle.indexed_tree.specs.dir_entry.Adding.{with_attribute}
+use Rattle.indexed_tree.specs.directory_api.ldap_msg.ldap_parts.Values.{PartialAttributeValue}
+use Rattle.indexed_tree.specs.directory_api.ldap_msg.Messages.{SearchResultEntryValue}
+use Rattle.indexed_tree.specs.Directory.{Directory}
 use Rattle.dir_search.specs.Selection.{attributes_selected}
 
 abbrev pub or_nothing : Result (List AttributeModel) ℕ → List AttributeModel

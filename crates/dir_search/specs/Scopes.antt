@@ -1,8 +1,8 @@
 -- Which entries a search looks at: RFC 4511 4.5.1.2. A base, a scope and a name flow in; whether the name is in scope flows out.
 use Rattle.std.specs.Prelude.{Bool, false, [], ◌∷◌}
-use Rattle.dir_kept.specs.session_talk.ldap_msg.ldap_requests.declared.search.Scope.{Scope}
-use Rattle.dir_kept.specs.session_talk.ldap_msg.ldap_requests.declared.search.Scope.TheVariants.{BaseObject, SingleLevel, WholeSubtree, SubordinateSubtree}
-use Rattle.dir_kept.specs.dir_tree.Directory.{NameKey, name_eq, begins, is_child}
+use Rattle.indexed_tree.specs.directory_api.ldap_msg.ldap_requests.declared.search.Scope.{Scope}
+use Rattle.indexed_tree.specs.directory_api.ldap_msg.ldap_requests.declared.search.Scope.TheVariants.{BaseObject, SingleLevel, WholeSubtree, SubordinateSubtree}
+use Rattle.indexed_tree.specs.dir_tree.Directory.{NameKey, name_eq, begins, is_child}
 
 -- whether a name stands right under a base; right under the empty name stands the directory's root alone (RFC 4512 5.1)
 abbrev pub is_right_under : NameKey → NameKey → NameKey → Bool

@@ -3,12 +3,12 @@
 use Rattle.std.specs.Prelude.{ℕ, List, [], ◌∷◌, Bool, true, false, not, ◌&&◌, ◌||◌, if◌then◌else◌, map, filter, codes, Option, Some, None}
 use Rattle.std.specs.List.{list_any}
 use Rattle.std.specs.Str.{bytes_eq}
-use Rattle.dir_kept.specs.ldap_schema.Schema.{SchemaModel, find, is_under, type_at}
-use Rattle.dir_kept.specs.dir_entry.Entry.{AttributeModel}
-use Rattle.dir_kept.specs.session_talk.ldap_msg.Messages.{PartialAttributeValue, SearchResultEntryValue}
-use Rattle.dir_kept.specs.ldap_dn.Printed.{printed_name}
-use Rattle.dir_kept.specs.Directory.{NamedEntry}
-pub use Rattle.dir_kept.specs.ldap_dn.Printed.{name_of_type}
+use Rattle.indexed_tree.specs.ldap_schema.Schema.{SchemaModel, find, is_under, type_at}
+use Rattle.indexed_tree.specs.dir_entry.Entry.{AttributeModel}
+use Rattle.indexed_tree.specs.directory_api.ldap_msg.Messages.{PartialAttributeValue, SearchResultEntryValue}
+use Rattle.indexed_tree.specs.ldap_dn.Printed.{printed_name}
+use Rattle.indexed_tree.specs.Directory.{NamedEntry}
+pub use Rattle.indexed_tree.specs.ldap_dn.Printed.{name_of_type}
 
 -- a recognised description selects its type and the subtypes (RFC 4512 2.5.1); another one selects nothing
 abbrev pub is_named_by : SchemaModel → ℕ → Option ℕ → Bool

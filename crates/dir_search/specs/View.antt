@@ -1,20 +1,20 @@
 -- What an answer in memory stands for, and how many entries it tells of.
 use Rattle.std.specs.Prelude.{◌≡◌, ℕ, ◌<◌, ◌≤◌, List, length, map, filter, nat_le, Some}
 use Rattle.std.specs.List.{slice_get}
-use Rattle.dir_kept.specs.ldap_schema.Schema.{SchemaModel}
+use Rattle.indexed_tree.specs.ldap_schema.Schema.{SchemaModel}
 use Rattle.ldap_eval.specs.declared.bound.BoundFilter.{BoundFilter}
-use Rattle.dir_kept.specs.session_talk.ldap_msg.Messages.{SearchRequestValue, SearchResultEntryValue}
-use Rattle.dir_kept.specs.index_choice.declared.kinds.Kinds.{Kinds}
-use Rattle.dir_kept.specs.dir_tree.Directory.{Entered}
-use Rattle.dir_kept.specs.Directory.{NamedEntry}
-use Rattle.dir_kept.specs.Stored.{named}
-use Rattle.dir_kept.specs.session_talk.Answers.{Answer}
-use Rattle.dir_kept.specs.session_talk.View.{answer_view}
+use Rattle.indexed_tree.specs.directory_api.ldap_msg.Messages.{SearchRequestValue, SearchResultEntryValue}
+use Rattle.indexed_tree.specs.index_choice.declared.kinds.Kinds.{Kinds}
+use Rattle.indexed_tree.specs.dir_tree.Directory.{Entered}
+use Rattle.indexed_tree.specs.Directory.{NamedEntry}
+use Rattle.indexed_tree.specs.Stored.{named}
+use Rattle.indexed_tree.specs.directory_api.Answers.{Answer}
+use Rattle.indexed_tree.specs.directory_api.View.{answer_view}
 use Rattle.dir_search.specs.Answer.{limited}
 use Rattle.dir_search.specs.Counted.{first_past}
 use Rattle.dir_search.specs.Looks.{true_numbers, up_to, IsFew, IsCountAmong}
 use Rattle.dir_search.specs.Numbered.{entries_of, found_of}
-use Rattle.dir_kept.specs.session_talk.declared.search_answer.SearchAnswer.{SearchAnswer}
+use Rattle.indexed_tree.specs.directory_api.declared.search_answer.SearchAnswer.{SearchAnswer}
 
 -- An answer in memory stands for this one, and tells of no more evaluations of the filter than so many.
 pub record Finds (a : SearchAnswer) (x : Answer) (most : ℕ) : Type 0 where

@@ -1,16 +1,16 @@
 //! A search whose filter is bound: the numbers in scope of the entries whose filter value is True are drawn from plans, in order, up to the size
 //! limit. A tree and a request flow in, what is shown of the entries flows out. How a filter is bound, and how plans are made, is not here.
 ghost use Rattle.std.specs.Prelude.{◌≡◌, ℕ, List, [], true, false, IfOk};
-ghost use Rattle.dir_kept.specs.ldap_schema.Schema.{SchemaModel};
+ghost use Rattle.indexed_tree.specs.ldap_schema.Schema.{SchemaModel};
 ghost use Rattle.ldap_filter.specs.Tree.{Tree as FilterTree};
 ghost use Rattle.ldap_filter.specs.View.{view as filter_view};
-ghost use Rattle.dir_kept.specs.ldap_dn.Names.{rdns};
+ghost use Rattle.indexed_tree.specs.ldap_dn.Names.{rdns};
 ghost use Rattle.ldap_eval.specs.Bound.{IsBoundTo};
 ghost use Rattle.ldap_eval.specs.Made.{IsMadeOf};
-ghost use Rattle.dir_kept.specs.dir_index.Postings.{has_number};
-ghost use Rattle.dir_kept.specs.dir_tree.Directory.{name_eq, begins, entry_at};
-ghost use Rattle.dir_kept.specs.Listed.{lists_of};
-ghost use Rattle.dir_kept.specs.Stored.{directory};
+ghost use Rattle.indexed_tree.specs.dir_index.Postings.{has_number};
+ghost use Rattle.indexed_tree.specs.dir_tree.Directory.{name_eq, begins, entry_at};
+ghost use Rattle.indexed_tree.specs.Listed.{lists_of};
+ghost use Rattle.indexed_tree.specs.Stored.{directory};
 ghost use Rattle.search_plans.specs.Sets.{is_in};
 ghost use Rattle.search_plans.specs.Planned.{ArePlansFor};
 ghost use Rattle.search_plans.specs.Runs.{AreGuides, is_open};
@@ -21,7 +21,7 @@ ghost use Rattle.dir_search.specs.Scopes.{is_right_under, is_in_scope};
 use crate::scoping::{is_unnamed, numbers_right_under, numbers_within};
 use crate::showing::show_found;
 use crate::values::Evaluated;
-use dir_kept::{IndexedTree, NumberSet, Rdn, Schema, Scope, SearchAnswer, SearchRequest};
+use indexed_tree::{IndexedTree, NumberSet, Rdn, Schema, Scope, SearchAnswer, SearchRequest};
 use ldap_eval::BoundFilter;
 use search_plans::{Scope as NumberScope, Sided, compile, sets_are_of_entries, start};
 use std::alloc::{AllocError, Global};

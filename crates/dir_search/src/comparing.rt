@@ -3,17 +3,17 @@ ghost use Rattle.std.specs.Prelude.{◌≡◌, Ok, Some, IfOk, string_bytes};
 ghost use Rattle.ldap_filter.specs.Item.{comparison, equal as equal_to};
 ghost use Rattle.ldap_filter.specs.Tree.{item};
 ghost use Rattle.ldap_filter.specs.View.{view as filter_view};
-ghost use Rattle.dir_kept.specs.session_talk.ldap_msg.View.{compare_view};
-ghost use Rattle.dir_kept.specs.session_talk.ldap_msg.ldap_requests.View.{ava_view};
-ghost use Rattle.dir_kept.specs.dir_entry.Entry.{attributes_of, IsKeyedBy};
+ghost use Rattle.indexed_tree.specs.directory_api.ldap_msg.View.{compare_view};
+ghost use Rattle.indexed_tree.specs.directory_api.ldap_msg.ldap_requests.View.{ava_view};
+ghost use Rattle.indexed_tree.specs.dir_entry.Entry.{attributes_of, IsKeyedBy};
 ghost use Rattle.std.specs.List.{list_any};
-ghost use Rattle.dir_kept.specs.ldap_schema.Schema.{find, is_under};
-ghost use Rattle.dir_kept.specs.session_talk.View.{reply_view};
-ghost use Rattle.dir_kept.specs.session_talk.Answers.{only};
-ghost use Rattle.dir_kept.specs.Replies.{entry_asked};
+ghost use Rattle.indexed_tree.specs.ldap_schema.Schema.{find, is_under};
+ghost use Rattle.indexed_tree.specs.directory_api.View.{reply_view};
+ghost use Rattle.indexed_tree.specs.directory_api.Answers.{only};
+ghost use Rattle.indexed_tree.specs.Replies.{entry_asked};
 ghost use Rattle.dir_search.specs.Compared.{code_of_truth, has_under as has_type_under, code_on_type, code_on, reply_on, compared};
 
-use dir_kept::{
+use indexed_tree::{
     Attribute, AttributeValueAssertion, CompareRequest, Entry, Name, NameError, Rdn, Reading,
     Reply, ResultCode, Schema, Truth, TypeId, is_of_syntax,
 };

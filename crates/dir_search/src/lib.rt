@@ -1,5 +1,16 @@
 //! Searches and compares: a directory and a request flow in, the result code and the entries that are shown flow out. Octets of
 //! messages, sessions and replication are not here.
+//!
+//! Answers a search of what it is lent (`searching`); `reading` answers one that names an update, over a directory at a number. A bound
+//! search (`bound_search`) takes its scope from the tree (`scoping`), compiles the filter, and runs the plans. `values` gives and counts
+//! the filter's values that plans leave open; `names_at` reads entries' names off the tree. `showing` shows what is selected (`selecting`),
+//! up to the first entry past the size limit, copying each octet once. Selectors are looked up once a search (`resolving`); an attribute
+//! costs its type's chain of SUPs. `root_dse` has what the empty name alone shows, `comparing` a compare.
+//!
+//! Proved: a search gives exactly the entries in scope whose filter value is True, in order of number, each once, with the selected
+//! attributes, up to the size limit. Else it gives the root DSE, or the code of the definition (`search` `answer`). It evaluates on the
+//! entries that the plans leave open: none where indexes decide the filter, for an `and` at most those of a decided part (`counted`,
+//! `tests`, `few`). A compare is its definition (`compare`).
 #![tactic(auto)]
 
 mod bound_search;
@@ -16,7 +27,7 @@ mod showing;
 mod values;
 
 pub use comparing::compare;
-pub use dir_kept::{
+pub use indexed_tree::{
     AddRequest, CompareRequest, DerefAliases, IndexError, Indexes, Name, NameError, Reading, Reply,
     ResultCode, Schema, Scope, SearchAnswer, SearchRequest, are_same,
 };

@@ -3,10 +3,10 @@
 
 ghost use Rattle.std.specs.Prelude.{◌≡◌, ◌<◌, ◌-◌, length, slice_get};
 ghost use Rattle.std.specs.Option.{option_map};
-ghost use Rattle.dir_kept.specs.dir_tree.Directory.{entry_at};
+ghost use Rattle.indexed_tree.specs.dir_tree.Directory.{entry_at};
 ghost use Rattle.dir_search.specs.Numbered.{name_of};
 
-use dir_kept::{Rdn, Tree};
+use indexed_tree::{Rdn, Tree};
 use ldap_eval::NamePairs;
 
 /// The name of a number's entry; the empty one, where there is none.
@@ -44,7 +44,7 @@ fn rdn_at(tree: &Tree, number: u64, count: usize, at: usize) -> Option<&Rdn>
 }
 
 impl NamePairs for NameAt<'_> {
-    ghost use Rattle.dir_kept.specs.dir_tree.Directory.{entry_at};
+    ghost use Rattle.indexed_tree.specs.dir_tree.Directory.{entry_at};
     ghost use Rattle.dir_search.specs.Numbered.{name_of};
 
     ghost name = { λ n. name_of (entry_at n.number n.tree.now.entries) };

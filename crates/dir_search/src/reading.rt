@@ -1,15 +1,15 @@
 // Reads of one state of a directory, as whoever holds a store answers them. A directory, its number and a request flow in; the answer flows
 // out. What must not be here: updates, which state it is.
-ghost use Rattle.dir_kept.specs.session_talk.ldap_msg.View.{search_view, compare_view};
+ghost use Rattle.indexed_tree.specs.directory_api.ldap_msg.View.{search_view, compare_view};
 ghost use Rattle.dir_search.specs.Answer.{answer};
 ghost use Rattle.dir_search.specs.Compared.{compared};
-ghost use Rattle.dir_kept.specs.session_talk.Reading.{IsReadAt};
-ghost use Rattle.dir_kept.specs.session_talk.Talk.{looked};
-ghost use Rattle.dir_kept.specs.session_talk.View.{reply_view, answer_view};
+ghost use Rattle.indexed_tree.specs.directory_api.Reading.{IsReadAt};
+ghost use Rattle.indexed_tree.specs.directory_api.Talk.{looked};
+ghost use Rattle.indexed_tree.specs.directory_api.View.{reply_view, answer_view};
 
 use crate::comparing::compare;
 use crate::searching::search;
-use dir_kept::{CompareRequest, Found, LookError, Reading, Reply, SearchAnswer, SearchRequest};
+use indexed_tree::{CompareRequest, Found, LookError, Reading, Reply, SearchAnswer, SearchRequest};
 use std::alloc::Global;
 
 /// A search of a directory that is at this number, no older than one that is named.

@@ -1,9 +1,9 @@
 // Searches with nothing to find. A reply flows in; the answer that says so flows out. What must not be here: which search that is.
-ghost use Rattle.dir_kept.specs.session_talk.View.{reply_view};
-ghost use Rattle.dir_kept.specs.session_talk.Answers.{refused as refused_answer};
+ghost use Rattle.indexed_tree.specs.directory_api.View.{reply_view};
+ghost use Rattle.indexed_tree.specs.directory_api.Answers.{refused as refused_answer};
 ghost use Rattle.dir_search.specs.View.{Finds};
 
-use dir_kept::{Reply, SearchAnswer};
+use indexed_tree::{Reply, SearchAnswer};
 use std::alloc::Global;
 
 /// No entries, and a reply that is not success.

@@ -2,11 +2,11 @@
 //! flows out. What is shown of an entry is not here.
 ghost use Rattle.std.specs.Prelude.{◌≡◌, ◌||◌, ℕ, length, map, IfOk, OnOk, string_bytes};
 ghost use Rattle.std.specs.List.{list_any};
-ghost use Rattle.dir_kept.specs.ldap_schema.Schema.{find, superior_of, superiors};
+ghost use Rattle.indexed_tree.specs.ldap_schema.Schema.{find, superior_of, superiors};
 ghost use Rattle.dir_search.specs.Selection.{is_named_by, is_selected_by};
 ghost use Rattle.dir_search.specs.Resolved.{Resolves, is_held, is_none, picks, picks_named};
 
-use dir_kept::{Schema, TypeId};
+use indexed_tree::{Schema, TypeId};
 use std::alloc::{AllocError, Global};
 use std::collections::BTreeSet;
 

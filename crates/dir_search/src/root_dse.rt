@@ -6,8 +6,8 @@ ghost use Rattle.std.specs.Str.{str_eq_ignore_ascii_case};
 ghost use Rattle.ldap_filter.specs.View.{view as filter_view};
 ghost use Rattle.ldap_eval.specs.Value.{filter_value};
 ghost use Rattle.search_plans.specs.Runs.{is_true};
-ghost use Rattle.dir_kept.specs.session_talk.ldap_msg.View.{attribute_view, entry_view, search_view};
-ghost use Rattle.dir_kept.specs.dir_entry.Entry.{attributes_of, IsKeyedBy};
+ghost use Rattle.indexed_tree.specs.directory_api.ldap_msg.View.{attribute_view, entry_view, search_view};
+ghost use Rattle.indexed_tree.specs.dir_entry.Entry.{attributes_of, IsKeyedBy};
 ghost use Rattle.dir_search.specs.Answer.{dse_matching};
 ghost use Rattle.dir_search.specs.Resolved.{selectors_of};
 ghost use Rattle.dir_search.specs.RootDse.{class_top, dse_attributes, dse_selected, where_named, without_values};
@@ -16,7 +16,7 @@ ghost use Rattle.dir_search.specs.View.{Finds};
 use crate::resolving::Selection;
 use crate::searching::matches;
 use crate::selecting::Showing;
-use dir_kept::{
+use indexed_tree::{
     Entry, EntryError, Name, PartialAttribute, Reading, ResultCode, Schema, SearchAnswer,
     SearchRequest, SearchResultEntry, TypeId,
 };

@@ -1,12 +1,12 @@
 //! The numbers of the entries that a search looks at: sets that the tree keeps. A tree and a base flow in; numbers in rising order flow
 //! out. Entries and filters are not here.
 ghost use Rattle.std.specs.Prelude.{◌≡◌, [], true, false, is_some};
-ghost use Rattle.dir_kept.specs.ldap_dn.Names.{rdns};
-ghost use Rattle.dir_kept.specs.dir_tree.Directory.{begins, find, numbers};
+ghost use Rattle.indexed_tree.specs.ldap_dn.Names.{rdns};
+ghost use Rattle.indexed_tree.specs.dir_tree.Directory.{begins, find, numbers};
 ghost use Rattle.dir_search.specs.Answer.{is_empty};
 ghost use Rattle.dir_search.specs.Scopes.{is_right_under};
 
-use dir_kept::{NumberSet, Rdn, Tree};
+use indexed_tree::{NumberSet, Rdn, Tree};
 
 /// Whether a name is the empty one.
 pub fn is_unnamed(base: &[Rdn]) -> bool

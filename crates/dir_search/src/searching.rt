@@ -1,27 +1,27 @@
 //! The search itself: what a request's base stands for, the root DSE, entries or nothing, and the answer. A directory and a request flow in, the
 //! result code and what is shown of the entries flow out. How the entries in scope are gone over is not here.
 ghost use Rattle.std.specs.Prelude.{◌≡◌, ◌≤◌, ◌&&◌, length, true, IfOk};
-ghost use Rattle.dir_kept.specs.ldap_schema.Schema.{SchemaModel};
+ghost use Rattle.indexed_tree.specs.ldap_schema.Schema.{SchemaModel};
 ghost use Rattle.ldap_filter.specs.Tree.{Tree as FilterTree};
-ghost use Rattle.dir_kept.specs.ldap_dn.Texts.{name_of_text};
+ghost use Rattle.indexed_tree.specs.ldap_dn.Texts.{name_of_text};
 ghost use Rattle.ldap_eval.specs.Bound.{IsBoundTo};
 ghost use Rattle.ldap_eval.specs.Value.{filter_value};
-ghost use Rattle.dir_kept.specs.session_talk.ldap_msg.View.{search_view};
-ghost use Rattle.dir_kept.specs.dir_entry.Entry.{attributes_of, IsKeyedBy};
-ghost use Rattle.dir_kept.specs.session_talk.Answers.{only};
-ghost use Rattle.dir_kept.specs.Stored.{directory, AreKeyedBy};
+ghost use Rattle.indexed_tree.specs.directory_api.ldap_msg.View.{search_view};
+ghost use Rattle.indexed_tree.specs.dir_entry.Entry.{attributes_of, IsKeyedBy};
+ghost use Rattle.indexed_tree.specs.directory_api.Answers.{only};
+ghost use Rattle.indexed_tree.specs.Stored.{directory, AreKeyedBy};
 ghost use Rattle.dir_search.specs.Answer.{answer, answer_of, answer_at, found_at, in_scope, tried, tried_of, tried_at, is_true, is_base, stands, is_empty};
-ghost use Rattle.dir_kept.specs.session_talk.Answers.{refused as refused_answer};
+ghost use Rattle.indexed_tree.specs.directory_api.Answers.{refused as refused_answer};
 ghost use Rattle.dir_search.specs.Counted.{IsCountAtBase, IsCountFrom, IsCountOf};
 ghost use Rattle.dir_search.specs.Evaluated.{IsFewAtBase, LooksAtFew, goes_over};
 ghost use Rattle.dir_search.specs.View.{Finds};
-ghost use Rattle.dir_kept.specs.session_talk.View.{answer_view};
+ghost use Rattle.indexed_tree.specs.directory_api.View.{answer_view};
 
 use crate::bound_search::BoundSearch;
 use crate::refusing::refused;
 use crate::root_dse::show_root;
 use crate::scoping::is_unnamed;
-use dir_kept::{
+use indexed_tree::{
     Entry, IndexedTree, Name, NameError, Rdn, Reading, Reply, ResultCode, Schema, Scope,
     SearchAnswer, SearchRequest, Truth,
 };

@@ -1,16 +1,16 @@
 //! What is shown of an entry: the selected attributes in its order, each by its type's first name, each octet copied once.
 //! A schema, a request and an entry flow in. Filters are not here.
 ghost use Rattle.std.specs.Prelude.{◌≡◌, map, string_bytes, IfOk};
-ghost use Rattle.dir_kept.specs.session_talk.ldap_msg.View.{attribute_view, entry_view};
-ghost use Rattle.dir_kept.specs.ldap_dn.Printed.{printed_name};
-ghost use Rattle.dir_kept.specs.dir_entry.Entry.{shown as without_keys, attributes_of};
-ghost use Rattle.dir_kept.specs.dir_tree.Directory.{entry_at};
+ghost use Rattle.indexed_tree.specs.directory_api.ldap_msg.View.{attribute_view, entry_view};
+ghost use Rattle.indexed_tree.specs.ldap_dn.Printed.{printed_name};
+ghost use Rattle.indexed_tree.specs.dir_entry.Entry.{shown as without_keys, attributes_of};
+ghost use Rattle.indexed_tree.specs.dir_tree.Directory.{entry_at};
 ghost use Rattle.dir_search.specs.Numbered.{name_of};
 ghost use Rattle.dir_search.specs.Resolved.{Resolves, selectors_of};
 ghost use Rattle.dir_search.specs.Selection.{is_selected, first_name, shown, attributes_selected};
 
 use crate::resolving::Selection;
-use dir_kept::{
+use indexed_tree::{
     Attribute, Entry, PartialAttribute, Schema, SearchRequest, SearchResultEntry, Tree, TypeId,
     copy_values, print_from_leaf,
 };

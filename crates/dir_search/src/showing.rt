@@ -2,19 +2,19 @@
 //! out. Which numbers are found is not told here.
 ghost use Rattle.std.specs.Prelude.{◌≡◌, ◌<◌, ◌++◌, ◌∷◌, [], map, IfOk, OnOk};
 ghost use Rattle.std.specs.Bool.{OnTrue, OnFalse};
-ghost use Rattle.dir_kept.specs.session_talk.ldap_msg.View.{entry_view};
-ghost use Rattle.dir_kept.specs.Stored.{named};
+ghost use Rattle.indexed_tree.specs.directory_api.ldap_msg.View.{entry_view};
+ghost use Rattle.indexed_tree.specs.Stored.{named};
 ghost use Rattle.dir_search.specs.Looks.{AreHere};
 ghost use Rattle.dir_search.specs.Numbered.{entries_of};
 ghost use Rattle.dir_search.specs.Resolved.{selectors_of};
 ghost use Rattle.dir_search.specs.Selection.{selected};
 ghost use Rattle.dir_search.specs.View.{Shows};
-ghost use Rattle.dir_kept.specs.session_talk.View.{answer_view};
+ghost use Rattle.indexed_tree.specs.directory_api.View.{answer_view};
 
 use crate::resolving::Selection;
 use crate::selecting::Showing;
 use crate::values::Evaluated;
-use dir_kept::{
+use indexed_tree::{
     IndexedTree, ResultCode, Schema, SearchAnswer, SearchRequest, SearchResultEntry, Tree,
 };
 use search_plans::Running;

@@ -1,7 +1,7 @@
 //! The values of a filter on the entries of a tree, each asked for by its number. A tree and a bound filter flow in; values flow
 //! out, and each look is counted. Plans are not here.
 use crate::names_at::NameAt;
-use dir_kept::{Tree, Truth};
+use indexed_tree::{Tree, Truth};
 use ldap_eval::{BoundFilter, value};
 use search_plans::Values;
 

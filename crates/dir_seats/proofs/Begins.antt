@@ -3,14 +3,14 @@ use Rattle.std.proofs.Common.{◌≡◌, ℕ, List, [], ◌∷◌, ◌++◌, len
 use Rattle.std.proofs.Math.Seq.{drop-append_seam}
 use Rattle.std.proofs.lemmas.List.{length-append}
 use mathlib.Core.List.{IsPrefix}
-use Rattle.vr_state.specs.Words.{Entry}
-use Rattle.dir_seats.specs.dir_executed.dir_store.ldap_op.Values.{OpValue}
-use Rattle.dir_seats.specs.dir_executed.Executing.{ExecutedValue}
+use Rattle.vr_state.specs.Words.{LogEntry}
+use Rattle.dir_seats.specs.state_machine.dir_store.ldap_op.Values.{OpValue}
+use Rattle.dir_seats.specs.state_machine.Executing.{ExecutedValue}
 use Rattle.dir_seats.specs.Lists.{with_records, IsBeginning}
 use Rattle.dir_seats.specs.Rule.{Floor}
 use Rattle.dir_seats.specs.Showing.{HoldsVersions, latest, showing}
 
-prefix_trans : (xs ys zs : List (Entry OpValue)) → IsPrefix xs ys → IsPrefix ys zs → IsPrefix xs zs
+prefix_trans : (xs ys zs : List (LogEntry OpValue)) → IsPrefix xs ys → IsPrefix ys zs → IsPrefix xs zs
 prefix_trans xs ys zs p q = (p.0 ++ q.0, sym (append_assoc xs p.0 q.0) ∙ (ap (λ w. w ++ q.0) p.1 ∙ q.1))
 
 pub begins_self : (v : ExecutedValue) → IsBeginning v v
@@ -33,7 +33,7 @@ same_parts a b schema suffix indexes records =
     ∙ ap (λ x. record { schema = b.schema; suffix = b.suffix; indexes = b.indexes; records = x }) records
 
 -- the rest behind a beginning
-rest_is : (xs ys : List (Entry OpValue)) → (p : IsPrefix xs ys) → drop (length xs) ys ≡ p.0
+rest_is : (xs ys : List (LogEntry OpValue)) → (p : IsPrefix xs ys) → drop (length xs) ys ≡ p.0
 rest_is xs ys p = ap (drop (length xs)) (sym p.1) ∙ drop-append_seam xs p.0
 
 -- a beginning, with what the other has beyond it, is the other
@@ -41,7 +41,7 @@ pub filled_up : (a b : ExecutedValue) → IsBeginning a b → with_records a (dr
 filled_up a b p =
     same_parts _ _ (sym p.schema) (sym p.suffix) (sym p.indexes) (ap (λ l. a.records ++ l) (rest_is a.records b.records p.records) ∙ p.records.1)
 
-none_left : (xs ys : List (Entry OpValue)) → length xs ≡ length (xs ++ ys) → ys ≡ []
+none_left : (xs ys : List (LogEntry OpValue)) → length xs ≡ length (xs ++ ys) → ys ≡ []
 none_left xs [] h = refl
 none_left xs (y ∷ ys) h = absurd (omega (arith, length-append xs (y ∷ ys), h))
 
@@ -56,7 +56,7 @@ pub latest_more : (v : ExecutedValue) (nexts : List ExecutedValue) (next : Execu
 latest_more v [] next = refl
 latest_more v (x ∷ xs) next = latest_more x xs next
 
-begins_more : (v : ExecutedValue) (es : List (Entry OpValue)) → IsBeginning v (with_records v es)
+begins_more : (v : ExecutedValue) (es : List (LogEntry OpValue)) → IsBeginning v (with_records v es)
 begins_more v es = record { schema = refl; suffix = refl; indexes = refl; records = (es, refl) }
 
 latest_is : (shown : ExecutedValue) (nexts more : List ExecutedValue) (next executed : ExecutedValue) → more ≡ nexts ++ next ∷ [] → next ≡ executed → latest shown more ≡ executed

@@ -15,8 +15,8 @@ use Rattle.left_right.proofs.writer.Writer.TheSendSync as writer
 use Rattle.left_right.specs.contracts.reader.Factory as Factory
 use Rattle.left_right.specs.contracts.reader.Reader as Reader
 use Rattle.left_right.specs.contracts.writer.Writer as Writer
-use Rattle.dir_executed.proofs.Crossing.{store_crosses}
-use Rattle.dir_executed.specs.contracts.executed.Executed as Executed
+use Rattle.state_machine.proofs.Crossing.{store_crosses}
+use Rattle.state_machine.specs.contracts.executed.Executed as Executed
 use Rattle.dir_seats.specs.contracts.rule.Published as Published
 use Rattle.dir_seats.specs.contracts.rule.PublishedProtocolShownFloor.TheImpl as PublishedRule
 use Rattle.dir_seats.specs.contracts.publisher.Publisher as Publisher

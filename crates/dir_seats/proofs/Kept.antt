@@ -5,7 +5,7 @@ use mathlib.Core.Option.{some}
 use lib.ListN.{get_elem?}
 use Rattle.crossbeam_utils.specs.Register.{Admits, TurnsAt, Forks, Merges}
 use Rattle.atomic_table.proofs.Lists.{at_set, at_snoc}
-use Rattle.dir_seats.specs.dir_executed.Executing.{ExecutedValue}
+use Rattle.dir_seats.specs.state_machine.Executing.{ExecutedValue}
 use Rattle.dir_seats.specs.Lists.{IsBeginning}
 use Rattle.dir_seats.specs.Rule.{Floor, Keeps, Sees, Reaches, newcomer}
 use Rattle.dir_seats.proofs.Begins.{begins_self, begins_trans}

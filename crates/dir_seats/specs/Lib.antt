@@ -4,5 +4,5 @@ pub mod Versions
 pub mod Showing
 pub mod Reads
 -- what layers above name of the crates below
-pub use Rattle.dir_executed.specs as dir_executed
-pub use Rattle.session_talk.specs as session_talk
+pub use Rattle.state_machine.specs as state_machine
+pub use Rattle.directory_api.specs as directory_api

@@ -3,9 +3,9 @@
 use Rattle.std.specs.Prelude.{◌≡◌, ℕ, length, Option, Some, None}
 use Rattle.dir_search.specs.Answer.{answer}
 use Rattle.dir_search.specs.Compared.{compared as compared_reply}
-use Rattle.session_talk.specs.Reading.{IsReadAt}
-use Rattle.session_talk.specs.Talk.{Looked, found, not_yet, gone, no_memory, Exchange, asked_role, learned, searched, compared, updated}
-use Rattle.dir_executed.specs.Executing.{ExecutedValue, directory_at}
+use Rattle.directory_api.specs.Reading.{IsReadAt}
+use Rattle.directory_api.specs.Talk.{Looked, found, not_yet, gone, no_memory, Exchange, asked_role, learned, searched, compared, updated}
+use Rattle.state_machine.specs.Executing.{ExecutedValue, directory_at}
 use Rattle.dir_seats.specs.Lists.{IsBeginning, longer}
 
 -- A read is of one published list, which the floor begins and which is the floor from then on: it is answered at its length, or told that it is

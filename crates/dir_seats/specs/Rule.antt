@@ -3,7 +3,7 @@
 use Rattle.std.specs.Prelude.{◌≡◌, ℕ, List, [], Bool, true, false}
 use mathlib.Core.Option.{some}
 use lib.ListN.{get_elem?}
-use Rattle.dir_executed.specs.Executing.{ExecutedValue}
+use Rattle.state_machine.specs.Executing.{ExecutedValue}
 use Rattle.dir_seats.specs.Lists.{IsBeginning}
 
 -- what a reader knows: whether it saw or was told anything, and the longest that it saw or was told of

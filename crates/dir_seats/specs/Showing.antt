@@ -1,15 +1,15 @@
 -- What a publisher shows, and what it is to show next.
 use Rattle.std.specs.Prelude.{◌≡◌, ℕ, List, true, fold, drop, length}
-use Rattle.vr_state.specs.Words.{Entry}
-use Rattle.dir_executed.specs.dir_store.ldap_op.Values.{OpValue}
-use Rattle.dir_executed.specs.Executing.{ExecutedValue}
+use Rattle.vr_state.specs.Words.{LogEntry}
+use Rattle.state_machine.specs.dir_store.ldap_op.Values.{OpValue}
+use Rattle.state_machine.specs.Executing.{ExecutedValue}
 use Rattle.dir_seats.specs.Lists.{IsBeginning}
 use Rattle.dir_seats.specs.Rule.{Floor}
 
 -- what seats see, and the records that they are to see next
 pub record Showing : Type 0 where
   pub published : ExecutedValue
-  pub waiting : List (Entry OpValue)
+  pub waiting : List (LogEntry OpValue)
 
 -- the last of the versions that are to be shown, or else the one that is
 abbrev pub latest : ExecutedValue → List ExecutedValue → ExecutedValue

@@ -1,7 +1,7 @@
 -- One version of the directory.
 use Rattle.std.specs.Prelude.{◌≡◌, ℕ, length}
-use Rattle.dir_executed.specs.dir_kept.Listed.{StoreModel}
-use Rattle.dir_executed.specs.Executing.{ExecutedValue, directory_at}
+use Rattle.state_machine.specs.indexed_tree.Listed.{StoreModel}
+use Rattle.state_machine.specs.Executing.{ExecutedValue, directory_at}
 
 -- A store has the directory after what was executed, and so many records were.
 pub record IsAfter (store : StoreModel) (count : ℕ) (executed : ExecutedValue) : Type 0 where

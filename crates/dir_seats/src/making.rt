@@ -9,8 +9,8 @@ use crate::rule::ShownWriter;
 use crate::seat::Seat;
 use crate::shown::Shown;
 use crate::steps::show;
-use dir_executed::{Executed, Indexes, Name, Schema, Store};
 use left_right::writer::Writer;
+use state_machine::{Executed, Indexes, Name, Schema, Store};
 use std::alloc::{AllocError, Global};
 use std::sync::{Arc, Wait};
 

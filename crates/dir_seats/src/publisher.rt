@@ -9,7 +9,7 @@ use crate::seat::{Seat, Told};
 use crate::shown::Shown;
 use crate::steps::{show_in_place, tell};
 use crate::teller::Teller;
-use dir_executed::Executed;
+use state_machine::Executed;
 use std::alloc::{AllocError, Global};
 use std::marker::{Model, PhantomData};
 use std::sync::Wait;

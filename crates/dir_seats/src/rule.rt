@@ -4,9 +4,9 @@ ghost use Rattle.dir_seats.specs.Rule.{Keeps, Sees, newcomer};
 use crate::shown::Shown;
 use atomic_table::{Join, Split};
 use crossbeam_utils::rule::{Outcome, Protocol};
-use dir_executed::Executed;
 use left_right::reader::{Factory, Reader};
 use left_right::writer::Writer;
+use state_machine::Executed;
 
 /// Whether a reader knows anything, and the longest that it saw or was told of. No value of it is made.
 pub type Floor = (bool, Executed);

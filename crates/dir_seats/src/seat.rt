@@ -2,20 +2,20 @@
 //! of a seat takes a lock or waits. Who publishes is not here.
 ghost use Rattle.std.specs.Prelude.{◌≡◌, true, length};
 ghost use Rattle.left_right.specs.Sides.{view as known};
-ghost use Rattle.session_talk.specs.ldap_msg.View.{search_view, compare_view};
-ghost use Rattle.session_talk.specs.View.{reply_view};
+ghost use Rattle.directory_api.specs.ldap_msg.View.{search_view, compare_view};
+ghost use Rattle.directory_api.specs.View.{reply_view};
 ghost use Rattle.dir_search.specs.Answer.{answer};
 ghost use Rattle.dir_search.specs.Compared.{compared};
-ghost use Rattle.session_talk.specs.View.{answer_view};
-ghost use Rattle.session_talk.specs.Talk.{looked};
-ghost use Rattle.dir_executed.specs.Executing.{directory_at};
+ghost use Rattle.directory_api.specs.View.{answer_view};
+ghost use Rattle.directory_api.specs.Talk.{looked};
+ghost use Rattle.state_machine.specs.Executing.{directory_at};
 ghost use Rattle.dir_seats.specs.Lists.{longer};
 ghost use Rattle.dir_seats.specs.Reads.{IsReadFrom};
 
 use crate::look::{look_compare, look_search};
 use crate::rule::ShownReader;
 use core::mem::replace_with;
-use session_talk::{CompareRequest, Found, Look, LookError, Reply, SearchAnswer, SearchRequest};
+use directory_api::{CompareRequest, Found, Look, LookError, Reply, SearchAnswer, SearchRequest};
 use std::alloc::Global;
 use std::marker::{Model, PhantomData};
 
@@ -40,7 +40,7 @@ impl<N> Drop for Seat<N> {
 impl<N> Model for Seat<N> {
     ghost use Rattle.std.specs.Prelude.{◌≡◌, true, length};
     ghost use Rattle.left_right.specs.Sides.{view as known};
-    ghost use Rattle.dir_executed.specs.Executing.{ExecutedValue};
+    ghost use Rattle.state_machine.specs.Executing.{ExecutedValue};
 
     ghost Value = { ExecutedValue };
 
@@ -56,7 +56,7 @@ pub struct Told<N> {
 }
 
 impl<N> Model for Told<N> {
-    ghost use Rattle.dir_executed.specs.Executing.{ExecutedValue};
+    ghost use Rattle.state_machine.specs.Executing.{ExecutedValue};
 
     ghost Value = { ExecutedValue };
 

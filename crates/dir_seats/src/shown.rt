@@ -1,10 +1,10 @@
 //! The published value: one version of the directory, which has as many owners as it is shared with, and how many records made it. Who reads it, and
 //! the records themselves, are not here.
 ghost use Rattle.std.specs.Prelude.{◌≡◌, length, IfOk};
-ghost use Rattle.dir_executed.specs.Executing.{directory_at};
+ghost use Rattle.state_machine.specs.Executing.{directory_at};
 
-use dir_executed::{Executed, Store};
 use left_right::Absorb;
+use state_machine::{Executed, Store};
 use std::alloc::{AllocError, Global};
 use std::marker::Model;
 use std::snapshot::Snapshot;
@@ -29,7 +29,7 @@ impl Drop for Version {
 }
 
 impl Model for Version {
-    ghost use Rattle.dir_executed.specs.Executing.{ExecutedValue};
+    ghost use Rattle.state_machine.specs.Executing.{ExecutedValue};
     ghost use Rattle.dir_seats.specs.Versions.{IsAfter};
 
     ghost Value = { ExecutedValue };
@@ -80,7 +80,7 @@ impl Drop for Shown {
 }
 
 impl Model for Shown {
-    ghost use Rattle.dir_executed.specs.Executing.{ExecutedValue};
+    ghost use Rattle.state_machine.specs.Executing.{ExecutedValue};
     ghost use Rattle.std.specs.Arc.{arc_value};
 
     ghost Value = { ExecutedValue };

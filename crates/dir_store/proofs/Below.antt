@@ -1,15 +1,15 @@
 -- Numbers once an update is made: all stay below the number after its own. Facts on definitions flow in and out; no value of the program is here.
 use Rattle.std.proofs.Common.{◌≡◌, ◌<◌, ◌+◌, ℕ, List, [], ◌∷◌, ◌++◌, Bool, true, false, cond, Result, Ok, Err, nat_eq, arith, sym, ap, subst}
 use Rattle.std.specs.Prelude.{IfOk}
-use Rattle.dir_kept.specs.ldap_dn.Names.{RdnModel, rdns}
+use Rattle.indexed_tree.specs.ldap_dn.Names.{RdnModel, rdns}
 use Rattle.entry_updates.specs.ldap_op.Values.{OpValue, add, delete, modify, modify_dn, noop}
-use Rattle.dir_kept.specs.dir_entry.Entry.{AttributeModel}
-use Rattle.dir_kept.specs.dir_tree.Directory.{NameKey}
-use Rattle.dir_kept.specs.Directory.{Directory, NamedEntry}
-use Rattle.dir_kept.specs.Places.{without_entry, with_attributes, moved}
-use Rattle.dir_kept.specs.Replies.{then}
-use Rattle.dir_kept.specs.session_talk.Answers.{ReplyModel}
-use Rattle.dir_kept.specs.Stored.{NumbersBelow}
+use Rattle.indexed_tree.specs.dir_entry.Entry.{AttributeModel}
+use Rattle.indexed_tree.specs.dir_tree.Directory.{NameKey}
+use Rattle.indexed_tree.specs.Directory.{Directory, NamedEntry}
+use Rattle.indexed_tree.specs.Places.{without_entry, with_attributes, moved}
+use Rattle.indexed_tree.specs.Replies.{then}
+use Rattle.indexed_tree.specs.directory_api.Answers.{ReplyModel}
+use Rattle.indexed_tree.specs.Stored.{NumbersBelow}
 use Rattle.dir_store.specs.Updates.{PlacedModel, KeptModel, MoveModel, name_asked, leaf_asked, addition, change_asked, move_asked, updated, with_entries, applied}
 
 up : (k : ℕ) (es : List NamedEntry) → NumbersBelow k es → NumbersBelow (k + 1) es

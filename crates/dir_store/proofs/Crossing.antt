@@ -1,7 +1,7 @@
 -- A store may cross threads, as a set for `search`: whoever owns a store, or lends one to threads, names it.
 use denote.Param.Send.{IsSend, IsSync, sendable}
 use Rattle.std.proofs.Crossing.{crosses}
-use Rattle.dir_kept.proofs.Crossing.{indexed_crosses}
+use Rattle.indexed_tree.proofs.Crossing.{indexed_crosses}
 use Rattle.dir_store.specs.contracts.store.Store as Held
 
 pub store_send : IsSend Held.the_field.row

@@ -1,8 +1,8 @@
 -- Lists of updates, one behind the other. Facts on definitions flow in and out; no value of the program is here.
 use Rattle.std.proofs.Common.{◌≡◌, ℕ, suc, ◌+◌, List, [], ◌∷◌, ◌++◌, length, ap, ◌∙◌, arith}
 use Rattle.entry_updates.specs.ldap_op.Values.{OpValue}
-use Rattle.dir_kept.specs.Directory.{Directory}
-use Rattle.dir_kept.specs.session_talk.Answers.{ReplyModel}
+use Rattle.indexed_tree.specs.Directory.{Directory}
+use Rattle.indexed_tree.specs.directory_api.Answers.{ReplyModel}
 use Rattle.dir_store.specs.Updates.{applied, reply_to, directory_after, replies_after}
 
 plus_none : (m : ℕ) → m ≡ m + 0

@@ -1,12 +1,12 @@
 -- Where an entry may move to. Facts on names and lists flow in and out; no value of the program is here.
 use Rattle.std.proofs.Common.{◌≡◌, ◌-◌, ℕ, suc, List, [], ◌∷◌, ◌++◌, map, length, take, refl, sym, ap, ◌∙◌, subst, arith, Bool, true, false, not, ◌&&◌, ◌||◌, Option, None, Some, nat_eq, is_some}
 use Rattle.std.specs.Option.{option_map}
-use Rattle.dir_kept.specs.ldap_dn.Names.{TypeAndKey, RdnModel, rdns, are_same_keys}
-use Rattle.dir_kept.specs.dir_tree.Directory.{NameKey, Entered, name_eq, begins, find, above, has_footing, NumbersRise, IsDirectory}
-use Rattle.dir_kept.proofs.Lookups.{found_at, found_name, names_same, placed_same, rdns_take, length_rdns}
-use Rattle.dir_kept.proofs.Shown.{entry_shown}
-use Rattle.dir_kept.specs.Places.{entry_named, parent_of, last_of}
-use Rattle.dir_kept.specs.Stored.{named}
+use Rattle.indexed_tree.specs.ldap_dn.Names.{TypeAndKey, RdnModel, rdns, are_same_keys}
+use Rattle.indexed_tree.specs.dir_tree.Directory.{NameKey, Entered, name_eq, begins, find, above, has_footing, NumbersRise, IsDirectory}
+use Rattle.indexed_tree.proofs.Lookups.{found_at, found_name, names_same, placed_same, rdns_take, length_rdns}
+use Rattle.indexed_tree.proofs.Shown.{entry_shown}
+use Rattle.indexed_tree.specs.Places.{entry_named, parent_of, last_of}
+use Rattle.indexed_tree.specs.Stored.{named}
 use Rattle.dir_store.specs.Updates.{is_other_than}
 
 -- the name above a name is the name of what is above it

@@ -1,10 +1,10 @@
 -- Whether another entry has a name. Facts on lists flow in and out; no value of the program is here.
 use Rattle.std.proofs.Common.{◌≡◌, ℕ, List, map, refl, ap, ◌∙◌, false, not, Option, None, Some, nat_eq}
 use Rattle.std.specs.Option.{option_map}
-use Rattle.dir_kept.specs.dir_tree.Directory.{NameKey, Entered, find}
-use Rattle.dir_kept.proofs.Shown.{entry_shown}
-use Rattle.dir_kept.specs.Places.{entry_named}
-use Rattle.dir_kept.specs.Stored.{named}
+use Rattle.indexed_tree.specs.dir_tree.Directory.{NameKey, Entered, find}
+use Rattle.indexed_tree.proofs.Shown.{entry_shown}
+use Rattle.indexed_tree.specs.Places.{entry_named}
+use Rattle.indexed_tree.specs.Stored.{named}
 use Rattle.dir_store.specs.Updates.{is_other_than}
 
 -- whether another entry has a name, by the number that is found

@@ -3,8 +3,8 @@ use Rattle.std.proofs.Common.{◌≡◌, ℕ, zero, suc, ◌+◌, List, [], ◌�
 use Rattle.std.specs.List.{slice_get}
 use Rattle.std.proofs.lemmas.Option.{slice_get_past}
 use Rattle.entry_updates.specs.ldap_op.Values.{OpValue}
-use Rattle.dir_kept.specs.Directory.{Directory}
-use Rattle.dir_kept.specs.session_talk.Answers.{ReplyModel}
+use Rattle.indexed_tree.specs.Directory.{Directory}
+use Rattle.indexed_tree.specs.directory_api.Answers.{ReplyModel}
 use Rattle.dir_store.specs.Updates.{applied, reply_to, directory_after, replies_after}
 use Rattle.dir_store.specs.Placed.{reply_at, RepliesArePlaced, PlacesJoin}
 

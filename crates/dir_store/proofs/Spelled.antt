@@ -1,16 +1,16 @@
 -- New names are placed as they are spelled. Facts on names and lists flow in and out; no value of the program is here.
 use Rattle.std.proofs.Common.{◌≡◌, ◌-◌, ℕ, suc, List, [], ◌∷◌, ◌++◌, length, drop, map, refl, sym, ap, ◌∙◌, subst, arith, Bool, true, false, cond, Option, None, Some}
 use Rattle.std.specs.Option.{option_map}
-use Rattle.dir_kept.specs.ldap_dn.Names.{RdnModel, rdns}
-use Rattle.dir_kept.specs.dir_entry.Entry.{KeyedAttribute, attributes_of}
-use Rattle.dir_kept.specs.dir_tree.Directory as tree
-use Rattle.dir_kept.specs.dir_tree.Directory.{NameKey, Entered, name_eq, find, above}
-use Rattle.dir_kept.specs.dir_tree.Placed.{name_placed, name_under, IsSpelled, IsPlacedAsSpelled}
-use Rattle.dir_kept.proofs.Lookups.{found_same}
-use Rattle.dir_kept.proofs.Shown.{moved_shown}
-use Rattle.dir_kept.specs.Directory.{NamedEntry}
-use Rattle.dir_kept.specs.Places.{parent_of, last_of, moved}
-use Rattle.dir_kept.specs.Stored.{named}
+use Rattle.indexed_tree.specs.ldap_dn.Names.{RdnModel, rdns}
+use Rattle.indexed_tree.specs.dir_entry.Entry.{KeyedAttribute, attributes_of}
+use Rattle.indexed_tree.specs.dir_tree.Directory as tree
+use Rattle.indexed_tree.specs.dir_tree.Directory.{NameKey, Entered, name_eq, find, above}
+use Rattle.indexed_tree.specs.dir_tree.Placed.{name_placed, name_under, IsSpelled, IsPlacedAsSpelled}
+use Rattle.indexed_tree.proofs.Lookups.{found_same}
+use Rattle.indexed_tree.proofs.Shown.{moved_shown}
+use Rattle.indexed_tree.specs.Directory.{NamedEntry}
+use Rattle.indexed_tree.specs.Places.{parent_of, last_of, moved}
+use Rattle.indexed_tree.specs.Stored.{named}
 use Rattle.dir_store.proofs.Moves.{above_of, without_last}
 
 -- the root's name is placed as it stands

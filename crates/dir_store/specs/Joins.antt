@@ -1,7 +1,7 @@
 -- Lists of updates, one behind the other. Lists flow in; what both together come to flows out. What one update comes to is above.
 use Rattle.std.specs.Prelude.{◌≡◌, ℕ, ◌+◌, List, ◌++◌, length}
 use Rattle.entry_updates.specs.ldap_op.Values.{OpValue}
-use Rattle.dir_kept.specs.Directory.{Directory}
+use Rattle.indexed_tree.specs.Directory.{Directory}
 use Rattle.dir_store.specs.Updates.{directory_after, replies_after}
 
 -- The directory after updates and then others is that after the others, from the directory after the first ones on.

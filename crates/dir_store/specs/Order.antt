@@ -1,9 +1,9 @@
 -- The order of a directory's entries: by number, each once. Entries flow in; whether their numbers rise flows out. What updates do is above.
 use Rattle.std.specs.Prelude.{◌<◌, ℕ, List, [], ◌∷◌}
-use Rattle.dir_kept.specs.ldap_dn.Names.{RdnModel}
-use Rattle.dir_kept.specs.ldap_schema.Schema.{SchemaModel}
+use Rattle.indexed_tree.specs.ldap_dn.Names.{RdnModel}
+use Rattle.indexed_tree.specs.ldap_schema.Schema.{SchemaModel}
 use Rattle.entry_updates.specs.ldap_op.Values.{OpValue}
-use Rattle.dir_kept.specs.Directory.{NamedEntry}
+use Rattle.indexed_tree.specs.Directory.{NamedEntry}
 use Rattle.dir_store.specs.Updates.{directory_of}
 
 -- each number is above this one

@@ -2,8 +2,8 @@
 use Rattle.std.specs.Prelude.{◌≡◌, ℕ, zero, suc, ◌+◌, List, [], ◌∷◌, ◌++◌, length, Option, None, Some}
 use Rattle.std.specs.List.{slice_get}
 use Rattle.entry_updates.specs.ldap_op.Values.{OpValue}
-use Rattle.dir_kept.specs.Directory.{Directory}
-use Rattle.dir_kept.specs.session_talk.Answers.{ReplyModel}
+use Rattle.indexed_tree.specs.Directory.{Directory}
+use Rattle.indexed_tree.specs.directory_api.Answers.{ReplyModel}
 use Rattle.dir_store.specs.Updates.{applied, reply_to, directory_after, replies_after}
 
 -- The reply to the update at a place, counted from 0, of updates that are made one after the other, the first under the number that follows this

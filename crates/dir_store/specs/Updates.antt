@@ -1,22 +1,22 @@
 -- Updates of the directory: RFC 4511 4.6 to 4.9. A directory, a number and an update flow in; the directory after it and its reply flow out.
 -- Each is the list of its checks in order. What is asked of attributes is below; messages are above.
 use Rattle.std.specs.Prelude.{ℕ, ◌+◌, List, [], ◌∷◌, ◌++◌, Bool, false, cond, not, ◌||◌, nat_eq, Option, None, Some, is_some, Result, Ok, Err}
-use Rattle.dir_kept.specs.ldap_dn.Names.{TypeAndValue, RdnModel, rdns}
-use Rattle.dir_kept.specs.ldap_dn.Texts.{name_of_text}
-use Rattle.dir_kept.specs.ldap_schema.Schema.{SchemaModel}
-use Rattle.dir_kept.specs.dir_entry.Entry.{AttributeModel}
+use Rattle.indexed_tree.specs.ldap_dn.Names.{TypeAndValue, RdnModel, rdns}
+use Rattle.indexed_tree.specs.ldap_dn.Texts.{name_of_text}
+use Rattle.indexed_tree.specs.ldap_schema.Schema.{SchemaModel}
+use Rattle.indexed_tree.specs.dir_entry.Entry.{AttributeModel}
 use Rattle.entry_updates.specs.Finishing.{renamed}
 use Rattle.entry_updates.specs.Adding.{attributes_asked}
 use Rattle.entry_updates.specs.Modifying.{attributes_changed}
 use Rattle.entry_updates.specs.ldap_op.ldap_parts.Values.{PartialAttributeValue}
 use Rattle.entry_updates.specs.ldap_updates.Values.{AddRequestValue, ChangeValue, ModifyRequestValue, ModifyDnRequestValue}
 use Rattle.entry_updates.specs.ldap_op.Values.{OpValue, add, delete, modify, modify_dn, noop}
-use Rattle.dir_kept.specs.dir_tree.Directory.{name_eq, begins}
-use Rattle.dir_kept.specs.Directory.{Directory, NamedEntry}
-use Rattle.dir_kept.specs.Places.{entry_named, has_subordinate, parent_of, last_of, own_rdn, without_entry, with_attributes, moved}
-pub use Rattle.dir_kept.specs.Replies.{name_asked, entry_asked}
-use Rattle.dir_kept.specs.Replies.{not_found, then, refuse, or_refused, with_reply}
-use Rattle.dir_kept.specs.session_talk.Answers.{ReplyModel, only}
+use Rattle.indexed_tree.specs.dir_tree.Directory.{name_eq, begins}
+use Rattle.indexed_tree.specs.Directory.{Directory, NamedEntry}
+use Rattle.indexed_tree.specs.Places.{entry_named, has_subordinate, parent_of, last_of, own_rdn, without_entry, with_attributes, moved}
+pub use Rattle.indexed_tree.specs.Replies.{name_asked, entry_asked}
+use Rattle.indexed_tree.specs.Replies.{not_found, then, refuse, or_refused, with_reply}
+use Rattle.indexed_tree.specs.directory_api.Answers.{ReplyModel, only}
 
 -- a name and attributes that an entry gets
 pub record PlacedModel : Type 0 where

@@ -1,13 +1,13 @@
 -- What refusals, and what updates ask for, stand for in memory.
 use Rattle.std.specs.Prelude.{◌≡◌, Result, Err}
-use Rattle.dir_kept.specs.dir_entry.Entry.{attributes_of}
-use Rattle.dir_kept.specs.session_talk.Answers.{ReplyModel}
+use Rattle.indexed_tree.specs.dir_entry.Entry.{attributes_of}
+use Rattle.indexed_tree.specs.directory_api.Answers.{ReplyModel}
 use Rattle.dir_store.specs.Updates.{PlacedModel, KeptModel, MoveModel, MoveNamesModel}
 use Rattle.dir_store.specs.declared.adding.Placed.{Placed}
 use Rattle.dir_store.specs.declared.modifying.Kept.{Kept}
 use Rattle.dir_store.specs.declared.renaming.Moved.{Moved}
 use Rattle.dir_store.specs.declared.renaming.MoveNames.{MoveNames}
-use Rattle.dir_kept.specs.session_talk.View.{reply_view}
+use Rattle.indexed_tree.specs.directory_api.View.{reply_view}
 use Rattle.dir_store.specs.declared.fault.StoreError.{StoreError}
 use Rattle.dir_store.specs.declared.fault.StoreError.TheVariants.{Refused, NoMemory}
 

@@ -1,22 +1,24 @@
 //! What an add asks for. A schema, a tree and a request flow in; the new entry with its whole name, or a refusal, flows out. The tree stays
 //! as it is.
 ghost use Rattle.std.specs.Prelude.{◌≡◌, ◌++◌, Ok, true, false, is_some, IfOk, IfErr, OnOk, map};
-ghost use Rattle.dir_kept.specs.ldap_dn.Names.{rdns};
+ghost use Rattle.indexed_tree.specs.ldap_dn.Names.{rdns};
 ghost use Rattle.entry_updates.specs.ldap_op.ldap_parts.View.{attribute_view};
 ghost use Rattle.entry_updates.specs.ldap_updates.View.{add_view};
-ghost use Rattle.dir_kept.specs.dir_entry.Entry.{IsKeyedBy};
-ghost use Rattle.dir_kept.specs.dir_tree.Directory.{find, has_footing};
-ghost use Rattle.dir_kept.specs.dir_tree.Placed.{name_placed};
-ghost use Rattle.dir_kept.specs.Places.{last_of};
-ghost use Rattle.dir_kept.specs.Stored.{directory, AreKeyedBy};
+ghost use Rattle.indexed_tree.specs.dir_entry.Entry.{IsKeyedBy};
+ghost use Rattle.indexed_tree.specs.dir_tree.Directory.{find, has_footing};
+ghost use Rattle.indexed_tree.specs.dir_tree.Placed.{name_placed};
+ghost use Rattle.indexed_tree.specs.Places.{last_of};
+ghost use Rattle.indexed_tree.specs.Stored.{directory, AreKeyedBy};
 ghost use Rattle.dir_store.specs.Updates.{place_under, place_asked, addition_of, addition_at as addition_that_stands, addition as addition_that_is_asked};
 ghost use Rattle.dir_store.specs.View.{placed_view, RefusedWith};
 
 use crate::fault::{StoreError, refused_attributes};
 use crate::finding::asked_entry;
 use crate::names::{asked_name, own_rdn, parent_of_name};
-use dir_kept::{Entry, Name, Rdn, Reply, Schema, Standing, Tree, TypeAndValue, is_same, is_taken};
 use entry_updates::{AddRequest, PartialAttribute, ResultCode, entry_asked};
+use indexed_tree::{
+    Entry, Name, Rdn, Reply, Schema, Standing, Tree, TypeAndValue, is_same, is_taken,
+};
 use std::alloc::{AllocError, Global};
 
 /// A new entry and its whole name.
@@ -99,7 +101,7 @@ fn addition_under(
 }
 
 /// The new entry of a name that no entry has.
-#[tactic(auto, using(dir_kept::proofs::Shown::is_there_shown))]
+#[tactic(auto, using(indexed_tree::proofs::Shown::is_there_shown))]
 fn addition_at(
     alloc: Global,
     schema: &Schema,

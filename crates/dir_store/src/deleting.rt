@@ -2,20 +2,20 @@
 //! as it is.
 ghost use Rattle.std.specs.Prelude.{◌≡◌, Ok, Some, false, IfOk, IfErr, OnOk};
 ghost use Rattle.std.specs.Option.{option_map};
-ghost use Rattle.dir_kept.specs.ldap_dn.Names.{rdns};
-ghost use Rattle.dir_kept.specs.dir_tree.Directory.{find, has_below};
-ghost use Rattle.dir_kept.specs.Stored.{directory, AreKeyedBy};
+ghost use Rattle.indexed_tree.specs.ldap_dn.Names.{rdns};
+ghost use Rattle.indexed_tree.specs.dir_tree.Directory.{find, has_below};
+ghost use Rattle.indexed_tree.specs.Stored.{directory, AreKeyedBy};
 ghost use Rattle.dir_store.specs.Updates.{leaf_asked};
 ghost use Rattle.dir_store.specs.View.{RefusedWith};
 
 use crate::fault::StoreError;
 use crate::finding::asked_entry;
-use dir_kept::{Rdn, Reply, Schema, Tree};
 use entry_updates::ResultCode;
+use indexed_tree::{Rdn, Reply, Schema, Tree};
 use std::alloc::Global;
 
 /// The number of the entry that a delete takes out (RFC 4511 4.8): 32 where there is none, 66 where one stands below it.
-#[tactic(auto, using(dir_kept::proofs::Shown::below_shown))]
+#[tactic(auto, using(indexed_tree::proofs::Shown::below_shown))]
 pub fn asked_leaf(
     alloc: Global,
     schema: &Schema,

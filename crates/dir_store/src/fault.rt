@@ -1,13 +1,13 @@
 //! Why an update changes nothing: within this crate alone, since what flows out of it is a reply.
 ghost use Rattle.std.specs.Prelude.{◌≡◌, ℕ, List, Result, IfOk};
-ghost use Rattle.dir_kept.specs.dir_entry.Entry.{AttributeModel};
+ghost use Rattle.indexed_tree.specs.dir_entry.Entry.{AttributeModel};
 ghost use Rattle.entry_updates.specs.Refused.{RefusedAs};
-ghost use Rattle.dir_kept.specs.Replies.{with_reply};
+ghost use Rattle.indexed_tree.specs.Replies.{with_reply};
 ghost use Rattle.dir_store.specs.View.{RefusedWith};
 ghost use Rattle.dir_store.specs.declared.fault.StoreError.TheVariants.{NoMemory};
 
-use dir_kept::Reply;
 use entry_updates::UpdateError;
+use indexed_tree::Reply;
 use std::alloc::{AllocError, AllocFailed, Global};
 
 /// Why an update changes nothing.

@@ -1,18 +1,18 @@
 //! Entries that updates ask for. A tree and names flow in; entries, or the refusal that there is none, flow out. Texts are not here.
 ghost use Rattle.std.specs.Prelude.{◌≡◌, Ok, Some, IfOk, IfErr};
-ghost use Rattle.dir_kept.specs.ldap_dn.Names.{rdns};
-ghost use Rattle.dir_kept.specs.dir_entry.Entry.{IsKeyedBy};
-ghost use Rattle.dir_kept.specs.dir_tree.Directory.{find};
-ghost use Rattle.dir_kept.specs.Replies.{entry_asked};
-ghost use Rattle.dir_kept.specs.Stored.{entered_of, named, directory, AreKeyedBy};
+ghost use Rattle.indexed_tree.specs.ldap_dn.Names.{rdns};
+ghost use Rattle.indexed_tree.specs.dir_entry.Entry.{IsKeyedBy};
+ghost use Rattle.indexed_tree.specs.dir_tree.Directory.{find};
+ghost use Rattle.indexed_tree.specs.Replies.{entry_asked};
+ghost use Rattle.indexed_tree.specs.Stored.{entered_of, named, directory, AreKeyedBy};
 ghost use Rattle.dir_store.specs.View.{RefusedWith};
 
 use crate::fault::StoreError;
-use dir_kept::{Rdn, Schema, Standing, Tree, not_found, standing};
+use indexed_tree::{Rdn, Schema, Standing, Tree, not_found, standing};
 use std::alloc::Global;
 
 /// The number of a name's entry, and the entry with its name; 32 where there is none.
-#[tactic(auto, using(dir_kept::proofs::Shown::asked_some, dir_kept::proofs::Shown::asked_none, dir_kept::proofs::Lookups::found_own, dir_kept::proofs::Lookups::found_keyed))]
+#[tactic(auto, using(indexed_tree::proofs::Shown::asked_some, indexed_tree::proofs::Shown::asked_none, indexed_tree::proofs::Lookups::found_own, indexed_tree::proofs::Lookups::found_keyed))]
 pub fn asked_entry<'a>(
     alloc: Global,
     schema: &Schema,

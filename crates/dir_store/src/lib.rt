@@ -1,5 +1,14 @@
 //! Updates of the directory: they flow in, and the entries after them, each with its number and name, flow out, with the reply to each update.
 //! What is asked of attributes is below; filters, searches and the octets of messages are not here.
+//!
+//! The directory that updates change: a schema and a tree with its lists. A module for each update (`adding`, `deleting`, `modifying`,
+//! `renaming`, over `names` and `finding`) gives what is to change or the reply that refuses it, and changes nothing. Then `store` changes
+//! tree and lists in one call. A store is a value; `share` gives a second owner. `Updates` lists each update's checks in order, `Placed`
+//! the reply at each place of a list of updates. `sharing` and `apply_beside` have no caller.
+//!
+//! Proved: each update gives the directory and the reply of its definition, its checks in order: 34, 32, 53, 66, 68, then what is asked of
+//! attributes. A refusal or want of memory changes nothing, and no update the index choice (`Store::apply`). Searches are lent just what
+//! the store is (`Store::reading`).
 #![tactic(auto)]
 
 mod adding;
@@ -13,8 +22,8 @@ mod renaming;
 mod sharing;
 mod store;
 
-pub use dir_kept::{Indexes, Name, Reading, Reply, Schema, SharedEntry, Tree};
 pub use entry_updates::{Op, Update};
+pub use indexed_tree::{Indexes, Name, Reading, Reply, Schema, SharedEntry, Tree};
 pub use laws::{entries_rise, replies_are_placed, updates_join};
 pub use sharing::Beside;
 pub use store::Store;

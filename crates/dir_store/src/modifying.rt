@@ -2,16 +2,16 @@
 //! stays as it is.
 ghost use Rattle.std.specs.Prelude.{◌≡◌, Ok, IfOk, IfErr, map};
 ghost use Rattle.entry_updates.specs.ldap_updates.View.{change_view, modify_view};
-ghost use Rattle.dir_kept.specs.dir_entry.Entry.{IsKeyedBy};
-ghost use Rattle.dir_kept.specs.Stored.{entered_of, named, directory, AreKeyedBy};
+ghost use Rattle.indexed_tree.specs.dir_entry.Entry.{IsKeyedBy};
+ghost use Rattle.indexed_tree.specs.Stored.{entered_of, named, directory, AreKeyedBy};
 ghost use Rattle.dir_store.specs.Updates.{change_of, change_asked};
 ghost use Rattle.dir_store.specs.View.{kept_view, RefusedWith};
 
 use crate::fault::{StoreError, refused_attributes};
 use crate::finding::asked_entry;
 use crate::names::{asked_name, own_rdn};
-use dir_kept::{Entry, Schema, Standing, Tree};
 use entry_updates::{Change, ModifyRequest, entry_changed};
+use indexed_tree::{Entry, Schema, Standing, Tree};
 use std::alloc::Global;
 
 /// A number, and what its entry is changed to.

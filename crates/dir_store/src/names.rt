@@ -1,14 +1,14 @@
 //! Names that updates say. A schema and texts flow in; names, or a refusal, flow out. Entries are not here.
 ghost use Rattle.std.specs.Prelude.{◌≡◌, Ok, None, IfOk, IfErr, string_bytes};
 ghost use Rattle.std.specs.Option.{option_map};
-ghost use Rattle.dir_kept.specs.ldap_dn.Texts.{name_of_text};
-ghost use Rattle.dir_kept.specs.Places.{spelling_of, last_of, parent_of, own_rdn as own_rdn_of};
+ghost use Rattle.indexed_tree.specs.ldap_dn.Texts.{name_of_text};
+ghost use Rattle.indexed_tree.specs.Places.{spelling_of, last_of, parent_of, own_rdn as own_rdn_of};
 ghost use Rattle.dir_store.specs.Updates.{one_rdn as one_rdn_of, name_asked, rdn_asked, superior_asked};
 ghost use Rattle.dir_store.specs.View.{RefusedWith};
 
 use crate::fault::StoreError;
-use dir_kept::{Name, NameError, Rdn, Reply, Schema, TypeAndValue};
 use entry_updates::ResultCode;
+use indexed_tree::{Name, NameError, Rdn, Reply, Schema, TypeAndValue};
 use std::alloc::Global;
 
 /// The name of a text; 34 where it has none.

@@ -2,22 +2,22 @@
 //! as it is.
 ghost use Rattle.std.specs.Prelude.{◌≡◌, ◌++◌, ◌∷◌, [], true, false, Ok, Some, IfOk, IfErr, OnOk, is_some, map};
 ghost use Rattle.std.specs.Option.{option_map};
-ghost use Rattle.dir_kept.specs.ldap_dn.Names.{rdns};
+ghost use Rattle.indexed_tree.specs.ldap_dn.Names.{rdns};
 ghost use Rattle.entry_updates.specs.ldap_updates.View.{modify_dn_view};
-ghost use Rattle.dir_kept.specs.dir_entry.Entry.{IsKeyedBy};
-ghost use Rattle.dir_kept.specs.dir_tree.Directory.{find, name_eq, begins};
-ghost use Rattle.dir_kept.specs.dir_tree.Placed.{name_placed};
-ghost use Rattle.dir_kept.specs.Places.{parent_of, entry_named};
-ghost use Rattle.dir_kept.specs.Stored.{named, directory, AreKeyedBy};
+ghost use Rattle.indexed_tree.specs.dir_entry.Entry.{IsKeyedBy};
+ghost use Rattle.indexed_tree.specs.dir_tree.Directory.{find, name_eq, begins};
+ghost use Rattle.indexed_tree.specs.dir_tree.Placed.{name_placed};
+ghost use Rattle.indexed_tree.specs.Places.{parent_of, entry_named};
+ghost use Rattle.indexed_tree.specs.Stored.{named, directory, AreKeyedBy};
 ghost use Rattle.dir_store.specs.Updates.{is_at_or_below as is_name_at_or_below, is_misplaced as is_move_misplaced, superior_of, is_other_than, moved_entry, move_names, move_to, move_under, move_asked as move_that_is_asked};
-ghost use Rattle.dir_kept.specs.Moving.{MayMove};
+ghost use Rattle.indexed_tree.specs.Moving.{MayMove};
 ghost use Rattle.dir_store.specs.View.{names_view, moved_view, RefusedWith};
 
 use crate::fault::{StoreError, refused_attributes};
 use crate::finding::asked_entry;
 use crate::names::{asked_name, asked_rdn, asked_superior, own_rdn};
-use dir_kept::{Entry, Name, Rdn, Reply, Schema, Standing, Tree, is_front, is_same};
 use entry_updates::{ModifyDnRequest, ResultCode, entry_renamed};
+use indexed_tree::{Entry, Name, Rdn, Reply, Schema, Standing, Tree, is_front, is_same};
 use std::alloc::{AllocError, Global};
 use std::marker::Model;
 
@@ -112,8 +112,8 @@ struct Move<'a> {
 }
 
 impl<'a> Model for Move<'a> {
-    ghost use Rattle.dir_kept.specs.Stored.{entered_of};
-    ghost use Rattle.dir_kept.specs.Moving.{MoveAsked, IsOfTree};
+    ghost use Rattle.indexed_tree.specs.Stored.{entered_of};
+    ghost use Rattle.indexed_tree.specs.Moving.{MoveAsked, IsOfTree};
 
     ghost Value = { MoveAsked };
 

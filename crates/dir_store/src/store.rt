@@ -2,8 +2,8 @@
 //! directory after them stays. What each update asks for is judged before anything changes.
 ghost use Rattle.std.specs.Prelude.{◌≡◌, ◌+◌, [], Ok, IfOk, IfErr, OnOk, OnErr};
 ghost use Rattle.std.specs.Arc.{arc_value};
-ghost use Rattle.dir_kept.specs.Stored.{directory, AreKeyedBy, NumbersBelow};
-ghost use Rattle.dir_kept.specs.session_talk.View.{reply_view};
+ghost use Rattle.indexed_tree.specs.Stored.{directory, AreKeyedBy, NumbersBelow};
+ghost use Rattle.indexed_tree.specs.directory_api.View.{reply_view};
 ghost use Rattle.entry_updates.specs.ldap_updates.View.{add_view, modify_view, modify_dn_view};
 ghost use Rattle.entry_updates.specs.ldap_op.View.{update_view};
 ghost use Rattle.dir_store.specs.Updates.{added, deleted, modified, renamed_all, updated, applied, reply_to};
@@ -16,8 +16,8 @@ use crate::modifying::{Kept, asked_change};
 use crate::names::asked_name;
 use crate::renaming::{Moved, asked_move};
 use crate::sharing::Beside;
-use dir_kept::{IndexedTree, Indexes, Name, Reading, Reply, Schema, SharedEntry, Tree};
 use entry_updates::{AddRequest, ModifyDnRequest, ModifyRequest, Op, ResultCode, Update};
+use indexed_tree::{IndexedTree, Indexes, Name, Reading, Reply, Schema, SharedEntry, Tree};
 use std::alloc::{AllocError, Global};
 use std::marker::Model;
 use std::sync::Arc;
@@ -37,8 +37,8 @@ impl Drop for Store {
 }
 
 impl Model for Store {
-    ghost use Rattle.dir_kept.specs.Listed.{StoreModel};
-    ghost use Rattle.dir_kept.specs.Stored.{directory, AreKeyedBy};
+    ghost use Rattle.indexed_tree.specs.Listed.{StoreModel};
+    ghost use Rattle.indexed_tree.specs.Stored.{directory, AreKeyedBy};
 
     ghost Value = { StoreModel };
 
@@ -146,7 +146,7 @@ impl Store {
     }
 
     /// Adds an entry at the end, or refuses it and changes nothing.
-    #[tactic(auto, using(dir_kept::proofs::Shown::numbers_shown, dir_kept::proofs::Shown::pushed_shown, dir_kept::proofs::Shown::keyed_push))]
+    #[tactic(auto, using(indexed_tree::proofs::Shown::numbers_shown, indexed_tree::proofs::Shown::pushed_shown, indexed_tree::proofs::Shown::keyed_push))]
     fn add(&mut self, alloc: Global, number: u64, request: &AddRequest) -> Result<(), StoreError>
         requires above { NumbersBelow number self.old.directory.entries }
         ensures ok { OnOk result (added self.old.directory number (add_view request.now) ≡ Ok self.new.directory.entries) }
@@ -163,7 +163,7 @@ impl Store {
     }
 
     /// Takes an entry out, or refuses it and changes nothing.
-    #[tactic(auto, using(dir_kept::proofs::Shown::deleted_shown, dir_kept::proofs::Shown::keyed_unnumbered))]
+    #[tactic(auto, using(indexed_tree::proofs::Shown::deleted_shown, indexed_tree::proofs::Shown::keyed_unnumbered))]
     fn delete(&mut self, alloc: Global, text: &str) -> Result<(), StoreError>
         ensures ok { OnOk result (deleted self.old.directory text.now ≡ Ok self.new.directory.entries) }
         ensures schema { self.new.directory.schema ≡ self.old.directory.schema }
@@ -179,7 +179,7 @@ impl Store {
     }
 
     /// Changes an entry's attributes, or refuses it and changes nothing.
-    #[tactic(auto, using(dir_kept::proofs::Shown::replaced_shown, dir_kept::proofs::Shown::keyed_replaced))]
+    #[tactic(auto, using(indexed_tree::proofs::Shown::replaced_shown, indexed_tree::proofs::Shown::keyed_replaced))]
     fn modify(&mut self, alloc: Global, request: &ModifyRequest) -> Result<(), StoreError>
         ensures ok { OnOk result (modified self.old.directory (modify_view request.now) ≡ Ok self.new.directory.entries) }
         ensures schema { self.new.directory.schema ≡ self.old.directory.schema }
@@ -195,7 +195,7 @@ impl Store {
     }
 
     /// Gives an entry, and those below it, other names, or refuses it and changes nothing.
-    #[tactic(auto, using(crate::proofs::Spelled::moved_placed, dir_kept::proofs::Shown::keyed_moved))]
+    #[tactic(auto, using(crate::proofs::Spelled::moved_placed, indexed_tree::proofs::Shown::keyed_moved))]
     fn rename(&mut self, alloc: Global, request: &ModifyDnRequest) -> Result<(), StoreError>
         ensures ok { OnOk result (renamed_all self.old.directory (modify_dn_view request.now) ≡ Ok self.new.directory.entries) }
         ensures schema { self.new.directory.schema ≡ self.old.directory.schema }

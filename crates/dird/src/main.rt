@@ -1,5 +1,7 @@
 //! The program's door: words, files, input, output and sockets come from the system, and the exit status goes back. No rule of the
 //! directory is here.
+//!
+//! `main` gives `dird_commands` the system's files and streams; `serving` hands what a replica is to serve to `server`.
 #![tactic(auto)]
 
 mod serving;

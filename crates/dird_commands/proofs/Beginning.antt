@@ -1,7 +1,7 @@
 -- A session that begins as it is to begin. Facts on definitions flow in and out; no value of the program is here.
 use Rattle.std.proofs.Common.{◌≡◌, ℕ, List, Bool, Option, subst}
 use Rattle.local_directory.specs.ldap_schema.Schema.{SchemaModel}
-use Rattle.hex_session.specs.session_rules.Session.{ConfigValue}
+use Rattle.hex_session.specs.session_handler.Session.{ConfigValue}
 use Rattle.local_directory.specs.Local.{LocalValue}
 use Rattle.local_directory.specs.Allows.{allows}
 use Rattle.hex_session.specs.ldap_session.declared.end.SessionEnd.{SessionEnd}

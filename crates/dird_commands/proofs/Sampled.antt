@@ -1,7 +1,7 @@
 -- How a directory begins: the sample's adds, one after the other. Facts on definitions flow in and out; no value of the program is here.
 use Rattle.std.proofs.Common.{◌≡◌, ap, ◌∙◌}
 use Rattle.local_directory.specs.ldap_op.Values.{add}
-use Rattle.local_directory.specs.dir_kept.Directory.{Directory}
+use Rattle.local_directory.specs.indexed_tree.Directory.{Directory}
 use Rattle.local_directory.specs.dir_store.Updates.{applied, directory_after}
 use Rattle.dird_commands.specs.Sample.{sample, example, items_unit, ana, anna, anana, an_na}
 

@@ -3,11 +3,11 @@ use Rattle.std.specs.Prelude.{◌≡◌, ◌⊎◌, ℕ, List, [], Bool, true, f
 use Rattle.local_directory.specs.ldap_schema.Schema.{SchemaModel}
 use Rattle.local_directory.specs.ldap_dn.Names.{RdnModel}
 use Rattle.local_directory.specs.ldap_dn.Texts.{name_of_text}
-use Rattle.local_directory.specs.dir_kept.Directory.{Directory}
+use Rattle.local_directory.specs.indexed_tree.Directory.{Directory}
 use Rattle.local_directory.specs.dir_store.Updates.{directory_after}
 use Rattle.std.specs.FinMap as map
-use Rattle.local_directory.specs.session_talk.Clients.{session_client}
-use Rattle.hex_session.specs.session_rules.Session.{ConfigValue}
+use Rattle.local_directory.specs.directory_api.Clients.{session_client}
+use Rattle.hex_session.specs.session_handler.Session.{ConfigValue}
 use Rattle.local_directory.specs.Local.{LocalValue}
 use Rattle.local_directory.specs.Allows.{allows}
 use Rattle.hex_session.specs.ldap_session.declared.end.SessionEnd.{SessionEnd}

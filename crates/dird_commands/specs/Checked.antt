@@ -1,6 +1,6 @@
 -- Checking a file: a text and what a directory refuses of it come in, the verdict goes out.
 use Rattle.std.specs.Prelude.{◌≡◌, ℕ, List, [], ◌∷◌}
-use Rattle.local_directory.specs.dir_kept.Directory.{Directory}
+use Rattle.local_directory.specs.indexed_tree.Directory.{Directory}
 use Rattle.local_directory.specs.declared.refused_record.RefusedRecord.{RefusedRecord}
 use Rattle.local_directory.specs.Checked.{IsChecked}
 use Rattle.dird_commands.specs.declared.status.Status.{Status}

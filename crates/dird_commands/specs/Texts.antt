@@ -7,7 +7,7 @@ use Rattle.local_directory.specs.ldap_requests.declared.search.Scope.{Scope}
 use Rattle.local_directory.specs.ldap_requests.declared.search.DerefAliases.TheVariants.{NeverDerefAliases}
 use Rattle.local_directory.specs.ldap_msg.Messages.{SearchRequestValue}
 use Rattle.local_directory.specs.Searched.{IsSearched}
-use Rattle.local_directory.specs.dir_kept.Directory.{Directory}
+use Rattle.local_directory.specs.indexed_tree.Directory.{Directory}
 
 -- where the octets of an input and an output are known, the output has grown by what is made of the input
 abbrev pub Turns : (List ℕ → List ℕ → Type 0) → Option (List ℕ) → Option (List ℕ) → Option (List ℕ) → Type 0

@@ -11,7 +11,7 @@ use Rattle.local_directory.specs.ldif.declared.refusals.ExportError.{ExportError
 use Rattle.local_directory.specs.ldif.declared.refusals.ExportError.TheVariants as export_error
 use Rattle.local_directory.specs.ldap_msg.Messages.{SearchRequestValue}
 use Rattle.local_directory.specs.ldap_requests.declared.search.Scope.{Scope}
-use Rattle.local_directory.specs.dir_kept.Directory.{Directory}
+use Rattle.local_directory.specs.indexed_tree.Directory.{Directory}
 use Rattle.local_directory.specs.Searched.{IsSearchFault, IsReadFault}
 use Rattle.local_directory.specs.declared.fault.SearchError.{SearchError}
 use Rattle.local_directory.specs.declared.fault.SearchError.TheVariants as search_error

@@ -1,7 +1,7 @@
 //! One session over a local directory: an input flows in, an output flows out. The words of a command line are not here.
 ghost use Rattle.std.specs.Prelude.{◌≡◌, ◌+◌, codes, IfOk, IfErr};
 ghost use Rattle.std.specs.Arc.{arc_value};
-ghost use Rattle.local_directory.specs.dir_kept.Stored.{NumbersBelow};
+ghost use Rattle.local_directory.specs.indexed_tree.Stored.{NumbersBelow};
 ghost use Rattle.local_directory.specs.Allows.{allows};
 ghost use Rattle.hex_session.specs.Answered.{Answers};
 ghost use Rattle.dird_commands.specs.Begun.{name_of, config_of, empty_directory, directory_at_first, number_at_first, AnswersFrom, IsCutFrom, FailsFrom};

@@ -3,7 +3,7 @@
 ghost use Rattle.std.specs.Prelude.{◌≡◌, ◌+◌, map, IfOk, OnOk};
 ghost use Rattle.local_directory.specs.ldap_msg.View.{add_view, attribute_view};
 ghost use Rattle.local_directory.specs.ldap_op.Values.{add as add_op};
-ghost use Rattle.local_directory.specs.dir_kept.Stored.{NumbersBelow};
+ghost use Rattle.local_directory.specs.indexed_tree.Stored.{NumbersBelow};
 ghost use Rattle.local_directory.specs.dir_store.Updates.{applied, directory_after};
 ghost use Rattle.dird_commands.specs.Sample as sample;
 ghost use Rattle.dird_commands.specs.Sample.{one_value, add_of};

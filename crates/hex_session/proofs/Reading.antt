@@ -3,13 +3,13 @@ use Rattle.std.proofs.Common.{◌≡◌, ◌⊎◌, inl, inr, ℕ, suc, ◌+◌,
 use Rattle.std.specs.Io.KnownBytes.{Appends}
 use Rattle.ldap_session.specs.ldap_framer.Framed.{ending_of, HasSeen}
 use Rattle.ldap_session.specs.ldap_msg.Messages.{MessageValue}
-use Rattle.ldap_session.specs.session_talk.Talk.{Exchange}
-use Rattle.ldap_session.specs.session_talk.Talk as talk
-use Rattle.ldap_session.specs.session_rules.Session.{ConfigValue, at_first}
-use Rattle.ldap_session.specs.session_rules.Turns.{Session, ends}
-use Rattle.ldap_session.specs.session_rules.declared.state.State.{State}
-use Rattle.ldap_session.specs.session_rules.declared.answered.Next.{Next}
-use Rattle.ldap_session.specs.session_rules.declared.answered.Next.TheVariants.{GoesOn}
+use Rattle.ldap_session.specs.directory_api.Talk.{Exchange}
+use Rattle.ldap_session.specs.directory_api.Talk as talk
+use Rattle.ldap_session.specs.session_handler.Session.{ConfigValue, at_first}
+use Rattle.ldap_session.specs.session_handler.Turns.{Session, ends}
+use Rattle.ldap_session.specs.session_handler.declared.state.State.{State}
+use Rattle.ldap_session.specs.session_handler.declared.answered.Next.{Next}
+use Rattle.ldap_session.specs.session_handler.declared.answered.Next.TheVariants.{GoesOn}
 use Rattle.ldap_session.specs.Octets.{joined}
 use Rattle.ldap_session.specs.View.{SessionValue}
 use Rattle.ldap_session.specs.Progress.{Reached, IsAtLast}

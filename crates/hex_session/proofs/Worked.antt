@@ -4,13 +4,13 @@ use Rattle.std.specs.Io.KnownBytes.{Appends}
 use Rattle.std.proofs.KnownBytes.{Appends-nil, Appends-trans}
 use Rattle.ldap_session.specs.ldap_msg.Messages.{MessageValue}
 use Rattle.ldap_session.specs.ldap_framer.Stream.{Ending}
-use Rattle.ldap_session.specs.session_talk.Talk.{Exchange}
-use Rattle.ldap_session.specs.session_rules.Responses.{notice}
-use Rattle.ldap_session.specs.session_rules.Session.{ConfigValue}
-use Rattle.ldap_session.specs.session_rules.declared.answered.Answered.{Answered}
-use Rattle.ldap_session.specs.session_rules.declared.answered.Next.{Next}
-use Rattle.ldap_session.specs.session_rules.declared.answered.Next.TheVariants.{GoesOn, Unbound as UnboundNext, Disconnected as DisconnectedNext}
-use Rattle.ldap_session.specs.session_rules.message_rules.declared.fault.AnswerError.{AnswerError}
+use Rattle.ldap_session.specs.directory_api.Talk.{Exchange}
+use Rattle.ldap_session.specs.session_handler.Responses.{notice}
+use Rattle.ldap_session.specs.session_handler.Session.{ConfigValue}
+use Rattle.ldap_session.specs.session_handler.declared.answered.Answered.{Answered}
+use Rattle.ldap_session.specs.session_handler.declared.answered.Next.{Next}
+use Rattle.ldap_session.specs.session_handler.declared.answered.Next.TheVariants.{GoesOn, Unbound as UnboundNext, Disconnected as DisconnectedNext}
+use Rattle.ldap_session.specs.session_handler.request_checks.declared.fault.AnswerError.{AnswerError}
 use Rattle.ldap_session.specs.Octets.{IsFront}
 use Rattle.ldap_session.specs.View.{SessionValue}
 use Rattle.ldap_session.specs.Progress.{IsWritten, AnswersNext, IsIdle, Answers, Reached}

@@ -2,11 +2,11 @@
 -- is below.
 use Rattle.std.specs.Prelude.{◌≡◌, ◌⊎◌, ℕ, suc, List, [], ◌++◌, map, Option, Some, IfSome}
 use Rattle.std.specs.Io.KnownBytes.{Appends}
-use Rattle.ldap_session.specs.session_talk.Talk.{Exchange}
-use Rattle.ldap_session.specs.session_rules.Session.{ConfigValue}
-use Rattle.ldap_session.specs.session_rules.declared.answered.Answered.{Answered}
-use Rattle.ldap_session.specs.session_rules.declared.answered.Next.{Next}
-use Rattle.ldap_session.specs.session_rules.declared.answered.Next.TheVariants.{GoesOn, Unbound as UnboundNext, Disconnected as DisconnectedNext}
+use Rattle.ldap_session.specs.directory_api.Talk.{Exchange}
+use Rattle.ldap_session.specs.session_handler.Session.{ConfigValue}
+use Rattle.ldap_session.specs.session_handler.declared.answered.Answered.{Answered}
+use Rattle.ldap_session.specs.session_handler.declared.answered.Next.{Next}
+use Rattle.ldap_session.specs.session_handler.declared.answered.Next.TheVariants.{GoesOn, Unbound as UnboundNext, Disconnected as DisconnectedNext}
 use Rattle.ldap_session.specs.Octets.{joined}
 use Rattle.ldap_session.specs.View.{SessionValue}
 use Rattle.ldap_session.specs.Progress.{Reached, IsAtLast}

@@ -2,5 +2,5 @@ pub mod Lines
 pub mod Faults
 pub mod Answered
 -- what layers above name of the crates below
-pub use Rattle.ldap_session.specs.session_rules as session_rules
+pub use Rattle.ldap_session.specs.session_handler as session_handler
 pub use Rattle.ldap_session.specs as ldap_session

@@ -1,7 +1,7 @@
 //! A session over lines of hex: lines flow in and out, a session answers. No rule of LDAP is here.
 ghost use Rattle.std.specs.Prelude.{◌≡◌, map, IfOk, IfErr};
 ghost use Rattle.std.specs.Io.KnownBytes.{Appends};
-ghost use Rattle.ldap_session.specs.session_rules.View.{config_view};
+ghost use Rattle.ldap_session.specs.session_handler.View.{config_view};
 ghost use Rattle.ldap_session.specs.View.{session_view};
 ghost use Rattle.hex_session.specs.Lines.{hex_lines};
 ghost use Rattle.hex_session.specs.Faults.{IsCutOff};

@@ -1,5 +1,11 @@
 //! Sessions over lines of hex: each line of an input is a piece of a client's stream, each response becomes a line of an output. What a message
 //! asks for, and what a directory answers, is not here.
+//!
+//! The same over lines of hex (`lines`, `answering`); `Answered` says what a line that is no hex does.
+//!
+//! Proved: the output grows by exactly the lines of the responses to the stream that the lines spell. Before a line that is no hex or can't
+//! be read, all messages are answered. Where the output can't be written, or memory ends, a front of the lines is written (`answer_lines`
+//! `ok`, `err`).
 #![tactic(auto)]
 
 mod answering;

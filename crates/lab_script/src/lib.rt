@@ -1,5 +1,11 @@
 //! The language of lab scripts: which line is which event, and which update or search its text writes. A script's lines come in as octets; what
 //! real replicas of a directory show of it goes out. Nothing of what an event does is here, and nothing of where lines come from.
+//!
+//! Reads a script's lines (`script`), and the updates and searches that they write (`updates`, `search_texts`), and has a lab play them.
+//!
+//! Proved: a script shows what a lab shows of the schedule that its lines name; the first line that isn't in the language refuses it, by
+//! number (`play`, `read_first`, `read_line`). An update or a search is read as the one that the text writes, and refused only where it
+//! writes none (`read_update`, `read_search`, `one_update`, `one_search`).
 #![tactic(auto)]
 
 mod adds;

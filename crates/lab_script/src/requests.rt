@@ -12,7 +12,7 @@ use crate::cutting::request_parts;
 use crate::fault::LineError;
 use crate::text_fault::TextError;
 use crate::updates::read_update;
-use dir_lab::{Client, Entry, LabEvent, Op, WorldEvent};
+use dir_lab::{Client, LabEvent, LogEntry, Op, WorldEvent};
 use std::alloc::Global;
 
 /// The update that a text writes.
@@ -34,7 +34,7 @@ fn requested(replica: u64, client: u64, number: u64, op: Op) -> LabEvent
     LabEvent::Happens {
         event: WorldEvent::Request {
             replica,
-            entry: Entry {
+            entry: LogEntry {
                 client: Client {
                     home: 0,
                     life: 0,

@@ -1,6 +1,13 @@
 //! Wire, the lowest floor: elements of definite length, a first octet, the length and the content.
 //! In: octets. Out: elements, integers and booleans, or a named fault; and their octets.
 //! Not here: messages, filters, text, memory but for the writer's buffer.
+//!
+//! Reads and writes elements of X.690 in definite form. Its definitions relate octets and elements; one function on lists lies between them
+//! and the code. `heading` reads a header whose element may not be whole yet.
+//!
+//! Proved: an element is read exactly where there is one, and each fault is given exactly where its cause is (`read`, `header`, `integer`,
+//! `boolean`). The shortest spelling is written (`write`, `write_integer`, `shortest`); it belongs to one element and begins no other
+//! (`one_spelling`).
 #![tactic(auto)]
 
 mod element;

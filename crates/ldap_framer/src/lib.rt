@@ -1,6 +1,12 @@
 //! Wire, streams: whole messages out of a stream that comes in any pieces.
 //! In: pieces of a stream. Out: its messages, one after the other, or the fault where it stops.
 //! Not here: sockets, what a message asks for.
+//!
+//! Takes a stream in pieces and hands out its messages. A piece costs its own octets and those of the messages that it completes. Of a
+//! message that isn't whole, only the header is looked at again, at most six octets.
+//!
+//! Proved: however a stream is cut, its messages are handed out, and a fault comes exactly where the stream stops (`Framer::feed`, `next`,
+//! `holds_part`, `one_reading`, `any_pieces`).
 #![tactic(auto)]
 
 mod cutting;

@@ -1,5 +1,12 @@
 //! Matching: values and a schema flow in, keys and three-valued truths flow out. Whole entries and whole filters are not
 //! here.
+//!
+//! The key of any value (`keying`), names too (`naming`), and the truth of an item on one attribute. `parts` and `testing` make an
+//! assertion's keys once and test values by them; `Truth` is three-valued.
+//!
+//! Proved: truth has its laws (`laws`). Values that are names have equal keys exactly where they are one name (`key`,
+//! `equal_values_are_one_name`). An item (presence, equality, `>=`, `<=`, substrings) is its definition (`item_on_attribute`,
+//! `tests_are_items`).
 #![tactic(auto)]
 
 mod keying;

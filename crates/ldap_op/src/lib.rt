@@ -1,6 +1,11 @@
 //! Wire, updates by themselves: what a log keeps of an update.
 //! In: an update, or the octets of its operation. Out: its octets, the update, or an equal copy.
 //! Not here: messages, who asked, what an update does.
+//!
+//! An update by itself, as a log keeps it. `Op` is a value whose equality is that of its content; a copy shares its memory.
+//!
+//! Proved: an update is read exactly where there is one and written in its one form (`read_op`, `write_op`, `one_op`, `is_op`). A copy is
+//! equal (`Op::copy`).
 #![tactic(auto)]
 
 mod laws;

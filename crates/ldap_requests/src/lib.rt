@@ -1,6 +1,11 @@
 //! Wire, requests: what a client asks for beside updates.
 //! In: the content of an operation, or a request. Out: the request, or a named fault; or its one content.
 //! Not here: updates, the envelope, what a request is answered.
+//!
+//! Bind, unbind, search, compare, abandon and extended; made as `ldap_parts` says.
+//!
+//! Proved: the content of each is read exactly and written in its one form (`bind_of`, `search_of`, `compare_of`, `extended_request_of`,
+//! `abandon_of`, `unbind_of`, and `bind_content`, ..).
 #![tactic(auto)]
 
 mod bind;

@@ -1,6 +1,11 @@
 //! Wire, responses: what a server sends beside plain results.
 //! In: the content of an operation, or a response. Out: the response, or a named fault; or its one content.
 //! Not here: the envelope, what a response answers.
+//!
+//! An entry that a search found, and extended; made as `ldap_parts` says.
+//!
+//! Proved: the content of each is read exactly and written in its one form (`entry_of`, `extended_of`, `entry_content`,
+//! `extended_content`).
 #![tactic(auto)]
 
 mod decoding_entry;

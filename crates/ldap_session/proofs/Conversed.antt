@@ -1,16 +1,16 @@
 -- Conversations that go on message by message. Facts on definitions come in and go out; no value of the program is here.
 use Rattle.std.proofs.Common.{◌≡◌, inl, inr, ℕ, List, [], ◌∷◌, ◌++◌, take, drop, None, refl, ap, sym, subst, ◌∙◌, append_assoc, take-append-drop}
-use Rattle.session_rules.specs.ldap_msg.Messages.{MessageValue}
+use Rattle.session_handler.specs.ldap_msg.Messages.{MessageValue}
 use Rattle.ldap_framer.specs.Framed.{ending_of}
-use Rattle.session_rules.specs.session_talk.Talk.{Exchange, Along}
-use Rattle.session_rules.specs.session_talk.Talk as talk
-use Rattle.session_rules.specs.Responses.{notice}
-use Rattle.session_rules.specs.Session.{ConfigValue, at_first}
-use Rattle.session_rules.specs.Turns.{Session}
-use Rattle.session_rules.specs.Turns as turns
-use Rattle.session_rules.specs.declared.state.State.{State}
-use Rattle.session_rules.specs.declared.answered.Next.{Next}
-use Rattle.session_rules.specs.declared.answered.Next.TheVariants.{GoesOn, Unbound as UnboundNext, Disconnected as DisconnectedNext}
+use Rattle.session_handler.specs.directory_api.Talk.{Exchange, Along}
+use Rattle.session_handler.specs.directory_api.Talk as talk
+use Rattle.session_handler.specs.Responses.{notice}
+use Rattle.session_handler.specs.Session.{ConfigValue, at_first}
+use Rattle.session_handler.specs.Turns.{Session}
+use Rattle.session_handler.specs.Turns as turns
+use Rattle.session_handler.specs.declared.state.State.{State}
+use Rattle.session_handler.specs.declared.answered.Next.{Next}
+use Rattle.session_handler.specs.declared.answered.Next.TheVariants.{GoesOn, Unbound as UnboundNext, Disconnected as DisconnectedNext}
 use Rattle.ldap_session.specs.Octets.{octets_of, IsFront}
 use Rattle.ldap_session.specs.View.{SessionValue, ConversationValue}
 use Rattle.ldap_session.specs.Visits.{Visited, IsOne, IsSession}

@@ -1,12 +1,12 @@
 -- How many updates a session asks for. Facts on definitions flow in and out; no value of the program is here.
 use Rattle.std.proofs.Common.{◌≡◌, ◌≤◌, ℕ, ◌+◌, suc, arith, length, List, [], ◌∷◌, ◌++◌, ap, ◌∙◌}
-use Rattle.session_rules.specs.ldap_msg.Messages.{MessageValue}
-use Rattle.session_rules.specs.session_talk.Talk.{Exchange}
-use Rattle.session_rules.specs.Session.{ConfigValue, Reaction, Asked}
-use Rattle.session_rules.specs.declared.state.State.{State}
-use Rattle.session_rules.specs.declared.answered.Next.{Next}
-use Rattle.session_rules.specs.Turns.{Outcome, reacts, searches, compares, updates, Inquiry, asks, Turn, answers, inquires, Session, ends, goes_on, stops}
-use Rattle.session_rules.specs.session_talk.Counting.{updates_of, updates_in}
+use Rattle.session_handler.specs.ldap_msg.Messages.{MessageValue}
+use Rattle.session_handler.specs.directory_api.Talk.{Exchange}
+use Rattle.session_handler.specs.Session.{ConfigValue, Reaction, Asked}
+use Rattle.session_handler.specs.declared.state.State.{State}
+use Rattle.session_handler.specs.declared.answered.Next.{Next}
+use Rattle.session_handler.specs.Turns.{Outcome, reacts, searches, compares, updates, Inquiry, asks, Turn, answers, inquires, Session, ends, goes_on, stops}
+use Rattle.session_handler.specs.directory_api.Counting.{updates_of, updates_in}
 use Rattle.ldap_session.specs.Counting.{OneUpdateAMessage}
 
 outcome_asks : {T : Type 0} {s : State} {id : ℕ} {answering : _} {named : _} {question : Asked} (xs : List (Exchange T)) (a : Reaction) → Outcome s id answering named question xs a → updates_in xs ≤ 1

@@ -1,14 +1,14 @@
 -- What a conversation keeps of an answer. Facts on definitions come in and go out; no value of the program is here.
 use Rattle.std.proofs.Common.{◌≡◌, ◌⊎◌, inl, inr, ℕ, ◌+◌, ◌<◌, List, [], ◌∷◌, ◌++◌, Bool, true, false, None, Some, ap, sym, subst, ◌∙◌, map, length, take, drop, get_or, append_assoc, append-nil}
 use Rattle.std.specs.Bool.{OnTrue, OnFalse}
-use Rattle.session_rules.specs.session_talk.Talk.{Exchange}
-use Rattle.session_rules.specs.Responses.{notice}
-use Rattle.session_rules.specs.Session.{ConfigValue}
-use Rattle.session_rules.specs.declared.answered.Answered.{Answered as AnsweredValue}
-use Rattle.session_rules.specs.declared.answered.Next.{Next}
-use Rattle.session_rules.specs.declared.answered.Next.TheVariants.{Disconnected as DisconnectedNext}
-use Rattle.session_rules.specs.message_rules.declared.fault.AnswerError.{AnswerError}
-use Rattle.session_rules.specs.message_rules.declared.fault.AnswerError.TheVariants.{TooLong, NoMemory as NoMemoryError}
+use Rattle.session_handler.specs.directory_api.Talk.{Exchange}
+use Rattle.session_handler.specs.Responses.{notice}
+use Rattle.session_handler.specs.Session.{ConfigValue}
+use Rattle.session_handler.specs.declared.answered.Answered.{Answered as AnsweredValue}
+use Rattle.session_handler.specs.declared.answered.Next.{Next}
+use Rattle.session_handler.specs.declared.answered.Next.TheVariants.{Disconnected as DisconnectedNext}
+use Rattle.session_handler.specs.request_checks.declared.fault.AnswerError.{AnswerError}
+use Rattle.session_handler.specs.request_checks.declared.fault.AnswerError.TheVariants.{TooLong, NoMemory as NoMemoryError}
 use Rattle.ldap_session.specs.Octets.{joined, octets_of, HasGrown}
 use Rattle.ldap_session.specs.View.{SessionValue, ConversationValue}
 use Rattle.ldap_session.specs.Progress.{TakesNext, IsWritten, AnswersNext, FailsNext, IsIdle}

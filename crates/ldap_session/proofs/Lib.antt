@@ -6,4 +6,4 @@ pub mod Kept
 pub mod Conversed
 pub mod Counted
 -- what layers above name of the crates below
-pub use Rattle.session_rules.proofs.session_talk as session_talk
+pub use Rattle.session_handler.proofs.directory_api as directory_api

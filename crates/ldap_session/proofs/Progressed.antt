@@ -1,15 +1,15 @@
 -- Sessions that go on message by message. Facts on definitions flow in and out; no value of the program is here.
 use Rattle.std.proofs.Common.{◌≡◌, ◌≤◌, ℕ, arith, length, List, [], ◌∷◌, ◌++◌, Option, refl, ap, sym, subst, ◌∙◌, append_assoc, append-nil}
-use Rattle.session_rules.specs.ldap_msg.Messages.{MessageValue}
+use Rattle.session_handler.specs.ldap_msg.Messages.{MessageValue}
 use Rattle.ldap_framer.specs.Stream.{Reads}
 use Rattle.ldap_framer.specs.Framed.{Framed, ending_of, HasSeen}
-use Rattle.session_rules.specs.session_talk.Talk.{Exchange, Along}
-use Rattle.session_rules.specs.session_talk.Talk as talk
-use Rattle.session_rules.specs.Session.{ConfigValue, Reaction, at_first}
-use Rattle.session_rules.specs.declared.state.State.{State}
-use Rattle.session_rules.specs.Turns.{Turn, Session, ends, goes_on, stops}
-use Rattle.session_rules.specs.declared.answered.Next.{Next}
-use Rattle.session_rules.specs.declared.answered.Next.TheVariants.{GoesOn, Unbound, Disconnected}
+use Rattle.session_handler.specs.directory_api.Talk.{Exchange, Along}
+use Rattle.session_handler.specs.directory_api.Talk as talk
+use Rattle.session_handler.specs.Session.{ConfigValue, Reaction, at_first}
+use Rattle.session_handler.specs.declared.state.State.{State}
+use Rattle.session_handler.specs.Turns.{Turn, Session, ends, goes_on, stops}
+use Rattle.session_handler.specs.declared.answered.Next.{Next}
+use Rattle.session_handler.specs.declared.answered.Next.TheVariants.{GoesOn, Unbound, Disconnected}
 use Rattle.ldap_session.specs.Octets.{IsFront}
 use Rattle.ldap_session.specs.View.{SessionValue}
 use Rattle.ldap_session.specs.Progress.{TakesNext, Reached}

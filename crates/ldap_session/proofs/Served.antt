@@ -2,14 +2,14 @@
 use Rattle.std.proofs.Common.{◌≡◌, ◌⊎◌, inl, inr, ℕ, List, [], ◌++◌, Option, None, Some, refl, ap, sym, subst, ◌∙◌, append-nil}
 use Rattle.std.specs.Io.KnownBytes.{Appends, Consumes, IsAtEnd}
 use Rattle.std.proofs.KnownBytes.{Appends-nil, Appends-trans, Consumes-nil, Consumes-trans}
-use Rattle.session_rules.specs.ldap_msg.Messages.{MessageValue}
+use Rattle.session_handler.specs.ldap_msg.Messages.{MessageValue}
 use Rattle.ldap_framer.specs.Framed.{ending_of, HasSeen}
-use Rattle.session_rules.specs.session_talk.Talk.{Exchange}
-use Rattle.session_rules.specs.session_talk.Talk as talk
-use Rattle.session_rules.specs.Session.{ConfigValue, at_first}
-use Rattle.session_rules.specs.declared.state.State.{State}
-use Rattle.session_rules.specs.Turns.{Session, ends}
-use Rattle.session_rules.specs.declared.answered.Next.TheVariants.{GoesOn}
+use Rattle.session_handler.specs.directory_api.Talk.{Exchange}
+use Rattle.session_handler.specs.directory_api.Talk as talk
+use Rattle.session_handler.specs.Session.{ConfigValue, at_first}
+use Rattle.session_handler.specs.declared.state.State.{State}
+use Rattle.session_handler.specs.Turns.{Session, ends}
+use Rattle.session_handler.specs.declared.answered.Next.TheVariants.{GoesOn}
 use Rattle.ldap_session.specs.Octets.{octets_of}
 use Rattle.ldap_session.specs.View.{SessionValue}
 use Rattle.ldap_session.specs.Progress.{Reached, IsAtLast}

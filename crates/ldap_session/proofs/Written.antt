@@ -3,8 +3,8 @@ use Rattle.std.proofs.Common.{◌≡◌, ℕ, ◌+◌, ◌<◌, List, [], ◌∷
 use Rattle.std.proofs.lemmas.List.{take_more}
 use Rattle.std.proofs.KnownBytes.{Appends-nil, Appends-trans}
 use Rattle.std.specs.Io.KnownBytes.{Appends}
-use Rattle.session_rules.specs.ldap_msg.Messages.{MessageValue}
-use Rattle.session_rules.specs.ldap_msg.Written.{message_bytes}
+use Rattle.session_handler.specs.ldap_msg.Messages.{MessageValue}
+use Rattle.session_handler.specs.ldap_msg.Written.{message_bytes}
 use Rattle.ldap_session.specs.Octets.{is_empty, joined, octets_of, IsFront, WritesSome, HasWritten}
 
 pub begun : (a : Option (List ℕ)) (octets : List ℕ) → WritesSome a a octets octets

@@ -1,15 +1,15 @@
 -- Conversations: the octets that were heard and given out, and the directories before and after each message, come in; whose conversation
 -- they are comes out. Threads and sockets are not here.
 use Rattle.std.specs.Prelude.{◌≡◌, ◌⊎◌, ℕ, take, drop, List, [], ◌∷◌, ◌++◌, None, Some}
-use Rattle.session_rules.specs.ldap_msg.Messages.{MessageValue}
+use Rattle.session_handler.specs.ldap_msg.Messages.{MessageValue}
 use Rattle.ldap_framer.specs.Stream.{Ending, Reads}
 use Rattle.ldap_framer.specs.Framed.{HasSeen}
-use Rattle.session_rules.specs.session_talk.Talk.{Exchange}
-use Rattle.session_rules.specs.Responses.{notice}
-use Rattle.session_rules.specs.Session.{ConfigValue, Reaction, at_first}
-use Rattle.session_rules.specs.declared.state.State.{State}
-use Rattle.session_rules.specs.declared.answered.Next.{Next}
-use Rattle.session_rules.specs.declared.answered.Next.TheVariants.{GoesOn, Unbound as UnboundNext, Disconnected as DisconnectedNext}
+use Rattle.session_handler.specs.directory_api.Talk.{Exchange}
+use Rattle.session_handler.specs.Responses.{notice}
+use Rattle.session_handler.specs.Session.{ConfigValue, Reaction, at_first}
+use Rattle.session_handler.specs.declared.state.State.{State}
+use Rattle.session_handler.specs.declared.answered.Next.{Next}
+use Rattle.session_handler.specs.declared.answered.Next.TheVariants.{GoesOn, Unbound as UnboundNext, Disconnected as DisconnectedNext}
 use Rattle.ldap_session.specs.Octets.{octets_of, IsFront}
 use Rattle.ldap_session.specs.View.{ConversationValue}
 use Rattle.ldap_session.specs.Visits.{Visited, IsOne}

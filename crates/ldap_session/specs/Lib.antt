@@ -8,7 +8,7 @@ pub mod Visits
 pub mod Waiting
 pub mod View
 -- what layers above name of the crates below
-pub use Rattle.session_rules.specs.ldap_msg as ldap_msg
+pub use Rattle.session_handler.specs.ldap_msg as ldap_msg
 pub use Rattle.ldap_framer.specs as ldap_framer
-pub use Rattle.session_rules.specs.session_talk as session_talk
-pub use Rattle.session_rules.specs as session_rules
+pub use Rattle.session_handler.specs.directory_api as directory_api
+pub use Rattle.session_handler.specs as session_handler

@@ -2,9 +2,9 @@
 -- their octets.
 use Rattle.std.specs.Prelude.{◌≡◌, ℕ, List, [], ◌∷◌, ◌++◌, Bool, true, Option}
 use Rattle.std.specs.Io.KnownBytes.{Appends}
-use Rattle.session_rules.specs.ldap_msg.Messages.{MessageValue}
-use Rattle.session_rules.specs.ldap_msg.Written.{message_bytes}
-pub use Rattle.session_rules.specs.message_rules.Binding.{is_empty}
+use Rattle.session_handler.specs.ldap_msg.Messages.{MessageValue}
+use Rattle.session_handler.specs.ldap_msg.Written.{message_bytes}
+pub use Rattle.session_handler.specs.request_checks.Binding.{is_empty}
 
 -- octets, one after the other
 abbrev pub joined : List (List ℕ) → List ℕ

@@ -1,19 +1,19 @@
 -- How a session goes on. A session and a directory before and after flow in, with what was answered.
 use Rattle.std.specs.Prelude.{◌≡◌, ◌⊎◌, ℕ, List, [], ◌∷◌, map, Option, None, Some, Result, Ok, Err}
-use Rattle.session_rules.specs.ldap_msg.Messages.{MessageValue}
-use Rattle.session_rules.specs.ldap_msg.Written.{message_bytes}
+use Rattle.session_handler.specs.ldap_msg.Messages.{MessageValue}
+use Rattle.session_handler.specs.ldap_msg.Written.{message_bytes}
 use Rattle.ldap_framer.specs.Framed.{HasSeen}
-use Rattle.session_rules.specs.session_talk.Talk.{Exchange, Along}
-use Rattle.session_rules.specs.message_rules.Messages.{HasTooLong}
-use Rattle.session_rules.specs.Responses.{notice}
-use Rattle.session_rules.specs.Session.{ConfigValue, Reaction, at_first}
-use Rattle.session_rules.specs.Turns.{Turn, Session}
-use Rattle.session_rules.specs.declared.answered.Answered.{Answered}
-use Rattle.session_rules.specs.declared.answered.Next.{Next}
-use Rattle.session_rules.specs.declared.answered.Next.TheVariants.{GoesOn, Disconnected}
-use Rattle.session_rules.specs.message_rules.declared.fault.AnswerError.{AnswerError}
-use Rattle.session_rules.specs.message_rules.declared.fault.AnswerError.TheVariants.{TooLong}
-use Rattle.session_rules.specs.ldap_fields.declared.fault.MsgFault.{MsgFault}
+use Rattle.session_handler.specs.directory_api.Talk.{Exchange, Along}
+use Rattle.session_handler.specs.request_checks.Messages.{HasTooLong}
+use Rattle.session_handler.specs.Responses.{notice}
+use Rattle.session_handler.specs.Session.{ConfigValue, Reaction, at_first}
+use Rattle.session_handler.specs.Turns.{Turn, Session}
+use Rattle.session_handler.specs.declared.answered.Answered.{Answered}
+use Rattle.session_handler.specs.declared.answered.Next.{Next}
+use Rattle.session_handler.specs.declared.answered.Next.TheVariants.{GoesOn, Disconnected}
+use Rattle.session_handler.specs.request_checks.declared.fault.AnswerError.{AnswerError}
+use Rattle.session_handler.specs.request_checks.declared.fault.AnswerError.TheVariants.{TooLong}
+use Rattle.session_handler.specs.ldap_fields.declared.fault.MsgFault.{MsgFault}
 use Rattle.ldap_session.specs.View.{SessionValue}
 use Rattle.ldap_session.specs.declared.end.SessionEnd.{SessionEnd}
 use Rattle.ldap_session.specs.declared.end.SessionEnd.TheVariants.{EndOfInput, Truncated}

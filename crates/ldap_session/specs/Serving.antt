@@ -2,15 +2,15 @@
 -- flow in.
 use Rattle.std.specs.Prelude.{◌≡◌, ◌⊎◌, ◌≤◌, ℕ, length, List, [], ◌∷◌, ◌++◌, Option, None}
 use Rattle.std.specs.Io.KnownBytes.{Appends, Consumes, IsAtEnd}
-use Rattle.session_rules.specs.ldap_msg.Messages.{MessageValue}
+use Rattle.session_handler.specs.ldap_msg.Messages.{MessageValue}
 use Rattle.ldap_framer.specs.Stream.{Ending, awaits, stops, Reads}
-use Rattle.session_rules.specs.session_talk.Talk.{Exchange, Along}
-use Rattle.session_rules.specs.Responses.{notice}
-use Rattle.session_rules.specs.Session.{ConfigValue, at_first}
-use Rattle.session_rules.specs.declared.state.State.{State}
-use Rattle.session_rules.specs.Turns.{Session}
-use Rattle.session_rules.specs.declared.answered.Next.{Next}
-use Rattle.session_rules.specs.declared.answered.Next.TheVariants.{GoesOn, Unbound as UnboundNext, Disconnected as DisconnectedNext}
+use Rattle.session_handler.specs.directory_api.Talk.{Exchange, Along}
+use Rattle.session_handler.specs.Responses.{notice}
+use Rattle.session_handler.specs.Session.{ConfigValue, at_first}
+use Rattle.session_handler.specs.declared.state.State.{State}
+use Rattle.session_handler.specs.Turns.{Session}
+use Rattle.session_handler.specs.declared.answered.Next.{Next}
+use Rattle.session_handler.specs.declared.answered.Next.TheVariants.{GoesOn, Unbound as UnboundNext, Disconnected as DisconnectedNext}
 use Rattle.ldap_session.specs.Octets.{octets_of, IsFront}
 use Rattle.ldap_session.specs.View.{SessionValue}
 use Rattle.ldap_session.specs.Progress.{Reached}

@@ -2,8 +2,8 @@
 -- above.
 use Rattle.std.specs.Prelude.{◌≡◌, ◌⊎◌, ◌≤◌, ℕ, length, take, List, [], ◌++◌, Option, None}
 use Rattle.std.specs.Io.KnownBytes.{Appends, Consumes, IsAtEnd}
-use Rattle.session_rules.specs.session_talk.Talk.{Exchange}
-use Rattle.session_rules.specs.Session.{ConfigValue}
+use Rattle.session_handler.specs.directory_api.Talk.{Exchange}
+use Rattle.session_handler.specs.Session.{ConfigValue}
 use Rattle.ldap_session.specs.Octets.{octets_of, IsFront}
 use Rattle.ldap_session.specs.View.{SessionValue, ConversationValue}
 use Rattle.ldap_session.specs.Progress.{Reached}

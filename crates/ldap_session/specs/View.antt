@@ -2,7 +2,7 @@
 use Rattle.std.specs.Prelude.{ℕ, List, Option}
 use Rattle.ldap_framer.specs.Framed.{Framed}
 use Rattle.ldap_framer.specs.View.{framed}
-use Rattle.session_rules.specs.declared.state.State.{State}
+use Rattle.session_handler.specs.declared.state.State.{State}
 use Rattle.ldap_session.specs.declared.conversation.Conversation.{Conversation}
 use Rattle.ldap_session.specs.declared.end.SessionEnd.{SessionEnd}
 use Rattle.ldap_session.specs.declared.session.Session.{Session}

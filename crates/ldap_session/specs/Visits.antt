@@ -1,13 +1,13 @@
 -- Sessions whose messages are served by directories in turn. What is asked for each message, and the directories before and after it, come
 -- in; whose session that is comes out. Octets are not here.
 use Rattle.std.specs.Prelude.{List, [], ◌∷◌, ◌++◌}
-use Rattle.session_rules.specs.ldap_msg.Messages.{MessageValue}
-use Rattle.session_rules.specs.session_talk.Talk.{Exchange, Along}
-use Rattle.session_rules.specs.Session.{ConfigValue, Reaction, at_first}
-use Rattle.session_rules.specs.Turns.{Turn, Session}
-use Rattle.session_rules.specs.declared.state.State.{State}
-use Rattle.session_rules.specs.declared.answered.Next.{Next}
-use Rattle.session_rules.specs.declared.answered.Next.TheVariants.{GoesOn}
+use Rattle.session_handler.specs.ldap_msg.Messages.{MessageValue}
+use Rattle.session_handler.specs.directory_api.Talk.{Exchange, Along}
+use Rattle.session_handler.specs.Session.{ConfigValue, Reaction, at_first}
+use Rattle.session_handler.specs.Turns.{Turn, Session}
+use Rattle.session_handler.specs.declared.state.State.{State}
+use Rattle.session_handler.specs.declared.answered.Next.{Next}
+use Rattle.session_handler.specs.declared.answered.Next.TheVariants.{GoesOn}
 
 -- Messages were served in turn, each by one directory, which is seen before it and after it: all that was asked for a message was put to the
 -- directory that served it, which went along that. The whole talk, the state and the responses are those of one session.

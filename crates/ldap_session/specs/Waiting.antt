@@ -1,8 +1,8 @@
 -- Which messages may have to wait for others. The messages that are to be answered come in; what stands next comes out. How long it waits
 -- is not here.
 use Rattle.std.specs.Prelude.{List, [], ◌∷◌, Bool, true, false, Option, Some, None, cond}
-use Rattle.session_rules.specs.ldap_msg.Messages.{MessageValue, OperationValue, request, response, RequestValue, bind, unbind, search, modify, add, delete, modify_dn, compare, abandon, extended_request}
-use Rattle.session_rules.specs.ldap_fields.declared.fault.MsgFault.{MsgFault}
+use Rattle.session_handler.specs.ldap_msg.Messages.{MessageValue, OperationValue, request, response, RequestValue, bind, unbind, search, modify, add, delete, modify_dn, compare, abandon, extended_request}
+use Rattle.session_handler.specs.ldap_fields.declared.fault.MsgFault.{MsgFault}
 use Rattle.ldap_framer.specs.Framed.{Framed}
 use Rattle.ldap_session.specs.declared.due.Due.{Due}
 use Rattle.ldap_session.specs.declared.due.Due.TheVariants.{Nothing, Update, Other}

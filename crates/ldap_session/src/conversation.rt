@@ -2,7 +2,7 @@
 //! responses are kept until they are sent. Sockets, threads and whose turn it is are above.
 ghost use Rattle.std.specs.Prelude.{◌≡◌, ◌≤◌, ◌++◌, drop, length, map, Option, Some, None, IfSome, OnOk, OnErr};
 ghost use Rattle.std.specs.Bool.{OnTrue, OnFalse};
-ghost use Rattle.session_rules.specs.View.{config_view};
+ghost use Rattle.session_handler.specs.View.{config_view};
 ghost use Rattle.ldap_session.specs.Octets.{joined, HasGrown};
 ghost use Rattle.ldap_session.specs.Progress.{IsAtLast};
 ghost use Rattle.ldap_session.specs.Waiting.{due};
@@ -13,7 +13,7 @@ use crate::due::{Due, Step};
 use crate::end::SessionEnd;
 use crate::session::Session;
 use bytes::BytesMut;
-use session_rules::{AnswerError, Answered, Config, Directory, Next};
+use session_handler::{AnswerError, Answered, Config, Directory, Next};
 use std::alloc::{AllocError, Global};
 
 /// How many octets responses have in all, to reserve room for them at once; 18446744073709551615 stands for more too.

@@ -3,7 +3,7 @@ ghost use Rattle.ldap_session.specs.Conversing.{Begins, Listens, Speaks, IsWithO
 ghost use Rattle.ldap_session.specs.Counting.{OneUpdateAMessage};
 ghost use Rattle.ldap_session.specs.Visits.{IsSession};
 
-use session_rules::Directory;
+use session_handler::Directory;
 
 /// A session asks for at most one update a message: a law on the definitions, so its body is empty.
 pub fn one_update_a_message<T>()

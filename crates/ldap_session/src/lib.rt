@@ -1,5 +1,14 @@
 //! Sessions: a stream of octets becomes messages, each is answered by what a directory says, and octets flow back. What a request asks for
 //! is decided below; sockets, lines and files are above.
+//!
+//! A client's stream in pieces (`session`): each message of the framer is answered by the rules. `serving` reads, answers all whole
+//! messages that are there, and flushes; `writing` writes until the writer has taken all. A `Conversation` keeps what is heard and not
+//! answered, and what is answered and not sent, so that different directories may serve its messages (`due` says what is next).
+//!
+//! Proved, **the theorem of sessions**: for every directory, every reader and writer that tell their octets, and every cut of the stream,
+//! `serve` writes a session's responses to the messages that it reads. It writes all of them up to what ends the session, with the Notice
+//! of Disconnection where that is due; after a failed write or without memory, a front of them. `Session::feed`, `answer`, `end_of_input`
+//! and `Conversation` say the same message by message.
 #![tactic(auto)]
 
 mod conversation;
@@ -19,7 +28,7 @@ pub use laws::{
 };
 pub use serving::serve;
 pub use session::Session;
-pub use session_rules::{
+pub use session_handler::{
     AnswerError, Answered, Client, CompareRequest, Config, Directory, Ended, Found, Gate, Look,
     LookError, Name, Next, Reply, Role, SearchAnswer, SearchRequest, Update,
 };

@@ -2,7 +2,7 @@
 //! not here.
 ghost use Rattle.std.specs.Prelude.{◌≡◌, ◌<◌, [], length};
 ghost use Rattle.std.specs.Bool.{OnTrue};
-ghost use Rattle.session_rules.specs.View.{config_view};
+ghost use Rattle.session_handler.specs.View.{config_view};
 ghost use Rattle.ldap_session.specs.Octets.{HasWritten};
 ghost use Rattle.ldap_session.specs.View.{conversation_view};
 ghost use Rattle.ldap_session.specs.Serving.{Served};
@@ -12,7 +12,7 @@ use crate::conversation::Conversation;
 use crate::due::{Due, Step};
 use crate::end::SessionEnd;
 use crate::writing::hand_over;
-use session_rules::{Config, Directory};
+use session_handler::{Config, Directory};
 use std::alloc::Global;
 use std::io::{ErrorKind, Read, Write};
 

@@ -1,19 +1,19 @@
 //! A session. Pieces of its stream flow in; the octets of the responses to each message flow out. What a message asks of the directory is
 //! below; readers and writers are above.
 ghost use Rattle.std.specs.Prelude.{◌≡◌, ◌++◌, [], ℕ, List, None, OnOk, OnErr};
-ghost use Rattle.session_rules.specs.ldap_msg.Messages.{MessageValue};
+ghost use Rattle.session_handler.specs.ldap_msg.Messages.{MessageValue};
 ghost use Rattle.ldap_framer.specs.Framed.{HasSeen};
-ghost use Rattle.session_rules.specs.Session.{at_first};
-ghost use Rattle.session_rules.specs.View.{config_view};
+ghost use Rattle.session_handler.specs.Session.{at_first};
+ghost use Rattle.session_handler.specs.View.{config_view};
 ghost use Rattle.ldap_session.specs.View.{session_view};
 ghost use Rattle.ldap_session.specs.Progress.{Answers, IsNoMessage, IsAtLast};
 ghost use Rattle.ldap_session.specs.Waiting.{is_update, due_at_last, due_of};
-ghost use Rattle.session_rules.specs.ldap_msg.View.{view};
+ghost use Rattle.session_handler.specs.ldap_msg.View.{view};
 
 use crate::due::Due;
 use crate::end::SessionEnd;
 use ldap_framer::{FrameFault, Framer, Message, ProtocolOp, Request};
-use session_rules::{AnswerError, Answered, Config, Directory, State, disconnect, take};
+use session_handler::{AnswerError, Answered, Config, Directory, State, disconnect, take};
 use std::alloc::{AllocError, Global};
 
 /// Whether a message may be an update.

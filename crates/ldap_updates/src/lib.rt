@@ -1,6 +1,11 @@
 //! Wire, updates: the operations that change the directory.
 //! In: the content of an operation, or an update. Out: the update, or a named fault; or its one content.
 //! Not here: the envelope, what an update does.
+//!
+//! Add, delete, modify and modifyDN; made as `ldap_parts` says.
+//!
+//! Proved: the content of each is read exactly and written in its one form (`add_of`, `delete_of`, `modify_of`, `modify_dn_of`, and
+//! `add_content`, ..).
 #![tactic(auto)]
 
 mod add;

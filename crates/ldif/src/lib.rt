@@ -2,6 +2,19 @@
 //! In: records of entries, a text, or lines of hex of a search's responses. Out: the one text that is written of records, the records that a text has, or
 //! lines of hex of AddRequests.
 //! Not here: changes, schemas, what names mean, directories, files.
+//!
+//! Entries as text (RFC 2849). `lines` has the unfolded lines with their numbers, `saying` what one line says, `describing` which
+//! descriptions may be a line's type. `reading_state` and `reading` make the records; `record`, `writing` and `written_value` write them.
+//! The definitions go the same way (`Lines`, `Says`, `Reading`, then `Content` and `Written`). Lines are defined from the text's end and
+//! read from its beginning; `Folding` ties the two. Base64 is the kit's `base64`.
+//!
+//! `importing` and `exporting` take whole texts to messages and back. `adding` has the add of a record, one attribute for each type at the
+//! place of its first line; `asking` makes the lines of adds. `hex_lines` reads lines of hex, `judging` says what each message is among a
+//! search's responses (`Meant`), `ending` what is wrong first, `showing` an entry's record.
+//!
+//! Proved: records and their text are each other's, by the grammar of lines; E19 has the first wrong line (`write`, `read`,
+//! `records_are_of_text`, `written_is_read_back`). An import is the adds of the records, with ids from 1, and an export the LDIF of the
+//! responses' entries. The first refusal in order is given (`import_text`, `export_text`).
 #![tactic(auto)]
 
 mod adding;

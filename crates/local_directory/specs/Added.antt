@@ -3,8 +3,8 @@
 use Rattle.std.specs.Prelude.{◌≡◌, ℕ, ◌+◌, List, [], ◌∷◌, Bool, false, cond, nat_eq, Option, None, Some}
 use Rattle.ldif.specs.Records.{RecordModel}
 use Rattle.ldif.specs.Adds.{add_of}
-use Rattle.session_talk.specs.ldap_op.Values.{OpValue, add}
-use Rattle.dir_store.specs.dir_kept.Directory.{Directory}
+use Rattle.directory_api.specs.ldap_op.Values.{OpValue, add}
+use Rattle.dir_store.specs.indexed_tree.Directory.{Directory}
 use Rattle.dir_store.specs.Updates.{applied, reply_to}
 use Rattle.local_directory.specs.declared.fault.SearchError.{SearchError}
 use Rattle.local_directory.specs.declared.fault.SearchError.TheVariants.{BadLdif, Refused, Code, NoMemory}

@@ -2,7 +2,7 @@
 -- flows out.
 use Rattle.std.specs.Prelude.{Option, Some, None}
 use Rattle.std.specs.FinMap as map
-use Rattle.session_talk.specs.log_entry.declared.words.Client.{Client}
+use Rattle.directory_api.specs.log_entry.declared.words.Client.{Client}
 use Rattle.local_directory.specs.ClientOrder.{client_cmp}
 use Rattle.local_directory.specs.Latest.{KeptValue}
 

@@ -3,7 +3,7 @@ use Rattle.std.specs.Prelude.{ℕ, List, refl}
 use Rattle.std.specs.FinMap as map
 use Rattle.std.specs.Coded.{Coded, code_by, coded×, coded_list, coded_ℕ}
 use Rattle.local_directory.specs.Latest.{KeptValue}
-pub use Rattle.session_talk.specs.log_entry.ClientOrder.{client_cmp, coded_client}
+pub use Rattle.directory_api.specs.log_entry.ClientOrder.{client_cmp, coded_client}
 
 -- what is kept, as its numbers and the octets of its name
 abbrev pub coded_kept : Coded KeptValue

@@ -2,8 +2,8 @@
 use Rattle.std.specs.Prelude.{◌≡◌, ℕ, List, None, Ok, Err}
 use Rattle.ldif.specs.Records.{RecordModel}
 use Rattle.ldif.specs.Reading.{records_of}
-use Rattle.dir_store.specs.dir_kept.Directory.{Directory}
-use Rattle.dir_store.specs.dir_kept.Listed.{StoreModel}
+use Rattle.dir_store.specs.indexed_tree.Directory.{Directory}
+use Rattle.dir_store.specs.indexed_tree.Listed.{StoreModel}
 use Rattle.local_directory.specs.Added.{adds, first_refused}
 use Rattle.local_directory.specs.Searched.{filled, IsRefused}
 use Rattle.local_directory.specs.declared.fault.SearchError.{SearchError}

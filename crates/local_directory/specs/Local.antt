@@ -1,7 +1,7 @@
 -- The directory of one server alone, as it is seen from above. How it is kept is not here.
 use Rattle.std.specs.Prelude.{ℕ}
 use Rattle.std.specs.FinMap as map
-use Rattle.dir_store.specs.dir_kept.Directory.{Directory}
+use Rattle.dir_store.specs.indexed_tree.Directory.{Directory}
 use Rattle.local_directory.specs.ClientOrder.{client_cmp}
 use Rattle.local_directory.specs.Latest.{KeptValue}
 

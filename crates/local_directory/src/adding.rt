@@ -2,16 +2,16 @@
 //! In: a directory and records. Out: the directory with their entries, or the first that is refused. Not here: how an add is judged.
 
 ghost use Rattle.std.specs.Prelude.{◌≡◌, ◌+◌, None, IfOk, IfErr, OnOk};
-ghost use Rattle.session_talk.specs.ldap_op.Values.{add as add_op};
-ghost use Rattle.dir_store.specs.dir_kept.Stored.{NumbersBelow};
+ghost use Rattle.directory_api.specs.ldap_op.Values.{add as add_op};
+ghost use Rattle.dir_store.specs.indexed_tree.Stored.{NumbersBelow};
 ghost use Rattle.dir_store.specs.Updates.{applied, reply_to, directory_after};
 ghost use Rattle.ldif.specs.Adds.{add_of as add_value};
 ghost use Rattle.local_directory.specs.Added.{adds, first_refused, IsPutFault, IsAddFault};
 
 use crate::fault::SearchError;
 use dir_store::Store;
+use directory_api::{Op, Update};
 use ldif::{Record, add_of};
-use session_talk::{Op, Update};
 use std::alloc::{AllocError, Global};
 
 /// Adds a record under a number above all, and tells the result code.

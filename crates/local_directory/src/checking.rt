@@ -2,7 +2,7 @@
 
 ghost use Rattle.std.specs.Prelude.{◌≡◌, ◌+◌, List, ◌++◌, Ok, IfOk, IfErr, OnOk};
 ghost use Rattle.ldif.specs.Reading.{records_of as records_of_text};
-ghost use Rattle.dir_store.specs.dir_kept.Stored.{NumbersBelow};
+ghost use Rattle.dir_store.specs.indexed_tree.Stored.{NumbersBelow};
 ghost use Rattle.local_directory.specs.Added.{adds};
 ghost use Rattle.local_directory.specs.Checked.{refusal_and, refusals, IsChecked};
 ghost use Rattle.local_directory.specs.Searched.{IsReadFault};

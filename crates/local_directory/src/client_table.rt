@@ -7,7 +7,7 @@ ghost use Rattle.local_directory.specs.View.{kept_view};
 ghost use Rattle.local_directory.specs.Changes.{with_kept};
 
 use crate::kept::Kept;
-use session_talk::Client;
+use directory_api::Client;
 use std::alloc::{AllocError, Global};
 use std::collections::BTreeMap;
 use std::marker::Model;

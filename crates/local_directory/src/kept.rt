@@ -1,10 +1,10 @@
 // What is kept of a client's latest request. Replies flow in and out.
 // What must not be here: which client it is, what makes an update.
 ghost use Rattle.std.specs.Prelude.{◌≡◌, ◌↔◌, IsTrue};
-ghost use Rattle.session_talk.specs.Answers.{only as only_code};
-ghost use Rattle.session_talk.specs.View.{reply_view};
+ghost use Rattle.directory_api.specs.Answers.{only as only_code};
+ghost use Rattle.directory_api.specs.View.{reply_view};
 
-use session_talk::{Reply, ResultCode};
+use directory_api::{Reply, ResultCode};
 
 /// What a client's latest request was answered with.
 #[derive(Drop)]

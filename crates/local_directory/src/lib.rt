@@ -1,6 +1,14 @@
 //! A directory by itself, in memory. Requests of sessions flow in, answers flow out, and the directory after them stays; or a text of
 //! LDIF (RFC 2849) and a search request flow in, and a text of LDIF, or why there is none, flows out.
 //! Messages, sessions, replicas, texts of filters and files are not here.
+//!
+//! A directory of one server alone: a `Store`, the number of its last update, and each client's latest request with its reply, looked up by
+//! client. Room for the reply is made before the update. It is the directory of a text of LDIF, too: `adding` adds the records up to the
+//! first that is refused, `searching` writes what a search shows, `checking` lists all refused records.
+//!
+//! Proved: reads are at a number, updates are made once for each client's request, and the directory is the fold of the updates
+//! (`LocalDirectory`, `directory_is_fold`, `requests_are_made_once`). A search of a text writes the LDIF of the answer, or tells what is
+//! wrong first (`search_text`). `check_text` tells just the refused records.
 #![tactic(auto)]
 
 mod adding;
@@ -18,13 +26,13 @@ mod searching;
 pub use checking::{Checked, check_text};
 pub use dir_search::{IndexError, Indexes, Name, NameError, Schema};
 pub use dir_store::Store;
+pub use directory_api::{
+    AddRequest, Attribute, CompareRequest, DerefAliases, Op, Reply, Scope, SearchAnswer,
+    SearchRequest, Update,
+};
 pub use fault::SearchError;
 pub use laws::{directory_is_fold, requests_are_made_once};
 pub use ldif::{ExportError, ImportError, export_text, import_text};
 pub use local::LocalDirectory;
 pub use refused_record::RefusedRecord;
 pub use searching::{Cost, fill, search_cost, search_text};
-pub use session_talk::{
-    AddRequest, Attribute, CompareRequest, DerefAliases, Op, Reply, Scope, SearchAnswer,
-    SearchRequest, Update,
-};

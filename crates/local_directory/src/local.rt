@@ -2,9 +2,9 @@
 // directory after each update stays. What must not be here: messages, what a search finds, what an update changes.
 ghost use Rattle.std.specs.Prelude.{◌≡◌, ◌+◌};
 ghost use Rattle.std.specs.FinMap as map;
-ghost use Rattle.dir_store.specs.dir_kept.Stored.{NumbersBelow};
-ghost use Rattle.session_talk.specs.View.{ended_view};
-ghost use Rattle.session_talk.specs.ldap_op.View.{update_view};
+ghost use Rattle.dir_store.specs.indexed_tree.Stored.{NumbersBelow};
+ghost use Rattle.directory_api.specs.View.{ended_view};
+ghost use Rattle.directory_api.specs.ldap_op.View.{update_view};
 ghost use Rattle.local_directory.specs.Allows.{Ends, made_next};
 
 use crate::client_table::ClientTable;
@@ -12,7 +12,7 @@ use crate::ending::ended_before;
 use crate::making::make;
 use dir_search::{compare_at, search_at};
 use dir_store::Store;
-use session_talk::{
+use directory_api::{
     Client, CompareRequest, Directory, Ended, Found, LookError, Op, Reply, Role, SearchAnswer,
     SearchRequest, Update,
 };
@@ -43,7 +43,7 @@ impl Drop for LocalDirectory {
 
 impl Model for LocalDirectory {
     ghost use Rattle.std.specs.Prelude.{◌+◌};
-    ghost use Rattle.dir_store.specs.dir_kept.Stored.{NumbersBelow};
+    ghost use Rattle.dir_store.specs.indexed_tree.Stored.{NumbersBelow};
     ghost use Rattle.std.specs.Coded.{codes};
     ghost use Rattle.local_directory.specs.ClientOrder.{coded_table};
     ghost use Rattle.local_directory.specs.Local.{LocalValue};

@@ -3,8 +3,8 @@
 
 ghost use Rattle.std.specs.Prelude.{◌≡◌, Ok, IfOk, IfErr, OnOk, length};
 ghost use Rattle.ldif.specs.Reading.{records_of as records_of_text};
-ghost use Rattle.session_talk.specs.ldap_msg.View.{search_view};
-ghost use Rattle.dir_store.specs.dir_kept.Stored.{NumbersBelow};
+ghost use Rattle.directory_api.specs.ldap_msg.View.{search_view};
+ghost use Rattle.dir_store.specs.indexed_tree.Stored.{NumbersBelow};
 ghost use Rattle.dir_search.specs.Answer.{answer as answer_of};
 ghost use Rattle.dir_search.specs.Counted.{IsCountOf};
 ghost use Rattle.local_directory.specs.Filled.{IsFilled, IsFillFault};
@@ -14,8 +14,8 @@ use crate::adding::add_records;
 use crate::fault::SearchError;
 use dir_search::search;
 use dir_store::Store;
+use directory_api::SearchRequest;
 use ldif::{LdifError, Record, read, records_of, write};
-use session_talk::SearchRequest;
 use std::alloc::Global;
 
 /// The records of a text.

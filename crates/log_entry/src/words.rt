@@ -17,7 +17,7 @@ pub struct Client {
 
 /// One record of a log: a client's request.
 #[derive(Drop)]
-pub struct Entry<P> {
+pub struct LogEntry<P> {
     pub client: Client,
     /// The client's number for the request; later requests have greater ones.
     pub request_number: u64,
@@ -25,13 +25,13 @@ pub struct Entry<P> {
     pub payload: P,
 }
 
-impl<P: Payload> Entry<P> {
+impl<P: Payload> LogEntry<P> {
     /// An equal record in memory of its own. Its only error is want of memory.
     pub fn copy(&self, alloc: Global) -> Result<Self, AllocError>
         ensures { IfOk result (λ copied. copied ≡ self.now) }
     {
         let payload = self.payload.copy(alloc)?;
-        Ok(Entry {
+        Ok(LogEntry {
             client: self.client,
             request_number: self.request_number,
             payload,

@@ -2,7 +2,7 @@
 use Rattle.std.proofs.Common.{◌≡◌, ℕ, zero, suc, ◌≤◌, Bool, true, false, List, [], ◌∷◌, Some, refl, sym, ap, ◌∙◌, subst, arith}
 use Rattle.ldap_op.specs.Grammar.{IsOp}
 use Rattle.ldap_op.specs.Values.{OpValue}
-use Rattle.vr_state.specs.Words.{Entry}
+use Rattle.vr_state.specs.Words.{LogEntry}
 use Rattle.vr_state.specs.Journaled as journaled
 use Rattle.log_journal.specs.Fields.{Fields}
 use Rattle.log_journal.specs.Notes.{Note, Begin, Start, Step, Commit, flag, IsEntryIn, IsStepIn, IsNoteIn, Spells}
@@ -56,7 +56,7 @@ step_kinds (journaled.Stage e) = (omega arith, omega arith)
 step_kinds (journaled.Adopt v last base k) = (omega arith, omega arith)
 
 -- fields are those of one record
-one_entry : OneUpdate → (kind k other j : ℕ) (e d : Entry OpValue) (f : Fields) → IsEntryIn kind k e f → IsEntryIn other j d f → e ≡ d
+one_entry : OneUpdate → (kind k other j : ℕ) (e d : LogEntry OpValue) (f : Fields) → IsEntryIn kind k e f → IsEntryIn other j d f → e ≡ d
 one_entry one kind k other j e d f h g = λ i. record {
   client = record { home = (sym h.home ∙ g.home) i; life = (sym h.life ∙ g.life) i; number = (sym h.number ∙ g.number) i };
   request_number = (sym h.request ∙ g.request) i;

@@ -3,7 +3,7 @@
 use Rattle.std.specs.Prelude.{◌≡◌, ℕ, Bool, true, false, List, [], ◌∷◌, ◌++◌, Some}
 use Rattle.ldap_op.specs.Grammar.{IsOp}
 use Rattle.ldap_op.specs.Values.{OpValue}
-use Rattle.vr_state.specs.Words.{Entry}
+use Rattle.vr_state.specs.Words.{LogEntry}
 use Rattle.vr_state.specs.Journaled as journaled
 use Rattle.log_journal.specs.Fields.{Fields, fields_at}
 
@@ -26,7 +26,7 @@ flag true = 1
 flag false = 0
 
 -- Fields are a record's, with this kind and this first number: its client, the client's number for the request, and the octets of its update.
-pub record IsEntryIn (kind first : ℕ) (e : Entry OpValue) (f : Fields) : Type 0 where
+pub record IsEntryIn (kind first : ℕ) (e : LogEntry OpValue) (f : Fields) : Type 0 where
   pub kind_is : f.kind ≡ kind
   pub first_is : f.first ≡ first
   pub home : f.second ≡ e.client.home

@@ -4,10 +4,10 @@ ghost use Rattle.std.specs.Prelude.{◌≡◌, ◌≤◌, IsTrue, length, take};
 use crate::spelling::is_same;
 use ldap_op::Op;
 use std::alloc::Global;
-use vr_state::words::Entry;
+use vr_state::words::LogEntry;
 
 /// Whether two records are found equal.
-fn is_same_entry(alloc: Global, one: &Entry<Op>, other: &Entry<Op>) -> bool
+fn is_same_entry(alloc: Global, one: &LogEntry<Op>, other: &LogEntry<Op>) -> bool
     ensures { IsTrue result → one.now ≡ other.now }
 {
     one.client == other.client
@@ -16,7 +16,7 @@ fn is_same_entry(alloc: Global, one: &Entry<Op>, other: &Entry<Op>) -> bool
 }
 
 /// Up to where two logs are found alike, from the front.
-pub fn count_alike(alloc: Global, old: &[Entry<Op>], new: &[Entry<Op>]) -> usize
+pub fn count_alike(alloc: Global, old: &[LogEntry<Op>], new: &[LogEntry<Op>]) -> usize
     ensures alike { take result old.now ≡ take result new.now }
     ensures within { result ≤ length new.now }
 {

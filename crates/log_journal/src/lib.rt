@@ -1,5 +1,12 @@
 //! What the strings of a replica's journal say: notes of a log, and the log that they stand for. A note has a fixed form
 //! with a sum that tells damage; which notes a step makes, and what they keep of a replica, is defined in `vr_state`.
+//!
+//! What the strings say: notes of a replica's steps. `fields` spells and reads a note, with a sum that tells damage. `steps` makes the
+//! notes of a step; of a log that is adopted it writes only what isn't `alike`. `taking` has a replica take a batch of events, `keeping`
+//! settles their notes, `telling` reads them, the oldest first.
+//!
+//! Proved: whatever a crash leaves of a batch, the strings tell the replica after some first of its events (`keep_events`). What strings
+//! tell is one thing (`tell`, `one_is_told`); a note's fields are read back (`read_fields`, `fields_are_read`).
 #![tactic(auto)]
 
 mod alike;

@@ -13,7 +13,7 @@ use crate::laws::fields_are_read;
 use crate::spelling::spell;
 use ldap_op::Op;
 use std::alloc::Global;
-use vr_state::words::Entry;
+use vr_state::words::LogEntry;
 
 /// The version of journals that is written and read.
 pub const VERSION: u64 = 1;
@@ -152,7 +152,7 @@ pub fn put_commit(alloc: Global, batch: &mut Batch, commit_number: u64) -> Resul
 }
 
 /// The fields of a record whose update has these octets.
-fn entry_fields<'a>(kind: u8, first: u64, entry: &Entry<Op>, octets: &'a [u8]) -> Fields<'a>
+fn entry_fields<'a>(kind: u8, first: u64, entry: &LogEntry<Op>, octets: &'a [u8]) -> Fields<'a>
     requires { IsOp entry.now.payload octets.now }
     ensures { IsEntryIn kind first entry.now (fields_view result) }
 {
@@ -172,7 +172,7 @@ pub fn put_record(
     alloc: Global,
     batch: &mut Batch,
     commit_number: u64,
-    entry: &Entry<Op>,
+    entry: &LogEntry<Op>,
 ) -> Result<(), NoteError>
     ensures ok { OnOk result (Puts (Step (Record commit_number entry.now) ∷ []) batch.old batch.new) }
     ensures err { OnErr result (batch.new ≡ batch.old) }
@@ -187,7 +187,7 @@ pub fn put_record(
 }
 
 /// Notes a record that waits to be adopted. At an error nothing has changed.
-pub fn put_stage(alloc: Global, batch: &mut Batch, entry: &Entry<Op>) -> Result<(), NoteError>
+pub fn put_stage(alloc: Global, batch: &mut Batch, entry: &LogEntry<Op>) -> Result<(), NoteError>
     ensures ok { OnOk result (Puts (Step (Stage entry.now) ∷ []) batch.old batch.new) }
     ensures err { OnErr result (batch.new ≡ batch.old) }
 {

@@ -15,7 +15,7 @@ use std::alloc::Global;
 use vr_state::event::Event;
 use vr_state::message::PeerMessage;
 use vr_state::replica::Replica;
-use vr_state::words::{Entry, Status};
+use vr_state::words::{LogEntry, Status};
 
 /// What is to be known of a replica before a step, and of its event, to note the step.
 #[derive(Clone, Copy)]
@@ -71,7 +71,7 @@ fn put_records(
     alloc: Global,
     batch: &mut Batch,
     commit_number: u64,
-    entries: &[Entry<Op>],
+    entries: &[LogEntry<Op>],
 ) -> Result<(), NoteError>
     ensures { OnOk result (Puts (map (λ e. Step (Record commit_number e)) entries.now) batch.old batch.new) }
 {
@@ -82,7 +82,7 @@ fn put_records(
 }
 
 /// Notes records that wait to be adopted.
-fn put_stages(alloc: Global, batch: &mut Batch, entries: &[Entry<Op>]) -> Result<(), NoteError>
+fn put_stages(alloc: Global, batch: &mut Batch, entries: &[LogEntry<Op>]) -> Result<(), NoteError>
     ensures { OnOk result (Puts (map (λ e. Step (Stage e)) entries.now) batch.old batch.new) }
 {
     for entry in entries {

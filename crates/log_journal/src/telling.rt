@@ -14,7 +14,7 @@ use ldap_op::{MsgFault, Op, read_op};
 use std::alloc::Global;
 use std::mem;
 use vr_state::log::Log;
-use vr_state::words::{Client, Entry};
+use vr_state::words::{Client, LogEntry};
 
 /// The update that these octets spell.
 fn update_of(alloc: Global, octets: &[u8]) -> Result<Op, NoteError>
@@ -28,14 +28,14 @@ fn update_of(alloc: Global, octets: &[u8]) -> Result<Op, NoteError>
 }
 
 /// The record of these fields.
-fn entry_in(alloc: Global, fields: &Fields<'_>) -> Result<Entry<Op>, NoteError>
+fn entry_in(alloc: Global, fields: &Fields<'_>) -> Result<LogEntry<Op>, NoteError>
     ensures { IfOk result (λ e. IsEntryIn fields.now.kind fields.now.first e (fields_view fields.now)) }
 {
     if fields.second > 255 {
         return Err(NoteError::Damaged);
     }
     let payload = update_of(alloc, fields.rest)?;
-    Ok(Entry {
+    Ok(LogEntry {
         client: Client {
             home: fields.second as u8,
             life: fields.third,

@@ -2,9 +2,9 @@
 use Rattle.std.proofs.Common.{◌≡◌, List, ◌++◌, length, take, drop, Bool, true, false, sym, ap, subst, ◌∙◌, take-append-drop}
 use Rattle.std.proofs.Math.Seq.{take-append_seam}
 use mathlib.Core.List.{IsPrefix}
-use Rattle.dir_node.specs.vr_state.Words.{Entry}
+use Rattle.dir_node.specs.vr_state.Words.{LogEntry}
 use Rattle.dir_node.specs.dir_store.ldap_op.Values.{OpValue}
-use Rattle.dir_node.specs.dir_executed.Executing.{ExecutedValue}
+use Rattle.dir_node.specs.state_machine.Executing.{ExecutedValue}
 use Rattle.dir_node.specs.NodeState.{CatchesUp}
 use Rattle.dir_seats.specs.Lists.{IsBeginning, with_records}
 use Rattle.dir_seats.specs.Showing.{Showing}
@@ -12,11 +12,11 @@ use Rattle.dir_seats.proofs.Begins.{begins_self, begins_trans}
 use Rattle.node_gate.specs.Given.{IsGiven, given_records}
 
 -- what is executed by an event is put at the end
-caught : (behind : Bool) (old due new : List (Entry OpValue)) → CatchesUp behind old due new → IsPrefix old new
+caught : (behind : Bool) (old due new : List (LogEntry OpValue)) → CatchesUp behind old due new → IsPrefix old new
 caught false old due new p = (due, sym p)
 caught true old due new p = (p.done, sym p.grown)
 
-pub grown : (a b : ExecutedValue) (behind : Bool) (due : List (Entry OpValue)) → CatchesUp behind a.records due b.records
+pub grown : (a b : ExecutedValue) (behind : Bool) (due : List (LogEntry OpValue)) → CatchesUp behind a.records due b.records
     → b.schema ≡ a.schema → b.suffix ≡ a.suffix → b.indexes ≡ a.indexes → IsBeginning a b
 grown a b behind due p schema suffix indexes = record { schema = schema; suffix = suffix; indexes = indexes; records = caught behind a.records due b.records p }
 

@@ -1,7 +1,7 @@
 -- An event at a node: what was executed before is a beginning of what is after. The clauses of the call flow in; a beginning flows out. What a publisher
 -- makes of it is not here.
 use Rattle.std.proofs.Common.{◌≡◌, List, Bool, Result, Ok, Err, IfOk, IsErrOf, true, refl, ap}
-use Rattle.dir_node.specs.vr_state.Words.{Entry}
+use Rattle.dir_node.specs.vr_state.Words.{LogEntry}
 use Rattle.dir_node.specs.dir_store.ldap_op.Values.{OpValue}
 use Rattle.dir_node.specs.declared.error.NodeError.{NodeError}
 use Rattle.dir_node.specs.declared.error.NodeError.TheVariants as error
@@ -11,7 +11,7 @@ use Rattle.dir_node.specs.NodeState.{CatchesUp, IsSameNode, NodeValue}
 use Rattle.dir_seats.specs.Lists.{IsBeginning}
 use Rattle.node_gate.proofs.Given.{grown, stayed}
 
-pub begins : {D J H : Type 0} (behind : H → Bool) (old new : NodeValue D J) (due : List (Entry OpValue)) (r : Result H NodeError)
+pub begins : {D J H : Type 0} (behind : H → Bool) (old new : NodeValue D J) (due : List (LogEntry OpValue)) (r : Result H NodeError)
     → IfOk r (λ h. CatchesUp (behind h) old.executed.records due new.executed.records) → IsSameNode old new
     → (IsErrOf r error.NoMemory → new.executed ≡ old.executed) → (IsErrOf r error.Halted → new ≡ old)
     → ((e : ViewStoreError) → IsErrOf r (error.Store e) → (new.is_halted ≡ true) × (new.executed ≡ old.executed))

@@ -1,6 +1,6 @@
 -- Facts that a lock keeps, handed on. A node's value flows in; what its callers are told flows out.
 use Rattle.std.proofs.Common.{ℕ}
-use Rattle.dir_seats.specs.session_talk.Talk.{EndedValue}
+use Rattle.dir_seats.specs.directory_api.Talk.{EndedValue}
 use Rattle.dir_node.specs.vr_state.Words.{Client}
 use Rattle.dir_node.specs.NodeState.{NodeValue}
 use Rattle.dir_node.specs.Outcomes.{outcome_of}

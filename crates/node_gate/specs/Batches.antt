@@ -2,7 +2,7 @@
 use Rattle.std.specs.Prelude.{◌≡◌, ℕ, Bool, false, List, [], ◌∷◌, ◌++◌, length, Result, Ok, Err}
 use Rattle.std.specs.declared.alloc.AllocError.{AllocError}
 use Rattle.dir_node.specs.dir_store.ldap_op.Values.{OpValue}
-use Rattle.dir_node.specs.dir_executed.Executing.{due_after}
+use Rattle.dir_node.specs.state_machine.Executing.{due_after}
 use Rattle.dir_node.specs.vr_state.declared.event.Event.{Event}
 use Rattle.dir_node.specs.vr_state.declared.message.Outputs.{Outputs}
 use Rattle.dir_node.specs.vr_state.declared.message.PeerMessage.{PeerMessage}

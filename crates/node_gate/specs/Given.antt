@@ -1,12 +1,12 @@
 -- What a publisher was given of what a node has executed. When it is shown is not said here.
 use Rattle.std.specs.Prelude.{◌≡◌, List, length, ◌++◌, take}
-use Rattle.dir_node.specs.vr_state.Words.{Entry}
+use Rattle.dir_node.specs.vr_state.Words.{LogEntry}
 use Rattle.dir_node.specs.dir_store.ldap_op.Values.{OpValue}
-use Rattle.dir_node.specs.dir_executed.Executing.{ExecutedValue}
+use Rattle.dir_node.specs.state_machine.Executing.{ExecutedValue}
 use Rattle.dir_seats.specs.Showing.{Showing}
 
 -- the records that seats see, and then those that they are to see next
-abbrev pub given_records : Showing → List (Entry OpValue)
+abbrev pub given_records : Showing → List (LogEntry OpValue)
 given_records shown = shown.published.records ++ shown.waiting
 
 -- What is shown, and what is to be shown next, is the first records of what was executed, over the same schema, root and index choice.

@@ -2,7 +2,7 @@
 -- and clocks are not here.
 use Rattle.std.specs.Prelude.{◌≡◌, Bool, false, length}
 use Rattle.dir_node.specs.dir_store.ldap_op.Values.{OpValue}
-use Rattle.dir_node.specs.dir_executed.Executing.{due_after}
+use Rattle.dir_node.specs.state_machine.Executing.{due_after}
 use Rattle.dir_node.specs.vr_state.declared.event.Event.{Event}
 use Rattle.dir_node.specs.vr_state.Step.{step}
 use Rattle.dir_node.specs.declared.config.Handled.{Handled}

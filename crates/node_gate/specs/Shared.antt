@@ -1,12 +1,12 @@
 -- What a session is told by a node that threads share. Updates and how they ended flow in; what that may be flows out. Reads are the seats', and are
 -- not here; nor is of which moment the state is.
 use Rattle.std.specs.Prelude.{◌≡◌, ◌⊎◌, ◌==◌, ℕ, cond, Option}
-use Rattle.dir_seats.specs.session_talk.Answers.{ReplyModel}
-use Rattle.dir_seats.specs.session_talk.Talk.{Exchange, asked_role, learned, searched, compared, updated}
-use Rattle.dir_seats.specs.session_talk.Talk.{EndedValue}
-use Rattle.dir_seats.specs.session_talk.Talk as talk
+use Rattle.dir_seats.specs.directory_api.Answers.{ReplyModel}
+use Rattle.dir_seats.specs.directory_api.Talk.{Exchange, asked_role, learned, searched, compared, updated}
+use Rattle.dir_seats.specs.directory_api.Talk.{EndedValue}
+use Rattle.dir_seats.specs.directory_api.Talk as talk
 use Rattle.dir_node.specs.vr_state.Words.{Client}
-use Rattle.dir_node.specs.dir_executed.Executing.{ExecutedValue}
+use Rattle.dir_node.specs.state_machine.Executing.{ExecutedValue}
 use Rattle.dir_node.specs.NodeState.{NodeValue}
 use Rattle.dir_node.specs.Outcomes.{OutcomeValue, done, pending, stale, lost, outcome_of, standing_of}
 use Rattle.dir_node.specs.declared.standing.Standing.{Standing}

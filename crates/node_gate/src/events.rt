@@ -1,7 +1,7 @@
 // An event at a node, as a publisher needs it told: what was executed before is a beginning of what is after. What must not be here: who is
 // shown it.
 ghost use Rattle.std.specs.Prelude.{◌≡◌, IfOk, length};
-ghost use Rattle.dir_node.specs.dir_executed.Executing.{due_after};
+ghost use Rattle.dir_node.specs.state_machine.Executing.{due_after};
 ghost use Rattle.dir_node.specs.NodeState.{CatchesUp, IsSameNode, given};
 ghost use Rattle.dir_node.specs.Handling.{MakesSteps};
 ghost use Rattle.dir_node.specs.vr_state.Step.{step as step_of};

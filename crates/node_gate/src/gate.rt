@@ -1,12 +1,12 @@
 // A session's gate to a running node. Updates flow in; how they ended flows out. What must not be here: reads, how replicas agree.
 ghost use Rattle.std.specs.Prelude.{◌≡◌};
-ghost use Rattle.dir_seats.specs.session_talk.View.{ended_view};
+ghost use Rattle.dir_seats.specs.directory_api.View.{ended_view};
 ghost use Rattle.node_gate.specs.Shared.{IsRefused, IsUpdated};
 
 use crate::held::Here;
 use crate::peers::Peers;
 use crate::running::Running;
-use dir_node::{Client, Device, Entry, Event, JournalDevice, NodeError, Op, Standing};
+use dir_node::{Client, Device, Event, JournalDevice, LogEntry, NodeError, Op, Standing};
 use dir_seats::{Ended, Gate, Role, Told, Update};
 use std::alloc::Global;
 use std::sync::Wait;
@@ -72,7 +72,7 @@ impl<'a, 'r, R: Wait, D: Device, J: JournalDevice, P: Peers> NodeGate<'a, 'r, R,
         ensures asked { self.new.asked ≡ self.old.asked }
     {
         let event = Event::Request {
-            entry: Entry {
+            entry: LogEntry {
                 client,
                 request_number: number,
                 payload,
@@ -91,7 +91,7 @@ impl<'a, 'r, R: Wait, D: Device, J: JournalDevice, P: Peers> NodeGate<'a, 'r, R,
 impl<'a, 'r, R: Wait, D: Device, J: JournalDevice, P: Peers> Gate<Option<Told<Here>>>
     for NodeGate<'a, 'r, R, D, J, P> {
     ghost use Rattle.std.specs.Prelude.{◌≡◌, ◌+◌, min};
-    ghost use Rattle.dir_seats.specs.session_talk.Counting.{updates_of, greatest_count};
+    ghost use Rattle.dir_seats.specs.directory_api.Counting.{updates_of, greatest_count};
     ghost use Rattle.node_gate.specs.Shared.{gates};
 
     // An update ends as its outcome at some state of the node; the count rises by one with each.

@@ -1,6 +1,16 @@
 //! A node that threads share: the lock round it, a condition on which sessions wait for an outcome, and a session's gate over them; and the seats by
 //! which sessions read what the node has shown, without its lock. Questions of sessions and events of replicas flow in; answers, outcomes and messages
 //! to other replicas flow out. Sockets, clocks and how a message becomes octets are not here.
+//!
+//! A node among threads. `held` is what the lock holds: the node, its publisher and its clock. `running` is the lock, with a condition on
+//! which threads wait for an outcome, until it is there or their client has left. `NodeGate` is a session's gate, a `Seat` its look. Under
+//! the lock an event goes to the node, the seats are shown what is executed, and the step's messages go into the queues (`Peers`). Then
+//! those who wait are woken. The role is one atomic word (`standing`), read without the lock. The thread of the clock rests on a lock of
+//! its own (`rest`). With a journal, events wait in an `inbox`, and one thread takes all of them as one batch (`driving`).
+//!
+//! Proved: when the lock is free, what seats see begins what the node has executed; an update ends as its outcome at some state of the node
+//! (`NodeGate`, `Running`). A step's messages are handed over, all, in order, and no others (`Running::handle`, `hear`, `handle_batch`). A
+//! start is a first one, or one that found a pair (`open`).
 #![tactic(auto)]
 
 mod driving;

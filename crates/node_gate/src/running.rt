@@ -2,7 +2,7 @@
 // must not be here: sessions, sockets, reads.
 ghost use Rattle.std.specs.Prelude.{◌≡◌, OnOk, OnErr};
 ghost use Rattle.dir_node.specs.vr_state.declared.event.Event.TheVariants as event;
-ghost use Rattle.dir_seats.specs.session_talk.View.{ended_view};
+ghost use Rattle.dir_seats.specs.directory_api.View.{ended_view};
 ghost use Rattle.node_gate.specs.Given.{IsGiven};
 ghost use Rattle.node_gate.specs.Sent.{TakesAll, TakesStep};
 ghost use Rattle.node_gate.specs.Shared.{IsEnded};

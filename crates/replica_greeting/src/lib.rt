@@ -1,5 +1,9 @@
 //! Greetings: the first frame on each connection between replicas. It tells by digests what all replicas of a cluster must have alike, so that one
 //! that was started with another schema is refused, and named, before anything of it is heard. What follows a greeting is not here.
+//!
+//! The first frame on each connection between replicas: digests of what both must have alike (`terms`), compared by `meeting`.
+//!
+//! Proved: a replica is taken for alike exactly where its greeting is the own one; else the first difference is named (`greeting`, `meet`).
 #![tactic(auto)]
 
 mod meeting;

@@ -11,10 +11,10 @@ use Rattle.entry_updates.specs.ldap_op.ldap_parts.Values.{PartialAttributeValue}
 use Rattle.entry_updates.specs.ldap_updates.Values.{AddRequestValue, ModifyDnRequestValue}
 use Rattle.dir_store.specs.dir_entry.Entry.{AttributeModel}
 use Rattle.dir_store.specs.dir_tree.Directory.{NameKey, name_eq, begins, name_after}
-use Rattle.dir_store.specs.dir_kept.Directory.{Directory, NamedEntry}
-use Rattle.dir_store.specs.dir_kept.Places.{entry_named, parent_of, last_of, own_rdn, without_entry, with_attributes, moved}
-use Rattle.dir_store.specs.dir_kept.Replies.{then, refuse, or_refused, with_reply, name_asked, entry_asked, not_found}
-use Rattle.dir_store.specs.session_talk.Answers.{ReplyModel, only}
+use Rattle.dir_store.specs.indexed_tree.Directory.{Directory, NamedEntry}
+use Rattle.dir_store.specs.indexed_tree.Places.{entry_named, parent_of, last_of, own_rdn, without_entry, with_attributes, moved}
+use Rattle.dir_store.specs.indexed_tree.Replies.{then, refuse, or_refused, with_reply, name_asked, entry_asked, not_found}
+use Rattle.dir_store.specs.directory_api.Answers.{ReplyModel, only}
 use Rattle.dir_store.specs.Updates.{PlacedModel, place_under, place_asked, addition_of, addition_at, addition, leaf_asked, KeptModel, change_asked, one_rdn, rdn_asked, superior_asked, superior_of, is_misplaced, is_other_than, MoveModel, moved_entry, move_to, move_under, MoveNamesModel, move_names, move_asked, updated, with_entries, applied, directory_after, directory_of, empty_directory}
 use Rattle.schema_laws.specs.NamePairs.{IsRead, AreRead, NamesOfEntriesAreRead, EntriesHaveReadNames}
 

@@ -11,7 +11,7 @@ use Rattle.ldap_eval.specs.Matching.{match_on_values, match_on_pair}
 use Rattle.ldap_eval.specs.Value.{is_looked_at, match_on_name}
 use Rattle.ldap_eval.specs.declared.naming_rules.How.{How}
 use Rattle.dir_store.specs.ldap_op.Values.{OpValue}
-use Rattle.dir_store.specs.dir_kept.Directory.{NamedEntry}
+use Rattle.dir_store.specs.indexed_tree.Directory.{NamedEntry}
 use Rattle.dir_store.specs.Updates.{directory_of}
 
 -- a relative name was read: it has a place in the name that some text spells

@@ -3,6 +3,22 @@
 //! candidates one by one, come out; and, with the values of numbered entries, the numbers of the scope whose
 //! value is True, one by one. No set is made as a list, but for the numbers of a range that candidates are
 //! drawn from. Entries and their attributes are not here.
+//!
+//! A plan is a set of numbers: a posting list, a range, the scope, or a union, intersection or difference of plans. `compiling` goes over a
+//! bound filter once and makes two plans, what must be and what may be. `leaves` knows which index serves which test; `octet_runs` takes a
+//! substrings assertion apart into runs of three octets. The one law between a plan's numbers and its entries is `agreeing`. `joining` adds
+//! to an intersection with two bounds on one type the range between them, or the entries with several values of the type. That changes no
+//! set, and a run draws from it.
+//!
+//! `contains` asks about one number by look-ups. `candidates` draws numbers from walks (`gathering`, `walking`), which `Stream` makes into
+//! one rising list. A range that is drawn from is gathered once and sorted; no other set becomes a list. What is drawn from is a matter of
+//! cost alone (`estimating`): the cheapest part of an intersection, or the scope (`scope`). A run (`running`) leaves out what isn't in
+//! scope, gives what must be, and asks `Values` about the rest (`telling`).
+//!
+//! Proved: the plans bound where the filter is True, over any entries and scope, and are its true set where schema and index choice decide
+//! it. What an `and` may be lies in each part that they decide and holds its substrings' runs (`compile`). A run gives the numbers in scope
+//! whose value is True, in order, without memory. It asks for only the values that the plans leave open (`start`, `Running::next`, `tests`,
+//! `run`; `contains`, `candidates`).
 #![tactic(auto)]
 
 mod agreeing;

@@ -2,11 +2,13 @@
 //! node has stopped for good. Listeners and threads are not here.
 use crate::opening::{Names, open_node};
 use crate::options::{Options, Times};
-use crate::posts::{Posts, PostsAt};
-use crate::ticking::{Clockwork, clock_times};
+use crate::peer_queues::{PeerQueues, PeerQueuesAt};
+use crate::ticking::{TimedNode, clock_times};
 use file_device::{FileDevice, JournalFile};
 use node_gate::{Cluster, Here, NodeGate, Opened, Pace, Running, Seat, Told};
-use server_threads::{Choices, Config, Deaf, Place, Rooms, Server, ServerError, make_rooms};
+use server_threads::{
+    Choices, Config, NoReads, Place, Server, ServerError, SharedParts, make_shared_parts,
+};
 use std::alloc::{AllocError, Global};
 use std::fs::{File, Files};
 use std::io::{Eprint, Print};
@@ -25,49 +27,55 @@ const UPDATES: usize = 256;
 /// One session's way to the node: a seat for its reads, a gate for its updates.
 type Way<'a, 'r, R> = (
     Seat<Here>,
-    NodeGate<'a, 'r, R, FileDevice, JournalFile, PostsAt<'a, R>>,
+    NodeGate<'a, 'r, R, FileDevice, JournalFile, PeerQueuesAt<'a, R>>,
 );
 
 /// One thread's way to the node for updates alone.
 type Updates<'a, 'r, R> = (
-    Deaf<Option<Told<Here>>>,
-    NodeGate<'a, 'r, R, FileDevice, JournalFile, PostsAt<'a, R>>,
+    NoReads<Option<Told<Here>>>,
+    NodeGate<'a, 'r, R, FileDevice, JournalFile, PeerQueuesAt<'a, R>>,
 );
 
 /// A way to the node's updates, and what says that the client of one has left.
 fn gate<'a, 'r, R: Wait>(
-    clock: &Clockwork<'a, 'r, R>,
+    clock: &TimedNode<'a, 'r, R>,
     has_left: &'a AtomicBool,
-) -> NodeGate<'a, 'r, R, FileDevice, JournalFile, PostsAt<'a, R>> {
-    let posts = PostsAt {
-        posts: clock.posts,
+) -> NodeGate<'a, 'r, R, FileDevice, JournalFile, PeerQueuesAt<'a, R>> {
+    let peer_queues = PeerQueuesAt {
+        peer_queues: clock.peer_queues,
         now: 0,
     };
-    let rooms: &'a Rooms = clock.rooms;
-    NodeGate::new(clock.rt, clock.running, posts, &rooms.uris, has_left)
+    let shared_parts: &'a SharedParts = clock.shared_parts;
+    NodeGate::new(
+        clock.rt,
+        clock.running,
+        peer_queues,
+        &shared_parts.uris,
+        has_left,
+    )
 }
 
 /// A way to the node for each thread that updates.
 fn gates<'a, 'r, R: Wait>(
-    clock: &Clockwork<'a, 'r, R>,
+    clock: &TimedNode<'a, 'r, R>,
 ) -> Result<Vec<(usize, Updates<'a, 'r, R>)>, AllocError> {
-    let rooms: &'a Rooms = clock.rooms;
+    let shared_parts: &'a SharedParts = clock.shared_parts;
     let mut gates = Vec::new(clock.alloc);
-    for (thread, has_left) in rooms.leaves.iter().enumerate() {
-        gates.push((thread, (Deaf::new(), gate(clock, has_left))))?;
+    for (thread, has_left) in shared_parts.leaves.iter().enumerate() {
+        gates.push((thread, (NoReads::new(), gate(clock, has_left))))?;
     }
     Ok(gates)
 }
 
 /// A gate beside each seat.
 fn ways<'a, 'r, R: Wait>(
-    clock: &Clockwork<'a, 'r, R>,
+    clock: &TimedNode<'a, 'r, R>,
     seats: Vec<Seat<Here>>,
 ) -> Result<Vec<Way<'a, 'r, R>>, AllocError> {
-    let rooms: &'a Rooms = clock.rooms;
+    let shared_parts: &'a SharedParts = clock.shared_parts;
     let mut ways = Vec::new(clock.alloc);
     for seat in seats {
-        ways.push((seat, gate(clock, &rooms.stays)))?;
+        ways.push((seat, gate(clock, &shared_parts.stays)))?;
     }
     Ok(ways)
 }
@@ -84,10 +92,10 @@ struct Terms<'a> {
 fn run_in<'a, 'r, R>(
     rt: &'a R,
     alloc: Global,
-    rooms: &'a Rooms,
+    shared_parts: &'a SharedParts,
     seats: Vec<Seat<Here>>,
     running: &'a Running<'r, R, FileDevice, JournalFile>,
-    posts: &'a Posts<'a, R>,
+    peer_queues: &'a PeerQueues<'a, R>,
     places: &'a [Place<'a>],
     terms: Terms<'_>,
 ) -> Result<(), ServerError>
@@ -103,12 +111,12 @@ where
     let Ok(opened) = Instant::now(rt) else {
         return Err(ServerError::NoClock);
     };
-    let clock = Clockwork {
+    let clock = TimedNode {
         rt,
         alloc,
         running,
-        posts,
-        rooms,
+        peer_queues,
+        shared_parts,
         times: terms.times,
         opened,
         view_number: AtomicU64::new(0),
@@ -118,9 +126,9 @@ where
     let server = Server {
         rt,
         alloc,
-        rooms,
+        shared_parts,
         engine: &clock,
-        cluster: posts.cluster,
+        cluster: peer_queues.cluster,
         places,
     };
     let gates = gates(&clock)?;
@@ -131,7 +139,7 @@ where
 fn serve_opened<R>(
     rt: &R,
     alloc: Global,
-    rooms: &Rooms,
+    shared_parts: &SharedParts,
     opened: Opened<'_, R, FileDevice, JournalFile>,
     cluster: Cluster,
     places: &[Place<'_>],
@@ -152,21 +160,30 @@ where
         outputs,
         restarts: _,
     } = opened;
-    let posts = Posts {
+    let peer_queues = PeerQueues {
         rt,
         cluster,
-        rooms,
+        shared_parts,
         asking: Mutex::new(Pace::new(clock_times(&terms.times))),
     };
-    posts.post_all(outputs.sends);
-    run_in(rt, alloc, rooms, seats, &running, &posts, places, terms)
+    peer_queues.post_all(outputs.sends);
+    run_in(
+        rt,
+        alloc,
+        shared_parts,
+        seats,
+        &running,
+        &peer_queues,
+        places,
+        terms,
+    )
 }
 
 /// Opens the node, and serves by it.
 fn serve_in<R>(
     rt: &R,
     alloc: Global,
-    rooms: &Rooms,
+    shared_parts: &SharedParts,
     options: Options<'_>,
 ) -> Result<(), ServerError>
 where
@@ -201,7 +218,7 @@ where
         schema: &schema,
         manager: &manager,
         password: password.as_bytes(),
-        replica: rooms.sender,
+        replica: shared_parts.sender,
         restarts: opened.restarts,
         session: 0,
     };
@@ -210,7 +227,7 @@ where
         sessions: sessions.max(1),
         times,
     };
-    serve_opened(rt, alloc, rooms, opened, cluster, places, terms)
+    serve_opened(rt, alloc, shared_parts, opened, cluster, places, terms)
 }
 
 /// Serves as a replica: listens to the others, opens its node, and serves them, and clients once the node has a state, until the node has stopped
@@ -235,6 +252,6 @@ where
         metrics: options.metrics,
         logs: options.logs,
     };
-    let rooms = make_rooms(rt, alloc, options.places, index, choices)?;
-    serve_in(rt, alloc, &rooms, options)
+    let shared_parts = make_shared_parts(rt, alloc, options.places, index, choices)?;
+    serve_in(rt, alloc, &shared_parts, options)
 }

@@ -2,13 +2,13 @@
 //! and when, is decided by `replica_clock`; what an event makes is not here.
 use crate::opening::fault_of_node;
 use crate::options::Times;
-use crate::posts::{Posts, PostsAt};
+use crate::peer_queues::{PeerQueues, PeerQueuesAt};
 use crate::telling::{tell_caught_up, tell_pulse, tell_resumed};
 use file_device::{FileDevice, JournalFile};
 use node_gate::{
     NodeError, Op, Pace, PeerMessage, Pulse, Running, Send, Standing, Ticked, copies, send_all,
 };
-use server_threads::{Engine, Figures, Role, Rooms, ServerError};
+use server_threads::{Engine, Figures, Role, ServerError, SharedParts};
 use std::alloc::Global;
 use std::sync::Wait;
 use std::sync::atomic::{AtomicU64, Ordering};
@@ -33,12 +33,12 @@ struct Watch {
 
 /// A node with its clock.
 #[derive(Drop)]
-pub struct Clockwork<'a, 'r, R: Wait> {
+pub struct TimedNode<'a, 'r, R: Wait> {
     pub rt: &'a R,
     pub alloc: Global,
     pub running: &'a Running<'r, R, FileDevice, JournalFile>,
-    pub posts: &'a Posts<'a, R>,
-    pub rooms: &'a Rooms,
+    pub peer_queues: &'a PeerQueues<'a, R>,
+    pub shared_parts: &'a SharedParts,
     pub times: Times,
     /// When the node was opened: its clock counts the microseconds from then on.
     pub opened: Instant,
@@ -47,7 +47,7 @@ pub struct Clockwork<'a, 'r, R: Wait> {
     pub last_update: AtomicU64,
 }
 
-impl<'a, 'r, R: Wait + Clock> Clockwork<'a, 'r, R> {
+impl<'a, 'r, R: Wait + Clock> TimedNode<'a, 'r, R> {
     /// The moment of now, in microseconds since the node was opened; that of a clock that can't be read is the first.
     fn now(&self) -> u64 {
         match Instant::now(self.rt) {
@@ -57,9 +57,9 @@ impl<'a, 'r, R: Wait + Clock> Clockwork<'a, 'r, R> {
     }
 
     /// The way to the queues, for what is sent at this moment.
-    fn posts_at(&self, now: u64) -> PostsAt<'a, R> {
-        PostsAt {
-            posts: self.posts,
+    fn peer_queues_at(&self, now: u64) -> PeerQueuesAt<'a, R> {
+        PeerQueuesAt {
+            peer_queues: self.peer_queues,
             now,
         }
     }
@@ -70,8 +70,8 @@ impl<'a, 'r, R: Wait + Clock> Clockwork<'a, 'r, R> {
             return;
         }
         if let Ok(sends) = copies(self.alloc, watch.beat.as_slice()) {
-            let mut posts = self.posts_at(now);
-            send_all(&mut posts, sends);
+            let mut peer_queues = self.peer_queues_at(now);
+            send_all(&mut peer_queues, sends);
         }
     }
 
@@ -81,7 +81,7 @@ impl<'a, 'r, R: Wait + Clock> Clockwork<'a, 'r, R> {
         self.view_number.store(pulse.view_number, Ordering::SeqCst);
         self.last_update.store(pulse.last_update, Ordering::SeqCst);
         if !pulse.is_like(&watch.pulse) {
-            tell_pulse(self.rt, self.alloc, &self.rooms.reporter, &pulse);
+            tell_pulse(self.rt, self.alloc, &self.shared_parts.reporter, &pulse);
             watch.beat = Vec::new(self.alloc);
         }
         if let Some(beat) = beat {
@@ -95,8 +95,11 @@ impl<'a, 'r, R: Wait + Clock> Clockwork<'a, 'r, R> {
     /// Does what is due at one moment; after how many microseconds to come again.
     fn tick(&self, watch: &mut Watch) -> u64 {
         let now = self.now();
-        let mut posts = self.posts_at(now);
-        match self.running.tick(self.rt, self.alloc, &mut posts, now) {
+        let mut peer_queues = self.peer_queues_at(now);
+        match self
+            .running
+            .tick(self.rt, self.alloc, &mut peer_queues, now)
+        {
             Some(ticked) => self.take(watch, ticked, now),
             None => {
                 self.beat_again(watch, now);
@@ -112,7 +115,7 @@ impl<'a, 'r, R: Wait + Clock> Clockwork<'a, 'r, R> {
         }
         let is_caught_up = self.running.is_caught_up(self.rt);
         if is_caught_up {
-            tell_caught_up(self.rt, self.alloc, &self.rooms.reporter);
+            tell_caught_up(self.rt, self.alloc, &self.shared_parts.reporter);
         }
         is_caught_up
     }
@@ -120,7 +123,7 @@ impl<'a, 'r, R: Wait + Clock> Clockwork<'a, 'r, R> {
     /// Whether threads are missing that should have begun long ago.
     fn is_short_of_threads(&self, watch: &mut Watch) -> bool {
         let now = self.now();
-        if self.rooms.crew.is_whole() {
+        if self.shared_parts.needed_threads.is_whole() {
             watch.whole_at = now;
         }
         now.saturating_sub(watch.whole_at) >= THREADS_LIMIT * 1_000
@@ -148,16 +151,16 @@ pub fn micros(time: Duration) -> u64 {
     u64::try_from(micros).unwrap_or(u64::MAX)
 }
 
-impl<'a, 'r, R: Wait + Clock> Engine for Clockwork<'a, 'r, R> {
+impl<'a, 'r, R: Wait + Clock> Engine for TimedNode<'a, 'r, R> {
     fn hear(&self, from: u64, message: PeerMessage<Op>) -> bool {
         let now = self.now();
         if matches!(message, PeerMessage::NewState { .. }) {
-            self.posts.asking.lock(self.rt).reset();
+            self.peer_queues.asking.lock(self.rt).reset();
         }
-        let mut posts = self.posts_at(now);
+        let mut peer_queues = self.peer_queues_at(now);
         match self
             .running
-            .give_message(self.rt, self.alloc, &mut posts, from, message, now)
+            .give_message(self.rt, self.alloc, &mut peer_queues, from, message, now)
         {
             // Without memory the message is lost, as the network may lose one.
             Ok(()) | Err(NodeError::NoMemory) => true,
@@ -171,12 +174,12 @@ impl<'a, 'r, R: Wait + Clock> Engine for Clockwork<'a, 'r, R> {
 
     fn run(&self) -> Result<(), ServerError> {
         let pulse = self.running.pulse(self.rt);
-        tell_pulse(self.rt, self.alloc, &self.rooms.reporter, &pulse);
+        tell_pulse(self.rt, self.alloc, &self.shared_parts.reporter, &pulse);
         if let Some(records) = self.running.resumed(self.rt) {
             tell_resumed(
                 self.rt,
                 self.alloc,
-                &self.rooms.reporter,
+                &self.shared_parts.reporter,
                 records,
                 pulse.view_number,
             );
@@ -209,9 +212,9 @@ impl<'a, 'r, R: Wait + Clock> Engine for Clockwork<'a, 'r, R> {
                 break;
             };
             let now = self.now();
-            let mut posts = self.posts_at(now);
+            let mut peer_queues = self.peer_queues_at(now);
             self.running
-                .handle_batch(self.rt, self.alloc, &mut posts, batch, now)
+                .handle_batch(self.rt, self.alloc, &mut peer_queues, batch, now)
                 .map_err(fault_of_node)?;
             was_caught_up = self.tell_progress(was_caught_up);
         }
@@ -227,7 +230,7 @@ impl<'a, 'r, R: Wait + Clock> Engine for Clockwork<'a, 'r, R> {
             role: role_of(self.running.standing()),
             view_number: self.view_number.load(Ordering::SeqCst),
             last_update: self.last_update.load(Ordering::SeqCst),
-            sessions: self.rooms.sessions(),
+            sessions: self.shared_parts.sessions(),
         }
     }
 

@@ -1,14 +1,22 @@
 //! The threads of a server: its listeners, its queues to other replicas, the threads that take connections, serve clients, hear and send; and how
 //! they end. Sockets and a node behind a small trait flow in; octets of clients and frames of replicas flow through. What a node is, its clock and
 //! its stored view are not here.
+//!
+//! The threads of a server, which know the node by a trait alone (`engine`). `rooms` has what they share, `crew` counts them, `serving`
+//! begins and ends them. `posting` puts a message into its replica's queue. `framing` makes its frames in the thread that sends: one, or
+//! parts of 16 MiB where one can't hold it. `porch` keeps strangers at the port for peers until a greeting begins; `receiving` reads
+//! greetings and frames for the node. `monitoring` answers monitors; `reporter`, `lines` and `notes` write standard error, which nobody
+//! else waits for. `logged` wraps a directory whose updates and slow searches are logged (`logging` has the lines). For each other replica
+//! one thread writes and four read (in all 8 at least, and at most 64 or two each). The node's clock has the thread that calls.
+//!
+//! Proved: a directory that logs answers as the one that it wraps (`Logged`). No line goes uncounted (`Lines`, `none_uncounted`); readers
+//! are 8 or more, and two or more for each other replica (`readers`). Of the rest, safety alone.
 #![tactic(auto)]
 
 mod addresses;
-mod crew;
 mod engine;
 mod fault;
 mod framing;
-mod guests;
 mod heading;
 mod laws;
 mod lines;
@@ -17,19 +25,20 @@ mod logged;
 mod logging;
 mod logs;
 mod monitoring;
+mod needed_threads;
 mod notes;
 mod places;
 mod porch;
 mod posting;
 mod receiving;
 mod reporter;
-mod rooms;
 mod serving;
+mod session_events;
+mod shared_parts;
 mod showing;
 mod telling;
 
 pub use client_link::{Config, Limits};
-pub use crew::Crew;
 pub use engine::Engine;
 pub use fault::ServerError;
 pub use framing::MessageFrames;
@@ -37,12 +46,13 @@ pub use laws::none_uncounted;
 pub use lines::Lines;
 pub use logged::Logged;
 pub use logs::Logs;
+pub use needed_threads::NeededThreads;
 pub use notes::Note;
 pub use peer_link::Address;
 pub use places::Place;
 pub use replica_greeting::Terms;
 pub use reporter::{NoteWriter, Reporter, StandardError};
-pub use rooms::{Choices, Rooms, make_rooms};
 pub use serving::Server;
-pub use session_hall::Deaf;
+pub use session_pool::NoReads;
+pub use shared_parts::{Choices, SharedParts, make_shared_parts};
 pub use status_page::{Figures, Role};

@@ -6,7 +6,7 @@ use crate::logging::{tell_slow, tell_update, text_of_update};
 use crate::logs::Logs;
 use crate::reporter::Reporter;
 use client_link::Directory;
-use session_hall::{
+use session_pool::{
     Client, CompareRequest, Ended, Found, LookError, Reply, Role, SearchAnswer, SearchRequest,
     Update,
 };

@@ -3,7 +3,7 @@ use crate::reporter::Reporter;
 use crate::showing::shown;
 use explanations::code_word;
 use filter_text::print_text;
-use session_hall::{Client, Ended, SearchRequest, Update};
+use session_pool::{Client, Ended, SearchRequest, Update};
 use std::alloc::{AllocError, Global};
 use std::sync::Wait;
 

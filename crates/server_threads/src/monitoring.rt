@@ -1,6 +1,6 @@
 //! What monitors ask of a replica, over HTTP/1.1: one connection after the other, each answered once and closed. What the pages say is not here.
 use crate::engine::Engine;
-use crate::rooms::Rooms;
+use crate::shared_parts::SharedParts;
 use status_page::{Head, bad_request, head_of, page};
 use std::alloc::{AllocError, Global};
 use std::io::{self, Read, Write};
@@ -25,7 +25,7 @@ const PAUSE: u64 = 100;
 pub struct Monitoring<'a, R, E> {
     pub rt: &'a R,
     pub alloc: Global,
-    pub rooms: &'a Rooms,
+    pub shared_parts: &'a SharedParts,
     pub engine: &'a E,
 }
 
@@ -72,10 +72,10 @@ impl<'a, R: Wait + Clock, E: Engine> Monitoring<'a, R, E> {
 
     /// Answers monitors, until the door is closed.
     pub fn serve_all(&self, listener: &TcpListener) {
-        self.rooms.crew.begin();
+        self.shared_parts.needed_threads.begin();
         for _ in self.rt.forever() {
             let accepted = listener.accept();
-            if self.rooms.monitor_door.is_closed() {
+            if self.shared_parts.monitor_door.is_closed() {
                 break;
             }
             match accepted {

@@ -1,5 +1,5 @@
 //! Messages on their way to other replicas: each waits in the queue of its receiver. Frames and streams are not here.
-use crate::rooms::Rooms;
+use crate::shared_parts::SharedParts;
 use std::sync::Wait;
 use vr_wire::{Op, PeerMessage};
 
@@ -31,7 +31,7 @@ fn weight_of(message: &PeerMessage<Op>) -> usize {
         .saturating_add(MESSAGE)
 }
 
-impl Rooms {
+impl SharedParts {
     /// Puts a message into the queue to the replica of this index, behind those that wait there. It takes no memory and waits for nothing but
     /// that queue's lock, which is held for no longer than a few steps; a thread of its own makes frames of the message and sends them. Where
     /// the queue is full the oldest messages are lost, as the network may lose them. A message to nobody is lost.

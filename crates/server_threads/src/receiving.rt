@@ -21,7 +21,7 @@ const GREETING_REST: u32 = 96;
 
 /// What all who read from other replicas share.
 #[derive(Drop)]
-pub struct Hall<'a, R, E> {
+pub struct PeerReaders<'a, R, E> {
     pub rt: &'a R,
     pub alloc: Global,
     pub senders: Senders,
@@ -52,7 +52,7 @@ fn heading_of(frame: &[u8]) -> Result<[u8; HEADING], &'static str> {
     }
 }
 
-impl<'a, R: Wait + Clock, E: Engine> Hall<'a, R, E> {
+impl<'a, R: Wait + Clock, E: Engine> PeerReaders<'a, R, E> {
     /// Reads the first octets of a frame. No more than these get room, whatever length is announced.
     fn next_heading<S: Read>(&self, reader: &mut S) -> Result<Vec<u8>, &'static str> {
         let head = read_head(reader).map_err(reason_of)?;

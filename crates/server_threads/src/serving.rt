@@ -2,24 +2,24 @@
 //! node behind them ends. What the node does is not here.
 ghost use denote.Param.Send.{IsSend, IsSync};
 
-use crate::crew::readers as readers_of;
 use crate::engine::Engine;
 use crate::fault::ServerError;
 use crate::framing::MessageFrames;
-use crate::guests::Teller;
 use crate::heading::Senders;
 use crate::logged::Logged;
 use crate::monitoring::Monitoring;
+use crate::needed_threads::readers as readers_of;
 use crate::places::Place;
 use crate::porch::Porch;
-use crate::receiving::Hall;
+use crate::receiving::PeerReaders;
 use crate::reporter::StandardError;
-use crate::rooms::{Rooms, listen};
+use crate::session_events::Teller;
+use crate::shared_parts::{SharedParts, listen};
 use crate::telling::tell_room;
 use client_link::{Config, Directory, Door, Peer, accept_all, close};
 use crossbeam_channel::{Receiver, Sender, bounded};
 use peer_link::{SocketDialer, send_all};
-use session_hall::{Hall as Sessions, Terms, descriptors, serve_sessions};
+use session_pool::{PeerReaders as Sessions, Terms, descriptors, serve_sessions};
 use std::alloc::{AllocError, Global};
 use std::io::Eprint;
 use std::net::{Net, SocketAddr, TcpListener, TcpStream};
@@ -39,7 +39,7 @@ const DIAL_LIMIT: u64 = 2_000;
 pub struct Server<'a, R, E> {
     pub rt: &'a R,
     pub alloc: Global,
-    pub rooms: &'a Rooms,
+    pub shared_parts: &'a SharedParts,
     pub engine: &'a E,
     pub cluster: Cluster,
     pub places: &'a [Place<'a>],
@@ -58,13 +58,16 @@ where
 {
     /// Sends messages to one replica, until its queue is stopped.
     fn send_to(&self, to: usize) {
-        if let (Some(outbox), Some(place)) = (self.rooms.boxes.get(to), self.places.get(to)) {
+        if let (Some(outbox), Some(place)) = (
+            self.shared_parts.boxes.get(to),
+            self.places.get(to),
+        ) {
             let limit = Duration::from_millis(DIAL_LIMIT);
             let mut dialer = SocketDialer::new(self.rt, place.peer_address, limit);
-            let sender = self.rooms.sender;
-            let reporter = &self.rooms.reporter;
+            let sender = self.shared_parts.sender;
+            let reporter = &self.shared_parts.reporter;
             let (rt, alloc, cluster) = (self.rt, self.alloc, self.cluster);
-            let terms = self.rooms.terms;
+            let terms = self.shared_parts.terms;
             let mut frames = MessageFrames::new(rt, alloc, reporter, cluster, sender, terms, to);
             send_all(self.rt, outbox, &mut frames, &mut dialer);
         }
@@ -73,7 +76,7 @@ where
     /// The indices of the other replicas.
     fn others(&self) -> Result<Vec<usize>, AllocError> {
         let mut others = Vec::new(self.alloc);
-        let own = usize::from(self.rooms.sender);
+        let own = usize::from(self.shared_parts.sender);
         for index in 0..self.places.len() {
             if index != own {
                 others.push(index)?;
@@ -93,12 +96,12 @@ where
 
     /// Takes the connections of other replicas, until the server closes.
     fn take_peers(&self, to: Sender<(u64, Peer<'a, R>)>) {
-        self.rooms.crew.begin();
+        self.shared_parts.needed_threads.begin();
         accept_all(
             self.rt,
             self.alloc,
-            &self.rooms.peers,
-            &self.rooms.peer_door,
+            &self.shared_parts.peers,
+            &self.shared_parts.peer_door,
             to,
         );
     }
@@ -108,20 +111,20 @@ where
         Senders {
             cluster: self.cluster,
             count: self.places.len() as u64,
-            own: self.rooms.sender,
+            own: self.shared_parts.sender,
         }
     }
 
     /// What all who read from other replicas share.
-    fn hall(&self) -> Hall<'a, R, E> {
-        Hall {
+    fn hall(&self) -> PeerReaders<'a, R, E> {
+        PeerReaders {
             rt: self.rt,
             alloc: self.alloc,
             senders: self.senders(),
             engine: self.engine,
-            reporter: &self.rooms.reporter,
-            links: &self.rooms.links,
-            terms: self.rooms.terms,
+            reporter: &self.shared_parts.reporter,
+            links: &self.shared_parts.links,
+            terms: self.shared_parts.terms,
         }
     }
 
@@ -131,13 +134,13 @@ where
         arrivals: Receiver<(u64, Peer<'a, R>)>,
         to_readers: Sender<Peer<'a, R>>,
     ) -> Result<(), AllocError> {
-        self.rooms.crew.begin();
+        self.shared_parts.needed_threads.begin();
         let porch = Porch {
             rt: self.rt,
             alloc: self.alloc,
             senders: self.senders(),
-            door: &self.rooms.peer_door,
-            reporter: &self.rooms.reporter,
+            door: &self.shared_parts.peer_door,
+            reporter: &self.shared_parts.reporter,
         };
         porch.greet(arrivals, to_readers)
     }
@@ -149,10 +152,10 @@ where
         waiting: Receiver<Peer<'a, R>>,
     ) -> Result<(), AllocError> {
         let hall = self.hall();
-        let crew = &self.rooms.crew;
+        let needed_threads = &self.shared_parts.needed_threads;
         let shared = &waiting;
         let hears = |_index: usize| {
-            crew.begin();
+            needed_threads.begin();
             hall.hear_each(shared);
         };
         let _heard = thread::map_vec(self.rt, readers, &hears)?;
@@ -162,7 +165,7 @@ where
     /// Sends to other replicas, to one in each thread.
     fn send_messages(&self, writers: Vec<usize>) -> Result<(), AllocError> {
         let sends = |to: usize| {
-            self.rooms.crew.begin();
+            self.shared_parts.needed_threads.begin();
             self.send_to(to);
         };
         let _sent = thread::map_vec(self.rt, writers, &sends)?;
@@ -206,7 +209,7 @@ where
 
     /// Sends to the other replicas and hears them, until the server closes.
     fn link(&self) -> Result<(), AllocError> {
-        self.rooms.crew.begin();
+        self.shared_parts.needed_threads.begin();
         let writers = self.others()?;
         let readers = self.readers()?;
         let (to_porch, arrivals) = bounded(self.alloc, 1)?;
@@ -224,7 +227,12 @@ where
         match descriptors() {
             Some(most) => {
                 if most < sessions as u64 {
-                    tell_room(self.rt, self.alloc, &self.rooms.reporter, most as usize);
+                    tell_room(
+                        self.rt,
+                        self.alloc,
+                        &self.shared_parts.reporter,
+                        most as usize,
+                    );
                     most as usize
                 } else {
                     sessions
@@ -238,7 +246,7 @@ where
     fn wait_for_state(&self) -> bool {
         let mut goes_on = false;
         for _ in self.rt.forever() {
-            goes_on = !self.rooms.client_door.is_closed();
+            goes_on = !self.shared_parts.client_door.is_closed();
             if !goes_on || self.engine.figures().role.serves() {
                 break;
             }
@@ -249,11 +257,11 @@ where
 
     /// Listens to clients, and says where. Who stops the server afterwards knows it too.
     fn open_door(&self) -> Result<TcpListener, ServerError> {
-        let listener = listen(self.rt, self.rooms.client_address)?;
+        let listener = listen(self.rt, self.shared_parts.client_address)?;
         let Ok(address) = listener.local_addr() else {
-            return Err(ServerError::CannotListenAt(self.rooms.client_address));
+            return Err(ServerError::CannotListenAt(self.shared_parts.client_address));
         };
-        *self.rooms.heard_at.lock(self.rt) = Some(address);
+        *self.shared_parts.heard_at.lock(self.rt) = Some(address);
         match println!(self.rt; "listening {address}") {
             Ok(()) => Ok(listener),
             Err(_) => Err(ServerError::CannotWrite),
@@ -262,8 +270,8 @@ where
 
     /// A directory of which updates and slow searches are logged.
     fn logged<D>(&self, way: D) -> Logged<'a, R, D> {
-        let rooms: &'a Rooms = self.rooms;
-        Logged::new(self.rt, &rooms.reporter, rooms.logs, way)
+        let shared_parts: &'a SharedParts = self.shared_parts;
+        Logged::new(self.rt, &shared_parts.reporter, shared_parts.logs, way)
     }
 
     /// The directories that are read, so.
@@ -295,23 +303,23 @@ where
         sessions: usize,
         config: &Config<'_>,
     ) -> Result<(), ServerError> {
-        self.rooms.crew.begin();
+        self.shared_parts.needed_threads.begin();
         let teller = Teller {
             rt: self.rt,
             alloc: self.alloc,
-            crew: &self.rooms.crew,
-            sessions: &self.rooms.sessions,
+            needed_threads: &self.shared_parts.needed_threads,
+            sessions: &self.shared_parts.sessions,
             engine: self.engine,
-            reporter: &self.rooms.reporter,
-            addresses: self.rooms.addresses.as_ref(),
+            reporter: &self.shared_parts.reporter,
+            addresses: self.shared_parts.addresses.as_ref(),
         };
         let terms = Terms {
             config: *config,
             sessions: self.room(sessions),
             seats: ways.len(),
-            leaves: self.rooms.leaves.as_slice(),
+            leaves: self.shared_parts.leaves.as_slice(),
         };
-        let door = &self.rooms.client_door;
+        let door = &self.shared_parts.client_door;
         let Ok(hall) = Sessions::new(self.rt, self.alloc, door, &teller, terms) else {
             return Err(ServerError::NoMemory);
         };
@@ -321,7 +329,7 @@ where
         let listener = self.open_door()?;
         // Who stopped the server before it was known where clients are heard has woken nobody.
         if !door.is_closed() {
-            self.rooms.crew.open();
+            self.shared_parts.needed_threads.open();
             let ways = self.logged_ways(ways)?;
             let gates = self.logged_gates(gates)?;
             serve_sessions(&hall, &listener, ways, gates)?;
@@ -348,22 +356,22 @@ where
     /// Ends all threads.
     fn stop(&self) {
         self.engine.stop();
-        for outbox in &self.rooms.boxes {
+        for outbox in &self.shared_parts.boxes {
             outbox.stop(self.rt);
         }
-        self.rooms.client_door.shut();
-        let heard_at = *self.rooms.heard_at.lock(self.rt);
-        self.shut(&self.rooms.client_door, heard_at);
-        let peers = self.rooms.peers.local_addr().ok();
-        self.shut(&self.rooms.peer_door, peers);
-        if let Some(monitors) = &self.rooms.monitors {
-            self.shut(&self.rooms.monitor_door, monitors.local_addr().ok());
+        self.shared_parts.client_door.shut();
+        let heard_at = *self.shared_parts.heard_at.lock(self.rt);
+        self.shut(&self.shared_parts.client_door, heard_at);
+        let peers = self.shared_parts.peers.local_addr().ok();
+        self.shut(&self.shared_parts.peer_door, peers);
+        if let Some(monitors) = &self.shared_parts.monitors {
+            self.shut(&self.shared_parts.monitor_door, monitors.local_addr().ok());
         }
     }
 
     /// Drives the node, until it is stopped.
     fn drive(&self) -> Result<(), ServerError> {
-        self.rooms.crew.begin();
+        self.shared_parts.needed_threads.begin();
         self.end_with(self.engine.drive())
     }
 
@@ -424,11 +432,11 @@ where
 
     /// Answers monitors, where they are, until the server closes.
     fn serve_monitors(&self) {
-        if let Some(listener) = &self.rooms.monitors {
+        if let Some(listener) = &self.shared_parts.monitors {
             let monitoring = Monitoring {
                 rt: self.rt,
                 alloc: self.alloc,
-                rooms: self.rooms,
+                shared_parts: self.shared_parts,
                 engine: self.engine,
             };
             monitoring.serve_all(listener);
@@ -455,9 +463,9 @@ where
 
     /// Writes what is said on standard error, until nothing more will be.
     fn write_what_is_said(&self) {
-        self.rooms.crew.begin();
+        self.shared_parts.needed_threads.begin();
         let mut error = StandardError { rt: self.rt };
-        self.rooms.reporter.write_all(self.rt, &mut error);
+        self.shared_parts.reporter.write_all(self.rt, &mut error);
     }
 
     /// All threads, to the end of the last: clients, replicas, and the node's clock, in the thread that calls. What was said by then is written
@@ -476,7 +484,7 @@ where
                 requires { IsSync R.row × IsSync E.row × IsSend D.row × IsSend U.row }
             {
                 let ended = self.run_beside_monitors(ways, gates, sessions, config);
-                self.rooms.reporter.stop(self.rt);
+                self.shared_parts.reporter.stop(self.rt);
                 ended
             },
         );

@@ -2,7 +2,7 @@
 use crate::reporter::Reporter;
 use client_link::SessionEnd;
 use replica_greeting::Term;
-use session_hall::Away;
+use session_pool::Away;
 use std::alloc::Global;
 use std::net::SocketAddr;
 use std::sync::Wait;

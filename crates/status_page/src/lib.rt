@@ -1,5 +1,10 @@
 //! What a replica does, as pages for monitors (HTTP/1.1, RFC 9112): whether it lives, whether it serves clients, and its figures in the text form that Prometheus
 //! reads. Octets of a request become octets of a response; sockets are not here.
+//!
+//! What monitors get over HTTP/1.1: `asking` reads a request's head (by `httparse`), `writing` writes the pages of `figures`.
+//!
+//! Proved: only a whole head that names a page asks for it; a head is bad only where no whole one can come, or past 64 fields (`head_of`).
+//! A page's octets are a definition: status, length, each figure once, in order (`page`, `bad_request`).
 #![tactic(auto)]
 
 mod asking;

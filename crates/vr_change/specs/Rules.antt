@@ -4,7 +4,7 @@ use Rattle.std.specs.Prelude.{ℕ, ◌/◌, ◌==◌, ◌&&◌, Bool, cond, nat_
 use Rattle.vr_state.specs.declared.replica.Replica.{Replica}
 use Rattle.vr_state.specs.declared.message.Change.{Change}
 use Rattle.vr_state.specs.declared.message.PeerMessage.TheVariants.{StartViewChange, StartView}
-use Rattle.vr_state.specs.Words.{Entry}
+use Rattle.vr_state.specs.Words.{LogEntry}
 use Rattle.vr_state.specs.declared.message.Send.{Send}
 use Rattle.vr_state.specs.declared.message.Snapshot.{Snapshot}
 use Rattle.vr_state.specs.Outcome.{Outcome, after_sends, idle, count, indices, is_noted, to_all}
@@ -86,7 +86,7 @@ abbrev pub begin_view_at : {P : Type 0} → Replica P → Change P → Outcome P
 begin_view_at r c = rules.begin_view r.count r.index (state r) (Some c)
 
 -- The STARTVIEWs that say so (VRR 4.2, step 3).
-abbrev pub start_view_sends_at : {P : Type 0} → Replica P → List (Entry P) → ℕ → List (Send P)
+abbrev pub start_view_sends_at : {P : Type 0} → Replica P → List (LogEntry P) → ℕ → List (Send P)
 start_view_sends_at r log k = to_all r.count r.index (StartView r.view_number (record { log = log; commit_number = k }))
 
 -- A STARTVIEW(v, l, x) comes (VRR 4.2, step 5).

@@ -6,7 +6,7 @@ use Rattle.std.specs.Result.{IfOk}
 use Rattle.vr_normal.specs.Rules.{reply_again}
 use Rattle.vr_state.specs.declared.message.PeerMessage.TheVariants.{Commit}
 use Rattle.vr_state.specs.declared.message.Send.{Send}
-use Rattle.vr_state.specs.Words.{Entry}
+use Rattle.vr_state.specs.Words.{LogEntry}
 use Rattle.vr_state.specs.declared.words.Latest.{Latest}
 use Rattle.vr_state.specs.declared.words.Reply.{Reply}
 use Rattle.vr_state.specs.ClientTable.{latest}
@@ -15,28 +15,28 @@ use Rattle.vr_state.specs.Outcome.{Outcome, idle, sending, to_all}
 use Rattle.vr_state.specs.State.{State, leads}
 
 -- A replica that doesn't lead drops it.
-pub unled : {P : Type 0} (n i : ℕ) (r : State P) (e : Entry P) (sends : List (Send P)) (replies : List Reply) → false ≡ leads n i r r.view_number → sends ≡ [] → replies ≡ [] → ◌≡◌ {A = Outcome P} (record { state = r; sends = sends; replies = replies }) (on_request n i r e)
+pub unled : {P : Type 0} (n i : ℕ) (r : State P) (e : LogEntry P) (sends : List (Send P)) (replies : List Reply) → false ≡ leads n i r r.view_number → sends ≡ [] → replies ≡ [] → ◌≡◌ {A = Outcome P} (record { state = r; sends = sends; replies = replies }) (on_request n i r e)
 unled {P} n i r e sends replies isn't hs hr =
     let made : ◌≡◌ {A = Outcome P} (record { state = r; sends = sends; replies = replies }) (idle r) = λ j. record { state = r; sends = hs j; replies = hr j } in
     made ∙ ap (λ t. cond t (ask_primary n i r e (latest e.client r.log)) (idle r)) isn't
 
 -- The primary goes by the latest of the client.
-pub asked : {P : Type 0} (n i : ℕ) (r : State P) (e : Entry P) (o : Option Latest) {made : Outcome P} → true ≡ leads n i r r.view_number → o ≡ latest e.client r.log → made ≡ ask_primary n i r e o → made ≡ on_request n i r e
+pub asked : {P : Type 0} (n i : ℕ) (r : State P) (e : LogEntry P) (o : Option Latest) {made : Outcome P} → true ≡ leads n i r r.view_number → o ≡ latest e.client r.log → made ≡ ask_primary n i r e o → made ≡ on_request n i r e
 asked n i r e o is same m = m ∙ ap₂ (λ t x. cond t (ask_primary n i r e x) (idle r)) is same
 
 -- One that is newer than that is prepared.
-pub newer : {P : Type 0} (n i : ℕ) (r : State P) (e : Entry P) (last : Latest) {made : Outcome P} → last.request_number < e.request_number → made ≡ prepare n i r e → made ≡ ask_primary n i r e (Some last)
+pub newer : {P : Type 0} (n i : ℕ) (r : State P) (e : LogEntry P) (last : Latest) {made : Outcome P} → last.request_number < e.request_number → made ≡ prepare n i r e → made ≡ ask_primary n i r e (Some last)
 newer n i r e last lt m =
     m ∙ sym (ap (λ t. cond t (prepare n i r e) (cond (last.request_number == e.request_number && nat_le last.op_number r.commit_number) (answer_again r e last.op_number) (idle r))) (lt-ltb last.request_number e.request_number lt))
 
 -- One that isn't, and isn't answered either, is dropped.
-pub older : {P : Type 0} (n i : ℕ) (r : State P) (e : Entry P) (last : Latest) (sends : List (Send P)) (replies : List Reply) → e.request_number ≤ last.request_number → (last.request_number == e.request_number && nat_le last.op_number r.commit_number) ≡ false → sends ≡ [] → replies ≡ [] → ◌≡◌ {A = Outcome P} (record { state = r; sends = sends; replies = replies }) (ask_primary n i r e (Some last))
+pub older : {P : Type 0} (n i : ℕ) (r : State P) (e : LogEntry P) (last : Latest) (sends : List (Send P)) (replies : List Reply) → e.request_number ≤ last.request_number → (last.request_number == e.request_number && nat_le last.op_number r.commit_number) ≡ false → sends ≡ [] → replies ≡ [] → ◌≡◌ {A = Outcome P} (record { state = r; sends = sends; replies = replies }) (ask_primary n i r e (Some last))
 older {P} n i r e last sends replies le isn't hs hr =
     let made : ◌≡◌ {A = Outcome P} (record { state = r; sends = sends; replies = replies }) (idle r) = λ j. record { state = r; sends = hs j; replies = hr j } in
     made ∙ sym (ap₂ (λ s t. cond s (prepare n i r e) (cond t (answer_again r e last.op_number) (idle r))) (le-ltb last.request_number e.request_number le) isn't)
 
 -- The latest again, once it is committed.
-pub latest_again : {P : Type 0} (n i : ℕ) (r : State P) (e : Entry P) (last : Latest) (sends : List (Send P)) (replies : List Reply) → e.request_number ≤ last.request_number → last.request_number ≡ e.request_number → last.op_number ≤ r.commit_number → sends ≡ [] → replies ≡ reply_again e last.op_number → ◌≡◌ {A = Outcome P} (record { state = r; sends = sends; replies = replies }) (ask_primary n i r e (Some last))
+pub latest_again : {P : Type 0} (n i : ℕ) (r : State P) (e : LogEntry P) (last : Latest) (sends : List (Send P)) (replies : List Reply) → e.request_number ≤ last.request_number → last.request_number ≡ e.request_number → last.op_number ≤ r.commit_number → sends ≡ [] → replies ≡ reply_again e last.op_number → ◌≡◌ {A = Outcome P} (record { state = r; sends = sends; replies = replies }) (ask_primary n i r e (Some last))
 latest_again {P} n i r e last sends replies le same in_time hs hr =
     let made : ◌≡◌ {A = Outcome P} (record { state = r; sends = sends; replies = replies }) (answer_again r e last.op_number) = λ j. record { state = r; sends = hs j; replies = hr j } in
     let is : (last.request_number == e.request_number && nat_le last.op_number r.commit_number) ≡ true = ap₂ (λ s t. s && t) (eq-eqb last.request_number e.request_number same) (le-leb last.op_number r.commit_number in_time) in

@@ -1,7 +1,7 @@
 -- A step from its parts. In: what each part of a handler made. Out: the outcome that the definition has.
 -- Nothing of code is here.
 use Rattle.std.proofs.Common.{◌≡◌, ℕ, ◌+◌, ◌==◌, ◌/◌, nat_le, min, max, Bool, true, false, cond, List, [], ◌∷◌, length, refl, sym, ap, ◌∙◌, arith, eqb-true, length-append}
-use Rattle.vr_state.specs.Words.{Entry}
+use Rattle.vr_state.specs.Words.{LogEntry}
 use Rattle.vr_state.specs.declared.words.Reply.{Reply}
 use Rattle.vr_state.specs.declared.message.Send.{Send}
 use Rattle.vr_state.specs.declared.message.PeerMessage.TheVariants.{PrepareOk, GetState}
@@ -24,7 +24,7 @@ acknowledged_is {P} n i x m r a s sends replies same counted hx hm none answered
     same none answered
 
 -- how many records there are once one is taken in
-held_is : {P : Type 0} (e : Entry P) (p : ℕ) (r : State P) (b : Bool) → (p == length r.log + 1) ≡ b → length (cond b (append e r) r).log ≡ cond b p (length r.log)
+held_is : {P : Type 0} (e : LogEntry P) (p : ℕ) (r : State P) (b : Bool) → (p == length r.log + 1) ≡ b → length (cond b (append e r) r).log ≡ cond b p (length r.log)
 held_is {P} e p r true h = let w : p ≡ length r.log + 1 = eqb-true p (length r.log + 1) h in omega (arith, length-append r.log (e ∷ []))
 held_is e p r false h = refl
 
@@ -34,12 +34,12 @@ chosen r true xs ys = refl
 chosen r false xs ys = refl
 
 -- a choice of logs has committed as much
-commit_of : {P : Type 0} (e : Entry P) (r : State P) (b : Bool) → (cond b (append e r) r).commit_number ≡ r.commit_number
+commit_of : {P : Type 0} (e : LogEntry P) (r : State P) (b : Bool) → (cond b (append e r) r).commit_number ≡ r.commit_number
 commit_of e r true = refl
 commit_of e r false = refl
 
 -- A PREPARE that is taken in and answered, from its parts.
-pub prepared_is : {P : Type 0} (from v p x held k : ℕ) (e : Entry P) (r mid new : State P) (sends : List (Send P)) (replies : List Reply) → new ≡ commit_to x mid → mid ≡ take_in e p r → held ≡ cond (p == length r.log + 1) p (length r.log) → k ≡ max r.commit_number (min x held) → sends ≡ cond (nat_le p held) (send_to from (PrepareOk v held) ∷ []) (send_to from (GetState v k) ∷ []) → replies ≡ [] → ◌≡◌ {A = Outcome P} (record { state = new; sends = sends; replies = replies }) (answer_prepare from v p (commit_to x (take_in e p r)))
+pub prepared_is : {P : Type 0} (from v p x held k : ℕ) (e : LogEntry P) (r mid new : State P) (sends : List (Send P)) (replies : List Reply) → new ≡ commit_to x mid → mid ≡ take_in e p r → held ≡ cond (p == length r.log + 1) p (length r.log) → k ≡ max r.commit_number (min x held) → sends ≡ cond (nat_le p held) (send_to from (PrepareOk v held) ∷ []) (send_to from (GetState v k) ∷ []) → replies ≡ [] → ◌≡◌ {A = Outcome P} (record { state = new; sends = sends; replies = replies }) (answer_prepare from v p (commit_to x (take_in e p r)))
 prepared_is {P} from v p x held k e r mid new sends replies hn hm hh hk hs hr =
     let s : new ≡ commit_to x (take_in e p r) = hn ∙ ap (commit_to x) hm in
     let made : ◌≡◌ {A = Outcome P} (record { state = new; sends = sends; replies = replies }) (sending (commit_to x (take_in e p r)) (cond (nat_le p (length (take_in e p r).log)) (send_to from (PrepareOk v (length (take_in e p r).log)) ∷ []) (send_to from (GetState v (commit_to x (take_in e p r)).commit_number) ∷ []))) = λ j. record { state = s j; sends = asked j; replies = hr j } in
@@ -56,10 +56,10 @@ prepared_is {P} from v p x held k e r mid new sends replies hn hm hh hk hs hr =
         ∙ ap (λ (y : ℕ). cond (nat_le p y) (send_to from (PrepareOk v y) ∷ []) (send_to from (GetState v (max (take_in e p r).commit_number (min x y))) ∷ [])) long
 
 -- a choice of logs is of one view
-view_of : {P : Type 0} (e : Entry P) (r : State P) (b : Bool) → (cond b (append e r) r).view_number ≡ r.view_number
+view_of : {P : Type 0} (e : LogEntry P) (r : State P) (b : Bool) → (cond b (append e r) r).view_number ≡ r.view_number
 view_of e r true = refl
 view_of e r false = refl
 
 -- A PREPARE leaves the view as it was.
-pub view_kept : {P : Type 0} (p x : ℕ) (e : Entry P) (r mid new : State P) → new ≡ commit_to x mid → mid ≡ take_in e p r → new.view_number ≡ r.view_number
+pub view_kept : {P : Type 0} (p x : ℕ) (e : LogEntry P) (r mid new : State P) → new ≡ commit_to x mid → mid ≡ take_in e p r → new.view_number ≡ r.view_number
 view_kept {P} p x e r mid new hn hm = ap (λ (s : State P). s.view_number) (hn ∙ ap (commit_to x) hm) ∙ view_of e r (p == length r.log + 1)

@@ -3,7 +3,7 @@
 use Rattle.std.specs.Prelude.{ℕ, ◌-◌, ◌/◌, max, cond, nat_le, List, [], ◌∷◌, length, slice_get, slice_index, slice_set}
 use Rattle.vr_state.specs.declared.replica.Replica.{Replica}
 use Rattle.vr_state.specs.State.{State}
-use Rattle.vr_state.specs.Words.{Entry}
+use Rattle.vr_state.specs.Words.{LogEntry}
 use Rattle.vr_state.specs.Views.{state}
 use Rattle.vr_state.specs.Outcome.{Outcome, send_to, to_all, commit_to, count, others}
 use Rattle.vr_state.specs.declared.words.Reply.{Reply}
@@ -12,23 +12,23 @@ use Rattle.vr_state.specs.declared.message.PeerMessage.TheVariants.{PrepareOk, C
 use Rattle.vr_state.specs.NormalCase as rules
 
 -- A request comes (VRR 4.1, steps 1 to 3).
-abbrev pub request_at : {P : Type 0} → Replica P → Entry P → Outcome P
+abbrev pub request_at : {P : Type 0} → Replica P → LogEntry P → Outcome P
 request_at r e = rules.on_request r.count r.index (state r) e
 
 -- A record is appended and prepared at the others (VRR 4.1, step 3).
-abbrev pub prepare_at : {P : Type 0} → Replica P → Entry P → Outcome P
+abbrev pub prepare_at : {P : Type 0} → Replica P → LogEntry P → Outcome P
 prepare_at r e = rules.prepare r.count r.index (state r) e
 
 -- The reply to a request whose record is executed at place p (VRR 4.1, step 2).
-abbrev pub reply_again : {P : Type 0} → Entry P → ℕ → List Reply
+abbrev pub reply_again : {P : Type 0} → LogEntry P → ℕ → List Reply
 reply_again e p = record { client = e.client; request_number = e.request_number; op_number = p } ∷ []
 
 -- A PREPARE(v, e, p, x) comes (VRR 4.1, steps 4 and 7).
-abbrev pub on_prepare_at : {P : Type 0} → Replica P → ℕ → ℕ → Entry P → ℕ → ℕ → Outcome P
+abbrev pub on_prepare_at : {P : Type 0} → Replica P → ℕ → ℕ → LogEntry P → ℕ → ℕ → Outcome P
 on_prepare_at r from v e p x = rules.on_prepare r.count r.index (state r) from v e p x
 
 -- The PREPARE is of the backup's view: it takes the record in, learns of the commit and answers (VRR 4.1, steps 4 and 7).
-abbrev pub taken_in_at : {P : Type 0} → Replica P → ℕ → ℕ → Entry P → ℕ → ℕ → Outcome P
+abbrev pub taken_in_at : {P : Type 0} → Replica P → ℕ → ℕ → LogEntry P → ℕ → ℕ → Outcome P
 taken_in_at r from v e p x = rules.answer_prepare from v p (commit_to x (rules.take_in e p (state r)))
 
 -- The answer to a PREPARE for place p of a backup that has so many records, k of them committed (VRR 4.1, step 4; 5.2).

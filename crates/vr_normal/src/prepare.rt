@@ -12,7 +12,7 @@ use vr_state::payload::Payload;
 use vr_state::replica::Replica;
 use vr_state::sending::{ask_for_state, send_one, sending};
 use vr_state::standing::{commit_to, committed, follows, is_behind};
-use vr_state::words::Entry;
+use vr_state::words::LogEntry;
 
 /// What comes with a PREPARE of the replica with index `from`, whose record stands at the place `op_number`. At an error,
 /// which is want of memory, nothing has changed. It costs one record at the end of the log and its note in the client table; no
@@ -22,7 +22,7 @@ pub fn on_prepare<P: Payload>(
     replica: &mut Replica<P>,
     from: u64,
     view_number: u64,
-    entry: Entry<P>,
+    entry: LogEntry<P>,
     op_number: u64,
     commit_number: u64,
 ) -> Result<Outputs<P>, AllocError>
@@ -56,7 +56,7 @@ fn answer_prepare<P: Payload>(
     replica: &mut Replica<P>,
     from: u64,
     view_number: u64,
-    entry: Entry<P>,
+    entry: LogEntry<P>,
     op_number: u64,
     commit_number: u64,
 ) -> Result<Outputs<P>, AllocError>
@@ -89,7 +89,7 @@ fn held_with<P: Payload>(replica: &Replica<P>, op_number: u64) -> u64
 /// Takes a record in, if its place is the next. At an error nothing has changed.
 fn take_in<P: Payload>(
     replica: &mut Replica<P>,
-    entry: Entry<P>,
+    entry: LogEntry<P>,
     op_number: u64,
 ) -> Result<(), AllocError>
     ensures ok { OnOk result (state replica.new ≡ take_in entry op_number (state replica.old)) }

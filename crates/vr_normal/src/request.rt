@@ -11,14 +11,14 @@ use vr_state::payload::Payload;
 use vr_state::replica::Replica;
 use vr_state::sending::{send_all, sending};
 use vr_state::standing::leads;
-use vr_state::words::{Entry, Reply};
+use vr_state::words::{LogEntry, Reply};
 
 /// What comes with a client's request. At an error, which is want of memory, nothing has changed. It costs a look-up in the
 /// client table, the logarithm of the number of clients, and a copy of the one record for each replica; no log is walked.
 pub fn on_request<P: Payload>(
     alloc: Global,
     replica: &mut Replica<P>,
-    entry: Entry<P>,
+    entry: LogEntry<P>,
 ) -> Result<Outputs<P>, AllocError>
     ensures step { IfOk result (λ out. outcome replica.new out ≡ request_at replica.old entry) }
     ensures store { IfOk result (λ out. out.store ≡ view_to_store (state replica.old) (state replica.new)) }
@@ -49,7 +49,7 @@ pub fn on_request<P: Payload>(
 fn prepare<P: Payload>(
     alloc: Global,
     replica: &mut Replica<P>,
-    entry: Entry<P>,
+    entry: LogEntry<P>,
 ) -> Result<Outputs<P>, AllocError>
     ensures step { IfOk result (λ out. outcome replica.new out ≡ prepare_at replica.old entry) }
     ensures store { IfOk result (λ out. out.store ≡ None) }
@@ -71,7 +71,7 @@ fn prepare<P: Payload>(
 /// The reply to a request that is executed already, as the record at this place.
 fn answer_again<P: Payload>(
     alloc: Global,
-    entry: &Entry<P>,
+    entry: &LogEntry<P>,
     op_number: u64,
 ) -> Result<Outputs<P>, AllocError>
     ensures store { IfOk result (λ out. out.store ≡ None) }

@@ -7,7 +7,7 @@ use Rattle.vr_state.specs.declared.event.Event.TheVariants.{Request, Message, Su
 use Rattle.vr_state.specs.declared.message.Change.{Change}
 use Rattle.vr_state.specs.declared.message.PeerMessage.{PeerMessage}
 use Rattle.vr_state.specs.declared.message.PeerMessage.TheVariants.{Prepare, PrepareOk, Commit, StartViewChange, DoViewChange, StartView, GetState, NewState, Recovery, RecoveryResponse}
-use Rattle.log_entry.specs.declared.words.Entry.{Entry}
+use Rattle.log_entry.specs.declared.words.LogEntry.{LogEntry}
 use Rattle.vr_state.specs.declared.words.Latest.{Latest}
 use Rattle.vr_state.specs.declared.words.Status.{Status}
 use Rattle.vr_state.specs.declared.words.Status.TheVariants.{Normal, ViewChange, Recovering}
@@ -40,11 +40,11 @@ module _ {P : Type 0} (n i : ℕ) (r : State P) (normal : is_normal r.status ≡
   here e = not_both (is_normal r.status) normal (recovering_is r.status e)
 
   -- a record is taken in
-  take_goes : (e : Entry P) (p x : ℕ) → GoesOn r (commit_to x (take_in e p r))
+  take_goes : (e : LogEntry P) (p x : ℕ) → GoesOn r (commit_to x (take_in e p r))
   take_goes e p x = by_test (λ (s : State P). GoesOn r (commit_to x s)) (p == length r.log + 1) (append e r) r (λ t. (record { log = inr (e, refl); last = refl })) (λ t. (record { log = inl refl; last = refl }))
 
   -- a request
-  request_goes : (e : Entry P) → Goes (step n i r (Request e))
+  request_goes : (e : LogEntry P) → Goes (step n i r (Request e))
   request_goes e = by_test Goes (leads n i r r.view_number) _ _ (λ t. ask (latest e.client r.log)) (λ t f. (record { log = inl refl; last = refl }))
     where
       ask : (o : Option Latest) → Goes (ask_primary n i r e o)

@@ -5,7 +5,7 @@ use Rattle.std.proofs.lemmas.Bool.{cases_lt}
 use Rattle.std.proofs.lemmas.List.{append-nil, drop_at, drop_all}
 use Rattle.std.proofs.Common.{le-ltb, le_refl}
 use Rattle.vr_state.specs.Journaled.{Note, Enter, Record, Stage, Adopt, Kept, noted_by, after_notes, notes_of, IsKeptOf, IsJournaled, StepsAreJournaled, IsKeptOfSome, BatchesAreJournaled, after_events, notes_of_all}
-use Rattle.vr_state.specs.State.{State, Entry, is_normal, is_recovering}
+use Rattle.vr_state.specs.State.{State, LogEntry, is_normal, is_recovering}
 use Rattle.vr_state.specs.Step.{step}
 use Rattle.vr_state.specs.StepLaw.{brings_tail, GoesOn}
 use Rattle.vr_state.specs.declared.words.Status.{Status}
@@ -28,16 +28,16 @@ not_true false e = refl
 
 module _ {P : Type 0} where
   -- records that wait change nothing else
-  staging : Kept P → List (Entry P) → Kept P
+  staging : Kept P → List (LogEntry P) → Kept P
   staging h xs = record h { staged = h.staged ++ xs }
 
-  staged_is : (h : Kept P) (xs : List (Entry P)) (rest : List (Note P)) → after_notes h (map (λ x. Stage x) xs ++ rest) ≡ after_notes (record h { staged = h.staged ++ xs }) rest
-  staged_is h [] rest = ap (λ (l : List (Entry P)). after_notes (record h { staged = l }) rest) (sym (append-nil h.staged))
-  staged_is h (x ∷ xs) rest = staged_is (record h { staged = h.staged ++ x ∷ [] }) xs rest ∙ ap (λ (l : List (Entry P)). after_notes (record h { staged = l }) rest) (append_assoc h.staged (x ∷ []) xs)
+  staged_is : (h : Kept P) (xs : List (LogEntry P)) (rest : List (Note P)) → after_notes h (map (λ x. Stage x) xs ++ rest) ≡ after_notes (record h { staged = h.staged ++ xs }) rest
+  staged_is h [] rest = ap (λ (l : List (LogEntry P)). after_notes (record h { staged = l }) rest) (sym (append-nil h.staged))
+  staged_is h (x ∷ xs) rest = staged_is (record h { staged = h.staged ++ x ∷ [] }) xs rest ∙ ap (λ (l : List (LogEntry P)). after_notes (record h { staged = l }) rest) (append_assoc h.staged (x ∷ []) xs)
 
   -- the first of stages and one note more are some stages, or all
-  some_of : (h : Kept P) (xs : List (Entry P)) (x : Note P) (m : ℕ) → ((ys : List (Entry P)) × (after_notes h (take m (map (λ x. Stage x) xs ++ x ∷ [])) ≡ record h { staged = h.staged ++ ys })) ⊎ (take m (map (λ x. Stage x) xs ++ x ∷ []) ≡ map (λ x. Stage x) xs ++ x ∷ [])
-  some_of h xs x zero = inl ([], ap (λ (l : List (Entry P)). record h { staged = l }) (sym (append-nil h.staged)))
+  some_of : (h : Kept P) (xs : List (LogEntry P)) (x : Note P) (m : ℕ) → ((ys : List (LogEntry P)) × (after_notes h (take m (map (λ x. Stage x) xs ++ x ∷ [])) ≡ record h { staged = h.staged ++ ys })) ⊎ (take m (map (λ x. Stage x) xs ++ x ∷ []) ≡ map (λ x. Stage x) xs ++ x ∷ [])
+  some_of h xs x zero = inl ([], ap (λ (l : List (LogEntry P)). record h { staged = l }) (sym (append-nil h.staged)))
   some_of h [] x (suc m) = inr (ap (λ (l : List (Note P)). x ∷ l) (none m))
     where
       none : (k : ℕ) → take {A = Note P} k [] ≡ []
@@ -45,9 +45,9 @@ module _ {P : Type 0} where
       none (suc k) = refl
   some_of h (y ∷ ys) x (suc m) = go (some_of (record h { staged = h.staged ++ y ∷ [] }) ys x m)
     where
-      go : ((zs : List (Entry P)) × (after_notes (record h { staged = h.staged ++ y ∷ [] }) (take m (map (λ x. Stage x) ys ++ x ∷ [])) ≡ record h { staged = (h.staged ++ y ∷ []) ++ zs })) ⊎ (take m (map (λ x. Stage x) ys ++ x ∷ []) ≡ map (λ x. Stage x) ys ++ x ∷ []) →
-          ((zs : List (Entry P)) × (after_notes h (Stage y ∷ take m (map (λ x. Stage x) ys ++ x ∷ [])) ≡ record h { staged = h.staged ++ zs })) ⊎ (Stage y ∷ take m (map (λ x. Stage x) ys ++ x ∷ []) ≡ Stage y ∷ (map (λ x. Stage x) ys ++ x ∷ []))
-      go (inl t) = inl (y ∷ t.0, t.1 ∙ ap (λ (l : List (Entry P)). record h { staged = l }) (append_assoc h.staged (y ∷ []) t.0))
+      go : ((zs : List (LogEntry P)) × (after_notes (record h { staged = h.staged ++ y ∷ [] }) (take m (map (λ x. Stage x) ys ++ x ∷ [])) ≡ record h { staged = (h.staged ++ y ∷ []) ++ zs })) ⊎ (take m (map (λ x. Stage x) ys ++ x ∷ []) ≡ map (λ x. Stage x) ys ++ x ∷ []) →
+          ((zs : List (LogEntry P)) × (after_notes h (Stage y ∷ take m (map (λ x. Stage x) ys ++ x ∷ [])) ≡ record h { staged = h.staged ++ zs })) ⊎ (Stage y ∷ take m (map (λ x. Stage x) ys ++ x ∷ []) ≡ Stage y ∷ (map (λ x. Stage x) ys ++ x ∷ []))
+      go (inl t) = inl (y ∷ t.0, t.1 ∙ ap (λ (l : List (LogEntry P)). record h { staged = l }) (append_assoc h.staged (y ∷ []) t.0))
       go (inr e) = inr (ap (λ (l : List (Note P)). Stage y ∷ l) e)
 
   -- nothing is noted
@@ -73,15 +73,15 @@ module _ {P : Type 0} where
   journaled_adopt h r s base k none rises normal alike = record { all = subst (λ (x : Kept P). IsKeptOf x s) (sym done) kept; none_waits = ap (λ (x : Kept P). x.staged) done; some = λ m. go m (some_of h (drop base s.log) (Adopt s.view_number s.last_normal_view base s.commit_number) m) }
     where
       log_is : take base h.log ++ (h.staged ++ drop base s.log) ≡ s.log
-      log_is = ap₂ (λ (a b : List (Entry P)). take base a ++ (b ++ drop base s.log)) k.log none ∙ ap (λ (a : List (Entry P)). a ++ drop base s.log) alike ∙ take-append-drop base s.log
+      log_is = ap₂ (λ (a b : List (LogEntry P)). take base a ++ (b ++ drop base s.log)) k.log none ∙ ap (λ (a : List (LogEntry P)). a ++ drop base s.log) alike ∙ take-append-drop base s.log
 
       done : after_notes h (map (λ x. Stage x) (drop base s.log) ++ Adopt s.view_number s.last_normal_view base s.commit_number ∷ []) ≡ record { view = s.view_number; last = s.last_normal_view; log = s.log; k = max h.k s.commit_number; staged = []; whole = true }
-      done = staged_is h (drop base s.log) (Adopt s.view_number s.last_normal_view base s.commit_number ∷ []) ∙ ap (λ (l : List (Entry P)). record { view = s.view_number; last = s.last_normal_view; log = l; k = max h.k s.commit_number; staged = []; whole = true }) log_is
+      done = staged_is h (drop base s.log) (Adopt s.view_number s.last_normal_view base s.commit_number ∷ []) ∙ ap (λ (l : List (LogEntry P)). record { view = s.view_number; last = s.last_normal_view; log = l; k = max h.k s.commit_number; staged = []; whole = true }) log_is
 
       kept : IsKeptOf (record { view = s.view_number; last = s.last_normal_view; log = s.log; k = max h.k s.commit_number; staged = []; whole = true }) s
       kept = record { view = refl; last = refl; log = refl; low = omega (arith, k.low, rises); whole = sym (ap not (normal_whole s.status normal)) }
 
-      go : (m : ℕ) → ((ys : List (Entry P)) × (after_notes h (take m (map (λ x. Stage x) (drop base s.log) ++ Adopt s.view_number s.last_normal_view base s.commit_number ∷ [])) ≡ record h { staged = h.staged ++ ys })) ⊎ (take m (map (λ x. Stage x) (drop base s.log) ++ Adopt s.view_number s.last_normal_view base s.commit_number ∷ []) ≡ map (λ x. Stage x) (drop base s.log) ++ Adopt s.view_number s.last_normal_view base s.commit_number ∷ []) → IsKeptOf (after_notes h (take m (map (λ x. Stage x) (drop base s.log) ++ Adopt s.view_number s.last_normal_view base s.commit_number ∷ []))) r ⊎ IsKeptOf (after_notes h (take m (map (λ x. Stage x) (drop base s.log) ++ Adopt s.view_number s.last_normal_view base s.commit_number ∷ []))) s
+      go : (m : ℕ) → ((ys : List (LogEntry P)) × (after_notes h (take m (map (λ x. Stage x) (drop base s.log) ++ Adopt s.view_number s.last_normal_view base s.commit_number ∷ [])) ≡ record h { staged = h.staged ++ ys })) ⊎ (take m (map (λ x. Stage x) (drop base s.log) ++ Adopt s.view_number s.last_normal_view base s.commit_number ∷ []) ≡ map (λ x. Stage x) (drop base s.log) ++ Adopt s.view_number s.last_normal_view base s.commit_number ∷ []) → IsKeptOf (after_notes h (take m (map (λ x. Stage x) (drop base s.log) ++ Adopt s.view_number s.last_normal_view base s.commit_number ∷ []))) r ⊎ IsKeptOf (after_notes h (take m (map (λ x. Stage x) (drop base s.log) ++ Adopt s.view_number s.last_normal_view base s.commit_number ∷ []))) s
       go m (inl t) = inl (subst (λ (x : Kept P). IsKeptOf x r) (sym t.1) (record { view = k.view; last = k.last; log = k.log; low = k.low; whole = k.whole }))
       go m (inr e) = inr (subst (λ (l : List (Note P)). IsKeptOf (after_notes h l) s) (sym e) (subst (λ (x : Kept P). IsKeptOf x s) (sym done) kept))
 
@@ -102,12 +102,12 @@ steps_are_journaled {P} n i r e base alike h k none = by_test (IsJournaled h r s
     grown : is_normal (step n i r e).state.status ≡ true → is_normal r.status ≡ true → r.view_number ≡ (step n i r e).state.view_number → GoesOn r (step n i r e).state → IsJournaled h r (step n i r e).state (map (λ x. Record (step n i r e).state.commit_number x) (drop (length r.log) (step n i r e).state.log))
     grown t u v g = go g.log
       where
-        go : ((step n i r e).state.log ≡ r.log) ⊎ ((x : Entry P) × ((step n i r e).state.log ≡ r.log ++ x ∷ [])) → IsJournaled h r (step n i r e).state (map (λ x. Record (step n i r e).state.commit_number x) (drop (length r.log) (step n i r e).state.log))
-        go (inl same) = subst (λ (l : List (Entry P)). IsJournaled h r (step n i r e).state (map (λ x. Record (step n i r e).state.commit_number x) l)) (sym (ap (drop (length r.log)) same ∙ drop_all (length r.log) r.log (le_refl _)))
+        go : ((step n i r e).state.log ≡ r.log) ⊎ ((x : LogEntry P) × ((step n i r e).state.log ≡ r.log ++ x ∷ [])) → IsJournaled h r (step n i r e).state (map (λ x. Record (step n i r e).state.commit_number x) (drop (length r.log) (step n i r e).state.log))
+        go (inl same) = subst (λ (l : List (LogEntry P)). IsJournaled h r (step n i r e).state (map (λ x. Record (step n i r e).state.commit_number x) l)) (sym (ap (drop (length r.log)) same ∙ drop_all (length r.log) r.log (le_refl _)))
             (journaled_none h r (step n i r e).state (record { view = k.view ∙ v; last = k.last ∙ sym g.last; log = k.log ∙ sym same; low = omega (arith, k.low, keeps.commits); whole = k.whole ∙ ap not (normal_whole r.status u ∙ sym (normal_whole _ t)) }) none)
-        go (inr x) = subst (λ (l : List (Entry P)). IsJournaled h r (step n i r e).state (map (λ x. Record (step n i r e).state.commit_number x) l)) (sym (ap (drop (length r.log)) x.1 ∙ drop_at r.log (x.0 ∷ []) (length r.log) refl))
+        go (inr x) = subst (λ (l : List (LogEntry P)). IsJournaled h r (step n i r e).state (map (λ x. Record (step n i r e).state.commit_number x) l)) (sym (ap (drop (length r.log)) x.1 ∙ drop_at r.log (x.0 ∷ []) (length r.log) refl))
             (journaled_one h r (step n i r e).state (Record (step n i r e).state.commit_number x.0) k
-            (record { view = k.view ∙ v; last = k.last ∙ sym g.last; log = ap (λ (l : List (Entry P)). l ++ x.0 ∷ []) k.log ∙ sym x.1; low = omega (arith, k.low, keeps.commits); whole = k.whole ∙ ap not (normal_whole r.status u ∙ sym (normal_whole _ t)) }) refl)
+            (record { view = k.view ∙ v; last = k.last ∙ sym g.last; log = ap (λ (l : List (LogEntry P)). l ++ x.0 ∷ []) k.log ∙ sym x.1; low = omega (arith, k.low, keeps.commits); whole = k.whole ∙ ap not (normal_whole r.status u ∙ sym (normal_whole _ t)) }) refl)
 
     entered : is_normal (step n i r e).state.status ≡ false → (r.view_number < (step n i r e).state.view_number) ⊎ ((step n i r e).state.view_number ≤ r.view_number) → IsJournaled h r (step n i r e).state (cond (nat_lt r.view_number (step n i r e).state.view_number) (Enter (step n i r e).state.view_number ∷ []) [])
     entered t (inl lt) = subst (λ b. IsJournaled h r (step n i r e).state (cond b (Enter (step n i r e).state.view_number ∷ []) [])) (sym (Rattle.std.proofs.Common.lt-ltb _ _ lt))

@@ -1,7 +1,7 @@
 -- What is noted of a step in a journal, and what notes stand for. In: a replica before and after a step. Out: notes; what is kept after them.
 -- How a note is spelled, and when it is settled, is not said here.
 use Rattle.std.specs.Prelude.{◌≡◌, ◌⊎◌, ℕ, ◌≤◌, max, Bool, true, not, cond, ◌&&◌, ◌==◌, nat_lt, List, [], ◌∷◌, ◌++◌, length, take, drop, map}
-use Rattle.vr_state.specs.State.{State, Entry, is_normal, is_recovering}
+use Rattle.vr_state.specs.State.{State, LogEntry, is_normal, is_recovering}
 use Rattle.vr_state.specs.Step.{Event, step}
 use Rattle.vr_state.specs.StepLaw.{brings_tail}
 
@@ -9,17 +9,17 @@ use Rattle.vr_state.specs.StepLaw.{brings_tail}
 -- that wait come behind them. k is how much is known to be committed.
 pub data Note (P : Type 0) : Type 0 where
   Enter : (view : ℕ) → Note P
-  Record : (k : ℕ) (e : Entry P) → Note P
-  Stage : (e : Entry P) → Note P
+  Record : (k : ℕ) (e : LogEntry P) → Note P
+  Stage : (e : LogEntry P) → Note P
   Adopt : (view last base k : ℕ) → Note P
 
 -- What notes stand for: a replica as it would go on, records that wait, and whether all of it may be gone on from.
 pub record Kept (P : Type 0) : Type 0 where
   pub view : ℕ
   pub last : ℕ
-  pub log : List (Entry P)
+  pub log : List (LogEntry P)
   pub k : ℕ
-  pub staged : List (Entry P)
+  pub staged : List (LogEntry P)
   pub whole : Bool
 
 -- after one note

@@ -1,7 +1,7 @@
 -- What each step keeps, whatever the other replicas do. In: the step of one replica. Out: the clauses of the law on steps.
 -- What holds of a whole cluster stands in the crate above, over all schedules.
 use Rattle.std.specs.Prelude.{◌≡◌, ℕ, ◌/◌, ◌<◌, ◌≤◌, ◌⊎◌, nat_le, Bool, true, false, List, [], ◌∷◌, ◌++◌, length, take, Some, slice_index}
-use Rattle.log_entry.specs.declared.words.Entry.{Entry}
+use Rattle.log_entry.specs.declared.words.LogEntry.{LogEntry}
 use Rattle.vr_state.specs.declared.words.Latest.{Latest}
 use Rattle.vr_state.specs.declared.words.Reply.{Reply}
 use Rattle.vr_state.specs.declared.message.Change.{Change}
@@ -40,7 +40,7 @@ brings_tail _ = false
 
 -- The log of s is that of r, or has one record more; the last normal view is the same.
 pub record GoesOn {P : Type 0} (r s : State P) : Type 0 where
-  pub log : (s.log ≡ r.log) ⊎ ((e : Entry P) × (s.log ≡ r.log ++ e ∷ []))
+  pub log : (s.log ≡ r.log) ⊎ ((e : LogEntry P) × (s.log ≡ r.log ++ e ∷ []))
   pub last : s.last_normal_view ≡ r.last_normal_view
 
 -- While a replica is normal in one view, its log gets one record more at most, but at a NEWSTATE.
@@ -60,7 +60,7 @@ RepliesAreExecuted P = (n i : ℕ) (r : State P) (e : Event P) (reply : Reply) �
 
 -- A request with a number not above the client's latest changes nothing.
 abbrev pub RepeatsChangeNothing : Type 0 → Type 0
-RepeatsChangeNothing P = (n i : ℕ) (r : State P) (e : Entry P) (last : Latest) →
+RepeatsChangeNothing P = (n i : ℕ) (r : State P) (e : LogEntry P) (last : Latest) →
     latest e.client r.log ≡ Some last → e.request_number ≤ last.request_number → (step n i r (Request e)).state ≡ r
 
 -- What a PREPAREOK newly commits, f other replicas have acknowledged.

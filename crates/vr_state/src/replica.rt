@@ -7,7 +7,7 @@ ghost use Rattle.vr_state.specs.ClientTable.{IsTableOf};
 use crate::client_table::ClientTable;
 use crate::log::Log;
 use crate::message::{Change, Response, Snapshot};
-use crate::words::{Entry, Latest, Status};
+use crate::words::{Latest, LogEntry, Status};
 use std::alloc::{AllocError, Global};
 
 /// A replica (VRR 4, Figure 2). Its fields are open to the crates that make its steps; callers above see its `state`.
@@ -195,7 +195,7 @@ impl<P: Drop> Replica<P> {
     }
 
     /// Appends a record and notes it in the client table. At an error nothing has changed.
-    pub fn append(&mut self, entry: Entry<P>) -> Result<(), AllocError>
+    pub fn append(&mut self, entry: LogEntry<P>) -> Result<(), AllocError>
         ensures ok { OnOk result (state self.new ≡ append entry (state self.old)) }
         ensures err { OnErr result (state self.new ≡ state self.old) }
         ensures index { self.new.index ≡ self.old.index }

@@ -5,7 +5,7 @@ use Rattle.std.proofs.Common.{arith, eq-eqb, eqb-true, true≢false}
 use Rattle.std.proofs.lemmas.Bool.{le-leb, leb-true}
 use Rattle.std.proofs.lemmas.List.{nil_from_length, length-append}
 use Rattle.view_store.specs.Cluster.{IsCluster, cluster_octets}
-use Rattle.vr_state.specs.Words.{Entry}
+use Rattle.vr_state.specs.Words.{LogEntry}
 use Rattle.vr_state.specs.declared.message.Change.{Change}
 use Rattle.vr_state.specs.declared.message.Response.{Response}
 use Rattle.vr_state.specs.declared.message.Snapshot.{Snapshot}
@@ -132,7 +132,7 @@ prepare_takes bytes m fits e =
       kind_is = refl;
     })
 
-prepare_again : (v : ℕ) (e : Entry (List ℕ)) (p k : ℕ) → IsInRange (Prepare v e p k) → cut_prepare (body_octets (Prepare v e p k)) ≡ Some (Prepare v e p k)
+prepare_again : (v : ℕ) (e : LogEntry (List ℕ)) (p k : ℕ) → IsInRange (Prepare v e p k) → cut_prepare (body_octets (Prepare v e p k)) ≡ Some (Prepare v e p k)
 unfolding cut_prepare
 prepare_again v e p k h =
     ap cut_prepare (ap (λ (l : List ℕ). number v ++ (number p ++ (number k ++ l))) (sym (append-nil (entry_octets e))))

@@ -6,7 +6,7 @@ use Rattle.ldap_op.specs.Values.{OpValue}
 use Rattle.ldap_op.specs.Grammar.{IsOp}
 use Rattle.ldap_op.specs.Written.{op_content, op_bytes, IsOpInRange}
 use Rattle.vr_state.specs.Words.{Client}
-use Rattle.vr_state.specs.Words.{Entry}
+use Rattle.vr_state.specs.Words.{LogEntry}
 use Rattle.vr_state.specs.declared.message.Change.{Change}
 use Rattle.vr_state.specs.declared.message.Response.{Response}
 use Rattle.vr_state.specs.declared.message.Snapshot.{Snapshot}
@@ -27,38 +27,38 @@ use Rattle.vr_wire.proofs.PutLaws.{content_shorter}
 abbrev pub OneUpdate : Type 0
 OneUpdate = (op other : OpValue) (octets : List ℕ) → IsOp op octets → IsOp other octets → op ≡ other
 
-abbrev entry_made : Client → ℕ → OpValue → Entry OpValue
+abbrev entry_made : Client → ℕ → OpValue → LogEntry OpValue
 entry_made c n p = record { client = c; request_number = n; payload = p }
 
-one_entry : OneUpdate → (e f : Entry OpValue) (raw : Entry (List ℕ)) → IsEntryOf e raw → IsEntryOf f raw → e ≡ f
+one_entry : OneUpdate → (e f : LogEntry OpValue) (raw : LogEntry (List ℕ)) → IsEntryOf e raw → IsEntryOf f raw → e ≡ f
 one_entry one e f raw p q =
     ap (λ (c : Client). entry_made c e.request_number e.payload) (p.client ∙ sym q.client)
     ∙ ap (λ (n : ℕ). entry_made f.client n e.payload) (p.request_number ∙ sym q.request_number)
     ∙ ap (λ (o : OpValue). entry_made f.client f.request_number o) (one e.payload f.payload raw.payload p.payload q.payload)
 
-one_log : OneUpdate → (raws : List (Entry (List ℕ))) (es fs : List (Entry OpValue)) → AreEntriesOf es raws → AreEntriesOf fs raws → es ≡ fs
+one_log : OneUpdate → (raws : List (LogEntry (List ℕ))) (es fs : List (LogEntry OpValue)) → AreEntriesOf es raws → AreEntriesOf fs raws → es ≡ fs
 one_log one [] [] [] p q = refl
 one_log one [] [] (f ∷ fs) p q = absurd q
 one_log one [] (e ∷ es) fs p q = absurd p
 one_log one (raw ∷ raws) [] fs p q = absurd p
 one_log one (raw ∷ raws) (e ∷ es) [] p q = absurd q
 one_log one (raw ∷ raws) (e ∷ es) (f ∷ fs) p q =
-    ap (λ (x : Entry OpValue). x ∷ es) (one_entry one e f raw p.0 q.0) ∙ ap (λ (l : List (Entry OpValue)). f ∷ l) (one_log one raws es fs p.1 q.1)
+    ap (λ (x : LogEntry OpValue). x ∷ es) (one_entry one e f raw p.0 q.0) ∙ ap (λ (l : List (LogEntry OpValue)). f ∷ l) (one_log one raws es fs p.1 q.1)
 
-abbrev held_made : List (Entry OpValue) → ℕ → Snapshot OpValue
+abbrev held_made : List (LogEntry OpValue) → ℕ → Snapshot OpValue
 held_made l k = record { log = l; commit_number = k }
 
 one_held : OneUpdate → (raw : Snapshot (List ℕ)) (h g : Snapshot OpValue) → IsHeldOf h raw → IsHeldOf g raw → h ≡ g
 one_held one raw h g p q =
-    ap (λ (l : List (Entry OpValue)). held_made l h.commit_number) (one_log one raw.log h.log g.log p.log q.log)
+    ap (λ (l : List (LogEntry OpValue)). held_made l h.commit_number) (one_log one raw.log h.log g.log p.log q.log)
     ∙ ap (λ (k : ℕ). held_made g.log k) (p.commit_number ∙ sym q.commit_number)
 
-abbrev change_made : List (Entry OpValue) → ℕ → ℕ → Change OpValue
+abbrev change_made : List (LogEntry OpValue) → ℕ → ℕ → Change OpValue
 change_made l v k = record { log = l; last_normal_view = v; commit_number = k }
 
 one_change : OneUpdate → (raw : Change (List ℕ)) (h g : Change OpValue) → IsChangeOf h raw → IsChangeOf g raw → h ≡ g
 one_change one raw h g p q =
-    ap (λ (l : List (Entry OpValue)). change_made l h.last_normal_view h.commit_number) (one_log one raw.log h.log g.log p.log q.log)
+    ap (λ (l : List (LogEntry OpValue)). change_made l h.last_normal_view h.commit_number) (one_log one raw.log h.log g.log p.log q.log)
     ∙ ap (λ (v : ℕ). change_made g.log v h.commit_number) (p.last_normal_view ∙ sym q.last_normal_view)
     ∙ ap (λ (k : ℕ). change_made g.log g.last_normal_view k) (p.commit_number ∙ sym q.commit_number)
 
@@ -78,7 +78,7 @@ one_response one raw h g p q =
     ap (λ (v : ℕ). response_made v h.held) (p.view_number ∙ sym q.view_number)
     ∙ ap (λ (o : Option (Snapshot OpValue)). response_made g.view_number o) (one_perhaps one raw.held h.held g.held p.held q.held)
 
-to_prepare : (v : ℕ) (raw : Entry (List ℕ)) (p k : ℕ) (m : PeerMessage OpValue) → IsMessageOf m (Prepare v raw p k) → (e : Entry OpValue) × IsEntryOf e raw × (m ≡ Prepare v e p k)
+to_prepare : (v : ℕ) (raw : LogEntry (List ℕ)) (p k : ℕ) (m : PeerMessage OpValue) → IsMessageOf m (Prepare v raw p k) → (e : LogEntry OpValue) × IsEntryOf e raw × (m ≡ Prepare v e p k)
 to_prepare v raw p k (Prepare w e q l) h = let same : Prepare w e q l ≡ Prepare v e p k = cc in (e, h.1, same)
 to_prepare v raw p k m h = absurd h
 
@@ -122,7 +122,7 @@ pub one_message : OneUpdate → (raw : PeerMessage (List ℕ)) (m n : PeerMessag
 one_message one (Prepare v raw p k) m n h g =
     let a = to_prepare v raw p k m h in
     let b = to_prepare v raw p k n g in
-    a.2 ∙ ap (λ (e : Entry OpValue). Prepare v e p k) (one_entry one a.0 b.0 raw a.1 b.1) ∙ sym b.2
+    a.2 ∙ ap (λ (e : LogEntry OpValue). Prepare v e p k) (one_entry one a.0 b.0 raw a.1 b.1) ∙ sym b.2
 one_message one (PrepareOk v p) m n h g = to_prepare_ok v p m h ∙ sym (to_prepare_ok v p n g)
 one_message one (Commit v k) m n h g = to_commit v k m h ∙ sym (to_commit v k n g)
 one_message one (StartViewChange v) m n h g = to_start_view_change v m h ∙ sym (to_start_view_change v n g)
@@ -185,11 +185,11 @@ no_beginning octets more cluster sender m other speaker n f g =
 abbrev pub UpdatesAreWritten : Type 0
 UpdatesAreWritten = (op : OpValue) → IsOpInRange op → length (op_content op) < 2 ^ 32 → IsOp op (op_bytes op)
 
-entry_written : UpdatesAreWritten → (e : Entry OpValue) → IsEntryInRange (written_entry e) → IsOpInRange e.payload → IsEntryOf e (written_entry e)
+entry_written : UpdatesAreWritten → (e : LogEntry OpValue) → IsEntryInRange (written_entry e) → IsOpInRange e.payload → IsEntryOf e (written_entry e)
 entry_written is e h u =
     record { client = refl; request_number = refl; payload = is e.payload u (omega (arith, content_shorter e.payload, h.payload)) }
 
-log_written : UpdatesAreWritten → (es : List (Entry OpValue)) → AreEntriesInRange (written_log es) → AreUpdatesInRange es → AreEntriesOf es (written_log es)
+log_written : UpdatesAreWritten → (es : List (LogEntry OpValue)) → AreEntriesInRange (written_log es) → AreUpdatesInRange es → AreEntriesOf es (written_log es)
 log_written is [] h u = tt
 log_written is (e ∷ es) h u = (entry_written is e h.0 u.0, log_written is es h.1 u.1)
 

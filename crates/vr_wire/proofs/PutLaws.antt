@@ -4,7 +4,7 @@ use Rattle.std.proofs.Common.{subst, ◌∙◌, append_assoc, append-nil, arith,
 use Rattle.ldap_op.specs.Values.{OpValue, add, delete, modify, modify_dn, noop}
 use Rattle.ldap_op.specs.Written.{op_content, op_bytes}
 use Rattle.ldap_op.specs.ldap_updates.ldap_ber.Element.{element_bytes, length_octets}
-use Rattle.vr_state.specs.Words.{Entry}
+use Rattle.vr_state.specs.Words.{LogEntry}
 use Rattle.vr_wire.specs.declared.error.WireError.{WireError}
 use Rattle.vr_wire.specs.declared.error.WireError.TheVariants as error
 use Rattle.vr_wire.specs.Frames.{short, entry_octets, entries_octets}
@@ -51,39 +51,39 @@ content_shorter noop = omega arith
 
 -- ---- logs
 
-entry_there : (x : Entry (List ℕ)) → 1 ≤ length (entry_octets x)
+entry_there : (x : LogEntry (List ℕ)) → 1 ≤ length (entry_octets x)
 entry_there x = omega arith
 
 -- a log has at least an octet a record
-pub count_shorter : (es : List (Entry OpValue)) → length es ≤ length (entries_octets (written_log es))
+pub count_shorter : (es : List (LogEntry OpValue)) → length es ≤ length (entries_octets (written_log es))
 count_shorter [] = omega arith
 count_shorter (e ∷ es) =
     omega (arith, length-append (entry_octets (written_entry e)) (entries_octets (written_log es)), entry_there (written_entry e), count_shorter es)
 
-pub log_too_long : (most : ℕ) (old : List ℕ) (es : List (Entry OpValue)) → most < length es → most < length (old ++ (short (length (written_log es)) ++ entries_octets (written_log es)))
+pub log_too_long : (most : ℕ) (old : List ℕ) (es : List (LogEntry OpValue)) → most < length es → most < length (old ++ (short (length (written_log es)) ++ entries_octets (written_log es)))
 log_too_long most old es h =
     omega (arith, h, count_shorter es, length-append old (short (length (written_log es)) ++ entries_octets (written_log es)), length-append (short (length (written_log es))) (entries_octets (written_log es)))
 
-one_more : (es : List (Entry OpValue)) (i : ℕ) (e d : Entry OpValue) → i < length es → e ≡ get_or es i d → entries_octets (written_log (take (suc i) es)) ≡ entries_octets (written_log (take i es)) ++ entry_octets (written_entry e)
+one_more : (es : List (LogEntry OpValue)) (i : ℕ) (e d : LogEntry OpValue) → i < length es → e ≡ get_or es i d → entries_octets (written_log (take (suc i) es)) ≡ entries_octets (written_log (take i es)) ++ entry_octets (written_entry e)
 one_more [] i e d lt is = absurd (omega (arith, lt))
-one_more (x ∷ es) zero e d lt is = append-nil (entry_octets (written_entry x)) ∙ ap (λ (y : Entry OpValue). entry_octets (written_entry y)) (sym is)
+one_more (x ∷ es) zero e d lt is = append-nil (entry_octets (written_entry x)) ∙ ap (λ (y : LogEntry OpValue). entry_octets (written_entry y)) (sym is)
 one_more (x ∷ es) (suc i) e d lt is =
     ap (λ (l : List ℕ). entry_octets (written_entry x) ++ l) (one_more es i e d (omega (arith, lt)) is)
     ∙ sym (append_assoc (entry_octets (written_entry x)) (entries_octets (written_log (take i es))) (entry_octets (written_entry e)))
 
-parted : (n : ℕ) (es : List (Entry OpValue)) → entries_octets (written_log es) ≡ entries_octets (written_log (take n es)) ++ entries_octets (written_log (drop n es))
+parted : (n : ℕ) (es : List (LogEntry OpValue)) → entries_octets (written_log es) ≡ entries_octets (written_log (take n es)) ++ entries_octets (written_log (drop n es))
 parted zero es = refl
 parted (suc n) [] = refl
 parted (suc n) (x ∷ es) =
     ap (λ (l : List ℕ). entry_octets (written_entry x) ++ l) (parted n es)
     ∙ sym (append_assoc (entry_octets (written_entry x)) (entries_octets (written_log (take n es))) (entries_octets (written_log (drop n es))))
 
-pub put_more : (old mid new : List ℕ) (es : List (Entry OpValue)) (i j : ℕ) (e d : Entry OpValue) → j ≡ suc i → i < length es → e ≡ get_or es i d → mid ≡ old ++ entries_octets (written_log (take i es)) → new ≡ mid ++ entry_octets (written_entry e) → new ≡ old ++ entries_octets (written_log (take j es))
+pub put_more : (old mid new : List ℕ) (es : List (LogEntry OpValue)) (i j : ℕ) (e d : LogEntry OpValue) → j ≡ suc i → i < length es → e ≡ get_or es i d → mid ≡ old ++ entries_octets (written_log (take i es)) → new ≡ mid ++ entry_octets (written_entry e) → new ≡ old ++ entries_octets (written_log (take j es))
 put_more old mid new es i j e d next lt is so_far put =
     put_both old mid new (entries_octets (written_log (take i es))) (entry_octets (written_entry e)) so_far put
     ∙ ap (λ (l : List ℕ). old ++ l) (sym (one_more es i e d lt is) ∙ ap (λ (n : ℕ). entries_octets (written_log (take n es))) (sym next))
 
-pub put_refused : (most : ℕ) (f : WireError) (old mid : List ℕ) (es : List (Entry OpValue)) (i : ℕ) (e d : Entry OpValue) → i < length es → e ≡ get_or es i d → mid ≡ old ++ entries_octets (written_log (take i es)) → IsLonger most f (length (mid ++ entry_octets (written_entry e))) → IsLonger most f (length (old ++ entries_octets (written_log es)))
+pub put_refused : (most : ℕ) (f : WireError) (old mid : List ℕ) (es : List (LogEntry OpValue)) (i : ℕ) (e d : LogEntry OpValue) → i < length es → e ≡ get_or es i d → mid ≡ old ++ entries_octets (written_log (take i es)) → IsLonger most f (length (mid ++ entry_octets (written_entry e))) → IsLonger most f (length (old ++ entries_octets (written_log es)))
 put_refused most f old mid es i e d lt is so_far long =
     let first = entries_octets (written_log (take i es)) in
     let part = entry_octets (written_entry e) in

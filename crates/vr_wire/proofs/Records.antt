@@ -3,7 +3,7 @@ use Rattle.std.proofs.Common.{◌≡◌, ℕ, zero, suc, ◌^◌, ◌<◌, ◌==
 use Rattle.std.proofs.Common.{length, Some, refl, sym, ap, subst, ◌∙◌, append_assoc, arith, eq-eqb, eqb-true}
 use Rattle.std.proofs.Common.{true≢false}
 use Rattle.vr_state.specs.Words.{Client}
-use Rattle.vr_state.specs.Words.{Entry}
+use Rattle.vr_state.specs.Words.{LogEntry}
 use Rattle.vr_state.specs.declared.message.Snapshot.{Snapshot}
 use Rattle.vr_wire.specs.Frames.{number, short, client_octets, payload_octets, entry_octets, entries_octets, log_octets, held_octets}
 use Rattle.vr_wire.specs.Frames.{IsClientInRange, IsEntryInRange, AreEntriesInRange, IsLogInRange, IsHeldInRange}
@@ -70,22 +70,22 @@ payload_again p rest lt =
 
 -- ---- records
 
-pub entry_takes : (bytes : List ℕ) (x : Entry (List ℕ) × List ℕ) → IsBytes bytes → cut_entry bytes ≡ Some x → Takes bytes (entry_octets x.0) x.1 × IsEntryInRange x.0
+pub entry_takes : (bytes : List ℕ) (x : LogEntry (List ℕ) × List ℕ) → IsBytes bytes → cut_entry bytes ≡ Some x → Takes bytes (entry_octets x.0) x.1 × IsEntryInRange x.0
 unfolding cut_entry
 entry_takes bytes x fits e =
     let a = then_some (cut_client bytes) (λ c. then (cut_number c.1) (λ s. then (cut_payload s.1) (λ p. Some (record { client = c.0; request_number = s.0; payload = p.0 }, p.1)))) x e in
     let b = then_some (cut_number a.0.1) (λ s. then (cut_payload s.1) (λ p. Some (record { client = a.0.0; request_number = s.0; payload = p.0 }, p.1))) x a.2 in
     let c = then_some (cut_payload b.0.1) (λ p. Some (record { client = a.0.0; request_number = b.0.0; payload = p.0 }, p.1)) x b.2 in
-    let made : Entry (List ℕ) × List ℕ = (record { client = a.0.0; request_number = b.0.0; payload = c.0.0 }, c.0.1) in
+    let made : LogEntry (List ℕ) × List ℕ = (record { client = a.0.0; request_number = b.0.0; payload = c.0.0 }, c.0.1) in
     let t0 = client_takes bytes a.0 fits a.1 in
     let t1 = number_takes a.0.1 b.0 t0.0.rest_fits b.1 in
     let t2 = payload_takes b.0.1 c.0 t1.0.rest_fits c.1 in
     let t12 = Takes-then a.0.1 (number b.0.0) b.0.1 (payload_octets c.0.0) c.0.1 t1.0 t2.0 in
     let all = Takes-then bytes (client_octets a.0.0) a.0.1 (number b.0.0 ++ payload_octets c.0.0) c.0.1 t0.0 t12 in
-    subst (λ (y : Entry (List ℕ) × List ℕ). Takes bytes (entry_octets y.0) y.1 × IsEntryInRange y.0) (some_is made x c.2)
+    subst (λ (y : LogEntry (List ℕ) × List ℕ). Takes bytes (entry_octets y.0) y.1 × IsEntryInRange y.0) (some_is made x c.2)
     (all, record { client = t0.1; request = t1.1; payload = t2.1 })
 
-pub entry_again : (e : Entry (List ℕ)) (rest : List ℕ) → IsEntryInRange e → cut_entry (entry_octets e ++ rest) ≡ Some (e, rest)
+pub entry_again : (e : LogEntry (List ℕ)) (rest : List ℕ) → IsEntryInRange e → cut_entry (entry_octets e ++ rest) ≡ Some (e, rest)
 unfolding cut_entry
 entry_again e rest h =
     let regrouped : entry_octets e ++ rest ≡ client_octets e.client ++ (number e.request_number ++ (payload_octets e.payload ++ rest)) =
@@ -94,25 +94,25 @@ entry_again e rest h =
     ap cut_entry regrouped
     ∙ rw (client_again e.client (number e.request_number ++ (payload_octets e.payload ++ rest)) h.client, number_again e.request_number (payload_octets e.payload ++ rest) h.request, payload_again e.payload rest h.payload) refl
 
-pub entries_take : (n : ℕ) (bytes : List ℕ) (x : List (Entry (List ℕ)) × List ℕ) → IsBytes bytes → cut_entries n bytes ≡ Some x → Takes bytes (entries_octets x.0) x.1 × (length x.0 ≡ n) × AreEntriesInRange x.0
+pub entries_take : (n : ℕ) (bytes : List ℕ) (x : List (LogEntry (List ℕ)) × List ℕ) → IsBytes bytes → cut_entries n bytes ≡ Some x → Takes bytes (entries_octets x.0) x.1 × (length x.0 ≡ n) × AreEntriesInRange x.0
 entries_take zero bytes x fits e =
-    subst (λ (y : List (Entry (List ℕ)) × List ℕ). Takes bytes (entries_octets y.0) y.1 × (length y.0 ≡ 0) × AreEntriesInRange y.0) (some_is ([], bytes) x e) (record { parts = refl; rest_fits = fits }, refl, tt)
+    subst (λ (y : List (LogEntry (List ℕ)) × List ℕ). Takes bytes (entries_octets y.0) y.1 × (length y.0 ≡ 0) × AreEntriesInRange y.0) (some_is ([], bytes) x e) (record { parts = refl; rest_fits = fits }, refl, tt)
 entries_take (suc n) bytes x fits e =
     let a = then_some (cut_entry bytes) (λ f. then (cut_entries n f.1) (λ es. Some (f.0 ∷ es.0, es.1))) x e in
     let b = then_some (cut_entries n a.0.1) (λ es. Some (a.0.0 ∷ es.0, es.1)) x a.2 in
     let first = entry_takes bytes a.0 fits a.1 in
     let second = entries_take n a.0.1 b.0 first.0.rest_fits b.1 in
     let both = Takes-then bytes (entry_octets a.0.0) a.0.1 (entries_octets b.0.0) b.0.1 first.0 second.0 in
-    let made : List (Entry (List ℕ)) × List ℕ = (a.0.0 ∷ b.0.0, b.0.1) in
-    subst (λ (y : List (Entry (List ℕ)) × List ℕ). Takes bytes (entries_octets y.0) y.1 × (length y.0 ≡ suc n) × AreEntriesInRange y.0) (some_is made x b.2) (both, ap suc second.1, (first.1, second.2))
+    let made : List (LogEntry (List ℕ)) × List ℕ = (a.0.0 ∷ b.0.0, b.0.1) in
+    subst (λ (y : List (LogEntry (List ℕ)) × List ℕ). Takes bytes (entries_octets y.0) y.1 × (length y.0 ≡ suc n) × AreEntriesInRange y.0) (some_is made x b.2) (both, ap suc second.1, (first.1, second.2))
 
-pub entries_again : (es : List (Entry (List ℕ))) (rest : List ℕ) → AreEntriesInRange es → cut_entries (length es) (entries_octets es ++ rest) ≡ Some (es, rest)
+pub entries_again : (es : List (LogEntry (List ℕ))) (rest : List ℕ) → AreEntriesInRange es → cut_entries (length es) (entries_octets es ++ rest) ≡ Some (es, rest)
 entries_again [] rest h = refl
 entries_again (e ∷ es) rest h =
     ap (cut_entries (suc (length es))) (append_assoc (entry_octets e) (entries_octets es) rest)
     ∙ rw (entry_again e (entries_octets es ++ rest) h.0, entries_again es rest h.1) refl
 
-pub log_takes : (bytes : List ℕ) (x : List (Entry (List ℕ)) × List ℕ) → IsBytes bytes → cut_log bytes ≡ Some x → Takes bytes (log_octets x.0) x.1 × IsLogInRange x.0
+pub log_takes : (bytes : List ℕ) (x : List (LogEntry (List ℕ)) × List ℕ) → IsBytes bytes → cut_log bytes ≡ Some x → Takes bytes (log_octets x.0) x.1 × IsLogInRange x.0
 unfolding cut_log
 log_takes bytes x fits e =
     let a = then_some (cut_short bytes) (λ n. cut_entries n.0 n.1) x e in
@@ -121,7 +121,7 @@ log_takes bytes x fits e =
     let all = Takes-then bytes (short a.0.0) a.0.1 (entries_octets x.0) x.1 t0.0 t1.0 in
     (subst (λ (n : ℕ). Takes bytes (short n ++ entries_octets x.0) x.1) (sym t1.1) all, (omega (arith, t0.1, t1.1), t1.2))
 
-pub log_again : (es : List (Entry (List ℕ))) (rest : List ℕ) → IsLogInRange es → cut_log (log_octets es ++ rest) ≡ Some (es, rest)
+pub log_again : (es : List (LogEntry (List ℕ))) (rest : List ℕ) → IsLogInRange es → cut_log (log_octets es ++ rest) ≡ Some (es, rest)
 unfolding cut_log
 log_again es rest h =
     ap cut_log (append_assoc (short (length es)) (entries_octets es) rest)

@@ -5,7 +5,7 @@ use Rattle.std.specs.Prelude.{◌≡◌, ◌^◌, ◌+◌, ◌<◌, ◌≤◌, �
 use Rattle.std.specs.Prelude.{take, drop, Option, Some, None, Result, Ok, Err}
 use Rattle.std.specs.Int.{w32, w64, from_be_bytes}
 use Rattle.vr_state.specs.Words.{Client}
-use Rattle.vr_state.specs.Words.{Entry}
+use Rattle.vr_state.specs.Words.{LogEntry}
 use Rattle.vr_state.specs.declared.message.PeerMessage.{PeerMessage}
 use Rattle.vr_state.specs.declared.message.PeerMessage.TheVariants.{Prepare, PrepareOk, Commit, StartViewChange, DoViewChange, StartView, GetState}
 use Rattle.vr_state.specs.declared.message.PeerMessage.TheVariants.{NewState, Recovery, RecoveryResponse}
@@ -70,18 +70,18 @@ unfoldable pub cut_payload : List ℕ → Option (List ℕ × List ℕ)
 cut_payload o = then (cut_short o) (λ n. cut_octets n.0 n.1)
 
 -- a record
-unfoldable pub cut_entry : List ℕ → Option (Entry (List ℕ) × List ℕ)
+unfoldable pub cut_entry : List ℕ → Option (LogEntry (List ℕ) × List ℕ)
 cut_entry o =
     then (cut_client o) (λ c. then (cut_number c.1) (λ s. then (cut_payload s.1) (λ p.
     Some (record { client = c.0; request_number = s.0; payload = p.0 }, p.1))))
 
 -- so many records
-abbrev pub cut_entries : ℕ → List ℕ → Option (List (Entry (List ℕ)) × List ℕ)
+abbrev pub cut_entries : ℕ → List ℕ → Option (List (LogEntry (List ℕ)) × List ℕ)
 cut_entries zero o = Some ([], o)
 cut_entries (suc n) o = then (cut_entry o) (λ e. then (cut_entries n e.1) (λ es. Some (e.0 ∷ es.0, es.1)))
 
 -- a log
-unfoldable pub cut_log : List ℕ → Option (List (Entry (List ℕ)) × List ℕ)
+unfoldable pub cut_log : List ℕ → Option (List (LogEntry (List ℕ)) × List ℕ)
 cut_log o = then (cut_short o) (λ n. cut_entries n.0 n.1)
 
 -- a commit-number and a log

@@ -5,7 +5,7 @@ use Rattle.std.specs.Prelude.{◌≡◌, ◌<◌, ◌^◌, ℕ, List, [], ◌∷
 use Rattle.std.specs.Int.{w32, w64, to_be_bytes}
 use Rattle.view_store.specs.Cluster.{cluster_octets}
 use Rattle.vr_state.specs.Words.{Client}
-use Rattle.vr_state.specs.Words.{Entry}
+use Rattle.vr_state.specs.Words.{LogEntry}
 use Rattle.vr_state.specs.declared.message.PeerMessage.{PeerMessage}
 use Rattle.vr_state.specs.declared.message.PeerMessage.TheVariants.{Prepare, PrepareOk, Commit, StartViewChange, DoViewChange, StartView, GetState}
 use Rattle.vr_state.specs.declared.message.PeerMessage.TheVariants.{NewState, Recovery, RecoveryResponse}
@@ -32,16 +32,16 @@ abbrev pub payload_octets : List ℕ → List ℕ
 payload_octets p = short (length p) ++ p
 
 -- a record: its client, the client's number for the request, its payload
-abbrev pub entry_octets : Entry (List ℕ) → List ℕ
+abbrev pub entry_octets : LogEntry (List ℕ) → List ℕ
 entry_octets e = client_octets e.client ++ number e.request_number ++ payload_octets e.payload
 
 -- records, one after the other
-abbrev pub entries_octets : List (Entry (List ℕ)) → List ℕ
+abbrev pub entries_octets : List (LogEntry (List ℕ)) → List ℕ
 entries_octets [] = []
 entries_octets (e ∷ es) = entry_octets e ++ entries_octets es
 
 -- a log: how many records there are, and the records
-abbrev pub log_octets : List (Entry (List ℕ)) → List ℕ
+abbrev pub log_octets : List (LogEntry (List ℕ)) → List ℕ
 log_octets es = short (length es) ++ entries_octets es
 
 -- how much of a log is committed, and the log
@@ -94,18 +94,18 @@ pub record IsClientInRange (c : Client) : Type 0 where
   pub named : c.home ≡ 0 → c.life ≡ 0
 
 -- a record's numbers are of 63 bits, and its payload's length is of 32
-pub record IsEntryInRange (e : Entry (List ℕ)) : Type 0 where
+pub record IsEntryInRange (e : LogEntry (List ℕ)) : Type 0 where
   pub client : IsClientInRange e.client
   pub request : e.request_number < 2 ^ 63
   pub payload : length e.payload < 2 ^ 32
 
 -- all records are in range
-abbrev pub AreEntriesInRange : List (Entry (List ℕ)) → Type 0
+abbrev pub AreEntriesInRange : List (LogEntry (List ℕ)) → Type 0
 AreEntriesInRange [] = Unit {0}
 AreEntriesInRange (e ∷ es) = IsEntryInRange e × AreEntriesInRange es
 
 -- a log's records are in range, and fewer than 2 ^ 32
-abbrev pub IsLogInRange : List (Entry (List ℕ)) → Type 0
+abbrev pub IsLogInRange : List (LogEntry (List ℕ)) → Type 0
 IsLogInRange es = (length es < 2 ^ 32) × AreEntriesInRange es
 
 -- a log is in range, and so is how much of it is committed

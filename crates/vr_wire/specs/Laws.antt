@@ -4,7 +4,7 @@ use Rattle.std.specs.Prelude.{◌≡◌, ◌≤◌, ℕ, List, [], ◌∷◌, �
 use Rattle.ldap_op.specs.Values.{OpValue}
 use Rattle.ldap_op.specs.Written.{IsOpInRange}
 use Rattle.view_store.specs.Cluster.{IsCluster}
-use Rattle.vr_state.specs.Words.{Entry}
+use Rattle.vr_state.specs.Words.{LogEntry}
 use Rattle.vr_state.specs.declared.message.PeerMessage.{PeerMessage}
 use Rattle.vr_state.specs.declared.message.PeerMessage.TheVariants.{Prepare, PrepareOk, Commit, StartViewChange, DoViewChange, StartView, GetState}
 use Rattle.vr_state.specs.declared.message.PeerMessage.TheVariants.{NewState, Recovery, RecoveryResponse}
@@ -25,12 +25,12 @@ NoFrameBeginsAnother =
     → IsFrame cluster sender m octets → IsFrame other speaker n (octets ++ more) → more ≡ []
 
 -- the records of a log that may be missing
-abbrev pub perhaps_records : Option (Snapshot OpValue) → List (Entry OpValue)
+abbrev pub perhaps_records : Option (Snapshot OpValue) → List (LogEntry OpValue)
 perhaps_records None = []
 perhaps_records (Some held) = held.log
 
 -- the records that a message carries
-abbrev pub records_of : PeerMessage OpValue → List (Entry OpValue)
+abbrev pub records_of : PeerMessage OpValue → List (LogEntry OpValue)
 records_of (Prepare v e p k) = e ∷ []
 records_of (PrepareOk v p) = []
 records_of (Commit v k) = []
@@ -43,7 +43,7 @@ records_of (GetState v k) = []
 records_of (NewState v x tail) = tail.log
 
 -- the updates of all records are in range
-abbrev pub AreUpdatesInRange : List (Entry OpValue) → Type 0
+abbrev pub AreUpdatesInRange : List (LogEntry OpValue) → Type 0
 AreUpdatesInRange [] = Unit {0}
 AreUpdatesInRange (e ∷ es) = IsOpInRange e.payload × AreUpdatesInRange es
 

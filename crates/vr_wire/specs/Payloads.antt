@@ -6,7 +6,7 @@ use Rattle.ldap_op.specs.Values.{OpValue}
 use Rattle.ldap_op.specs.Grammar.{IsOp}
 use Rattle.ldap_op.specs.Written.{op_bytes}
 use Rattle.view_store.specs.Cluster.{IsCluster}
-use Rattle.vr_state.specs.Words.{Entry}
+use Rattle.vr_state.specs.Words.{LogEntry}
 use Rattle.vr_state.specs.declared.message.PeerMessage.{PeerMessage}
 use Rattle.vr_state.specs.declared.message.PeerMessage.TheVariants.{Prepare, PrepareOk, Commit, StartViewChange, DoViewChange, StartView, GetState}
 use Rattle.vr_state.specs.declared.message.PeerMessage.TheVariants.{NewState, Recovery, RecoveryResponse}
@@ -34,13 +34,13 @@ Reads Is (Ok a) b = Is a b
 Reads Is (Err e) b = Refuses Is e b
 
 -- the record's payload is the one that the octets spell, and all else is the same
-pub record IsEntryOf (e : Entry OpValue) (raw : Entry (List ℕ)) : Type 0 where
+pub record IsEntryOf (e : LogEntry OpValue) (raw : LogEntry (List ℕ)) : Type 0 where
   pub client : e.client ≡ raw.client
   pub request_number : e.request_number ≡ raw.request_number
   pub payload : IsOp e.payload raw.payload
 
 -- one record for each, in their order
-abbrev pub AreEntriesOf : List (Entry OpValue) → List (Entry (List ℕ)) → Type 0
+abbrev pub AreEntriesOf : List (LogEntry OpValue) → List (LogEntry (List ℕ)) → Type 0
 AreEntriesOf [] [] = Unit {0}
 AreEntriesOf (e ∷ es) (raw ∷ raws) = IsEntryOf e raw × AreEntriesOf es raws
 AreEntriesOf _ _ = ⊥
@@ -114,10 +114,10 @@ ReadsFrame cluster (Ok p) octets = IsFrame cluster p.0 p.1 octets
 ReadsFrame cluster (Err e) octets = RefusesFrame cluster e octets
 
 -- payloads as they are written
-abbrev pub written_entry : Entry OpValue → Entry (List ℕ)
+abbrev pub written_entry : LogEntry OpValue → LogEntry (List ℕ)
 written_entry e = record { client = e.client; request_number = e.request_number; payload = op_bytes e.payload }
 
-abbrev pub written_log : List (Entry OpValue) → List (Entry (List ℕ))
+abbrev pub written_log : List (LogEntry OpValue) → List (LogEntry (List ℕ))
 written_log es = map written_entry es
 
 abbrev pub written_held : Snapshot OpValue → Snapshot (List ℕ)

@@ -1,7 +1,7 @@
 -- Frames: worked octets.
 -- In: messages. Out: their octets, as the definitions compute them. Not here: new definitions.
 use Rattle.std.specs.Prelude.{◌≡◌, refl, ℕ, List, [], ◌∷◌, take, drop, Some, None}
-use Rattle.vr_state.specs.Words.{Entry}
+use Rattle.vr_state.specs.Words.{LogEntry}
 use Rattle.vr_state.specs.declared.message.PeerMessage.{PeerMessage}
 use Rattle.vr_state.specs.declared.message.PeerMessage.TheVariants.{Commit, NewState}
 use Rattle.vr_wire.specs.Frames.{frame_octets}
@@ -33,7 +33,7 @@ unfolding cut_frame cut_short cut_octets cut_rest cut_head cut_said cut_cluster 
 first_version_refused = refl
 
 -- a record that changes nothing
-abbrev noop_entry : ℕ → Entry (List ℕ)
+abbrev noop_entry : ℕ → LogEntry (List ℕ)
 noop_entry n = record { client = record { home = 1; life = 1; number = 1 }; request_number = n; payload = [] }
 
 -- the records after the first two, which are two

@@ -7,7 +7,7 @@ ghost use Rattle.vr_wire.specs.Cutting.{cut_entry, cut_two, cut_three, small_num
 
 use crate::error::WireError;
 use crate::octets::Octets;
-use vr_state::words::{Client, Entry};
+use vr_state::words::{Client, LogEntry};
 
 /// The end of the numbers that a frame holds.
 const NUMBER_END: u64 = 1 << 63;
@@ -108,13 +108,13 @@ fn cut_payload(octets: &[u8]) -> Result<(&[u8], &[u8]), WireError>
 
 /// A record.
 #[tactic(auto, unfolding(crate::specs::Cutting::cut_entry))]
-pub fn cut_entry(octets: &[u8]) -> Result<(Entry<Octets<'_>>, &[u8]), WireError>
+pub fn cut_entry(octets: &[u8]) -> Result<(LogEntry<Octets<'_>>, &[u8]), WireError>
     ensures { Gives (λ p. (p.0, p.1.now)) result (cut_entry octets.now) }
 {
     let (client, rest) = cut_client(octets)?;
     let (request_number, rest) = cut_number(rest)?;
     let (payload, rest) = cut_payload(rest)?;
-    let entry = Entry {
+    let entry = LogEntry {
         client,
         request_number,
         payload: Octets::new(payload),

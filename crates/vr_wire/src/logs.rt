@@ -9,14 +9,14 @@ use crate::writing::ENTRY_LEN;
 use std::alloc::Global;
 use vr_state::log::Log;
 use vr_state::message::Snapshot;
-use vr_state::words::Entry;
+use vr_state::words::LogEntry;
 
 /// So many records. Room is made once, and for no more records than as many octets can spell.
 fn cut_entries(
     alloc: Global,
     count: u32,
     octets: &[u8],
-) -> Result<(Vec<Entry<Octets<'_>>>, &[u8]), WireError>
+) -> Result<(Vec<LogEntry<Octets<'_>>>, &[u8]), WireError>
     ensures { Gives (λ p. (p.0.items, p.1.now)) result (cut_entries count octets.now) }
 {
     let room = (octets.len() / ENTRY_LEN).min(count as usize);

@@ -9,7 +9,7 @@ use ldap_op::{MsgFault, Op, read_op};
 use std::alloc::Global;
 use vr_state::log::Log;
 use vr_state::message::{Change, PeerMessage, Response, Snapshot};
-use vr_state::words::Entry;
+use vr_state::words::LogEntry;
 
 /// The update of a payload.
 fn op_of(alloc: Global, octets: &[u8]) -> Result<Op, WireError>
@@ -23,11 +23,11 @@ fn op_of(alloc: Global, octets: &[u8]) -> Result<Op, WireError>
 }
 
 /// A record with its update.
-fn entry_of(alloc: Global, entry: &Entry<Octets<'_>>) -> Result<Entry<Op>, WireError>
+fn entry_of(alloc: Global, entry: &LogEntry<Octets<'_>>) -> Result<LogEntry<Op>, WireError>
     ensures { Reads IsEntryOf result entry.now }
 {
     let payload = op_of(alloc, entry.payload.as_slice())?;
-    Ok(Entry {
+    Ok(LogEntry {
         client: entry.client,
         request_number: entry.request_number,
         payload,
@@ -35,7 +35,10 @@ fn entry_of(alloc: Global, entry: &Entry<Octets<'_>>) -> Result<Entry<Op>, WireE
 }
 
 /// Records with their updates.
-fn entries_of(alloc: Global, entries: &[Entry<Octets<'_>>]) -> Result<Vec<Entry<Op>>, WireError>
+fn entries_of(
+    alloc: Global,
+    entries: &[LogEntry<Octets<'_>>],
+) -> Result<Vec<LogEntry<Op>>, WireError>
     ensures { ReadsAs (λ v. v.items) AreEntriesOf result entries.now }
 {
     let mut read = Vec::with_capacity(alloc, entries.len())?;
@@ -98,7 +101,7 @@ fn response_of(alloc: Global, response: &Response<Octets<'_>>) -> Result<Respons
 fn prepare_of(
     alloc: Global,
     view_number: u64,
-    entry: &Entry<Octets<'_>>,
+    entry: &LogEntry<Octets<'_>>,
     op_number: u64,
     commit_number: u64,
 ) -> Result<PeerMessage<Op>, WireError>

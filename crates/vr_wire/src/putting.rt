@@ -12,7 +12,7 @@ use ldap_op::{Op, WriteError, write_op};
 use std::alloc::Global;
 use view_store::Cluster;
 use vr_state::message::Snapshot;
-use vr_state::words::{Client, Entry};
+use vr_state::words::{Client, LogEntry};
 
 /// The greatest length of a frame, its first four octets included. What is spelled stops as soon as more than `LIMIT` octets stand there, and
 /// each call names its own: a message to be cut in parts has none.
@@ -108,7 +108,7 @@ fn op_octets<const LIMIT: usize>(alloc: Global, op: &Op) -> Result<Vec<u8>, Wire
 pub fn put_entry<const LIMIT: usize>(
     alloc: Global,
     out: &mut Vec<u8>,
-    entry: &Entry<Op>,
+    entry: &LogEntry<Op>,
 ) -> Result<(), WireError>
     ensures spelled { PutsWithin (most_under LIMIT) result out.old.items out.new.items (entry_octets (written_entry entry.now)) }
     ensures kept { out.new.items ≡ out.old.items ++ drop (length out.old.items) out.new.items }
@@ -123,7 +123,7 @@ pub fn put_entry<const LIMIT: usize>(
 fn put_entries<const LIMIT: usize>(
     alloc: Global,
     out: &mut Vec<u8>,
-    entries: &[Entry<Op>],
+    entries: &[LogEntry<Op>],
 ) -> Result<(), WireError>
     ensures spelled { PutsWithin (most_under LIMIT) result out.old.items out.new.items (entries_octets (written_log entries.now)) }
     ensures kept { out.new.items ≡ out.old.items ++ drop (length out.old.items) out.new.items }
@@ -138,7 +138,7 @@ fn put_entries<const LIMIT: usize>(
 pub fn put_log<const LIMIT: usize>(
     alloc: Global,
     out: &mut Vec<u8>,
-    entries: &[Entry<Op>],
+    entries: &[LogEntry<Op>],
 ) -> Result<(), WireError>
     ensures spelled { PutsWithin (most_under LIMIT) result out.old.items out.new.items (log_octets (written_log entries.now)) }
     ensures kept { out.new.items ≡ out.old.items ++ drop (length out.old.items) out.new.items }

@@ -12,7 +12,7 @@ use ldap_op::Op;
 use std::alloc::Global;
 use view_store::Cluster;
 use vr_state::message::{Change, PeerMessage, Response, Snapshot};
-use vr_state::words::Entry;
+use vr_state::words::LogEntry;
 
 /// The version of frames that are written.
 pub const VERSION: u8 = 2;
@@ -37,7 +37,7 @@ fn put_prepare<const LIMIT: usize>(
     alloc: Global,
     out: &mut Vec<u8>,
     view_number: u64,
-    entry: &Entry<Op>,
+    entry: &LogEntry<Op>,
     op_number: u64,
     commit_number: u64,
 ) -> Result<(), WireError>

@@ -5,7 +5,7 @@ use Rattle.vr_state.proofs.Laws.{quorums, count_some, either_true, prefix_nil, p
 use Rattle.vr_state.specs.Lists.{IsPrefix, In}
 use Rattle.vr_state.specs.Outcome.{indices, count}
 use Rattle.vr_state.specs.State.{State, primary, is_recovering}
-use Rattle.vr_state.specs.Words.{Entry}
+use Rattle.vr_state.specs.Words.{LogEntry}
 use Rattle.vr_state.specs.declared.words.Status.{Status}
 use Rattle.vr_state.specs.declared.words.Status.TheVariants.{Normal, ViewChange, Recovering}
 use Rattle.vr_world.proofs.Agreement.{longest_is, IsEmptyOrChosen}
@@ -21,7 +21,7 @@ use Rattle.vr_world.specs.Committed.{has_said, is_chosen, start_log, committed}
 use Rattle.vr_world.specs.Law.{IsSize, TakesPart, IsHeld, MajoritiesHold}
 use Rattle.vr_world.specs.World.{World, after}
 
-module _ {P : Type 0} (n : ℕ) (size : IsSize n) (past : ℕ → List (Entry P)) (w : World P) (inv : Holds n past w) where
+module _ {P : Type 0} (n : ℕ) (size : IsSize n) (past : ℕ → List (LogEntry P)) (w : World P) (inv : Holds n past w) where
   -- what the invariant is told
   abbrev given : Given P
   given = record { used = w.nonces; past = past }

@@ -9,7 +9,7 @@ use Rattle.vr_state.specs.declared.message.Change.{Change}
 use Rattle.vr_state.specs.declared.message.PeerMessage.{PeerMessage}
 use Rattle.vr_state.specs.declared.message.Response.{Response}
 use Rattle.vr_state.specs.declared.message.Snapshot.{Snapshot}
-use Rattle.vr_state.specs.Words.{Entry}
+use Rattle.vr_state.specs.Words.{LogEntry}
 use Rattle.vr_state.specs.declared.words.Status.{Status}
 use Rattle.vr_world.proofs.Listed.{listed}
 use Rattle.vr_world.specs.Committed.{start_log, has_said, is_chosen}
@@ -20,7 +20,7 @@ use Rattle.vr_state.specs.declared.words.Status.TheVariants.{Normal, ViewChange,
 -- what the invariant is told from outside: the nonces that were used, and lists that stay
 pub record Given (P : Type 0) : Type 0 where
   pub used : ℕ → List ℕ
-  pub past : ℕ → List (Entry P)
+  pub past : ℕ → List (LogEntry P)
 
 -- m is one of these messages
 abbrev pub Sent : {P : Type 0} → Message P → List (Message P) → Type 0
@@ -38,14 +38,14 @@ Started v [] = v ≡ 0
 Started v (m ∷ ms) = Starts v m.body ⊎ Started v ms
 
 -- a log of view v: a beginning of its list that has its STARTVIEW's log
-pub record IsLogOf {P : Type 0} (ms : List (Message P)) (v : ℕ) (l : List (Entry P)) : Type 0 where
+pub record IsLogOf {P : Type 0} (ms : List (Message P)) (v : ℕ) (l : List (LogEntry P)) : Type 0 where
   pub started : Started v ms
   pub within : IsPrefix l (listed v ms)
   pub whole : length (start_log v ms) ≤ length l
 
 -- the end of a log of view v, without its first x records
-pub record IsTailOf {P : Type 0} (ms : List (Message P)) (v x : ℕ) (tail : List (Entry P)) : Type 0 where
-  pub log : List (Entry P)
+pub record IsTailOf {P : Type 0} (ms : List (Message P)) (v x : ℕ) (tail : List (LogEntry P)) : Type 0 where
+  pub log : List (LogEntry P)
   pub is_log : IsLogOf ms v log
   pub short : x ≤ length log
   pub is : tail ≡ drop x log
@@ -81,7 +81,7 @@ pub record ChangeFact {P : Type 0} (n : ℕ) (stored : ℕ → ℕ) (ms : List (
   pub covers : Covers n ms j v c.last_normal_view (length c.log)
 
 -- why v may begin with this log
-pub record Justified {P : Type 0} (n : ℕ) (stored : ℕ → ℕ) (ms : List (Message P)) (v : ℕ) (l : List (Entry P)) : Type 0 where
+pub record Justified {P : Type 0} (n : ℕ) (stored : ℕ → ℕ) (ms : List (Message P)) (v : ℕ) (l : List (LogEntry P)) : Type 0 where
   pub view_number : ℕ
   pub before : view_number < v
   pub log : IsLogOf ms view_number l
@@ -101,7 +101,7 @@ HeldAll ms i v None = Unit {0}
 HeldAll ms i v (Some held) = (q : ℕ) → has_said v q i ms ≡ true → q ≤ length held.log
 
 -- what a PREPARE shows
-pub record PrepareFact {P : Type 0} (n : ℕ) (ms : List (Message P)) (v : ℕ) (e : Entry P) (p x : ℕ) : Type 0 where
+pub record PrepareFact {P : Type 0} (n : ℕ) (ms : List (Message P)) (v : ℕ) (e : LogEntry P) (p x : ℕ) : Type 0 where
   pub started : Started v ms
   pub entry : EntryAt e p (listed v ms)
   pub commit_number : IsCommitted n ms v x
@@ -142,20 +142,20 @@ abbrev pub MessageFact : {P : Type 0} → ℕ → (ℕ → ℕ) → Given P → 
 MessageFact n stored given ms m = BodyFact n stored given ms m.from m.to m.body
 
 -- a replica that isn't recovering
-pub record ActiveFact {P : Type 0} (n : ℕ) (ms : List (Message P)) (i view_number last_normal_view : ℕ) (log : List (Entry P)) (commit_number : ℕ) : Type 0 where
+pub record ActiveFact {P : Type 0} (n : ℕ) (ms : List (Message P)) (i view_number last_normal_view : ℕ) (log : List (LogEntry P)) (commit_number : ℕ) : Type 0 where
   pub is_log : IsLogOf ms last_normal_view log
   pub is_com : IsCommitted n ms last_normal_view commit_number
   pub within : commit_number ≤ length log
   pub covers : Covers n ms i (suc view_number) last_normal_view (length log)
 
 -- a normal replica
-pub record NormalFact {P : Type 0} (n : ℕ) (ms : List (Message P)) (i view_number last_normal_view : ℕ) (log : List (Entry P)) (commit_number : ℕ) (acknowledged : List ℕ) : Type 0 where
+pub record NormalFact {P : Type 0} (n : ℕ) (ms : List (Message P)) (i view_number last_normal_view : ℕ) (log : List (LogEntry P)) (commit_number : ℕ) (acknowledged : List ℕ) : Type 0 where
   pub active : ActiveFact n ms i view_number last_normal_view log commit_number
   pub is_last : last_normal_view ≡ view_number
   pub acks : (j : ℕ) → (slice_index acknowledged j ≡ 0) ⊎ (has_said view_number (slice_index acknowledged j) j ms ≡ true)
 
 -- a replica that changes
-pub record ChangingFact {P : Type 0} (n : ℕ) (stored : ℕ → ℕ) (ms : List (Message P)) (i view_number last_normal_view : ℕ) (log : List (Entry P)) (commit_number : ℕ) (do_view_changes : List (ℕ × Change P)) : Type 0 where
+pub record ChangingFact {P : Type 0} (n : ℕ) (stored : ℕ → ℕ) (ms : List (Message P)) (i view_number last_normal_view : ℕ) (log : List (LogEntry P)) (commit_number : ℕ) (do_view_changes : List (ℕ × Change P)) : Type 0 where
   pub active : ActiveFact n ms i view_number last_normal_view log commit_number
   pub before : last_normal_view < view_number
   pub unstarted : primary n view_number ≡ i → Started view_number ms → ⊥
@@ -247,5 +247,5 @@ abbrev pub all_of : {P : Type 0} → ℕ → World P → ℕ → Option (State P
 all_of n w i = or_kept n (w.stored i) (w.replicas i) (w.kept i)
 
 -- the invariant of a world, beside lists that stay: of a replica that is down it says what holds once it goes on
-abbrev pub Holds : {P : Type 0} → ℕ → (ℕ → List (Entry P)) → World P → Type 0
+abbrev pub Holds : {P : Type 0} → ℕ → (ℕ → List (LogEntry P)) → World P → Type 0
 Holds n past w = Invariant n (all_of n w) w.stored (record { used = w.nonces; past = past }) w.messages

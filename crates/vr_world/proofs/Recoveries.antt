@@ -7,7 +7,7 @@ use Rattle.vr_state.specs.Outcome.{send_to, others, to_all}
 use Rattle.vr_state.specs.State.{State, recovering}
 use Rattle.vr_state.specs.declared.message.PeerMessage.{PeerMessage}
 use Rattle.vr_state.specs.declared.message.Send.{Send}
-use Rattle.vr_state.specs.Words.{Entry}
+use Rattle.vr_state.specs.Words.{LogEntry}
 use Rattle.vr_world.proofs.Growth.{sound_grows, replica_grows}
 use Rattle.vr_world.proofs.Invariant.{Given, Sent, BodyFact, AnswersAll, ReplicaFact, Invariant, Grows, IsUsed}
 use Rattle.vr_world.proofs.Moves.{put_rule, put_same, put_other, still_same, grows_same, adds_none}
@@ -18,7 +18,7 @@ use Rattle.vr_state.specs.declared.message.PeerMessage.TheVariants.{Prepare, Pre
 use Rattle.vr_world.proofs.Invariant.{Holds, all_of}
 use Rattle.vr_world.proofs.Resumptions.{all_made}
 
-module _ {P : Type 0} (n : ℕ) (past : ℕ → List (Entry P)) where
+module _ {P : Type 0} (n : ℕ) (past : ℕ → List (LogEntry P)) where
   -- A nonce that wasn't used has no answers.
   pub recover_holds : (w : World P) → Holds n past w → (i x : ℕ) (o : Option (State P)) → Holds n past (recovered n i x o w)
   recover_holds w inv i x (Some r) = inv

@@ -7,7 +7,7 @@ use Rattle.vr_state.specs.Outcome.{Outcome}
 use Rattle.vr_state.specs.State.{State, is_recovering, resuming}
 use Rattle.vr_state.specs.ViewChange.{own_change}
 use Rattle.vr_state.specs.declared.message.Change.{Change}
-use Rattle.vr_state.specs.Words.{Entry}
+use Rattle.vr_state.specs.Words.{LogEntry}
 use Rattle.vr_state.specs.declared.words.Status.{Status}
 use Rattle.vr_state.specs.declared.words.Status.TheVariants.{Normal, ViewChange, Recovering}
 use Rattle.vr_world.proofs.Begin.{replicate_zero}
@@ -30,7 +30,7 @@ all_made {P} n i d w = fun_ext (λ j. go j (j == i))
 
 module _ {P : Type 0} (n : ℕ) (stored : ℕ → ℕ) (given : Given P) (ms : List (Message P)) (i : ℕ) where
   -- fewer are committed
-  fewer : (v last : ℕ) (log : List (Entry P)) (k x : ℕ) → x ≤ k → ActiveFact n ms i v last log k → ActiveFact n ms i v last log x
+  fewer : (v last : ℕ) (log : List (LogEntry P)) (k x : ℕ) → x ≤ k → ActiveFact n ms i v last log k → ActiveFact n ms i v last log x
   fewer v last log k x le h = record { is_log = h.is_log; is_com = com_less n ms last k x le h.is_com; within = omega (arith, h.within, le); covers = h.covers }
 
   -- It goes on normal where it was,
@@ -66,7 +66,7 @@ module _ {P : Type 0} (n : ℕ) (stored : ℕ → ℕ) (given : Given P) (ms : L
       go true h = record { active = fewer v c.last_normal_view c.log (min c.commit_number c.commit_number) (min k c.commit_number) (omega arith) h.active; is_last = h.is_last; acks = h.acks }
       go false h = record { active = fewer v c.last_normal_view c.log (min c.commit_number c.commit_number) (min k c.commit_number) (omega arith) h.active; before = h.before; unstarted = h.unstarted; each = λ j c e. absurd (cc e) }
 
-module _ {P : Type 0} (n : ℕ) (past : ℕ → List (Entry P)) where
+module _ {P : Type 0} (n : ℕ) (past : ℕ → List (LogEntry P)) where
   -- what the invariant is told
   abbrev told : World P → Given P
   told w = record { used = w.nonces; past = past }

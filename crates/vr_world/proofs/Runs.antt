@@ -7,7 +7,7 @@ use Rattle.vr_state.specs.Outcome.{Outcome}
 use Rattle.vr_state.specs.State.{State}
 use Rattle.vr_state.specs.Step.{step, on_message, on_peer_message}
 use Rattle.vr_state.specs.declared.message.PeerMessage.{PeerMessage}
-use Rattle.vr_state.specs.Words.{Entry}
+use Rattle.vr_state.specs.Words.{LogEntry}
 use Rattle.vr_world.proofs.Invariant.{Holds}
 use Rattle.vr_world.proofs.Recoveries.{recover_holds}
 use Rattle.vr_world.proofs.Agreement.{sent_said}
@@ -59,7 +59,7 @@ get_sent (x ∷ ms) (suc k) m e = inr (get_sent ms k m e)
 as_sent : {P : Type 0} (k : ℕ) (ms : List (Message P)) (m : Message P) → sent_as k ms ≡ Some m → Sent m ms
 as_sent {P} k ms m e = by_test (λ (o : Option (Message P)). o ≡ Some m → Sent m ms) (nat_lt 0 k && nat_le k (length ms)) (slice_get ms (length ms - k)) None (λ t f. get_sent ms (length ms - k) m f) (λ t f. absurd (cc f)) e
 
-module _ {P : Type 0} (n : ℕ) (size : IsSize n) (past : ℕ → List (Entry P)) where
+module _ {P : Type 0} (n : ℕ) (size : IsSize n) (past : ℕ → List (LogEntry P)) where
   -- a step keeps the invariant
   step_holds : (w : World P) → Holds n past w → (i : ℕ) (step : State P → Outcome P) → ((r : State P) → all_of n w i ≡ Some r → FineAt n (all_of n w) w.stored (record { used = w.nonces; past = past }) w.messages i (step r)) → (o : Option (State P)) → w.replicas i ≡ o → Holds n past (stepped i step o w)
   step_holds w inv i step h None e = inv

@@ -3,7 +3,7 @@
 use Rattle.std.proofs.Common.{◌≡◌, ℕ, ◌-◌, List, [], ◌∷◌, ◌++◌, length, take, Option, Some, None, refl}
 use Rattle.vr_state.specs.State.{State}
 use Rattle.vr_state.specs.declared.message.PeerMessage.{PeerMessage}
-use Rattle.vr_state.specs.Words.{Entry}
+use Rattle.vr_state.specs.Words.{LogEntry}
 use Rattle.vr_state.specs.declared.words.Status.{Status}
 use Rattle.vr_world.specs.Committed.{committed}
 use Rattle.vr_world.specs.World.{World, WorldEvent, Message, ReplyBy, happens, start, after, sent_as}
@@ -116,7 +116,7 @@ one_journal_lost : printed 3 (start 3) (ask 0 7 1 ∷ DeliverAll (1 ∷ 3 ∷ []
 one_journal_lost = refl
 
 -- a record
-abbrev one : Entry ℕ
+abbrev one : LogEntry ℕ
 one = record { client = record { home = 0; life = 0; number = 7 }; request_number = 1; payload = 5 }
 
 -- The committed list of the first schedule, before and after the acknowledgement.
@@ -127,16 +127,16 @@ committed_after : committed 3 (after 3 (Request 0 one ∷ Deliver 1 ∷ [])).mes
 committed_after = refl
 
 -- The records of the schedule whose tail goes alone.
-abbrev numbered : ℕ → Entry ℕ
+abbrev numbered : ℕ → LogEntry ℕ
 numbered s = record { client = record { home = 0; life = 0; number = 7 }; request_number = s; payload = 5 }
 
 -- what a NEWSTATE holds
-abbrev of_body : PeerMessage ℕ → Option (ℕ × List (Entry ℕ))
+abbrev of_body : PeerMessage ℕ → Option (ℕ × List (LogEntry ℕ))
 of_body (NewState v x tail) = Some (x, tail.log)
 of_body _ = None
 
 -- What a NEWSTATE that was sent holds: how many records come before the tail, and the tail.
-abbrev tail_in : Option (Message ℕ) → Option (ℕ × List (Entry ℕ))
+abbrev tail_in : Option (Message ℕ) → Option (ℕ × List (LogEntry ℕ))
 tail_in (Some m) = of_body m.body
 tail_in None = None
 

@@ -6,7 +6,7 @@ use Rattle.vr_state.specs.Outcome.{Outcome}
 use Rattle.vr_state.specs.State.{State}
 use Rattle.vr_state.specs.Step.{step}
 use Rattle.vr_state.specs.declared.message.Change.{Change}
-use Rattle.vr_state.specs.Words.{Entry}
+use Rattle.vr_state.specs.Words.{LogEntry}
 use Rattle.vr_state.specs.declared.words.Status.{Status}
 use Rattle.vr_world.proofs.Invariant.{StateFact}
 use Rattle.vr_world.proofs.NormalEvents.{up_of}
@@ -21,7 +21,7 @@ use Rattle.vr_state.specs.declared.words.Status.TheVariants.{Normal, ViewChange,
 use Rattle.vr_world.specs.declared.events.WorldEvent.TheVariants.{Request, Deliver, Suspect, Beat, Crash, Recover, Resume}
 
 -- a replica has what it has committed
-within_of : {P : Type 0} (n : ℕ) (past : ℕ → List (Entry P)) (w : World P) → Holds n past w → (i : ℕ) (r : State P) → w.replicas i ≡ Some r → r.commit_number ≤ length r.log
+within_of : {P : Type 0} (n : ℕ) (past : ℕ → List (LogEntry P)) (w : World P) → Holds n past w → (i : ℕ) (r : State P) → w.replicas i ≡ Some r → r.commit_number ≤ length r.log
 within_of {P} n past w inv i r up = go r.status (up_of n (all_of n w) w.stored (record { used = w.nonces; past = past }) w.messages inv i r (there_up n w i r up)).state
   where
     go : (s : Status) → StateFact n w.stored (record { used = w.nonces; past = past }) w.messages i r s → r.commit_number ≤ length r.log

@@ -9,7 +9,7 @@ use Rattle.vr_state.specs.State.{State, primary, first}
 use Rattle.vr_state.specs.Step.{step}
 use Rattle.vr_state.specs.declared.message.Change.{Change}
 use Rattle.vr_state.specs.declared.message.Send.{Send}
-use Rattle.vr_state.specs.Words.{Entry}
+use Rattle.vr_state.specs.Words.{LogEntry}
 use Rattle.vr_state.specs.declared.words.Status.{Status}
 use Rattle.vr_world.proofs.Agreement.{chosen_within, committed_has, longest_is, IsEmptyOrChosen}
 use Rattle.vr_world.proofs.Begin.{replicate_zero}
@@ -63,7 +63,7 @@ start_holds {P} n = record {
     }
 
 -- The lists so far stay.
-lists_stay : {P : Type 0} (n : ℕ) (past : ℕ → List (Entry P)) (w : World P) → Holds n past w → Holds n (λ v. listed v w.messages) w
+lists_stay : {P : Type 0} (n : ℕ) (past : ℕ → List (LogEntry P)) (w : World P) → Holds n past w → Holds n (λ v. listed v w.messages) w
 lists_stay {P} n past w inv = record {
   sound = sound_grows n w.stored old w.messages w.stored new w.messages g (adds_none n w.stored old w.messages w.stored new) (λ v. prefix_refl (listed v w.messages)) inv.sound.rising inv.sound;
   each = λ j. replica_grows n w.stored old w.messages w.stored new w.messages g (adds_none n w.stored old w.messages w.stored new) j (all_of n w j) (still_same n w.messages j) refl (inv.each j);
@@ -141,7 +141,7 @@ pub after_holds : {P : Type 0} (n : ℕ) → IsSize n → (es : List (WorldEvent
 after_holds n size es = run_holds n size (λ v. []) es (start n) (start_holds n)
 
 -- from a world with the invariant on
-pub committed_stays : {P : Type 0} (n : ℕ) → IsSize n → (past : ℕ → List (Entry P)) (w : World P) → Holds n past w → (es : List (WorldEvent P)) → IsPrefix (listed_committed n w.messages) (listed_committed n (run n es w).messages)
+pub committed_stays : {P : Type 0} (n : ℕ) → IsSize n → (past : ℕ → List (LogEntry P)) (w : World P) → Holds n past w → (es : List (WorldEvent P)) → IsPrefix (listed_committed n w.messages) (listed_committed n (run n es w).messages)
 committed_stays {P} n size past w inv es = go (longest_is n w.stored (record { used = w.nonces; past = past }) w.messages w.messages size inv.sound)
   where
     later : World P
@@ -159,7 +159,7 @@ committed_stays {P} n size past w inv es = go (longest_is n w.stored (record { u
         chosen = le-leb _ _ (le_trans (leb-true _ _ c.chosen) (count_le (λ j. has_said c.view_number c.op_number j w.messages) (λ j. has_said c.view_number c.op_number j later.messages) (others n (primary n c.view_number)) (λ j h. said_run n c.view_number c.op_number j es w h)))
 
 -- the first k records of a replica
-pub replica_agrees : {P : Type 0} (n : ℕ) → IsSize n → (past : ℕ → List (Entry P)) (w : World P) → Holds n past w → (i : ℕ) (r : State P) → w.replicas i ≡ Some r → IsPrefix (take r.commit_number r.log) (listed_committed n w.messages)
+pub replica_agrees : {P : Type 0} (n : ℕ) → IsSize n → (past : ℕ → List (LogEntry P)) (w : World P) → Holds n past w → (i : ℕ) (r : State P) → w.replicas i ≡ Some r → IsPrefix (take r.commit_number r.log) (listed_committed n w.messages)
 replica_agrees {P} n size past w inv i r up = go r.status (up_of n (all_of n w) w.stored given w.messages inv i r (there_up n w i r up)).state
   where
     given : Given P

@@ -5,7 +5,7 @@ use Rattle.vr_state.specs.Lists.{IsPrefix, In, Rising, IsNamedIn}
 use Rattle.vr_state.specs.Outcome.{indices, count}
 use Rattle.vr_state.specs.State.{State, is_recovering, resuming}
 use Rattle.vr_state.specs.ViewChange.{own_change}
-use Rattle.vr_state.specs.Words.{Entry}
+use Rattle.vr_state.specs.Words.{LogEntry}
 use Rattle.vr_world.specs.Committed.{IsChosen, committed}
 use Rattle.vr_world.specs.World.{World, ReplyBy, WorldEvent, happens, after}
 use Rattle.vr_world.specs.declared.events.WorldEvent.TheVariants.{Crash, Recover, Resume}
@@ -17,13 +17,13 @@ pub record IsSize (n : ℕ) : Type 0 where
 
 -- Of two chosen lists one is a beginning of the other.
 abbrev pub ChosenAgree : Type 0 → Type 0
-ChosenAgree P = (n : ℕ) → IsSize n → (es : List (WorldEvent P)) (a b : List (Entry P)) →
+ChosenAgree P = (n : ℕ) → IsSize n → (es : List (WorldEvent P)) (a b : List (LogEntry P)) →
     IsChosen n (after n es).messages a → IsChosen n (after n es).messages b → IsPrefix a b ⊎ IsPrefix b a
 
 -- What is committed begins with each chosen list, and is chosen itself unless it is empty.
 abbrev pub CommittedIsLongest : Type 0 → Type 0
 CommittedIsLongest P = (n : ℕ) → IsSize n → (es : List (WorldEvent P)) →
-    ((l : List (Entry P)) → IsChosen n (after n es).messages l → IsPrefix l (committed n (after n es).messages))
+    ((l : List (LogEntry P)) → IsChosen n (after n es).messages l → IsPrefix l (committed n (after n es).messages))
     × ((committed n (after n es).messages ≡ []) ⊎ IsChosen n (after n es).messages (committed n (after n es).messages))
 
 -- What is committed stays so, and only grows.
@@ -78,7 +78,7 @@ pub record TakesPart {P : Type 0} (w : World P) (j : ℕ) : Type 0 where
   pub active : is_recovering replica.status ≡ false
 
 -- Some replica that is up has all of this list at the beginning of its log.
-pub record IsHeld {P : Type 0} (w : World P) (l : List (Entry P)) : Type 0 where
+pub record IsHeld {P : Type 0} (w : World P) (l : List (LogEntry P)) : Type 0 where
   pub index : ℕ
   pub replica : State P
   pub up : w.replicas index ≡ Some replica

@@ -5,7 +5,7 @@ use crate::mark::Mark;
 use crate::world::World;
 use std::alloc::AllocError;
 use vr_state::event::Event;
-use vr_state::words::{Client, Entry, Reply};
+use vr_state::words::{Client, LogEntry, Reply};
 
 /// A client.
 #[derive(Clone, Copy)]
@@ -75,7 +75,7 @@ impl World {
         if self.machines[to].catch_up > 0 {
             return Ok(());
         }
-        let entry = Entry {
+        let entry = LogEntry {
             client: name_of(client),
             request_number: number,
             payload: Mark {

@@ -1,12 +1,12 @@
 //! A directory of items that are made up. Their number flows in, a directory flows out. Searches are not here.
 ghost use Rattle.std.specs.Prelude.{◌+◌, ◌<◌, ◌^◌, IfOk, OnOk};
-ghost use Rattle.dir_search.specs.dir_kept.Stored.{NumbersBelow};
+ghost use Rattle.dir_search.specs.indexed_tree.Stored.{NumbersBelow};
 
 use crate::fault::Fault;
 use dir_search::{AddRequest, Indexes, Name, ResultCode, Schema};
 use dir_store::{Op, Store, Update};
 use schema_reader::built_in_schema;
-use session_talk::Attribute;
+use directory_api::Attribute;
 use std::alloc::{AllocError, Global};
 use std::sync::Arc;
 

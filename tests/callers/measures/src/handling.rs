@@ -5,7 +5,7 @@ ghost use Rattle.std.specs.Prelude.{◌≡◌, ◌<◌, IfOk};
 use crate::fault::Fault;
 use crate::printing::{print_events, print_executed};
 use dir_node::{
-    Client, Cluster, Device, Entry, Event, Handled, Indexes, Name, Node, NodeConfig, NodeError, Op,
+    Client, Cluster, Device, LogEntry, Event, Handled, Indexes, Name, Node, NodeConfig, NodeError, Op,
     PeerMessage,
 };
 use dir_store::Update;
@@ -84,7 +84,7 @@ fn request(op: &Op, number: u64) -> Result<Event<Op>, Fault> {
         life: 1,
         number: number % CLIENTS,
     };
-    let entry = Entry {
+    let entry = LogEntry {
         client,
         request_number: number,
         payload: op.copy()?,

@@ -4,7 +4,7 @@ use ldap_op::{Op, Update};
 use std::alloc::Global;
 use vr_state::log::Log;
 use vr_state::message::{PeerMessage, Snapshot};
-use vr_state::words::{Client, Entry};
+use vr_state::words::{Client, LogEntry};
 
 /// What the records of a log ask.
 #[derive(Clone, Copy, Debug, PartialEq, Eq)]
@@ -34,14 +34,14 @@ fn update(alloc: Global, kind: Kind, number: u32) -> Result<Update, Fault> {
     }
 }
 
-fn entry(alloc: Global, kind: Kind, number: u32) -> Result<Entry<Op>, Fault> {
+fn entry(alloc: Global, kind: Kind, number: u32) -> Result<LogEntry<Op>, Fault> {
     let payload = Op::new(alloc, update(alloc, kind, number)?)?;
     let client = Client {
         home: 1,
         life: 1,
         number: number as u64,
     };
-    Ok(Entry {
+    Ok(LogEntry {
         client,
         request_number: 1,
         payload,

@@ -9,7 +9,7 @@ use vr_recover::{recover, step};
 use vr_state::event::Event;
 use vr_state::message::Outputs;
 use vr_state::replica::Replica;
-use vr_state::words::{Client, Entry, Status};
+use vr_state::words::{Client, LogEntry, Status};
 use vr_wire::{Cluster, read, write};
 
 /// The removal of a name, as an update by itself.
@@ -82,7 +82,7 @@ fn event_of(alloc: Global, given: &Given<'_>) -> Result<Event<Op>, Stop> {
                 number: 7,
             };
             Ok(Event::Request {
-                entry: Entry {
+                entry: LogEntry {
                     client,
                     request_number: *number,
                     payload: again!(read_op(alloc, &octets)),

@@ -1,6 +1,6 @@
 //! Updates of each kind and searches, one after the other, at a directory with indexes. Messages flow in; replies and what is found are printed.
 ghost use Rattle.std.specs.Prelude.{◌+◌, IfOk, OnOk};
-ghost use Rattle.dir_search.specs.dir_kept.Stored.{NumbersBelow};
+ghost use Rattle.dir_search.specs.indexed_tree.Stored.{NumbersBelow};
 
 use crate::again::again;
 use crate::messages::{MESSAGES, octets};

@@ -1,4 +1,4 @@
-use Rattle.ldap_session.specs.session_rules.View.{config_view}
+use Rattle.ldap_session.specs.session_handler.View.{config_view}
 use Rattle.client_link.specs.Served.{HasServedSome}
 use Rattle.client_link.proofs.serving.serve_each.Given as goal
 

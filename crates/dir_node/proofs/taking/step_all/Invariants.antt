@@ -1,7 +1,7 @@
 use Rattle.std.proofs.Common.{◌≡◌, ◌+◌, ◌≤◌, List, ℕ, ◌++◌, length, Result}
 use Rattle.std.specs.Prelude.{vec_capacity}
 use Rattle.std.specs.declared.alloc.AllocError.{AllocError}
-use Rattle.dir_executed.specs.dir_store.ldap_op.Values.{OpValue}
+use Rattle.state_machine.specs.dir_store.ldap_op.Values.{OpValue}
 use Rattle.vr_state.specs.State.{State}
 use Rattle.vr_state.specs.Views.{state}
 use Rattle.vr_state.specs.declared.message.Outputs.{Outputs}

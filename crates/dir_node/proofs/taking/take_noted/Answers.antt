@@ -1,5 +1,5 @@
 use Rattle.std.proofs.Common.{◌≡◌, ℕ, List, [], ◌∷◌, subst, rules}
-use Rattle.dir_executed.specs.dir_store.ldap_op.Values.{OpValue}
+use Rattle.state_machine.specs.dir_store.ldap_op.Values.{OpValue}
 use Rattle.log_journal.specs.journal.Device.{LeavesOnly}
 use Rattle.log_journal.proofs.Along.{crash_before}
 use Rattle.vr_state.specs.Views.{state}

@@ -1,6 +1,6 @@
 use Rattle.std.proofs.Common.{ap}
-use Rattle.dir_kept.specs.ldap_dn.Texts.{name_of_text}
-use Rattle.dir_kept.specs.session_talk.ldap_msg.View.{search_view}
+use Rattle.indexed_tree.specs.ldap_dn.Texts.{name_of_text}
+use Rattle.indexed_tree.specs.directory_api.ldap_msg.View.{search_view}
 use Rattle.dir_search.specs.Answer.{is_subordinate}
 use Rattle.dir_search.proofs.Answered.{no_scope, no_scope_counted}
 use Rattle.dir_search.proofs.searching.search.Goals as goal

@@ -1,10 +1,10 @@
 use Rattle.std.proofs.Common.{◌∙◌, sym, ap, subst}
 use Rattle.std.specs.Prelude.{IfOk}
 use Rattle.std.proofs.lemmas.Result.{IfOk-weaker}
-use Rattle.dir_kept.specs.ldap_schema.Schema.{SchemaModel}
-use Rattle.dir_kept.specs.session_talk.ldap_msg.View.{search_view}
-use Rattle.dir_kept.specs.Directory.{Directory}
-use Rattle.dir_kept.specs.Stored.{directory}
+use Rattle.indexed_tree.specs.ldap_schema.Schema.{SchemaModel}
+use Rattle.indexed_tree.specs.directory_api.ldap_msg.View.{search_view}
+use Rattle.indexed_tree.specs.Directory.{Directory}
+use Rattle.indexed_tree.specs.Stored.{directory}
 use Rattle.dir_search.specs.Counted.{IsCountAtBase}
 use Rattle.dir_search.specs.Evaluated.{IsFewAtBase}
 use Rattle.dir_search.proofs.Answered.{not_root, not_standing, count_root, count_over, count_none}

@@ -1,6 +1,6 @@
 use Rattle.std.proofs.lemmas.Result.{IfOk-weaker}
 use Rattle.ldap_filter.specs.View.{view as filter_view}
-use Rattle.dir_kept.specs.session_talk.ldap_msg.View.{search_view}
+use Rattle.indexed_tree.specs.directory_api.ldap_msg.View.{search_view}
 use Rattle.dir_search.proofs.Answered.{found_among}
 use Rattle.dir_search.proofs.Evaluated.{few_at, count_at}
 use Rattle.dir_search.proofs.Few.{bound_on}

@@ -1,10 +1,10 @@
 use Rattle.std.proofs.Common.{◌∙◌, sym, ap, ℕ, Option}
 use Rattle.std.specs.Option.{option_map}
-use Rattle.dir_kept.specs.ldap_dn.Names.{rdns}
-use Rattle.dir_kept.specs.declared.held.Standing.{Standing}
-use Rattle.dir_kept.specs.Stored.{entered_of}
-use Rattle.dir_kept.proofs.Lookups.{found_own, found_same}
-use Rattle.dir_kept.proofs.Shown.{asked_some}
+use Rattle.indexed_tree.specs.ldap_dn.Names.{rdns}
+use Rattle.indexed_tree.specs.declared.held.Standing.{Standing}
+use Rattle.indexed_tree.specs.Stored.{entered_of}
+use Rattle.indexed_tree.proofs.Lookups.{found_own, found_same}
+use Rattle.indexed_tree.proofs.Shown.{asked_some}
 use Rattle.dir_store.proofs.finding.asked_entry.Goals as goal
 
 -- the entry that is found

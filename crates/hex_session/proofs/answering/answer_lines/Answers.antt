@@ -1,6 +1,6 @@
 use Rattle.std.proofs.Common.{refl}
 use Rattle.std.proofs.lemmas.Result.{err_from_is_err_and}
-use Rattle.ldap_session.specs.session_rules.View.{config_view}
+use Rattle.ldap_session.specs.session_handler.View.{config_view}
 use Rattle.ldap_session.specs.View.{session_view}
 use Rattle.hex_session.specs.declared.answering.Flow.TheVariants.{Goes, Ends}
 use Rattle.hex_session.specs.declared.fault.LineFault.TheVariants.{CannotRead}

@@ -1,4 +1,4 @@
-use Rattle.ldap_session.specs.session_rules.View.{config_view}
+use Rattle.ldap_session.specs.session_handler.View.{config_view}
 use Rattle.ldap_session.specs.View.{session_view}
 use Rattle.hex_session.proofs.Reading.{LinesSoFar}
 use Rattle.hex_session.proofs.answering.answer_lines.Given as goal

@@ -1,5 +1,5 @@
 use Rattle.std.proofs.Common.{Bool, sym, subst, ap, ◌∙◌}
-use Rattle.session_rules.specs.View.{config_view}
+use Rattle.session_handler.specs.View.{config_view}
 use Rattle.ldap_session.specs.Octets.{HasWritten}
 use Rattle.ldap_session.specs.View.{SessionValue, ConversationValue, conversation_view}
 use Rattle.ldap_session.specs.Steps.{HasWorked}

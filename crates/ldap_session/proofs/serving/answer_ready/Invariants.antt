@@ -1,5 +1,5 @@
 use Rattle.std.proofs.Common.{length}
-use Rattle.session_rules.specs.View.{config_view}
+use Rattle.session_handler.specs.View.{config_view}
 use Rattle.ldap_session.specs.View.{conversation_view}
 use Rattle.ldap_session.specs.Steps.{IsAllSent}
 use Rattle.ldap_session.proofs.Worked.{SoFar}

@@ -1,6 +1,6 @@
 use Rattle.std.proofs.Common.{subst}
 use Rattle.std.proofs.KnownBytes.{Consumes-nil}
-use Rattle.session_rules.specs.View.{config_view}
+use Rattle.session_handler.specs.View.{config_view}
 use Rattle.ldap_session.specs.View.{conversation_view}
 use Rattle.ldap_session.specs.Steps.{HasGot}
 use Rattle.ldap_session.specs.declared.serving.Got.{Got}

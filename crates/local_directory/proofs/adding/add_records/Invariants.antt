@@ -1,6 +1,6 @@
 -- LDIF and the directory: what the loop of `add_records` keeps.
 use Rattle.std.proofs.Common.{◌≡◌, ◌+◌, drop}
-use Rattle.dir_store.specs.dir_kept.Stored.{NumbersBelow}
+use Rattle.dir_store.specs.indexed_tree.Stored.{NumbersBelow}
 use Rattle.dir_store.specs.Updates.{directory_after}
 use Rattle.local_directory.specs.Added.{adds, first_refused}
 use Rattle.local_directory.proofs.adding.add_records.Given as goal

@@ -1,6 +1,6 @@
 -- LDIF and the directory: what the loop of `check_records` keeps.
 use Rattle.std.proofs.Common.{◌≡◌, ◌+◌, ◌++◌, drop}
-use Rattle.dir_store.specs.dir_kept.Stored.{NumbersBelow}
+use Rattle.dir_store.specs.indexed_tree.Stored.{NumbersBelow}
 use Rattle.local_directory.specs.Added.{adds}
 use Rattle.local_directory.specs.Checked.{refusals}
 use Rattle.local_directory.proofs.checking.check_records.Given as goal

@@ -1,6 +1,6 @@
 use Rattle.std.proofs.Common.{◌∷◌, [], subst, arith}
 use Rattle.ldap_op.specs.Values.{OpValue}
-use Rattle.vr_state.specs.Words.{Entry}
+use Rattle.vr_state.specs.Words.{LogEntry}
 use Rattle.log_journal.specs.Notes.{Step, Puts}
 use Rattle.vr_state.specs.Journaled.{Record}
 use Rattle.log_journal.proofs.Putting.{none_put, more_put, all_put}
@@ -11,7 +11,7 @@ loop-entry-init c = none_put _
 
 pub loop-entry-preserved : goal.loop-entry-preserved
 loop-entry-preserved c = more_put (λ e. Step (Record c.args.commit_number e)) c.args.entries.now c.loop-entry.entry-index c.entry-item.result _ _ _ (omega arith) c.loop-entry.invariant
-    (subst (λ (e : Entry OpValue). Puts (Step (Record c.args.commit_number e) ∷ []) c.loop-entry.batch c.put_record.new.batch) c.entry-item.is c.in_ok-put_record.ensures.ok)
+    (subst (λ (e : LogEntry OpValue). Puts (Step (Record c.args.commit_number e) ∷ []) c.loop-entry.batch c.put_record.new.batch) c.entry-item.is c.in_ok-put_record.ensures.ok)
 
 pub returns : goal.returns
 returns c = all_put (λ e. Step (Record c.args.commit_number e)) c.args.entries.now c.loop-entry.entry-index _ _ (omega arith) c.loop-entry.invariant

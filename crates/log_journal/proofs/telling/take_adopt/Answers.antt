@@ -1,5 +1,5 @@
 use Rattle.ldap_op.specs.Values.{OpValue}
-use Rattle.vr_state.specs.Words.{Entry}
+use Rattle.vr_state.specs.Words.{LogEntry}
 use Rattle.std.proofs.Common.{List, take, ◌++◌, refl, sym, ap, ◌∙◌, rules}
 use Rattle.log_journal.specs.Notes.{Step}
 use Rattle.log_journal.specs.Views.{fields_view}
@@ -12,5 +12,5 @@ returns c = record {
   note = Step (Adopt c.args.fields.now.first c.args.fields.now.second c.args.fields.now.third c.args.fields.now.fourth);
   is = plain_at (fields_view c.args.fields.now) 5 _ _ _ _ (c.is_plain.ensures (search rules)) c.requires refl refl refl refl;
   told = told_is _ _ refl refl refl refl refl refl
-      (sym (c.in_ok-replace_after.ensures.ok ∙ ap (λ (l : List (Entry OpValue)). take c.args.fields.now.third c.args.told.now.log ++ l) c.replace-staged.ensures.value)) (sym c.max-told.ensures) (sym (c.replace-staged.ensures.after ∙ c.new.ensures)) refl;
+      (sym (c.in_ok-replace_after.ensures.ok ∙ ap (λ (l : List (LogEntry OpValue)). take c.args.fields.now.third c.args.told.now.log ++ l) c.replace-staged.ensures.value)) (sym c.max-told.ensures) (sym (c.replace-staged.ensures.after ∙ c.new.ensures)) refl;
 }

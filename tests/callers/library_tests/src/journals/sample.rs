@@ -9,15 +9,15 @@ use vr_state::event::Event;
 use vr_state::log::Log;
 use vr_state::message::{PeerMessage, Snapshot};
 use vr_state::replica::Replica;
-use vr_state::words::{Client, Entry};
+use vr_state::words::{Client, LogEntry};
 
 /// How many octets the device has.
 const ROOM: usize = 4096;
 
 /// A record: this client's request of this number, a delete.
-pub fn entry(alloc: Global, client: u64, number: u64) -> Result<Entry<Op>, Fail> {
+pub fn entry(alloc: Global, client: u64, number: u64) -> Result<LogEntry<Op>, Fail> {
     let name = format!(in alloc; "cn={client}-{number},dc=example,dc=com")?;
-    Ok(Entry {
+    Ok(LogEntry {
         client: Client {
             home: 1,
             life: 1,

@@ -3,7 +3,7 @@
 
 use crate::nodes::sample::{SEVEN, Log, nine};
 use crate::nodes::telling::{add_word, words_of_event, words_of_outcome, words_of_standing};
-use dir_node::{Device, Entry, Event, Handled, Node, NodeError, Op};
+use dir_node::{Device, LogEntry, Event, Handled, Node, NodeError, Op};
 use ldap_op::read_op;
 use std::alloc::{AllocError, Global};
 use std::process::Abort;
@@ -30,7 +30,7 @@ pub type Row = (Given, &'static [&'static str]);
 /// A request of client 7.
 fn request(alloc: Global, request_number: u64, text: &str) -> Result<Event<Op>, Fail> {
     let octets = hex::decode(alloc, text)?;
-    let entry = Entry {
+    let entry = LogEntry {
         client: SEVEN,
         request_number,
         payload: read_op(alloc, &octets)?,

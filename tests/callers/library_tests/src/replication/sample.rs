@@ -7,7 +7,7 @@ use std::marker::Model;
 use vr_state::log::Log;
 use vr_state::message::{Outputs, PeerMessage, Send, Snapshot};
 use vr_state::payload::Payload;
-use vr_state::words::{Client, Entry};
+use vr_state::words::{Client, LogEntry};
 
 /// What the records of these tests ask for: some octets, in memory of their own.
 #[derive(Drop)]
@@ -68,9 +68,9 @@ pub fn record(
     client: Client,
     request_number: u64,
     octets: &[u8],
-) -> Result<Entry<Text>, AllocError> {
+) -> Result<LogEntry<Text>, AllocError> {
     let octets = Vec::from_slice(alloc, octets)?;
-    Ok(Entry {
+    Ok(LogEntry {
         client,
         request_number,
         payload: Text { octets },
@@ -89,7 +89,7 @@ pub fn held(alloc: Global) -> Result<Snapshot<Text>, AllocError> {
 }
 
 /// A record in numbers: home, life and number of its client, its request number, its octets.
-fn add_record(numbers: &mut Vec<u64>, entry: &Entry<Text>) -> Result<(), AllocError> {
+fn add_record(numbers: &mut Vec<u64>, entry: &LogEntry<Text>) -> Result<(), AllocError> {
     let client = entry.client;
     numbers.extend_from_slice(&[
         client.home as u64,
@@ -116,7 +116,7 @@ fn add_log(numbers: &mut Vec<u64>, log: &Log<Text>) -> Result<(), AllocError> {
 fn with_record(
     alloc: Global,
     first: &[u64],
-    entry: &Entry<Text>,
+    entry: &LogEntry<Text>,
     last: &[u64],
 ) -> Result<Vec<u64>, AllocError> {
     let mut all = Vec::from_slice(alloc, first)?;

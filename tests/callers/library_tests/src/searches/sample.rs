@@ -1,11 +1,11 @@
 //! A directory of the sample's entries under an index choice. The text of a choice flows in, a directory flows out. No expectation is here.
 ghost use Rattle.std.specs.Prelude.{◌+◌, IfOk, OnOk};
-ghost use Rattle.dir_search.specs.dir_kept.Stored.{NumbersBelow};
+ghost use Rattle.dir_search.specs.indexed_tree.Stored.{NumbersBelow};
 
 use dir_search::{AddRequest, Indexes, Name, ResultCode};
 use dir_store::{Op, Store, Update};
 use schema_reader::built_in_schema;
-use session_talk::Attribute;
+use directory_api::Attribute;
 use std::alloc::{AllocError, Global};
 use std::process::Abort;
 use std::sync::Arc;

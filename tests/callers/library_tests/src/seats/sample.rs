@@ -1,5 +1,5 @@
 //! Nodes of a test: updates as records of a log, what is executed of it, and a publisher with seats. No expectation is here.
-use dir_seats::{Client, Entry, Executed, Indexes, Name, Op, Publisher, Seat, Store, seats};
+use dir_seats::{Client, LogEntry, Executed, Indexes, Name, Op, Publisher, Seat, Store, seats};
 use ldap_op::{AddRequest, Change, ModifyOperation, ModifyRequest, PartialAttribute, Update};
 use schema_reader::built_in_schema;
 use std::alloc::{AllocError, Global};
@@ -68,13 +68,13 @@ fn attribute(
 }
 
 /// The record of an update, which is its client's request of this number.
-fn record(alloc: Global, number: u64, update: Update) -> Result<Entry<Op>, AllocError> {
+fn record(alloc: Global, number: u64, update: Update) -> Result<LogEntry<Op>, AllocError> {
     let client = Client {
         home: 0,
         life: 0,
         number: 7,
     };
-    Ok(Entry {
+    Ok(LogEntry {
         client,
         request_number: number,
         payload: Op::new(alloc, update)?,
@@ -82,7 +82,7 @@ fn record(alloc: Global, number: u64, update: Update) -> Result<Entry<Op>, Alloc
 }
 
 /// The record of an add.
-pub fn add(alloc: Global, number: u64, given: &Given) -> Result<Entry<Op>, AllocError> {
+pub fn add(alloc: Global, number: u64, given: &Given) -> Result<LogEntry<Op>, AllocError> {
     let mut attributes = Vec::new(alloc);
     for (description, value) in given.attributes {
         attributes.push(attribute(alloc, description, value)?)?;
@@ -92,7 +92,7 @@ pub fn add(alloc: Global, number: u64, given: &Given) -> Result<Entry<Op>, Alloc
 }
 
 /// The record of a modify that gives the entry of a name this rank.
-pub fn rank(alloc: Global, number: u64, name: &str, value: &str) -> Result<Entry<Op>, AllocError> {
+pub fn rank(alloc: Global, number: u64, name: &str, value: &str) -> Result<LogEntry<Op>, AllocError> {
     let change = Change {
         operation: ModifyOperation::Replace,
         modification: attribute(alloc, "rank", value)?,
@@ -109,7 +109,7 @@ pub fn rank(alloc: Global, number: u64, name: &str, value: &str) -> Result<Entry
 
 /// A node of a test: its log, what is executed of it, and its publisher.
 pub struct Played<'a, R: Wait> {
-    log: Vec<Entry<Op>>,
+    log: Vec<LogEntry<Op>>,
     executed: Executed,
     pub publisher: Publisher<Node, &'a R>,
 }
@@ -126,7 +126,7 @@ impl<'a, R: Wait> Drop for Played<'a, R> {
 
 impl<'a, R: Wait> Played<'a, R> {
     /// Executes one more record, and appends what then is executed; whether that was done.
-    pub fn append(&mut self, alloc: Global, record: Entry<Op>) -> Result<bool, AllocError> {
+    pub fn append(&mut self, alloc: Global, record: LogEntry<Op>) -> Result<bool, AllocError> {
         self.log.push(record)?;
         let count = self.log.len() as u64;
         self.executed.advance(alloc, self.log.as_slice(), count)?;
@@ -134,7 +134,7 @@ impl<'a, R: Wait> Played<'a, R> {
     }
 
     /// Appends one more record and publishes it; whether both were done.
-    pub fn publish(&mut self, alloc: Global, record: Entry<Op>) -> Result<bool, AllocError> {
+    pub fn publish(&mut self, alloc: Global, record: LogEntry<Op>) -> Result<bool, AllocError> {
         Ok(self.append(alloc, record)? && self.publisher.publish().is_ok())
     }
 

@@ -94,7 +94,7 @@ impl Look for Reads {
 
 impl Gate<u64> for Updates {
     ghost use Rattle.std.specs.Prelude.{◌≡◌, ◌+◌, min};
-    ghost use Rattle.ldap_session.specs.session_talk.Counting.{updates_of, greatest_count};
+    ghost use Rattle.ldap_session.specs.directory_api.Counting.{updates_of, greatest_count};
 
     ghost allows = { λ d x e. e.asked ≡ min (d.asked + updates_of x) greatest_count };
 

@@ -1,12 +1,12 @@
 //! Clients that misbehave, over this machine's loopback: silent ones, ones that stop inside a message, a crowd, and one that goes while its update
-//! waits. That a bind is answered, that a connection is closed, and what the hall tells of its sessions is looked at.
+//! waits. That a bind is answered, that a connection is closed, and what the pool tells of its sessions is looked at.
 
 use crate::threads::sessions::directory;
 use crate::threads::signal::Signal;
 use client_link::{Door, Limits, SessionEnd, close};
 use ldap_session::{Config, Name};
 use schema_reader::built_in_schema;
-use session_hall::{Away, Hall, Tells, Terms, serve_sessions};
+use session_pool::{Away, SessionPool, Tells, Terms, serve_sessions};
 use std::alloc::Global;
 use std::io::{Read, Write};
 use std::net::{Net, SocketAddr, TcpListener, TcpStream};
@@ -41,7 +41,7 @@ fn limits(message: u64) -> Limits {
     }
 }
 
-/// Counts what a hall tells.
+/// Counts what a pool tells.
 #[derive(Drop)]
 struct Counts<'a, R> {
     rt: &'a R,
@@ -114,8 +114,8 @@ fn run<'a, R: Net<Listener = TcpListener, Stream = TcpStream> + Threads + Wait +
     }
     let mut updates = Vec::new(alloc);
     updates.push((0, directory(rt, &counts.left)))?;
-    let hall = Hall::new(rt, alloc, door, counts, terms)?;
-    serve_sessions(&hall, listener, seats, updates)?;
+    let pool = SessionPool::new(rt, alloc, door, counts, terms)?;
+    serve_sessions(&pool, listener, seats, updates)?;
     Ok(())
 }
 

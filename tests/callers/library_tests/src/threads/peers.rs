@@ -9,7 +9,7 @@ use ldap_session::{Config, Name};
 use replica_greeting::{Terms, greeting};
 use schema_reader::built_in_schema;
 use server_threads::{
-    Address, Choices, Engine, Figures, Logs, Place, Role, Rooms, Server, ServerError, make_rooms,
+    Address, Choices, Engine, Figures, Logs, Place, Role, SharedParts, Server, ServerError, make_rooms,
 };
 use std::alloc::Global;
 use std::io::{self, ErrorKind, Read, Write};
@@ -125,7 +125,7 @@ fn places() -> [Place<'static>; 2] {
 fn run<R: Net<Listener = TcpListener, Stream = TcpStream> + Threads + Wait + Clock + Print + Eprint + Sync>(
     rt: &R,
     alloc: Global,
-    rooms: &Rooms,
+    shared_parts: &SharedParts,
     ear: &Ear<'_, R>,
     cluster: Cluster,
 ) -> Result<(), Fail> {
@@ -144,7 +144,7 @@ fn run<R: Net<Listener = TcpListener, Stream = TcpStream> + Threads + Wait + Clo
     let server = Server {
         rt,
         alloc,
-        rooms,
+        shared_parts,
         engine: ear,
         cluster,
         places: &places(),
@@ -236,13 +236,13 @@ fn longest_wrong<R: Net<Stream = TcpStream> + Clock>(
 #[test]
 fn silent_strangers_keep_no_replica_out(rt: HostRuntime) -> Result<(), Fail> {
     let cluster = Cluster::new(9).expect(&rt, "9 is the number of a cluster");
-    let rooms = make_rooms(&rt, rt.alloc(), &places(), 0, choices())?;
-    let at = rooms.peers.local_addr()?;
+    let shared_parts = make_rooms(&rt, rt.alloc(), &places(), 0, choices())?;
+    let at = shared_parts.peers.local_addr()?;
     let ear = new_ear(&rt, rt.alloc());
     let octets = greeting_and_commit(rt.alloc(), cluster, &terms(None))?;
     let (ended, waited) = thread::join(
         &rt,
-        || run(&rt, rt.alloc(), &rooms, &ear, cluster),
+        || run(&rt, rt.alloc(), &shared_parts, &ear, cluster),
         || and_stop(&ear, heard_among(&rt, rt.alloc(), at, 100, &ear, &octets)),
     );
     ended?;
@@ -255,12 +255,12 @@ fn silent_strangers_keep_no_replica_out(rt: HostRuntime) -> Result<(), Fail> {
 #[test]
 fn a_silent_stranger_is_closed_after_two_seconds(rt: HostRuntime) -> Result<(), Fail> {
     let cluster = Cluster::new(9).expect(&rt, "9 is the number of a cluster");
-    let rooms = make_rooms(&rt, rt.alloc(), &places(), 0, choices())?;
-    let at = rooms.peers.local_addr()?;
+    let shared_parts = make_rooms(&rt, rt.alloc(), &places(), 0, choices())?;
+    let at = shared_parts.peers.local_addr()?;
     let ear = new_ear(&rt, rt.alloc());
     let (ended, (none, begun)) = thread::join(
         &rt,
-        || run(&rt, rt.alloc(), &rooms, &ear, cluster),
+        || run(&rt, rt.alloc(), &shared_parts, &ear, cluster),
         || {
             let none = open_for(&rt, at, b"");
             let begun = open_for(&rt, at, &BEGUN);
@@ -277,12 +277,12 @@ fn a_silent_stranger_is_closed_after_two_seconds(rt: HostRuntime) -> Result<(), 
 #[test]
 fn wrong_beginnings_are_refused_at_once(rt: HostRuntime) -> Result<(), Fail> {
     let cluster = Cluster::new(9).expect(&rt, "9 is the number of a cluster");
-    let rooms = make_rooms(&rt, rt.alloc(), &places(), 0, choices())?;
-    let at = rooms.peers.local_addr()?;
+    let shared_parts = make_rooms(&rt, rt.alloc(), &places(), 0, choices())?;
+    let at = shared_parts.peers.local_addr()?;
     let ear = new_ear(&rt, rt.alloc());
     let (ended, longest) = thread::join(
         &rt,
-        || run(&rt, rt.alloc(), &rooms, &ear, cluster),
+        || run(&rt, rt.alloc(), &shared_parts, &ear, cluster),
         || and_stop(&ear, longest_wrong(&rt, rt.alloc(), at)),
     );
     ended?;
@@ -295,13 +295,13 @@ fn wrong_beginnings_are_refused_at_once(rt: HostRuntime) -> Result<(), Fail> {
 #[test]
 fn a_replica_with_another_schema_is_not_heard(rt: HostRuntime) -> Result<(), Fail> {
     let cluster = Cluster::new(9).expect(&rt, "9 is the number of a cluster");
-    let rooms = make_rooms(&rt, rt.alloc(), &places(), 0, choices())?;
-    let at = rooms.peers.local_addr()?;
+    let shared_parts = make_rooms(&rt, rt.alloc(), &places(), 0, choices())?;
+    let at = shared_parts.peers.local_addr()?;
     let ear = new_ear(&rt, rt.alloc());
     let octets = greeting_and_commit(rt.alloc(), cluster, &terms(Some("a schema")))?;
     let (ended, open) = thread::join(
         &rt,
-        || run(&rt, rt.alloc(), &rooms, &ear, cluster),
+        || run(&rt, rt.alloc(), &shared_parts, &ear, cluster),
         || and_stop(&ear, open_for(&rt, at, &octets)),
     );
     ended?;

@@ -13,7 +13,7 @@ use std::thread;
 use std::time::{Clock, Duration};
 use vr_state::log::Log;
 use vr_state::message::Snapshot;
-use vr_state::words::{Client, Entry};
+use vr_state::words::{Client, LogEntry};
 use vr_wire::{Cluster, Op, PeerMessage};
 
 /// Keeps what it writes, and waits inside each write until it is let go.
@@ -102,7 +102,7 @@ fn of_six(alloc: Global) -> Result<PeerMessage<Op>, AllocError> {
             life: 0,
             number,
         };
-        log.push(Entry {
+        log.push(LogEntry {
             client,
             request_number: 1,
             payload: removal.copy()?,

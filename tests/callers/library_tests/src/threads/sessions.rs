@@ -66,7 +66,7 @@ pub struct Holding<'a, R> {
 
 impl<'a, R: Wait + Clock> Gate<()> for Holding<'a, R> {
     ghost use Rattle.std.specs.Prelude.{◌≡◌, ◌+◌, min};
-    ghost use Rattle.client_link.specs.session_talk.Counting.{updates_of, greatest_count};
+    ghost use Rattle.client_link.specs.directory_api.Counting.{updates_of, greatest_count};
 
     ghost allows = { λ d x e. e.asked ≡ min (d.asked + updates_of x) greatest_count };
 

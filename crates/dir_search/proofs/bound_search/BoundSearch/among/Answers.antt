@@ -1,8 +1,8 @@
 use Rattle.std.proofs.Common.{subst, sym, List, ℕ}
 use Rattle.std.specs.Prelude.{IfOk}
 use Rattle.std.proofs.lemmas.Result.{IfOk-weaker}
-use Rattle.dir_kept.specs.session_talk.ldap_msg.View.{search_view}
-use Rattle.dir_kept.specs.Listed.{lists_of}
+use Rattle.indexed_tree.specs.directory_api.ldap_msg.View.{search_view}
+use Rattle.indexed_tree.specs.Listed.{lists_of}
 use Rattle.search_plans.specs.Sets.{is_in}
 use Rattle.search_plans.specs.Runs.{is_open}
 use Rattle.dir_search.specs.Looks.{AreHere}

@@ -1,5 +1,5 @@
 -- In each scope the numbers are those of the definition.
-use Rattle.dir_kept.specs.session_talk.ldap_msg.ldap_requests.declared.search.Scope.TheVariants.{BaseObject, SingleLevel, WholeSubtree, SubordinateSubtree}
+use Rattle.indexed_tree.specs.directory_api.ldap_msg.ldap_requests.declared.search.Scope.TheVariants.{BaseObject, SingleLevel, WholeSubtree, SubordinateSubtree}
 use Rattle.dir_search.proofs.Answered.{among_same, among_scope}
 use Rattle.dir_search.proofs.Scoped.{numbers_nowhere}
 use Rattle.dir_search.proofs.bound_search.BoundSearch.in_scope.Goals as goal

@@ -1,5 +1,5 @@
 use Rattle.std.proofs.Common.{sym, ◌∙◌}
-use Rattle.dir_kept.specs.ldap_dn.Names.{rdns}
+use Rattle.indexed_tree.specs.ldap_dn.Names.{rdns}
 use Rattle.dir_search.proofs.Answered.{among_same}
 use Rattle.dir_search.proofs.Scoped.{level_root, stands_found}
 use Rattle.dir_search.proofs.bound_search.BoundSearch.level.Goals as goal

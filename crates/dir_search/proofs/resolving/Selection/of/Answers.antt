@@ -2,7 +2,7 @@ use Rattle.std.proofs.Common.{ℕ, List, ap, length}
 use Rattle.std.specs.List.{list_any}
 use Rattle.std.specs.Ordering.{nat_cmp}
 use Rattle.std.specs.BTreeMap.{is_at}
-use Rattle.dir_kept.specs.ldap_schema.Schema.{superiors}
+use Rattle.indexed_tree.specs.ldap_schema.Schema.{superiors}
 use Rattle.dir_search.specs.Resolved.{is_held, is_none}
 use Rattle.dir_search.proofs.Resolved.{nothing_yet}
 use Rattle.dir_search.proofs.resolving.Selection.of.Goals as goal

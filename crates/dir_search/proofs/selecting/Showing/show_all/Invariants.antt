@@ -1,6 +1,6 @@
 use Rattle.std.proofs.Common.{◌≡◌, map, filter, take, string_bytes}
-use Rattle.dir_kept.specs.dir_entry.Entry.{shown as without_keys}
-use Rattle.dir_kept.specs.session_talk.ldap_msg.View.{attribute_view}
+use Rattle.indexed_tree.specs.dir_entry.Entry.{shown as without_keys}
+use Rattle.indexed_tree.specs.directory_api.ldap_msg.View.{attribute_view}
 use Rattle.dir_search.specs.Selection.{is_selected, shown}
 use Rattle.dir_search.proofs.selecting.Showing.show_all.Given as goal
 

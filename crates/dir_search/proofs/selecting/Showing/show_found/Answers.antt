@@ -1,9 +1,9 @@
 use Rattle.std.proofs.Common.{◌∙◌, refl, sym, ap, subst, List, ℕ, length, map, string_bytes}
 use Rattle.std.proofs.lemmas.List.{length-map}
-use Rattle.dir_kept.specs.session_talk.ldap_msg.Messages.{SearchResultEntryValue}
-use Rattle.dir_kept.specs.session_talk.ldap_msg.View.{entry_view}
-use Rattle.dir_kept.specs.Directory.{NamedEntry}
-use Rattle.dir_kept.specs.session_talk.ldap_msg.ldap_responses.declared.entry.SearchResultEntry.{SearchResultEntry}
+use Rattle.indexed_tree.specs.directory_api.ldap_msg.Messages.{SearchResultEntryValue}
+use Rattle.indexed_tree.specs.directory_api.ldap_msg.View.{entry_view}
+use Rattle.indexed_tree.specs.Directory.{NamedEntry}
+use Rattle.indexed_tree.specs.directory_api.ldap_msg.ldap_responses.declared.entry.SearchResultEntry.{SearchResultEntry}
 use Rattle.dir_search.specs.Selection.{selected}
 use Rattle.dir_search.proofs.Limits.{SoFar, begins, shows}
 use Rattle.dir_search.proofs.Shown.{cut_short, all_shown}

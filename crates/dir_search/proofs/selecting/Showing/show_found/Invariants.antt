@@ -1,5 +1,5 @@
 use Rattle.std.proofs.Common.{◌≡◌, length, map, string_bytes}
-use Rattle.dir_kept.specs.session_talk.ldap_msg.View.{entry_view}
+use Rattle.indexed_tree.specs.directory_api.ldap_msg.View.{entry_view}
 use Rattle.dir_search.specs.Selection.{selected}
 use Rattle.dir_search.proofs.Limits.{SoFar}
 use Rattle.dir_search.proofs.selecting.Showing.show_found.Given as goal

@@ -1,8 +1,8 @@
 use Rattle.std.proofs.Common.{◌≡◌, sym, subst, List, Some}
 use Rattle.std.specs.Option.{option_map}
-use Rattle.dir_kept.specs.ldap_dn.Names.{RdnModel, rdns}
-use Rattle.dir_kept.specs.dir_tree.Directory.{Entered, find}
-use Rattle.dir_kept.specs.Stored.{entered_of}
+use Rattle.indexed_tree.specs.ldap_dn.Names.{RdnModel, rdns}
+use Rattle.indexed_tree.specs.dir_tree.Directory.{Entered, find}
+use Rattle.indexed_tree.specs.Stored.{entered_of}
 use Rattle.dir_store.proofs.Spelled.{parent_spelled}
 use Rattle.dir_store.proofs.renaming.Move.superior_name.Goals as goal
 

@@ -1,6 +1,6 @@
 use Rattle.std.proofs.Common.{ap}
 use Rattle.entry_updates.specs.ldap_op.View.{update_view}
-use Rattle.dir_kept.specs.Listed.{StoreModel}
+use Rattle.indexed_tree.specs.Listed.{StoreModel}
 use Rattle.dir_store.proofs.Below.{below_updated, below_kept, whatever_reply}
 use Rattle.dir_store.proofs.store.Store.apply.Goals as goal
 

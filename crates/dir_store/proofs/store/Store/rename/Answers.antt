@@ -1,16 +1,16 @@
 use Rattle.std.proofs.Common.{◌≡◌, ◌∙◌, ap, sym, List, Result, Ok, map}
 use Rattle.std.specs.Arc.{arc_value}
-use Rattle.dir_kept.specs.ldap_dn.Names.{rdns}
+use Rattle.indexed_tree.specs.ldap_dn.Names.{rdns}
 use Rattle.entry_updates.specs.ldap_updates.View.{modify_dn_view}
-use Rattle.dir_kept.specs.dir_entry.Entry.{attributes_of}
-use Rattle.dir_kept.specs.dir_tree.Directory as tree
-use Rattle.dir_kept.specs.dir_tree.Placed.{name_placed}
-use Rattle.dir_kept.specs.session_talk.Answers.{ReplyModel}
-use Rattle.dir_kept.specs.Directory.{NamedEntry}
-use Rattle.dir_kept.specs.Listed.{IndexedModel}
-use Rattle.dir_kept.specs.Places.{moved}
-use Rattle.dir_kept.specs.Replies.{then}
-use Rattle.dir_kept.specs.Stored.{named, directory}
+use Rattle.indexed_tree.specs.dir_entry.Entry.{attributes_of}
+use Rattle.indexed_tree.specs.dir_tree.Directory as tree
+use Rattle.indexed_tree.specs.dir_tree.Placed.{name_placed}
+use Rattle.indexed_tree.specs.directory_api.Answers.{ReplyModel}
+use Rattle.indexed_tree.specs.Directory.{NamedEntry}
+use Rattle.indexed_tree.specs.Listed.{IndexedModel}
+use Rattle.indexed_tree.specs.Places.{moved}
+use Rattle.indexed_tree.specs.Replies.{then}
+use Rattle.indexed_tree.specs.Stored.{named, directory}
 use Rattle.dir_store.specs.Updates.{MoveModel, renamed_all}
 use Rattle.dir_store.proofs.Spelled.{moved_placed}
 use Rattle.dir_store.proofs.store.Store.rename.Goals as goal

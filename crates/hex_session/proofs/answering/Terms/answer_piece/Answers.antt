@@ -1,4 +1,4 @@
-use Rattle.ldap_session.specs.session_rules.View.{config_view}
+use Rattle.ldap_session.specs.session_handler.View.{config_view}
 use Rattle.ldap_session.specs.View.{session_view}
 use Rattle.hex_session.proofs.Worked.{fed_if, not_flushed_if, fed_failed, not_fed}
 use Rattle.hex_session.proofs.answering.Terms.answer_piece.Goals as goal

@@ -1,5 +1,5 @@
-use Rattle.ldap_session.specs.session_rules.View.{config_view}
-use Rattle.ldap_session.specs.session_rules.declared.answered.Next.TheVariants.{GoesOn, Unbound, Disconnected}
+use Rattle.ldap_session.specs.session_handler.View.{config_view}
+use Rattle.ldap_session.specs.session_handler.declared.answered.Next.TheVariants.{GoesOn, Unbound, Disconnected}
 use Rattle.ldap_session.specs.View.{session_view}
 use Rattle.ldap_session.proofs.Progressed.{goes_apart, goes_apart_too}
 use Rattle.hex_session.proofs.Worked.{answered_some, put_as, more_answered, last_answered, not_put, not_answered}

@@ -1,4 +1,4 @@
-use Rattle.session_rules.specs.View.{config_view}
+use Rattle.session_handler.specs.View.{config_view}
 use Rattle.ldap_session.specs.View.{conversation_view}
 use Rattle.ldap_session.proofs.Conversed.{continues}
 use Rattle.ldap_session.proofs.conversation.Conversation.answer.Goals as goal

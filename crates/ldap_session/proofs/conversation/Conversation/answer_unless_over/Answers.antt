@@ -1,7 +1,7 @@
 use Rattle.std.proofs.Common.{Option, Result, Ok, subst, ap, ◌∙◌}
-use Rattle.session_rules.specs.View.{config_view}
-use Rattle.session_rules.specs.declared.answered.Answered.{Answered}
-use Rattle.session_rules.specs.message_rules.declared.fault.AnswerError.{AnswerError}
+use Rattle.session_handler.specs.View.{config_view}
+use Rattle.session_handler.specs.declared.answered.Answered.{Answered}
+use Rattle.session_handler.specs.request_checks.declared.fault.AnswerError.{AnswerError}
 use Rattle.ldap_session.specs.View.{session_view, conversation_view}
 use Rattle.ldap_session.specs.Progress.{Answers}
 use Rattle.ldap_session.proofs.Kept.{kept_step}

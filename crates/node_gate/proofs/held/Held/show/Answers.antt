@@ -1,5 +1,5 @@
 use Rattle.std.proofs.Common.{sym, subst}
-use Rattle.dir_node.specs.dir_executed.Executing.{ExecutedValue}
+use Rattle.dir_node.specs.state_machine.Executing.{ExecutedValue}
 use Rattle.dir_seats.specs.Lists.{IsBeginning, with_records}
 use Rattle.node_gate.proofs.Given.{given_begins}
 use Rattle.node_gate.proofs.held.Held.show.Goals as goal

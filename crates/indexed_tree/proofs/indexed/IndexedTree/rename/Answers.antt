@@ -1,0 +1,19 @@
+use Rattle.std.proofs.Common.{refl, ap, subst, ◌∙◌, List}
+use Rattle.dir_tree.specs.dir_entry.Entry.{KeyedAttribute}
+use Rattle.dir_tree.specs.ldap_dn.Names.{rdns}
+use Rattle.dir_index.specs.Whole.{AreOf}
+use Rattle.dir_tree.specs.Directory.{TreeModel, replaced}
+use Rattle.dir_tree.specs.Placed.{name_placed}
+use Rattle.indexed_tree.specs.Listed.{listed_of}
+use Rattle.indexed_tree.proofs.Listed.{of_same, moved_replaced}
+use Rattle.indexed_tree.proofs.indexed.IndexedTree.rename.Goals as goal
+
+pub invariant_of-self-2 : goal.invariant_of-self-2
+invariant_of-self-2 c =
+    let p = c.in_ok-postings.postings in
+    let d = c.self.inside.tree.entries in
+    let k = c.args.number in
+    let a = c.args.new_entry in
+    of_same p p (listed_of c.rename.new.self.entries) (listed_of (replaced k a d)) refl
+    (ap (λ (t : TreeModel). listed_of t.entries) c.in_ok-rename.ensures.ok ∙ moved_replaced (rdns c.args.name.now) (name_placed (rdns c.self.inside.tree.suffix) c.args.new_name d) a k d c.is_directory.ensures.rise c.is_directory.ensures.differ (rw (← c.self.view_is) at c.requires.here))
+    (subst (λ (x : List KeyedAttribute). AreOf p (listed_of (replaced k x d))) c.deref.ensures c.in_ok-postings.ensures.lists)

@@ -1,0 +1,167 @@
+//! A tree and the posting lists of its entries, which change together. Entries flow in; they, and the numbers that an
+//! index lists, flow out. What an update checks is not here.
+ghost use Rattle.std.specs.Prelude.{◌≡◌, ◌++◌, ◌∷◌, [], false, true, Some, IfOk, OnOk, OnErr, is_some};
+ghost use Rattle.std.specs.Option.{option_map};
+ghost use Rattle.dir_tree.specs.ldap_dn.Names.{rdns};
+ghost use Rattle.dir_tree.specs.Directory.{AllBelow, name_eq, begins, find, above, has_below, has_footing, unnumbered, replaced, moved};
+ghost use Rattle.dir_tree.specs.Placed.{name_placed};
+ghost use Rattle.dir_index.specs.Postings.{postings_of};
+ghost use Rattle.dir_index.specs.Whole.{AreOf};
+ghost use Rattle.indexed_tree.specs.Listed.{listed_of};
+
+use crate::listing::{listed_more, relisted, unlisted};
+use dir_index::{Indexes, Kept, NumberSet, Posting, Postings, Range, has_in_range};
+use dir_tree::{Name, Rdn, SharedEntry, Tree};
+use std::alloc::{AllocError, Global};
+use std::marker::Model;
+
+/// A tree and the posting lists of its entries. The lists are those of the entries at each moment between calls; an
+/// update looks up what lists the entry, as it was and as it is, and nothing else.
+pub struct IndexedTree {
+    tree: Tree,
+    postings: Postings,
+}
+
+// Not derived: see "What the gate takes" in docs/ARCHITECTURE.md.
+impl Drop for IndexedTree {
+    fn drop(self) {
+        let IndexedTree {
+            tree: _,
+            postings: _,
+        } = self;
+    }
+}
+
+impl Model for IndexedTree {
+    ghost use Rattle.dir_index.specs.Whole.{AreOf};
+    ghost use Rattle.indexed_tree.specs.Listed.{IndexedModel, listed_of};
+
+    ghost Value = { IndexedModel };
+
+    ghost view = { λ t. record { indexes = t.postings.indexes; tree = t.tree } };
+
+    ghost invariant = { λ t. AreOf t.postings (listed_of t.tree.entries) };
+}
+
+impl IndexedTree {
+    /// A tree without entries, whose root is to have this name.
+    pub fn new(alloc: Global, indexes: Indexes, suffix: Name) -> IndexedTree
+        ensures { result ≡ record { indexes = indexes; tree = record { suffix = suffix; entries = [] } } }
+    {
+        IndexedTree {
+            tree: Tree::new(alloc, suffix),
+            postings: Postings::new(alloc, indexes),
+        }
+    }
+
+    /// A second owner of the same entries and lists: a few second owners, whatever the size.
+    pub fn share(&self) -> Result<IndexedTree, AllocError>
+        ensures { IfOk result (λ t. t ≡ self.now) }
+    {
+        let tree = self.tree.share()?;
+        let postings = self.postings.share()?;
+        Ok(IndexedTree { tree, postings })
+    }
+
+    /// The tree.
+    pub fn tree(&self) -> &Tree
+        ensures { result.now ≡ self.now.tree }
+    {
+        &self.tree
+    }
+
+    /// The index choice under which the entries are listed.
+    pub fn indexes(&self) -> &Indexes
+        ensures { result.now ≡ self.now.indexes }
+    {
+        self.postings.indexes()
+    }
+
+    /// Puts an entry at the end, its name spelled as its superior's is. An `Err` changes nothing.
+    pub fn add(&mut self, number: u64, name: Name, entry: SharedEntry) -> Result<(), AllocError>
+        requires above { AllBelow number self.old.tree.entries }
+        requires absent { is_some (find (rdns name) self.old.tree.entries) ≡ false }
+        requires footing { has_footing (rdns self.old.tree.suffix) (rdns name) self.old.tree.entries ≡ true }
+        ensures ok { OnOk result (self.new ≡ record { indexes = self.old.indexes; tree = record { suffix = self.old.tree.suffix; entries = self.old.tree.entries ++ record { number = number; name = name_placed (rdns self.old.tree.suffix) name self.old.tree.entries; entry = entry } ∷ [] } }) }
+        ensures err { OnErr result (self.new ≡ self.old) }
+    {
+        let postings = listed_more(&self.tree, &self.postings, number, &entry)?;
+        self.tree.add(number, name, entry)?;
+        self.postings = postings;
+        Ok(())
+    }
+
+    /// Takes out the entry of a name that nothing stands below. An `Err` changes nothing.
+    pub fn delete(&mut self, name: &[Rdn], number: u64) -> Result<(), AllocError>
+        requires here { option_map (λ e. e.number) (find (rdns name.now) self.old.tree.entries) ≡ Some number }
+        requires leaf { has_below (rdns name.now) self.old.tree.entries ≡ false }
+        ensures ok { OnOk result (self.new ≡ record { indexes = self.old.indexes; tree = record { suffix = self.old.tree.suffix; entries = unnumbered number self.old.tree.entries } }) }
+        ensures err { OnErr result (self.new ≡ self.old) }
+    {
+        let postings = unlisted(&self.tree, &self.postings, number)?;
+        self.tree.delete(name, number)?;
+        self.postings = postings;
+        Ok(())
+    }
+
+    /// Gives the entry of a number other attributes; its name stays. An `Err` changes nothing.
+    pub fn replace(&mut self, number: u64, entry: SharedEntry) -> Result<(), AllocError>
+        ensures ok { OnOk result (self.new ≡ record { indexes = self.old.indexes; tree = record { suffix = self.old.tree.suffix; entries = replaced number entry self.old.tree.entries } }) }
+        ensures err { OnErr result (self.new ≡ self.old) }
+    {
+        let postings = relisted(&self.tree, &self.postings, number, &entry)?;
+        self.tree.replace(number, entry)?;
+        self.postings = postings;
+        Ok(())
+    }
+
+    /// Gives an entry another name and other attributes: each name that begins with the old one begins with the new one
+    /// in its place, which is spelled as its superior's is. An `Err` changes nothing.
+    pub fn rename(
+        &mut self,
+        name: &[Rdn],
+        number: u64,
+        new_name: Name,
+        new_entry: SharedEntry,
+    ) -> Result<(), AllocError>
+        requires here { option_map (λ e. e.number) (find (rdns name.now) self.old.tree.entries) ≡ Some number }
+        requires root { name_eq (rdns name.now) (rdns self.old.tree.suffix) ≡ false }
+        requires parent { is_some (find (above (rdns new_name)) self.old.tree.entries) ≡ true }
+        requires apart { begins (rdns name.now) (above (rdns new_name)) ≡ false }
+        requires free { is_some (find (rdns new_name) self.old.tree.entries) ≡ true → name_eq (rdns name.now) (rdns new_name) ≡ true }
+        ensures ok { OnOk result (self.new ≡ record { indexes = self.old.indexes; tree = record { suffix = self.old.tree.suffix; entries = moved (rdns name.now) (name_placed (rdns self.old.tree.suffix) new_name self.old.tree.entries) new_entry self.old.tree.entries } }) }
+        ensures err { OnErr result (self.new ≡ self.old) }
+    {
+        self.tree.is_directory();
+        let postings = relisted(&self.tree, &self.postings, number, &new_entry)?;
+        self.tree.rename(name, number, new_name, new_entry)?;
+        self.postings = postings;
+        Ok(())
+    }
+}
+
+impl Kept for IndexedTree {
+    ghost use Rattle.indexed_tree.specs.Listed.{lists_of};
+
+    ghost lists = { lists_of };
+
+    fn numbers(&self, posting: &Posting) -> &NumberSet {
+        self.postings.numbers(posting)
+    }
+
+    fn in_range(&self, range: &Range, number: u64) -> bool {
+        self.tree.is_directory();
+        match self.tree.entry(number) {
+            Some(held) => has_in_range(self.postings.indexes(), range, held),
+            None => false,
+        }
+    }
+
+    fn push_range(&self, range: &Range, into: &mut Vec<u64>) -> Result<(), AllocError> {
+        self.postings.push_range(range, into)
+    }
+
+    fn about(&self, range: &Range) -> usize {
+        self.postings.about(range)
+    }
+}

@@ -1,0 +1,32 @@
+//! The directory as it is kept: entries by number and by name, and the posting lists of them, which change together; and as searches read it. Changes
+//! flow in, each already judged; entries and lists flow out. What an update checks, filters and the octets of messages are not here.
+//!
+//! The tree and the posting lists of its entries, which change together (`indexed`, by the steps of `listing`). That the lists are those of
+//! the entries is the type's invariant. An update makes new lists and a new tree in locals and assigns both last. Plans ask this type:
+//! lists come from the index, whether an entry is in a range from the entry's own keys. `finding` has a name's entry, without memory, or
+//! the reply where there is none; `held` is an entry with its name. `reading` is what searches are lent: a schema, and a tree whose keys
+//! are those of the schema.
+//!
+//! Proved: an add, a delete, a change of attributes and a rename change tree and lists, or, without memory, neither (`IndexedTree`). A
+//! name's entry is found; where there is none, the reply names the nearest entry above (`Reading::find`, `not_found`).
+#![tactic(auto)]
+
+mod finding;
+mod held;
+mod indexed;
+mod listing;
+mod reading;
+
+pub use dir_index::{IndexError, Indexes, Postings};
+pub use dir_tree::{
+    Attribute, Entry, EntryError, Name, NameError, NumberSet, Rdn, Schema, SharedEntry, Tree,
+    Truth, TypeAndValue, TypeId, are_same, copy_values, is_of_syntax, print_from_leaf,
+};
+pub use directory_api::{
+    AddRequest, AttributeValueAssertion, CompareRequest, DerefAliases, Found, LookError,
+    PartialAttribute, Reply, ResultCode, Scope, SearchAnswer, SearchRequest, SearchResultEntry,
+};
+pub use finding::{entry_of, is_front, is_same, is_taken, not_found, standing};
+pub use held::Standing;
+pub use indexed::IndexedTree;
+pub use reading::Reading;

@@ -1,0 +1,66 @@
+//! Posting lists kept with a tree, one function a step. A tree and its entries' lists flow in; the lists of the entries after an update flow out,
+//! and those before it stay as they were. What an update checks is not here.
+ghost use Rattle.std.specs.Prelude.{◌≡◌, ◌++◌, ◌∷◌, [], IfOk};
+ghost use Rattle.dir_tree.specs.Directory.{AllBelow, unnumbered, replaced};
+ghost use Rattle.dir_index.specs.Whole.{AreOf};
+ghost use Rattle.indexed_tree.specs.Listed.{listed_of};
+
+use dir_index::Postings;
+use dir_tree::{Entry, Tree};
+use std::alloc::AllocError;
+
+/// The lists with an entry of a number above all.
+pub fn listed_more(
+    tree: &Tree,
+    postings: &Postings,
+    number: u64,
+    entry: &Entry,
+) -> Result<Postings, AllocError>
+    requires of { AreOf postings.now (listed_of tree.now.entries) }
+    requires above { AllBelow number tree.now.entries }
+    ensures lists { IfOk result (λ p. AreOf p (listed_of tree.now.entries ++ record { number = number; entry = entry.now } ∷ [])) }
+    ensures indexes { IfOk result (λ p. p.indexes ≡ postings.now.indexes) }
+{
+    let mut lists = postings.share()?;
+    lists.add(number, entry)?;
+    Ok(lists)
+}
+
+/// The lists without the entry of a number.
+pub fn unlisted(tree: &Tree, postings: &Postings, number: u64) -> Result<Postings, AllocError>
+    requires of { AreOf postings.now (listed_of tree.now.entries) }
+    ensures lists { IfOk result (λ p. AreOf p (listed_of (unnumbered number tree.now.entries))) }
+    ensures indexes { IfOk result (λ p. p.indexes ≡ postings.now.indexes) }
+{
+    tree.is_directory();
+    let mut lists = postings.share()?;
+    match tree.entry(number) {
+        Some(held) => {
+            lists.remove(number, held)?;
+            Ok(lists)
+        }
+        None => Ok(lists),
+    }
+}
+
+/// The lists with other attributes of the entry of a number.
+pub fn relisted(
+    tree: &Tree,
+    postings: &Postings,
+    number: u64,
+    entry: &Entry,
+) -> Result<Postings, AllocError>
+    requires of { AreOf postings.now (listed_of tree.now.entries) }
+    ensures lists { IfOk result (λ p. AreOf p (listed_of (replaced number entry.now tree.now.entries))) }
+    ensures indexes { IfOk result (λ p. p.indexes ≡ postings.now.indexes) }
+{
+    tree.is_directory();
+    let mut lists = postings.share()?;
+    match tree.entry(number) {
+        Some(held) => {
+            lists.replace(number, held, entry)?;
+            Ok(lists)
+        }
+        None => Ok(lists),
+    }
+}

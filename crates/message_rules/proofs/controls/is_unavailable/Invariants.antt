@@ -1,8 +1,0 @@
-use Rattle.std.proofs.Common.{◌≡◌, map, drop}
-use Rattle.ldap_msg.specs.ldap_parts.View.{control_view}
-use Rattle.message_rules.specs.Controls.{is_unavailable}
-use Rattle.message_rules.proofs.controls.is_unavailable.Given as goal
-
--- so far no control is critical without a meaning
-abbrev pub invariant-loop-control : goal.invariant-loop-control
-invariant-loop-control l = is_unavailable l.kind (map control_view (drop l.control-index l.controls)) ≡ is_unavailable l.kind (map control_view l.controls)

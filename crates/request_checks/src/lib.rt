@@ -1,0 +1,31 @@
+//! What a message says by itself: requests, their controls, binds and responses flow in; what they name, what a bind comes to and the octets
+//! of responses flow out. A session's state and what a directory answers are not here.
+//!
+//! What needs no session: `requests` knows a request's kind, `controls` and `numbers` read its controls, `binding` judges binds, `writing`
+//! writes responses.
+#![tactic(auto)]
+
+mod binding;
+mod bound;
+mod controls;
+mod fault;
+mod identity;
+mod numbers;
+mod requests;
+mod writing;
+
+pub use binding::bind;
+pub use bound::Bound;
+pub use controls::{Kind, Named, judge};
+pub use dir_tree::{Name, Schema};
+pub use fault::AnswerError;
+pub use identity::Identity;
+pub use ldap_msg::{
+    BindRequest, CompareRequest, Control, ExtendedResponse, LdapResult, Message, ProtocolOp,
+    Request, Response, ResultCode, SearchRequest, SearchResultEntry,
+};
+pub use numbers::{GREATEST, number_of, pair_of};
+pub use requests::{Answering, answering_of, kind_of, update_in};
+pub use writing::{
+    entry_responses, referral_to, response_to, value_for, write_numbered, write_plain,
+};

@@ -1,0 +1,69 @@
+//! What is told of a server's sessions, a line an event. What a session answers is not here.
+use crate::addresses::Addresses;
+use crate::engine::Engine;
+use crate::needed_threads::NeededThreads;
+use crate::reporter::Reporter;
+use crate::telling::{tell_begin, tell_end, tell_let_go, tell_session};
+use client_link::SessionEnd;
+use session_pool::{Away, Tells};
+use std::alloc::Global;
+use std::net::SocketAddr;
+use std::sync::Wait;
+use std::sync::atomic::{AtomicU64, Ordering};
+
+/// Who is told of a server's sessions.
+#[derive(Drop)]
+pub struct Teller<'a, R, E> {
+    pub rt: &'a R,
+    pub alloc: Global,
+    pub needed_threads: &'a NeededThreads,
+    pub sessions: &'a AtomicU64,
+    pub engine: &'a E,
+    pub reporter: &'a Reporter,
+    /// The addresses of the clients, where sessions are logged.
+    pub addresses: Option<&'a Addresses>,
+}
+
+impl<'a, R: Wait, E> Teller<'a, R, E> {
+    /// The address of a session's client, which is over, where sessions are logged.
+    fn address_of(&self, session: u64) -> Option<SocketAddr> {
+        match self.addresses {
+            Some(addresses) => addresses.go(self.rt, session),
+            None => None,
+        }
+    }
+}
+
+impl<'a, R: Wait, E: Engine> Tells for Teller<'a, R, E> {
+    fn begins(&self) {
+        self.needed_threads.begin();
+    }
+
+    fn came(&self, session: u64, address: SocketAddr) {
+        self.sessions.fetch_add(1, Ordering::SeqCst);
+        if let Some(addresses) = self.addresses {
+            addresses.come(self.rt, session, address);
+            tell_begin(self.rt, self.alloc, self.reporter, session, address);
+        }
+    }
+
+    fn ended(&self, session: u64, end: SessionEnd) {
+        self.sessions.fetch_sub(1, Ordering::SeqCst);
+        match self.address_of(session) {
+            Some(address) => tell_end(self.rt, self.alloc, self.reporter, session, address, end),
+            None => tell_session(self.rt, self.alloc, self.reporter, session, end),
+        }
+    }
+
+    fn let_go(&self, session: u64, why: Away) {
+        if why != Away::Full {
+            self.sessions.fetch_sub(1, Ordering::SeqCst);
+        }
+        let address = self.address_of(session);
+        tell_let_go(self.rt, self.alloc, self.reporter, session, address, why);
+    }
+
+    fn left(&self) {
+        self.engine.look_again();
+    }
+}

@@ -1,0 +1,204 @@
+//! What a server's threads share, made before any of them begins: the listener of replicas, doors, queues.
+use crate::addresses::Addresses;
+use crate::fault::ServerError;
+use crate::links::Links;
+use crate::logs::Logs;
+use crate::needed_threads::NeededThreads;
+use crate::places::{Place, own};
+use crate::reporter::Reporter;
+use client_link::{Door, HasDoor, Limits};
+use peer_link::Outbox;
+use replica_greeting::Terms;
+use std::alloc::{AllocError, Global};
+use std::net::{Net, SocketAddr, TcpListener, TcpStream};
+use std::sync::Mutex;
+use std::sync::atomic::{AtomicBool, AtomicU64, Ordering};
+use vr_wire::{Op, PeerMessage};
+
+/// How many messages wait for a replica, at most.
+const MESSAGES: usize = 1024;
+
+/// What they weigh, at most, but for the newest: about the octets of memory that they take beside their payloads.
+const WEIGHT: usize = 67_108_864;
+
+/// The queues to all replicas.
+fn outboxes(alloc: Global, count: usize) -> Result<Vec<Outbox<PeerMessage<Op>>>, AllocError> {
+    let mut boxes = Vec::new(alloc);
+    for _ in 0..count {
+        boxes.push(Outbox::new(alloc, MESSAGES, WEIGHT)?)?;
+    }
+    Ok(boxes)
+}
+
+/// The URI of each replica, by index.
+fn uris(alloc: Global, places: &[Place<'_>]) -> Result<Vec<String>, AllocError> {
+    let mut uris = Vec::new(alloc);
+    for place in places {
+        uris.push(place.referral(alloc)?)?;
+    }
+    Ok(uris)
+}
+
+/// For each of so many threads that update, that nobody has left.
+fn leaves(alloc: Global, count: usize) -> Result<Vec<AtomicBool>, AllocError> {
+    let mut leaves = Vec::with_capacity(alloc, count)?;
+    for _ in 0..count {
+        leaves.push(AtomicBool::new(false))?;
+    }
+    Ok(leaves)
+}
+
+/// A listener at this address.
+pub fn listen<R: Net<Listener = TcpListener, Stream = TcpStream>>(
+    rt: &R,
+    address: SocketAddr,
+) -> Result<TcpListener, ServerError> {
+    TcpListener::bind(rt, address).map_err(|_| ServerError::CannotListenAt(address))
+}
+
+/// How a server serves.
+#[derive(Clone, Copy)]
+pub struct Choices {
+    pub limits: Limits,
+    /// What all replicas must have alike.
+    pub terms: Terms,
+    /// How many threads update.
+    pub updates: usize,
+    /// Where monitors are answered, if they are.
+    pub metrics: Option<SocketAddr>,
+    pub logs: Logs,
+}
+
+/// What a server's threads share, as it is made before they begin.
+pub struct SharedParts {
+    /// Where clients are to find the replica.
+    pub(crate) client_address: SocketAddr,
+    /// Where they are heard, once they are.
+    pub(crate) heard_at: Mutex<Option<SocketAddr>>,
+    pub peers: TcpListener,
+    /// Where monitors are answered, if they are.
+    pub(crate) monitors: Option<TcpListener>,
+    pub(crate) monitor_door: Door,
+    pub(crate) client_door: Door,
+    pub(crate) peer_door: Door,
+    pub(crate) boxes: Vec<Outbox<PeerMessage<Op>>>,
+    pub uris: Vec<String>,
+    pub needed_threads: NeededThreads,
+    /// What is said on standard error.
+    pub reporter: Reporter,
+    pub logs: Logs,
+    /// The addresses of clients, where sessions are logged.
+    pub(crate) addresses: Option<Addresses>,
+    pub(crate) links: Links,
+    pub sender: u8,
+    /// What all replicas must have alike.
+    pub(crate) terms: Terms,
+    /// How many clients are connected.
+    pub(crate) sessions: AtomicU64,
+    /// For each thread that updates, whether the client of its update has left.
+    pub leaves: Vec<AtomicBool>,
+    /// What is never so: nobody leaves who waits for nothing.
+    pub stays: AtomicBool,
+}
+
+impl SharedParts {
+    /// How many clients are connected.
+    pub fn sessions(&self) -> u64 {
+        self.sessions.load(Ordering::SeqCst)
+    }
+}
+
+/// The door at which clients wait.
+impl HasDoor for SharedParts {
+    fn door(&self) -> &Door {
+        &self.client_door
+    }
+}
+
+// Not derived: see "What the gate takes" in docs/ARCHITECTURE.md.
+impl Drop for SharedParts {
+    fn drop(self) {
+        let SharedParts {
+            client_address: _,
+            heard_at: _,
+            peers: _,
+            monitors: _,
+            monitor_door: _,
+            client_door: _,
+            peer_door: _,
+            boxes: _,
+            uris: _,
+            needed_threads: _,
+            reporter: _,
+            logs: _,
+            addresses: _,
+            links: _,
+            sender: _,
+            terms: _,
+            sessions: _,
+            leaves: _,
+            stays: _,
+        } = self;
+    }
+}
+
+/// The listeners of the replica of this index, and all that its threads share, of which so many update. Replicas that have other terms are refused.
+pub fn make_shared_parts<R: Net<Listener = TcpListener, Stream = TcpStream>>(
+    rt: &R,
+    alloc: Global,
+    places: &[Place<'_>],
+    index: u64,
+    choices: Choices,
+) -> Result<SharedParts, ServerError> {
+    let Choices {
+        limits,
+        terms,
+        updates,
+        metrics,
+        logs,
+    } = choices;
+    let Some(place) = places.get(index as usize) else {
+        return Err(ServerError::CannotListen);
+    };
+    let Ok(sender) = u8::try_from(index) else {
+        return Err(ServerError::CannotListen);
+    };
+    let boxes = outboxes(alloc, places.len())?;
+    let uris = uris(alloc, places)?;
+    let reporter = Reporter::new(alloc, logs.notes())?;
+    let links = Links::new(alloc, places.len())?;
+    let leaves = leaves(alloc, updates)?;
+    // Clients are heard later; whether they can be is known from the start.
+    let client_address = own(rt, place.ldap_address)?;
+    drop(listen(rt, client_address)?);
+    let peers = listen(rt, own(rt, place.peer_address)?)?;
+    let monitors = match metrics {
+        Some(address) => Some(listen(rt, address)?),
+        None => None,
+    };
+    let addresses = match logs.connections {
+        true => Some(Addresses::new(alloc)),
+        false => None,
+    };
+    Ok(SharedParts {
+        client_address,
+        heard_at: Mutex::new(None),
+        peers,
+        monitors,
+        monitor_door: Door::new(limits),
+        client_door: Door::new(limits),
+        peer_door: Door::new(limits),
+        boxes,
+        uris,
+        needed_threads: NeededThreads::new(places.len(), metrics.is_some()),
+        reporter,
+        logs,
+        addresses,
+        links,
+        sender,
+        terms,
+        sessions: AtomicU64::new(0),
+        leaves,
+        stays: AtomicBool::new(false),
+    })
+}

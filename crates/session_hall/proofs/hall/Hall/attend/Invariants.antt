@@ -1,6 +1,0 @@
-use Rattle.session_hall.specs.Attending.{IsSame}
-use Rattle.session_hall.proofs.hall.Hall.attend.Given as goal
-
--- it is the same session still
-abbrev pub invariant-loop : goal.invariant-loop
-invariant-loop g l = (goal.iterator-loop g).can_next l.iterator' × (goal.iterator-loop g).is_finite l.iterator' × IsSame l.fn.guest l.guest

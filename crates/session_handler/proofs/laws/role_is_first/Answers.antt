@@ -1,0 +1,5 @@
+use Rattle.session_handler.proofs.Joining.{role_first}
+use Rattle.session_handler.proofs.laws.role_is_first.Goals as goal
+
+pub returns : goal.returns
+returns g c = role_first _

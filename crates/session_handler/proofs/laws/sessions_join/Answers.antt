@@ -1,0 +1,5 @@
+use Rattle.session_handler.proofs.Joining.{join}
+use Rattle.session_handler.proofs.laws.sessions_join.Goals as goal
+
+pub returns : goal.returns
+returns g c = join _

@@ -1,0 +1,5 @@
+use Rattle.directory_api.specs.Talk.{ends, goes}
+use Rattle.session_handler.proofs.taking.ask_role.Goals as goal
+
+pub returns : goal.returns
+returns g c = (c.role-role.result.1, goes c.role-role.ensures (goes c.learn.ensures ends))

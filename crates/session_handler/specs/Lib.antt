@@ -1,0 +1,12 @@
+pub mod Responses
+pub mod Session
+pub mod Heard
+pub mod Turns
+pub mod Rising
+pub mod Taken
+pub mod View
+-- what layers above name of the crates below
+pub use Rattle.request_checks.specs.ldap_fields as ldap_fields
+pub use Rattle.request_checks.specs.ldap_msg as ldap_msg
+pub use Rattle.request_checks.specs as request_checks
+pub use Rattle.directory_api.specs as directory_api

@@ -1,0 +1,33 @@
+//! What a session makes of one message: a message and what the directory answers flow in; the octets of the responses and the session's
+//! state flow out. Streams of octets and how a directory answers are not here.
+//!
+//! What a session makes of one message when it asks a directory. `hearing` finds what is due. A request that waits for its answer is one
+//! value with the session's terms (`task`), which asks the directory (`taking`), for updates too (`updating`); `responses` has the answers.
+//!
+//! Proved, with the two crates above: a message's checks in their order, its controls, its one question to the directory after the role,
+//! and the written responses (`judge`, `bind`, `take`, `role_is_first`). Talks of messages join to that of a session (`sessions_join`),
+//! whose reads never go back (`reads_rise`).
+#![tactic(auto)]
+
+mod answered;
+mod config;
+mod hearing;
+mod laws;
+mod pending;
+mod responses;
+mod state;
+mod taking;
+mod task;
+mod updating;
+
+pub use answered::{Answered, Next};
+pub use config::Config;
+pub use directory_api::{
+    Client, CompareRequest, Directory, Ended, Found, Gate, Look, LookError, Reply, Role,
+    SearchAnswer, SearchRequest, Update,
+};
+pub use laws::{reads_rise, role_is_first, sessions_join};
+pub use request_checks::{AnswerError, Name, Schema};
+pub use responses::disconnect;
+pub use state::State;
+pub use taking::take;

@@ -1,0 +1,12 @@
+//! A request that waits for its answer. Nothing flows in; plain data flows out. What it asks for is not here.
+
+use request_checks::{Answering, Named};
+
+/// A request that waits for its answer: what its response needs.
+#[derive(Clone, Copy)]
+pub struct Pending {
+    /// messageID.
+    pub id: u32,
+    pub answering: Answering,
+    pub named: Named,
+}

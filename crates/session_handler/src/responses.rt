@@ -1,0 +1,221 @@
+//! Responses, as a session gives them. What answers a request flows in; octets flow out, one `Vec` a message. What a session does is not
+//! here.
+ghost use Rattle.std.specs.Prelude.{◌≡◌, ◌≤◌, ◌^◌, ◌++◌, ◌∷◌, [], map, length, None, Ok, IfOk, IsErrOf};
+ghost use Rattle.request_checks.specs.ldap_msg.View.{response_view, result_view};
+ghost use Rattle.request_checks.specs.ldap_msg.Written.{message_bytes, message_content};
+ghost use Rattle.request_checks.specs.Messages.{message, number_told};
+ghost use Rattle.request_checks.specs.Requests.{response_to};
+ghost use Rattle.directory_api.specs.View.{reply_view, answer_view};
+ghost use Rattle.directory_api.specs.Talk.{looked};
+ghost use Rattle.session_handler.specs.Responses.{result_of, code_message, reply_message, search_messages, compare_messages, notice};
+ghost use Rattle.session_handler.specs.Taken.{AreSaid};
+
+use crate::answered::{Answered, Next};
+use directory_api::{Found, LookError, Reply, SearchAnswer};
+use request_checks::{
+    AnswerError, Answering, ExtendedResponse, LdapResult, Response, ResultCode, entry_responses,
+    response_to, write_numbered, write_plain,
+};
+use std::alloc::{AllocError, Global};
+
+/// responseName of the Notice of Disconnection (RFC 4511 4.4.1).
+const NOTICE_OF_DISCONNECTION: &str = "1.3.6.1.4.1.1466.20036";
+
+/// A result with a reply's code and matchedDN, and nothing else.
+pub fn result_of(alloc: Global, given: Reply) -> LdapResult
+    ensures { result_view result ≡ result_of (reply_view given) }
+{
+    let Reply { code, matched } = given;
+    LdapResult {
+        code,
+        matched_dn: matched,
+        diagnostic_message: String::new(alloc),
+        referral: Vec::new(alloc),
+    }
+}
+
+/// A reply in a response of this kind.
+pub fn reply_to(alloc: Global, answering: Answering, reply: Reply) -> Response
+    ensures { response_view result ≡ response_to answering (result_of (reply_view reply)) None }
+{
+    response_to(answering, result_of(alloc, reply), None)
+}
+
+/// No response.
+pub fn silence(alloc: Global, next: Next) -> Result<Answered, AnswerError>
+    ensures { AreSaid [] next result }
+{
+    Ok(Answered {
+        responses: Vec::new(alloc),
+        next,
+    })
+}
+
+/// One response, after which the session goes on.
+fn one_answer(alloc: Global, octets: Vec<u8>) -> Result<Answered, AllocError>
+    ensures responses { IfOk result (λ a. map (λ v. v.items) a.responses.items ≡ octets.items ∷ []) }
+    ensures next { IfOk result (λ a. a.next ≡ Next.GoesOn) }
+{
+    let mut responses = Vec::new(alloc);
+    responses.push(octets)?;
+    Ok(Answered {
+        responses,
+        next: Next::GoesOn,
+    })
+}
+
+/// One response without controls, after which the session goes on.
+pub fn say(alloc: Global, id: u32, response: Response) -> Result<Answered, AnswerError>
+    ensures { AreSaid (message id (response_view response) [] ∷ []) Next.GoesOn result }
+{
+    let octets = write_plain(alloc, id, response)?;
+    Ok(one_answer(alloc, octets)?)
+}
+
+/// One response with a number, where the request named one, after which the session goes on.
+pub fn say_numbered(
+    alloc: Global,
+    id: u32,
+    response: Response,
+    asked: Option<u64>,
+    number: u64,
+) -> Result<Answered, AnswerError>
+    ensures { AreSaid (message id (response_view response) (number_told asked number) ∷ []) Next.GoesOn result }
+{
+    let octets = write_numbered(alloc, id, response, asked, number)?;
+    Ok(one_answer(alloc, octets)?)
+}
+
+/// A code alone, in a response of this kind.
+pub fn say_code(
+    alloc: Global,
+    id: u32,
+    answering: Answering,
+    code: ResultCode,
+) -> Result<Answered, AnswerError>
+    ensures { AreSaid (code_message id answering code ∷ []) Next.GoesOn result }
+{
+    say(
+        alloc,
+        id,
+        reply_to(alloc, answering, Reply::only(alloc, code)),
+    )
+}
+
+/// A reply in a response of this kind, with a number where the request named one.
+fn say_reply(
+    alloc: Global,
+    id: u32,
+    answering: Answering,
+    asked: Option<u64>,
+    number: u64,
+    reply: Reply,
+) -> Result<Answered, AnswerError>
+    ensures { AreSaid (reply_message id answering asked number (reply_view reply) ∷ []) Next.GoesOn result }
+{
+    say_numbered(alloc, id, reply_to(alloc, answering, reply), asked, number)
+}
+
+/// The Notice of Disconnection, as the last word.
+pub fn disconnect(alloc: Global) -> Result<Answered, AnswerError>
+    ensures { AreSaid (notice ∷ []) Next.Disconnected result }
+{
+    let response_name = String::from_str(alloc, NOTICE_OF_DISCONNECTION)?;
+    let notice = ExtendedResponse {
+        result: result_of(alloc, Reply::only(alloc, ResultCode::PROTOCOL_ERROR)),
+        response_name: Some(response_name),
+        response_value: None,
+    };
+    let mut responses = Vec::new(alloc);
+    responses.push(write_plain(alloc, 0, Response::Extended(notice))?)?;
+    Ok(Answered {
+        responses,
+        next: Next::Disconnected,
+    })
+}
+
+/// Responses, and a last one with a number, where the request named one, after which the session goes on.
+fn with_last(
+    alloc: Global,
+    mut responses: Vec<Vec<u8>>,
+    id: u32,
+    last: Response,
+    asked: Option<u64>,
+    number: u64,
+) -> Result<Answered, AnswerError>
+    ensures written { IfOk result (λ a. map (λ v. v.items) a.responses.items
+        ≡ map (λ v. v.items) responses.items ++ message_bytes (message id (response_view last) (number_told asked number)) ∷ []) }
+    ensures next { IfOk result (λ a. a.next ≡ Next.GoesOn) }
+    ensures too_long { IsErrOf result AnswerError.TooLong
+        → 2 ^ 32 ≤ length (message_content (message id (response_view last) (number_told asked number))) }
+{
+    responses.push(write_numbered(alloc, id, last, asked, number)?)?;
+    Ok(Answered {
+        responses,
+        next: Next::GoesOn,
+    })
+}
+
+/// What a search found: its entries, and then the done message.
+fn say_found(
+    alloc: Global,
+    id: u32,
+    asked: Option<u64>,
+    found: Found<SearchAnswer>,
+) -> Result<Answered, AnswerError>
+    ensures { AreSaid (search_messages id asked (looked answer_view (Ok found))) Next.GoesOn result }
+{
+    let Found { at, answer } = found;
+    let SearchAnswer {
+        code,
+        matched,
+        entries,
+        ..
+    } = answer;
+    let responses = entry_responses(alloc, id, entries)?;
+    let done = reply_to(alloc, Answering::Search, Reply { code, matched });
+    with_last(alloc, responses, id, done, asked, at)
+}
+
+/// What a search came to.
+pub fn say_search(
+    alloc: Global,
+    id: u32,
+    asked: Option<u64>,
+    outcome: Result<Found<SearchAnswer>, LookError>,
+) -> Result<Answered, AnswerError>
+    ensures { AreSaid (search_messages id asked (looked answer_view outcome)) Next.GoesOn result }
+{
+    match outcome {
+        Ok(found) => say_found(alloc, id, asked, found),
+        Err(LookError::NotYet { at }) => {
+            let busy = Reply::only(alloc, ResultCode::BUSY);
+            say_reply(alloc, id, Answering::Search, asked, at, busy)
+        }
+        Err(LookError::Gone) => say_code(alloc, id, Answering::Search, ResultCode::UNAVAILABLE),
+        Err(LookError::NoMemory) => say_code(alloc, id, Answering::Search, ResultCode::OTHER),
+    }
+}
+
+/// What a compare came to.
+pub fn say_compare(
+    alloc: Global,
+    id: u32,
+    asked: Option<u64>,
+    outcome: Result<Found<Reply>, LookError>,
+) -> Result<Answered, AnswerError>
+    ensures { AreSaid (compare_messages id asked (looked reply_view outcome)) Next.GoesOn result }
+{
+    match outcome {
+        Ok(found) => {
+            let Found { at, answer } = found;
+            say_reply(alloc, id, Answering::Compare, asked, at, answer)
+        }
+        Err(LookError::NotYet { at }) => {
+            let busy = Reply::only(alloc, ResultCode::BUSY);
+            say_reply(alloc, id, Answering::Compare, asked, at, busy)
+        }
+        Err(LookError::Gone) => say_code(alloc, id, Answering::Compare, ResultCode::UNAVAILABLE),
+        Err(LookError::NoMemory) => say_code(alloc, id, Answering::Compare, ResultCode::OTHER),
+    }
+}

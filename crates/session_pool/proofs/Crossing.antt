@@ -1,0 +1,82 @@
+-- What the threads of a pool share may cross threads. A pool holds sessions, these hold parsed messages, and those hold filters, which are trees.
+use denote.RattleType.{RattleType}
+use denote.Ref.{NamedLft}
+use denote.Struct.Declared
+use denote.Param.Send.{IsSend, IsSync, sendable, struct_sync, recorded_sync}
+use Rattle.std.proofs.Crossing.{crosses}
+use Rattle.std.proofs.net.tcp.TcpStream.TheSendSync as stream
+use Rattle.std.proofs.sync.Condvar.TheSendSync as condvar
+use Rattle.std.proofs.sync.Mutex.TheSendSync as mutex
+use Rattle.std.proofs.sync.atomic.AtomicBool.TheSendSync as flag
+use Rattle.std.proofs.sync.atomic.AtomicUsize.TheSendSync as count
+use Rattle.std.proofs.time.Duration.TheSendSync as duration
+use Rattle.std.proofs.time.Instant.TheSendSync as instant
+use Rattle.mio.proofs.poll.Registry.TheSendSync as registry
+use Rattle.mio.proofs.waker.Waker.TheSendSync as waker
+use Rattle.ldap_session.below.bytes.proofs.unique.BytesMut.TheSendSync as octets
+use Rattle.ldap_session.below.ldap_filter.proofs.tree.Filter.TheLaws.TheKnot as filter
+use Rattle.ldap_session.below.ldap_framer.specs.contracts.framer.Framer as Framer
+use Rattle.client_link.proofs.Config.TheSendSync as config
+use Rattle.client_link.proofs.Door.TheSendSync as door
+use Rattle.session_table.proofs.Book.TheSendSync as book
+use Rattle.session_pool.proofs.pool.Watch.TheSendSync as watch
+use Rattle.session_pool.specs.contracts.pooled.PooledSession as PooledSession
+use Rattle.session_pool.specs.contracts.pool.SessionPool as SessionPool
+use Rattle.session_pool.specs.contracts.table.Table as Table
+
+framer_send : IsSend Framer.the_field.row
+framer_send = search (octets.the_send, filter.crosses, crosses, sendable) depth 60 fits 20000
+
+guest_send : IsSend PooledSession.the_row
+guest_send = search (framer_send, octets.the_send, stream.the_field_send, instant.the_field_send, duration.the_field_send, crosses, sendable) depth 60 fits 20000
+
+table_send : IsSend Table.the_row
+table_send = search (guest_send, book.the_send, instant.the_send, crosses, sendable) depth 60 fits 20000
+
+-- A pool is shared by its threads where its runtime and whoever is told of its sessions are.
+pub hall_sync : (a : NamedLft) (R T : RattleType) → IsSync R → IsSync T → IsSync (SessionPool.the_row a R T)
+hall_sync a R T y z =
+    recorded_sync (SessionPool.the_field a R T).row _ _ (SessionPool.the_type a R T).to_one
+    (struct_sync (Declared.shape (SessionPool.the_type a R T)) (
+      search (y, sendable) depth 10,
+      (
+        search (crosses, sendable) depth 20,
+        (
+          search (door.the_sync, crosses, sendable) depth 40,
+          (
+            search (z, sendable) depth 10,
+            (
+              search (config.the_field_sync, crosses, sendable) depth 40 fits 20000,
+              (
+                search (registry.the_field_sync, crosses, sendable) depth 20,
+                (
+                  search (waker.the_field_sync, crosses, sendable) depth 20,
+                  (
+                    search (watch.the_send, mutex.the_sync, sendable) depth 20,
+                    (
+                      search (table_send, mutex.the_sync, sendable) depth 20,
+                      (
+                        condvar.the_field_sync,
+                        (
+                          condvar.the_field_sync,
+                          (
+                            search (flag.the_sync, crosses, sendable) depth 20,
+                            (
+                              search (count.the_field_sync, crosses, sendable) depth 20,
+                              (
+                                search (count.the_field_sync, crosses, sendable) depth 20,
+                                (search (crosses, sendable) depth 20, tt),
+                              ),
+                            ),
+                          ),
+                        ),
+                      ),
+                    ),
+                  ),
+                ),
+              ),
+            ),
+          ),
+        ),
+      ),
+    ))

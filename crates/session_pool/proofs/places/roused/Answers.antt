@@ -1,0 +1,13 @@
+use Rattle.std.proofs.Common.{refl}
+use Rattle.session_pool.proofs.places.roused.Goals as goal
+
+pub returns-in-Some : goal.returns-in-Some
+returns-in-Some c =
+    rw c.in-Some.is (record {
+      pooled = c.rouse.new.self;
+      fd = _;
+      turn = c.turn.result;
+      after_is = refl;
+      told_is = refl;
+      roused = record { waited = c.rouse.ensures; turn_is = c.turn.ensures };
+    })

@@ -1,0 +1,142 @@
+-- What becomes of a session in the hands of a thread. The session before and after come in, with the directory that served it; what was heard,
+-- said and answered comes out. Sockets and clocks are not here.
+use Rattle.std.specs.Prelude.{◌≡◌, ◌⊎◌, ◌≤◌, ◌↔◌, ℤ, ℕ, suc, List, [], take, length, false, Option, Some, None}
+use Rattle.std.specs.Io.KnownBytes.{Appends, Consumes}
+use Rattle.ldap_session.specs.directory_api.Talk.{Exchange}
+use Rattle.ldap_session.specs.session_handler.Session.{ConfigValue}
+use Rattle.ldap_session.specs.View.{SessionValue, ConversationValue, conversation_view}
+use Rattle.ldap_session.specs.Conversing.{Hears, Continues, sends}
+use Rattle.ldap_session.specs.Progress.{IsAtLast}
+use Rattle.ldap_session.specs.Waiting.{due}
+use Rattle.ldap_session.specs.declared.due.Due.{Due}
+use Rattle.ldap_session.specs.declared.due.Due.TheVariants.{Nothing as DueNothing, Update as DueUpdate, Other as DueOther}
+use Rattle.ldap_session.specs.declared.due.Step.{Step}
+use Rattle.ldap_session.specs.declared.end.SessionEnd.{SessionEnd}
+use Rattle.ldap_session.specs.declared.end.SessionEnd.TheVariants.{ReadFailed, WriteFailed, NoMemory}
+use Rattle.session_table.specs.declared.spot.Queue.{Queue}
+use Rattle.session_table.specs.declared.spot.Queue.TheVariants.{Silent, Inside}
+use Rattle.session_pool.specs.declared.stand.Turn.{Turn}
+use Rattle.session_pool.specs.declared.stand.Turn.TheVariants.{Update}
+use Rattle.session_pool.specs.declared.pooled.PooledSession.{PooledSession}
+use Rattle.session_pool.specs.declared.pooled.Heard.{Heard}
+use Rattle.session_pool.specs.declared.pooled.Heard.TheVariants.{Octets, Nothing, Ends as HeardEnds}
+use Rattle.session_pool.specs.declared.pooled.Then.{Then}
+use Rattle.session_pool.specs.declared.pooled.Then.TheVariants.{Listens, Updates, Queues, Waits, Ends as ThenEnds}
+
+-- the conversation of a session
+abbrev pub talk : PooledSession → ConversationValue
+talk g = conversation_view g.conversation
+
+-- what stands next in it
+abbrev pub due_next : ConversationValue → Due
+due_next v = due v.end v.session.framed
+
+-- it is the same session, at the same place
+pub record IsSame (g h : PooledSession) : Type 0 where
+  pub place : h.place ≡ g.place
+  pub number : h.number ≡ g.number
+
+-- A front of a buffer was heard, which isn't empty: what was read of an input.
+pub record HearsSome (input left : Option (List ℕ)) (v : ConversationValue) (buffer : List ℕ) (w : ConversationValue) : Type 0 where
+  pub count : ℕ
+  pub some : count ≡ 0 → ⊥
+  pub consumed : Consumes input left (take count buffer)
+  pub hears : Hears v (take count buffer) w
+
+-- why a session ends at a read: its stream ended between two messages or inside one, or the read failed, or there was no memory
+abbrev pub IsHeardEnd : ConversationValue → SessionEnd → Type 0
+IsHeardEnd v end = IsAtLast v.session end ⊎ ((end ≡ ReadFailed) ⊎ (end ≡ NoMemory))
+
+-- What a read of an input gave: octets, nothing, or the end.
+abbrev pub HasHeard : Option (List ℕ) → Option (List ℕ) → ConversationValue → List ℕ → ConversationValue → Heard → Type 0
+HasHeard input left v buffer w Octets = HearsSome input left v buffer w
+HasHeard input left v buffer w Nothing = (w ≡ v) × Consumes input left []
+HasHeard input left v buffer w (HeardEnds end) = (w ≡ v) × IsHeardEnd v end
+
+-- a front of what was unsent, so many octets, was given to a writer, and nothing else has changed
+pub record SendsTo (output grown : Option (List ℕ)) (v w : ConversationValue) (count : ℕ) : Type 0 where
+  pub within : count ≤ length v.unsent
+  pub appended : Appends output grown (take count v.unsent)
+  pub sent : w ≡ sends v count
+
+-- a front of what was unsent is sent, and nothing else has changed
+pub record HasSent (v w : ConversationValue) : Type 0 where
+  pub count : ℕ
+  pub within : count ≤ length v.unsent
+  pub sent : w ≡ sends v count
+
+-- all that was said is sent, the conversation goes on, and this stands next
+pub record IsAllSaid (v : ConversationValue) (next : Due) : Type 0 where
+  pub none_unsent : v.unsent ≡ []
+  pub goes_on : v.end ≡ None
+  pub next_is : due_next v ≡ next
+
+-- What becomes of a session: it is listened to, it waits for its turn or for its client, or it has ended, or could not be written to.
+abbrev pub Becomes : ConversationValue → Then → Type 0
+Becomes v Listens = IsAllSaid v DueNothing
+Becomes v Updates = IsAllSaid v DueUpdate
+Becomes v Queues = IsAllSaid v DueOther
+Becomes v Waits = v.unsent ≡ [] → ⊥
+Becomes v (ThenEnds end) = ((v.unsent ≡ []) × (v.end ≡ Some end)) ⊎ (end ≡ WriteFailed)
+
+-- all its messages are answered, and the client has all answers; or its next message may be an update
+pub record IsNext (g : PooledSession) (next : Due) : Type 0 where
+  pub free : g.is_stuck ≡ false
+  pub next_is : due_next (talk g) ≡ next
+
+abbrev pub IsSilent : PooledSession → Type 0
+IsSilent g = IsNext g DueNothing
+
+abbrev pub IsUpdateNext : PooledSession → Type 0
+IsUpdateNext g = IsNext g DueUpdate
+
+-- it waits no more: nothing of it has changed but how long its client has let octets wait
+pub record HasWaited (g h : PooledSession) : Type 0 where
+  pub same : IsSame g h
+  pub kept : talk h ≡ talk g
+  pub stuck : h.is_stuck ≡ g.is_stuck
+
+-- and its next message is for whom it waits now
+pub record HasRoused (g h : PooledSession) (turn : Turn) : Type 0 where
+  pub waited : HasWaited g h
+  pub turn_is : (turn ≡ Update) ↔ IsUpdateNext h
+
+-- the session at a place is roused, if one is there
+pub record RousesOne (g : PooledSession) (after : Option PooledSession) (told : Option (ℤ × Turn)) : Type 0 where
+  pub pooled : PooledSession
+  pub fd : ℤ
+  pub turn : Turn
+  pub after_is : after ≡ Some pooled
+  pub told_is : told ≡ Some (fd, turn)
+  pub roused : HasRoused g pooled turn
+
+abbrev pub RousesAt : Option PooledSession → Option PooledSession → Option (ℤ × Turn) → Type 0
+RousesAt None after told = (after ≡ None) × (told ≡ None)
+RousesAt (Some g) after told = RousesOne g after told
+
+-- what it waits for in a stream that is none but messages: the rest of a message only inside one
+abbrev pub WaitsFor : SessionValue → Queue → Type 0
+WaitsFor s queue = s.framed.fault ≡ None →
+    ((queue ≡ Silent) × (s.framed.rest ≡ [])) ⊎ ((queue ≡ Inside) × (s.framed.rest ≡ [] → ⊥))
+
+-- a message was answered by a directory, wherever the conversation stood
+pub record Answers {D T : Type 0} (allows : D → Exchange T → D → Type 0) (c : ConfigValue) (v w : ConversationValue) (d e : D) : Type 0 where
+  pub step : Step
+  pub continues : Continues allows c v w d e step
+
+-- the next message, which is no update, was answered by a directory
+pub record AnswersNext {D T : Type 0} (allows : D → Exchange T → D → Type 0) (c : ConfigValue) (v w : ConversationValue) (d e : D) : Type 0 where
+  pub other : due_next v ≡ DueOther
+  pub answers : Answers allows c v w d e
+
+-- So many messages were answered by one directory, one after the other, none of which is an update.
+pub data AnswersInTurn {D T : Type 0} (allows : D → Exchange T → D → Type 0) (c : ConfigValue) : ConversationValue → ConversationValue → D → D → ℕ → Type 0 where
+  none : {v : ConversationValue} {d : D} → AnswersInTurn allows c v v d d 0
+  one_more : {v w x : ConversationValue} {d e f : D} {count : ℕ} → AnswersInTurn allows c v w d e count → AnswersNext allows c w x e f →
+      AnswersInTurn allows c v x d f (suc count)
+
+-- at most so many were
+pub record AnswersSome {D T : Type 0} (allows : D → Exchange T → D → Type 0) (c : ConfigValue) (v w : ConversationValue) (d e : D) (most : ℕ) : Type 0 where
+  pub count : ℕ
+  pub in_turn : AnswersInTurn allows c v w d e count
+  pub at_most : count ≤ most

@@ -1,0 +1,177 @@
+//! A session at a seat: its messages are answered, and it is parked, queued or ended. Which session comes next is not here.
+ghost use Rattle.std.specs.Prelude.{◌≡◌};
+ghost use Rattle.std.specs.Bool.{OnTrue, OnFalse};
+ghost use Rattle.ldap_session.specs.session_handler.View.{config_view};
+ghost use Rattle.client_link.specs.Served.{config_of};
+ghost use Rattle.session_pool.specs.Attending.{talk, IsSame, AnswersNext, AnswersSome};
+
+use crate::pool::SessionPool;
+use crate::pooled::{Heard, PooledSession, Then};
+use crate::tells::Tells;
+use client_link::{Config, Directory};
+use ldap_session::Due;
+use session_table::Queue;
+use std::sync::Wait;
+use std::sync::atomic::Ordering;
+use std::time::{Clock, Duration, Instant};
+
+/// How many octets are read at once, at most.
+const PIECE: usize = 8192;
+
+/// How many messages of one session are answered before it goes to the back of the queue.
+const MESSAGES: usize = 16;
+
+/// How many octets may be unsent before no further message is answered.
+const UNSENT: usize = 65_536;
+
+/// Within how many microseconds a message has to come after its session was parked, or after a thread began to wait for it, so that a thread
+/// waits for the next one.
+const SOON_PARKED: u64 = 500;
+
+const SOON_HEARD: u64 = 1_000;
+
+/// After how many messages a thread that stays with a session looks whether others are ready.
+const TURNS: u32 = 16;
+
+/// Whether less than this many microseconds have gone by.
+fn is_within<R: Clock>(rt: &R, since: Instant, limit: u64) -> bool {
+    match Instant::now(rt) {
+        Ok(now) => now.saturating_duration_since(since) < Duration::from_micros(limit),
+        Err(_) => false,
+    }
+}
+
+impl<'a, R: Wait + Clock, T: Tells> SessionPool<'a, R, T> {
+    /// Answers the next message, unless it may be an update, or the client has to take first what it was answered. Whether it did.
+    fn answer_next<D: Directory>(
+        &self,
+        pooled: &mut PooledSession,
+        config: &Config,
+        directory: &mut D,
+    ) -> bool
+        ensures same { IsSame pooled.old pooled.new }
+        ensures answered { OnTrue result (AnswersNext D.allows (config_view config.now) (talk pooled.old) (talk pooled.new)
+            directory.old directory.new) }
+        ensures left { OnFalse result ((talk pooled.new ≡ talk pooled.old) × (directory.new ≡ directory.old)) }
+    {
+        if pooled.conversation.due() != Due::Other || pooled.conversation.unsent().len() >= UNSENT {
+            return false;
+        }
+        pooled.conversation.answer(self.alloc, config, directory);
+        true
+    }
+
+    /// Answers whole messages that are no updates, at most 16, and while the client takes what it is answered.
+    fn answer_some<D: Directory>(&self, pooled: &mut PooledSession, directory: &mut D)
+        ensures same { IsSame pooled.old pooled.new }
+        ensures answers { AnswersSome D.allows (config_of (config_view self.now.config) pooled.old.number) (talk pooled.old)
+            (talk pooled.new) directory.old directory.new 16 }
+    {
+        let config = Config {
+            session: pooled.number,
+            ..self.config
+        };
+        for _count in 0..MESSAGES {
+            if !self.answer_next(pooled, &config, directory) {
+                return;
+            }
+        }
+    }
+
+    /// Whether the thread may wait for the next message of its session: where that comes soon, a seat is left to lead, and, each 16th time,
+    /// no other session is ready and the door is open.
+    fn may_linger(&self, pooled: &PooledSession, turns: &mut u32) -> bool {
+        if !pooled.is_quick {
+            return false;
+        }
+        *turns = turns.saturating_add(1);
+        if *turns >= TURNS {
+            *turns = 0;
+            if self.queued.load(Ordering::SeqCst) > 0 || self.door.is_closed() {
+                return false;
+            }
+        }
+        if self.lingering.fetch_add(1, Ordering::SeqCst) >= self.most {
+            self.lingering.fetch_sub(1, Ordering::SeqCst);
+            return false;
+        }
+        true
+    }
+
+    /// Waits for the next octets of a quick session.
+    fn linger(&self, pooled: &mut PooledSession, buffer: &mut [u8]) -> Heard
+        ensures { IsSame pooled.old pooled.new }
+    {
+        let since = Instant::now(self.rt);
+        let heard = pooled.hear(buffer);
+        self.lingering.fetch_sub(1, Ordering::SeqCst);
+        pooled.is_quick = match (since, heard) {
+            (Ok(since), Heard::Octets) => is_within(self.rt, since, SOON_HEARD),
+            _ => false,
+        };
+        heard
+    }
+
+    /// Serves a session for as long as its messages come one soon after the other.
+    fn attend<D: Directory>(
+        &self,
+        pooled: &mut PooledSession,
+        directory: &mut D,
+        buffer: &mut [u8],
+    ) -> Then
+        ensures { IsSame pooled.old pooled.new }
+    {
+        let mut turns = 0u32;
+        let limit = self.door.limits().write;
+        let mut is_first = pooled.is_silent();
+        for _ in self.rt.forever() {
+            self.answer_some(pooled, directory);
+            let then = pooled.say(limit);
+            if then != Then::Listens {
+                return then;
+            }
+            let heard = if is_first {
+                pooled.hear(buffer)
+            } else if self.may_linger(pooled, &mut turns) {
+                self.linger(pooled, buffer)
+            } else {
+                Heard::Nothing
+            };
+            match heard {
+                Heard::Octets => {}
+                Heard::Nothing => return Then::Listens,
+                Heard::Ends(end) => return Then::Ends(end),
+            }
+            is_first = false;
+        }
+        Then::Listens
+    }
+
+    /// Hands a session to where it belongs.
+    pub fn dismiss(&self, pooled: PooledSession, then: Then) {
+        match then {
+            Then::Listens => {
+                let queue = pooled.queue();
+                self.park(pooled, queue);
+            }
+            Then::Updates => self.queue_update(pooled),
+            Then::Queues => self.queue(pooled),
+            Then::Waits => self.park(pooled, Queue::Unsent),
+            Then::Ends(end) => self.end(pooled, end),
+        }
+    }
+
+    /// Serves sessions by this directory, until the pool is closed.
+    pub fn sit<D: Directory>(&self, mut directory: D) -> D {
+        let mut buffer = [0u8; PIECE];
+        for _ in self.rt.forever() {
+            let Some(mut pooled) = self.next() else {
+                break;
+            };
+            pooled.is_quick = is_within(self.rt, pooled.since, SOON_PARKED);
+            let then = self.attend(&mut pooled, &mut directory, &mut buffer);
+            self.dismiss(pooled, then);
+        }
+        directory
+    }
+}

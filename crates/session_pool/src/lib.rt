@@ -1,0 +1,49 @@
+//! Sessions apart from seats: a few threads serve as many sessions as the table has places for. Of the threads that read, one waits for all
+//! sessions that are silent and queues those that are ready; threads of their own serve updates, which may have to wait. What a session
+//! answers is below; nodes and replicas are above.
+//!
+//! Serves the sessions of sockets by a few threads. A session is a value (`pooled`): its `Conversation`, its socket, its place. While it
+//! waits the `Table` owns it, while it is served one thread does. Each thread that reads (a seat) has a directory of its own. Of the free
+//! seats one leads (`leading`): it waits in `mio`'s poll for all sessions, queues those that are ready, lets the next seat lead, and serves
+//! the first itself. No thread hands messages over, and no lock is held while a message is answered.
+//!
+//! - *Waiting.* A session is parked and registered with the poll under the table's lock, which the leader takes before it
+//!   looks at events. So no event finds an empty place. The heads of the queues say who has waited for too long.
+//! - *Staying.* A thread waits up to 5 ms for the next message of a session whose messages come within a millisecond. It
+//!   does so if a seat is left to lead and no other session is ready. A busy client then costs two system calls a message.
+//! - *Fairness.* 16 messages or 64 KiB of unsent octets are one sitting; then the session goes to the back of the queue.
+//!   One whose client doesn't take its octets is written to once a sitting, and not read.
+//! - *Updates* have threads of their own, each with a gate and a look that finds nothing (`NoReads`). The leader watches the
+//!   socket meanwhile, and tells the thread when the client has left.
+//! - *No room.* When the table is full, or descriptors are used up, the longest silent session goes (`arriving`).
+//!
+//! Proved: a session hears what its socket gave, and has sent a front of what it had to send, in order (`PooledSession::hear`, `say`, `queue`). A
+//! seat answers at most 16 of its messages in a row, no update among them (`SessionPool::answer_some`). A place has one session at a time, and
+//! turns are first in, first out (`Places`); a client's end is told once (`Updaters`). That each session is served, and soon, is tested
+//! (`tests/serve`, `tests/streams`).
+#![tactic(auto)]
+
+mod arriving;
+mod attending;
+mod leading;
+mod limit;
+mod no_reads;
+mod places;
+mod pool;
+mod pooled;
+mod running;
+mod stand;
+mod table;
+mod tells;
+mod updaters;
+mod updating;
+
+pub use ldap_session::{
+    Client, CompareRequest, Ended, Found, LookError, Reply, Role, SearchAnswer, SearchRequest,
+    Update,
+};
+pub use limit::descriptors;
+pub use no_reads::NoReads;
+pub use pool::{SessionPool, Terms};
+pub use running::serve_sessions;
+pub use tells::{Away, Tells};

@@ -1,0 +1,292 @@
+//! The places of a pool's table, and the sessions at them: each waits for its client, or for its turn. What a session says is not here. One
+//! thread at a time.
+ghost use Rattle.std.specs.Prelude.{◌≡◌, ◌≤◌, ◌<◌, ◌++◌, ◌∷◌, [], ℕ, Option, Some, None, IsTrue, IsFalse, ◌↔◌, IfSome, IfNone, OnOk, IfErr, IfOk, IsOk, slice_get, replicate, nat_lt, length, vec_len, vec_capacity};
+ghost use Rattle.std.specs.VecDeque.{deque_capacity};
+ghost use Rattle.session_table.specs.Places.{IsIn, NoneIn};
+ghost use Rattle.session_table.specs.declared.spot.Queue.{Queue};
+ghost use Rattle.session_pool.specs.Stands.{times, once, is_made, is_free, is_ready, is_updates, is_waiting, is_in_queue, is_here, has_some};
+ghost use Rattle.session_pool.specs.Attending.{RousesAt};
+ghost use Rattle.session_pool.specs.declared.pooled.PooledSession.{PooledSession};
+ghost use Rattle.session_pool.specs.declared.stand.PlaceState.{PlaceState};
+
+use crate::pooled::PooledSession;
+use crate::stand::{PlaceState, Turn};
+use crate::updaters::is_past;
+use session_table::{Book, Queue};
+use std::alloc::{AllocError, Global};
+use std::collections::VecDeque;
+use std::os::fd::{AsRawFd, RawFd};
+use std::time::{Duration, Instant};
+
+/// The places of a table, and the sessions that are at their places.
+#[derive(Drop)]
+pub struct Places {
+    /// Which places wait for their clients.
+    book: Book,
+    /// Where the session of each place is.
+    stands: Vec<PlaceState>,
+    /// The session at each place that was ever given; none, while a thread has it.
+    guests: Vec<Option<PooledSession>>,
+    /// The places that were given and are free again.
+    free: Vec<usize>,
+    /// The places of sessions that wait for a seat, and of those that wait for a thread that updates.
+    ready: VecDeque<usize>,
+    updates: VecDeque<usize>,
+    // A place is in each list once where it stands so, and never where it doesn't.
+    ghost frees: { (p : ℕ) → times p free.items ≡ once is_free (slice_get stands.items p) },
+    ghost readies: { (p : ℕ) → times p ready.items ≡ once is_ready (slice_get stands.items p) },
+    ghost updating: { (p : ℕ) → times p updates.items ≡ once is_updates (slice_get stands.items p) },
+    ghost waits: { (p : ℕ) → is_in_queue (slice_get book p) ≡ is_waiting (slice_get stands.items p) },
+    // A session is at each place that says so, and at its own.
+    ghost here: { (p : ℕ) → has_some (slice_get guests.items p) ≡ is_here (slice_get stands.items p) },
+    ghost own: { (p : ℕ) (g : PooledSession) → slice_get guests.items p ≡ Some (Some g) → g.place ≡ p },
+    ghost made: { (p : ℕ) → nat_lt p (length guests.items) ≡ is_made (slice_get stands.items p) },
+    ghost booked: { length book ≡ length stands.items },
+    // The lists have room for all places.
+    ghost room_free: { length stands.items ≤ vec_capacity free },
+    ghost room_ready: { length stands.items ≤ deque_capacity ready },
+    ghost room_updates: { length stands.items ≤ deque_capacity updates },
+}
+
+/// The session at a place waits for its client no more: its socket, and for what it waits.
+fn roused(pooled: &mut Option<PooledSession>, now: Instant) -> Option<(RawFd, Turn)>
+    ensures { RousesAt pooled.old pooled.new result }
+{
+    match pooled {
+        Some(pooled) => {
+            pooled.rouse(now);
+            Some((pooled.stream.as_raw_fd(), pooled.turn()))
+        }
+        None => None,
+    }
+}
+
+impl Places {
+    ghost use Rattle.session_pool.specs.Tabling.{tabled, IsAt, Claims, freed, Parks, LinesUp, Wakes, Sits, Works, WaitsLongest, Rouses, NoneOverdue, LeavesTime};
+    ghost use Rattle.session_pool.specs.Posting.{IsPast};
+
+    /// Places, all free. Room for sessions is made as they come.
+    pub fn new(alloc: Global, size: usize) -> Result<Places, AllocError>
+        ensures stands { IfOk result (λ t. (tabled t).stands ≡ replicate size PlaceState.New) }
+        ensures ready { IfOk result (λ t. (tabled t).ready ≡ []) }
+        ensures updates { IfOk result (λ t. (tabled t).updates ≡ []) }
+    {
+        Ok(Places {
+            book: Book::new(alloc, size)?,
+            stands: vec![in alloc; PlaceState::New; size]?,
+            guests: Vec::new(alloc),
+            free: Vec::with_capacity(alloc, size)?,
+            ready: VecDeque::with_capacity(alloc, size)?,
+            updates: VecDeque::with_capacity(alloc, size)?,
+        })
+    }
+
+    /// Whether a thread has the session of this place.
+    fn is_away(&self, place: usize) -> bool
+        ensures { IsTrue result ↔ IsAt (tabled self.now) place PlaceState.Away }
+    {
+        match self.stands.get(place).copied() {
+            Some(PlaceState::Away) => true,
+            Some(
+                PlaceState::New
+                | PlaceState::Free
+                | PlaceState::Waits
+                | PlaceState::Ready
+                | PlaceState::Updates,
+            )
+            | None => false,
+        }
+    }
+
+    /// A free place, for a session that comes; none, where all are taken or there is no memory.
+    pub fn claim(&mut self) -> Option<usize>
+        ensures some { IfSome result (λ p. Claims (tabled self.old) p (tabled self.new)) }
+        ensures none { IfNone result ((p : ℕ) → IsAt (tabled self.old) p PlaceState.Free → ⊥) }
+        ensures left { IfNone result (tabled self.new ≡ tabled self.old) }
+    {
+        match self.free.pop() {
+            Some(place) => {
+                self.stands[place] = PlaceState::Away;
+                Some(place)
+            }
+            None => self.make(),
+        }
+    }
+
+    /// A place that was never given.
+    fn make(&mut self) -> Option<usize>
+        ensures some { IfSome result (λ p. Claims (tabled self.old) p (tabled self.new)) }
+        ensures left { IfNone result (tabled self.new ≡ tabled self.old) }
+    {
+        let place = self.guests.len();
+        if place >= self.stands.len() {
+            return None;
+        }
+        match self.guests.push(None) {
+            Ok(()) => {}
+            Err(_) => return None,
+        }
+        self.stands[place] = PlaceState::Away;
+        Some(place)
+    }
+
+    /// A place whose session is over is free again. Any other place stays as it is.
+    pub fn free(&mut self, place: usize)
+        ensures freed { IsAt (tabled self.old) place PlaceState.Away → tabled self.new ≡ freed (tabled self.old) place }
+        ensures other { (IsAt (tabled self.old) place PlaceState.Away → ⊥) → tabled self.new ≡ tabled self.old }
+    {
+        if self.is_away(place) {
+            self.free.push_reserved(place);
+            self.stands[place] = PlaceState::Free;
+        }
+    }
+
+    /// Puts a session at its place, where it waits for its client; it comes back where there is no memory, or where the place isn't its own.
+    pub fn park(&mut self, pooled: PooledSession, queue: Queue) -> Result<(), PooledSession>
+        ensures ok { OnOk result (Parks (tabled self.old) pooled queue (tabled self.new)) }
+        ensures err { IfErr result (λ back. (back ≡ pooled) × (tabled self.new ≡ tabled self.old)) }
+    {
+        let place = pooled.place;
+        if !self.is_away(place) {
+            return Err(pooled);
+        }
+        match self.book.put(place, queue) {
+            Ok(()) => {
+                self.stands[place] = PlaceState::Waits;
+                self.guests[place] = Some(pooled);
+                Ok(())
+            }
+            Err(_) => Err(pooled),
+        }
+    }
+
+    /// Puts a session at its place, where it waits for its turn behind all others; it comes back where the place isn't its own.
+    pub fn line_up(&mut self, pooled: PooledSession, turn: Turn) -> Result<(), PooledSession>
+        ensures ok { OnOk result (LinesUp (tabled self.old) pooled turn (tabled self.new)) }
+        ensures err { IfErr result (λ back. (back ≡ pooled) × (tabled self.new ≡ tabled self.old)) }
+        ensures succeeds { IsAt (tabled self.old) pooled.place PlaceState.Away → IsOk result }
+    {
+        let place = pooled.place;
+        if !self.is_away(place) {
+            return Err(pooled);
+        }
+        self.guests[place] = Some(pooled);
+        match turn {
+            Turn::Seat => {
+                self.stands[place] = PlaceState::Ready;
+                self.ready.push_back_reserved(place);
+                Ok(())
+            }
+            Turn::Update => {
+                self.stands[place] = PlaceState::Updates;
+                self.updates.push_back_reserved(place);
+                Ok(())
+            }
+        }
+    }
+
+    /// Takes the session of a place that waits for its client; none, where it doesn't.
+    pub fn wake(&mut self, place: usize) -> Option<PooledSession>
+        ensures some { IfSome result (λ g. Wakes (tabled self.old) place g (tabled self.new)) }
+        ensures none { IfNone result (IsAt (tabled self.old) place PlaceState.Waits → ⊥) }
+        ensures left { IfNone result (tabled self.new ≡ tabled self.old) }
+    {
+        self.book.take(place)?;
+        self.stands[place] = PlaceState::Away;
+        self.guests[place].take()
+    }
+
+    /// Takes the next session that waits for a seat: the one that has waited longest.
+    pub fn next_ready(&mut self) -> Option<PooledSession>
+        ensures some { IfSome result (λ g. Sits (tabled self.old) g (tabled self.new)) }
+        ensures none { IfNone result ((tabled self.old).ready ≡ []) }
+        ensures left { IfNone result (tabled self.new ≡ tabled self.old) }
+    {
+        let place = self.ready.pop_front()?;
+        self.stands[place] = PlaceState::Away;
+        self.guests[place].take()
+    }
+
+    /// Takes the next session that waits for a thread that updates: the one that has waited longest.
+    pub fn next_update(&mut self) -> Option<PooledSession>
+        ensures some { IfSome result (λ g. Works (tabled self.old) g (tabled self.new)) }
+        ensures none { IfNone result ((tabled self.old).updates ≡ []) }
+        ensures left { IfNone result (tabled self.new ≡ tabled self.old) }
+    {
+        let place = self.updates.pop_front()?;
+        self.stands[place] = PlaceState::Away;
+        self.guests[place].take()
+    }
+
+    /// The session that has waited for its client longest of a queue.
+    pub fn longest(&self, queue: Queue) -> Option<&PooledSession>
+        ensures some { IfSome result (λ g. WaitsLongest (tabled self.now) queue g.now) }
+        ensures none { IfNone result (NoneIn (tabled self.now).spots queue) }
+    {
+        let place = self.book.first(queue)?;
+        self.guests[place].as_ref()
+    }
+
+    /// The session of a place that waits for its client waits for its turn, behind all others; its socket, and for what it waits. None, where no
+    /// session waits for its client there.
+    pub fn rouse(&mut self, place: usize, now: Instant) -> Option<(RawFd, Turn)>
+        ensures some { IfSome result (λ r. Rouses (tabled self.old) place r.1 (tabled self.new)) }
+        ensures none { IfNone result (IsAt (tabled self.old) place PlaceState.Waits → ⊥) }
+        ensures left { IfNone result (tabled self.new ≡ tabled self.old) }
+    {
+        self.book.take(place)?;
+        let (fd, turn) = roused(&mut self.guests[place], now)?;
+        match turn {
+            Turn::Seat => {
+                self.stands[place] = PlaceState::Ready;
+                self.ready.push_back_reserved(place);
+                Some((fd, Turn::Seat))
+            }
+            Turn::Update => {
+                self.stands[place] = PlaceState::Updates;
+                self.updates.push_back_reserved(place);
+                Some((fd, Turn::Update))
+            }
+        }
+    }
+
+    /// Takes the session that has waited longest of a queue, where that is so long.
+    pub fn overdue(&mut self, queue: Queue, limit: Duration, now: Instant) -> Option<PooledSession>
+        ensures longest { IfSome result (WaitsLongest (tabled self.old) queue) }
+        ensures past { IfSome result (λ g. IsPast g.since limit now) }
+        ensures wakes { IfSome result (λ g. Wakes (tabled self.old) g.place g (tabled self.new)) }
+        ensures none { IfNone result (NoneOverdue (tabled self.old) queue limit now) }
+        ensures left { IfNone result (tabled self.new ≡ tabled self.old) }
+    {
+        let pooled = self.longest(queue)?;
+        if !is_past(pooled.since, limit, now) {
+            return None;
+        }
+        let place = pooled.place;
+        self.wake(place)
+    }
+
+    /// How long until a session has waited in a queue for so long, at most.
+    pub fn time_left(&self, queue: Queue, limit: Duration, now: Instant) -> Duration
+        ensures { LeavesTime (tabled self.now) queue limit now result }
+    {
+        match self.longest(queue) {
+            Some(pooled) => limit.saturating_sub(now.saturating_duration_since(pooled.since)),
+            None => limit,
+        }
+    }
+
+    /// How many sessions wait for a seat.
+    pub fn ready(&self) -> usize
+        ensures { result ≡ length (tabled self.now).ready }
+    {
+        self.ready.len()
+    }
+
+    /// Whether a session waits for a thread that updates.
+    pub fn has_updates(&self) -> bool
+        ensures { IsFalse result ↔ ((tabled self.now).updates ≡ []) }
+    {
+        !self.updates.is_empty()
+    }
+}

@@ -1,0 +1,93 @@
+//! What the threads of a pool share. Parts come in; a pool comes out. What the threads do is not here.
+use crate::table::Table;
+use client_link::{Config, Door};
+use mio::{Events, Poll, Registry, Token, Waker};
+use std::alloc::Global;
+use std::io;
+use std::net::Net;
+use std::sync::atomic::{AtomicBool, AtomicUsize};
+use std::sync::{Condvar, Mutex};
+
+/// How many sockets are told as ready at once.
+const EVENTS: usize = 256;
+
+/// What stands for the waker, in place of a session's place.
+const WAKE: usize = usize::MAX;
+
+/// Whom a pool serves, and how.
+#[derive(Clone, Copy)]
+pub struct Terms<'a> {
+    /// What all sessions share.
+    pub config: Config<'a>,
+    /// How many sessions there may be.
+    pub sessions: usize,
+    /// How many threads read.
+    pub seats: usize,
+    /// For each thread that updates, whether the client of its update is gone.
+    pub leaves: &'a [AtomicBool],
+}
+
+/// What waits for sockets.
+#[derive(Drop)]
+pub struct Watch {
+    pub poll: Poll,
+    pub events: Events,
+}
+
+/// What the threads of a pool share.
+#[derive(Drop)]
+pub struct SessionPool<'a, R, T> {
+    pub rt: &'a R,
+    pub alloc: Global,
+    pub door: &'a Door,
+    pub teller: &'a T,
+    pub config: Config<'a>,
+    pub registry: Registry,
+    /// Ends the leader's wait, where nobody else is free.
+    pub waker: Waker,
+    pub watch: Mutex<Watch>,
+    pub table: Mutex<Table>,
+    /// Seats wait here for sessions that are ready, and threads that update for updates.
+    pub turn: Condvar,
+    pub work: Condvar,
+    pub leaves: &'a [AtomicBool],
+    /// Sessions that are ready; seats that wait for the next message of their session.
+    pub queued: AtomicUsize,
+    pub lingering: AtomicUsize,
+    /// How many seats may wait so: one is left to lead.
+    pub most: usize,
+}
+
+impl<'a, R: Net, T> SessionPool<'a, R, T> {
+    /// A pool without sessions.
+    pub fn new(
+        rt: &'a R,
+        alloc: Global,
+        door: &'a Door,
+        teller: &'a T,
+        terms: Terms<'a>,
+    ) -> io::Result<SessionPool<'a, R, T>> {
+        let poll = Poll::new(rt)?;
+        let registry = poll.registry().try_clone()?;
+        let waker = Waker::new(&registry, Token(WAKE))?;
+        let events = Events::with_capacity(alloc, EVENTS)?;
+        let table = Table::new(alloc, terms.sessions, terms.leaves.len())?;
+        Ok(SessionPool {
+            rt,
+            alloc,
+            door,
+            teller,
+            config: terms.config,
+            registry,
+            waker,
+            watch: Mutex::new(Watch { poll, events }),
+            table: Mutex::new(table),
+            turn: Condvar::new(),
+            work: Condvar::new(),
+            leaves: terms.leaves,
+            queued: AtomicUsize::new(0),
+            lingering: AtomicUsize::new(0),
+            most: terms.seats.saturating_sub(1),
+        })
+    }
+}

@@ -1,0 +1,257 @@
+//! A session with its socket. Octets come from the socket into its conversation, and go back. Whose turn it is is not here.
+ghost use Rattle.std.specs.Prelude.{◌≡◌, ◌↔◌, [], length, true, IsTrue, None, IfOk, OnOk, OnErr};
+ghost use Rattle.ldap_session.specs.Conversing.{IsFresh};
+ghost use Rattle.ldap_session.specs.View.{conversation_view};
+ghost use Rattle.session_pool.specs.declared.stand.Turn.{Turn};
+ghost use Rattle.session_pool.specs.Attending.{talk, IsSame, HasHeard, HasSent, SendsTo, Becomes, WaitsFor, HasWaited, IsSilent, IsUpdateNext};
+
+use crate::stand::Turn;
+use client_link::{SessionEnd, stretch};
+use ldap_session::{Conversation, Due};
+use session_table::Queue;
+use std::alloc::Global;
+use std::io;
+use std::io::{ErrorKind, Read, Write};
+use std::net::TcpStream;
+use std::time::{Duration, Instant};
+
+/// How long a read or a write of a socket waits, in milliseconds: for so long a thread stays with a session whose next message may come at
+/// once.
+const LINGER: u64 = 5;
+
+/// A session with its socket.
+#[derive(Drop)]
+pub struct PooledSession {
+    pub place: usize,
+    pub number: u64,
+    pub conversation: Conversation,
+    pub stream: TcpStream,
+    /// Whether its messages come one soon after the other.
+    pub is_quick: bool,
+    /// Whether its socket doesn't wait, since the client lets octets wait.
+    pub is_stuck: bool,
+    /// Since when it waits.
+    pub since: Instant,
+    /// How long its client has let the octets wait that are unsent, and how many it has taken meanwhile.
+    waited: Duration,
+    taken: u64,
+}
+
+/// What a read of a socket gave.
+#[derive(Clone, Copy, Debug, PartialEq, Eq)]
+pub enum Heard {
+    Octets,
+    Nothing,
+    Ends(SessionEnd),
+}
+
+/// What becomes of a session.
+#[derive(Clone, Copy, Debug, PartialEq, Eq)]
+pub enum Then {
+    /// All its messages are answered, and the client has all answers.
+    Listens,
+    /// A whole message stands next that may be an update.
+    Updates,
+    /// A whole message stands next.
+    Queues,
+    /// The client is to take an answer.
+    Waits,
+    Ends(SessionEnd),
+}
+
+/// Whether a call came to nothing only because its time was over.
+fn is_pause(kind: ErrorKind) -> bool {
+    kind == ErrorKind::WouldBlock || kind == ErrorKind::TimedOut
+}
+
+/// Reads once. What is heard is put into the conversation.
+fn hear_from<R: Read>(reader: &mut R, conversation: &mut Conversation, buffer: &mut [u8]) -> Heard
+    ensures { HasHeard (R.remaining reader.old) (R.remaining reader.new)
+        (conversation_view conversation.old) buffer.new (conversation_view conversation.new) result }
+{
+    match reader.read(buffer) {
+        Ok(0) => Heard::Ends(conversation.end_of_input()),
+        Ok(count) => match conversation.hear(&buffer[..count]) {
+            Ok(()) => Heard::Octets,
+            Err(_) => Heard::Ends(SessionEnd::NoMemory),
+        },
+        Err(error) => {
+            if is_pause(error.kind()) {
+                Heard::Nothing
+            } else {
+                Heard::Ends(SessionEnd::ReadFailed)
+            }
+        }
+    }
+}
+
+/// Writes once what is unsent, and tells how much of it the writer took: none, where its time was over.
+fn send_to<W: Write>(writer: &mut W, conversation: &mut Conversation) -> io::Result<usize>
+    ensures ok { IfOk result (SendsTo (W.contents writer.old) (W.contents writer.new)
+        (conversation_view conversation.old) (conversation_view conversation.new)) }
+    ensures err { OnErr result (conversation_view conversation.new ≡ conversation_view conversation.old) }
+{
+    match writer.write(conversation.unsent()) {
+        Ok(0) => Err(io::Error::from(ErrorKind::WriteZero)),
+        Ok(count) => {
+            conversation.sent(count);
+            Ok(count)
+        }
+        Err(error) => {
+            if is_pause(error.kind()) {
+                Ok(0)
+            } else {
+                Err(error)
+            }
+        }
+    }
+}
+
+impl PooledSession {
+    /// A session that begins, on a socket that was taken.
+    pub fn new(
+        alloc: Global,
+        place: usize,
+        number: u64,
+        stream: TcpStream,
+        since: Instant,
+    ) -> io::Result<PooledSession>
+        ensures place { IfOk result (λ g. g.place ≡ place) }
+        ensures number { IfOk result (λ g. g.number ≡ number) }
+        ensures fresh { IfOk result (λ g. IsFresh (talk g)) }
+    {
+        stream.set_nodelay(true)?;
+        stream.set_read_timeout(Some(Duration::from_millis(LINGER)))?;
+        stream.set_write_timeout(Some(Duration::from_millis(LINGER)))?;
+        Ok(PooledSession {
+            place,
+            number,
+            conversation: Conversation::new(alloc),
+            stream,
+            is_quick: false,
+            is_stuck: false,
+            since,
+            waited: Duration::from_secs(0),
+            taken: 0,
+        })
+    }
+
+    /// Reads once. What is heard is put into the conversation.
+    pub fn hear(&mut self, buffer: &mut [u8]) -> Heard
+        ensures same { IsSame self.old self.new }
+        ensures heard { HasHeard None None (talk self.old) buffer.new (talk self.new) result }
+    {
+        hear_from(&mut self.stream, &mut self.conversation, buffer)
+    }
+
+    /// Whether all its messages are answered, and the client has all answers.
+    pub fn is_silent(&self) -> bool
+        ensures { IsTrue result ↔ IsSilent self.now }
+    {
+        !self.is_stuck && self.conversation.due() == Due::Nothing
+    }
+
+    /// Whether its next message may be an update.
+    pub fn is_update_next(&self) -> bool
+        ensures { IsTrue result ↔ IsUpdateNext self.now }
+    {
+        !self.is_stuck && self.conversation.due() == Due::Update
+    }
+
+    /// For whom its next message is.
+    pub fn turn(&self) -> Turn
+        ensures { (result ≡ Turn.Update) ↔ IsUpdateNext self.now }
+    {
+        if self.is_update_next() {
+            Turn::Update
+        } else {
+            Turn::Seat
+        }
+    }
+
+    /// It waits no more. Where it waited for its client to take an answer, that time counts.
+    pub fn rouse(&mut self, now: Instant)
+        ensures { HasWaited self.old self.new }
+    {
+        if self.is_stuck {
+            let more = now.saturating_duration_since(self.since);
+            self.waited = self.waited.saturating_add(more);
+        }
+    }
+
+    /// Writes once what is unsent, as far as the client takes it.
+    fn send(&mut self) -> io::Result<()>
+        ensures same { IsSame self.old self.new }
+        ensures sent { HasSent (talk self.old) (talk self.new) }
+    {
+        if self.conversation.unsent().is_empty() {
+            return Ok(());
+        }
+        let count = send_to(&mut self.stream, &mut self.conversation)?;
+        self.taken = self.taken.saturating_add(count as u64);
+        Ok(())
+    }
+
+    /// While octets wait for the client, its socket doesn't wait. Once it has all of them, the next ones have all the time again.
+    fn settle(&mut self) -> io::Result<()>
+        ensures same { IsSame self.old self.new }
+        ensures kept { talk self.new ≡ talk self.old }
+        ensures stuck { OnOk result ((self.new.is_stuck ≡ true) ↔ ((talk self.new).unsent ≡ [] → ⊥)) }
+    {
+        let is_stuck = !self.conversation.unsent().is_empty();
+        if is_stuck != self.is_stuck {
+            self.stream.set_nonblocking(is_stuck)?;
+            self.is_stuck = is_stuck;
+        }
+        if !is_stuck {
+            self.waited = Duration::from_secs(0);
+            self.taken = 0;
+        }
+        Ok(())
+    }
+
+    /// Whether the client has let octets wait for so long, and as long again for each MiB that it has taken of them.
+    fn is_slow(&self, limit: Duration) -> bool {
+        self.waited >= limit.saturating_mul(stretch(self.taken))
+    }
+
+    /// Writes what is unsent, and says what becomes of the session.
+    pub fn say(&mut self, limit: Duration) -> Then
+        ensures same { IsSame self.old self.new }
+        ensures sent { HasSent (talk self.old) (talk self.new) }
+        ensures becomes { Becomes (talk self.new) result }
+    {
+        if self.send().is_err() || self.settle().is_err() {
+            return Then::Ends(SessionEnd::WriteFailed);
+        }
+        if self.is_stuck {
+            return match self.is_slow(limit) {
+                true => Then::Ends(SessionEnd::WriteFailed),
+                false => Then::Waits,
+            };
+        }
+        if let Some(end) = self.conversation.end() {
+            return Then::Ends(end);
+        }
+        match self.conversation.due() {
+            Due::Nothing => Then::Listens,
+            Due::Update => Then::Updates,
+            Due::Other => Then::Queues,
+        }
+    }
+
+    /// What it waits for, where all its messages are answered.
+    pub fn queue(&self) -> Queue
+        ensures { WaitsFor (talk self.now).session result }
+    {
+        match self.conversation.end_of_input() {
+            SessionEnd::Truncated => Queue::Inside,
+            SessionEnd::Unbound
+            | SessionEnd::EndOfInput
+            | SessionEnd::Disconnected
+            | SessionEnd::ReadFailed
+            | SessionEnd::WriteFailed
+            | SessionEnd::NoMemory => Queue::Silent,
+        }
+    }
+}

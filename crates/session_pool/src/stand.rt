@@ -1,0 +1,27 @@
+//! Where the session of a place is. Plain enums.
+
+/// Where the session of a place is.
+#[derive(Clone, Copy, Debug)]
+pub enum PlaceState {
+    /// No session was ever given this place.
+    New,
+    /// Nowhere: the place may be given to a session that comes.
+    Free,
+    /// With the thread that serves it.
+    Away,
+    /// At its place, where it waits for its client.
+    Waits,
+    /// At its place, where it waits for a seat.
+    Ready,
+    /// At its place, where it waits for a thread that updates.
+    Updates,
+}
+
+/// What a session waits for that waits for its turn.
+#[derive(Clone, Copy, Debug, PartialEq, Eq)]
+pub enum Turn {
+    /// A seat.
+    Seat,
+    /// A thread that updates.
+    Update,
+}

@@ -1,5 +1,0 @@
-use Rattle.session_rules.proofs.Risen.{reads_rise}
-use Rattle.session_rules.proofs.laws.reads_rise.Goals as goal
-
-pub returns : goal.returns
-returns g c = reads_rise _

@@ -1,5 +1,0 @@
-use Rattle.session_talk.specs.Talk.{ends, goes}
-use Rattle.session_rules.proofs.taking.ask_role.Goals as goal
-
-pub returns : goal.returns
-returns g c = (c.role-role.result.1, goes c.role-role.ensures (goes c.learn.ensures ends))

@@ -1,5 +1,0 @@
-use Rattle.session_talk.proofs.Pairs.{pair_counts}
-use Rattle.session_talk.proofs.pair.pair_counts.Goals as goal
-
-pub returns : goal.returns
-returns g c = pair_counts g.L.Look.allows g.G.Gate.allows g.G.Gate.count g.met.G.Gate.counts

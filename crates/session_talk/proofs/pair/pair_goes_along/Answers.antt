@@ -1,5 +1,0 @@
-use Rattle.session_talk.proofs.Pairs.{pair_goes_along}
-use Rattle.session_talk.proofs.pair.pair_goes_along.Goals as goal
-
-pub returns : goal.returns
-returns g c = pair_goes_along g.L.Look.allows g.G.Gate.allows

@@ -1,0 +1,20 @@
+//! The committed records that come next. A log and a commit number flow in; a piece of the log flows out. What records ask for is not here.
+ghost use Rattle.std.specs.Prelude.{◌≡◌};
+ghost use Rattle.state_machine.specs.Executing.{due_after};
+
+use dir_store::Op;
+use log_entry::words::LogEntry;
+
+/// The committed records of a log that come next after so many. The log isn't walked, and nothing is copied.
+#[tactic(auto, using(std::proofs::lemmas::List::take_min, crate::proofs::Dues::none_due))]
+pub fn due(log: &[LogEntry<Op>], commit_number: u64, after: usize) -> &[LogEntry<Op>]
+    ensures { result.now ≡ due_after after commit_number log.now }
+{
+    let end = (commit_number as usize).min(log.len());
+    let committed = &log[..end];
+    if after < end {
+        &committed[after..]
+    } else {
+        &[]
+    }
+}
