@@ -1,4 +1,4 @@
-"""How inputs are damaged: cut, and with an octet changed. Octets flow in, their damaged forms flow out. What reads them is tests/damage's and
+"""How inputs are damaged: cut, and with an octet changed. Octets flow in, their damaged forms flow out. What reads them is tests/fuzz's and
 damaged_replica's."""
 from __future__ import annotations
 

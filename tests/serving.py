@@ -1,5 +1,5 @@
 """Tests of three running replicas: how their manager is asked, what each shows, and how a script of such tests is run. Clusters flow in, codes, names and a
-line a test flow out. What is tested stands in tests/serve and tests/streams."""
+line a test flow out. What is tested stands in tests/cluster and tests/streams."""
 from __future__ import annotations
 
 import tempfile
