@@ -19,7 +19,7 @@ use crate::telling::tell_room;
 use client_link::{Config, Directory, Door, Peer, accept_all, close};
 use crossbeam_channel::{Receiver, Sender, bounded};
 use peer_link::{SocketDialer, send_all};
-use session_pool::{PeerReaders as Sessions, Terms, descriptors, serve_sessions};
+use session_pool::{SessionPool, Terms, descriptors, serve_sessions};
 use std::alloc::{AllocError, Global};
 use std::io::Eprint;
 use std::net::{Net, SocketAddr, TcpListener, TcpStream};
@@ -320,7 +320,7 @@ where
             leaves: self.shared_parts.leaves.as_slice(),
         };
         let door = &self.shared_parts.client_door;
-        let Ok(hall) = Sessions::new(self.rt, self.alloc, door, &teller, terms) else {
+        let Ok(hall) = SessionPool::new(self.rt, self.alloc, door, &teller, terms) else {
             return Err(ServerError::NoMemory);
         };
         if !self.wait_for_state() {
