@@ -54,37 +54,43 @@ pub const INDEX_WORD: Word = Word {
 };
 
 /// A word without a name before it.
-fn placed<'a>(alloc: Global, word: &Word) -> Arg<'a> {
+fn placed_argument<'a>(alloc: Global, word: &Word) -> Arg<'a> {
     Arg::new(alloc, word.name).help(word.help)
 }
 
 /// A word with its name before its value.
-fn named<'a>(alloc: Global, word: &Word) -> Arg<'a> {
-    placed(alloc, word).long(word.name).value_name(word.value)
+fn named_argument<'a>(alloc: Global, word: &Word) -> Arg<'a> {
+    placed_argument(alloc, word)
+        .long(word.name)
+        .value_name(word.value)
 }
 
 /// A word with a number between two others.
 fn number<'a>(alloc: Global, word: &Word, first: i64, last: i64) -> Arg<'a> {
-    named(alloc, word).value_parser(value_parser!(u64).range(first..=last))
+    named_argument(alloc, word).value_parser(value_parser!(u64).range(first..=last))
 }
 
 /// A word as it is told the parser.
 fn argument<'a>(alloc: Global, word: &Word) -> Arg<'a> {
     match word.takes {
         Takes::Nothing => {
-            placed(alloc, word)
+            placed_argument(alloc, word)
                 .long(word.name)
                 .action(ArgAction::SetTrue)
         }
-        Takes::Text => named(alloc, word),
-        Takes::Texts => named(alloc, word).action(ArgAction::Append),
-        Takes::Wanted => named(alloc, word).required(true),
+        Takes::Text => named_argument(alloc, word),
+        Takes::Texts => named_argument(alloc, word).action(ArgAction::Append),
+        Takes::Wanted => named_argument(alloc, word).required(true),
         Takes::Number { first, last } => number(alloc, word, first, last).required(true),
         Takes::Count { last, default } => number(alloc, word, 1, last).default_value(default),
-        Takes::Place => placed(alloc, word).required(true),
-        Takes::OneOf(words) => placed(alloc, word).required(true).value_parser(words),
-        Takes::Many { at_least_one: true } => { placed(alloc, word).required(true).num_args(1..) }
-        Takes::Many { .. } => placed(alloc, word).num_args(0..),
+        Takes::Place => placed_argument(alloc, word).required(true),
+        Takes::OneOf(words) => placed_argument(alloc, word)
+            .required(true)
+            .value_parser(words),
+        Takes::Many { at_least_one: true } => {
+            placed_argument(alloc, word).required(true).num_args(1..)
+        }
+        Takes::Many { .. } => placed_argument(alloc, word).num_args(0..),
     }
 }
 

@@ -270,21 +270,21 @@ pub const SERVE: Order = Order {
 };
 
 /// An error in the words of `serve`.
-fn refused(alloc: Global, message: &str) -> Error {
+fn refusal(alloc: Global, message: &str) -> Error {
     refusal_by(command_of(alloc, &SERVE), message)
 }
 
 /// The replicas of a cluster, by their words.
 fn peers_in<'a>(alloc: Global, words: &[&'a str]) -> Result<Vec<Peer<'a>>, Error> {
     if !matches!(words.len(), 3 | 5 | 7) {
-        return Err(refused(alloc, "a cluster has 3, 5 or 7 replicas"));
+        return Err(refusal(alloc, "a cluster has 3, 5 or 7 replicas"));
     }
     let mut peers = Vec::new(alloc);
     for word in words {
         match peer_of(word) {
             Some(peer) => peers.push(peer)?,
             None => {
-                return Err(refused(
+                return Err(refusal(
                     alloc,
                     "a PEER is two addresses, or names of hosts, with their ports and a comma between them, and behind a further comma the URI that clients are referred to, where it is another",
                 ));
@@ -322,7 +322,7 @@ fn password_in<'a>(alloc: Global, matches: &ArgMatches<'a>) -> Result<Password<'
     ) {
         (Some(text), None) => Ok(Password::Text(as_text(alloc, text)?)),
         (None, Some(path)) => Ok(Password::File(path)),
-        _ => Err(refused(
+        _ => Err(refusal(
             alloc,
             "the password is told by one of --password and --password-file",
         )),
@@ -336,7 +336,7 @@ fn metrics_in(alloc: Global, matches: &ArgMatches<'_>) -> Result<Option<SocketAd
     };
     match word.parse::<SocketAddr>() {
         Ok(address) => Ok(Some(address)),
-        Err(_) => Err(refused(alloc, "--metrics takes an address, as 127.0.0.1:9389")),
+        Err(_) => Err(refusal(alloc, "--metrics takes an address, as 127.0.0.1:9389")),
     }
 }
 
@@ -344,7 +344,7 @@ fn metrics_in(alloc: Global, matches: &ArgMatches<'_>) -> Result<Option<SocketAd
 fn logs_in(alloc: Global, matches: &ArgMatches<'_>) -> Result<Logs, Error> {
     match logs_of(matches.get_strs("log").unwrap_or(&[])) {
         Some(logs) => Ok(logs),
-        None => Err(refused(
+        None => Err(refusal(
             alloc,
             "--log takes connections, updates, or both with a comma between them",
         )),
@@ -356,7 +356,7 @@ pub fn serving_in<'a>(alloc: Global, matches: &ArgMatches<'a>) -> Result<Serving
     let peers = peers_in(alloc, matches.get_strs("PEER").unwrap_or(&[]))?;
     let index = number_in(matches, "id");
     if index >= peers.len() as u64 {
-        return Err(refused(alloc, "the id is not below the number of PEERs"));
+        return Err(refusal(alloc, "the id is not below the number of PEERs"));
     }
     let (suffix, manager) = names_in(alloc, matches)?;
     let password = password_in(alloc, matches)?;

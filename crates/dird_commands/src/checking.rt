@@ -76,7 +76,7 @@ fn verdict_on(refused: &[RefusedRecord]) -> Status
 }
 
 /// What a directory without entries refuses of a text.
-fn checked(
+fn check_records(
     alloc: Global,
     empty: &EmptyDirectory,
     path: &str,
@@ -104,7 +104,7 @@ pub fn check_file<W: Write>(
     // Nothing is written but where the output can't be written; which refusal it is.
     ensures err { IfErr result (λ refusal. IsUnchecked refusal.fault text.now (W.contents output.old) (W.contents output.new)) }
 {
-    let checked = match checked(alloc, empty, path, text) {
+    let checked = match check_records(alloc, empty, path, text) {
         Ok(checked) => checked,
         Err(refusal) => return Err(refusal),
     };

@@ -5,7 +5,7 @@ use crate::fault::Fault;
 use crate::opening::EmptyDirectory;
 use crate::reasons::write_refusal;
 use crate::refusal::Refusal;
-use crate::texts::{asked, read_all};
+use crate::texts::{read_all, read_question};
 use command_line::Question;
 use filter_text::{print_text, read_text};
 use ldap_filter::Filter;
@@ -69,7 +69,7 @@ fn request_of(alloc: Global, question: &Question<'_>, item: &str) -> Result<Sear
 }
 
 /// The directory of the input's records.
-fn filled(
+fn fill_store(
     alloc: Global,
     empty: &EmptyDirectory,
     text: &[u8],
@@ -120,10 +120,10 @@ pub fn explain_input<R: BufRead, W: Write>(
     input: &mut R,
     output: &mut W,
 ) -> Result<(), Refusal> {
-    let request = asked(alloc, question)?;
+    let request = read_question(alloc, question)?;
     let items = items_of(alloc, &request.filter)?;
     let text = read_all(alloc, input)?;
-    let store = filled(alloc, empty, &text, question.base)?;
+    let store = fill_store(alloc, empty, &text, question.base)?;
     let whole = cost_of(alloc, empty, &store, &request)?;
     write_cost(alloc, question.filter, whole, output)?;
     for item in items.iter() {

@@ -93,7 +93,7 @@ pub fn schema_refusal(alloc: Global, path: &str, text: &str, fault: Fault) -> Re
     match schema_rule(number) {
         Some(rule) => {
             let told = schema_fault(alloc, text, rule, place);
-            Refusal::explained(fault, in_file(alloc, path, place, told))
+            Refusal::with_explanation(fault, in_file(alloc, path, place, told))
         }
         None => Refusal::from(fault),
     }
@@ -115,7 +115,7 @@ pub fn index_refusal(
     match index_rule(number) {
         Some(rule) => {
             let told = index_fault(alloc, schema, text, rule, place);
-            Refusal::explained(fault, in_file(alloc, path, place, told))
+            Refusal::with_explanation(fault, in_file(alloc, path, place, told))
         }
         None => Refusal::from(fault),
     }
@@ -128,7 +128,7 @@ pub fn name_refusal(alloc: Global, schema: &Schema, word: &str, text: &str, faul
     match fault {
         Fault::BadName => {
             let told = name_fault(alloc, schema, text);
-            Refusal::explained(fault, in_word(alloc, word, told))
+            Refusal::with_explanation(fault, in_word(alloc, word, told))
         }
         _ => Refusal::from(fault),
     }
@@ -153,7 +153,7 @@ pub fn filter_refusal(alloc: Global, text: &str, fault: Fault) -> Refusal
         ),
         _ => return Refusal::from(fault),
     };
-    Refusal::explained(fault, told)
+    Refusal::with_explanation(fault, told)
 }
 
 /// The fault of an LDIF text that is to become messages.
@@ -167,7 +167,7 @@ pub fn import_refusal(alloc: Global, text: &[u8], error: ImportError) -> Refusal
         ImportError::TooManyRecords => sentence(alloc, "there are over 2147483647 records"),
         ImportError::NoMemory => return Refusal::from(fault),
     };
-    Refusal::explained(fault, told)
+    Refusal::with_explanation(fault, told)
 }
 
 /// What the code says that a search ended with.
@@ -196,7 +196,7 @@ pub fn export_refusal(alloc: Global, text: &[u8], error: ExportError) -> Refusal
         ),
         ExportError::NoMemory => return Refusal::from(fault),
     };
-    Refusal::explained(fault, told)
+    Refusal::with_explanation(fault, told)
 }
 
 /// What is wrong with a record that is refused with a code.
@@ -240,7 +240,7 @@ pub fn check_refusal(alloc: Global, path: &str, text: &[u8], error: SearchError)
             return Refusal::from(Fault::from(error));
         }
     };
-    Refusal::explained(Fault::from(error), told)
+    Refusal::with_explanation(Fault::from(error), told)
 }
 
 /// The fault of a search of the entries of an LDIF text.
@@ -259,11 +259,11 @@ pub fn search_refusal(
         SearchError::Code { number } => answer_told(alloc, schema, base, number),
         SearchError::NoMemory => return Refusal::from(Fault::NoMemory),
     };
-    Refusal::explained(Fault::from(error), told)
+    Refusal::with_explanation(Fault::from(error), told)
 }
 
 /// The octets of the line of this number, counted from 1.
-fn numbered(lines: &[Vec<u8>], number: u64) -> &[u8] {
+fn line_of(lines: &[Vec<u8>], number: u64) -> &[u8] {
     match lines.get((number as usize).saturating_sub(1)) {
         Some(line) => line.as_slice(),
         None => &[],
@@ -272,7 +272,7 @@ fn numbered(lines: &[Vec<u8>], number: u64) -> &[u8] {
 
 /// What is wrong with a line of a script.
 fn script_told(alloc: Global, lines: &[Vec<u8>], number: u64) -> Result<String, AllocError> {
-    let told = script_fault(alloc, numbered(lines, number), number)?;
+    let told = script_fault(alloc, line_of(lines, number), number)?;
     format!(in alloc; "line {number}: {told}")
 }
 
@@ -281,7 +281,9 @@ pub fn script_refusal(alloc: Global, lines: &[Vec<u8>], fault: Fault) -> Refusal
     ensures { result.fault ≡ fault }
 {
     match fault {
-        Fault::BadLine(number) => { Refusal::explained(fault, script_told(alloc, lines, number)) }
+        Fault::BadLine(number) => {
+            Refusal::with_explanation(fault, script_told(alloc, lines, number))
+        }
         _ => Refusal::from(fault),
     }
 }
@@ -302,7 +304,7 @@ pub fn session_refusal(alloc: Global, fault: Fault) -> Refusal
         Fault::CannotWrite => sentence(alloc, "standard output: a write failed"),
         _ => return Refusal::from(fault),
     };
-    Refusal::explained(fault, told)
+    Refusal::with_explanation(fault, told)
 }
 
 /// The fault of a session over a directory of this schema: of its lines, or of the names that the directory begins with.

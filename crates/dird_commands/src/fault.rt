@@ -74,7 +74,7 @@ impl From<ScriptError> for Fault {
 }
 
 /// The refusal of this number at a line or a place.
-fn placed(number: u32, place: usize) -> Fault
+fn at_place(number: u32, place: usize) -> Fault
     ensures { result ≡ Placed number place }
 {
     Fault::Placed { number, place }
@@ -83,10 +83,10 @@ fn placed(number: u32, place: usize) -> Fault
 impl From<SchemaError> for Fault {
     fn from(error: SchemaError) -> Fault {
         match error {
-            SchemaError::BadDescription { line } => placed(12, line),
-            SchemaError::UnknownName { line } => placed(13, line),
-            SchemaError::LoopInSup { line } => placed(14, line),
-            SchemaError::NoEquality { line } => placed(15, line),
+            SchemaError::BadDescription { line } => at_place(12, line),
+            SchemaError::UnknownName { line } => at_place(13, line),
+            SchemaError::LoopInSup { line } => at_place(14, line),
+            SchemaError::NoEquality { line } => at_place(15, line),
             SchemaError::NoMemory => Fault::NoMemory,
         }
     }
@@ -95,9 +95,9 @@ impl From<SchemaError> for Fault {
 impl From<IndexError> for Fault {
     fn from(error: IndexError) -> Fault {
         match error {
-            IndexError::BadDescription { line } => placed(12, line),
-            IndexError::UnknownName { line } => placed(13, line),
-            IndexError::IndexWithoutRule { line } => placed(16, line),
+            IndexError::BadDescription { line } => at_place(12, line),
+            IndexError::UnknownName { line } => at_place(13, line),
+            IndexError::IndexWithoutRule { line } => at_place(16, line),
             IndexError::NoMemory => Fault::NoMemory,
         }
     }
@@ -110,7 +110,7 @@ impl From<FilterTextError> for Fault {
 
     fn from(error: FilterTextError) -> Fault {
         match error {
-            FilterTextError::BadFilterText { at } => placed(18, at),
+            FilterTextError::BadFilterText { at } => at_place(18, at),
             FilterTextError::TooDeep => Fault::TooDeep,
             FilterTextError::TooManyItems => Fault::TooManyItems,
             FilterTextError::NoMemory => Fault::NoMemory,

@@ -65,7 +65,7 @@ pub fn empty(alloc: Global, schema: Arc<Schema>, indexes: Indexes) -> Result<Sto
 }
 
 /// The directory at first: the sample, or one without entries; and the number of its last update.
-fn opened(
+fn open_store(
     alloc: Global,
     schema: Arc<Schema>,
     indexes: Indexes,
@@ -141,7 +141,7 @@ pub fn answer_session<R: BufRead, W: Write>(
         sample,
     } = options;
     let shared = Arc::try_clone(&schema)?;
-    let (store, number) = opened(alloc, shared, indexes, sample)?;
+    let (store, number) = open_store(alloc, shared, indexes, sample)?;
     let mut directory = LocalDirectory::new(alloc, store, number);
     answer_over(alloc, &schema, &mut directory, input, output)
 }

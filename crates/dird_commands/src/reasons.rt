@@ -46,14 +46,14 @@ pub fn read_refusal(alloc: Global, what: &str, kind: ErrorKind) -> Refusal
     if kind == ErrorKind::OutOfMemory {
         return Refusal::from(Fault::NoMemory);
     }
-    Refusal::explained(Fault::CannotRead, because(alloc, what, kind))
+    Refusal::with_explanation(Fault::CannotRead, because(alloc, what, kind))
 }
 
 /// The output that can't be written.
 pub fn write_refusal(alloc: Global, kind: ErrorKind) -> Refusal
     ensures { result.fault ≡ Fault.CannotWrite }
 {
-    Refusal::explained(Fault::CannotWrite, because(alloc, "standard output", kind))
+    Refusal::with_explanation(Fault::CannotWrite, because(alloc, "standard output", kind))
 }
 
 /// A file of a secret that others may read.
@@ -63,5 +63,5 @@ pub fn open_to_others(alloc: Global, path: &str) -> Refusal {
         Ok(name) => format!(in alloc; "{name}: group or others may read it: chmod 600 {name}"),
         Err(error) => Err(error),
     };
-    Refusal::explained(Fault::OpenToOthers, told)
+    Refusal::with_explanation(Fault::OpenToOthers, told)
 }

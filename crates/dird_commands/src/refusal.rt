@@ -16,7 +16,7 @@ pub struct Refusal {
 
 impl Refusal {
     /// A fault with what was made to explain it.
-    pub fn explained(fault: Fault, explanation: Result<String, AllocError>) -> Refusal
+    pub fn with_explanation(fault: Fault, explanation: Result<String, AllocError>) -> Refusal
         ensures { result.fault ≡ fault }
     {
         Refusal {

@@ -46,7 +46,7 @@ pub fn write_out<W: Write>(alloc: Global, octets: &[u8], output: &mut W) -> Resu
 }
 
 /// What is written of an LDIF text.
-fn imported(alloc: Global, text: &[u8]) -> Result<Vec<u8>, Refusal>
+fn import_records(alloc: Global, text: &[u8]) -> Result<Vec<u8>, Refusal>
     ensures ok { IfOk result (λ v. IsImport text.now v.items) }
     ensures err { IfErr result (λ refusal. IsImportCause refusal.fault text.now) }
 {
@@ -65,7 +65,7 @@ fn import_of<R: BufRead>(alloc: Global, input: &mut R) -> Result<Vec<u8>, Refusa
         Ok(text) => text,
         Err(refusal) => return Err(refusal),
     };
-    imported(alloc, &text)
+    import_records(alloc, &text)
 }
 
 /// Turns LDIF into lines of hex, an AddRequest for each record.
@@ -86,7 +86,7 @@ pub fn import_input<R: BufRead, W: Write>(
 }
 
 /// What is written of lines of hex.
-fn exported(alloc: Global, text: &[u8]) -> Result<Vec<u8>, Refusal>
+fn export_lines(alloc: Global, text: &[u8]) -> Result<Vec<u8>, Refusal>
     ensures ok { IfOk result (λ v. IsExport text.now v.items) }
     ensures err { IfErr result (λ refusal. IsExportCause refusal.fault text.now) }
 {
@@ -105,7 +105,7 @@ fn export_of<R: BufRead>(alloc: Global, input: &mut R) -> Result<Vec<u8>, Refusa
         Ok(text) => text,
         Err(refusal) => return Err(refusal),
     };
-    exported(alloc, &text)
+    export_lines(alloc, &text)
 }
 
 /// Turns lines of hex, the responses to a search, into LDIF.
@@ -126,7 +126,7 @@ pub fn export_input<R: BufRead, W: Write>(
 }
 
 /// The texts of words.
-fn owned(alloc: Global, words: &[&str]) -> Result<Vec<String>, AllocError>
+fn copy_words(alloc: Global, words: &[&str]) -> Result<Vec<String>, AllocError>
     ensures { IfOk result (λ v. map string_bytes v.items ≡ map (λ w. w.now) words.now) }
 {
     let mut texts = Vec::new(alloc);
@@ -150,12 +150,12 @@ fn request_of(alloc: Global, question: &Question<'_>) -> Result<SearchRequest, F
         time_limit: 0,
         types_only: false,
         filter,
-        attributes: owned(alloc, &question.attributes)?,
+        attributes: copy_words(alloc, &question.attributes)?,
     })
 }
 
 /// The search request of a question, whose filter is explained where it is refused.
-pub fn asked(alloc: Global, question: &Question<'_>) -> Result<SearchRequest, Refusal>
+pub fn read_question(alloc: Global, question: &Question<'_>) -> Result<SearchRequest, Refusal>
     ensures err { IfErr result (λ refusal. IsUnasked question.now.filter.now refusal.fault) }
     ensures ok { IfOk result (λ r. IsRequestOf question.now.base.now question.now.scope question.now.filter.now (map (λ w. w.now) question.now.attributes.items) (search_view r)) }
 {
@@ -166,7 +166,7 @@ pub fn asked(alloc: Global, question: &Question<'_>) -> Result<SearchRequest, Re
 }
 
 /// What is shown of the directory of an LDIF text, whose records are added in order to one without entries.
-fn searched(
+fn search_records(
     alloc: Global,
     empty: &EmptyDirectory,
     text: &[u8],
@@ -204,7 +204,7 @@ fn answer_of<R: BufRead>(
         Ok(text) => text,
         Err(refusal) => return Err(refusal),
     };
-    searched(alloc, empty, &text, request)
+    search_records(alloc, empty, &text, request)
 }
 
 /// Searches the directory of an LDIF text.
@@ -224,7 +224,7 @@ pub fn search_input<R: BufRead, W: Write>(
         question.now.base.now question.now.scope question.now.filter.now (map (λ w. w.now) question.now.attributes.items)
         refusal.fault (R.remaining input.old) (W.contents output.old) (W.contents output.new)) }
 {
-    let request = match asked(alloc, question) {
+    let request = match read_question(alloc, question) {
         Ok(request) => request,
         Err(refusal) => return Err(refusal),
     };
