@@ -37,7 +37,7 @@ fn put_answered<W: Write>(
 }
 
 /// Sees to it that what is written goes on its way before more input is awaited.
-fn flushed<W: Write>(output: &mut W, next: Next) -> Result<Next, LineFault>
+fn flush_output<W: Write>(output: &mut W, next: Next) -> Result<Next, LineFault>
     ensures ok { IfOk result (λ after. HasFlushed (W.contents output.old) (W.contents output.new) next after) }
     ensures err { IfErr result (λ fault. HasNotFlushed (W.contents output.old) (W.contents output.new) next fault) }
 {
@@ -107,7 +107,7 @@ impl Terms<'_> {
     {
         match session.feed(piece) {
             Ok(()) => match self.answer_ready(session, directory, output) {
-                Ok(next) => flushed(output, next),
+                Ok(next) => flush_output(output, next),
                 Err(fault) => Err(fault),
             },
             Err(_) => Err(LineFault::NoMemory),

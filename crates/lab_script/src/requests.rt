@@ -28,7 +28,7 @@ fn update_in(alloc: Global, text: &[u8]) -> Result<Op, LineError>
 }
 
 /// A client, which names itself, asks a replica for an update.
-fn requested(replica: u64, client: u64, number: u64, op: Op) -> LabEvent
+fn request_event(replica: u64, client: u64, number: u64, op: Op) -> LabEvent
     ensures { event_view result ≡ requested replica client number op }
 {
     LabEvent::Happens {
@@ -60,7 +60,7 @@ fn request_of(
         → IsRequestOf (record { replica = replica; client = client; number = number; text = text.now }) e → ⊥ }
 {
     let op = update_in(alloc, text)?;
-    Ok(requested(replica, client, number, op))
+    Ok(request_event(replica, client, number, op))
 }
 
 /// The event of a request, behind its word.

@@ -31,7 +31,11 @@ pub fn read_records(alloc: Global, text: &[u8]) -> Result<Vec<Record>, SearchErr
 }
 
 /// The text of what a search shows.
-fn shown(alloc: Global, store: &Store, request: &SearchRequest) -> Result<Vec<u8>, SearchError>
+fn text_of_answer(
+    alloc: Global,
+    store: &Store,
+    request: &SearchRequest,
+) -> Result<Vec<u8>, SearchError>
     ensures written { IfOk result (λ v. IsShown (answer_of store.now.directory (search_view request.now)) v.items) }
     ensures refused { IfErr result (λ e. IsShowFault e (answer_of store.now.directory (search_view request.now))) }
 {
@@ -61,7 +65,7 @@ pub fn search_text(
     let mut store = store;
     let records = read_records(alloc, text)?;
     add_records(alloc, &mut store, &records)?;
-    shown(alloc, &store, request)
+    text_of_answer(alloc, &store, request)
 }
 
 /// A directory without entries with the records of a text (RFC 2849), which take the numbers from 1 on; or the first line that is no LDIF, else the first

@@ -33,7 +33,7 @@ impl<'a, R> SocketDialer<'a, R> {
 
 impl<'a, R: Net<Stream = TcpStream>> SocketDialer<'a, R> {
     /// A stream on which small frames go at once.
-    fn connected(&self, address: &SocketAddr) -> io::Result<TcpStream> {
+    fn connect(&self, address: &SocketAddr) -> io::Result<TcpStream> {
         let stream = TcpStream::connect_timeout(self.rt, address, self.limit)?;
         stream.set_nodelay(true)?;
         stream.set_write_timeout(Some(self.limit))?;
@@ -44,7 +44,7 @@ impl<'a, R: Net<Stream = TcpStream>> SocketDialer<'a, R> {
     fn connected_to(&self, host: &str, port: u16) -> Option<TcpStream> {
         let addresses = (host, port).to_socket_addrs(self.rt).ok()?;
         for address in addresses {
-            if let Ok(stream) = self.connected(&address) {
+            if let Ok(stream) = self.connect(&address) {
                 return Some(stream);
             }
         }
@@ -69,7 +69,7 @@ impl<'a, R: Net<Stream = TcpStream>> Dial for SocketDialer<'a, R> {
 
     fn dial(&mut self) -> Option<TcpStream> {
         match self.address {
-            Address::Numbers(address) => self.connected(&address).ok(),
+            Address::Numbers(address) => self.connect(&address).ok(),
             Address::Name { host, port } => self.connected_to(host, port),
         }
     }

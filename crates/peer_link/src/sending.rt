@@ -32,7 +32,7 @@ fn greet<T, F: Framing<T>, W: Write>(framing: &mut F, stream: &mut W) -> bool {
 }
 
 /// Makes a stream and greets on it, as often as it takes; none where it is stopped meanwhile.
-fn dialed<R: Wait + Clock, T, F: Framing<T>, D: Dial>(
+fn dial_and_greet<R: Wait + Clock, T, F: Framing<T>, D: Dial>(
     rt: &R,
     outbox: &Outbox<T>,
     framing: &mut F,
@@ -53,7 +53,7 @@ fn dialed<R: Wait + Clock, T, F: Framing<T>, D: Dial>(
 }
 
 /// Sees to it that there is a stream; none where it is stopped meanwhile.
-fn connected<R: Wait + Clock, T, F: Framing<T>, D: Dial>(
+fn keep_connected<R: Wait + Clock, T, F: Framing<T>, D: Dial>(
     rt: &R,
     outbox: &Outbox<T>,
     framing: &mut F,
@@ -66,7 +66,7 @@ fn connected<R: Wait + Clock, T, F: Framing<T>, D: Dial>(
             return Some(stream);
         }
     }
-    dialed(rt, outbox, framing, dialer)
+    dial_and_greet(rt, outbox, framing, dialer)
 }
 
 /// Writes all frames of the item that was begun; whether the stream took them.
@@ -96,14 +96,14 @@ pub fn send_all<R: Wait + Clock, T: Drop, F: Framing<T>, D: Dial>(
     framing: &mut F,
     dialer: &mut D,
 ) {
-    let mut stream = dialed(rt, outbox, framing, dialer);
+    let mut stream = dial_and_greet(rt, outbox, framing, dialer);
     let mut last: Option<Instant> = None;
     for _ in rt.forever() {
         let Some(item) = outbox.take(rt) else {
             break;
         };
         let was_idle = was_idle(rt, &mut last);
-        let Some(mut open) = connected(rt, outbox, framing, dialer, stream, was_idle) else {
+        let Some(mut open) = keep_connected(rt, outbox, framing, dialer, stream, was_idle) else {
             return;
         };
         framing.begin(item);
