@@ -185,13 +185,13 @@ impl<D: Device> ViewStore<D> {
         };
         match taken {
             Some((slot, gates)) => match own_pair(slot, self.cluster) {
-                Some(pair) => {
+                Ok(pair) => {
                     self.state = State::Ready(slot.sequence, gates);
                     Ok(pair)
                 }
-                None => {
+                Err(fault) => {
                     self.state = State::New;
-                    Err(ViewStoreError::ForeignCluster)
+                    Err(fault)
                 }
             },
             None => {
