@@ -8,7 +8,7 @@ use vr_wire::WireError;
 /// Why nothing, or no more, is measured.
 #[derive(Clone, Copy, Debug, PartialEq, Eq, Error)]
 pub enum Fault {
-    #[error("usage: bench ITEMS, or: bench events RECORDS, or: bench frames RECORDS")]
+    #[error("usage: bench ITEMS, or: bench requests ITEMS, or: bench events RECORDS, or: bench frames RECORDS")]
     BadCommandLine,
     #[error("the add of number {number} was refused")]
     AddRefused { number: u64 },

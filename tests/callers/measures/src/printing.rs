@@ -72,3 +72,15 @@ pub fn print_frame(rt: &(impl Print + Eprint), kind: &str, framed: &Framed) -> R
     print_records(rt, kind, framed.records, framed.octets)?;
     print_times(rt, framed.writing, framed.reading)
 }
+
+/// Prints how many octets the responses to requests of a kind have.
+pub fn print_answered(rt: &impl Print, kind: &str, octets: usize) -> Result<(), Fault> {
+    println!(rt; "{kind} octets={octets}")?;
+    Ok(())
+}
+
+/// Prints how long one request took.
+pub fn print_request(rt: &impl Eprint, nanoseconds: u128) -> Result<(), Fault> {
+    eprintln!(rt; "  {nanoseconds} ns a request")?;
+    Ok(())
+}

@@ -1,10 +1,14 @@
 //! What the words of a command line ask to measure. Words flow in; counts flow out as output, and times beside them. How each is measured is not here.
+ghost use Rattle.std.specs.Prelude.{◌+◌, ◌<◌, IfOk};
+ghost use Rattle.dir_search.specs.indexed_tree.Stored.{NumbersBelow};
+
 use crate::fault::Fault;
 use crate::filling::filled;
 use crate::framing::frame;
 use crate::handling::measure_events;
 use crate::logs::{Kind, start_view};
 use crate::printing::{print_adds, print_frame, print_search};
+use crate::requests::measure_requests;
 use crate::searching::{FILTERS, measure, narrow, range};
 use dir_store::Store;
 use std::alloc::Global;
@@ -16,6 +20,8 @@ use vr_wire::Cluster;
 enum Measurement {
     /// Searches of a directory of so many items.
     Searches(u32),
+    /// Requests in a session at a directory of so many items.
+    Requests(u32),
     /// Events at a node whose log grows to so many records.
     Events(u32),
     /// Frames of logs of so many records.
@@ -36,6 +42,7 @@ fn count_of(words: &[String], place: usize) -> Result<u32, Fault> {
 /// What the words ask for.
 fn asked(words: &[String]) -> Result<Measurement, Fault> {
     match words.get(1) {
+        Some(word) if word.as_str() == "requests" => Ok(Measurement::Requests(count_of(words, 2)?)),
         Some(word) if word.as_str() == "events" => Ok(Measurement::Events(count_of(words, 2)?)),
         Some(word) if word.as_str() == "frames" => Ok(Measurement::Frames(count_of(words, 2)?)),
         _ => Ok(Measurement::Searches(count_of(words, 1)?)),
@@ -43,7 +50,9 @@ fn asked(words: &[String]) -> Result<Measurement, Fault> {
 }
 
 /// A directory of so many items; how long adding them took is printed.
-fn fill(rt: &(impl Clock + Eprint), alloc: Global, count: u32) -> Result<Store, Fault> {
+fn fill(rt: &(impl Clock + Eprint), alloc: Global, count: u32) -> Result<Store, Fault>
+    ensures { IfOk result (λ store. NumbersBelow (count + 3) store.directory.entries) }
+{
     let began = Instant::now(rt)?;
     let store = filled(alloc, count)?;
     let took = began.elapsed(rt)?.as_millis();
@@ -136,7 +145,8 @@ fn measure_frames(
     show_frame(rt, alloc, Kind::Deletes, count)
 }
 
-/// Measures what the words ask for: the program's name, and then `N` for searches, `events N` or `frames N`.
+/// Measures what the words ask for: the program's name, and then `N` for searches, `requests N`, `events N` or
+/// `frames N`.
 pub fn run(
     rt: &(impl Clock + Print + Eprint),
     alloc: Global,
@@ -144,6 +154,10 @@ pub fn run(
 ) -> Result<(), Fault> {
     match asked(words)? {
         Measurement::Searches(count) => measure_searches(rt, alloc, count),
+        Measurement::Requests(count) => {
+            let store = fill(rt, alloc, count)?;
+            measure_requests(rt, alloc, store, count)
+        }
         Measurement::Events(count) => measure_events(rt, alloc, count as u64),
         Measurement::Frames(count) => measure_frames(rt, alloc, count),
     }
