@@ -1,8 +1,11 @@
 //! Writes frames and reads them: a string with its length and the number of its octets that aren't zero.
 ghost use Rattle.std.specs.Prelude.{◌≡◌, ◌<◌, ◌≤◌, ◌+◌, ◌%◌, ◌^◌, ◌++◌, ◌∷◌, [], nat_le, ◌&&◌, true, false, length, drop, OnOk, OnErr, IfSome, IfNone};
-ghost use Rattle.journal.specs.Frames.{digits, number, nonzeros, frame, is_whole, body_at, after};
+ghost use Rattle.journal.specs.Frames.{are_digits, digits, number, nonzeros, frame, head_length, is_whole, body_at, after};
 
 use std::alloc::AllocError;
+
+/// How many octets a header has.
+pub const HEADER: usize = 10;
 
 /// How many of these octets aren't zero.
 pub fn nonzeros(octets: &[u8]) -> u64
@@ -98,6 +101,33 @@ pub fn next_string(octets: &[u8]) -> Option<(&[u8], &[u8])>
         Some((string, behind))
     } else {
         None
+    }
+}
+
+/// How many octets the frame at the front has, as its header says; none where no whole header stands there.
+pub fn announced(octets: &[u8]) -> Option<u64>
+    ensures some { IfSome result (λ n. n ≡ 10 + head_length octets.now) }
+    ensures header { IfSome result (λ n. 10 ≤ length octets.now) }
+    ensures none { IfNone result (are_digits 10 octets.now ≡ false) }
+{
+    let [a, b, c, d, e, f, g, h, i, j, ..] = octets else {
+        return None;
+    };
+    if !are_digits(*a, *b, *c, *d, *e) || !are_digits(*f, *g, *h, *i, *j) {
+        return None;
+    }
+    Some(HEADER as u64 + number(*a, *b, *c, *d, *e))
+}
+
+/// How long the string of the frame at the front is; none where the front isn't a whole frame.
+pub fn string_size(octets: &[u8]) -> Option<usize>
+    ensures whole { IfSome result (λ n. is_whole octets.now ≡ true) }
+    ensures size { IfSome result (λ n. n ≡ length (body_at octets.now)) }
+    ensures none { IfNone result (is_whole octets.now ≡ false) }
+{
+    match next_string(octets) {
+        Some((string, _)) => Some(string.len()),
+        None => None,
     }
 }
 

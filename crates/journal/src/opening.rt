@@ -1,16 +1,14 @@
-//! Opens a journal: reads its strings, and clears what a crash left behind them.
-ghost use Rattle.std.specs.Prelude.{◌≡◌, ◌≤◌, ◌+◌, length, min, replicate, IfOk, OnOk, IsErrOf};
-ghost use Rattle.journal.specs.Device.{HasCause, HasRisen, LeavesOnly, Only};
+//! Opens a journal with all its strings in memory: the plain reading that a reader is compared with.
+ghost use Rattle.std.specs.Prelude.{◌≡◌, ◌≤◌, IfOk, OnOk, IsErrOf};
+ghost use Rattle.journal.specs.Device.{HasRisen, LeavesOnly, Only};
 ghost use Rattle.journal.specs.Frames.{recorded};
-ghost use Rattle.journal.specs.Journal.{Cleared, IsRead, IsSettled, octets_of};
+ghost use Rattle.journal.specs.Journal.{IsRead, IsSettled, octets_of};
 
-use crate::device::{Device, DeviceFailure};
+use crate::device::Device;
 use crate::fault::JournalError;
 use crate::frames::next_string;
+use crate::zeroing::clear;
 use std::alloc::{AllocError, Global};
-
-/// How many octets a header has.
-const HEADER: usize = 10;
 
 /// What a device holds: strings, and where their frames end.
 #[derive(Drop)]
@@ -33,74 +31,9 @@ pub fn read_strings(alloc: Global, octets: &[u8]) -> Result<Found, AllocError>
     Ok(Found { strings, end })
 }
 
-/// Writes zeros over the place of a header, so that no frame stands there.
-fn clear_header<D: Device>(
-    device: &mut D,
-    end: u64,
-    zeros: &[u8],
-    room: u64,
-) -> Result<(), DeviceFailure>
-    requires read { IsRead (recorded (D.seen device.old)) end (D.seen device.old) }
-    requires durable { Only (D.seen device.old) (D.may_leave device.old) }
-    requires zeros { zeros.now ≡ replicate (length zeros.now) 0 }
-    requires header { length zeros.now ≡ min room 10 }
-    requires room { end + room ≡ length (D.seen device.old) }
-    ensures cleared { OnOk result (Cleared (recorded (D.seen device.old)) end (length zeros.now) room (D.seen device.new)) }
-    ensures durable { OnOk result (Only (D.seen device.new) (D.may_leave device.new)) }
-    ensures any_moment { LeavesOnly D.moment D.left_since device.old device.new (λ c. recorded c ≡ recorded (D.seen device.old)) }
-    ensures cause { HasCause (D.failure_count device.old) (D.failure_count device.new) result }
-{
-    device.write_at(end, zeros)?;
-    device.sync()?;
-    Ok(())
-}
-
-/// Writes zeros over all that stands behind the strings, once no header stands there.
-fn clear_rest<D: Device>(
-    device: &mut D,
-    end: u64,
-    zeros: &[u8],
-    header: u64,
-    old: &[u8],
-) -> Result<(), DeviceFailure>
-    requires cleared { Cleared (recorded old.now) end header (length zeros.now) (D.seen device.old) }
-    requires durable { Only (D.seen device.old) (D.may_leave device.old) }
-    requires zeros { zeros.now ≡ replicate (length zeros.now) 0 }
-    requires header { header ≡ min (length zeros.now) 10 }
-    requires room { end + length zeros.now ≡ length (D.seen device.old) }
-    ensures settled { OnOk result (IsSettled (D.seen device.new) (D.may_leave device.new) (recorded old.now) end) }
-    ensures any_moment { LeavesOnly D.moment D.left_since device.old device.new (λ c. recorded c ≡ recorded old.now) }
-    ensures cause { HasCause (D.failure_count device.old) (D.failure_count device.new) result }
-{
-    device.write_at(end, zeros)?;
-    device.sync()?;
-    Ok(())
-}
-
-/// Clears all behind the strings of a device that holds these octets: first the place of a header, so that no torn write
-/// of the rest can make a frame there, then the rest. A crash at any moment of the call leaves the same strings.
-pub fn clear<D: Device>(
-    device: &mut D,
-    end: u64,
-    zeros: &[u8],
-    old: &[u8],
-) -> Result<(), DeviceFailure>
-    requires old { old.now ≡ D.seen device.old }
-    requires read { IsRead (recorded old.now) end old.now }
-    requires durable { Only (D.seen device.old) (D.may_leave device.old) }
-    requires zeros { zeros.now ≡ replicate (length zeros.now) 0 }
-    requires room { end + length zeros.now ≡ length old.now }
-    ensures settled { OnOk result (IsSettled (D.seen device.new) (D.may_leave device.new) (recorded old.now) end) }
-    ensures any_moment { LeavesOnly D.moment D.left_since device.old device.new (λ c. recorded c ≡ recorded old.now) }
-    ensures cause { HasCause (D.failure_count device.old) (D.failure_count device.new) result }
-{
-    let header = zeros.len().min(HEADER);
-    clear_header(device, end, &zeros[..header], zeros.len() as u64)?;
-    clear_rest(device, end, zeros, header as u64, old)
-}
-
-/// Opens a device that a crash may have left: gives its strings, and clears all behind them. A crash at any moment of the
-/// call leaves the same strings. What takes memory comes before anything is written.
+/// Opens a device that a crash may have left: gives all its strings at once, and clears all behind them. A crash at any moment of
+/// the call leaves the same strings. What takes memory comes before anything is written. `StringReader` gives the same strings one
+/// by one; tests compare.
 pub fn open<D: Device>(alloc: Global, device: &mut D) -> Result<Found, JournalError>
     // After a restart, what is read is what is on the disk.
     requires { Only (D.seen device.old) (D.may_leave device.old) }
@@ -112,8 +45,7 @@ pub fn open<D: Device>(alloc: Global, device: &mut D) -> Result<Found, JournalEr
 {
     let octets = read_all(alloc, device)?;
     let found = read_strings(alloc, &octets)?;
-    let zeros = vec![in alloc; 0u8; octets.len() - found.end as usize]?;
-    clear(device, found.end, &zeros, &octets)?;
+    clear(alloc, device, found.end, octets.len() as u64)?;
     Ok(found)
 }
 
