@@ -1,3 +1,6 @@
 pub mod Codes
 pub mod Lines
 pub mod Records
+pub mod Words
+pub mod Filters
+pub mod Scripts

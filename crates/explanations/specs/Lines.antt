@@ -1,14 +1,14 @@
 -- Lines of a text, and what is wrong with one of hex: octets come in, a line or a sentence goes out.
-use Rattle.std.specs.Prelude.{◌++◌, ◌||◌, ℕ, ◌+◌, ◌-◌, ◌/◌, ◌%◌, List, [], ◌∷◌, Bool, false, nat_eq, nat_lt, cond, codes, decimal, slice_get, Option, None, Some}
-use Rattle.std.specs.Fmt.{digits}
+use Rattle.std.specs.Prelude.{◌++◌, ◌||◌, ℕ, ◌+◌, ◌-◌, List, [], ◌∷◌, nat_eq, nat_lt, cond, codes, decimal, slice_get, Option, None, Some}
 use Rattle.std.specs.List.{slice_split}
 use Rattle.std.specs.Char.{is_ascii_hexdigit}
 use Rattle.schema_meaning.specs.schema_text.Texts.{without_return}
+use Rattle.explanations.specs.Words.{octet_digits}
 
 -- an octet in a sentence: itself, or a backslash and two hexadecimal digits where it is no ASCII that prints
 abbrev pub octet_shown : ℕ → List ℕ
 octet_shown octet =
-    cond (nat_lt octet 32 || nat_lt 126 octet) (codes "\\" ++ digits 16 false (octet / 16) ++ digits 16 false (octet % 16)) (octet ∷ [])
+    cond (nat_lt octet 32 || nat_lt 126 octet) (octet_digits octet) (octet ∷ [])
 
 -- an octet that is no hexadecimal digit, in this column
 abbrev pub bad_octet : ℕ → ℕ → List ℕ

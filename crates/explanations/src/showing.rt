@@ -1,6 +1,7 @@
 //! Octets of a text as they are shown in a sentence: on one line, and not too long.
-ghost use Rattle.std.specs.Prelude.{◌≡◌, IfOk, string_bytes};
+ghost use Rattle.std.specs.Prelude.{◌≡◌, ◌++◌, IfOk, OnOk, chars, flat_map, string_bytes, take};
 ghost use Rattle.explanations.specs.Lines.{octet_shown};
+ghost use Rattle.explanations.specs.Words.{octet_digits, character_shown, raw_octet_shown, cut, word_shown};
 
 use std::alloc::{AllocError, Global};
 use std::fmt::Write;
@@ -9,54 +10,125 @@ use std::fmt::Write;
 const LIMIT: usize = 64;
 
 /// Adds an octet as a backslash and two hexadecimal digits.
-fn push_digits(sentence: &mut String, octet: u8) -> Result<(), AllocError> {
-    write!(sentence, "\\{octet:02x}")
+fn push_digits(sentence: &mut String, octet: u8) -> Result<(), AllocError>
+    ensures { OnOk result (string_bytes sentence.new ≡ string_bytes sentence.old ++ octet_digits octet) }
+{
+    let (high, low) = (octet / 16, octet % 16);
+    write!(sentence, "\\{high:x}{low:x}")
+}
+
+/// Adds octets so, one behind the other.
+fn push_all_digits(sentence: &mut String, octets: &[u8]) -> Result<(), AllocError>
+    ensures { OnOk result (string_bytes sentence.new ≡ string_bytes sentence.old ++ flat_map octet_digits octets.now) }
+{
+    for octet in octets {
+        push_digits(sentence, *octet)?;
+    }
+    Ok(())
 }
 
 /// Adds a character; in digits, where it would end the line or move the cursor.
-fn push_character(sentence: &mut String, character: char) -> Result<(), AllocError> {
+fn push_character(sentence: &mut String, character: char) -> Result<(), AllocError>
+    ensures { OnOk result (string_bytes sentence.new ≡ string_bytes sentence.old ++ character_shown character) }
+{
     if character.is_control() {
-        for octet in character.encode_utf8(&mut [0; 4]).as_bytes() {
-            push_digits(sentence, *octet)?;
-        }
-        return Ok(());
+        let mut room = [0; 4];
+        return push_all_digits(sentence, character.encode_utf8(&mut room).as_bytes());
     }
     sentence.push(character)
 }
 
-/// Adds a text, or its front and two dots.
-fn push_text(sentence: &mut String, text: &str) -> Result<(), AllocError> {
-    for (index, character) in text.chars().enumerate() {
-        if index == LIMIT {
-            return sentence.push_str("..");
-        }
-        push_character(sentence, character)?;
+/// Adds characters, one behind the other.
+fn push_characters(sentence: &mut String, characters: &[char]) -> Result<(), AllocError>
+    ensures { OnOk result (string_bytes sentence.new ≡ string_bytes sentence.old ++ flat_map character_shown characters.now) }
+{
+    for character in characters {
+        push_character(sentence, *character)?;
     }
     Ok(())
 }
 
-/// Adds octets that are no text, those that aren't ASCII in digits.
-fn push_octets(sentence: &mut String, octets: &[u8]) -> Result<(), AllocError> {
-    for (index, octet) in octets.iter().enumerate() {
-        if index == LIMIT {
-            return sentence.push_str("..");
-        }
-        match octet.is_ascii() {
-            true => push_character(sentence, char::from(*octet))?,
-            false => push_digits(sentence, *octet)?,
-        }
+/// The characters of a text, as many as are shown and one more.
+fn first_characters(alloc: Global, text: &str) -> Result<Vec<char>, AllocError>
+    ensures { IfOk result (λ v. v.items ≡ take 65 (chars text.now)) }
+{
+    text.chars().take(LIMIT + 1).collect(alloc)
+}
+
+/// Adds characters, or the first of them and two dots.
+fn push_cut_characters(sentence: &mut String, characters: &[char]) -> Result<(), AllocError>
+    ensures { OnOk result (string_bytes sentence.new ≡ string_bytes sentence.old ++ cut character_shown characters.now) }
+{
+    if characters.len() <= LIMIT {
+        return push_characters(sentence, characters);
+    }
+    let (front, _) = characters.split_at(LIMIT);
+    push_characters(sentence, front)?;
+    sentence.push_str("..")
+}
+
+/// Adds an octet of what is no text: in digits, where it isn't ASCII.
+fn push_octet(sentence: &mut String, octet: u8) -> Result<(), AllocError>
+    ensures { OnOk result (string_bytes sentence.new ≡ string_bytes sentence.old ++ raw_octet_shown octet) }
+{
+    if octet.is_ascii() {
+        push_character(sentence, char::from(octet))
+    } else {
+        push_digits(sentence, octet)
+    }
+}
+
+/// Adds octets of what is no text, one behind the other.
+fn push_octets(sentence: &mut String, octets: &[u8]) -> Result<(), AllocError>
+    ensures { OnOk result (string_bytes sentence.new ≡ string_bytes sentence.old ++ flat_map raw_octet_shown octets.now) }
+{
+    for octet in octets {
+        push_octet(sentence, *octet)?;
     }
     Ok(())
 }
 
-/// A word of a text as it is shown in a sentence: one line of UTF-8, cut where it is long.
-pub fn shown(alloc: Global, octets: &[u8]) -> Result<String, AllocError> {
+/// Adds octets of what is no text, or the first of them and two dots.
+fn push_cut_octets(sentence: &mut String, octets: &[u8]) -> Result<(), AllocError>
+    ensures { OnOk result (string_bytes sentence.new ≡ string_bytes sentence.old ++ cut raw_octet_shown octets.now) }
+{
+    if octets.len() <= LIMIT {
+        return push_octets(sentence, octets);
+    }
+    let (front, _) = octets.split_at(LIMIT);
+    push_octets(sentence, front)?;
+    sentence.push_str("..")
+}
+
+#[tactic(auto, using(crate::proofs::Cuts::cut_front))]
+/// A text as it is shown in a sentence.
+fn text_shown(alloc: Global, text: &str) -> Result<String, AllocError>
+    ensures { IfOk result (λ s. string_bytes s ≡ cut character_shown (chars text.now)) }
+{
+    let characters = first_characters(alloc, text)?;
     let mut sentence = String::new(alloc);
-    match str::from_utf8(octets) {
-        Ok(text) => push_text(&mut sentence, text)?,
-        Err(_) => push_octets(&mut sentence, octets)?,
-    }
+    push_cut_characters(&mut sentence, characters.as_slice())?;
     Ok(sentence)
+}
+
+/// Octets that are no text as they are shown in a sentence.
+fn octets_shown(alloc: Global, octets: &[u8]) -> Result<String, AllocError>
+    ensures { IfOk result (λ s. string_bytes s ≡ cut raw_octet_shown octets.now) }
+{
+    let mut sentence = String::new(alloc);
+    push_cut_octets(&mut sentence, octets)?;
+    Ok(sentence)
+}
+
+#[tactic(auto, using(crate::proofs::Cuts::text_word, crate::proofs::Cuts::octets_word))]
+/// A word of a text as it is shown in a sentence: one line of UTF-8, cut where it is long.
+pub fn shown(alloc: Global, octets: &[u8]) -> Result<String, AllocError>
+    ensures { IfOk result (λ s. string_bytes s ≡ word_shown octets.now) }
+{
+    match str::from_utf8(octets) {
+        Ok(text) => text_shown(alloc, text),
+        Err(_) => octets_shown(alloc, octets),
+    }
 }
 
 /// An octet of a text as it is shown in a sentence: itself, or a backslash and two hexadecimal digits where it is no ASCII that prints.
