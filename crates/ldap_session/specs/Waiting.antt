@@ -1,6 +1,6 @@
 -- Which messages may have to wait for others. The messages that are to be answered come in; what stands next comes out. How long it waits
 -- is not here.
-use Rattle.std.specs.Prelude.{List, [], ◌∷◌, Bool, true, false, Option, Some, None, cond}
+use Rattle.std.specs.Prelude.{ℕ, List, [], ◌∷◌, Bool, true, false, Option, Some, None, cond}
 use Rattle.session_handler.specs.ldap_msg.Messages.{MessageValue, OperationValue, request, response, RequestValue, bind, unbind, search, modify, add, delete, modify_dn, compare, abandon, extended_request}
 use Rattle.session_handler.specs.ldap_fields.declared.fault.MsgFault.{MsgFault}
 use Rattle.ldap_framer.specs.Framed.{Framed}
@@ -39,3 +39,30 @@ due_of (m ∷ ms) fault = cond (is_update m.op) Update Other
 abbrev pub due : Option SessionEnd → Framed → Due
 due (Some end) f = Nothing
 due None f = due_of f.ready f.fault
+
+-- the name in a bind, which is empty for nobody (RFC 4511 4.2); none, in any other request
+abbrev pub bind_name : RequestValue → Option (List ℕ)
+bind_name (bind b) = Some b.name
+bind_name unbind = None
+bind_name (search q) = None
+bind_name (modify m) = None
+bind_name (add a) = None
+bind_name (delete name) = None
+bind_name (modify_dn m) = None
+bind_name (compare c) = None
+bind_name (abandon id) = None
+bind_name (extended_request x) = None
+
+abbrev pub bind_name_in : OperationValue → Option (List ℕ)
+bind_name_in (request r) = bind_name r
+bind_name_in (response r) = None
+
+-- the name in the bind that stands next, of these messages
+abbrev pub bind_of : List MessageValue → Option (List ℕ)
+bind_of [] = None
+bind_of (m ∷ ms) = bind_name_in m.op
+
+-- the same in a conversation that is over, or is not
+abbrev pub bind_next : Option SessionEnd → Framed → Option (List ℕ)
+bind_next (Some end) f = None
+bind_next None f = bind_of f.ready

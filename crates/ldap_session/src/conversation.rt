@@ -2,10 +2,11 @@
 //! responses are kept until they are sent. Sockets, threads and whose turn it is are above.
 ghost use Rattle.std.specs.Prelude.{◌≡◌, ◌≤◌, ◌++◌, drop, length, map, Option, Some, None, IfSome, OnOk, OnErr};
 ghost use Rattle.std.specs.Bool.{OnTrue, OnFalse};
+ghost use Rattle.std.specs.Option.{option_map};
 ghost use Rattle.session_handler.specs.View.{config_view};
 ghost use Rattle.ldap_session.specs.Octets.{joined, HasGrown};
 ghost use Rattle.ldap_session.specs.Progress.{IsAtLast};
-ghost use Rattle.ldap_session.specs.Waiting.{due};
+ghost use Rattle.ldap_session.specs.Waiting.{due, bind_next};
 ghost use Rattle.ldap_session.specs.View.{ConversationValue, conversation_view};
 ghost use Rattle.ldap_session.specs.Conversing.{IsFresh, Hears, Keeps, StepsTo, StaysOver, Continues};
 
@@ -104,6 +105,17 @@ impl Conversation {
         match self.end {
             Some(_) => Due::Nothing,
             None => self.session.due(),
+        }
+    }
+
+    /// The name in the bind that stands next, which is empty for nobody; none, where no bind stands next.
+    pub fn bind_next(&self) -> Option<&str>
+        ensures { option_map (λ name. name.now) result
+            ≡ bind_next (conversation_view self.now).end (conversation_view self.now).session.framed }
+    {
+        match self.end {
+            Some(_) => None,
+            None => self.session.bind_next(),
         }
     }
 

@@ -1,13 +1,14 @@
 //! A session. Pieces of its stream flow in; the octets of the responses to each message flow out. What a message asks of the directory is
 //! below; readers and writers are above.
 ghost use Rattle.std.specs.Prelude.{◌≡◌, ◌++◌, [], ℕ, List, None, OnOk, OnErr};
+ghost use Rattle.std.specs.Option.{option_map};
 ghost use Rattle.session_handler.specs.ldap_msg.Messages.{MessageValue};
 ghost use Rattle.ldap_framer.specs.Framed.{HasSeen};
 ghost use Rattle.session_handler.specs.Session.{at_first};
 ghost use Rattle.session_handler.specs.View.{config_view};
 ghost use Rattle.ldap_session.specs.View.{session_view};
 ghost use Rattle.ldap_session.specs.Progress.{Answers, IsNoMessage, IsAtLast};
-ghost use Rattle.ldap_session.specs.Waiting.{is_update, due_at_last, due_of};
+ghost use Rattle.ldap_session.specs.Waiting.{is_update, due_at_last, due_of, bind_name_in, bind_of};
 ghost use Rattle.session_handler.specs.ldap_msg.View.{view};
 
 use crate::due::Due;
@@ -34,6 +35,27 @@ fn is_update(message: &Message) -> bool
             | Request::Abandon(_) => false,
         },
         ProtocolOp::Response(_) => false,
+    }
+}
+
+/// The name in a bind, which is empty for nobody; none, in any other message.
+fn bind_name(message: &Message) -> Option<&str>
+    ensures { option_map (λ name. name.now) result ≡ bind_name_in (view message.now).op }
+{
+    match &message.op {
+        ProtocolOp::Request(request) => match request {
+            Request::Bind(bind) => Some(bind.name.as_str()),
+            Request::Add(_)
+            | Request::Modify(_)
+            | Request::Delete(_)
+            | Request::ModifyDn(_)
+            | Request::Extended(_)
+            | Request::Unbind
+            | Request::Search(_)
+            | Request::Compare(_)
+            | Request::Abandon(_) => None,
+        },
+        ProtocolOp::Response(_) => None,
     }
 }
 
@@ -123,6 +145,16 @@ impl Session {
             Due::Other
         } else {
             Due::Nothing
+        }
+    }
+
+    /// The name in the bind that stands next, which is empty for nobody; none, where no bind stands next.
+    pub fn bind_next(&self) -> Option<&str>
+        ensures { option_map (λ name. name.now) result ≡ bind_of (session_view self.now).framed.ready }
+    {
+        match self.framer.peek() {
+            Some(message) => bind_name(message),
+            None => None,
         }
     }
 
