@@ -1,7 +1,7 @@
 //! How much patience a server has with a client. Times flow in and out. Clocks and sockets are not here.
 use std::time::Duration;
 
-/// After how many seconds a client that is silent inside a message is sent off, where nothing else is said.
+/// Within how many seconds a message has to be whole, where nothing else is said.
 const MESSAGE: u64 = 10;
 
 /// After how many seconds without a message a client gives up its place to one that waits, where nothing else is said.
@@ -16,7 +16,7 @@ const WRITE: u64 = 20;
 /// How long a server waits for a client, before it closes the connection.
 #[derive(Clone, Copy, Debug)]
 pub struct Limits {
-    /// For the next octet, inside a message.
+    /// For a client's message, from its first octet on; for the next octet inside of another replica's.
     pub message: Duration,
     /// For the next whole message, where another client waits for the place.
     pub idle: Duration,
@@ -25,7 +25,7 @@ pub struct Limits {
 }
 
 impl Limits {
-    /// 10 seconds inside a message, 60 seconds where others wait, 20 seconds for a write.
+    /// 10 seconds for a message, 60 seconds where others wait, 20 seconds for a write.
     pub fn usual() -> Limits {
         Limits {
             message: Duration::from_secs(MESSAGE),

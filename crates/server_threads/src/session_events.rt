@@ -3,10 +3,10 @@ use crate::addresses::Addresses;
 use crate::engine::Engine;
 use crate::needed_threads::NeededThreads;
 use crate::reporter::Reporter;
-use crate::telling::{tell_begin, tell_end, tell_let_go, tell_session};
+use crate::telling::{tell_begin, tell_end, tell_let_go, tell_refused, tell_session};
 use client_link::SessionEnd;
 use session_pool::{Away, Tells};
-use std::alloc::Global;
+use std::alloc::{AllocError, Global};
 use std::net::SocketAddr;
 use std::sync::Wait;
 use std::sync::atomic::{AtomicU64, Ordering};
@@ -61,6 +61,12 @@ impl<'a, R: Wait, E: Engine> Tells for Teller<'a, R, E> {
         }
         let address = self.address_of(session);
         tell_let_go(self.rt, self.alloc, self.reporter, session, address, why);
+    }
+
+    fn refused(&self, session: u64, name: Result<&str, AllocError>, code: u8) {
+        if self.addresses.is_some() {
+            tell_refused(self.rt, self.alloc, self.reporter, session, name, code);
+        }
     }
 
     fn left(&self) {

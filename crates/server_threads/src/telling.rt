@@ -1,9 +1,10 @@
 //! What a server says of its connections, a line an event.
 use crate::reporter::Reporter;
+use crate::showing::shown;
 use client_link::SessionEnd;
 use replica_greeting::Term;
 use session_pool::Away;
-use std::alloc::Global;
+use std::alloc::{AllocError, Global};
 use std::net::SocketAddr;
 use std::sync::Wait;
 use vr_wire::WireError;
@@ -116,6 +117,32 @@ pub fn tell_session<R: Wait>(
     if let Some(why) = fault_of(end) {
         reporter.say(rt, format!(in alloc; "session {session} ended: {why}"));
     }
+}
+
+/// A bind that was refused, in words.
+fn text_of_refused(
+    alloc: Global,
+    session: u64,
+    name: Result<&str, AllocError>,
+    code: u8,
+) -> Result<String, AllocError> {
+    let name = shown(alloc, name?)?;
+    if name.is_empty() {
+        return format!(in alloc; "session {session}: bind refused ({code})");
+    }
+    format!(in alloc; "session {session}: bind as {name} refused ({code})")
+}
+
+/// A bind that was refused.
+pub fn tell_refused<R: Wait>(
+    rt: &R,
+    alloc: Global,
+    reporter: &Reporter,
+    session: u64,
+    name: Result<&str, AllocError>,
+    code: u8,
+) {
+    reporter.say(rt, text_of_refused(alloc, session, name, code));
 }
 
 /// A session that was let go.

@@ -27,15 +27,15 @@ use Rattle.session_pool.specs.contracts.table.Table as Table
 framer_send : IsSend Framer.the_field.row
 framer_send = search (octets.the_send, filter.crosses, crosses, sendable) depth 60 fits 20000
 
-guest_send : IsSend PooledSession.the_row
-guest_send = search (framer_send, octets.the_send, stream.the_field_send, instant.the_field_send, duration.the_field_send, crosses, sendable) depth 60 fits 20000
+session_send : IsSend PooledSession.the_row
+session_send = search (framer_send, octets.the_send, stream.the_field_send, instant.the_field_send, duration.the_field_send, crosses, sendable) depth 60 fits 20000
 
 table_send : IsSend Table.the_row
-table_send = search (guest_send, book.the_send, instant.the_send, crosses, sendable) depth 60 fits 20000
+table_send = search (session_send, book.the_send, instant.the_send, crosses, sendable) depth 60 fits 20000
 
 -- A pool is shared by its threads where its runtime and whoever is told of its sessions are.
-pub hall_sync : (a : NamedLft) (R T : RattleType) → IsSync R → IsSync T → IsSync (SessionPool.the_row a R T)
-hall_sync a R T y z =
+pub pool_sync : (a : NamedLft) (R T : RattleType) → IsSync R → IsSync T → IsSync (SessionPool.the_row a R T)
+pool_sync a R T y z =
     recorded_sync (SessionPool.the_field a R T).row _ _ (SessionPool.the_type a R T).to_one
     (struct_sync (Declared.shape (SessionPool.the_type a R T)) (
       search (y, sendable) depth 10,

@@ -2,4 +2,5 @@ pub mod Attended
 pub mod Crossing
 pub mod Lined
 pub mod Posted
+pub mod Rows
 pub mod Standing

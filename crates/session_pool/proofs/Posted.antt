@@ -5,7 +5,9 @@ use Rattle.std.specs.declared.time.Duration.{Duration}
 use Rattle.std.specs.declared.time.Instant.{Instant}
 use Rattle.std.proofs.lemmas.Bool.Decides.{eqb_tells}
 use Rattle.std.proofs.lemmas.Option.{slice_get_within}
+use Rattle.session_pool.specs.Attending.{IsLate}
 use Rattle.session_pool.specs.Posting.{IsPast, IsClosedFor, HasPost, IsGone}
+use Rattle.session_pool.specs.declared.pooled.PooledSession.{PooledSession}
 use Rattle.session_pool.specs.declared.updaters.Updater.{Updater}
 
 same_post : (o : Option (Option Updater)) (p q : Updater) → o ≡ Some (Some p) → o ≡ Some (Some q) → p ≡ q
@@ -36,6 +38,11 @@ same_since o s t e f = cc
 pub is_closed_since : (p : Updater) (limit : Duration) (now since : Instant) (b : Bool) → p.closed ≡ Some since → (IsTrue b ↔ IsPast since limit now) → IsTrue b ↔ IsClosedFor p limit now
 is_closed_since p limit now since b closed past =
     (λ h. record { since = since; closed = closed; past = past.0 h }, λ g. past.1 (subst (λ (i : Instant). IsPast i limit now) (same_since p.closed g.since since g.closed closed) g.past))
+
+-- a session is late, or isn't
+pub is_late_since : (g : PooledSession) (limit : Duration) (now since : Instant) (b : Bool) → g.began ≡ Some since → (IsTrue b ↔ IsPast since limit now) → IsTrue b ↔ IsLate g limit now
+is_late_since g limit now since b began past =
+    (λ h. record { since = since; began = began; past = past.0 h }, λ l. past.1 (subst (λ (i : Instant). IsPast i limit now) (same_since g.began l.since since l.began began) l.past))
 
 pub is_gone_there : (updaters : List (Option Updater)) (limit : Duration) (now : Instant) (thread : ℕ) (p : Updater) (b : Bool) → slice_get updaters thread ≡ Some (Some p) →
     (IsTrue b ↔ IsClosedFor p limit now) → IsTrue b ↔ IsGone updaters limit now thread

@@ -10,8 +10,8 @@ use Rattle.session_pool.specs.Stands.{times, once, is_free, is_ready, is_updates
 use Rattle.session_table.specs.declared.spot.Queue.{Queue}
 use Rattle.session_table.specs.declared.spot.Spot.{Spot}
 use Rattle.session_table.specs.declared.spot.Spot.TheVariants.{Away as SpotAway, In}
-use Rattle.session_pool.specs.declared.stand.PlaceState.{PlaceState}
-use Rattle.session_pool.specs.declared.stand.PlaceState.TheVariants.{New, Free, Away, Waits, Ready, Updates}
+use Rattle.session_pool.specs.declared.place_state.PlaceState.{PlaceState}
+use Rattle.session_pool.specs.declared.place_state.PlaceState.TheVariants.{New, Free, Away, Waits, Ready, Updates}
 
 get_same : {X : Type 0} (xs : List X) (i : ℕ) (w : X) → i < length xs → slice_get (slice_set xs i w) i ≡ Some w
 get_same [] i w h = absurd (omega arith)
@@ -359,9 +359,9 @@ pub waits_in_book : (stands : List PlaceState) (spots : List Spot) (p : ℕ) (qu
 waits_in_book stands spots p queue turn waits in_queue = stands_waiting (slice_get stands p) (sym (waits p) ∙ ap is_in_queue in_queue)
 
 -- a session is at a place that says so
-pub session_there : {G : Type 0} (stands : List PlaceState) (guests : List (Option G)) (p : ℕ) (s : PlaceState) → ((q : ℕ) → has_some (slice_get guests q) ≡ is_here (slice_get stands q)) →
-    slice_get stands p ≡ Some s → is_here (Some s) ≡ true → (g : G) × (slice_get guests p ≡ Some (Some g))
-session_there stands guests p s here stood says = some_there (slice_get guests p) (here p ∙ ap is_here stood ∙ says)
+pub session_there : {G : Type 0} (stands : List PlaceState) (sessions : List (Option G)) (p : ℕ) (s : PlaceState) → ((q : ℕ) → has_some (slice_get sessions q) ≡ is_here (slice_get stands q)) →
+    slice_get stands p ≡ Some s → is_here (Some s) ≡ true → (g : G) × (slice_get sessions p ≡ Some (Some g))
+session_there stands sessions p s here stood says = some_there (slice_get sessions p) (here p ∙ ap is_here stood ∙ says)
 
 pub length_same : {X : Type 0} (size : ℕ) (x : X) → length (replicate size x) ≡ size
 length_same zero x = refl

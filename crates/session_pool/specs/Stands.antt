@@ -2,8 +2,8 @@
 use Rattle.std.specs.Prelude.{ℕ, ◌+◌, List, [], ◌∷◌, Bool, true, false, cond, nat_eq, Option, None, Some}
 use Rattle.session_table.specs.declared.spot.Spot.{Spot}
 use Rattle.session_table.specs.declared.spot.Spot.TheVariants.{In}
-use Rattle.session_pool.specs.declared.stand.PlaceState.{PlaceState}
-use Rattle.session_pool.specs.declared.stand.PlaceState.TheVariants.{New, Free, Waits, Ready, Updates}
+use Rattle.session_pool.specs.declared.place_state.PlaceState.{PlaceState}
+use Rattle.session_pool.specs.declared.place_state.PlaceState.TheVariants.{New, Free, Waits, Ready, Updates}
 
 -- how often a place is in a list
 abbrev pub times : ℕ → List ℕ → ℕ

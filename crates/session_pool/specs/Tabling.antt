@@ -12,23 +12,23 @@ use Rattle.session_pool.specs.Attending.{HasRoused}
 use Rattle.session_pool.specs.Posting.{IsPast}
 use Rattle.session_pool.specs.declared.pooled.PooledSession.{PooledSession}
 use Rattle.session_pool.specs.declared.places.Places.{Places}
-use Rattle.session_pool.specs.declared.stand.PlaceState.{PlaceState}
-use Rattle.session_pool.specs.declared.stand.PlaceState.TheVariants.{New, Free, Away, Waits, Ready, Updates}
-use Rattle.session_pool.specs.declared.stand.Turn.{Turn}
-use Rattle.session_pool.specs.declared.stand.Turn.TheVariants.{Seat, Update}
+use Rattle.session_pool.specs.declared.place_state.PlaceState.{PlaceState}
+use Rattle.session_pool.specs.declared.place_state.PlaceState.TheVariants.{New, Free, Away, Waits, Ready, Updates}
+use Rattle.session_pool.specs.declared.place_state.Turn.{Turn}
+use Rattle.session_pool.specs.declared.place_state.Turn.TheVariants.{Seat, Update}
 
 -- A table: where the session of each place is, the sessions that are at their places, which of them wait for their clients in which queue, and
 -- the places of those that wait for a seat, or for a thread that updates, first in, first out.
 pub record Tabled : Type 0 where
   pub stands : List PlaceState
-  pub guests : List (Option PooledSession)
+  pub sessions : List (Option PooledSession)
   pub spots : List Spot
   pub ready : List ℕ
   pub updates : List ℕ
 
 -- the value that a table stands for
 abbrev pub tabled : Places → Tabled
-tabled t = record { stands = t.stands.items; guests = t.guests.items; spots = t.book; ready = t.ready.items; updates = t.updates.items }
+tabled t = record { stands = t.stands.items; sessions = t.sessions.items; spots = t.book; ready = t.ready.items; updates = t.updates.items }
 
 -- the session of a place stands so
 abbrev pub IsAt : Tabled → ℕ → PlaceState → Type 0
@@ -40,7 +40,7 @@ IsFree t p = IsAt t p New ⊎ IsAt t p Free
 
 -- this session is at its own place
 pub record IsHome (t : Tabled) (g : PooledSession) (p : ℕ) : Type 0 where
-  pub here : slice_get t.guests p ≡ Some (Some g)
+  pub here : slice_get t.sessions p ≡ Some (Some g)
   pub own : g.place ≡ p
 
 abbrev pub flat : Option (Option PooledSession) → Option PooledSession
@@ -49,7 +49,7 @@ flat (Some g) = g
 
 -- the session at a place, if one is there
 abbrev pub session_at : Tabled → ℕ → Option PooledSession
-session_at t p = flat (slice_get t.guests p)
+session_at t p = flat (slice_get t.sessions p)
 
 -- a free place is given to a session that comes, which a thread has; all else is as it was
 pub record Claims (t : Tabled) (p : ℕ) (u : Tabled) : Type 0 where
@@ -68,7 +68,7 @@ freed t p = record t { stands = slice_set t.stands p Free }
 pub record Parks (t : Tabled) (g : PooledSession) (queue : Queue) (u : Tabled) : Type 0 where
   pub away : IsAt t g.place Away
   pub put : HasPut t.spots g.place queue u.spots
-  pub after : u ≡ record t { stands = slice_set t.stands g.place Waits; guests = slice_set t.guests g.place (Some g); spots = u.spots }
+  pub after : u ≡ record t { stands = slice_set t.stands g.place Waits; sessions = slice_set t.sessions g.place (Some g); spots = u.spots }
 
 -- the session of a place is behind all others that wait for their turn
 abbrev pub lined_up : Tabled → ℕ → Turn → Tabled
@@ -78,11 +78,11 @@ lined_up t p Update = record t { stands = slice_set t.stands p Updates; updates 
 -- a session that a thread had is at its place, where it waits for its turn behind all others
 pub record LinesUp (t : Tabled) (g : PooledSession) (turn : Turn) (u : Tabled) : Type 0 where
   pub away : IsAt t g.place Away
-  pub after : u ≡ lined_up (record t { guests = slice_set t.guests g.place (Some g) }) g.place turn
+  pub after : u ≡ lined_up (record t { sessions = slice_set t.sessions g.place (Some g) }) g.place turn
 
 -- a thread has the session of a place
 abbrev pub without : Tabled → ℕ → Tabled
-without t p = record t { stands = slice_set t.stands p Away; guests = slice_set t.guests p None }
+without t p = record t { stands = slice_set t.stands p Away; sessions = slice_set t.sessions p None }
 
 -- a thread takes the session of a place that waited for its client
 pub record Wakes (t : Tabled) (p : ℕ) (g : PooledSession) (u : Tabled) : Type 0 where
@@ -120,7 +120,7 @@ pub record Rouses (t : Tabled) (p : ℕ) (turn : Turn) (u : Tabled) : Type 0 whe
   pub home : IsHome t before p
   pub taken : HasTaken t.spots p queue u.spots
   pub roused : HasRoused before after turn
-  pub lined : u ≡ lined_up (record t { guests = slice_set t.guests p (Some after); spots = u.spots }) p turn
+  pub lined : u ≡ lined_up (record t { sessions = slice_set t.sessions p (Some after); spots = u.spots }) p turn
 
 -- none waits in a queue, or one that has waited longest has not waited for so long
 pub record IsPatient (t : Tabled) (queue : Queue) (limit : Duration) (now : Instant) : Type 0 where

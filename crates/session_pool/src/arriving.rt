@@ -48,14 +48,11 @@ impl<'a, R: Wait + Clock, T: Tells> SessionPool<'a, R, T> {
 
     /// A place for a session that comes.
     fn place(&self) -> Option<usize> {
-        let place = self.table.lock(self.rt).places.claim();
-        if place.is_some() {
-            return place;
+        let place = self.table.lock(self.rt).places.claim().ok();
+        if place.is_none() && self.evict(Away::Longest) {
+            return self.table.lock(self.rt).places.claim().ok();
         }
-        if self.evict(Away::Longest) {
-            return self.table.lock(self.rt).places.claim();
-        }
-        None
+        place
     }
 
     /// A connection from this address becomes a session that waits for its first message.

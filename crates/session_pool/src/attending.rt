@@ -1,9 +1,10 @@
 //! A session at a seat: its messages are answered, and it is parked, queued or ended. Which session comes next is not here.
-ghost use Rattle.std.specs.Prelude.{◌≡◌};
+ghost use Rattle.std.specs.Prelude.{◌≡◌, None};
 ghost use Rattle.std.specs.Bool.{OnTrue, OnFalse};
 ghost use Rattle.ldap_session.specs.session_handler.View.{config_view};
 ghost use Rattle.client_link.specs.Served.{config_of};
-ghost use Rattle.session_pool.specs.Attending.{talk, IsSame, AnswersNext, AnswersSome};
+ghost use Rattle.session_pool.specs.Attending.{talk, IsSame, HasHeard, Becomes, AnswersNext, AnswersSome};
+ghost use Rattle.session_pool.specs.Sittings.{Sitting, Attends, HasAttendedSome};
 
 use crate::pool::SessionPool;
 use crate::pooled::{Heard, PooledSession, Then};
@@ -20,6 +21,9 @@ const PIECE: usize = 8192;
 
 /// How many messages of one session are answered before it goes to the back of the queue.
 const MESSAGES: usize = 16;
+
+/// How many sittings one session has in a row. Then it is parked, or goes to the back of the queue.
+const SITTINGS: u32 = 256;
 
 /// How many octets may be unsent before no further message is answered.
 const UNSENT: usize = 65_536;
@@ -57,7 +61,7 @@ impl<'a, R: Wait + Clock, T: Tells> SessionPool<'a, R, T> {
         if pooled.conversation.due() != Due::Other || pooled.conversation.unsent().len() >= UNSENT {
             return false;
         }
-        pooled.conversation.answer(self.alloc, config, directory);
+        self.answer_and_tell(pooled, config, directory);
         true
     }
 
@@ -76,6 +80,17 @@ impl<'a, R: Wait + Clock, T: Tells> SessionPool<'a, R, T> {
                 return;
             }
         }
+    }
+
+    /// Answers some messages, and writes what is unsent; what becomes of the session then.
+    fn sit_once<D: Directory>(&self, pooled: &mut PooledSession, directory: &mut D) -> Then
+        ensures same { IsSame pooled.old pooled.new }
+        ensures sitting { Sitting D.allows (config_of (config_view self.now.config) pooled.old.number) (talk pooled.old)
+            (talk pooled.new) directory.old directory.new }
+        ensures becomes { Becomes (talk pooled.new) result }
+    {
+        self.answer_some(pooled, directory);
+        pooled.say(self.door.limits().write)
     }
 
     /// Whether the thread may wait for the next message of its session: where that comes soon, a seat is left to lead, and, each 16th time,
@@ -100,7 +115,8 @@ impl<'a, R: Wait + Clock, T: Tells> SessionPool<'a, R, T> {
 
     /// Waits for the next octets of a quick session.
     fn linger(&self, pooled: &mut PooledSession, buffer: &mut [u8]) -> Heard
-        ensures { IsSame pooled.old pooled.new }
+        ensures same { IsSame pooled.old pooled.new }
+        ensures heard { HasHeard None None (talk pooled.old) buffer.new (talk pooled.new) result }
     {
         let since = Instant::now(self.rt);
         let heard = pooled.hear(buffer);
@@ -112,39 +128,52 @@ impl<'a, R: Wait + Clock, T: Tells> SessionPool<'a, R, T> {
         heard
     }
 
-    /// Serves a session for as long as its messages come one soon after the other.
+    /// Reads a session's socket once, where that is ready or the thread may wait for it.
+    fn hear_on(
+        &self,
+        pooled: &mut PooledSession,
+        buffer: &mut [u8],
+        is_ready: bool,
+        turns: &mut u32,
+    ) -> Heard
+        ensures same { IsSame pooled.old pooled.new }
+        ensures heard { HasHeard None None (talk pooled.old) buffer.new (talk pooled.new) result }
+    {
+        if is_ready {
+            pooled.hear(buffer)
+        } else if self.may_linger(pooled, turns) {
+            self.linger(pooled, buffer)
+        } else {
+            Heard::Nothing
+        }
+    }
+
+    /// Serves a session for as long as its messages come one soon after the other, 256 sittings at most.
     fn attend<D: Directory>(
         &self,
         pooled: &mut PooledSession,
         directory: &mut D,
         buffer: &mut [u8],
     ) -> Then
-        ensures { IsSame pooled.old pooled.new }
+        ensures same { IsSame pooled.old pooled.new }
+        ensures attends { Attends D.allows (config_of (config_view self.now.config) pooled.old.number) (talk pooled.old)
+            (talk pooled.new) directory.old directory.new result }
     {
         let mut turns = 0u32;
-        let limit = self.door.limits().write;
-        let mut is_first = pooled.is_silent();
-        for _ in self.rt.forever() {
-            self.answer_some(pooled, directory);
-            let then = pooled.say(limit);
-            if then != Then::Listens {
+        let mut is_ready = pooled.is_silent();
+        let mut then = self.sit_once(pooled, directory);
+        for _sitting in 1..SITTINGS {
+            let Then::Listens = then else {
                 return then;
-            }
-            let heard = if is_first {
-                pooled.hear(buffer)
-            } else if self.may_linger(pooled, &mut turns) {
-                self.linger(pooled, buffer)
-            } else {
-                Heard::Nothing
             };
-            match heard {
-                Heard::Octets => {}
+            match self.hear_on(pooled, buffer, is_ready, &mut turns) {
+                Heard::Octets => then = self.sit_once(pooled, directory),
                 Heard::Nothing => return Then::Listens,
                 Heard::Ends(end) => return Then::Ends(end),
             }
-            is_first = false;
+            is_ready = false;
         }
-        Then::Listens
+        then
     }
 
     /// Hands a session to where it belongs.
@@ -162,11 +191,13 @@ impl<'a, R: Wait + Clock, T: Tells> SessionPool<'a, R, T> {
     }
 
     /// Serves sessions by this directory, until the pool is closed.
-    pub fn sit<D: Directory>(&self, mut directory: D) -> D {
+    pub fn sit<D: Directory>(&self, mut directory: D) -> D
+        ensures { HasAttendedSome D.allows (config_view self.now.config) directory result }
+    {
         let mut buffer = [0u8; PIECE];
         for _ in self.rt.forever() {
             let Some(mut pooled) = self.next() else {
-                break;
+                return directory;
             };
             pooled.is_quick = is_within(self.rt, pooled.since, SOON_PARKED);
             let then = self.attend(&mut pooled, &mut directory, &mut buffer);

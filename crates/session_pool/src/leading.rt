@@ -1,8 +1,8 @@
 //! Seats that take turns: of those that are free one waits for all sessions that wait. Sockets that are ready come in; sessions go out, to
 //! whoever is free. What is done with a session is not here.
+use crate::place_state::Turn;
 use crate::pool::{SessionPool, Watch};
 use crate::pooled::PooledSession;
-use crate::stand::Turn;
 use crate::table::Table;
 use crate::tells::Tells;
 use client_link::SessionEnd;
@@ -18,28 +18,34 @@ use std::time::{Clock, Duration, Instant};
 /// How long the leader waits at most, in milliseconds.
 const LONGEST: u64 = 1_000;
 
+/// How many sessions are taken to be served, at most, before it is looked which further sockets are ready.
+const UNLOOKED: usize = 16;
+
 impl<'a, R: Wait + Clock, T: Tells> SessionPool<'a, R, T> {
-    /// Puts a session where it waits, and has it watched. The leader takes the same lock before it looks at what is ready.
+    /// Puts a session where it waits, and has it watched. The leader takes the same lock before it looks at what is ready. One whose message isn't
+    /// whole in time ends.
     pub fn park(&self, mut pooled: PooledSession, queue: Queue) {
         let Ok(now) = Instant::now(self.rt) else {
             return self.end(pooled, SessionEnd::ReadFailed);
         };
-        pooled.since = now;
-        pooled.conversation.rest();
+        pooled.pause(queue, now);
+        if pooled.is_late(self.door.limits().message, now) {
+            return self.end(pooled, SessionEnd::ReadFailed);
+        }
         let interest = if queue == Queue::Unsent {
             Interest::WRITABLE
         } else {
             Interest::READABLE
         };
         let (place, fd) = (pooled.place, pooled.stream.as_raw_fd());
-        let refused = self.stand(pooled, queue, place, fd, interest);
+        let refused = self.put_at_place(pooled, queue, place, fd, interest);
         if let Some(pooled) = refused {
             self.end(pooled, SessionEnd::NoMemory);
         }
     }
 
     /// Puts a session at its place and has it watched, under one lock. It comes back where that can't be done.
-    fn stand(
+    fn put_at_place(
         &self,
         pooled: PooledSession,
         queue: Queue,
@@ -167,7 +173,8 @@ impl<'a, R: Wait + Clock, T: Tells> SessionPool<'a, R, T> {
         }
     }
 
-    /// How long the leader may wait: until a session has waited for too long, but no longer than a second, or than a limit.
+    /// How long the leader may wait: not at all where sessions are ready; else until one has waited for too long, but no longer than a second, or
+    /// than a limit.
     fn time_left(&self) -> Duration {
         let limits = self.door.limits();
         let most = Duration::from_millis(LONGEST)
@@ -177,6 +184,9 @@ impl<'a, R: Wait + Clock, T: Tells> SessionPool<'a, R, T> {
             return most;
         };
         let table = self.table.lock(self.rt);
+        if table.places.ready() > 0 {
+            return Duration::from_secs(0);
+        }
         most.min(table.places.time_left(Queue::Inside, limits.message, now))
             .min(table.places.time_left(Queue::Unsent, limits.write, now))
             .max(Duration::from_millis(1))
@@ -212,7 +222,8 @@ impl<'a, R: Wait + Clock, T: Tells> SessionPool<'a, R, T> {
         }
     }
 
-    /// A session that is ready, or none, where this thread is to lead first, or the pool is closed.
+    /// A session that is ready, or none, where this thread is to lead first, or the pool is closed. Sessions that are ready don't keep it for long from
+    /// being looked at which others are.
     fn take_ready(&self) -> Option<PooledSession> {
         let mut table = self.table.lock(self.rt);
         for _ in self.rt.forever() {
@@ -226,11 +237,18 @@ impl<'a, R: Wait + Clock, T: Tells> SessionPool<'a, R, T> {
         if table.is_closed {
             return None;
         }
-        let pooled = table.places.next_ready();
+        let is_due = !table.has_leader && table.unlooked >= UNLOOKED;
+        let pooled = if is_due {
+            None
+        } else {
+            table.places.next_ready()
+        };
         if pooled.is_none() {
             table.has_leader = true;
+            table.unlooked = 0;
             return None;
         }
+        table.unlooked = table.unlooked.saturating_add(1);
         let ready = table.places.ready();
         self.queued.store(ready, Ordering::SeqCst);
         let is_wanted = ready > 0 || !table.has_leader;

@@ -12,27 +12,32 @@
 //! - *Staying.* A thread waits up to 5 ms for the next message of a session whose messages come within a millisecond. It
 //!   does so if a seat is left to lead and no other session is ready. A busy client then costs two system calls a message.
 //! - *Fairness.* 16 messages or 64 KiB of unsent octets are one sitting; then the session goes to the back of the queue.
+//!   After 16 of these the sockets are looked at again, although sessions are ready.
+//! - *Patience.* A message has to be whole within a limit after its first octet, which is looked at whenever its session is parked. No
+//!   session has more than 256 sittings in a row.
 //!   One whose client doesn't take its octets is written to once a sitting, and not read.
 //! - *Updates* have threads of their own, each with a gate and a look that finds nothing (`NoReads`). The leader watches the
 //!   socket meanwhile, and tells the thread when the client has left.
 //! - *No room.* When the table is full, or descriptors are used up, the longest silent session goes (`arriving`).
 //!
 //! Proved: a session hears what its socket gave, and has sent a front of what it had to send, in order (`PooledSession::hear`, `say`, `queue`). A
-//! seat answers at most 16 of its messages in a row, no update among them (`SessionPool::answer_some`). A place has one session at a time, and
-//! turns are first in, first out (`Places`); a client's end is told once (`Updaters`). That each session is served, and soon, is tested
-//! (`tests/serve`, `tests/streams`).
+//! seat answers at most 16 of its messages in a row, no update among them, and goes on with it only where no whole message is left over,
+//! 256 times at most (`SessionPool::attend`, `sit`). How long a client takes over one message is counted from its beginning (`PooledSession::hear`, `pause`). A place
+//! has one session at a time, and turns are first in, first out (`Places`); a client's end is told once (`Updaters`). That each session is served,
+//! and soon, is tested (`tests/serve`, `tests/streams`).
 #![tactic(auto)]
 
 mod arriving;
 mod attending;
+mod binding;
 mod leading;
 mod limit;
 mod no_reads;
+mod place_state;
 mod places;
 mod pool;
 mod pooled;
 mod running;
-mod stand;
 mod table;
 mod tells;
 mod updaters;

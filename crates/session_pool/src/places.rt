@@ -1,16 +1,16 @@
 //! The places of a pool's table, and the sessions at them: each waits for its client, or for its turn. What a session says is not here. One
 //! thread at a time.
-ghost use Rattle.std.specs.Prelude.{◌≡◌, ◌≤◌, ◌<◌, ◌++◌, ◌∷◌, [], ℕ, Option, Some, None, IsTrue, IsFalse, ◌↔◌, IfSome, IfNone, OnOk, IfErr, IfOk, IsOk, slice_get, replicate, nat_lt, length, vec_len, vec_capacity};
+ghost use Rattle.std.specs.Prelude.{◌≡◌, ◌≤◌, ◌<◌, ◌++◌, ◌∷◌, [], ℕ, Option, Some, None, IsTrue, IsFalse, ◌↔◌, IfSome, IfNone, OnOk, OnErr, Err, IfErr, IfOk, IsOk, slice_get, replicate, nat_lt, length, vec_len, vec_capacity};
 ghost use Rattle.std.specs.VecDeque.{deque_capacity};
 ghost use Rattle.session_table.specs.Places.{IsIn, NoneIn};
 ghost use Rattle.session_table.specs.declared.spot.Queue.{Queue};
 ghost use Rattle.session_pool.specs.Stands.{times, once, is_made, is_free, is_ready, is_updates, is_waiting, is_in_queue, is_here, has_some};
 ghost use Rattle.session_pool.specs.Attending.{RousesAt};
 ghost use Rattle.session_pool.specs.declared.pooled.PooledSession.{PooledSession};
-ghost use Rattle.session_pool.specs.declared.stand.PlaceState.{PlaceState};
+ghost use Rattle.session_pool.specs.declared.place_state.PlaceState.{PlaceState};
 
+use crate::place_state::{NoPlace, PlaceState, Turn};
 use crate::pooled::PooledSession;
-use crate::stand::{PlaceState, Turn};
 use crate::updaters::is_past;
 use session_table::{Book, Queue};
 use std::alloc::{AllocError, Global};
@@ -26,7 +26,7 @@ pub struct Places {
     /// Where the session of each place is.
     stands: Vec<PlaceState>,
     /// The session at each place that was ever given; none, while a thread has it.
-    guests: Vec<Option<PooledSession>>,
+    sessions: Vec<Option<PooledSession>>,
     /// The places that were given and are free again.
     free: Vec<usize>,
     /// The places of sessions that wait for a seat, and of those that wait for a thread that updates.
@@ -38,9 +38,9 @@ pub struct Places {
     ghost updating: { (p : ℕ) → times p updates.items ≡ once is_updates (slice_get stands.items p) },
     ghost waits: { (p : ℕ) → is_in_queue (slice_get book p) ≡ is_waiting (slice_get stands.items p) },
     // A session is at each place that says so, and at its own.
-    ghost here: { (p : ℕ) → has_some (slice_get guests.items p) ≡ is_here (slice_get stands.items p) },
-    ghost own: { (p : ℕ) (g : PooledSession) → slice_get guests.items p ≡ Some (Some g) → g.place ≡ p },
-    ghost made: { (p : ℕ) → nat_lt p (length guests.items) ≡ is_made (slice_get stands.items p) },
+    ghost here: { (p : ℕ) → has_some (slice_get sessions.items p) ≡ is_here (slice_get stands.items p) },
+    ghost own: { (p : ℕ) (g : PooledSession) → slice_get sessions.items p ≡ Some (Some g) → g.place ≡ p },
+    ghost made: { (p : ℕ) → nat_lt p (length sessions.items) ≡ is_made (slice_get stands.items p) },
     ghost booked: { length book ≡ length stands.items },
     // The lists have room for all places.
     ghost room_free: { length stands.items ≤ vec_capacity free },
@@ -62,7 +62,7 @@ fn roused(pooled: &mut Option<PooledSession>, now: Instant) -> Option<(RawFd, Tu
 }
 
 impl Places {
-    ghost use Rattle.session_pool.specs.Tabling.{tabled, IsAt, Claims, freed, Parks, LinesUp, Wakes, Sits, Works, WaitsLongest, Rouses, NoneOverdue, LeavesTime};
+    ghost use Rattle.session_pool.specs.Tabling.{tabled, IsAt, IsFree, Claims, freed, Parks, LinesUp, Wakes, Sits, Works, WaitsLongest, Rouses, NoneOverdue, LeavesTime};
     ghost use Rattle.session_pool.specs.Posting.{IsPast};
 
     /// Places, all free. Room for sessions is made as they come.
@@ -74,7 +74,7 @@ impl Places {
         Ok(Places {
             book: Book::new(alloc, size)?,
             stands: vec![in alloc; PlaceState::New; size]?,
-            guests: Vec::new(alloc),
+            sessions: Vec::new(alloc),
             free: Vec::with_capacity(alloc, size)?,
             ready: VecDeque::with_capacity(alloc, size)?,
             updates: VecDeque::with_capacity(alloc, size)?,
@@ -98,36 +98,39 @@ impl Places {
         }
     }
 
-    /// A free place, for a session that comes; none, where all are taken or there is no memory.
-    pub fn claim(&mut self) -> Option<usize>
-        ensures some { IfSome result (λ p. Claims (tabled self.old) p (tabled self.new)) }
-        ensures none { IfNone result ((p : ℕ) → IsAt (tabled self.old) p PlaceState.Free → ⊥) }
-        ensures left { IfNone result (tabled self.new ≡ tabled self.old) }
+    /// A free place, for a session that comes.
+    pub fn claim(&mut self) -> Result<usize, NoPlace>
+        ensures ok { IfOk result (λ p. Claims (tabled self.old) p (tabled self.new)) }
+        ensures full { result ≡ Err NoPlace.Full → (p : ℕ) → IsFree (tabled self.old) p → ⊥ }
+        ensures no_memory { result ≡ Err NoPlace.NoMemory → (p : ℕ) × IsFree (tabled self.old) p }
+        ensures err { OnErr result (tabled self.new ≡ tabled self.old) }
     {
         match self.free.pop() {
             Some(place) => {
                 self.stands[place] = PlaceState::Away;
-                Some(place)
+                Ok(place)
             }
             None => self.make(),
         }
     }
 
     /// A place that was never given.
-    fn make(&mut self) -> Option<usize>
-        ensures some { IfSome result (λ p. Claims (tabled self.old) p (tabled self.new)) }
-        ensures left { IfNone result (tabled self.new ≡ tabled self.old) }
+    fn make(&mut self) -> Result<usize, NoPlace>
+        ensures ok { IfOk result (λ p. Claims (tabled self.old) p (tabled self.new)) }
+        ensures full { result ≡ Err NoPlace.Full → (p : ℕ) → IsAt (tabled self.old) p PlaceState.New → ⊥ }
+        ensures no_memory { result ≡ Err NoPlace.NoMemory → (p : ℕ) × IsFree (tabled self.old) p }
+        ensures err { OnErr result (tabled self.new ≡ tabled self.old) }
     {
-        let place = self.guests.len();
+        let place = self.sessions.len();
         if place >= self.stands.len() {
-            return None;
+            return Err(NoPlace::Full);
         }
-        match self.guests.push(None) {
+        match self.sessions.push(None) {
             Ok(()) => {}
-            Err(_) => return None,
+            Err(_) => return Err(NoPlace::NoMemory),
         }
         self.stands[place] = PlaceState::Away;
-        Some(place)
+        Ok(place)
     }
 
     /// A place whose session is over is free again. Any other place stays as it is.
@@ -153,7 +156,7 @@ impl Places {
         match self.book.put(place, queue) {
             Ok(()) => {
                 self.stands[place] = PlaceState::Waits;
-                self.guests[place] = Some(pooled);
+                self.sessions[place] = Some(pooled);
                 Ok(())
             }
             Err(_) => Err(pooled),
@@ -170,7 +173,7 @@ impl Places {
         if !self.is_away(place) {
             return Err(pooled);
         }
-        self.guests[place] = Some(pooled);
+        self.sessions[place] = Some(pooled);
         match turn {
             Turn::Seat => {
                 self.stands[place] = PlaceState::Ready;
@@ -193,7 +196,7 @@ impl Places {
     {
         self.book.take(place)?;
         self.stands[place] = PlaceState::Away;
-        self.guests[place].take()
+        self.sessions[place].take()
     }
 
     /// Takes the next session that waits for a seat: the one that has waited longest.
@@ -204,7 +207,7 @@ impl Places {
     {
         let place = self.ready.pop_front()?;
         self.stands[place] = PlaceState::Away;
-        self.guests[place].take()
+        self.sessions[place].take()
     }
 
     /// Takes the next session that waits for a thread that updates: the one that has waited longest.
@@ -215,7 +218,7 @@ impl Places {
     {
         let place = self.updates.pop_front()?;
         self.stands[place] = PlaceState::Away;
-        self.guests[place].take()
+        self.sessions[place].take()
     }
 
     /// The session that has waited for its client longest of a queue.
@@ -224,7 +227,7 @@ impl Places {
         ensures none { IfNone result (NoneIn (tabled self.now).spots queue) }
     {
         let place = self.book.first(queue)?;
-        self.guests[place].as_ref()
+        self.sessions[place].as_ref()
     }
 
     /// The session of a place that waits for its client waits for its turn, behind all others; its socket, and for what it waits. None, where no
@@ -235,7 +238,7 @@ impl Places {
         ensures left { IfNone result (tabled self.new ≡ tabled self.old) }
     {
         self.book.take(place)?;
-        let (fd, turn) = roused(&mut self.guests[place], now)?;
+        let (fd, turn) = roused(&mut self.sessions[place], now)?;
         match turn {
             Turn::Seat => {
                 self.stands[place] = PlaceState::Ready;

@@ -2,10 +2,11 @@
 ghost use Rattle.std.specs.Prelude.{◌≡◌, ◌↔◌, [], length, true, IsTrue, None, IfOk, OnOk, OnErr};
 ghost use Rattle.ldap_session.specs.Conversing.{IsFresh};
 ghost use Rattle.ldap_session.specs.View.{conversation_view};
-ghost use Rattle.session_pool.specs.declared.stand.Turn.{Turn};
-ghost use Rattle.session_pool.specs.Attending.{talk, IsSame, HasHeard, HasSent, SendsTo, Becomes, WaitsFor, HasWaited, IsSilent, IsUpdateNext};
+ghost use Rattle.session_pool.specs.declared.place_state.Turn.{Turn};
+ghost use Rattle.session_pool.specs.Attending.{talk, due_next, IsSame, HasHeard, began_while, began_in, HasPaused, IsLate, HasSent, SendsTo, HasToWrite, IsSlow, HasCause, Becomes, WaitsFor, HasWaited, IsSilent, IsUpdateNext};
 
-use crate::stand::Turn;
+use crate::place_state::Turn;
+use crate::updaters::is_past;
 use client_link::{SessionEnd, stretch};
 use ldap_session::{Conversation, Due};
 use session_table::Queue;
@@ -35,6 +36,8 @@ pub struct PooledSession {
     /// How long its client has let the octets wait that are unsent, and how many it has taken meanwhile.
     waited: Duration,
     taken: u64,
+    /// Since when it waits inside of the message that stands next.
+    began: Option<Instant>,
 }
 
 /// What a read of a socket gave.
@@ -107,6 +110,26 @@ fn send_to<W: Write>(writer: &mut W, conversation: &mut Conversation) -> io::Res
     }
 }
 
+/// Since when a session waits inside of one message, where this stands next.
+fn began_while(due: Due, began: Option<Instant>) -> Option<Instant>
+    ensures { result ≡ began_while due began }
+{
+    match due {
+        Due::Nothing => began,
+        Due::Update | Due::Other => None,
+    }
+}
+
+/// The same, where it waits in a queue from now on.
+fn began_in(queue: Queue, began: Option<Instant>, now: Instant) -> Option<Instant>
+    ensures { result ≡ began_in queue began now }
+{
+    match queue {
+        Queue::Inside => Some(began.unwrap_or(now)),
+        Queue::Silent | Queue::Unsent => None,
+    }
+}
+
 impl PooledSession {
     /// A session that begins, on a socket that was taken.
     pub fn new(
@@ -133,15 +156,38 @@ impl PooledSession {
             since,
             waited: Duration::from_secs(0),
             taken: 0,
+            began: None,
         })
     }
 
-    /// Reads once. What is heard is put into the conversation.
+    /// Reads once. What is heard is put into the conversation. Where that makes a message whole, the next one has not begun.
     pub fn hear(&mut self, buffer: &mut [u8]) -> Heard
         ensures same { IsSame self.old self.new }
         ensures heard { HasHeard None None (talk self.old) buffer.new (talk self.new) result }
+        ensures began { self.new.began ≡ began_while (due_next (talk self.new)) self.old.began }
     {
-        hear_from(&mut self.stream, &mut self.conversation, buffer)
+        let heard = hear_from(&mut self.stream, &mut self.conversation, buffer);
+        self.began = began_while(self.conversation.due(), self.began);
+        heard
+    }
+
+    /// It waits in this queue from now on. Inside of a message that counts from when it first did so.
+    pub fn pause(&mut self, queue: Queue, now: Instant)
+        ensures { HasPaused self.old queue now self.new }
+    {
+        self.since = now;
+        self.began = began_in(queue, self.began, now);
+        self.conversation.rest();
+    }
+
+    /// Whether it has waited inside of one message for so long, however often octets of it have come.
+    pub fn is_late(&self, limit: Duration, now: Instant) -> bool
+        ensures { IsTrue result ↔ IsLate self.now limit now }
+    {
+        match self.began {
+            Some(began) => is_past(began, limit, now),
+            None => false,
+        }
     }
 
     /// Whether all its messages are answered, and the client has all answers.
@@ -183,6 +229,8 @@ impl PooledSession {
     fn send(&mut self) -> io::Result<()>
         ensures same { IsSame self.old self.new }
         ensures sent { HasSent (talk self.old) (talk self.new) }
+        ensures err { OnErr result (HasToWrite self.old) }
+        ensures stuck { self.new.is_stuck ≡ self.old.is_stuck }
     {
         if self.conversation.unsent().is_empty() {
             return Ok(());
@@ -197,6 +245,7 @@ impl PooledSession {
         ensures same { IsSame self.old self.new }
         ensures kept { talk self.new ≡ talk self.old }
         ensures stuck { OnOk result ((self.new.is_stuck ≡ true) ↔ ((talk self.new).unsent ≡ [] → ⊥)) }
+        ensures err { OnErr result (HasToWrite self.old) }
     {
         let is_stuck = !self.conversation.unsent().is_empty();
         if is_stuck != self.is_stuck {
@@ -211,8 +260,21 @@ impl PooledSession {
     }
 
     /// Whether the client has let octets wait for so long, and as long again for each MiB that it has taken of them.
-    fn is_slow(&self, limit: Duration) -> bool {
-        self.waited >= limit.saturating_mul(stretch(self.taken))
+    fn is_slow(&self, limit: Duration) -> bool
+        ensures { IsTrue result ↔ IsSlow self.now limit }
+    {
+        self.waited.as_nanos() >= limit.saturating_mul(stretch(self.taken)).as_nanos()
+    }
+
+    /// Writes what is unsent as far as the client takes it, and has its socket wait, or not.
+    fn put(&mut self) -> io::Result<()>
+        ensures same { IsSame self.old self.new }
+        ensures sent { HasSent (talk self.old) (talk self.new) }
+        ensures stuck { OnOk result ((self.new.is_stuck ≡ true) ↔ ((talk self.new).unsent ≡ [] → ⊥)) }
+        ensures err { OnErr result (HasToWrite self.old) }
+    {
+        self.send()?;
+        self.settle()
     }
 
     /// Writes what is unsent, and says what becomes of the session.
@@ -220,9 +282,11 @@ impl PooledSession {
         ensures same { IsSame self.old self.new }
         ensures sent { HasSent (talk self.old) (talk self.new) }
         ensures becomes { Becomes (talk self.new) result }
+        ensures cause { HasCause self.old self.new limit result }
     {
-        if self.send().is_err() || self.settle().is_err() {
-            return Then::Ends(SessionEnd::WriteFailed);
+        match self.put() {
+            Ok(()) => {}
+            Err(_) => return Then::Ends(SessionEnd::WriteFailed),
         }
         if self.is_stuck {
             return match self.is_slow(limit) {

@@ -11,6 +11,8 @@ pub struct Table {
     /// How many seats wait for their turn.
     pub idle: usize,
     pub has_leader: bool,
+    /// How many sessions were taken to be served since it was last looked which sockets are ready.
+    pub unlooked: usize,
     pub is_closed: bool,
 }
 
@@ -22,6 +24,7 @@ impl Table {
             updaters: Updaters::new(alloc, threads)?,
             idle: 0,
             has_leader: false,
+            unlooked: 0,
             is_closed: false,
         })
     }

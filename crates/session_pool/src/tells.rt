@@ -1,5 +1,6 @@
 //! What is told of sessions. Plain data and a trait; where it is written is not here.
 use client_link::SessionEnd;
+use std::alloc::AllocError;
 use std::net::SocketAddr;
 
 /// Why a session was let go that did nothing wrong.
@@ -26,6 +27,10 @@ pub trait Tells {
 
     /// A session of this number was let go.
     fn let_go(&self, session: u64, why: Away);
+
+    /// A bind of a session of this number was refused with this result code. Its name is empty where it named nobody, and an error where there was no
+    /// memory to keep it.
+    fn refused(&self, session: u64, name: Result<&str, AllocError>, code: u8);
 
     /// The client of an update that waits is gone: whoever waits for it is to look again. It is called under a lock, and waits for nobody.
     fn left(&self);

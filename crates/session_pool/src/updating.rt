@@ -2,6 +2,7 @@
 ghost use Rattle.ldap_session.specs.session_handler.View.{config_view};
 ghost use Rattle.client_link.specs.Served.{config_of};
 ghost use Rattle.session_pool.specs.Attending.{talk, IsSame, Answers};
+ghost use Rattle.session_pool.specs.Sittings.{HasUpdatedSome};
 
 use crate::pool::SessionPool;
 use crate::pooled::PooledSession;
@@ -51,11 +52,13 @@ impl<'a, R: Wait + Clock, T: Tells> SessionPool<'a, R, T> {
     }
 
     /// Serves the updates of sessions by this directory, in the thread of this index, one message a time, until the pool is closed.
-    pub fn update<D: Directory>(&self, thread: usize, mut directory: D) -> D {
+    pub fn update<D: Directory>(&self, thread: usize, mut directory: D) -> D
+        ensures { HasUpdatedSome D.allows (config_view self.now.config) directory result }
+    {
         let limit = self.door.limits().write;
         for _ in self.rt.forever() {
             let Some(mut pooled) = self.next_update() else {
-                break;
+                return directory;
             };
             self.answer_one(thread, &mut pooled, &mut directory);
             let then = pooled.say(limit);

@@ -7,7 +7,7 @@ use client_link::{Door, Limits, SessionEnd, close};
 use ldap_session::{Config, Name};
 use schema_reader::built_in_schema;
 use session_pool::{Away, SessionPool, Tells, Terms, serve_sessions};
-use std::alloc::Global;
+use std::alloc::{AllocError, Global};
 use std::io::{Read, Write};
 use std::net::{Net, SocketAddr, TcpListener, TcpStream};
 use std::process::Abort;
@@ -76,6 +76,8 @@ impl<'a, R: Wait> Tells for Counts<'a, R> {
             self.let_go.fetch_add(1, Ordering::SeqCst);
         }
     }
+
+    fn refused(&self, _session: u64, _name: Result<&str, AllocError>, _code: u8) {}
 
     fn left(&self) {
         self.left.give(self.rt);

@@ -1,7 +1,7 @@
 use Rattle.std.proofs.Common.{◌≡◌, ℕ, List, refl, sym, subst, Some, slice_get, nat_lt, arith, length, rules}
 use Rattle.std.specs.Prelude.{slice_set}
 use Rattle.session_pool.specs.Stands.{times, once, is_free, is_ready, is_updates, is_waiting, is_in_queue, is_made, is_here, has_some}
-use Rattle.session_pool.specs.declared.stand.PlaceState.TheVariants.{Free, Away}
+use Rattle.session_pool.specs.declared.place_state.PlaceState.TheVariants.{Free, Away}
 use Rattle.session_pool.proofs.Standing.{joins, stays, same_of, has_room}
 use Rattle.session_pool.proofs.places.Places.free.Goals as goal
 
@@ -23,9 +23,9 @@ invariant_of-self c =
       readies = stays is_ready s.stands.items p Away Free stood s.ready.items refl refl s.readies;
       updating = stays is_updates s.stands.items p Away Free stood s.updates.items refl refl s.updating;
       waits = same_of is_waiting (λ q. is_in_queue (slice_get s.book q)) s.stands.items p Away Free stood refl s.waits;
-      here = same_of is_here (λ q. has_some (slice_get s.guests.items q)) s.stands.items p Away Free stood refl s.here;
+      here = same_of is_here (λ q. has_some (slice_get s.sessions.items q)) s.stands.items p Away Free stood refl s.here;
       own = s.own;
-      made = same_of is_made (λ q. nat_lt q (length s.guests.items)) s.stands.items p Away Free stood refl s.made;
+      made = same_of is_made (λ q. nat_lt q (length s.sessions.items)) s.stands.items p Away Free stood refl s.made;
       booked = search rules;
       room_free = search rules;
       room_ready = search rules;

@@ -3,7 +3,7 @@ use Rattle.std.specs.Prelude.{slice_set}
 use Rattle.std.proofs.lemmas.Option.{slice_get_within}
 use Rattle.session_pool.specs.Stands.{times, once, is_free, is_ready, is_updates, is_waiting, is_in_queue, is_made, is_here, has_some}
 use Rattle.session_pool.specs.declared.pooled.PooledSession.{PooledSession}
-use Rattle.session_pool.specs.declared.stand.PlaceState.TheVariants.{Away, Ready, Updates}
+use Rattle.session_pool.specs.declared.place_state.PlaceState.TheVariants.{Away, Ready, Updates}
 use Rattle.session_pool.proofs.Standing.{joins, stays, same_of, set_each, set_both, below_made, has_room, length_set, own_place}
 use Rattle.session_pool.proofs.places.Places.line_up.Goals as goal
 
@@ -25,17 +25,17 @@ invariant_of-self c =
     let p : ℕ = g.place in
     let stood : slice_get s.stands.items p ≡ Some Away = search rules in
     let ws = slice_get_within s.stands.items p Away stood in
-    let wg = below_made s.stands.items p (length s.guests.items) Away (s.made p) stood refl in
+    let wg = below_made s.stands.items p (length s.sessions.items) Away (s.made p) stood refl in
     record {
       frees = stays is_free s.stands.items p Away Ready stood s.free.items refl refl s.frees;
       readies = subst (λ (ps : List ℕ). (q : ℕ) → times q ps ≡ once is_ready (slice_get (slice_set s.stands.items p Ready) q)) (sym c.push_back_reserved.ensures.items)
           (joins is_ready s.stands.items p Away Ready stood s.ready.items refl refl s.readies);
       updating = stays is_updates s.stands.items p Away Ready stood s.updates.items refl refl s.updating;
       waits = same_of is_waiting (λ q. is_in_queue (slice_get s.book q)) s.stands.items p Away Ready stood refl s.waits;
-      here = set_both (λ q a b. has_some a ≡ is_here b) s.guests.items s.stands.items p (Some g) Ready wg ws refl s.here;
-      own = set_each (λ q o. (h : PooledSession) → o ≡ Some (Some h) → h.place ≡ q) s.guests.items p (Some g) wg (λ h e. own_place (λ (x : PooledSession). x.place) g h e) s.own;
-      made = subst (λ (n : ℕ). (q : ℕ) → nat_lt q n ≡ is_made (slice_get (slice_set s.stands.items p Ready) q)) (sym (length_set s.guests.items p (Some g)))
-          (same_of is_made (λ q. nat_lt q (length s.guests.items)) s.stands.items p Away Ready stood refl s.made);
+      here = set_both (λ q a b. has_some a ≡ is_here b) s.sessions.items s.stands.items p (Some g) Ready wg ws refl s.here;
+      own = set_each (λ q o. (h : PooledSession) → o ≡ Some (Some h) → h.place ≡ q) s.sessions.items p (Some g) wg (λ h e. own_place (λ (x : PooledSession). x.place) g h e) s.own;
+      made = subst (λ (n : ℕ). (q : ℕ) → nat_lt q n ≡ is_made (slice_get (slice_set s.stands.items p Ready) q)) (sym (length_set s.sessions.items p (Some g)))
+          (same_of is_made (λ q. nat_lt q (length s.sessions.items)) s.stands.items p Away Ready stood refl s.made);
       booked = search rules;
       room_free = search rules;
       room_ready = search rules;
@@ -78,17 +78,17 @@ invariant_of-self-in-Update c =
     let p : ℕ = g.place in
     let stood : slice_get s.stands.items p ≡ Some Away = search rules in
     let ws = slice_get_within s.stands.items p Away stood in
-    let wg = below_made s.stands.items p (length s.guests.items) Away (s.made p) stood refl in
+    let wg = below_made s.stands.items p (length s.sessions.items) Away (s.made p) stood refl in
     record {
       frees = stays is_free s.stands.items p Away Updates stood s.free.items refl refl s.frees;
       readies = stays is_ready s.stands.items p Away Updates stood s.ready.items refl refl s.readies;
       updating = subst (λ (ps : List ℕ). (q : ℕ) → times q ps ≡ once is_updates (slice_get (slice_set s.stands.items p Updates) q)) (sym c.push_back_reserved-in-Update.ensures.items)
           (joins is_updates s.stands.items p Away Updates stood s.updates.items refl refl s.updating);
       waits = same_of is_waiting (λ q. is_in_queue (slice_get s.book q)) s.stands.items p Away Updates stood refl s.waits;
-      here = set_both (λ q a b. has_some a ≡ is_here b) s.guests.items s.stands.items p (Some g) Updates wg ws refl s.here;
-      own = set_each (λ q o. (h : PooledSession) → o ≡ Some (Some h) → h.place ≡ q) s.guests.items p (Some g) wg (λ h e. own_place (λ (x : PooledSession). x.place) g h e) s.own;
-      made = subst (λ (n : ℕ). (q : ℕ) → nat_lt q n ≡ is_made (slice_get (slice_set s.stands.items p Updates) q)) (sym (length_set s.guests.items p (Some g)))
-          (same_of is_made (λ q. nat_lt q (length s.guests.items)) s.stands.items p Away Updates stood refl s.made);
+      here = set_both (λ q a b. has_some a ≡ is_here b) s.sessions.items s.stands.items p (Some g) Updates wg ws refl s.here;
+      own = set_each (λ q o. (h : PooledSession) → o ≡ Some (Some h) → h.place ≡ q) s.sessions.items p (Some g) wg (λ h e. own_place (λ (x : PooledSession). x.place) g h e) s.own;
+      made = subst (λ (n : ℕ). (q : ℕ) → nat_lt q n ≡ is_made (slice_get (slice_set s.stands.items p Updates) q)) (sym (length_set s.sessions.items p (Some g)))
+          (same_of is_made (λ q. nat_lt q (length s.sessions.items)) s.stands.items p Away Updates stood refl s.made);
       booked = search rules;
       room_free = search rules;
       room_ready = search rules;

@@ -1,5 +1,5 @@
 use Rattle.std.proofs.Common.{◌≡◌, ℕ, refl, Some, slice_get, arith, length}
-use Rattle.session_pool.specs.declared.stand.PlaceState.TheVariants.{Waits}
+use Rattle.session_pool.specs.declared.place_state.PlaceState.TheVariants.{Waits}
 use Rattle.session_pool.proofs.Standing.{below_made, waits_in_book}
 use Rattle.session_pool.proofs.places.Places.longest.Goals as goal
 
@@ -9,5 +9,5 @@ index-requires c =
     let p : ℕ = c.in_ok-place.place in
     let longest = c.in_ok-place.ensures.some in
     let stood : slice_get s.stands.items p ≡ Some Waits = waits_in_book s.stands.items s.book p c.args.queue longest.turn s.waits longest.is_in in
-    let within = below_made s.stands.items p (length s.guests.items) Waits (s.made p) stood refl in
+    let within = below_made s.stands.items p (length s.sessions.items) Waits (s.made p) stood refl in
     omega arith

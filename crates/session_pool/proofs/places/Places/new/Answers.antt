@@ -4,8 +4,8 @@ use Rattle.session_table.specs.declared.spot.Spot.{Spot}
 use Rattle.session_table.specs.declared.spot.Spot.TheVariants.{Away as SpotAway}
 use Rattle.session_pool.specs.Stands.{times, once, is_free, is_ready, is_updates, is_waiting, is_in_queue, is_made, is_here, has_some}
 use Rattle.session_pool.specs.declared.pooled.PooledSession.{PooledSession}
-use Rattle.session_pool.specs.declared.stand.PlaceState.{PlaceState}
-use Rattle.session_pool.specs.declared.stand.PlaceState.TheVariants.{New}
+use Rattle.session_pool.specs.declared.place_state.PlaceState.{PlaceState}
+use Rattle.session_pool.specs.declared.place_state.PlaceState.TheVariants.{New}
 use Rattle.session_pool.proofs.Standing.{not_below, replicate_each, length_same}
 use Rattle.session_pool.proofs.places.Places.new.Goals as goal
 

@@ -3,7 +3,7 @@ use Rattle.std.specs.Prelude.{slice_set, Option}
 use Rattle.std.proofs.lemmas.Option.{slice_get_within, get_or_from_slice_get}
 use Rattle.session_pool.specs.Stands.{times, is_free, is_ready, is_updates, is_waiting, is_in_queue, is_made, is_here, has_some}
 use Rattle.session_pool.specs.declared.pooled.PooledSession.{PooledSession}
-use Rattle.session_pool.specs.declared.stand.PlaceState.TheVariants.{Away, Ready}
+use Rattle.session_pool.specs.declared.place_state.PlaceState.TheVariants.{Away, Ready}
 use Rattle.session_pool.proofs.Standing.{first_is_ready, leaves, stays, same_of, set_each, set_both, below_made, length_set, session_there}
 use Rattle.session_pool.proofs.places.Places.next_ready.Goals as goal
 
@@ -24,7 +24,7 @@ index_mut-requires-2 c =
     let left : List ℕ = c.pop_front.new.self.items in
     let out : s.ready.items ≡ p ∷ left = c.in_ok-place.ensures.items in
     let stood : slice_get s.stands.items p ≡ Some Ready = first_is_ready s.stands.items s.ready.items left p out s.readies in
-    let within = below_made s.stands.items p (length s.guests.items) Ready (s.made p) stood refl in
+    let within = below_made s.stands.items p (length s.sessions.items) Ready (s.made p) stood refl in
     omega arith
 
 pub invariant_of-self-2 : goal.invariant_of-self-2
@@ -35,17 +35,17 @@ invariant_of-self-2 c =
     let out : s.ready.items ≡ p ∷ left = c.in_ok-place.ensures.items in
     let stood : slice_get s.stands.items p ≡ Some Ready = first_is_ready s.stands.items s.ready.items left p out s.readies in
     let ws = slice_get_within s.stands.items p Ready stood in
-    let wg = below_made s.stands.items p (length s.guests.items) Ready (s.made p) stood refl in
+    let wg = below_made s.stands.items p (length s.sessions.items) Ready (s.made p) stood refl in
     let gone : c.take.new.self ≡ None = c.take.ensures.after in
     record {
       frees = stays is_free s.stands.items p Ready Away stood s.free.items refl refl s.frees;
       readies = leaves is_ready s.stands.items p Ready Away stood left refl refl (λ q. ap (times q) (sym out) ∙ s.readies q);
       updating = stays is_updates s.stands.items p Ready Away stood s.updates.items refl refl s.updating;
       waits = same_of is_waiting (λ q. is_in_queue (slice_get s.book q)) s.stands.items p Ready Away stood refl s.waits;
-      here = set_both (λ q a b. has_some a ≡ is_here b) s.guests.items s.stands.items p c.take.new.self Away wg ws (ap (λ (x : Option PooledSession). has_some (Some x)) gone) s.here;
-      own = set_each (λ q o. (h : PooledSession) → o ≡ Some (Some h) → h.place ≡ q) s.guests.items p c.take.new.self wg (λ h e. cc) s.own;
-      made = subst (λ (n : ℕ). (q : ℕ) → nat_lt q n ≡ is_made (slice_get (slice_set s.stands.items p Away) q)) (sym (length_set s.guests.items p c.take.new.self))
-          (same_of is_made (λ q. nat_lt q (length s.guests.items)) s.stands.items p Ready Away stood refl s.made);
+      here = set_both (λ q a b. has_some a ≡ is_here b) s.sessions.items s.stands.items p c.take.new.self Away wg ws (ap (λ (x : Option PooledSession). has_some (Some x)) gone) s.here;
+      own = set_each (λ q o. (h : PooledSession) → o ≡ Some (Some h) → h.place ≡ q) s.sessions.items p c.take.new.self wg (λ h e. cc) s.own;
+      made = subst (λ (n : ℕ). (q : ℕ) → nat_lt q n ≡ is_made (slice_get (slice_set s.stands.items p Away) q)) (sym (length_set s.sessions.items p c.take.new.self))
+          (same_of is_made (λ q. nat_lt q (length s.sessions.items)) s.stands.items p Ready Away stood refl s.made);
       booked = search rules;
       room_free = search rules;
       room_ready = search rules;
@@ -59,8 +59,8 @@ returns-clause-some c =
     let left : List ℕ = c.pop_front.new.self.items in
     let out : s.ready.items ≡ p ∷ left = c.in_ok-place.ensures.items in
     let stood : slice_get s.stands.items p ≡ Some Ready = first_is_ready s.stands.items s.ready.items left p out s.readies in
-    let there = session_there s.stands.items s.guests.items p Ready s.here stood refl in
-    let is : c.take.result ≡ Some there.0 = c.take.ensures.value ∙ c.index_mut-2.ensures.value ∙ get_or_from_slice_get s.guests.items p (Some there.0) c.index_mut-2.result.now there.1 in
+    let there = session_there s.stands.items s.sessions.items p Ready s.here stood refl in
+    let is : c.take.result ≡ Some there.0 = c.take.ensures.value ∙ c.index_mut-2.ensures.value ∙ get_or_from_slice_get s.sessions.items p (Some there.0) c.index_mut-2.result.now there.1 in
     let gone : c.take.new.self ≡ None = c.take.ensures.after in
     rw is (record { place = p; home = record { here = there.1; own = s.own p there.0 there.1 }; first = out; after = rw gone refl })
 
@@ -71,8 +71,8 @@ returns-clause-none c =
     let left : List ℕ = c.pop_front.new.self.items in
     let out : s.ready.items ≡ p ∷ left = c.in_ok-place.ensures.items in
     let stood : slice_get s.stands.items p ≡ Some Ready = first_is_ready s.stands.items s.ready.items left p out s.readies in
-    let there = session_there s.stands.items s.guests.items p Ready s.here stood refl in
-    let is : c.take.result ≡ Some there.0 = c.take.ensures.value ∙ c.index_mut-2.ensures.value ∙ get_or_from_slice_get s.guests.items p (Some there.0) c.index_mut-2.result.now there.1 in
+    let there = session_there s.stands.items s.sessions.items p Ready s.here stood refl in
+    let is : c.take.result ≡ Some there.0 = c.take.ensures.value ∙ c.index_mut-2.ensures.value ∙ get_or_from_slice_get s.sessions.items p (Some there.0) c.index_mut-2.result.now there.1 in
     rw is tt
 
 pub returns-clause-left : goal.returns-clause-left
@@ -82,6 +82,6 @@ returns-clause-left c =
     let left : List ℕ = c.pop_front.new.self.items in
     let out : s.ready.items ≡ p ∷ left = c.in_ok-place.ensures.items in
     let stood : slice_get s.stands.items p ≡ Some Ready = first_is_ready s.stands.items s.ready.items left p out s.readies in
-    let there = session_there s.stands.items s.guests.items p Ready s.here stood refl in
-    let is : c.take.result ≡ Some there.0 = c.take.ensures.value ∙ c.index_mut-2.ensures.value ∙ get_or_from_slice_get s.guests.items p (Some there.0) c.index_mut-2.result.now there.1 in
+    let there = session_there s.stands.items s.sessions.items p Ready s.here stood refl in
+    let is : c.take.result ≡ Some there.0 = c.take.ensures.value ∙ c.index_mut-2.ensures.value ∙ get_or_from_slice_get s.sessions.items p (Some there.0) c.index_mut-2.result.now there.1 in
     rw is tt

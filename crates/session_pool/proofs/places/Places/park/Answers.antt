@@ -5,7 +5,7 @@ use Rattle.session_table.specs.declared.spot.Spot.{Spot}
 use Rattle.session_table.specs.declared.spot.Spot.TheVariants.{Away as SpotAway, In}
 use Rattle.session_pool.specs.Stands.{is_free, is_ready, is_updates, is_waiting, is_in_queue, is_made, is_here, has_some}
 use Rattle.session_pool.specs.declared.pooled.PooledSession.{PooledSession}
-use Rattle.session_pool.specs.declared.stand.PlaceState.TheVariants.{Away, Waits}
+use Rattle.session_pool.specs.declared.place_state.PlaceState.TheVariants.{Away, Waits}
 use Rattle.session_pool.proofs.Standing.{stays, same_of, set_each, set_both, below_made, away_in_book, length_set, own_place}
 use Rattle.session_pool.proofs.places.Places.park.Goals as goal
 
@@ -24,10 +24,10 @@ invariant_of-self c =
       updating = stays is_updates s.stands.items p Away Waits stood s.updates.items refl refl s.updating;
       waits = subst (λ (xs : List Spot). (q : ℕ) → is_in_queue (slice_get xs q) ≡ is_waiting (slice_get (slice_set s.stands.items p Waits) q)) (sym put.put)
           (set_both (λ q a b. is_in_queue a ≡ is_waiting b) s.book s.stands.items p (In c.args.queue put.turn) Waits (slice_get_within s.book p SpotAway away) ws refl s.waits);
-      here = set_both (λ q a b. has_some a ≡ is_here b) s.guests.items s.stands.items p (Some g) Waits (below_made s.stands.items p (length s.guests.items) Away (s.made p) stood refl) ws refl s.here;
-      own = set_each (λ q o. (h : PooledSession) → o ≡ Some (Some h) → h.place ≡ q) s.guests.items p (Some g) (below_made s.stands.items p (length s.guests.items) Away (s.made p) stood refl) (λ h e. own_place (λ (x : PooledSession). x.place) g h e) s.own;
-      made = subst (λ (n : ℕ). (q : ℕ) → nat_lt q n ≡ is_made (slice_get (slice_set s.stands.items p Waits) q)) (sym (length_set s.guests.items p (Some g)))
-          (same_of is_made (λ q. nat_lt q (length s.guests.items)) s.stands.items p Away Waits stood refl s.made);
+      here = set_both (λ q a b. has_some a ≡ is_here b) s.sessions.items s.stands.items p (Some g) Waits (below_made s.stands.items p (length s.sessions.items) Away (s.made p) stood refl) ws refl s.here;
+      own = set_each (λ q o. (h : PooledSession) → o ≡ Some (Some h) → h.place ≡ q) s.sessions.items p (Some g) (below_made s.stands.items p (length s.sessions.items) Away (s.made p) stood refl) (λ h e. own_place (λ (x : PooledSession). x.place) g h e) s.own;
+      made = subst (λ (n : ℕ). (q : ℕ) → nat_lt q n ≡ is_made (slice_get (slice_set s.stands.items p Waits) q)) (sym (length_set s.sessions.items p (Some g)))
+          (same_of is_made (λ q. nat_lt q (length s.sessions.items)) s.stands.items p Away Waits stood refl s.made);
       booked = ap length put.put ∙ length_set s.book p (In c.args.queue put.turn) ∙ s.booked ∙ sym (length_set s.stands.items p Waits);
       room_free = search rules;
       room_ready = search rules;

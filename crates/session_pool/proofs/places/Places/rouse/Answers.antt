@@ -5,10 +5,10 @@ use Rattle.session_table.specs.declared.spot.Spot.{Spot}
 use Rattle.session_table.specs.declared.spot.Spot.TheVariants.{Away as SpotAway, In}
 use Rattle.session_pool.specs.Stands.{times, once, is_free, is_ready, is_updates, is_waiting, is_in_queue, is_made, is_here, has_some}
 use Rattle.session_pool.specs.Attending.{HasRoused, RousesOne, RousesAt}
-use Rattle.session_pool.specs.declared.stand.Turn.{Turn}
-use Rattle.session_pool.specs.declared.stand.Turn.TheVariants.{Seat, Update}
+use Rattle.session_pool.specs.declared.place_state.Turn.{Turn}
+use Rattle.session_pool.specs.declared.place_state.Turn.TheVariants.{Seat, Update}
 use Rattle.session_pool.specs.declared.pooled.PooledSession.{PooledSession}
-use Rattle.session_pool.specs.declared.stand.PlaceState.TheVariants.{Waits, Ready, Updates}
+use Rattle.session_pool.specs.declared.place_state.PlaceState.TheVariants.{Waits, Ready, Updates}
 use Rattle.session_pool.specs.Tabling.{tabled}
 use Rattle.session_pool.proofs.Lined.{lined_seat, lined_update, same_turn}
 use Rattle.session_pool.proofs.Standing.{joins, stays, same_of, set_each, set_both, below_made, has_room, length_set, own_after, waits_in_book, session_there}
@@ -20,8 +20,8 @@ invariant_of-self-in-Break-branch-2 c =
     let p : ℕ = c.args.place in
     let taken = c.in_ok-take.ensures.some in
     let stood : slice_get s.stands.items p ≡ Some Waits = waits_in_book s.stands.items s.book p c.in_ok-take.field-0 taken.turn s.waits taken.was_in in
-    let there = session_there s.stands.items s.guests.items p Waits s.here stood refl in
-    let slot : c.index_mut.result.now ≡ Some there.0 = c.index_mut.ensures.value ∙ get_or_from_slice_get s.guests.items p (Some there.0) c.index_mut.result.now there.1 in
+    let there = session_there s.stands.items s.sessions.items p Waits s.here stood refl in
+    let slot : c.index_mut.result.now ≡ Some there.0 = c.index_mut.ensures.value ∙ get_or_from_slice_get s.sessions.items p (Some there.0) c.index_mut.result.now there.1 in
     let r : RousesOne there.0 c.roused.new.pooled c.roused.result = subst (λ (o : Option PooledSession). RousesAt o c.roused.new.pooled c.roused.result) slot c.roused.ensures in
     let w = c.in_err-fd.was in
     let told = r.told_is in
@@ -34,8 +34,8 @@ returns-in_err-fd-clause-none c =
     let p : ℕ = c.args.place in
     let taken = c.in_ok-take.ensures.some in
     let stood : slice_get s.stands.items p ≡ Some Waits = waits_in_book s.stands.items s.book p c.in_ok-take.field-0 taken.turn s.waits taken.was_in in
-    let there = session_there s.stands.items s.guests.items p Waits s.here stood refl in
-    let slot : c.index_mut.result.now ≡ Some there.0 = c.index_mut.ensures.value ∙ get_or_from_slice_get s.guests.items p (Some there.0) c.index_mut.result.now there.1 in
+    let there = session_there s.stands.items s.sessions.items p Waits s.here stood refl in
+    let slot : c.index_mut.result.now ≡ Some there.0 = c.index_mut.ensures.value ∙ get_or_from_slice_get s.sessions.items p (Some there.0) c.index_mut.result.now there.1 in
     let r : RousesOne there.0 c.roused.new.pooled c.roused.result = subst (λ (o : Option PooledSession). RousesAt o c.roused.new.pooled c.roused.result) slot c.roused.ensures in
     let w = c.in_err-fd.was in
     let told = r.told_is in
@@ -48,8 +48,8 @@ returns-in_err-fd-clause-left c =
     let p : ℕ = c.args.place in
     let taken = c.in_ok-take.ensures.some in
     let stood : slice_get s.stands.items p ≡ Some Waits = waits_in_book s.stands.items s.book p c.in_ok-take.field-0 taken.turn s.waits taken.was_in in
-    let there = session_there s.stands.items s.guests.items p Waits s.here stood refl in
-    let slot : c.index_mut.result.now ≡ Some there.0 = c.index_mut.ensures.value ∙ get_or_from_slice_get s.guests.items p (Some there.0) c.index_mut.result.now there.1 in
+    let there = session_there s.stands.items s.sessions.items p Waits s.here stood refl in
+    let slot : c.index_mut.result.now ≡ Some there.0 = c.index_mut.ensures.value ∙ get_or_from_slice_get s.sessions.items p (Some there.0) c.index_mut.result.now there.1 in
     let r : RousesOne there.0 c.roused.new.pooled c.roused.result = subst (λ (o : Option PooledSession). RousesAt o c.roused.new.pooled c.roused.result) slot c.roused.ensures in
     let w = c.in_err-fd.was in
     let told = r.told_is in
@@ -62,8 +62,8 @@ index_mut-requires-in-Seat c =
     let p : ℕ = c.args.place in
     let taken = c.in_ok-take.ensures.some in
     let stood : slice_get s.stands.items p ≡ Some Waits = waits_in_book s.stands.items s.book p c.in_ok-take.field-0 taken.turn s.waits taken.was_in in
-    let there = session_there s.stands.items s.guests.items p Waits s.here stood refl in
-    let slot : c.index_mut.result.now ≡ Some there.0 = c.index_mut.ensures.value ∙ get_or_from_slice_get s.guests.items p (Some there.0) c.index_mut.result.now there.1 in
+    let there = session_there s.stands.items s.sessions.items p Waits s.here stood refl in
+    let slot : c.index_mut.result.now ≡ Some there.0 = c.index_mut.ensures.value ∙ get_or_from_slice_get s.sessions.items p (Some there.0) c.index_mut.result.now there.1 in
     let r : RousesOne there.0 c.roused.new.pooled c.roused.result = subst (λ (o : Option PooledSession). RousesAt o c.roused.new.pooled c.roused.result) slot c.roused.ensures in
     let within = slice_get_within s.stands.items p Waits stood in
     omega arith
@@ -74,8 +74,8 @@ push_back_reserved-requires c =
     let p : ℕ = c.args.place in
     let taken = c.in_ok-take.ensures.some in
     let stood : slice_get s.stands.items p ≡ Some Waits = waits_in_book s.stands.items s.book p c.in_ok-take.field-0 taken.turn s.waits taken.was_in in
-    let there = session_there s.stands.items s.guests.items p Waits s.here stood refl in
-    let slot : c.index_mut.result.now ≡ Some there.0 = c.index_mut.ensures.value ∙ get_or_from_slice_get s.guests.items p (Some there.0) c.index_mut.result.now there.1 in
+    let there = session_there s.stands.items s.sessions.items p Waits s.here stood refl in
+    let slot : c.index_mut.result.now ≡ Some there.0 = c.index_mut.ensures.value ∙ get_or_from_slice_get s.sessions.items p (Some there.0) c.index_mut.result.now there.1 in
     let r : RousesOne there.0 c.roused.new.pooled c.roused.result = subst (λ (o : Option PooledSession). RousesAt o c.roused.new.pooled c.roused.result) slot c.roused.ensures in
     let k = has_room is_ready s.stands.items p Waits s.ready.items stood refl s.readies in
     let j = s.room_ready in
@@ -88,11 +88,11 @@ invariant_of-self-in-Seat c =
     let p : ℕ = c.args.place in
     let taken = c.in_ok-take.ensures.some in
     let stood : slice_get s.stands.items p ≡ Some Waits = waits_in_book s.stands.items s.book p c.in_ok-take.field-0 taken.turn s.waits taken.was_in in
-    let there = session_there s.stands.items s.guests.items p Waits s.here stood refl in
-    let slot : c.index_mut.result.now ≡ Some there.0 = c.index_mut.ensures.value ∙ get_or_from_slice_get s.guests.items p (Some there.0) c.index_mut.result.now there.1 in
+    let there = session_there s.stands.items s.sessions.items p Waits s.here stood refl in
+    let slot : c.index_mut.result.now ≡ Some there.0 = c.index_mut.ensures.value ∙ get_or_from_slice_get s.sessions.items p (Some there.0) c.index_mut.result.now there.1 in
     let r : RousesOne there.0 c.roused.new.pooled c.roused.result = subst (λ (o : Option PooledSession). RousesAt o c.roused.new.pooled c.roused.result) slot c.roused.ensures in
     let ws = slice_get_within s.stands.items p Waits stood in
-    let wg = below_made s.stands.items p (length s.guests.items) Waits (s.made p) stood refl in
+    let wg = below_made s.stands.items p (length s.sessions.items) Waits (s.made p) stood refl in
     record {
       frees = stays is_free s.stands.items p Waits Ready stood s.free.items refl refl s.frees;
       readies = subst (λ (ps : List ℕ). (q : ℕ) → times q ps ≡ once is_ready (slice_get (slice_set s.stands.items p Ready) q)) (sym c.push_back_reserved.ensures.items)
@@ -100,11 +100,11 @@ invariant_of-self-in-Seat c =
       updating = stays is_updates s.stands.items p Waits Ready stood s.updates.items refl refl s.updating;
       waits = subst (λ (xs : List Spot). (q : ℕ) → is_in_queue (slice_get xs q) ≡ is_waiting (slice_get (slice_set s.stands.items p Ready) q)) (sym taken.taken)
           (set_both (λ q a b. is_in_queue a ≡ is_waiting b) s.book s.stands.items p SpotAway Ready (slice_get_within s.book p (In c.in_ok-take.field-0 taken.turn) taken.was_in) ws refl s.waits);
-      here = set_both (λ q a b. has_some a ≡ is_here b) s.guests.items s.stands.items p c.roused.new.pooled Ready wg ws (ap (λ (x : Option PooledSession). has_some (Some x)) r.after_is) s.here;
-      own = set_each (λ q o. (h : PooledSession) → o ≡ Some (Some h) → h.place ≡ q) s.guests.items p c.roused.new.pooled wg
+      here = set_both (λ q a b. has_some a ≡ is_here b) s.sessions.items s.stands.items p c.roused.new.pooled Ready wg ws (ap (λ (x : Option PooledSession). has_some (Some x)) r.after_is) s.here;
+      own = set_each (λ q o. (h : PooledSession) → o ≡ Some (Some h) → h.place ≡ q) s.sessions.items p c.roused.new.pooled wg
           (λ h e. own_after (λ (x : PooledSession). x.place) c.roused.new.pooled r.pooled h p r.after_is (r.roused.waited.same.place ∙ s.own p there.0 there.1) e) s.own;
-      made = subst (λ (n : ℕ). (q : ℕ) → nat_lt q n ≡ is_made (slice_get (slice_set s.stands.items p Ready) q)) (sym (length_set s.guests.items p c.roused.new.pooled))
-          (same_of is_made (λ q. nat_lt q (length s.guests.items)) s.stands.items p Waits Ready stood refl s.made);
+      made = subst (λ (n : ℕ). (q : ℕ) → nat_lt q n ≡ is_made (slice_get (slice_set s.stands.items p Ready) q)) (sym (length_set s.sessions.items p c.roused.new.pooled))
+          (same_of is_made (λ q. nat_lt q (length s.sessions.items)) s.stands.items p Waits Ready stood refl s.made);
       booked = ap length taken.taken ∙ length_set s.book p SpotAway ∙ s.booked ∙ sym (length_set s.stands.items p Ready);
       room_free = search rules;
       room_ready = search rules;
@@ -117,8 +117,8 @@ returns-in-Seat-clause-some c =
     let p : ℕ = c.args.place in
     let taken = c.in_ok-take.ensures.some in
     let stood : slice_get s.stands.items p ≡ Some Waits = waits_in_book s.stands.items s.book p c.in_ok-take.field-0 taken.turn s.waits taken.was_in in
-    let there = session_there s.stands.items s.guests.items p Waits s.here stood refl in
-    let slot : c.index_mut.result.now ≡ Some there.0 = c.index_mut.ensures.value ∙ get_or_from_slice_get s.guests.items p (Some there.0) c.index_mut.result.now there.1 in
+    let there = session_there s.stands.items s.sessions.items p Waits s.here stood refl in
+    let slot : c.index_mut.result.now ≡ Some there.0 = c.index_mut.ensures.value ∙ get_or_from_slice_get s.sessions.items p (Some there.0) c.index_mut.result.now there.1 in
     let r : RousesOne there.0 c.roused.new.pooled c.roused.result = subst (λ (o : Option PooledSession). RousesAt o c.roused.new.pooled c.roused.result) slot c.roused.ensures in
     let turn : r.turn ≡ Seat = same_turn c.roused.result r.turn c.in_ok-fd.turn Seat r.told_is c.in_ok-fd.was c.in-Seat.is in
     record {
@@ -137,8 +137,8 @@ index_mut-requires-in-Update c =
     let p : ℕ = c.args.place in
     let taken = c.in_ok-take.ensures.some in
     let stood : slice_get s.stands.items p ≡ Some Waits = waits_in_book s.stands.items s.book p c.in_ok-take.field-0 taken.turn s.waits taken.was_in in
-    let there = session_there s.stands.items s.guests.items p Waits s.here stood refl in
-    let slot : c.index_mut.result.now ≡ Some there.0 = c.index_mut.ensures.value ∙ get_or_from_slice_get s.guests.items p (Some there.0) c.index_mut.result.now there.1 in
+    let there = session_there s.stands.items s.sessions.items p Waits s.here stood refl in
+    let slot : c.index_mut.result.now ≡ Some there.0 = c.index_mut.ensures.value ∙ get_or_from_slice_get s.sessions.items p (Some there.0) c.index_mut.result.now there.1 in
     let r : RousesOne there.0 c.roused.new.pooled c.roused.result = subst (λ (o : Option PooledSession). RousesAt o c.roused.new.pooled c.roused.result) slot c.roused.ensures in
     let within = slice_get_within s.stands.items p Waits stood in
     omega arith
@@ -149,8 +149,8 @@ push_back_reserved-requires-in-Update c =
     let p : ℕ = c.args.place in
     let taken = c.in_ok-take.ensures.some in
     let stood : slice_get s.stands.items p ≡ Some Waits = waits_in_book s.stands.items s.book p c.in_ok-take.field-0 taken.turn s.waits taken.was_in in
-    let there = session_there s.stands.items s.guests.items p Waits s.here stood refl in
-    let slot : c.index_mut.result.now ≡ Some there.0 = c.index_mut.ensures.value ∙ get_or_from_slice_get s.guests.items p (Some there.0) c.index_mut.result.now there.1 in
+    let there = session_there s.stands.items s.sessions.items p Waits s.here stood refl in
+    let slot : c.index_mut.result.now ≡ Some there.0 = c.index_mut.ensures.value ∙ get_or_from_slice_get s.sessions.items p (Some there.0) c.index_mut.result.now there.1 in
     let r : RousesOne there.0 c.roused.new.pooled c.roused.result = subst (λ (o : Option PooledSession). RousesAt o c.roused.new.pooled c.roused.result) slot c.roused.ensures in
     let k = has_room is_updates s.stands.items p Waits s.updates.items stood refl s.updating in
     let j = s.room_updates in
@@ -163,11 +163,11 @@ invariant_of-self-in-Update c =
     let p : ℕ = c.args.place in
     let taken = c.in_ok-take.ensures.some in
     let stood : slice_get s.stands.items p ≡ Some Waits = waits_in_book s.stands.items s.book p c.in_ok-take.field-0 taken.turn s.waits taken.was_in in
-    let there = session_there s.stands.items s.guests.items p Waits s.here stood refl in
-    let slot : c.index_mut.result.now ≡ Some there.0 = c.index_mut.ensures.value ∙ get_or_from_slice_get s.guests.items p (Some there.0) c.index_mut.result.now there.1 in
+    let there = session_there s.stands.items s.sessions.items p Waits s.here stood refl in
+    let slot : c.index_mut.result.now ≡ Some there.0 = c.index_mut.ensures.value ∙ get_or_from_slice_get s.sessions.items p (Some there.0) c.index_mut.result.now there.1 in
     let r : RousesOne there.0 c.roused.new.pooled c.roused.result = subst (λ (o : Option PooledSession). RousesAt o c.roused.new.pooled c.roused.result) slot c.roused.ensures in
     let ws = slice_get_within s.stands.items p Waits stood in
-    let wg = below_made s.stands.items p (length s.guests.items) Waits (s.made p) stood refl in
+    let wg = below_made s.stands.items p (length s.sessions.items) Waits (s.made p) stood refl in
     record {
       frees = stays is_free s.stands.items p Waits Updates stood s.free.items refl refl s.frees;
       readies = stays is_ready s.stands.items p Waits Updates stood s.ready.items refl refl s.readies;
@@ -175,11 +175,11 @@ invariant_of-self-in-Update c =
           (joins is_updates s.stands.items p Waits Updates stood s.updates.items refl refl s.updating);
       waits = subst (λ (xs : List Spot). (q : ℕ) → is_in_queue (slice_get xs q) ≡ is_waiting (slice_get (slice_set s.stands.items p Updates) q)) (sym taken.taken)
           (set_both (λ q a b. is_in_queue a ≡ is_waiting b) s.book s.stands.items p SpotAway Updates (slice_get_within s.book p (In c.in_ok-take.field-0 taken.turn) taken.was_in) ws refl s.waits);
-      here = set_both (λ q a b. has_some a ≡ is_here b) s.guests.items s.stands.items p c.roused.new.pooled Updates wg ws (ap (λ (x : Option PooledSession). has_some (Some x)) r.after_is) s.here;
-      own = set_each (λ q o. (h : PooledSession) → o ≡ Some (Some h) → h.place ≡ q) s.guests.items p c.roused.new.pooled wg
+      here = set_both (λ q a b. has_some a ≡ is_here b) s.sessions.items s.stands.items p c.roused.new.pooled Updates wg ws (ap (λ (x : Option PooledSession). has_some (Some x)) r.after_is) s.here;
+      own = set_each (λ q o. (h : PooledSession) → o ≡ Some (Some h) → h.place ≡ q) s.sessions.items p c.roused.new.pooled wg
           (λ h e. own_after (λ (x : PooledSession). x.place) c.roused.new.pooled r.pooled h p r.after_is (r.roused.waited.same.place ∙ s.own p there.0 there.1) e) s.own;
-      made = subst (λ (n : ℕ). (q : ℕ) → nat_lt q n ≡ is_made (slice_get (slice_set s.stands.items p Updates) q)) (sym (length_set s.guests.items p c.roused.new.pooled))
-          (same_of is_made (λ q. nat_lt q (length s.guests.items)) s.stands.items p Waits Updates stood refl s.made);
+      made = subst (λ (n : ℕ). (q : ℕ) → nat_lt q n ≡ is_made (slice_get (slice_set s.stands.items p Updates) q)) (sym (length_set s.sessions.items p c.roused.new.pooled))
+          (same_of is_made (λ q. nat_lt q (length s.sessions.items)) s.stands.items p Waits Updates stood refl s.made);
       booked = ap length taken.taken ∙ length_set s.book p SpotAway ∙ s.booked ∙ sym (length_set s.stands.items p Updates);
       room_free = search rules;
       room_ready = search rules;
@@ -192,8 +192,8 @@ returns-in-Update-clause-some c =
     let p : ℕ = c.args.place in
     let taken = c.in_ok-take.ensures.some in
     let stood : slice_get s.stands.items p ≡ Some Waits = waits_in_book s.stands.items s.book p c.in_ok-take.field-0 taken.turn s.waits taken.was_in in
-    let there = session_there s.stands.items s.guests.items p Waits s.here stood refl in
-    let slot : c.index_mut.result.now ≡ Some there.0 = c.index_mut.ensures.value ∙ get_or_from_slice_get s.guests.items p (Some there.0) c.index_mut.result.now there.1 in
+    let there = session_there s.stands.items s.sessions.items p Waits s.here stood refl in
+    let slot : c.index_mut.result.now ≡ Some there.0 = c.index_mut.ensures.value ∙ get_or_from_slice_get s.sessions.items p (Some there.0) c.index_mut.result.now there.1 in
     let r : RousesOne there.0 c.roused.new.pooled c.roused.result = subst (λ (o : Option PooledSession). RousesAt o c.roused.new.pooled c.roused.result) slot c.roused.ensures in
     let turn : r.turn ≡ Update = same_turn c.roused.result r.turn c.in_ok-fd.turn Update r.told_is c.in_ok-fd.was c.in-Update.is in
     record {

@@ -17,6 +17,15 @@ pub enum PlaceState {
     Updates,
 }
 
+/// Why no place is given to a session that comes.
+#[derive(Clone, Copy, Debug)]
+pub enum NoPlace {
+    /// All are taken.
+    Full,
+    /// A place is free, and there is no memory for a session at it.
+    NoMemory,
+}
+
 /// What a session waits for that waits for its turn.
 #[derive(Clone, Copy, Debug, PartialEq, Eq)]
 pub enum Turn {
