@@ -24,7 +24,7 @@
 //! seat answers at most 16 of its messages in a row, no update among them, and goes on with it only where no whole message is left over,
 //! 256 times at most (`SessionPool::attend`, `sit`). How long a client takes over one message is counted from its beginning (`PooledSession::hear`, `pause`). A place
 //! has one session at a time, and turns are first in, first out (`Places`); a client's end is told once (`Updaters`). That each session is served,
-//! and soon, is tested (`tests/serve`, `tests/streams`).
+//! and soon, is tested (`tests/cluster`, `tests/streams`).
 #![tactic(auto)]
 
 mod arriving;
