@@ -1,5 +1,6 @@
 pub mod Along
 pub mod Batching
+pub mod Finding
 pub mod Joining
 pub mod OfTaken
 pub mod OneTold

@@ -1,5 +1,6 @@
 pub mod Batches
 pub mod Fields
+pub mod Found
 pub mod Framed
 pub mod Kept
 pub mod Notes

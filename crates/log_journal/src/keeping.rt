@@ -68,8 +68,9 @@ pub fn settle<J: Device>(journal: &mut Journal<J>, batch: &Batch) -> Result<(), 
 }
 
 // prover: no device was called, so none has failed
-fn before_the_device(error: NoteError) -> NoteError
-    ensures { result ≢ NoteError.DeviceFailed }
+pub fn before_the_device(error: NoteError) -> NoteError
+    ensures device { result ≢ NoteError.DeviceFailed }
+    ensures version { result ≡ NoteError.AnotherVersion → error ≡ NoteError.AnotherVersion }
 {
     match error {
         NoteError::NoMemory => NoteError::NoMemory,

@@ -1,7 +1,8 @@
 //! Reads what strings tell: notes are taken one by one, the oldest first.
-ghost use Rattle.std.specs.Prelude.{◌≡◌, true, false, OnOk, IfOk, IsTrue};
+ghost use Rattle.std.specs.Prelude.{◌≡◌, ◌≢◌, true, false, OnOk, IfOk, IsErrOf, IsTrue};
 ghost use Rattle.ldap_op.specs.Grammar.{IsOp};
 ghost use Rattle.journal.specs.Journal.{octets_of};
+ghost use Rattle.log_journal.specs.Found.{IsOfAnotherVersion};
 ghost use Rattle.log_journal.specs.Notes.{IsEntryIn, Start, plain};
 ghost use Rattle.log_journal.specs.Told.{Takes, TakesString, Tells, nothing_told, told_by};
 ghost use Rattle.log_journal.specs.Views.{fields_view, told_view};
@@ -18,7 +19,8 @@ use vr_state::words::{Client, LogEntry};
 
 /// The update that these octets spell.
 fn update_of(alloc: Global, octets: &[u8]) -> Result<Op, NoteError>
-    ensures { IfOk result (λ op. IsOp op octets.now) }
+    ensures update { IfOk result (λ op. IsOp op octets.now) }
+    ensures version { IsErrOf result NoteError.AnotherVersion → ⊥ }
 {
     match read_op(alloc, octets) {
         Ok(op) => Ok(op),
@@ -29,7 +31,8 @@ fn update_of(alloc: Global, octets: &[u8]) -> Result<Op, NoteError>
 
 /// The record of these fields.
 fn entry_in(alloc: Global, fields: &Fields<'_>) -> Result<LogEntry<Op>, NoteError>
-    ensures { IfOk result (λ e. IsEntryIn fields.now.kind fields.now.first e (fields_view fields.now)) }
+    ensures entry { IfOk result (λ e. IsEntryIn fields.now.kind fields.now.first e (fields_view fields.now)) }
+    ensures version { IsErrOf result NoteError.AnotherVersion → ⊥ }
 {
     if fields.second > 255 {
         return Err(NoteError::Damaged);
@@ -64,7 +67,8 @@ fn is_number(fields: &Fields<'_>) -> bool
 /// Takes whose the journal is.
 fn take_begin(told: &mut Told, fields: &Fields<'_>) -> Result<(), NoteError>
     requires { fields.now.kind ≡ 0 }
-    ensures { OnOk result (Takes (fields_view fields.now) (told_view told.old) (told_view told.new)) }
+    ensures taken { OnOk result (Takes (fields_view fields.now) (told_view told.old) (told_view told.new)) }
+    ensures version { IsErrOf result NoteError.AnotherVersion → fields.now.first ≢ 1 }
 {
     if fields.first != VERSION {
         return Err(NoteError::AnotherVersion);
@@ -103,7 +107,8 @@ fn start_empty(alloc: Global, told: &mut Told, restarts: u64, view_number: u64)
 /// Takes a start.
 fn take_start(alloc: Global, told: &mut Told, fields: &Fields<'_>) -> Result<(), NoteError>
     requires { fields.now.kind ≡ 1 }
-    ensures { OnOk result (Takes (fields_view fields.now) (told_view told.old) (told_view told.new)) }
+    ensures taken { OnOk result (Takes (fields_view fields.now) (told_view told.old) (told_view told.new)) }
+    ensures version { IsErrOf result NoteError.AnotherVersion → ⊥ }
 {
     if !is_plain(fields) {
         return Err(NoteError::Damaged);
@@ -127,7 +132,8 @@ fn take_start(alloc: Global, told: &mut Told, fields: &Fields<'_>) -> Result<(),
 /// Takes a view that was entered.
 fn take_enter(alloc: Global, told: &mut Told, fields: &Fields<'_>) -> Result<(), NoteError>
     requires { fields.now.kind ≡ 2 }
-    ensures { OnOk result (Takes (fields_view fields.now) (told_view told.old) (told_view told.new)) }
+    ensures taken { OnOk result (Takes (fields_view fields.now) (told_view told.old) (told_view told.new)) }
+    ensures version { IsErrOf result NoteError.AnotherVersion → ⊥ }
 {
     if !is_number(fields) {
         return Err(NoteError::Damaged);
@@ -140,7 +146,8 @@ fn take_enter(alloc: Global, told: &mut Told, fields: &Fields<'_>) -> Result<(),
 /// Takes a record that was appended.
 fn take_record(alloc: Global, told: &mut Told, fields: &Fields<'_>) -> Result<(), NoteError>
     requires { fields.now.kind ≡ 3 }
-    ensures { OnOk result (Takes (fields_view fields.now) (told_view told.old) (told_view told.new)) }
+    ensures taken { OnOk result (Takes (fields_view fields.now) (told_view told.old) (told_view told.new)) }
+    ensures version { IsErrOf result NoteError.AnotherVersion → ⊥ }
 {
     let entry = entry_in(alloc, fields)?;
     told.log.push(entry)?;
@@ -152,7 +159,8 @@ fn take_record(alloc: Global, told: &mut Told, fields: &Fields<'_>) -> Result<()
 /// Takes a record that waits to be adopted.
 fn take_stage(alloc: Global, told: &mut Told, fields: &Fields<'_>) -> Result<(), NoteError>
     requires { fields.now.kind ≡ 4 }
-    ensures { OnOk result (Takes (fields_view fields.now) (told_view told.old) (told_view told.new)) }
+    ensures taken { OnOk result (Takes (fields_view fields.now) (told_view told.old) (told_view told.new)) }
+    ensures version { IsErrOf result NoteError.AnotherVersion → ⊥ }
 {
     if fields.first != 0 {
         return Err(NoteError::Damaged);
@@ -165,7 +173,8 @@ fn take_stage(alloc: Global, told: &mut Told, fields: &Fields<'_>) -> Result<(),
 /// Takes an adopted log: the first records stay, and those that wait come behind them.
 fn take_adopt(alloc: Global, told: &mut Told, fields: &Fields<'_>) -> Result<(), NoteError>
     requires { fields.now.kind ≡ 5 }
-    ensures { OnOk result (Takes (fields_view fields.now) (told_view told.old) (told_view told.new)) }
+    ensures taken { OnOk result (Takes (fields_view fields.now) (told_view told.old) (told_view told.new)) }
+    ensures version { IsErrOf result NoteError.AnotherVersion → ⊥ }
 {
     if !is_plain(fields) {
         return Err(NoteError::Damaged);
@@ -182,7 +191,8 @@ fn take_adopt(alloc: Global, told: &mut Told, fields: &Fields<'_>) -> Result<(),
 /// Takes how much is known to be committed.
 fn take_commit(told: &mut Told, fields: &Fields<'_>) -> Result<(), NoteError>
     requires { fields.now.kind ≡ 6 }
-    ensures { OnOk result (Takes (fields_view fields.now) (told_view told.old) (told_view told.new)) }
+    ensures taken { OnOk result (Takes (fields_view fields.now) (told_view told.old) (told_view told.new)) }
+    ensures version { IsErrOf result NoteError.AnotherVersion → ⊥ }
 {
     if !is_number(fields) {
         return Err(NoteError::Damaged);
@@ -193,7 +203,8 @@ fn take_commit(told: &mut Told, fields: &Fields<'_>) -> Result<(), NoteError>
 
 /// Takes the note of these fields.
 fn take_fields(alloc: Global, told: &mut Told, fields: &Fields<'_>) -> Result<(), NoteError>
-    ensures { OnOk result (Takes (fields_view fields.now) (told_view told.old) (told_view told.new)) }
+    ensures taken { OnOk result (Takes (fields_view fields.now) (told_view told.old) (told_view told.new)) }
+    ensures version { IsErrOf result NoteError.AnotherVersion → (fields.now.kind ≡ 0) × (fields.now.first ≢ 1) }
 {
     match fields.kind {
         0 => take_begin(told, fields),
@@ -208,8 +219,9 @@ fn take_fields(alloc: Global, told: &mut Told, fields: &Fields<'_>) -> Result<()
 }
 
 /// Takes the note of a string. After an error what is told is of no use.
-fn take_string(alloc: Global, told: &mut Told, string: &[u8]) -> Result<(), NoteError>
-    ensures { OnOk result (TakesString string.now (told_view told.old) (told_view told.new)) }
+pub fn take_string(alloc: Global, told: &mut Told, string: &[u8]) -> Result<(), NoteError>
+    ensures taken { OnOk result (TakesString string.now (told_view told.old) (told_view told.new)) }
+    ensures version { IsErrOf result NoteError.AnotherVersion → IsOfAnotherVersion string.now }
 {
     match read_fields(string) {
         Some(fields) => take_fields(alloc, told, &fields),

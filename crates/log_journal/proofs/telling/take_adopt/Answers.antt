@@ -7,8 +7,8 @@ use Rattle.vr_state.specs.Journaled.{Adopt}
 use Rattle.log_journal.proofs.Plain.{plain_at, told_is}
 use Rattle.log_journal.proofs.telling.take_adopt.Goals as goal
 
-pub returns : goal.returns
-returns c = record {
+pub returns-clause-taken : goal.returns-clause-taken
+returns-clause-taken c = record {
   note = Step (Adopt c.args.fields.now.first c.args.fields.now.second c.args.fields.now.third c.args.fields.now.fourth);
   is = plain_at (fields_view c.args.fields.now) 5 _ _ _ _ (c.is_plain.ensures (search rules)) c.requires refl refl refl refl;
   told = told_is _ _ refl refl refl refl refl refl

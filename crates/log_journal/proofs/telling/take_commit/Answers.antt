@@ -3,8 +3,8 @@ use Rattle.log_journal.specs.Notes.{Commit, plain}
 use Rattle.log_journal.proofs.Plain.{told_is}
 use Rattle.log_journal.proofs.telling.take_commit.Goals as goal
 
-pub returns : goal.returns
-returns c = record {
+pub returns-clause-taken : goal.returns-clause-taken
+returns-clause-taken c = record {
   note = Commit c.args.fields.now.first;
   is = c.is_number.ensures (search rules) ∙ ap (λ (k : ℕ). plain k c.args.fields.now.first 0 0 0 0) c.requires;
   told = told_is _ _ refl refl refl refl refl refl refl (sym c.max-told.ensures) refl refl;

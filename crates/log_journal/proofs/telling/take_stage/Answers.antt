@@ -5,10 +5,10 @@ use Rattle.vr_state.specs.Journaled.{Stage}
 use Rattle.log_journal.proofs.Plain.{told_is}
 use Rattle.log_journal.proofs.telling.take_stage.Goals as goal
 
-pub returns : goal.returns
-returns c = record {
+pub returns-clause-taken : goal.returns-clause-taken
+returns-clause-taken c = record {
   note = Step (Stage c.in_ok-entry.entry);
   is = subst (λ (k : ℕ). IsEntryIn k 0 c.in_ok-entry.entry (fields_view c.args.fields.now)) c.requires
-      (subst (λ (j : ℕ). IsEntryIn c.args.fields.now.kind j c.in_ok-entry.entry (fields_view c.args.fields.now)) (omega arith) c.in_ok-entry.ensures);
+      (subst (λ (j : ℕ). IsEntryIn c.args.fields.now.kind j c.in_ok-entry.entry (fields_view c.args.fields.now)) (omega arith) c.in_ok-entry.ensures.entry);
   told = told_is _ _ refl refl refl refl refl refl refl refl (sym c.in_ok-push.ensures.ok) refl;
 }

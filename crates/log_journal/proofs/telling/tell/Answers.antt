@@ -5,4 +5,4 @@ use Rattle.log_journal.proofs.telling.tell.Goals as goal
 
 pub loop-string-preserved : goal.loop-string-preserved
 loop-string-preserved c = more_tells (λ v. v.items) c.args.strings.now c.loop-string.string-index c.string-item.result _ nothing_told _ _ (omega arith)
-    (c.as_slice.ensures.value ∙ ap (λ v. v.items) c.string-item.is) c.loop-string.invariant c.in_ok-take_string.ensures
+    (c.as_slice.ensures.value ∙ ap (λ v. v.items) c.string-item.is) c.loop-string.invariant c.in_ok-take_string.ensures.taken

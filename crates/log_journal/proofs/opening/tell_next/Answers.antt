@@ -1,0 +1,27 @@
+use Rattle.std.proofs.Common.{◌≡◌, List, ℕ, Err, refl, ap, subst}
+use Rattle.journal.specs.Reading.{Advances}
+use Rattle.log_journal.specs.Told.{TakesString}
+use Rattle.log_journal.specs.Views.{told_view}
+use Rattle.log_journal.specs.declared.error.NoteError.{NoteError}
+use Rattle.log_journal.specs.declared.error.NoteError.TheVariants.{AnotherVersion}
+use Rattle.log_journal.proofs.Finding.{version_ahead}
+use Rattle.log_journal.proofs.opening.tell_next.Goals as goal
+
+pub returns-in-Ok-take_string-clause-told : goal.returns-in-Ok-take_string-clause-told
+returns-in-Ok-take_string-clause-told g c =
+    let image = g.J.Device.seen c.args.device.now in
+    let step = subst (λ b. Advances b c.args.reader.now c.advance.new.self image) c.if-more.true c.in-Ok.ensures.string in
+    (step, subst (λ (s : List ℕ). TakesString s (told_view c.args.told.now) (told_view c.take_string.new.told)) c.string.ensures c.in-Ok-take_string.ensures.taken)
+
+pub returns-in-Err-take_string-clause-version : goal.returns-in-Err-take_string-clause-version
+returns-in-Err-take_string-clause-version g c = λ is.
+    let image = g.J.Device.seen c.args.device.now in
+    let step = subst (λ b. Advances b c.args.reader.now c.advance.new.self image) c.if-more.true c.in-Ok.ensures.string in
+    let same : c.before_the_device.result ≡ AnotherVersion = cc is in
+    version_ahead image c.args.reader.now c.advance.new.self c.string.result.now step c.string.ensures (c.in-Err-take_string.ensures.version (ap (λ (x : NoteError). Err x) (c.before_the_device.ensures.version same)))
+
+pub returns-else-more-clause-told : goal.returns-else-more-clause-told
+returns-else-more-clause-told g c =
+    let image = g.J.Device.seen c.args.device.now in
+    let step = subst (λ b. Advances b c.args.reader.now c.advance.new.self image) c.if-more.false c.in-Ok.ensures.string in
+    (step, refl)

@@ -1,0 +1,33 @@
+-- What opening a journal finds, and why it is refused as one of another version.
+use Rattle.std.specs.Prelude.{◌≡◌, ◌≢◌, ℕ, Bool, true, false, List, [], ◌∷◌, ◌++◌, Option, Some, None}
+use Rattle.journal.specs.Reading.{ReadsNext, ReadsNone, string_read}
+use Rattle.journal.specs.declared.reader.StringReader.{StringReader}
+use Rattle.log_journal.specs.Fields.{Fields, fields_at}
+use Rattle.log_journal.specs.Told.{Told, TakesString, Tells, nothing_told}
+use Rattle.log_journal.specs.Views.{told_view}
+use Rattle.log_journal.specs.declared.told.Told as held
+
+-- What strings tell is found; nothing, where there are none.
+abbrev pub IsFound : Option held.Told → List (List ℕ) → Type 0
+IsFound None strings = strings ≡ []
+IsFound (Some told) strings = (strings ≢ []) × Tells nothing_told strings (told_view told)
+
+-- A string is a beginning, as a journal of another version has it.
+pub record IsOfAnotherVersion (string : List ℕ) : Type 0 where
+  pub fields : Fields
+  pub read : fields_at string ≡ Some fields
+  pub kind : fields.kind ≡ 0
+  pub version : fields.first ≢ 1
+
+-- One of these strings is such a beginning.
+pub record HasAnotherVersion (strings : List (List ℕ)) : Type 0 where
+  pub before : List (List ℕ)
+  pub string : List ℕ
+  pub behind : List (List ℕ)
+  pub is : strings ≡ before ++ string ∷ behind
+  pub of : IsOfAnotherVersion string
+
+-- The next string of an image is read and taken, or there is none.
+abbrev pub TellsNext : Bool → StringReader → StringReader → Told → Told → List ℕ → Type 0
+TellsNext true old new t u image = ReadsNext old new image × TakesString (string_read new) t u
+TellsNext false old new t u image = ReadsNone old new image × (u ≡ t)
