@@ -1,5 +1,5 @@
 -- What a start notes is told. A way over a journal, and strings that spell what it notes, flow in; that the journal then tells the replica flows out.
-use Rattle.std.proofs.Common.{◌≡◌, ◌+◌, ◌≤◌, ℕ, min, zero, suc, Bool, true, false, cond, not, ◌&&◌, nat_lt, ◌==◌, List, [], ◌∷◌, ◌++◌, inl, inr, refl, sym, ap, ◌∙◌, subst, arith}
+use Rattle.std.proofs.Common.{◌≡◌, ◌+◌, ◌≤◌, ℕ, min, zero, suc, Bool, true, false, cond, not, ◌&&◌, nat_lt, ◌==◌, List, [], ◌∷◌, ◌++◌, inl, inr, Result, Ok, Err, IfOk, refl, sym, ap, ◌∙◌, subst, arith}
 use Rattle.std.proofs.lemmas.Bool.{and_parts}
 use Rattle.state_machine.specs.dir_store.ldap_op.Values.{OpValue}
 use Rattle.log_journal.specs.Kept.{IsMemory}
@@ -15,7 +15,8 @@ use Rattle.vr_state.specs.State.{State, first, is_recovering}
 use Rattle.vr_state.specs.declared.words.Status.TheVariants.{Normal, ViewChange}
 use Rattle.dir_node.specs.Logged.{IsBegun, head_of}
 use Rattle.dir_node.specs.Restarting.{IsOf, IsRestart, Restart, begins, first_notes, may_resume, recovered, resumed}
-use Rattle.dir_node.specs.Ways.{IsWay, start_by}
+use Rattle.dir_node.specs.Ways.{IsWay, IsWayOf, start_by}
+use Rattle.dir_node.specs.declared.error.NodeError.{NodeError}
 use Rattle.dir_node.specs.declared.owner.Owner.{Owner}
 use Rattle.dir_node.specs.declared.way.Way.{Way}
 use Rattle.dir_node.specs.declared.way.Way.TheVariants.{Begin, BeginAgain, Resume}
@@ -107,3 +108,10 @@ put_first xs batch p = subst (λ (l : List (List ℕ)). SpellAll xs l) (sym p.is
 -- an image that has grown by a first part of a start's strings
 pub begun : (old : List (List ℕ)) (xs : List Note) (batch : List (List ℕ)) (image : List ℕ) → SpellAll xs batch → IsGrown old batch image → IsBegun old xs image
 begun old xs batch image h g = (batch, h, g)
+
+-- a way over what strings tell is one over the strings
+pub way_told_by : (o : Owner) (pair : Pair) (strings : List (List ℕ)) (t : Told) (r : Result Way NodeError) → Tells nothing_told strings t → IfOk r (λ way. IsWayOf o pair t way) → IfOk r (λ way. IsWay o pair strings way)
+way_told_by o pair strings t (Ok Begin) tells is = absurd is
+way_told_by o pair strings t (Ok BeginAgain) tells is = (t, tells, is)
+way_told_by o pair strings t (Ok (Resume told)) tells is = (t, tells, is)
+way_told_by o pair strings t (Err e) tells is = tt

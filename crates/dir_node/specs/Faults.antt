@@ -5,12 +5,19 @@ use Rattle.view_store.specs.declared.fault.ViewStoreError.TheVariants as view
 use Rattle.dir_node.specs.declared.error.NodeError.{NodeError}
 use Rattle.dir_node.specs.declared.error.NodeError.TheVariants.{NoMemory, Store, Journal, ForeignJournal, StaleJournal, Halted}
 
--- Want of memory, or what reading and spelling notes may give: no device has failed.
+-- Want of memory, or what spelling notes may give: no device has failed, and no journal was read.
 abbrev pub IsNoteFault : NodeError → Type 0
 IsNoteFault NoMemory = Unit {0}
 IsNoteFault (Journal note.DeviceFailed) = ⊥
+IsNoteFault (Journal note.AnotherVersion) = ⊥
 IsNoteFault (Journal _) = Unit {0}
 IsNoteFault _ = ⊥
+
+-- What opening a journal may give.
+abbrev pub IsOpenFault : NodeError → Type 0
+IsOpenFault NoMemory = Unit {0}
+IsOpenFault (Journal _) = Unit {0}
+IsOpenFault _ = ⊥
 
 -- What reading a journal may give.
 abbrev pub IsLogFault : NodeError → Type 0

@@ -6,6 +6,7 @@ ghost use Rattle.dir_node.specs.Logged.{FirstLeaves, HasRisenIn, IsHeldIn, IsNot
 ghost use Rattle.dir_node.specs.NodeState.{CannotStart, IsJournaled, IsMade, IsOwn, KeepsLog, KeepsPair, StartLeaves, given, started_pair};
 ghost use Rattle.dir_node.specs.Restarting.{CannotRestart, IsForeign, IsRestarted, IsStale, RestartLeaves, RestartNotes, owner_of, first_notes};
 ghost use Rattle.dir_node.specs.declared.error.NodeError.TheVariants as error;
+ghost use Rattle.log_journal.specs.Found.{HasAnotherVersion};
 ghost use Rattle.log_journal.specs.declared.error.NoteError.TheVariants as note_error;
 ghost use Rattle.log_journal.specs.journal.Frames.{recorded};
 ghost use Rattle.view_store.specs.Device.{HasRisen, LeavesOnly};
@@ -62,6 +63,7 @@ fn first_replica<J: JournalDevice>(
     ensures failed { IsErrOf result (NodeError.Journal NoteError.DeviceFailed)
         → HasRisenIn J.failure_count (device_in journal.old) (device_in journal.new) }
     ensures foreign { IsErrOf result NodeError.ForeignJournal → ⊥ }
+    ensures version { IsErrOf result (NodeError.Journal NoteError.AnotherVersion) → ⊥ }
     ensures causes { IfErr result IsLogFault }
     ensures alone { (f : NoteError) → device_in journal.old ≡ None → IsErrOf result (NodeError.Journal f) → ⊥ }
 {
@@ -155,6 +157,7 @@ fn reopen_over<D: Device, J: JournalDevice>(
     ensures foreign_journal { IfErr result (λ r. r.error ≡ error.ForeignJournal → IsForeign (owner_of config) (recorded (J.seen journal))) }
     ensures stale_journal { IfErr result (λ r. r.error ≡ error.StaleJournal
         → IsStale (owner_of config) (found config.cluster (D.seen device)) (recorded (J.seen journal))) }
+    ensures another_version { IfErr result (λ r. r.error ≡ error.Journal note_error.AnotherVersion → HasAnotherVersion (recorded (J.seen journal))) }
     ensures log_failed { IfErr result (λ r. r.error ≡ error.Journal note_error.DeviceFailed → HasRisenIn J.failure_count (Some journal) r.journal) }
     ensures same { IfErr result (λ r. r.error ≢ error.Store view_error.DeviceFailed → D.seen r.device ≡ D.seen device) }
 {
@@ -246,6 +249,7 @@ impl<D: Device, J: JournalDevice> Node<D, J> {
         ensures not_halted { IfErr result (λ r. r.error ≢ error.Halted) }
         ensures stale_journal { IfErr result (λ r. r.error ≡ error.StaleJournal → IsNotEmpty J.seen journal × (r.device ≡ device)) }
         ensures foreign_journal { IfErr result (λ r. r.error ≢ error.ForeignJournal) }
+        ensures another_version { IfErr result (λ r. r.error ≢ error.Journal note_error.AnotherVersion) }
         ensures log_failed { IfErr result (λ r. r.error ≡ error.Journal note_error.DeviceFailed
             → HasRisenIn J.failure_count journal r.journal × (r.device ≡ device)) }
         ensures no_journal { (f : NoteError) → journal ≡ None → IfErr result (λ r. r.error ≢ error.Journal f) }
@@ -353,11 +357,13 @@ impl<D: Device, J: JournalDevice> Node<D, J> {
         ensures not_failed { IfErr result (λ r. r.error ≢ error.Store view_error.Failed) }
         ensures not_halted { IfErr result (λ r. r.error ≢ error.Halted) }
 
-        // Nor do E23, where the journal is another cluster's, and E26, where it is another replica's or doesn't go with the pair; no refusal of the journal
-        // writes the pair.
+        // Nor do E23, where the journal is another cluster's, E26, where it is another replica's or doesn't go with the pair, and E27, where a note of another
+        // version says whose it is; no refusal of the journal writes the pair.
         ensures foreign_journal { (j : J) → journal ≡ Some j → IfErr result (λ r. r.error ≡ error.ForeignJournal → IsForeign (owner_of config) (recorded (J.seen j))) }
         ensures stale_journal { (j : J) → journal ≡ Some j → IfErr result (λ r. r.error ≡ error.StaleJournal
             → IsStale (owner_of config) (found config.cluster (D.seen device)) (recorded (J.seen j))) }
+        ensures another_version { (j : J) → journal ≡ Some j
+            → IfErr result (λ r. r.error ≡ error.Journal note_error.AnotherVersion → HasAnotherVersion (recorded (J.seen j))) }
         ensures log_failed { (j : J) → journal ≡ Some j
             → IfErr result (λ r. r.error ≡ error.Journal note_error.DeviceFailed → HasRisenIn J.failure_count journal r.journal) }
         ensures same { IfErr result (λ r. r.error ≢ error.Store view_error.DeviceFailed → D.seen r.device ≡ D.seen device) }

@@ -1,19 +1,20 @@
 //! A node with a journal at its start: what the journal tells is read, and the replica that goes with it and with the pair is made; what the start
 //! notes is settled before the pair is stored, and both before anything is handed out.
 ghost use Rattle.std.specs.Prelude.{◌≡◌, ◌≢◌, ◌⊎◌, ℕ, ◌+◌, ◌<◌, ◌≤◌, ◌∷◌, ◌++◌, ◌^◌, [], false, Some, is_some, IfOk, IfErr, OnOk, IsErrOf, IsTrue};
-ghost use Rattle.dir_node.specs.Faults.{IsEarly, IsLogFault, IsNoteFault, IsWriteFault};
+ghost use Rattle.dir_node.specs.Faults.{IsEarly, IsLogFault, IsNoteFault, IsOpenFault, IsWriteFault};
 ghost use Rattle.dir_node.specs.Logged.{FirstLeaves, HasRisenIn, IsHeldIn, IsNotEmpty, IsToldIn, LeavesOnlyIn, ReadsAsBefore, RefusedLeaves, device_in, head_of};
 ghost use Rattle.dir_node.specs.NodeState.{Holds};
 ghost use Rattle.dir_node.specs.Restarting.{CannotRestart, GoTogether, IsForeign, IsOf, IsStale, RestartLeaves, RestartNotes, begins, change_of, first_notes, may_resume, recovered, resumed};
 ghost use Rattle.dir_node.specs.Ways.{IsMadeBy, IsStaleOf, IsStartedOver, IsWay, IsWayOf, start_by};
 ghost use Rattle.dir_node.specs.declared.error.NodeError.TheVariants as error;
+ghost use Rattle.log_journal.specs.Found.{HasAnotherVersion, IsFound};
 ghost use Rattle.log_journal.specs.Kept.{IsHeld, IsMemory};
 ghost use Rattle.log_journal.specs.Notes.{Puts, Start};
 ghost use Rattle.log_journal.specs.Told.{Tells, nothing_told, Told as Telling};
 ghost use Rattle.log_journal.specs.Views.{told_view};
 ghost use Rattle.log_journal.specs.journal.Device.{HasRisen as LogHasRisen, LeavesOnly as LogLeavesOnly};
 ghost use Rattle.log_journal.specs.journal.Frames.{recorded};
-ghost use Rattle.log_journal.specs.journal.Journal.{IsGrown, octets_of};
+ghost use Rattle.log_journal.specs.journal.Journal.{IsGrown};
 ghost use Rattle.view_store.specs.Device.{HasRisen, LeavesOnly, Only};
 ghost use Rattle.view_store.specs.Slots.{found, foreign, IsWellPlaced, sequence_of, taken_from};
 ghost use Rattle.view_store.specs.Store.{IsFormerOrNew};
@@ -26,8 +27,8 @@ use crate::made::Made;
 use crate::owner::Owner;
 use crate::way::Way;
 use log_journal::{
-    Batch, Device as JournalDevice, Found, Journal, JournalError, NoteError, Told, open, put_begin,
-    put_start, settle, tell,
+    Batch, Device as JournalDevice, Journal, JournalError, NoteError, Told, open, put_begin,
+    put_start, settle,
 };
 use state_machine::Op;
 use std::alloc::{AllocError, Global};
@@ -37,15 +38,28 @@ use vr_state::message::Change;
 use vr_state::replica::Replica;
 use vr_state::sending::sending;
 
-/// A refusal of a journal's notes, as a start tells it.
-// prover: no device was called, so none has failed
+/// A refusal of notes that a start spells.
+// prover: no device was called and no journal was read, so neither failed
 fn refusal_at_start(error: NoteError) -> NodeError
     ensures { IsNoteFault result }
 {
     match error {
         NoteError::NoMemory => NodeError::NoMemory,
         NoteError::DeviceFailed => NodeError::Journal(NoteError::Damaged),
+        NoteError::AnotherVersion => NodeError::Journal(NoteError::Damaged),
         other => NodeError::Journal(other),
+    }
+}
+
+/// Why a journal wasn't opened.
+fn refusal_at_opening(error: NoteError) -> NodeError
+    ensures fault { IsOpenFault result }
+    ensures device { result ≡ NodeError.Journal NoteError.DeviceFailed → error ≡ NoteError.DeviceFailed }
+    ensures version { result ≡ NodeError.Journal NoteError.AnotherVersion → error ≡ NoteError.AnotherVersion }
+{
+    match error {
+        NoteError::NoMemory => NodeError::NoMemory,
+        note => NodeError::Journal(note),
     }
 }
 
@@ -73,42 +87,57 @@ fn refusal_of(error: JournalError) -> NodeError
     }
 }
 
-/// Opens a journal, and gives its strings: what a crash left unsettled is settled, and what stands behind the strings is cleared.
-pub fn open_log<J: JournalDevice>(
+/// Opens a journal: what its strings tell; nothing, where it has none. What a crash left unsettled is settled, and what stands behind
+/// the strings is cleared.
+fn open_log<J: JournalDevice>(
     alloc: Global,
     journal: &mut Journal<J>,
-) -> Result<Vec<Vec<u8>>, NodeError>
-    ensures strings { IfOk result (λ strings. octets_of strings.items ≡ recorded (J.seen journal.old.device)) }
+) -> Result<Option<Told>, NodeError>
+    ensures told { IfOk result (λ found. IsFound found (recorded (J.seen journal.old.device))) }
     ensures held { OnOk result (IsHeld J.seen J.may_leave journal.new) }
     ensures read { OnOk result (recorded (J.seen journal.new.device) ≡ recorded (J.seen journal.old.device)) }
     ensures any_moment { LogLeavesOnly J.moment J.left_since journal.old.device journal.new.device (ReadsAsBefore J.seen J.may_leave journal.old.device) }
     ensures later { J.failure_count journal.old.device ≤ J.failure_count journal.new.device }
     ensures failed { IsErrOf result (NodeError.Journal NoteError.DeviceFailed)
         → LogHasRisen (J.failure_count journal.old.device) (J.failure_count journal.new.device) }
-    ensures causes { IfErr result (λ e. (e ≡ error.NoMemory) ⊎ (e ≡ error.Journal NoteError.DeviceFailed)) }
+    ensures version { IsErrOf result (NodeError.Journal NoteError.AnotherVersion) → HasAnotherVersion (recorded (J.seen journal.old.device)) }
+    ensures causes { IfErr result IsOpenFault }
 {
     match journal.device.sync() {
         Ok(()) => {}
         Err(_) => return Err(NodeError::Journal(NoteError::DeviceFailed)),
     }
-    match open(alloc, &mut journal.device) {
-        Ok(found) => {
-            let Found { strings, end } = found;
-            journal.end = end;
-            Ok(strings)
-        }
-        Err(error) => Err(refusal_of(error)),
+    match open(alloc, journal) {
+        Ok(found) => Ok(found),
+        Err(error) => Err(refusal_at_opening(error)),
     }
 }
 
-/// What these strings tell.
-fn tell_start(alloc: Global, strings: Vec<Vec<u8>>) -> Result<Told, NodeError>
-    ensures told { IfOk result (λ told. Tells nothing_told (octets_of strings.items) (told_view told)) }
-    ensures causes { IfErr result IsNoteFault }
+/// Opens a journal that is to hold nothing; E26 where it holds something.
+fn open_first<J: JournalDevice>(alloc: Global, journal: &mut Journal<J>) -> Result<(), NodeError>
+    ensures empty { OnOk result (recorded (J.seen journal.new.device) ≡ []) }
+    ensures held { OnOk result (IsHeld J.seen J.may_leave journal.new) }
+    ensures read { OnOk result (recorded (J.seen journal.new.device) ≡ recorded (J.seen journal.old.device)) }
+    ensures any_moment { LogLeavesOnly J.moment J.left_since journal.old.device journal.new.device (ReadsAsBefore J.seen J.may_leave journal.old.device) }
+    ensures later { J.failure_count journal.old.device ≤ J.failure_count journal.new.device }
+    ensures stale { IsErrOf result NodeError.StaleJournal → recorded (J.seen journal.old.device) ≢ [] }
+    ensures failed { IsErrOf result (NodeError.Journal NoteError.DeviceFailed)
+        → LogHasRisen (J.failure_count journal.old.device) (J.failure_count journal.new.device) }
+    ensures causes { IfErr result (λ e. (e ≡ error.NoMemory) ⊎ (e ≡ error.Journal NoteError.DeviceFailed) ⊎ (e ≡ error.StaleJournal)) }
 {
-    match tell(alloc, &strings) {
-        Ok(told) => Ok(told),
-        Err(error) => Err(refusal_at_start(error)),
+    match journal.device.sync() {
+        Ok(()) => {}
+        Err(_) => return Err(NodeError::Journal(NoteError::DeviceFailed)),
+    }
+    match journal.open_empty(alloc) {
+        Ok(is_empty) => {
+            if is_empty {
+                Ok(())
+            } else {
+                Err(NodeError::StaleJournal)
+            }
+        }
+        Err(error) => Err(refusal_of(error)),
     }
 }
 
@@ -183,14 +212,14 @@ fn find_way<J: JournalDevice>(
         → (t : Telling) × Tells nothing_told (recorded (J.seen journal.old.device)) t × IsStaleOf owner pair t }
     ensures failed { IsErrOf result (NodeError.Journal NoteError.DeviceFailed)
         → LogHasRisen (J.failure_count journal.old.device) (J.failure_count journal.new.device) }
+    ensures version { IsErrOf result (NodeError.Journal NoteError.AnotherVersion) → HasAnotherVersion (recorded (J.seen journal.old.device)) }
     ensures causes { IfErr result IsLogFault }
 {
-    let strings = open_log(alloc, journal)?;
-    if strings.is_empty() {
-        return Ok(Way::Begin);
+    let found = open_log(alloc, journal)?;
+    match found {
+        Some(told) => way_of(told, pair, owner),
+        None => Ok(Way::Begin),
     }
-    let told = tell_start(alloc, strings)?;
-    way_of(told, pair, owner)
 }
 
 /// A batch that begins with whose the journal is, where it is new.
@@ -395,6 +424,7 @@ pub fn start_over<D: Device, J: JournalDevice>(
         → HasRisen (D.failure_count views.old.device) (D.failure_count views.new.device) }
     ensures log_failed { IsErrOf result (NodeError.Journal NoteError.DeviceFailed)
         → LogHasRisen (J.failure_count journal.old.device) (J.failure_count journal.new.device) }
+    ensures another_version { IsErrOf result (NodeError.Journal NoteError.AnotherVersion) → HasAnotherVersion (recorded (J.seen journal.old.device)) }
     ensures keeps_journal { IsErrOf result (NodeError.Store ViewStoreError.KeepsJournal) → ⊥ }
     ensures not_failed { IsErrOf result (NodeError.Store ViewStoreError.Failed) → ⊥ }
     ensures not_halted { IsErrOf result NodeError.Halted → ⊥ }
@@ -425,13 +455,10 @@ fn begin_log<J: JournalDevice>(
     ensures failed { IsErrOf result (NodeError.Journal NoteError.DeviceFailed)
         → HasRisenIn J.failure_count (Some journal.old.device) (Some journal.new.device) }
     ensures foreign { IsErrOf result NodeError.ForeignJournal → ⊥ }
+    ensures version { IsErrOf result (NodeError.Journal NoteError.AnotherVersion) → ⊥ }
     ensures causes { IfErr result IsLogFault }
 {
-    let strings = open_log(alloc, journal)?;
-    match strings.as_slice() {
-        [] => {}
-        [_, ..] => return Err(NodeError::StaleJournal),
-    }
+    open_first(alloc, journal)?;
     let pair = Pair {
         view: 0,
         restarts: 1,
@@ -461,6 +488,7 @@ pub fn begin_first<J: JournalDevice>(
     ensures failed { IsErrOf result (NodeError.Journal NoteError.DeviceFailed)
         → HasRisenIn J.failure_count (device_in journal.old) (device_in journal.new) }
     ensures foreign { IsErrOf result NodeError.ForeignJournal → ⊥ }
+    ensures version { IsErrOf result (NodeError.Journal NoteError.AnotherVersion) → ⊥ }
     ensures causes { IfErr result IsLogFault }
     ensures alone { (f : NoteError) → device_in journal.old ≡ None → IsErrOf result (NodeError.Journal f) → ⊥ }
 {
