@@ -1,17 +1,13 @@
 -- A journal goes along with its node. A journal before and after, and what it tells, flow in; what it then tells, and what a crash leaves of it, flows out.
-use Rattle.std.proofs.Common.{◌≡◌, ℕ, List, [], ◌∷◌, ◌++◌, Bool, Option, Some, None, is_some, refl, sym, ap, ◌∙◌, subst}
+use Rattle.std.proofs.Common.{◌≡◌, ℕ, List, Bool, Option, Some, None, is_some, sym, subst}
 use Rattle.state_machine.specs.dir_store.ldap_op.Values.{OpValue}
-use Rattle.log_journal.specs.Kept.{IsHeld, IsMemory}
+use Rattle.log_journal.specs.Kept.{IsMemory}
 use Rattle.log_journal.specs.Told.{Told}
-use Rattle.log_journal.specs.journal.Device.{LeavesOnly}
 use Rattle.log_journal.specs.journal.Frames.{recorded}
 use Rattle.log_journal.specs.journal.declared.journal.Journal.{Journal}
-use Rattle.log_journal.proofs.Along.{started, crash_before}
-use Rattle.view_store.specs.declared.slot.Pair.{Pair}
 use Rattle.view_store.specs.Stored.{Stored}
 use Rattle.vr_state.specs.State.{State}
-use Rattle.vr_state.specs.declared.event.Event.{Event}
-use Rattle.dir_node.specs.Logged.{GoesAlong, IsHeldIn, IsToldIn, LeavesTold, LeavesOnlyIn, TellsSome, device_in, head_of}
+use Rattle.dir_node.specs.Logged.{GoesAlong, IsHeldIn, IsToldIn, LeavesTold, LeavesOnlyIn, device_in, head_of}
 use Rattle.dir_node.specs.NodeState.{Holds, IsRunning}
 
 -- A settled journal leaves, at every crash, what it tells.

@@ -1,8 +1,8 @@
 -- A later start over a journal. What its parts leave of either device and what they note flow in; what the whole leaves, and tells, flows out.
-use Rattle.std.proofs.Common.{◌≡◌, ◌⊎◌, ◌<◌, ◌≤◌, ◌+◌, ◌^◌, ℕ, true, Some, List, [], ◌∷◌, ◌++◌, inl, inr, Result, Ok, Err, IfErr, refl, sym, ap, ◌∙◌, subst, arith}
+use Rattle.std.proofs.Common.{◌≡◌, ◌⊎◌, ◌<◌, ◌≤◌, ◌+◌, ◌^◌, ℕ, true, Some, List, ◌++◌, inl, inr, Result, Ok, Err, IfErr, refl, sym, ap, ◌∙◌, subst, arith}
 use Rattle.state_machine.specs.dir_store.ldap_op.Values.{OpValue}
 use Rattle.log_journal.specs.Kept.{IsHeld, IsMemory}
-use Rattle.log_journal.specs.Notes.{Note, SpellAll}
+use Rattle.log_journal.specs.Notes.{SpellAll}
 use Rattle.log_journal.specs.journal.Device.{LeavesOnly as LogLeavesOnly}
 use Rattle.log_journal.specs.journal.Frames.{recorded}
 use Rattle.log_journal.specs.journal.Journal.{IsGrown}

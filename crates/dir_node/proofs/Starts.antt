@@ -1,20 +1,17 @@
 -- What a start notes is told. A way over a journal, and strings that spell what it notes, flow in; that the journal then tells the replica flows out.
-use Rattle.std.proofs.Common.{◌≡◌, ◌+◌, ◌≤◌, ℕ, min, zero, suc, Bool, true, false, cond, not, ◌&&◌, nat_lt, ◌==◌, List, [], ◌∷◌, ◌++◌, inl, inr, Result, Ok, Err, IfOk, refl, sym, ap, ◌∙◌, subst, arith}
+use Rattle.std.proofs.Common.{◌≡◌, ◌+◌, ◌≤◌, ℕ, min, Bool, true, false, cond, not, nat_lt, ◌==◌, List, [], ◌∷◌, ◌++◌, inl, inr, Result, Ok, Err, IfOk, refl, sym, ap, ◌∙◌, subst, arith}
 use Rattle.std.proofs.lemmas.Bool.{and_parts}
-use Rattle.state_machine.specs.dir_store.ldap_op.Values.{OpValue}
 use Rattle.log_journal.specs.Kept.{IsMemory}
 use Rattle.log_journal.specs.Notes.{Note, Start, SpellAll, Puts}
 use Rattle.log_journal.specs.Told.{Told, Tells, nothing_told, told_by, nothing_kept}
 use Rattle.log_journal.specs.Views.{told_view}
-use Rattle.log_journal.specs.journal.Frames.{recorded}
 use Rattle.log_journal.specs.journal.Journal.{IsGrown}
 use Rattle.log_journal.proofs.ToldOn.{goes_on}
 use Rattle.view_store.specs.declared.slot.Pair.{Pair}
-use Rattle.vr_state.specs.Journaled as journaled
-use Rattle.vr_state.specs.State.{State, first, is_recovering}
+use Rattle.vr_state.specs.State.{first, is_recovering}
 use Rattle.vr_state.specs.declared.words.Status.TheVariants.{Normal, ViewChange}
 use Rattle.dir_node.specs.Logged.{IsBegun, head_of}
-use Rattle.dir_node.specs.Restarting.{IsOf, IsRestart, Restart, begins, first_notes, may_resume, recovered, resumed}
+use Rattle.dir_node.specs.Restarting.{IsOf, IsRestart, begins, first_notes, may_resume, recovered, resumed}
 use Rattle.dir_node.specs.Ways.{IsWay, IsWayOf, start_by}
 use Rattle.dir_node.specs.declared.error.NodeError.{NodeError}
 use Rattle.dir_node.specs.declared.owner.Owner.{Owner}

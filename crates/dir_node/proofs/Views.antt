@@ -1,5 +1,5 @@
 -- What is stored is the replica's view. A pair flows in; what a crash leaves of it, and why it isn't stored, flows out.
-use Rattle.std.proofs.Common.{◌≡◌, ◌+◌, ◌^◌, ◌≤◌, ◌≢◌, ◌⊎◌, ℕ, cond, nat_lt, Bool, true, false, Some, None, unwrap_or, Option, Result, Ok, Err, IsErrOf, List, refl, sym, ap, ◌∙◌, subst, arith, inl, inr}
+use Rattle.std.proofs.Common.{◌≡◌, ◌+◌, ◌^◌, ◌≤◌, ◌≢◌, ◌⊎◌, ℕ, false, Result, Ok, Err, IsErrOf, List, refl, sym, ap, ◌∙◌, subst, arith, inl, inr}
 use Rattle.view_store.specs.Device.{Only, LeavesOnly}
 use Rattle.view_store.specs.Slots.{Finding, own, found, taken_from, sequence_of, IsWellPlaced}
 use Rattle.view_store.specs.Store.{IsFormerOrNew}

@@ -1,8 +1,8 @@
-use Rattle.std.proofs.Common.{◌≡◌, ℕ, List, Err, Some, ap, sym, ◌∙◌, subst, true}
+use Rattle.std.proofs.Common.{ℕ, Err, Some, ap, sym, ◌∙◌, subst, true}
 use Rattle.log_journal.specs.journal.Frames.{recorded}
 use Rattle.view_store.specs.Slots.{found}
 use Rattle.vr_state.specs.Views.{state}
-use Rattle.dir_node.specs.NodeState.{IsRunning, KeepsLog, KeepsPair, NodeValue}
+use Rattle.dir_node.specs.NodeState.{KeepsLog, KeepsPair, NodeValue}
 use Rattle.dir_node.specs.Restarting.{IsStale}
 use Rattle.dir_node.specs.declared.error.NodeError.{NodeError}
 use Rattle.dir_node.specs.declared.owner.Owner.{Owner}

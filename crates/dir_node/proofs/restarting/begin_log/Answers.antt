@@ -1,4 +1,4 @@
-use Rattle.std.proofs.Common.{◌≡◌, List, ℕ, sym, subst}
+use Rattle.std.proofs.Common.{List, ℕ, sym, subst}
 use Rattle.log_journal.specs.Kept.{IsMemory}
 use Rattle.log_journal.specs.journal.Frames.{recorded}
 use Rattle.vr_state.specs.State.{first}

@@ -1,6 +1,5 @@
-use Rattle.std.proofs.Common.{◌≡◌, List, ℕ, subst}
+use Rattle.std.proofs.Common.{subst}
 use Rattle.log_journal.specs.Found.{IsFound}
-use Rattle.log_journal.specs.Told.{Tells, nothing_told}
 use Rattle.log_journal.specs.Views.{told_view}
 use Rattle.log_journal.specs.journal.Frames.{recorded}
 use Rattle.dir_node.proofs.Starts.{way_told_by}

@@ -1,4 +1,4 @@
-use Rattle.std.proofs.Common.{◌≡◌, IsTrue, List, ℕ, [], ap, ◌∙◌, rules}
+use Rattle.std.proofs.Common.{IsTrue, ap, ◌∙◌, rules}
 use Rattle.journal.proofs.Crash.{recorded_now}
 use Rattle.log_journal.specs.journal.Frames.{recorded}
 use Rattle.log_journal.proofs.Along.{held_after}

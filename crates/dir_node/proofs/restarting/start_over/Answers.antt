@@ -1,4 +1,4 @@
-use Rattle.std.proofs.Common.{◌≡◌, ◌≢◌, ℕ, List, subst, sym, ap, ◌∙◌, arith, rules}
+use Rattle.std.proofs.Common.{◌≡◌, ◌≢◌, ℕ, subst, sym, ◌∙◌, arith, rules}
 use Rattle.log_journal.specs.journal.Device.{LeavesOnly as LogLeavesOnly}
 use Rattle.log_journal.specs.journal.Frames.{recorded}
 use Rattle.view_store.specs.declared.fault.ViewStoreError.TheVariants.{DeviceFailed}
@@ -10,7 +10,6 @@ use Rattle.view_store.specs.Slots.{own, found, IsWellPlaced}
 use Rattle.dir_node.specs.Ways.{start_by}
 use Rattle.dir_node.proofs.Restarts.{any_err, this_err, not_called, not_early, notes_left, only_read, read_alone, restart_left, restart_told, why_no_restart}
 use Rattle.dir_node.proofs.Starts.{put_first, way_is}
-use Rattle.dir_node.proofs.Views.{stored_error}
 use Rattle.dir_node.proofs.restarting.start_over.Goals as goal
 
 -- the pair was not read

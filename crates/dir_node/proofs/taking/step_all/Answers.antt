@@ -1,4 +1,4 @@
-use Rattle.std.proofs.Common.{◌≡◌, ℕ, List, [], Result, refl, sym, subst, arith}
+use Rattle.std.proofs.Common.{◌≡◌, List, [], Result, refl, sym, subst, arith}
 use Rattle.std.proofs.lemmas.List.{nil_from_length, append-nil}
 use Rattle.std.specs.declared.alloc.AllocError.{AllocError}
 use Rattle.state_machine.specs.dir_store.ldap_op.Values.{OpValue}

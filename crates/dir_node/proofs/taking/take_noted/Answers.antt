@@ -1,4 +1,4 @@
-use Rattle.std.proofs.Common.{◌≡◌, ℕ, List, [], ◌∷◌, subst, rules}
+use Rattle.std.proofs.Common.{◌≡◌, List, [], ◌∷◌, subst, rules}
 use Rattle.state_machine.specs.dir_store.ldap_op.Values.{OpValue}
 use Rattle.log_journal.specs.journal.Device.{LeavesOnly}
 use Rattle.log_journal.proofs.Along.{crash_before}

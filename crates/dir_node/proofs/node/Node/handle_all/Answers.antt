@@ -1,5 +1,4 @@
-use Rattle.std.proofs.Common.{◌≡◌, ℕ, Bool, false, [], ◌∷◌, is_some, ap, ◌∙◌, subst, rules}
-use Rattle.log_journal.specs.journal.Device.{LeavesOnly as LogLeavesOnly}
+use Rattle.std.proofs.Common.{◌≡◌, Bool, false, is_some, ◌∙◌, subst, rules}
 use Rattle.vr_state.specs.Views.{state}
 use Rattle.view_store.specs.Device.{LeavesOnly}
 use Rattle.view_store.specs.Slots.{own, IsWellPlaced}
