@@ -127,7 +127,15 @@ fn read_some(file: &mut File, piece: &mut [u8]) -> Result<Option<usize>, FileDev
     }
 }
 
-/// Reads all octets of a file, so many at most.
+/// How many octets a file has, as far as the system says, and so many at most.
+fn size_of(file: &File, most: usize) -> usize {
+    match file.metadata() {
+        Ok(about) => about.len().min(most as u64) as usize,
+        Err(_) => 0,
+    }
+}
+
+/// Reads all octets of a file, so many at most. They are put where they stay: room for as many as the file has is made first.
 pub(crate) fn read_image(
     alloc: Global,
     file: &mut File,
@@ -135,7 +143,9 @@ pub(crate) fn read_image(
 ) -> Result<Vec<u8>, FileDeviceError>
     ensures { IfOk result (λ image. length image.items ≤ most) }
 {
-    let mut image = Vec::new(alloc);
+    let Ok(mut image) = Vec::with_capacity(alloc, size_of(file, most)) else {
+        return Err(FileDeviceError::NoMemory);
+    };
     let mut piece = [0u8; PIECE];
     for _ in 0..u64::MAX {
         let Some(count) = read_some(file, &mut piece)? else {
