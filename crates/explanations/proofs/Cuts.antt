@@ -1,5 +1,5 @@
 -- A word that is cut, of its first characters and one more.
-use Rattle.std.proofs.Common.{◌≡◌, ◌++◌, ℕ, ◌<◌, List, Bool, true, false, nat_lt, codes, chars, flat_map, length, take, refl, ap, ◌∙◌, arith}
+use Rattle.std.proofs.Common.{◌≡◌, ◌++◌, ℕ, ◌<◌, List, true, false, nat_lt, codes, chars, flat_map, length, take, refl, ap, arith}
 use Rattle.std.proofs.lemmas.Bool.Decides.{nat_tests}
 use Rattle.std.proofs.lemmas.Str.{IsUtf8-from_is_utf8, is_utf8-from_IsUtf8}
 use Rattle.std.proofs.lemmas.List.{take_all, take-take, length-take}

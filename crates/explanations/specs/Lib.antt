@@ -4,3 +4,4 @@ pub mod Records
 pub mod Words
 pub mod Filters
 pub mod Scripts
+pub mod Indexes

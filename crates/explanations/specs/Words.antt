@@ -1,5 +1,5 @@
 -- Words of a text as a sentence shows them: octets come in, one line goes out.
-use Rattle.std.specs.Prelude.{◌++◌, ℕ, ◌/◌, ◌%◌, List, Bool, false, nat_lt, cond, codes, chars, encode_utf8, flat_map, length, take}
+use Rattle.std.specs.Prelude.{◌++◌, ℕ, ◌/◌, ◌%◌, List, false, nat_lt, cond, codes, chars, encode_utf8, flat_map, length, take}
 use Rattle.std.specs.Char.{is_ascii, is_control}
 use Rattle.std.specs.Fmt.{digits}
 use Rattle.std.specs.Str.{is_utf8}

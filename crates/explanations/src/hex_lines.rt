@@ -31,7 +31,7 @@ fn misplaced(alloc: Global, octet: u8, column: usize) -> Result<String, AllocErr
 }
 
 /// The parts of a text that LF parts.
-fn parts(alloc: Global, text: &[u8]) -> Result<Vec<&[u8]>, AllocError>
+pub fn parts(alloc: Global, text: &[u8]) -> Result<Vec<&[u8]>, AllocError>
     ensures { IfOk result (λ v. map (λ x. x.now) v.items ≡ slice_split (nat_eq 10) text.now) }
 {
     text.split(|octet| b'\n' == *octet).collect(alloc)

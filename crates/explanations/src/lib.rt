@@ -1,13 +1,12 @@
 //! Explanations: a text and its refusal come in, a sentence for whoever wrote the text goes out: what is wrong there, and what was
-//! expected. What is refused is decided by others; here it is only put into words. The contracts pin the words of codes and of lines of
-//! hex, and which line of a record an unknown type is told of. Of other words they promise that each call is safe and returns; where the
-//! cause isn't found, the sentence says less.
+//! expected. What is refused is decided by others; here it is only put into words. Where the cause isn't found, the sentence says less.
 //!
 //! Words for what is wrong with a text that is refused: `schemas` (by `descriptions`, `repeats`, `rules`, `unknown`, `loops`), `indexes`,
 //! `ldif_lines`, `records` and `classes`, `filters`, `names`, `hex_lines`, `scripts`.
 //!
-//! Proved: a result code's word is that of one table (`code_word`). A line that is no hex is told by its first octet that is no digit, with
-//! its column (`hex_line_fault`). Of other words, that each call is safe and returns.
+//! Proved: the sentence is a definition for a result code (`code_word`), a line of hex (`hex_line_fault`), a filter (`filter_fault`), a line
+//! of a lab script (`script_fault`) and of an index choice (`index_fault`), and so is a word as a sentence shows it (`shown`). Of a record
+//! the line of an unknown type is. Of other sentences, that each call is safe and returns.
 #![tactic(auto)]
 
 mod classes;

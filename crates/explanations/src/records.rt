@@ -38,7 +38,7 @@ pub struct Pair<'a> {
 }
 
 /// Where the first colon of a line is.
-fn colon(line: &[u8]) -> Option<usize>
+pub fn colon(line: &[u8]) -> Option<usize>
     ensures { result ≡ position (λ octet. nat_eq octet 58) line.now }
 {
     line.iter().position(|octet| *octet == b':')

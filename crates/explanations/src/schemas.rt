@@ -1,5 +1,10 @@
 //! Texts of schemas: what is wrong with the line that is refused.
+ghost use Rattle.std.specs.Prelude.{◌≡◌, ◌-◌, IfOk, MatchOption, None, Some, map, slice_get};
+ghost use Rattle.explanations.specs.Indexes.{line_of};
+
 use crate::descriptions::line_fault;
+use crate::hex_lines::parts;
+use crate::ldif_lines::without_return;
 use crate::refusal::SchemaRefusal;
 use crate::repeats::{at_line, repeated, title};
 use crate::rules::unfit;
@@ -8,15 +13,33 @@ use crate::{loops, unknown};
 use schema_meaning::{Description, Effects, IndexedText, Keyword, SchemaText, read_text};
 use std::alloc::{AllocError, Global};
 
-/// The line of a number, less its end: CRLF or LF, or where the text ends.
-pub fn numbered_line(text: &[u8], number: usize) -> &[u8] {
-    let mut lines = text
-        .split(|octet| *octet == b'\n')
-        .skip(number.saturating_sub(1));
-    match (lines.next(), lines.next()) {
-        (Some([front @ .., b'\r']), Some(_)) => front,
-        (Some(line), _) => line,
-        (None, _) => &[],
+/// A line of a text that is cut into lines, by its index.
+fn line_at<'a>(lines: &Vec<&'a [u8]>, index: usize) -> Option<&'a [u8]>
+    ensures { MatchOption result (slice_get (map (λ x. x.now) lines.now.items) index ≡ None)
+        (λ line. slice_get (map (λ x. x.now) lines.now.items) index ≡ Some line.now) }
+{
+    match lines.as_slice().get(index) {
+        Some(line) => Some(*line),
+        None => None,
+    }
+}
+
+/// The line of a number, counted from 1, less its end: CRLF or LF, or where the text ends.
+pub fn numbered_line<'a>(
+    alloc: Global,
+    text: &'a [u8],
+    number: usize,
+) -> Result<&'a [u8], AllocError>
+    ensures { IfOk result (λ line. line.now ≡ line_of text.now (number - 1)) }
+{
+    let lines = parts(alloc, text)?;
+    let index = number.saturating_sub(1);
+    let Some(line) = line_at(&lines, index) else {
+        return Ok(&[]);
+    };
+    match line_at(&lines, index + 1) {
+        Some(_) => Ok(without_return(line)),
+        None => Ok(line),
     }
 }
 
@@ -109,7 +132,7 @@ pub fn schema_fault(
     let octets = text.as_bytes();
     let read = read_text(alloc, octets)?;
     if refusal == SchemaRefusal::BadDescription && read.bad() == Some(line) {
-        return line_fault(alloc, numbered_line(octets, line));
+        return line_fault(alloc, numbered_line(alloc, octets, line)?);
     }
     fault_of(alloc, &read, refusal, line)
 }
