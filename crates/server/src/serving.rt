@@ -4,10 +4,12 @@ use crate::opening::{Names, open_node};
 use crate::options::{Options, Times};
 use crate::peer_queues::{PeerQueues, PeerQueuesAt};
 use crate::ticking::{TimedNode, clock_times};
+use crate::view_guard::StoredView;
 use file_device::{FileDevice, JournalFile};
 use node_gate::{Cluster, Here, NodeGate, Opened, Pace, Running, Seat, Told};
 use server_threads::{
-    Choices, Config, NoReads, Place, Server, ServerError, SharedParts, make_shared_parts,
+    Choices, Config, NoReads, Place, Server, ServerError, SharedParts,
+    make_shared_parts,
 };
 use std::alloc::{AllocError, Global};
 use std::fs::{File, Files};
@@ -86,6 +88,7 @@ struct Terms<'a> {
     config: Config<'a>,
     sessions: usize,
     times: Times,
+    stored_view: StoredView<'a>,
 }
 
 /// Runs all threads over what they share.
@@ -97,16 +100,18 @@ fn run_in<'a, 'r, R>(
     running: &'a Running<'r, R, FileDevice, JournalFile>,
     peer_queues: &'a PeerQueues<'a, R>,
     places: &'a [Place<'a>],
-    terms: Terms<'_>,
+    terms: Terms<'a>,
 ) -> Result<(), ServerError>
 where
     R: Net<Listener = TcpListener, Stream = TcpStream>
+        + Files<File = File>
         + Threads
         + Wait
         + Clock
         + Print
         + Eprint
         + Sync,
+    R::Dir: Send,
 {
     let Ok(opened) = Instant::now(rt) else {
         return Err(ServerError::NoClock);
@@ -121,6 +126,7 @@ where
         opened,
         view_number: AtomicU64::new(0),
         last_update: AtomicU64::new(0),
+        stored_view: terms.stored_view,
     };
     let ways = ways(&clock, seats)?;
     let server = Server {
@@ -147,12 +153,14 @@ fn serve_opened<R>(
 ) -> Result<(), ServerError>
 where
     R: Net<Listener = TcpListener, Stream = TcpStream>
+        + Files<File = File>
         + Threads
         + Wait
         + Clock
         + Print
         + Eprint
         + Sync,
+    R::Dir: Send,
 {
     let Opened {
         running,
@@ -195,6 +203,7 @@ where
         + Print
         + Eprint
         + Sync,
+    R::Dir: Send,
 {
     let schema = Arc::try_clone(&options.node.schema)?;
     let Options {
@@ -226,6 +235,11 @@ where
         config,
         sessions: sessions.max(1),
         times,
+        stored_view: StoredView {
+            path: store,
+            cluster,
+            restarts: opened.restarts,
+        },
     };
     serve_opened(rt, alloc, shared_parts, opened, cluster, places, terms)
 }
@@ -243,6 +257,7 @@ where
         + Print
         + Eprint
         + Sync,
+    R::Dir: Send,
 {
     let index = options.node.index;
     let choices = Choices {

@@ -24,6 +24,9 @@ pub enum ServerError {
     /// The file of a first start holds a stored view already.
     #[error("stored view found\n--fresh: the file of --store holds what a replica has promised: start without --fresh, or move the file away where that may be forgotten")]
     HoldsView,
+    /// The stored view was removed, replaced or written over while the replica ran.
+    #[error("stored view lost\n--store: the file was removed or replaced, or holds what this start of the replica didn't store: put back the very file that it had, and start again without --fresh; without it the replica can't come back")]
+    ViewLost,
     /// The stored view is another cluster's.
     #[error("foreign cluster\n--store: the file's view is of another cluster: check --cluster and --store")]
     ForeignCluster,
