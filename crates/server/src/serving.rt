@@ -8,7 +8,7 @@ use crate::view_guard::StoredView;
 use file_device::{FileDevice, JournalFile};
 use node_gate::{Cluster, Here, NodeGate, Opened, Pace, Running, Seat, Told};
 use server_threads::{
-    Choices, Config, NoReads, Place, Server, ServerError, SharedParts,
+    Choices, Config, NoReads, PROCESS_STATUS, Place, Server, ServerError, SharedParts,
     make_shared_parts,
 };
 use std::alloc::{AllocError, Global};
@@ -267,6 +267,7 @@ where
         metrics: options.metrics,
         logs: options.logs,
     };
-    let shared_parts = make_shared_parts(rt, alloc, options.places, index, choices)?;
+    let status = File::open(rt, PROCESS_STATUS).ok();
+    let shared_parts = make_shared_parts(rt, alloc, options.places, index, choices, status)?;
     serve_in(rt, alloc, &shared_parts, options)
 }

@@ -190,8 +190,12 @@ where
 {
     fn hear(&self, from: u64, message: PeerMessage<Op>) -> bool {
         let now = self.now();
-        if matches!(message, PeerMessage::NewState { .. }) {
-            self.peer_queues.asking.lock(self.rt).reset();
+        match &message {
+            PeerMessage::NewState { .. } => self.peer_queues.asking.lock(self.rt).reset(),
+            PeerMessage::PrepareOk { op_number, .. } => {
+                self.shared_parts.counters.acknowledge(from, *op_number);
+            }
+            _ => {}
         }
         let mut peer_queues = self.peer_queues_at(now);
         match self

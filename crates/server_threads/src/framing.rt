@@ -1,4 +1,5 @@
 //! Messages become frames, in the thread that sends them and outside every lock. Queues and streams are not here.
+use crate::counters::Counters;
 use crate::reporter::Reporter;
 use crate::telling::tell_lost;
 use peer_link::{Bytes, Framing};
@@ -15,6 +16,7 @@ pub struct MessageFrames<'a, R> {
     rt: &'a R,
     alloc: Global,
     reporter: &'a Reporter,
+    counters: &'a Counters,
     cluster: Cluster,
     sender: u8,
     terms: Terms,
@@ -31,6 +33,7 @@ impl<'a, R> Drop for MessageFrames<'a, R> {
             rt: _,
             alloc: _,
             reporter: _,
+            counters: _,
             cluster: _,
             sender: _,
             terms: _,
@@ -47,6 +50,7 @@ impl<'a, R> MessageFrames<'a, R> {
         rt: &'a R,
         alloc: Global,
         reporter: &'a Reporter,
+        counters: &'a Counters,
         cluster: Cluster,
         sender: u8,
         terms: Terms,
@@ -56,6 +60,7 @@ impl<'a, R> MessageFrames<'a, R> {
             rt,
             alloc,
             reporter,
+            counters,
             cluster,
             sender,
             terms,
@@ -112,6 +117,7 @@ impl<'a, R: Wait> Framing<PeerMessage<Op>> for MessageFrames<'a, R> {
 
     fn begin(&mut self, message: PeerMessage<Op>) {
         self.number = self.number.wrapping_add(1);
+        self.counters.send(self.to as u64);
         match self.frames_of(&message) {
             Ok(frames) => self.frames = Some(frames),
             Err(error) => self.lose(error),

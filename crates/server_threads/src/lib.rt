@@ -14,6 +14,7 @@
 #![tactic(auto)]
 
 mod addresses;
+mod counters;
 mod engine;
 mod fault;
 mod framing;
@@ -32,6 +33,7 @@ mod porch;
 mod posting;
 mod receiving;
 mod reporter;
+mod resident;
 mod serving;
 mod session_events;
 mod shared_parts;
@@ -52,6 +54,7 @@ pub use peer_link::Address;
 pub use places::Place;
 pub use replica_greeting::Terms;
 pub use reporter::{NoteWriter, Reporter, StandardError};
+pub use resident::PROCESS_STATUS;
 pub use serving::Server;
 pub use session_pool::NoReads;
 pub use shared_parts::{Choices, SharedParts, make_shared_parts};

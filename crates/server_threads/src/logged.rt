@@ -1,7 +1,8 @@
-//! A directory whose updates and slow searches are logged. Each request goes on to it, and its answer comes back as it is. What a line says is not
+//! A directory whose answers are counted, and whose updates and slow searches are logged. Each request goes on to it, and its answer comes back as it is. What a line says is not
 //! here.
 ghost use Rattle.std.specs.Prelude.{◌≡◌};
 
+use crate::counters::Counters;
 use crate::logging::{tell_slow, tell_update, text_of_update};
 use crate::logs::Logs;
 use crate::reporter::Reporter;
@@ -14,12 +15,13 @@ use std::alloc::{AllocError, Global};
 use std::marker::Model;
 use std::sync::Wait;
 
-/// A directory whose updates and slow searches are logged. Contracts see it as that directory.
+/// A directory whose answers are counted, and whose updates and slow searches are logged. Contracts see it as that directory.
 #[derive(Drop)]
 pub struct Logged<'a, R, D> {
     rt: &'a R,
     reporter: &'a Reporter,
     logs: Logs,
+    counters: &'a Counters,
     directory: D,
 }
 
@@ -30,14 +32,21 @@ impl<'a, R, D> Model for Logged<'a, R, D> {
 }
 
 impl<'a, R, D> Logged<'a, R, D> {
-    /// A directory of which this is logged, to this reporter.
-    pub fn new(rt: &'a R, reporter: &'a Reporter, logs: Logs, directory: D) -> Logged<'a, R, D>
+    /// A directory of which this is logged, to this reporter, and which is counted so.
+    pub fn new(
+        rt: &'a R,
+        reporter: &'a Reporter,
+        logs: Logs,
+        counters: &'a Counters,
+        directory: D,
+    ) -> Logged<'a, R, D>
         ensures { result ≡ directory }
     {
         Logged {
             rt,
             reporter,
             logs,
+            counters,
             directory,
         }
     }
@@ -93,7 +102,9 @@ impl<'a, R: Wait, D: Directory> Directory for Logged<'a, R, D> {
         named: u64,
         request: &SearchRequest,
     ) -> Result<Found<SearchAnswer>, LookError> {
+        self.counters.begin_read();
         let found = self.directory.search(alloc, named, request);
+        self.counters.end_search(&found);
         self.log_search(alloc, request, &found);
         found
     }
@@ -104,7 +115,10 @@ impl<'a, R: Wait, D: Directory> Directory for Logged<'a, R, D> {
         named: u64,
         request: &CompareRequest,
     ) -> Result<Found<Reply>, LookError> {
-        self.directory.compare(alloc, named, request)
+        self.counters.begin_read();
+        let found = self.directory.compare(alloc, named, request);
+        self.counters.end_compare(&found);
+        found
     }
 
     fn learn(&mut self, told: D::Told) {
@@ -117,7 +131,9 @@ impl<'a, R: Wait, D: Directory> Directory for Logged<'a, R, D> {
 
     fn update(&mut self, alloc: Global, client: Client, number: u64, update: Update) -> Ended {
         let text = self.text_of(alloc, &update);
+        self.counters.begin_update();
         let ended = self.directory.update(alloc, client, number, update);
+        self.counters.end_update(&ended);
         self.log_update(alloc, client, text, &ended);
         ended
     }

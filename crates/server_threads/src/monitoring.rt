@@ -1,7 +1,8 @@
 //! What monitors ask of a replica, over HTTP/1.1: one connection after the other, each answered once and closed. What the pages say is not here.
 use crate::engine::Engine;
+use crate::resident::resident_octets;
 use crate::shared_parts::SharedParts;
-use status_page::{Head, bad_request, head_of, page};
+use status_page::{Counts, Head, Page, bad_request, head_of, page};
 use std::alloc::{AllocError, Global};
 use std::io::{self, Read, Write};
 use std::net::{TcpListener, TcpStream};
@@ -30,10 +31,27 @@ pub struct Monitoring<'a, R, E> {
 }
 
 impl<'a, R: Wait + Clock, E: Engine> Monitoring<'a, R, E> {
+    /// What the replica counts.
+    fn counts(&self) -> Result<Counts, AllocError> {
+        let shared_parts: &SharedParts = self.shared_parts;
+        let memory = resident_octets(shared_parts.process_status.as_ref());
+        let own = usize::from(shared_parts.sender);
+        let update_threads = shared_parts.leaves.len();
+        shared_parts
+            .counters
+            .counts(self.alloc, own, update_threads, memory)
+    }
+
+    /// A page, of what the replica does now.
+    fn page(&self, asked: Page) -> Result<String, AllocError> {
+        let counts = self.counts()?;
+        page(self.alloc, asked, &self.engine.figures(), &counts)
+    }
+
     /// The answer to a request of which this has come; none, where more of it is to come.
     fn answer(&self, octets: &[u8]) -> Result<Option<String>, AllocError> {
         match head_of(octets) {
-            Head::Asks(asked) => Ok(Some(page(self.alloc, asked, &self.engine.figures())?)),
+            Head::Asks(asked) => Ok(Some(self.page(asked)?)),
             Head::Part => Ok(None),
             Head::Bad => Ok(Some(bad_request(self.alloc)?)),
         }

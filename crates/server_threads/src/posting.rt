@@ -39,6 +39,7 @@ impl SharedParts {
         if let Some(outbox) = self.boxes.get(to as usize) {
             let weight = weight_of(&message);
             outbox.put(rt, message, weight);
+            self.counters.queue(to);
         }
     }
 }

@@ -66,9 +66,12 @@ where
             let mut dialer = SocketDialer::new(self.rt, place.peer_address, limit);
             let sender = self.shared_parts.sender;
             let reporter = &self.shared_parts.reporter;
+            let counters = &self.shared_parts.counters;
             let (rt, alloc, cluster) = (self.rt, self.alloc, self.cluster);
             let terms = self.shared_parts.terms;
-            let mut frames = MessageFrames::new(rt, alloc, reporter, cluster, sender, terms, to);
+            let mut frames = MessageFrames::new(
+                rt, alloc, reporter, counters, cluster, sender, terms, to,
+            );
             send_all(self.rt, outbox, &mut frames, &mut dialer);
         }
     }
@@ -268,10 +271,16 @@ where
         }
     }
 
-    /// A directory of which updates and slow searches are logged.
+    /// A directory whose answers are counted, and of which updates and slow searches are logged.
     fn logged<D>(&self, way: D) -> Logged<'a, R, D> {
         let shared_parts: &'a SharedParts = self.shared_parts;
-        Logged::new(self.rt, &shared_parts.reporter, shared_parts.logs, way)
+        Logged::new(
+            self.rt,
+            &shared_parts.reporter,
+            shared_parts.logs,
+            &shared_parts.counters,
+            way,
+        )
     }
 
     /// The directories that are read, so.
@@ -319,6 +328,7 @@ where
             seats: ways.len(),
             leaves: self.shared_parts.leaves.as_slice(),
         };
+        self.shared_parts.counters.set_read_threads(ways.len());
         let door = &self.shared_parts.client_door;
         let Ok(hall) = SessionPool::new(self.rt, self.alloc, door, &teller, terms) else {
             return Err(ServerError::NoMemory);

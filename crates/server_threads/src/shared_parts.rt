@@ -1,5 +1,6 @@
 //! What a server's threads share, made before any of them begins: the listener of replicas, doors, queues.
 use crate::addresses::Addresses;
+use crate::counters::Counters;
 use crate::fault::ServerError;
 use crate::links::Links;
 use crate::logs::Logs;
@@ -10,6 +11,7 @@ use client_link::{Door, HasDoor, Limits};
 use peer_link::Outbox;
 use replica_greeting::Terms;
 use std::alloc::{AllocError, Global};
+use std::fs::File;
 use std::net::{Net, SocketAddr, TcpListener, TcpStream};
 use std::sync::Mutex;
 use std::sync::atomic::{AtomicBool, AtomicU64, Ordering};
@@ -87,6 +89,10 @@ pub struct SharedParts {
     /// What is said on standard error.
     pub reporter: Reporter,
     pub logs: Logs,
+    /// What is counted for monitors.
+    pub counters: Counters,
+    /// The file that tells how much memory the process has, where it can be read.
+    pub(crate) process_status: Option<File>,
     /// The addresses of clients, where sessions are logged.
     pub(crate) addresses: Option<Addresses>,
     pub(crate) links: Links,
@@ -131,6 +137,8 @@ impl Drop for SharedParts {
             needed_threads: _,
             reporter: _,
             logs: _,
+            counters: _,
+            process_status: _,
             addresses: _,
             links: _,
             sender: _,
@@ -149,6 +157,7 @@ pub fn make_shared_parts<R: Net<Listener = TcpListener, Stream = TcpStream>>(
     places: &[Place<'_>],
     index: u64,
     choices: Choices,
+    process_status: Option<File>,
 ) -> Result<SharedParts, ServerError> {
     let Choices {
         limits,
@@ -168,6 +177,7 @@ pub fn make_shared_parts<R: Net<Listener = TcpListener, Stream = TcpStream>>(
     let reporter = Reporter::new(alloc, logs.notes())?;
     let links = Links::new(alloc, places.len())?;
     let leaves = leaves(alloc, updates)?;
+    let counters = Counters::new(alloc, places.len())?;
     // Clients are heard later; whether they can be is known from the start.
     let client_address = own(rt, place.ldap_address)?;
     drop(listen(rt, client_address)?);
@@ -193,6 +203,8 @@ pub fn make_shared_parts<R: Net<Listener = TcpListener, Stream = TcpStream>>(
         needed_threads: NeededThreads::new(places.len(), metrics.is_some()),
         reporter,
         logs,
+        counters,
+        process_status,
         addresses,
         links,
         sender,

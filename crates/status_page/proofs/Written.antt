@@ -1,7 +1,7 @@
 -- What a format writes, in another order of its parts.
-use Rattle.std.proofs.Common.{◌≡◌, ℕ, List, ◌++◌, Result, Some, IfOk, IfSome, refl, ap, ◌∙◌, append_assoc}
+use Rattle.std.proofs.Common.{◌≡◌, ℕ, List, ◌++◌, Result, Some, IfOk, IfSome, ap, ◌∙◌, append_assoc}
 use Rattle.std.proofs.lemmas.Result.{IfOk-weaker}
-use Rattle.status_page.specs.Pages.{figure}
+use Rattle.status_page.specs.Samples.{figure}
 
 pub written_as : {E : Type 0} {S : Type 0} (octets : S → List ℕ) (r : Result S E) (xs ys : List ℕ) → xs ≡ ys →
     IfOk r (λ s. IfSome (Some xs) (λ bs. octets s ≡ bs)) → IfOk r (λ s. octets s ≡ ys)

@@ -1,2 +1,4 @@
 pub mod Asking
+pub mod Samples
+pub mod Metrics
 pub mod Pages

@@ -5,6 +5,9 @@ use Rattle.status_page.specs.declared.asking.Page.TheVariants as page
 use Rattle.status_page.specs.declared.figures.Role.{Role}
 use Rattle.status_page.specs.declared.figures.Role.TheVariants.{Primary, Backup, Changing, Recovering}
 use Rattle.status_page.specs.declared.figures.Figures.{Figures}
+use Rattle.status_page.specs.declared.figures.Counts.{Counts}
+use Rattle.status_page.specs.Metrics.{answers_text, load_text, others_text}
+use Rattle.status_page.specs.Samples.{figure, sample}
 
 -- the word for a role
 abbrev pub role_word : Role → List ℕ
@@ -38,16 +41,6 @@ head status n =
 abbrev pub response : List ℕ → List ℕ → List ℕ
 response status text = head status (length text) ++ text
 
--- the text form of Prometheus: what a figure means and its kind, and then its samples, a line each
-abbrev pub figure : List ℕ → List ℕ → List ℕ → List ℕ → List ℕ
-figure name help kind samples =
-    codes "# HELP " ++ name ++ codes " " ++ help ++ codes "\n# TYPE " ++ name ++ codes " " ++ kind ++ codes "\n"
-    ++ samples
-
--- a sample of a figure
-abbrev pub sample : List ℕ → ℕ → List ℕ
-sample name n = name ++ codes " " ++ decimal n ++ codes "\n"
-
 -- whether a replica has this role, as a number: 1 where it has, and 0 where not
 abbrev pub has : Role → Role → ℕ
 has Primary Primary = 1
@@ -65,9 +58,9 @@ abbrev pub role_samples : Role → List ℕ
 role_samples own =
     role_sample own Primary ++ role_sample own Backup ++ role_sample own Changing ++ role_sample own Recovering
 
--- all figures of a replica, each once
-abbrev pub metrics_text : Figures → List ℕ
-metrics_text f =
+-- what a replica does
+abbrev pub replica_text : Figures → List ℕ
+replica_text f =
     figure (codes "dird_role") (codes "What the replica does: 1 for its role, 0 for the others.") (codes "gauge")
     (role_samples f.role)
     ++ figure (codes "dird_view") (codes "The number of the replica's view.") (codes "gauge")
@@ -78,17 +71,21 @@ metrics_text f =
     ++ figure (codes "dird_sessions") (codes "How many clients are connected.") (codes "gauge")
     (sample (codes "dird_sessions") f.sessions)
 
+-- all figures of a replica, each once
+abbrev pub metrics_text : Figures → Counts → List ℕ
+metrics_text f k = replica_text f ++ answers_text k ++ load_text k ++ others_text k
+
 -- whether the replica serves clients, and its role
 abbrev pub ready_octets : Role → List ℕ
 ready_octets role =
     response (if serves role then codes "200 OK" else codes "503 Service Unavailable") (role_word role ++ codes "\n")
 
 -- the response to a request for a page
-abbrev pub page_octets : Page → Figures → List ℕ
-page_octets page.Live f = response (codes "200 OK") (codes "live\n")
-page_octets page.Ready f = ready_octets f.role
-page_octets page.Metrics f = response (codes "200 OK") (metrics_text f)
-page_octets page.None f = response (codes "404 Not Found") (codes "GET /live, /ready or /metrics\n")
+abbrev pub page_octets : Page → Figures → Counts → List ℕ
+page_octets page.Live f k = response (codes "200 OK") (codes "live\n")
+page_octets page.Ready f k = ready_octets f.role
+page_octets page.Metrics f k = response (codes "200 OK") (metrics_text f k)
+page_octets page.None f k = response (codes "404 Not Found") (codes "GET /live, /ready or /metrics\n")
 
 -- the response to what is no request
 abbrev pub bad_request_octets : List ℕ

@@ -23,6 +23,62 @@ pub struct Figures {
     pub sessions: u64,
 }
 
+/// A number with a label: of a result code, or of another replica.
+#[derive(Clone, Copy)]
+pub struct Labelled {
+    /// The code, or the other replica's index.
+    pub label: u64,
+    pub number: u64,
+}
+
+/// What a replica has answered since its start, and what it does at a moment. A list has each label once.
+pub struct Counts {
+    /// How many searches were answered, by result code.
+    pub searches: Vec<Labelled>,
+    /// How many compares were answered, by result code.
+    pub compares: Vec<Labelled>,
+    /// How many updates were answered, by result code.
+    pub updates: Vec<Labelled>,
+    /// On how many entries searches evaluated their filters.
+    pub evaluated: u64,
+    /// How many reads are being answered.
+    pub reads: u64,
+    /// How many threads answer reads.
+    pub read_threads: u64,
+    /// How many updates are being made.
+    pub updating: u64,
+    /// How many threads wait for updates.
+    pub update_threads: u64,
+    /// How many messages were queued for each other replica.
+    pub queued: Vec<Labelled>,
+    /// How many of these were taken from the queue to be sent.
+    pub sent: Vec<Labelled>,
+    /// The last log entry that each other replica has acknowledged to this one, by its number.
+    pub acknowledged: Vec<Labelled>,
+    /// How many octets of memory the process has, where the system tells it.
+    pub memory: Option<u64>,
+}
+
+// Not derived: see "What the gate takes" in docs/ARCHITECTURE.md.
+impl Drop for Counts {
+    fn drop(self) {
+        let Counts {
+            searches: _,
+            compares: _,
+            updates: _,
+            evaluated: _,
+            reads: _,
+            read_threads: _,
+            updating: _,
+            update_threads: _,
+            queued: _,
+            sent: _,
+            acknowledged: _,
+            memory: _,
+        } = self;
+    }
+}
+
 impl Role {
     ghost use Rattle.status_page.specs.Pages.{serves, role_word};
 

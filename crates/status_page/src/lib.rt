@@ -1,7 +1,8 @@
 //! What a replica does, as pages for monitors (HTTP/1.1, RFC 9112): whether it lives, whether it serves clients, and its figures in the text form that Prometheus
 //! reads. Octets of a request become octets of a response; sockets are not here.
 //!
-//! What monitors get over HTTP/1.1: `asking` reads a request's head (by `httparse`), `writing` writes the pages of `figures`.
+//! What monitors get over HTTP/1.1: `asking` reads a request's head (by `httparse`), `writing` writes the pages of `figures`, by
+//! `metrics` and `samples`.
 //!
 //! Proved: only a whole head that names a page asks for it; a head is bad only where no whole one can come, or past 64 fields (`head_of`).
 //! A page's octets are a definition: status, length, each figure once, in order (`page`, `bad_request`).
@@ -9,8 +10,10 @@
 
 mod asking;
 mod figures;
+mod metrics;
+mod samples;
 mod writing;
 
 pub use asking::{Head, Page, head_of};
-pub use figures::{Figures, Role};
+pub use figures::{Counts, Figures, Labelled, Role};
 pub use writing::{bad_request, page};

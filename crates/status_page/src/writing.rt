@@ -1,10 +1,12 @@
 //! The octets of a response.
 ghost use Rattle.std.specs.Prelude.{◌≡◌, IfOk, string_bytes};
-ghost use Rattle.status_page.specs.Pages.{head, response, figure, has, role_sample, role_samples, sample};
-ghost use Rattle.status_page.specs.Pages.{metrics_text, ready_octets, page_octets, bad_request_octets};
+ghost use Rattle.status_page.specs.Pages.{head, response, has, role_sample, role_samples};
+ghost use Rattle.status_page.specs.Pages.{replica_text, metrics_text, ready_octets, page_octets, bad_request_octets};
 
 use crate::asking::Page;
-use crate::figures::{Figures, Role};
+use crate::figures::{Counts, Figures, Role};
+use crate::metrics::{answers, load, others};
+use crate::samples::{figure, single};
 use std::alloc::{AllocError, Global};
 
 /// What a response of this status begins with, before a text of this length.
@@ -32,33 +34,6 @@ fn has(own: Role, role: Role) -> u64
     u64::from(own == role)
 }
 
-/// A figure: what it means and its kind, and then its samples.
-fn figure(
-    alloc: Global,
-    name: &str,
-    help: &str,
-    kind: &str,
-    samples: &str,
-) -> Result<String, AllocError>
-    ensures { IfOk result (λ s. string_bytes s ≡ figure name.now help.now kind.now samples.now) }
-{
-    format!(in alloc; "# HELP {name} {help}\n# TYPE {name} {kind}\n{samples}")
-}
-
-/// A figure with one sample.
-fn single(
-    alloc: Global,
-    name: &str,
-    help: &str,
-    kind: &str,
-    number: u64,
-) -> Result<String, AllocError>
-    ensures { IfOk result (λ s. string_bytes s ≡ figure name.now help.now kind.now (sample name.now number)) }
-{
-    let sample = format!(in alloc; "{name} {number}\n")?;
-    figure(alloc, name, help, kind, &sample)
-}
-
 /// A sample of a role.
 fn role_sample(alloc: Global, own: Role, role: Role) -> Result<String, AllocError>
     ensures { IfOk result (λ s. string_bytes s ≡ role_sample own role) }
@@ -79,9 +54,9 @@ fn roles(alloc: Global, own: Role) -> Result<String, AllocError>
     format!(in alloc; "{primary}{backup}{changing}{recovering}")
 }
 
-/// The replica's figures, in the text form that Prometheus reads.
-fn metrics(alloc: Global, figures: &Figures) -> Result<String, AllocError>
-    ensures { IfOk result (λ s. string_bytes s ≡ metrics_text figures.now) }
+/// What the replica does, in the text form that Prometheus reads.
+fn replica(alloc: Global, figures: &Figures) -> Result<String, AllocError>
+    ensures { IfOk result (λ s. string_bytes s ≡ replica_text figures.now) }
 {
     let samples = roles(alloc, figures.role)?;
     let role = figure(
@@ -115,15 +90,31 @@ fn metrics(alloc: Global, figures: &Figures) -> Result<String, AllocError>
     format!(in alloc; "{role}{view}{last_update}{sessions}")
 }
 
+/// The replica's figures, in the text form that Prometheus reads.
+fn metrics(alloc: Global, figures: &Figures, counts: &Counts) -> Result<String, AllocError>
+    ensures { IfOk result (λ s. string_bytes s ≡ metrics_text figures.now counts.now) }
+{
+    let replica = replica(alloc, figures)?;
+    let answers = answers(alloc, counts)?;
+    let load = load(alloc, counts)?;
+    let others = others(alloc, counts)?;
+    format!(in alloc; "{replica}{answers}{load}{others}")
+}
+
 /// The response to a request for this page. Its only error is want of memory.
-pub fn page(alloc: Global, page: Page, figures: &Figures) -> Result<String, AllocError>
-    ensures { IfOk result (λ s. string_bytes s ≡ page_octets page figures.now) }
+pub fn page(
+    alloc: Global,
+    page: Page,
+    figures: &Figures,
+    counts: &Counts,
+) -> Result<String, AllocError>
+    ensures { IfOk result (λ s. string_bytes s ≡ page_octets page figures.now counts.now) }
 {
     match page {
         Page::Live => response(alloc, "200 OK", "live\n"),
         Page::Ready => ready(alloc, figures.role),
         Page::Metrics => {
-            let text = metrics(alloc, figures)?;
+            let text = metrics(alloc, figures, counts)?;
             response(alloc, "200 OK", &text)
         }
         Page::None => response(alloc, "404 Not Found", "GET /live, /ready or /metrics\n"),

@@ -1,7 +1,7 @@
-use Rattle.std.proofs.Common.{ℕ, List, ◌≡◌, ◌++◌, codes, ◌∙◌, append_assoc, string_bytes, decimal}
-use Rattle.status_page.specs.Pages.{sample}
+use Rattle.std.proofs.Common.{◌≡◌, ◌++◌, codes, ◌∙◌, append_assoc, string_bytes, decimal}
+use Rattle.status_page.specs.Samples.{sample}
 use Rattle.status_page.proofs.Written.{figure_of}
-use Rattle.status_page.proofs.writing.single.Goals as goal
+use Rattle.status_page.proofs.samples.single.Goals as goal
 
 pub returns : goal.returns
 returns c =
