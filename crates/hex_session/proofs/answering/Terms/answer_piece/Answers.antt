@@ -7,15 +7,15 @@ pub returns-in-Ok-answer_ready-clause-ok : goal.returns-in-Ok-answer_ready-claus
 returns-in-Ok-answer_ready-clause-ok g c =
     fed_if g.D.Directory.allows (config_view c.args.self.now.config) c.args.directory.now c.answer_ready.new.directory
     (session_view c.args.session.now) (session_view c.feed.new.self) (session_view c.answer_ready.new.session) c.args.piece.now
-    (g.W.Write.contents c.args.output.now) (g.W.Write.contents c.answer_ready.new.output) (g.W.Write.contents c.flushed.new.output)
-    c.in-Ok-answer_ready.next c.flushed.result c.in-Ok.ensures.stream c.feed.ensures.state c.in-Ok-answer_ready.ensures.ok c.flushed.ensures.ok
+    (g.W.Write.contents c.args.output.now) (g.W.Write.contents c.answer_ready.new.output) (g.W.Write.contents c.flush_output.new.output)
+    c.in-Ok-answer_ready.next c.flush_output.result c.in-Ok.ensures.stream c.feed.ensures.state c.in-Ok-answer_ready.ensures.ok c.flush_output.ensures.ok
 
 pub returns-in-Ok-answer_ready-clause-err : goal.returns-in-Ok-answer_ready-clause-err
 returns-in-Ok-answer_ready-clause-err g c =
     not_flushed_if g.D.Directory.allows (config_view c.args.self.now.config) c.args.directory.now c.answer_ready.new.directory
     (session_view c.args.session.now) (session_view c.feed.new.self) (session_view c.answer_ready.new.session) c.args.piece.now
-    (g.W.Write.contents c.args.output.now) (g.W.Write.contents c.answer_ready.new.output) (g.W.Write.contents c.flushed.new.output)
-    c.in-Ok-answer_ready.next c.flushed.result c.in-Ok.ensures.stream c.feed.ensures.state c.in-Ok-answer_ready.ensures.ok c.flushed.ensures.err
+    (g.W.Write.contents c.args.output.now) (g.W.Write.contents c.answer_ready.new.output) (g.W.Write.contents c.flush_output.new.output)
+    c.in-Ok-answer_ready.next c.flush_output.result c.in-Ok.ensures.stream c.feed.ensures.state c.in-Ok-answer_ready.ensures.ok c.flush_output.ensures.err
 
 pub returns-in-Err-answer_ready-clause-err : goal.returns-in-Err-answer_ready-clause-err
 returns-in-Err-answer_ready-clause-err g c =
