@@ -52,7 +52,7 @@ pub struct Serving<'a> {
     pub beat: u64,
     /// How long a backup hears nothing of its primary before it suspects it.
     pub suspect: u64,
-    /// How long a client may be silent in the middle of a message.
+    /// Within how long a client has to send a message that it has begun.
     pub stall: u64,
     /// How long a client may ask nothing while others wait for a seat.
     pub idle: u64,
@@ -195,7 +195,7 @@ const WORDS: &[Word] = &[
             last: LONGEST,
             default: "10000",
         },
-        help: "How long a client may be silent in the middle of a message",
+        help: "Within how long a client has to send a message that it has begun",
     },
     Word {
         name: "idle",
