@@ -41,6 +41,7 @@ mod showing;
 mod telling;
 
 pub use client_link::{Config, Limits};
+pub use counters::Counters;
 pub use engine::Engine;
 pub use fault::ServerError;
 pub use framing::MessageFrames;

@@ -236,7 +236,7 @@ fn longest_wrong<R: Net<Stream = TcpStream> + Clock>(
 #[test]
 fn silent_strangers_keep_no_replica_out(rt: HostRuntime) -> Result<(), Fail> {
     let cluster = Cluster::new(9).expect(&rt, "9 is the number of a cluster");
-    let shared_parts = make_shared_parts(&rt, rt.alloc(), &places(), 0, choices())?;
+    let shared_parts = make_shared_parts(&rt, rt.alloc(), &places(), 0, choices(), None)?;
     let at = shared_parts.peers.local_addr()?;
     let ear = new_ear(&rt, rt.alloc());
     let octets = greeting_and_commit(rt.alloc(), cluster, &terms(None))?;
@@ -255,7 +255,7 @@ fn silent_strangers_keep_no_replica_out(rt: HostRuntime) -> Result<(), Fail> {
 #[test]
 fn a_silent_stranger_is_closed_after_two_seconds(rt: HostRuntime) -> Result<(), Fail> {
     let cluster = Cluster::new(9).expect(&rt, "9 is the number of a cluster");
-    let shared_parts = make_shared_parts(&rt, rt.alloc(), &places(), 0, choices())?;
+    let shared_parts = make_shared_parts(&rt, rt.alloc(), &places(), 0, choices(), None)?;
     let at = shared_parts.peers.local_addr()?;
     let ear = new_ear(&rt, rt.alloc());
     let (ended, (none, begun)) = thread::join(
@@ -277,7 +277,7 @@ fn a_silent_stranger_is_closed_after_two_seconds(rt: HostRuntime) -> Result<(), 
 #[test]
 fn wrong_beginnings_are_refused_at_once(rt: HostRuntime) -> Result<(), Fail> {
     let cluster = Cluster::new(9).expect(&rt, "9 is the number of a cluster");
-    let shared_parts = make_shared_parts(&rt, rt.alloc(), &places(), 0, choices())?;
+    let shared_parts = make_shared_parts(&rt, rt.alloc(), &places(), 0, choices(), None)?;
     let at = shared_parts.peers.local_addr()?;
     let ear = new_ear(&rt, rt.alloc());
     let (ended, longest) = thread::join(
@@ -295,7 +295,7 @@ fn wrong_beginnings_are_refused_at_once(rt: HostRuntime) -> Result<(), Fail> {
 #[test]
 fn a_replica_with_another_schema_is_not_heard(rt: HostRuntime) -> Result<(), Fail> {
     let cluster = Cluster::new(9).expect(&rt, "9 is the number of a cluster");
-    let shared_parts = make_shared_parts(&rt, rt.alloc(), &places(), 0, choices())?;
+    let shared_parts = make_shared_parts(&rt, rt.alloc(), &places(), 0, choices(), None)?;
     let at = shared_parts.peers.local_addr()?;
     let ear = new_ear(&rt, rt.alloc());
     let octets = greeting_and_commit(rt.alloc(), cluster, &terms(Some("a schema")))?;

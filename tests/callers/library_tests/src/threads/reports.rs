@@ -4,7 +4,7 @@ use crate::threads::signal::Signal;
 use ldap_op::Update;
 use peer_link::Framing;
 use replica_greeting::{Met, Term, Terms, meet};
-use server_threads::{MessageFrames, Note, NoteWriter, Reporter};
+use server_threads::{Counters, MessageFrames, Note, NoteWriter, Reporter};
 use std::alloc::{AllocError, Global};
 use std::process::Abort;
 use std::sync::{Mutex, Wait};
@@ -128,7 +128,8 @@ fn a_greeting_tells_the_terms(rt: HostRuntime) -> Result<(), Fail> {
     let cluster = Cluster::new(9).expect(&rt, "9 is the number of a cluster");
     let reporter = Reporter::new(rt.alloc(), 128)?;
     let terms = terms_under("dc=example,dc=com");
-    let mut frames = MessageFrames::new(&rt, rt.alloc(), &reporter, cluster, 0, terms, 1);
+    let counters = Counters::new(rt.alloc(), 3)?;
+    let mut frames = MessageFrames::new(&rt, rt.alloc(), &reporter, &counters, cluster, 0, terms, 1);
     let greeting = frames.greeting().expect(&rt, "there is memory");
     let alike = meet(greeting.as_slice(), cluster, &terms);
     assert!(rt; alike == Ok(Met::Alike { sender: 0 }));
