@@ -20,7 +20,7 @@ use Rattle.server.proofs.view_guard.StoredView.TheSendSync as stored_view
 use Rattle.server.specs.contracts.peer_queues.PeerQueuesAt as PeerQueuesAt
 use Rattle.server.specs.contracts.peer_queues.PeerQueues as PeerQueues
 use Rattle.server.specs.contracts.ticking.TimedNode as TimedNode
-use Rattle.server_threads.below.session_pool.specs.contracts.deaf.NoReads as NoReads
+use Rattle.server_threads.below.session_pool.specs.contracts.no_reads.NoReads as NoReads
 use Rattle.server_threads.proofs.SharedParts.TheSendSync as shared_parts
 use Rattle.std.proofs.marker.PhantomData.TheSendSync as phantom
 use Rattle.std.proofs.time.Instant.TheSendSync as instant
