@@ -82,7 +82,6 @@ where
         + Print
         + Eprint
         + Sync,
-    R::Dir: Send,
 {
     let places = places_of(alloc, &service)?;
     let terms = terms_of(alloc, &service, &places)?;

@@ -16,7 +16,6 @@ use Rattle.node_gate.specs.contracts.running.Running as Running
 use Rattle.server.proofs.peer_queues.PeerQueuesAt.TheSendSync as peer_queues_at
 use Rattle.server.proofs.peer_queues.PeerQueues.TheSendSync as posts_laws
 use Rattle.server.proofs.options.Times.TheSendSync as times
-use Rattle.server.proofs.view_guard.StoredView.TheSendSync as stored_view
 use Rattle.server.specs.contracts.peer_queues.PeerQueuesAt as PeerQueuesAt
 use Rattle.server.specs.contracts.peer_queues.PeerQueues as PeerQueues
 use Rattle.server.specs.contracts.ticking.TimedNode as TimedNode
@@ -54,5 +53,5 @@ clockwork_sync a b R y =
     recorded_sync (TimedNode.the_field a b R).row _ _ (TimedNode.the_type a b R).to_one
     (struct_sync (Declared.shape (TimedNode.the_type a b R)) (
       shr_sync _ _ R y,
-      (global_sync, (search (running, sendable) depth 10, (search (peer_queues, sendable) depth 10, (search (shared_parts.the_sync, sendable) depth 10, (search (times.the_field_sync, sendable) depth 10, (search (instant.the_field_sync, sendable) depth 10, (search (crosses, sendable) depth 20, (search (crosses, sendable) depth 20, (search (stored_view.the_field_sync, crosses, sendable) depth 20, tt))))))))),
+      (global_sync, (search (running, sendable) depth 10, (search (peer_queues, sendable) depth 10, (search (shared_parts.the_sync, sendable) depth 10, (search (times.the_field_sync, sendable) depth 10, (search (instant.the_field_sync, sendable) depth 10, (search (crosses, sendable) depth 20, (search (crosses, sendable) depth 20, tt)))))))),
     ))

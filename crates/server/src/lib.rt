@@ -3,7 +3,7 @@
 //! pass octets on, is decided below.
 //!
 //! One replica put together: `opening` opens the node over its files, `ticking` is the node with its clock behind `Engine`, `serving` joins
-//! them to the threads. `view_guard` watches the file of the stored view. `posts` queues what the node sends, but for a GETSTATE while the answer to an earlier one may be on its way. No
+//! them to the threads. `posts` queues what the node sends, but for a GETSTATE while the answer to an earlier one may be on its way. No
 //! rule of the protocol or of the directory is here, and no clause but those of safety.
 #![tactic(auto)]
 
@@ -13,7 +13,6 @@ mod peer_queues;
 mod serving;
 mod telling;
 mod ticking;
-mod view_guard;
 
 pub use node_gate::{Cluster, NodeConfig};
 pub use options::{Options, Times};

@@ -4,7 +4,6 @@ use crate::opening::{Names, open_node};
 use crate::options::{Options, Times};
 use crate::peer_queues::{PeerQueues, PeerQueuesAt};
 use crate::ticking::{TimedNode, clock_times};
-use crate::view_guard::StoredView;
 use file_device::{FileDevice, JournalFile};
 use node_gate::{Cluster, Here, NodeGate, Opened, Pace, Running, Seat, Told};
 use server_threads::{
@@ -64,7 +63,11 @@ fn gates<'a, 'r, R: Wait>(
     let shared_parts: &'a SharedParts = clock.shared_parts;
     let mut gates = Vec::new(clock.alloc);
     for (thread, has_left) in shared_parts.leaves.iter().enumerate() {
-        gates.push((thread, (NoReads::new(), gate(clock, has_left))))?;
+        let way = (thread, (NoReads::new(), gate(clock, has_left)));
+        // prover: `?` would ask for a law of the lifetimes in a gate
+        if gates.push(way).is_err() {
+            return Err(AllocError);
+        }
     }
     Ok(gates)
 }
@@ -77,7 +80,10 @@ fn ways<'a, 'r, R: Wait>(
     let shared_parts: &'a SharedParts = clock.shared_parts;
     let mut ways = Vec::new(clock.alloc);
     for seat in seats {
-        ways.push((seat, gate(clock, &shared_parts.stays)))?;
+        // prover: as in `gates`
+        if ways.push((seat, gate(clock, &shared_parts.stays))).is_err() {
+            return Err(AllocError);
+        }
     }
     Ok(ways)
 }
@@ -88,7 +94,6 @@ struct Terms<'a> {
     config: Config<'a>,
     sessions: usize,
     times: Times,
-    stored_view: StoredView<'a>,
 }
 
 /// Runs all threads over what they share.
@@ -100,18 +105,16 @@ fn run_in<'a, 'r, R>(
     running: &'a Running<'r, R, FileDevice, JournalFile>,
     peer_queues: &'a PeerQueues<'a, R>,
     places: &'a [Place<'a>],
-    terms: Terms<'a>,
+    terms: Terms<'_>,
 ) -> Result<(), ServerError>
 where
     R: Net<Listener = TcpListener, Stream = TcpStream>
-        + Files<File = File>
         + Threads
         + Wait
         + Clock
         + Print
         + Eprint
         + Sync,
-    R::Dir: Send,
 {
     let Ok(opened) = Instant::now(rt) else {
         return Err(ServerError::NoClock);
@@ -126,7 +129,6 @@ where
         opened,
         view_number: AtomicU64::new(0),
         last_update: AtomicU64::new(0),
-        stored_view: terms.stored_view,
     };
     let ways = ways(&clock, seats)?;
     let server = Server {
@@ -153,14 +155,12 @@ fn serve_opened<R>(
 ) -> Result<(), ServerError>
 where
     R: Net<Listener = TcpListener, Stream = TcpStream>
-        + Files<File = File>
         + Threads
         + Wait
         + Clock
         + Print
         + Eprint
         + Sync,
-    R::Dir: Send,
 {
     let Opened {
         running,
@@ -203,7 +203,6 @@ where
         + Print
         + Eprint
         + Sync,
-    R::Dir: Send,
 {
     let schema = Arc::try_clone(&options.node.schema)?;
     let Options {
@@ -235,11 +234,6 @@ where
         config,
         sessions: sessions.max(1),
         times,
-        stored_view: StoredView {
-            path: store,
-            cluster,
-            restarts: opened.restarts,
-        },
     };
     serve_opened(rt, alloc, shared_parts, opened, cluster, places, terms)
 }
@@ -257,7 +251,6 @@ where
         + Print
         + Eprint
         + Sync,
-    R::Dir: Send,
 {
     let index = options.node.index;
     let choices = Choices {

@@ -4,14 +4,12 @@ use crate::opening::fault_of_node;
 use crate::options::Times;
 use crate::peer_queues::{PeerQueues, PeerQueuesAt};
 use crate::telling::{tell_caught_up, tell_pulse, tell_resumed};
-use crate::view_guard::{StoredView, ViewGuard};
 use file_device::{FileDevice, JournalFile};
 use node_gate::{
     NodeError, Op, Pace, PeerMessage, Pulse, Running, Send, Standing, Ticked, copies, send_all,
 };
 use server_threads::{Engine, Figures, Role, ServerError, SharedParts};
 use std::alloc::Global;
-use std::fs::{File, Files};
 use std::sync::Wait;
 use std::sync::atomic::{AtomicU64, Ordering};
 use std::time::{Clock, Duration, Instant};
@@ -24,16 +22,13 @@ const AGAIN: u64 = 2_000;
 
 /// What the thread of the clock keeps.
 #[derive(Drop)]
-struct Watch<'a> {
+struct Watch {
     pulse: Pulse,
     /// What the last beat sent, and when that may be sent again.
     beat: Vec<Send<Op>>,
     pace: Pace,
     /// When all threads that were to have begun had, last.
     whole_at: u64,
-    guard: ViewGuard<'a>,
-    /// When the file of the stored view was looked at, last.
-    looked_at: u64,
 }
 
 /// A node with its clock.
@@ -50,7 +45,6 @@ pub struct TimedNode<'a, 'r, R: Wait> {
     /// The node's view, and its last update, when its clock was asked last.
     pub view_number: AtomicU64,
     pub last_update: AtomicU64,
-    pub stored_view: StoredView<'a>,
 }
 
 impl<'a, 'r, R: Wait + Clock> TimedNode<'a, 'r, R> {
@@ -71,7 +65,7 @@ impl<'a, 'r, R: Wait + Clock> TimedNode<'a, 'r, R> {
     }
 
     /// Sends the last beat once more, where the node is at a step for longer than a beat: the others are to know that their primary is there.
-    fn beat_again(&self, watch: &mut Watch<'_>, now: u64) {
+    fn beat_again(&self, watch: &mut Watch, now: u64) {
         if !watch.pace.take_turn(now) {
             return;
         }
@@ -82,7 +76,7 @@ impl<'a, 'r, R: Wait + Clock> TimedNode<'a, 'r, R> {
     }
 
     /// Takes note of what came of asking the clock.
-    fn take(&self, watch: &mut Watch<'_>, ticked: Ticked, now: u64) -> u64 {
+    fn take(&self, watch: &mut Watch, ticked: Ticked, now: u64) -> u64 {
         let Ticked { pulse, wait, beat } = ticked;
         self.view_number.store(pulse.view_number, Ordering::SeqCst);
         self.last_update.store(pulse.last_update, Ordering::SeqCst);
@@ -99,7 +93,7 @@ impl<'a, 'r, R: Wait + Clock> TimedNode<'a, 'r, R> {
     }
 
     /// Does what is due at one moment; after how many microseconds to come again.
-    fn tick(&self, watch: &mut Watch<'_>) -> u64 {
+    fn tick(&self, watch: &mut Watch) -> u64 {
         let now = self.now();
         let mut peer_queues = self.peer_queues_at(now);
         match self
@@ -127,39 +121,12 @@ impl<'a, 'r, R: Wait + Clock> TimedNode<'a, 'r, R> {
     }
 
     /// Whether threads are missing that should have begun long ago.
-    fn is_short_of_threads(&self, watch: &mut Watch<'_>) -> bool {
+    fn is_short_of_threads(&self, watch: &mut Watch) -> bool {
         let now = self.now();
         if self.shared_parts.needed_threads.is_whole() {
             watch.whole_at = now;
         }
         now.saturating_sub(watch.whole_at) >= THREADS_LIMIT * 1_000
-    }
-}
-
-impl<'a, 'r, R: Wait + Clock + Files<File = File>> TimedNode<'a, 'r, R>
-where
-    R::Dir: std::marker::Send,
-{
-    /// Begins the watch of a node that does this.
-    fn watch_from(&self, pulse: Pulse) -> Watch<'a> {
-        Watch {
-            pulse,
-            beat: Vec::new(self.alloc),
-            pace: Pace::new(clock_times(&self.times)),
-            whole_at: 0,
-            guard: ViewGuard::new(self.rt, self.stored_view),
-            looked_at: 0,
-        }
-    }
-
-    /// Whether the stored view was removed, replaced or written over: its file is looked at once a beat.
-    fn has_lost_view(&self, watch: &mut Watch<'_>) -> bool {
-        let now = self.now();
-        if now.saturating_sub(watch.looked_at) < micros(self.times.beat) {
-            return false;
-        }
-        watch.looked_at = now;
-        watch.guard.is_lost(self.rt, watch.pulse.view_number)
     }
 }
 
@@ -184,10 +151,7 @@ pub fn micros(time: Duration) -> u64 {
     u64::try_from(micros).unwrap_or(u64::MAX)
 }
 
-impl<'a, 'r, R: Wait + Clock + Files<File = File>> Engine for TimedNode<'a, 'r, R>
-where
-    R::Dir: std::marker::Send,
-{
+impl<'a, 'r, R: Wait + Clock> Engine for TimedNode<'a, 'r, R> {
     fn hear(&self, from: u64, message: PeerMessage<Op>) -> bool {
         let now = self.now();
         match &message {
@@ -224,7 +188,12 @@ where
                 pulse.view_number,
             );
         }
-        let mut watch = self.watch_from(pulse);
+        let mut watch = Watch {
+            pulse,
+            beat: Vec::new(self.alloc),
+            pace: Pace::new(clock_times(&self.times)),
+            whole_at: 0,
+        };
         for _ in self.rt.forever() {
             let wait = self.tick(&mut watch);
             if self.running.rest(self.rt, Duration::from_micros(wait)) {
@@ -235,9 +204,6 @@ where
             }
             if watch.pulse.is_halted {
                 return Err(ServerError::DeviceFailed);
-            }
-            if self.has_lost_view(&mut watch) {
-                return Err(ServerError::ViewLost);
             }
         }
         Ok(())
