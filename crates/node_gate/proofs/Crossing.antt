@@ -65,7 +65,7 @@ module _ (D J : RattleType) (g : Device.Ghosts D.Denot) (h : JournalDevice.Ghost
               search (crosses, sendable, string.the_sync) depth 20,
               (
                 search (crosses, sendable) depth 20,
-                (plain_send _ _ _ _ _, (search (crosses, sendable) depth 20, tt)),
+                (plain_send _ _ _ _ _, tt),
               ),
             ),
           ),

@@ -1,3 +1,4 @@
+pub mod Shares
 pub mod Given
 pub mod Grows
 pub mod Sent
