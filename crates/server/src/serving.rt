@@ -63,11 +63,7 @@ fn gates<'a, 'r, R: Wait>(
     let shared_parts: &'a SharedParts = clock.shared_parts;
     let mut gates = Vec::new(clock.alloc);
     for (thread, has_left) in shared_parts.leaves.iter().enumerate() {
-        let way = (thread, (NoReads::new(), gate(clock, has_left)));
-        // prover: `?` would ask for a law of the lifetimes in a gate
-        if gates.push(way).is_err() {
-            return Err(AllocError);
-        }
+        gates.push((thread, (NoReads::new(), gate(clock, has_left))))?;
     }
     Ok(gates)
 }
@@ -80,10 +76,7 @@ fn ways<'a, 'r, R: Wait>(
     let shared_parts: &'a SharedParts = clock.shared_parts;
     let mut ways = Vec::new(clock.alloc);
     for seat in seats {
-        // prover: as in `gates`
-        if ways.push((seat, gate(clock, &shared_parts.stays))).is_err() {
-            return Err(AllocError);
-        }
+        ways.push((seat, gate(clock, &shared_parts.stays)))?;
     }
     Ok(ways)
 }
