@@ -188,14 +188,7 @@ impl World {
         let machine = &mut self.machines[at];
         machine.starts = life + 1;
         machine.replica = Some(replica);
-        machine.timer = Timer::new(
-            self.setting.is_old,
-            at as u64,
-            count,
-            view,
-            status,
-            now,
-        );
+        machine.timer = Timer::new(self.setting.is_old, at as u64, count, view, status, now);
         machine.compared = 0;
         machine.recovering_since = now;
         for other in 0..self.machines.len() {

@@ -47,7 +47,11 @@ impl Machine {
     pub fn look_back(&mut self) {
         if let Some(replica) = &self.replica {
             let most = self.catch_up.min(replica.log.len() as u64);
-            self.catch_up = if most <= replica.commit_number { 0 } else { most };
+            self.catch_up = if most <= replica.commit_number {
+                0
+            } else {
+                most
+            };
         }
     }
 

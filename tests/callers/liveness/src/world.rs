@@ -79,13 +79,7 @@ impl World {
     }
 
     /// A run with no replicas yet.
-    fn empty(
-        alloc: Global,
-        setting: Setting,
-        plan: Plan,
-        chance: Chance,
-        power: Chance,
-    ) -> World {
+    fn empty(alloc: Global, setting: Setting, plan: Plan, chance: Chance, power: Chance) -> World {
         World {
             alloc,
             setting,

@@ -99,7 +99,9 @@ impl<'m> Client<'m> {
         self.counts.answered = self.counts.answered.saturating_add(1);
         if let Some(sent) = self.sent.pop_front() {
             let took = sent.elapsed(rt)?.as_nanos();
-            self.counts.times.push(u64::try_from(took).unwrap_or(u64::MAX))?;
+            self.counts
+                .times
+                .push(u64::try_from(took).unwrap_or(u64::MAX))?;
         }
         Ok(true)
     }

@@ -5,8 +5,8 @@ ghost use Rattle.dir_search.specs.indexed_tree.Stored.{NumbersBelow};
 use crate::fault::Fault;
 use dir_search::{AddRequest, Indexes, Name, ResultCode, Schema};
 use dir_store::{Op, Store, Update};
-use schema_reader::built_in_schema;
 use directory_api::Attribute;
+use schema_reader::built_in_schema;
 use std::alloc::{AllocError, Global};
 use std::sync::Arc;
 

@@ -5,8 +5,8 @@ ghost use Rattle.std.specs.Prelude.{◌≡◌, ◌<◌, IfOk};
 use crate::fault::Fault;
 use crate::printing::{print_events, print_executed};
 use dir_node::{
-    Client, Cluster, Device, LogEntry, Event, Handled, Indexes, Name, Node, NodeConfig, NodeError, Op,
-    PeerMessage,
+    Client, Cluster, Device, Event, Handled, Indexes, LogEntry, Name, Node, NodeConfig, NodeError,
+    Op, PeerMessage,
 };
 use dir_store::Update;
 use journal::MemoryDevice as Log;
@@ -70,7 +70,11 @@ fn handle<D: Device>(
 }
 
 /// Hands an event to a node; how many replies it gives out.
-fn replies<D: Device>(alloc: Global, node: &mut Node<D, Log>, event: Event<Op>) -> Result<usize, Fault> {
+fn replies<D: Device>(
+    alloc: Global,
+    node: &mut Node<D, Log>,
+    event: Event<Op>,
+) -> Result<usize, Fault> {
     match handle(alloc, node, event) {
         Ok(handled) => Ok(handled.outputs.replies.len()),
         Err(_) => Err(Fault::NoNode),
@@ -102,7 +106,12 @@ fn acknowledgement(number: u64) -> Event<Op> {
 }
 
 /// An update is asked for, acknowledged by one backup, committed, executed and answered: two events.
-fn update<D: Device>(alloc: Global, node: &mut Node<D, Log>, op: &Op, number: u64) -> Result<(), Fault> {
+fn update<D: Device>(
+    alloc: Global,
+    node: &mut Node<D, Log>,
+    op: &Op,
+    number: u64,
+) -> Result<(), Fault> {
     let event = request(op, number)?;
     let before = replies(alloc, node, event)?;
     let after = replies(alloc, node, acknowledgement(number))?;

@@ -102,7 +102,12 @@ fn request(alloc: Global, ask: Ask, place: u32) -> Result<Request, Fault> {
     match ask {
         Ask::Equal => search_items(alloc, filter(alloc, place, false)?.as_str()),
         Ask::TenEqual => search_items(alloc, filter(alloc, place, true)?.as_str()),
-        Ask::Base => search(alloc, name(alloc, place)?, Scope::BaseObject, "(objectClass=*)"),
+        Ask::Base => search(
+            alloc,
+            name(alloc, place)?,
+            Scope::BaseObject,
+            "(objectClass=*)",
+        ),
         Ask::Compare => compare(alloc, place),
     }
 }
@@ -156,7 +161,13 @@ fn answer_all(
     let mut conversation = Conversation::new(alloc);
     let mut count = 0usize;
     for message in messages {
-        let more = answer(alloc, config, directory, &mut conversation, message.as_slice())?;
+        let more = answer(
+            alloc,
+            config,
+            directory,
+            &mut conversation,
+            message.as_slice(),
+        )?;
         count = count.saturating_add(more);
     }
     Ok(count)

@@ -253,7 +253,11 @@ fn come_of(
             Came::Dropped(_) => 'd',
             Came::Message(sender, message) => {
                 let again = write(alloc, cluster(rt, 9), sender, &message)?;
-                if encode(alloc, again)?.as_str() == text { 'm' } else { '?' }
+                if encode(alloc, again)?.as_str() == text {
+                    'm'
+                } else {
+                    '?'
+                }
             }
         };
         told.push(letter)?;
@@ -262,7 +266,8 @@ fn come_of(
 }
 
 /// The STARTVIEW of the table: 85 octets are cut in parts, its kind and those behind its sender.
-const LONG: &str = "0000005d020000000000090601000000000000000600000000000000010000000200000000000000000000000000000000070000000000000002000000064a0464633d780100000000000000010000000000000001000000000000000300000000";
+const LONG: &str =
+    "0000005d020000000000090601000000000000000600000000000000010000000200000000000000000000000000000000070000000000000002000000064a0464633d780100000000000000010000000000000001000000000000000300000000";
 
 #[test]
 fn parts_give_their_message_and_nothing_else_does(rt: HostRuntime) -> Result<(), Fail> {
@@ -271,7 +276,10 @@ fn parts_give_their_message_and_nothing_else_does(rt: HostRuntime) -> Result<(),
     let others = parts_of(&rt, alloc, 8, 32, LONG)?;
     let commit = decode(alloc, COMMIT)?;
     assert_eq!(&rt; parts.len(), 3);
-    assert!(&rt; encode(alloc, &parts[2])?.as_str() == "0000002e020000000000090d0100000000000000070000000200000003010000000000000001000000000000000300000000");
+    assert!(&rt;
+        encode(alloc, &parts[2])?.as_str()
+            == "0000002e020000000000090d0100000000000000070000000200000003010000000000000001000000000000000300000000"
+    );
     let [a, b, c] = [&parts[0], &parts[1], &parts[2]];
     let rows: [(&str, &[&Vec<u8>], &str); 7] = [
         ("all in their order", &[a, b, c], "ppm"),
@@ -280,7 +288,11 @@ fn parts_give_their_message_and_nothing_else_does(rt: HostRuntime) -> Result<(),
         ("another message between", &[a, b, &commit, c], "pp?d"),
         ("one of another message", &[a, &others[1], c], "pdd"),
         ("begun anew", &[a, b, a, b, c], "ppppm"),
-        ("two messages", &[a, b, c, &others[0], &others[1], &others[2]], "ppmppm"),
+        (
+            "two messages",
+            &[a, b, c, &others[0], &others[1], &others[2]],
+            "ppmppm",
+        ),
     ];
     for (name, frames, wanted) in rows {
         let told = come_of(&rt, alloc, frames, LONG)?;
@@ -293,7 +305,10 @@ fn parts_give_their_message_and_nothing_else_does(rt: HostRuntime) -> Result<(),
             frames.push(part)?;
         }
         let told = come_of(&rt, alloc, &frames, LONG)?;
-        assert!(&rt; told.ends_with('m') && told.len() == 85_usize.div_ceil(size), "{size}: {told}");
+        assert!(&rt;
+            told.ends_with('m') && told.len() == 85_usize.div_ceil(size),
+            "{size}: {told}"
+        );
     }
     Ok(())
 }

@@ -41,18 +41,30 @@ fn a_journal_tells_its_replica(rt: HostRuntime) -> Result<(), Fail> {
     assert!(&rt; last < end && end < octets.len());
     assert_eq!(&rt; texts.len(), 12);
     let whole = texts[11].as_str();
-    assert!(&rt; whole.starts_with("cluster 9 index 0 of 3, start 1, view 1 after 1, 3 committed, whole true, log 7/1:"), "{whole}");
+    assert!(&rt;
+        whole.starts_with(
+            "cluster 9 index 0 of 3, start 1, view 1 after 1, 3 committed, whole true, log 7/1:"
+        ),
+        "{whole}"
+    );
     for record in [" 7/2:", " 8/1:", " 8/2:", " 8/3:", " 8/4:"] {
         assert!(&rt; whole.contains(record), "{record}: {whole}");
     }
-    assert!(&rt; !whole.contains(" 9/1:") && whole.ends_with("staged"), "{whole}");
+    assert!(&rt;
+        !whole.contains(" 9/1:") && whole.ends_with("staged"),
+        "{whole}"
+    );
     Ok(())
 }
 
 #[test]
 fn a_changed_octet_is_never_read_as_something_else(rt: HostRuntime) -> Result<(), Fail> {
     let alloc = rt.alloc();
-    let Sample { octets, last: _, end } = make_sample(alloc)?;
+    let Sample {
+        octets,
+        last: _,
+        end,
+    } = make_sample(alloc)?;
     let texts = texts(alloc, &octets)?;
     let mut refused = 0;
     for at in 0..end + 24 {
@@ -88,9 +100,15 @@ fn a_torn_end_is_taken(rt: HostRuntime) -> Result<(), Fail> {
             }
         }
         let told = told_of(&rt, alloc, &cut, &texts, "cut", at)?;
-        assert!(&rt; told == Some(9) || told == Some(10), "cut at {at}: {told:?}");
+        assert!(&rt;
+            told == Some(9) || told == Some(10),
+            "cut at {at}: {told:?}"
+        );
         let told = told_of(&rt, alloc, &begun, &texts, "begun", at)?;
-        assert!(&rt; told == Some(9) || (at == last && told == Some(11)), "begun at {at}: {told:?}");
+        assert!(&rt;
+            told == Some(9) || (at == last && told == Some(11)),
+            "begun at {at}: {told:?}"
+        );
     }
     Ok(())
 }

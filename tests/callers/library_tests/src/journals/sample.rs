@@ -148,8 +148,7 @@ pub fn text_of(alloc: Global, told: &Told) -> Result<String, Fail> {
 
 /// What each first part of the strings in these octets tells.
 pub fn texts(alloc: Global, octets: &[u8]) -> Result<Vec<String>, Fail> {
-    let mut device =
-        MemoryDevice::new(alloc, octets.to_vec(alloc)?, 100, Fault::None)?;
+    let mut device = MemoryDevice::new(alloc, octets.to_vec(alloc)?, 100, Fault::None)?;
     let found = open(alloc, &mut device)?;
     let mut all = Vec::new(alloc);
     for count in 0..=found.strings.len() {

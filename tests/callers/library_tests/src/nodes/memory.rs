@@ -3,7 +3,7 @@
 
 use crate::nodes::frames::{COMMIT_1, PREPARE_ADD};
 use crate::nodes::player::{handle, heard};
-use crate::nodes::sample::{SEVEN, Log, device, fresh};
+use crate::nodes::sample::{Log, SEVEN, device, fresh};
 use dir_node::{Device, Node, Outcome};
 use std::alloc::Global;
 use std::process::Abort;

@@ -1,9 +1,9 @@
 //! Rows that are played at a node: what happens to it or what it is asked flows in, and what it says is compared with the words that the row has.
 //! What any event should give is not here.
 
-use crate::nodes::sample::{SEVEN, Log, nine};
+use crate::nodes::sample::{Log, SEVEN, nine};
 use crate::nodes::telling::{add_word, words_of_event, words_of_outcome, words_of_standing};
-use dir_node::{Device, LogEntry, Event, Handled, Node, NodeError, Op};
+use dir_node::{Device, Event, Handled, LogEntry, Node, NodeError, Op};
 use ldap_op::read_op;
 use std::alloc::{AllocError, Global};
 use std::process::Abort;

@@ -4,7 +4,9 @@ ghost use Rattle.std.specs.Prelude.{◌<◌};
 
 use crate::nodes::frames::{RECOVERY_2, RECOVERY_3, RECOVERY_4};
 use crate::nodes::player::{Given, joined, said};
-use crate::nodes::sample::{FIRST, Log, Made, begin, begin_again, device, fresh, nine, octets, reopen};
+use crate::nodes::sample::{
+    FIRST, Log, Made, begin, begin_again, device, fresh, nine, octets, reopen,
+};
 use crate::nodes::telling::words_of;
 use dir_node::{Cluster, NodeError, Refused, ViewStoreError};
 use std::alloc::Global;

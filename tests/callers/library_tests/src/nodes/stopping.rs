@@ -5,7 +5,7 @@ use crate::nodes::frames::{
     CHANGE_OF_1, LATER_BY_0, LATER_BY_2, RECOVERY_OF_1, TOLD_BY_0, TOLD_BY_2,
 };
 use crate::nodes::player::{Given, Row, joined, play};
-use crate::nodes::sample::{ADD, ROOM, Log, device, fresh, octets, reopen};
+use crate::nodes::sample::{ADD, Log, ROOM, device, fresh, octets, reopen};
 use crate::nodes::telling::words_of;
 use dir_node::Node;
 use std::alloc::Global;

@@ -1,6 +1,6 @@
 //! What a node gives out and where it stands, as words. Outputs and nodes flow in; words flow out. What is expected is not here.
 
-use crate::nodes::sample::{SEVEN, Log, nine};
+use crate::nodes::sample::{Log, SEVEN, nine};
 use dir_node::{Device, Handled, Node, Op, Outcome, Outputs, Send};
 use std::alloc::{AllocError, Global};
 use std::process::Abort;
@@ -123,7 +123,10 @@ pub fn words_of_outcome<D: Device>(
 }
 
 /// Where a node stands, in which view, as which start, and how many records it has executed.
-pub fn words_of_standing<D: Device>(alloc: Global, node: &Node<D, Log>) -> Result<String, AllocError> {
+pub fn words_of_standing<D: Device>(
+    alloc: Global,
+    node: &Node<D, Log>,
+) -> Result<String, AllocError> {
     format!(in alloc;
         "{:?} {} {} {} ",
         node.standing(),

@@ -4,8 +4,8 @@ ghost use Rattle.dir_search.specs.indexed_tree.Stored.{NumbersBelow};
 
 use dir_search::{AddRequest, Indexes, Name, ResultCode};
 use dir_store::{Op, Store, Update};
-use schema_reader::built_in_schema;
 use directory_api::Attribute;
+use schema_reader::built_in_schema;
 use std::alloc::{AllocError, Global};
 use std::process::Abort;
 use std::sync::Arc;

@@ -1,5 +1,5 @@
 //! Nodes of a test: updates as records of a log, what is executed of it, and a publisher with seats. No expectation is here.
-use dir_seats::{Client, LogEntry, Executed, Indexes, Name, Op, Publisher, Seat, Store, seats};
+use dir_seats::{Client, Executed, Indexes, LogEntry, Name, Op, Publisher, Seat, Store, seats};
 use ldap_op::{AddRequest, Change, ModifyOperation, ModifyRequest, PartialAttribute, Update};
 use schema_reader::built_in_schema;
 use std::alloc::{AllocError, Global};
@@ -92,7 +92,12 @@ pub fn add(alloc: Global, number: u64, given: &Given) -> Result<LogEntry<Op>, Al
 }
 
 /// The record of a modify that gives the entry of a name this rank.
-pub fn rank(alloc: Global, number: u64, name: &str, value: &str) -> Result<LogEntry<Op>, AllocError> {
+pub fn rank(
+    alloc: Global,
+    number: u64,
+    name: &str,
+    value: &str,
+) -> Result<LogEntry<Op>, AllocError> {
     let change = Change {
         operation: ModifyOperation::Replace,
         modification: attribute(alloc, "rank", value)?,

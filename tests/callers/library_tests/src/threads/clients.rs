@@ -11,8 +11,8 @@ use std::alloc::{AllocError, Global};
 use std::io::{Read, Write};
 use std::net::{Net, SocketAddr, TcpListener, TcpStream};
 use std::process::Abort;
-use std::sync::atomic::{AtomicBool, AtomicU64, Ordering};
 use std::sync::Wait;
+use std::sync::atomic::{AtomicBool, AtomicU64, Ordering};
 use std::test::*;
 use std::thread::Threads;
 use std::time::{Clock, Duration, Instant};
@@ -218,7 +218,10 @@ fn a_crowd_leaves_the_server_alive(rt: HostRuntime) -> Result<(), Fail> {
 }
 
 /// A client that asks for an update, and closes its stream with its answer to the bind unread, which resets it; then another's update is answered.
-fn leave_and_update<R: Net<Stream = TcpStream> + Clock>(rt: &R, at: SocketAddr) -> io::Result<bool> {
+fn leave_and_update<R: Net<Stream = TcpStream> + Clock>(
+    rt: &R,
+    at: SocketAddr,
+) -> io::Result<bool> {
     let mut leaver = TcpStream::connect(rt, at)?;
     leaver.write_all(BIND)?;
     leaver.write_all(DELETE)?;
@@ -275,7 +278,9 @@ fn closing_takes_no_longer_than_a_second_where_nobody_listens(rt: HostRuntime) -
     let door = Door::new(limits(50));
     let begin = Instant::now(&rt)?;
     close(&rt, &door, at);
-    let took = Instant::now(&rt)?.saturating_duration_since(begin).as_millis();
+    let took = Instant::now(&rt)?
+        .saturating_duration_since(begin)
+        .as_millis();
     assert!(rt; took < 1900, "{took} ms");
     assert!(rt; door.is_closed());
     Ok(())

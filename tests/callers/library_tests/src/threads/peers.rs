@@ -9,7 +9,8 @@ use ldap_session::{Config, Name};
 use replica_greeting::{Terms, greeting};
 use schema_reader::built_in_schema;
 use server_threads::{
-    Address, Choices, Engine, Figures, Logs, Place, Role, SharedParts, Server, ServerError, make_shared_parts,
+    Address, Choices, Engine, Figures, Logs, Place, Role, Server, ServerError, SharedParts,
+    make_shared_parts,
 };
 use std::alloc::Global;
 use std::io::{self, ErrorKind, Read, Write};
@@ -122,7 +123,15 @@ fn places() -> [Place<'static>; 2] {
 }
 
 /// Runs a server for no clients, until its node is over.
-fn run<R: Net<Listener = TcpListener, Stream = TcpStream> + Threads + Wait + Clock + Print + Eprint + Sync>(
+fn run<
+    R: Net<Listener = TcpListener, Stream = TcpStream>
+        + Threads
+        + Wait
+        + Clock
+        + Print
+        + Eprint
+        + Sync,
+>(
     rt: &R,
     alloc: Global,
     shared_parts: &SharedParts,
@@ -173,7 +182,9 @@ fn open_for<R: Net<Stream = TcpStream> + Clock>(
         Ok(count) => count == 0,
         Err(error) => error.kind() == ErrorKind::ConnectionReset,
     };
-    let open = Instant::now(rt)?.saturating_duration_since(begin).as_millis();
+    let open = Instant::now(rt)?
+        .saturating_duration_since(begin)
+        .as_millis();
     if is_closed { Ok(open) } else { Ok(u128::MAX) }
 }
 
@@ -201,7 +212,11 @@ fn heard_among<R: Net<Stream = TcpStream> + Wait + Clock>(
     let mut stream = TcpStream::connect(rt, at)?;
     stream.write_all(octets)?;
     let _has_heard = ear.has_heard.wait(rt, Duration::from_secs(20));
-    Ok(Instant::now(rt)?.saturating_duration_since(begin).as_millis())
+    Ok(
+        Instant::now(rt)?
+            .saturating_duration_since(begin)
+            .as_millis(),
+    )
 }
 
 /// Stops the node when this is done.

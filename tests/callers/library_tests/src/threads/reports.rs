@@ -129,7 +129,16 @@ fn a_greeting_tells_the_terms(rt: HostRuntime) -> Result<(), Fail> {
     let reporter = Reporter::new(rt.alloc(), 128)?;
     let terms = terms_under("dc=example,dc=com");
     let counters = Counters::new(rt.alloc(), 3)?;
-    let mut frames = MessageFrames::new(&rt, rt.alloc(), &reporter, &counters, cluster, 0, terms, 1);
+    let mut frames = MessageFrames::new(
+        &rt,
+        rt.alloc(),
+        &reporter,
+        &counters,
+        cluster,
+        0,
+        terms,
+        1,
+    );
     let greeting = frames.greeting().expect(&rt, "there is memory");
     let alike = meet(greeting.as_slice(), cluster, &terms);
     assert!(rt; alike == Ok(Met::Alike { sender: 0 }));
