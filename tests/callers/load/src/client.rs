@@ -118,7 +118,10 @@ impl<'m> Client<'m> {
         if self.framer.feed(piece).is_err() {
             return Err(Fault::NoMessage);
         }
-        while let Some(message) = self.framer.next() {
+        for _message in 0..u64::MAX {
+            let Some(message) = self.framer.next() else {
+                break;
+            };
             if self.take(rt, &message)? && Instant::now(rt)? < until {
                 self.ask(rt)?;
             }

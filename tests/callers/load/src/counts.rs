@@ -37,7 +37,7 @@ impl Counts {
 
     /// The time that so many of a hundred answers took at most.
     fn time_of(&self, of_hundred: usize) -> u64 {
-        let place = self.times.len().saturating_sub(1) / 100 * of_hundred;
+        let place = (self.times.len().saturating_sub(1) / 100).saturating_mul(of_hundred);
         match self.times.get(place) {
             Some(time) => *time,
             None => 0,
