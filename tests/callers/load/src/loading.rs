@@ -6,7 +6,7 @@ use crate::words::Wish;
 use measures::messages;
 use std::alloc::Global;
 use std::io::Print;
-use std::net::{Net, TcpStream};
+use std::net::{Net, TcpListener, TcpStream};
 use std::thread::{self, Threads};
 use std::time::{Clock, Instant};
 
@@ -22,10 +22,12 @@ fn places(alloc: Global, count: usize) -> Result<Vec<usize>, Fault> {
 /// Loads the server as it is wished, and prints what came back.
 pub fn load<R>(rt: &R, alloc: Global, wish: &Wish) -> Result<(), Fault>
 where
-    R: Net<Stream = TcpStream> + Clock + Threads + Print + Sync,
+    R: Net<Listener = TcpListener, Stream = TcpStream> + Clock + Threads + Print + Sync,
 {
     let messages = messages(alloc, wish.ask, wish.items)?;
-    let until = Instant::now(rt)? + wish.time;
+    let Some(until) = Instant::now(rt)?.checked_add(wish.time) else {
+        return Err(Fault::NoSystem);
+    };
     let asks = |_place: usize| {
         ask_until(
             rt,
