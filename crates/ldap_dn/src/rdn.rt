@@ -141,17 +141,10 @@ fn copy_keys(alloc: Global, keys: &[TypeAndKey]) -> Result<Vec<TypeAndKey>, Allo
     for key in keys {
         copy.push(TypeAndKey {
             type_id: key.type_id,
-            key: copy_key(alloc, &key.key)?,
+            key: key.key.copy(alloc)?,
         })?;
     }
     Ok(copy)
-}
-
-/// A copy of a key.
-fn copy_key(alloc: Global, key: &Key) -> Result<Key, AllocError>
-    ensures { IfOk result (λ k. k ≡ key.now) }
-{
-    Ok(Key::new(key.as_octets().to_vec(alloc)?))
 }
 
 /// A copy of relative names.

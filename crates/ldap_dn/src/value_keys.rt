@@ -31,10 +31,10 @@ pub fn key(alloc: Global, schema: &Schema, rule: Rule, value: &[u8]) -> Result<K
     match rule.family {
         Family::Identifier => {
             if is_numericoid(value) {
-                Ok(Key::new(Vec::from_slice(alloc, value)?))
+                Ok(Key::from_slice(alloc, value)?)
             } else {
                 match named_oid(schema, value) {
-                    Some(oid) => Ok(Key::new(Vec::from_slice(alloc, oid.as_bytes())?)),
+                    Some(oid) => Ok(Key::from_slice(alloc, oid.as_bytes())?),
                     None => Err(ValueError::NotInSyntax),
                 }
             }

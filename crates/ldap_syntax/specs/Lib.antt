@@ -1,6 +1,7 @@
 pub mod Text
 pub mod Times
 pub mod Syntaxes
+pub mod KeyOctets
 pub mod Meaning
 pub mod Parts
 pub mod Keys

@@ -36,7 +36,7 @@ pub fn key_of(alloc: Global, rule: Rule, value: &[u8]) -> Result<Key, ValueError
         | Family::Ia5
         | Family::Ia5Exact => text_key(alloc, rule.family, value, Part::Whole),
         Family::Identifier | Family::Name | Family::Boolean | Family::Octet | Family::Time => {
-            Ok(Key::new(Vec::from_slice(alloc, value)?))
+            Ok(Key::from_slice(alloc, value)?)
         }
     }
 }

@@ -67,7 +67,7 @@ fn copy_of(alloc: Global, key: &Option<Key>) -> Result<Option<Key>, AllocError>
     ensures { IfOk result (λ k. k ≡ key.now) }
 {
     match key {
-        Some(key) => Ok(Some(Key::new(key.as_octets().to_vec(alloc)?))),
+        Some(key) => Ok(Some(key.copy(alloc)?)),
         None => Ok(None),
     }
 }

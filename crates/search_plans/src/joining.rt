@@ -19,7 +19,7 @@ fn copy_bound(alloc: Global, bound: &Option<Key>) -> Result<Option<Key>, AllocEr
     ensures { IfOk result (λ b. b ≡ bound.now) }
 {
     match bound {
-        Some(key) => Ok(Some(Key::new(Vec::from_slice(alloc, key.as_octets())?))),
+        Some(key) => Ok(Some(key.copy(alloc)?)),
         None => Ok(None),
     }
 }

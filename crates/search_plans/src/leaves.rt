@@ -18,13 +18,6 @@ use dir_index::{Indexes, Posting, Range};
 use ldap_eval::{Key, Leaf, PartKeys, Test, TypeId};
 use std::alloc::{AllocError, Global};
 
-/// An equal key.
-fn copy_key(alloc: Global, key: &Key) -> Result<Key, AllocError>
-    ensures { IfOk result (λ k. k ≡ key.now) }
-{
-    Ok(Key::new(Vec::from_slice(alloc, key.as_octets())?))
-}
-
 /// Whether an index tells exactly on which entries the test is true, and on which it is false.
 fn is_listed(leaf: &Leaf, indexes: &Indexes) -> bool
     ensures { result ≡ is_test_decided indexes.now leaf.now.type_id leaf.now.test }
@@ -47,16 +40,16 @@ fn listed(alloc: Global, leaf: &Leaf) -> Result<Plan, AllocError>
 {
     match &leaf.test {
         Test::Present => Ok(Plan::Posting(Posting::Present(leaf.type_id))),
-        Test::Equal(key) => Ok(Plan::Posting(Posting::Equal(leaf.type_id, copy_key(alloc, key)?))),
+        Test::Equal(key) => Ok(Plan::Posting(Posting::Equal(leaf.type_id, key.copy(alloc)?))),
         Test::AtLeast(key) => Ok(Plan::Range(Range {
             type_id: leaf.type_id,
-            from: Some(copy_key(alloc, key)?),
+            from: Some(key.copy(alloc)?),
             upto: None,
         })),
         Test::AtMost(key) => Ok(Plan::Range(Range {
             type_id: leaf.type_id,
             from: None,
-            upto: Some(copy_key(alloc, key)?),
+            upto: Some(key.copy(alloc)?),
         })),
         Test::Unknown => Ok(Plan::Empty),
         Test::Parts(_) => Ok(Plan::Empty),

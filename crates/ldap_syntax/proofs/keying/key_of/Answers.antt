@@ -12,4 +12,4 @@ returns-in_ok-number_key-in-Integer-clause-key c =
 
 pub returns-in_ok-from_slice-in-Identifier-clause-key : goal.returns-in_ok-from_slice-in-Identifier-clause-key
 returns-in_ok-from_slice-in-Identifier-clause-key c =
-    plain_key c.args.rule c.args.value.now c.in-Identifier.is (sym c.has_meaning.ensures ∙ c.if-not-has_meaning.false) ∙ ap Some (sym (c.new-in-Identifier.ensures ∙ c.in_ok-from_slice-in-Identifier.ensures.items))
+    plain_key c.args.rule c.args.value.now c.in-Identifier.is (sym c.has_meaning.ensures ∙ c.if-not-has_meaning.false) ∙ ap Some (sym c.in_ok-from_slice-in-Identifier.ensures)
