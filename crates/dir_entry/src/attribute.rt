@@ -262,7 +262,7 @@ fn copy_keys(alloc: Global, keys: &[Key]) -> Result<Vec<Key>, AllocError>
 {
     let mut copy = Vec::with_capacity(alloc, keys.len())?;
     for key in keys {
-        copy.push(Key::new(key.as_octets().to_vec(alloc)?))?;
+        copy.push(key.copy(alloc)?)?;
     }
     Ok(copy)
 }
@@ -370,7 +370,7 @@ fn keys_under(
     ensures keyed { IfOk result (λ keys. map Some keys.items ≡ map (λ v. key_at schema.now rule v.items) values.now) }
     ensures refused { IsErrOf result ValueError.NotInSyntax → list_all (λ v. is_some (meaning schema.now rule v.items)) values.now ≡ false }
 {
-    let mut keys = Vec::new(alloc);
+    let mut keys = Vec::with_capacity(alloc, values.len())?;
     for value in values {
         keys.push(key(alloc, schema, rule, value.as_slice())?)?;
     }

@@ -143,6 +143,13 @@ impl Entry {
         Ok(())
     }
 
+    /// Gives back the room that no attribute takes.
+    pub fn shrink(&mut self)
+        ensures { self.new ≡ self.old }
+    {
+        self.attributes.shrink_to_fit();
+    }
+
     /// A copy.
     pub fn copy(&self, alloc: Global) -> Result<Entry, AllocError>
         ensures { IfOk result (λ e. e ≡ self.now) }

@@ -34,9 +34,10 @@ impl Model for SharedEntry {
 
 impl SharedEntry {
     /// These attributes, which nobody else has yet. Its only error is want of memory.
-    pub fn new(alloc: Global, entry: Entry) -> Result<SharedEntry, AllocError>
+    pub fn new(alloc: Global, mut entry: Entry) -> Result<SharedEntry, AllocError>
         ensures { IfOk result (λ s. s ≡ entry) }
     {
+        entry.shrink();
         let entry = Arc::new(alloc, entry)?;
         Ok(SharedEntry { entry })
     }

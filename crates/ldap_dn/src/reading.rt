@@ -129,7 +129,7 @@ fn written_in(
     ensures found { IfOk result (λ v. texts.written_from schema.now [] (map (λ x. x.now) pieces.now) ≡ Some v.items) }
     ensures refused { IsErrOf result NameError.BadName → texts.written_from schema.now [] (map (λ x. x.now) pieces.now) ≡ None }
 {
-    let mut list = Vec::new(alloc);
+    let mut list = Vec::with_capacity(alloc, pieces.len())?;
     for piece in pieces {
         list.push(type_and_value(alloc, schema, piece)?)?;
     }
@@ -229,7 +229,7 @@ fn keys_of(
     ensures found { IfOk result (λ v. texts.keys_from schema.now [] written.now ≡ Some v.items) }
     ensures refused { IsErrOf result NameError.BadName → texts.keys_from schema.now [] written.now ≡ None }
 {
-    let mut keys = Vec::new(alloc);
+    let mut keys = Vec::with_capacity(alloc, written.len())?;
     for one in written {
         place(&mut keys, type_and_key(alloc, schema, one)?)?;
     }
@@ -251,7 +251,7 @@ fn rdns_in(alloc: Global, schema: &Schema, pieces: &[&[Token]]) -> Result<Vec<Rd
     ensures found { IfOk result (λ v. texts.rdns_from schema.now [] (map (λ x. x.now) pieces.now) ≡ Some v.items) }
     ensures refused { IsErrOf result NameError.BadName → texts.rdns_from schema.now [] (map (λ x. x.now) pieces.now) ≡ None }
 {
-    let mut list = Vec::new(alloc);
+    let mut list = Vec::with_capacity(alloc, pieces.len())?;
     for piece in pieces {
         list.push(rdn(alloc, schema, piece)?)?;
     }
