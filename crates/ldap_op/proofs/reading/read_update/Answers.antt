@@ -1,11 +1,11 @@
--- Wire, updates by themselves: the goals of `read_op` that no tactic closes, each by one lemma over plain lists.
+-- Wire, updates by themselves: the goals of `read_update` that no tactic closes, each by one lemma over plain lists.
 use Rattle.std.proofs.Common.{◌∙◌}
 use Rattle.std.proofs.lemmas.Result.{err_from_is_err_and}
 use Rattle.ldap_updates.proofs.ldap_fields.Same.{plain_weaker}
 use Rattle.ldap_updates.proofs.ldap_fields.RowLemmas.{some_left, none_left}
 use Rattle.ldap_op.specs.View.{update_view}
 use Rattle.ldap_op.proofs.Ops.{op_one, op_whole, op_update, op_found, error_only}
-use Rattle.ldap_op.proofs.reading.read_op.Goals as goal
+use Rattle.ldap_op.proofs.reading.read_update.Goals as goal
 
 pub returns-then-not-is_empty-clause-only : goal.returns-then-not-is_empty-clause-only
 returns-then-not-is_empty-clause-only c = λ op h.
@@ -27,5 +27,5 @@ returns-in_err-update-clause-fault c =
 
 pub returns-clause-only : goal.returns-clause-only
 returns-clause-only c = λ op h.
-    c.in_ok-op.ensures ∙ op_one (update_view c.in_ok-update.update) op c.args.octets.now
+    op_one (update_view c.in_ok-update.update) op c.args.octets.now
     (op_found (update_view c.in_ok-update.update) c.args.octets.now c.in_ok-element.element.content.now c.in_ok-element.rest.now c.in_ok-element.element.first c.in_ok-element.ensures.found (none_left c.is_empty-2.result _ c.is_empty-2.ensures c.if-not-is_empty.false) c.in_ok-update.ensures.found) h
