@@ -10,3 +10,4 @@ pub mod Search
 pub mod Seams
 pub mod Told
 pub mod Orders
+pub mod Seen

@@ -2,6 +2,7 @@
 // What must not be here: which types support which rules, entries.
 
 ghost use Rattle.std.specs.Prelude.{◌≡◌, IfOk};
+ghost use Rattle.ldap_syntax.specs.Seen.{are_seen as are_octets_seen};
 ghost use Rattle.ldap_syntax.specs.Forms.{form_of, form_meets, has_met, TextsTell};
 
 use crate::admitting::is_in_syntax;
@@ -34,11 +35,36 @@ impl Model for Form {
     ghost view = { λ f. option_map (λ b. b.value) f.kept };
 }
 
+/// Whether octets are those of ASCII that are seen, with single SPACEs between them and none at an edge. Takes no memory.
+fn are_seen(octets: &[u8]) -> bool
+    ensures { result ≡ are_octets_seen octets.now }
+{
+    let mut is_behind_space = true;
+    for octet in octets {
+        if *octet == b' ' {
+            if is_behind_space {
+                return false;
+            }
+            is_behind_space = true;
+        } else {
+            if *octet < 33 || *octet > 126 {
+                return false;
+            }
+            is_behind_space = false;
+        }
+    }
+    !is_behind_space
+}
+
 impl Form {
     /// What is kept of a value's texts. Its only error is want of memory.
+    #[tactic(auto, using(crate::proofs::Seen::seen_form))]
     pub fn new(alloc: Global, octets: &[u8]) -> Result<Form, AllocError>
         ensures { IfOk result (λ f. f ≡ form_of octets.now) }
     {
+        if are_seen(octets) {
+            return Ok(Form { kept: None });
+        }
         let texts = Texts::new(alloc, octets)?;
         if texts.are_plain(octets) {
             return Ok(Form { kept: None });
