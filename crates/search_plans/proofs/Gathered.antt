@@ -1,6 +1,6 @@
 -- Lists that are gathered, one after another.
-use Rattle.std.proofs.Common.{◌≡◌, Result, Ok, Err, OnOk, ℕ, zero, suc, arith, ◌<◌, Bool, true, false, ◌||◌, ◌&&◌, List, [], ◌∷◌, ◌++◌, length, get_or, refl, sym, ◌∙◌, ◌⊎◌, inl, inr}
-use Rattle.std.specs.List.{list_any, list_all}
+use Rattle.std.proofs.Common.{◌≡◌, Result, Ok, Err, OnOk, ℕ, zero, suc, arith, ◌<◌, Bool, true, false, ◌&&◌, List, [], ◌∷◌, length, get_or, sym, ◌∙◌}
+use Rattle.std.specs.List.{list_all}
 use Rattle.dir_index.specs.Postings.{has_number}
 use Rattle.search_plans.specs.Streams.{Gathers, GathersAll}
 pub use Rattle.search_plans.proofs.Rising.{any_map}

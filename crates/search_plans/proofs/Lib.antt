@@ -21,3 +21,4 @@ pub mod Rows
 pub mod RunLists
 pub mod Standing
 pub mod Whole
+pub mod Listed

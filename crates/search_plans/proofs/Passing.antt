@@ -7,7 +7,7 @@ use Rattle.std.proofs.lemmas.Bool.Decides.{nat_tests}
 use Rattle.dir_index.specs.ldap_match.declared.truth.Truth.{Truth}
 use Rattle.dir_index.specs.Postings.{has_number, IsRising}
 use Rattle.search_plans.specs.Sets.{Guides}
-use Rattle.search_plans.specs.Runs.{is_true, is_open, is_asked, is_wanted, AreInside, IsUnderWay}
+use Rattle.search_plans.specs.Runs.{is_true, is_open, is_asked, is_wanted, AreInside, AreSure, IsUnderWay}
 use Rattle.search_plans.proofs.Rising.{has_head}
 use Rattle.search_plans.proofs.Searching.{or_late}
 
@@ -188,3 +188,10 @@ inside_first is_known n rest scope candidates is h known = h known n (subst (λ 
 
 pub inside_rest : (is_known : Bool) (n : ℕ) (rest scope candidates : List ℕ) → candidates ≡ n ∷ rest → AreInside is_known candidates scope → AreInside is_known rest scope
 inside_rest is_known n rest scope candidates is h known m there = h known m (subst (λ (c : List ℕ). has_number m c ≡ true) (sym is) (or_late (nat_eq m n) _ there))
+
+-- candidates that are known to be among what must be found: the first, and the others
+pub sure_first : (is_known : Bool) (n : ℕ) (rest : List ℕ) (must : ℕ → Bool) (candidates : List ℕ) → candidates ≡ n ∷ rest → AreSure is_known must candidates → is_known ≡ true → must n ≡ true
+sure_first is_known n rest must candidates is h known = h known n (subst (λ (c : List ℕ). has_number n c ≡ true) (sym is) (has_head n rest))
+
+pub sure_rest : (is_known : Bool) (n : ℕ) (rest : List ℕ) (must : ℕ → Bool) (candidates : List ℕ) → candidates ≡ n ∷ rest → AreSure is_known must candidates → AreSure is_known must rest
+sure_rest is_known n rest must candidates is h known m there = h known m (subst (λ (c : List ℕ). has_number m c ≡ true) (sym is) (or_late (nat_eq m n) _ there))

@@ -53,6 +53,10 @@ is_wanted value scope n = has_number n scope && is_true (value n)
 abbrev pub AreInside : Bool → List ℕ → List ℕ → Type 0
 AreInside is_known candidates scope = is_known ≡ true → (n : ℕ) → has_number n candidates ≡ true → has_number n scope ≡ true
 
+-- where it is known of candidates, they all must be found
+abbrev pub AreSure : Bool → (ℕ → Bool) → List ℕ → Type 0
+AreSure is_known must candidates = is_known ≡ true → (n : ℕ) → has_number n candidates ≡ true → must n ≡ true
+
 -- The progress of a run that has these candidates left.
 abbrev pub progress_of : (ℕ → Bool) → (ℕ → Bool) → (ℕ → Truth) → List ℕ → List ℕ → ℕ → ℕ → Progress
 progress_of must may value scope candidates tests looks = record {

@@ -8,6 +8,9 @@ use dir_index::Kept;
 /// About how many looks at a walk it costs to ask the plans of one candidate.
 const LOOKS_TO_ASK: u64 = 32;
 
+/// About how many looks it costs to ask whether a number is in scope.
+const LOOKS_TO_FIND: u64 = 8;
+
 /// About how many looks it costs to gather a number, and to sort it with the others: a handful of comparisons for each.
 const LOOKS_TO_GATHER: u64 = 8;
 
@@ -115,6 +118,12 @@ pub fn smallest<K: Kept>(plans: &[Plan], kept: &K, scope: &Scope) -> usize {
         }
     }
     best
+}
+
+/// Whether drawing so many numbers from posting lists that hold what is found costs less than going through the scope.
+pub fn is_cheap_listed(numbers: u64, lists: usize, scope: &Scope) -> bool {
+    let drawn = numbers.saturating_mul((lists as u64).saturating_add(LOOKS_TO_FIND));
+    drawn < looks(of_walk(scope.len()))
 }
 
 /// Whether drawing from the plan costs less than going through the scope. It takes no memory: nothing is

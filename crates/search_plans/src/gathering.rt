@@ -5,11 +5,12 @@ ghost use Rattle.std.specs.Prelude.{◌≡◌, ℕ, false, IfOk, OnOk};
 ghost use Rattle.std.specs.List.{list_any, list_all};
 ghost use Rattle.dir_index.specs.Postings.{has_number, IsRising, AreRising};
 ghost use Rattle.search_plans.specs.Sets.{is_in};
-ghost use Rattle.search_plans.specs.Runs.{AreInside};
-ghost use Rattle.search_plans.specs.Streams.{Covers, Draws, Gathers, GathersAll};
+ghost use Rattle.search_plans.specs.Runs.{AreInside, AreSure};
+ghost use Rattle.search_plans.specs.Streams.{Covers, Draws, Gathers, GathersAll, together};
 
-use crate::estimating::{is_cheap, smallest};
-use crate::plan::Plan;
+use crate::estimating::{is_cheap, is_cheap_listed, smallest};
+use crate::listing::push_listed;
+use crate::plan::{Plan, Sided};
 use crate::scope::Scope;
 use crate::stream::Stream;
 use crate::walking::Walk;
@@ -138,23 +139,36 @@ fn push_one<'a, K: Kept>(
     push_scope(scope, into)
 }
 
-/// Candidates, and whether each of them is known to be in scope.
+/// What is known of each candidate of a run, and then isn't asked.
+#[derive(Clone, Copy)]
+pub struct Known {
+    /// That it is in scope.
+    pub is_inside: bool,
+    /// That it is in the plan of what must be found.
+    pub is_sure: bool,
+}
+
+/// Candidates, and what is known of them.
 #[derive(Drop)]
 pub struct Drawn<'a> {
     pub stream: Stream<'a>,
-    pub is_inside: bool,
+    pub known: Known,
 }
 
 /// The scope as candidates.
 fn scope_alone<'a>(alloc: Global, scope: &Scope<'a>) -> Result<Drawn<'a>, AllocError>
-    ensures { IfOk result (λ d. d.stream ≡ scope.now) }
+    ensures stream { IfOk result (λ d. d.stream ≡ scope.now) }
+    ensures unsure { IfOk result (λ d. d.known.is_sure ≡ false) }
 {
     scope.rises();
     let mut walks = Vec::new(alloc);
     walks.push(scope.walk())?;
     Ok(Drawn {
         stream: Stream::new(walks),
-        is_inside: true,
+        known: Known {
+            is_inside: true,
+            is_sure: false,
+        },
     })
 }
 
@@ -167,13 +181,17 @@ fn from_plan<'a, K: Kept>(
 ) -> Result<Drawn<'a>, AllocError>
     ensures covers { IfOk result (λ d. Covers (is_in (K.lists kept.now) scope.now plan.now) scope.now d.stream) }
     ensures rising { IfOk result (λ d. IsRising d.stream) }
-    ensures outside { IfOk result (λ d. d.is_inside ≡ false) }
+    ensures outside { IfOk result (λ d. d.known.is_inside ≡ false) }
+    ensures unsure { IfOk result (λ d. d.known.is_sure ≡ false) }
 {
     let mut walks = Vec::new(alloc);
     push_walks(alloc, plan, kept, scope, &mut walks)?;
     Ok(Drawn {
         stream: Stream::new(walks),
-        is_inside: false,
+        known: Known {
+            is_inside: false,
+            is_sure: false,
+        },
     })
 }
 
@@ -187,13 +205,56 @@ pub fn draw<'a, K: Kept>(
 ) -> Result<Drawn<'a>, AllocError>
     ensures covers { IfOk result (λ d. Covers (is_in (K.lists kept.now) scope.now plan.now) scope.now d.stream) }
     ensures rising { IfOk result (λ d. IsRising d.stream) }
-    ensures inside { IfOk result (λ d. AreInside d.is_inside d.stream scope.now) }
+    ensures inside { IfOk result (λ d. AreInside d.known.is_inside d.stream scope.now) }
+    ensures unsure { IfOk result (λ d. d.known.is_sure ≡ false) }
 {
     scope.rises();
     if is_cheap(plan, kept, scope) {
         from_plan(alloc, plan, kept, scope)
     } else {
         scope_alone(alloc, scope)
+    }
+}
+
+/// The candidates from walks through posting lists that hold what is found, and nothing else.
+fn from_lists<'a>(walks: Vec<Walk<'a>>) -> Drawn<'a>
+    requires { AreRising walks.items }
+    ensures stream { result.stream ≡ together walks.entry.items }
+    ensures outside { result.known.is_inside ≡ false }
+{
+    Drawn {
+        stream: Stream::new(walks),
+        known: Known {
+            is_inside: false,
+            is_sure: true,
+        },
+    }
+}
+
+/// The candidates of a run. Where what must be and what may be are the same posting lists, each list is looked up once, and nothing else is asked of
+/// what they hold.
+pub fn draw_sided<'a, K: Kept>(
+    alloc: Global,
+    sided: &Sided,
+    kept: &'a K,
+    scope: &Scope<'a>,
+) -> Result<Drawn<'a>, AllocError>
+    ensures covers { IfOk result (λ d. Covers (is_in (K.lists kept.now) scope.now sided.now.may) scope.now d.stream) }
+    ensures rising { IfOk result (λ d. IsRising d.stream) }
+    ensures inside { IfOk result (λ d. AreInside d.known.is_inside d.stream scope.now) }
+    ensures sure { IfOk result (λ d. AreSure d.known.is_sure (is_in (K.lists kept.now) scope.now sided.now.must) d.stream) }
+{
+    scope.rises();
+    let mut walks = Vec::new(alloc);
+    match push_listed(&sided.may, &sided.must, kept, &mut walks)? {
+        Some(numbers) => {
+            if is_cheap_listed(numbers, walks.len(), scope) {
+                Ok(from_lists(walks))
+            } else {
+                scope_alone(alloc, scope)
+            }
+        }
+        None => draw(alloc, &sided.may, kept, scope),
     }
 }
 
@@ -212,9 +273,6 @@ pub fn candidates<'a, K: Kept>(
 {
     scope.rises();
     let drawn = draw(alloc, plan, kept, scope)?;
-    let Drawn {
-        stream,
-        is_inside: _,
-    } = drawn;
+    let Drawn { stream, known: _ } = drawn;
     Ok(stream)
 }

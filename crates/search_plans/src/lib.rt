@@ -14,6 +14,7 @@
 //! one rising list. A range that is drawn from is gathered once and sorted; no other set becomes a list. What is drawn from is a matter of
 //! cost alone (`estimating`): the cheapest part of an intersection, or the scope (`scope`). A run (`running`) leaves out what isn't in
 //! scope, gives what must be, and asks `Values` about the rest (`telling`).
+//! Where both plans are one `or` of posting lists, each list is looked up once and nothing is asked (`listing`).
 //!
 //! Proved: the plans bound where the filter is True, over any entries and scope, and are its true set where schema and index choice decide
 //! it. What an `and` may be lies in each part that they decide and holds its substrings' runs (`compile`). A run gives the numbers in scope
@@ -29,6 +30,7 @@ mod gathering;
 mod having;
 mod joining;
 mod leaves;
+mod listing;
 mod octet_runs;
 mod plan;
 mod running;

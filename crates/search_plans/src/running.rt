@@ -4,7 +4,7 @@
 ghost use Rattle.std.specs.Prelude.{◌≡◌, ◌+◌, ◌^◌, ◌<◌, ◌≤◌, [], ◌∷◌, filter, length, nat_le, IfOk, MatchOption};
 ghost use Rattle.search_plans.specs.Runs.{AreGuides, left_open, true_set};
 
-use crate::gathering::{Drawn, draw};
+use crate::gathering::{Drawn, Known, draw_sided};
 use crate::plan::Sided;
 use crate::scope::Scope;
 use crate::stream::Stream;
@@ -21,15 +21,15 @@ pub struct Running<'a, K: Kept, V: Values> {
     kept: &'a K,
     scope: &'a Scope<'a>,
     stream: Stream<'a>,
-    /// Whether the candidates are known to be in scope, which then isn't asked of each.
-    is_inside: bool,
+    /// What is known of the candidates.
+    known: Known,
     values: V,
     tests: u64,
 }
 
 impl<'a, K: Kept, V: Values> Model for Running<'a, K, V> {
     ghost use Rattle.search_plans.specs.Sets.{is_in};
-    ghost use Rattle.search_plans.specs.Runs.{Progress, progress_of, IsUnderWay, AreInside};
+    ghost use Rattle.search_plans.specs.Runs.{Progress, progress_of, IsUnderWay, AreInside, AreSure};
 
     ghost Value = { Progress };
 
@@ -39,7 +39,8 @@ impl<'a, K: Kept, V: Values> Model for Running<'a, K, V> {
 
     ghost invariant = { λ r. IsUnderWay (is_in (K.lists r.kept.now) r.scope.now r.sided.now.must)
         (is_in (K.lists r.kept.now) r.scope.now r.sided.now.may) (V.value_at r.values) r.scope.now r.stream
-        r.tests (V.looks r.values) × AreInside r.is_inside r.stream r.scope.now };
+        r.tests (V.looks r.values) × AreInside r.known.is_inside r.stream r.scope.now
+        × AreSure r.known.is_sure (is_in (K.lists r.kept.now) r.scope.now r.sided.now.must) r.stream };
 }
 
 /// Starts a run of two plans that bound the entries whose value is True, within a scope. It takes the memory for the
@@ -59,14 +60,14 @@ pub fn start<'a, K: Kept, V: Values + Drop>(
     ensures looks { IfOk result (λ r. r.looks ≡ V.looks values) }
 {
     scope.rises();
-    let drawn = draw(alloc, &sided.may, kept, scope)?;
-    let Drawn { stream, is_inside } = drawn;
+    let drawn = draw_sided(alloc, sided, kept, scope)?;
+    let Drawn { stream, known } = drawn;
     Ok(Running {
         sided,
         kept,
         scope,
         stream,
-        is_inside,
+        known,
         values,
         tests: 0,
     })
@@ -89,7 +90,7 @@ impl<'a, K: Kept, V: Values> Running<'a, K, V> {
                 self.sided,
                 self.kept,
                 self.scope,
-                self.is_inside,
+                self.known,
                 &mut self.values,
                 &mut self.tests,
                 number,
@@ -116,7 +117,7 @@ impl<'a, K: Kept, V: Values> Running<'a, K, V> {
             kept: _,
             scope: _,
             stream: _,
-            is_inside: _,
+            known: _,
             values,
             tests: _,
         } = self;

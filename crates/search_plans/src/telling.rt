@@ -3,9 +3,11 @@
 
 ghost use Rattle.std.specs.Prelude.{◌≡◌, ℕ, ◌+◌, ◌^◌, ◌<◌, true, cond};
 ghost use Rattle.dir_index.specs.Postings.{has_number};
+ghost use Rattle.search_plans.specs.Sets.{is_in};
 ghost use Rattle.search_plans.specs.Runs.{is_left_open, is_wanted, AreGuides};
 
 use crate::containing::contains_inside;
+use crate::gathering::Known;
 use crate::plan::Sided;
 use crate::scope::Scope;
 use crate::values::Values;
@@ -18,12 +20,13 @@ pub fn is_found<K: Kept, V: Values>(
     sided: &Sided,
     kept: &K,
     scope: &Scope,
-    is_inside: bool,
+    known: Known,
     values: &mut V,
     tests: &mut u64,
     number: u64,
 ) -> bool
-    requires inside { is_inside ≡ true → has_number number scope.now ≡ true }
+    requires inside { known.is_inside ≡ true → has_number number scope.now ≡ true }
+    requires sure { known.is_sure ≡ true → is_in (K.lists kept.now) scope.now sided.now.must number ≡ true }
     requires guides { AreGuides (K.lists kept.now) sided.now (V.value_at values.old) scope.now }
     requires room { is_left_open (K.lists kept.now) sided.now scope.now number ≡ true
         → (V.looks values.old + 1 < 2 ^ 64) × (tests.old + 1 < 2 ^ 64) }
@@ -33,10 +36,10 @@ pub fn is_found<K: Kept, V: Values>(
         + cond (is_left_open (K.lists kept.now) sided.now scope.now number) 1 0 }
     ensures same { (n : ℕ) → V.value_at values.new n ≡ V.value_at values.old n }
 {
-    if !is_inside && !scope.has(number) {
+    if !known.is_inside && !scope.has(number) {
         return false;
     }
-    if contains_inside(&sided.must, kept, scope, number) {
+    if known.is_sure || contains_inside(&sided.must, kept, scope, number) {
         return true;
     }
     if !contains_inside(&sided.may, kept, scope, number) {

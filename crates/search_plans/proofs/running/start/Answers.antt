@@ -7,6 +7,7 @@ invariant_of-result g c = (
   started _ _ (g.V.Values.value_at c.args.values) c.args.scope.now c.in_ok-drawn.drawn.stream (g.V.Values.looks c.args.values)
       c.rises.ensures c.in_ok-drawn.ensures.rising (drawn _ c.args.scope.now c.in_ok-drawn.drawn.stream c.rises.ensures c.in_ok-drawn.ensures.rising c.in_ok-drawn.ensures.covers) c.requires.guides c.requires.room,
   c.in_ok-drawn.ensures.inside,
+  c.in_ok-drawn.ensures.sure,
 )
 
 pub returns-clause-numbers : goal.returns-clause-numbers
