@@ -45,6 +45,13 @@ pub trait Device {
         ensures time { Elapses (moment self.old) (moment self.new) (left_since self.old) (left_since self.new) (may_leave self.new) }
         ensures cause { HasCause (failure_count self.old) (failure_count self.new) result };
 
+    /// The octets before a place won't be read again. A device that keeps octets may let go of these; a read of them may fail then.
+    fn forget(&mut self, before: u64)
+        ensures seen { seen self.new ≡ seen self.old }
+        ensures crash { (c : List ℕ) → may_leave self.new c → may_leave self.old c }
+        ensures time { Elapses (moment self.old) (moment self.new) (left_since self.old) (left_since self.new) (may_leave self.new) }
+        ensures later { failure_count self.old ≤ failure_count self.new };
+
     /// Writes over what is there. Until a sync, a crash may leave each octet of the range as it was or as it is written;
     /// so may a write that failed.
     fn write_at(&mut self, at: u64, octets: &[u8]) -> Result<(), DeviceFailure>

@@ -22,7 +22,8 @@ fn leave_out(octets: &mut Vec<u8>, count: usize)
     octets.truncate(kept);
 }
 
-/// Joins octets of a device, from a place on, to those in memory. After an error these are of no use.
+/// Joins octets of a device, from a place on, to those in memory; the device is told that these and all before won't be read again.
+/// After an error these are of no use.
 fn read_more<D: Device>(
     device: &mut D,
     octets: &mut Vec<u8>,
@@ -42,6 +43,7 @@ fn read_more<D: Device>(
     let held = octets.len();
     octets.resize(held + more, 0)?;
     device.read(at, &mut octets[held..])?;
+    device.forget(at.saturating_add(more as u64));
     Ok(())
 }
 
@@ -178,7 +180,7 @@ impl StringReader {
         Ok(self.take_frame())
     }
 
-    /// Clears all behind the last string, where no frame stands. A crash at any moment of the call leaves the same strings. What
+    /// Clears all behind the last string, where no frame stands; nothing of the device is read again. A crash at any moment of the call leaves the same strings. What
     /// takes memory comes before anything is written.
     pub fn clear<D: Device>(&self, alloc: Global, device: &mut D) -> Result<(), JournalError>
         requires read { HasRead self.now (D.seen device.old) }
@@ -189,6 +191,7 @@ impl StringReader {
         ensures later { D.failure_count device.old ≤ D.failure_count device.new }
         ensures failed { IsErrOf result JournalError.DeviceFailed → HasRisen (D.failure_count device.old) (D.failure_count device.new) }
     {
+        device.forget(self.size);
         clear(alloc, device, self.end, self.size)
     }
 }
