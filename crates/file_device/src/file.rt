@@ -111,7 +111,7 @@ pub(crate) fn lock(file: &File) -> Result<(), FileDeviceError> {
 }
 
 /// Reads once; a read that was interrupted is one of no octets, and none at all is the end.
-fn read_some(file: &mut File, piece: &mut [u8]) -> Result<Option<usize>, FileDeviceError>
+pub(crate) fn read_some(file: &mut File, piece: &mut [u8]) -> Result<Option<usize>, FileDeviceError>
     ensures { IfOk result (λ got. IfSome got (λ count. count ≤ length piece.new)) }
 {
     match file.read(piece) {

@@ -1,6 +1,6 @@
 //! The calls of a journal's device, made of a file.
-ghost use Rattle.std.specs.Prelude.{◌≡◌, ◌+◌, ◌≤◌, ◌++◌, length, replicate, OnOk, IsErrOf};
-ghost use Rattle.journal.specs.Device.{HasRisen, Holds};
+ghost use Rattle.std.specs.Prelude.{◌≡◌, ◌≤◌, ◌++◌, replicate, OnOk, IsErrOf};
+ghost use Rattle.journal.specs.Device.{HasRisen};
 
 use crate::journal_file::JournalFile;
 use journal::{Device, DeviceFailure, GrowthError};
@@ -10,14 +10,6 @@ use std::os::unix::fs::FileExt;
 
 /// Zeros are written by so many octets at once.
 const PIECE: usize = 65_536;
-
-/// Writes octets over those of a place.
-pub fn write_over(bytes: &mut [u8], at: usize, octets: &[u8])
-    requires { at + length octets.now ≤ length bytes.old }
-    ensures { Holds bytes.old at octets.now bytes.new }
-{
-    bytes[at..at + octets.len()].copy_from_slice(octets);
-}
 
 /// Writes so many zeros behind the end of a file, and syncs them: blocks that are there, and no hole.
 fn write_zeros(file: &File, end: u64, octets: u64) -> io::Result<()> {
@@ -39,7 +31,7 @@ fn is_full(kind: ErrorKind) -> bool {
 }
 
 impl Device for JournalFile {
-    ghost seen = { λ f. f.image.items };
+    ghost seen = { λ f. f.octets.known.octets };
 
     // What a crash leaves of a file is not said.
     ghost may_leave = { λ f c. ⊥ };
@@ -55,11 +47,11 @@ impl Device for JournalFile {
     ghost only_now = { λ f c left. left };
 
     fn len(&mut self) -> Result<u64, DeviceFailure> {
-        let kept = self.image.len() as u64;
+        let size = self.octets.size();
         match self.file.metadata() {
             Ok(about) => {
-                if about.len() == kept {
-                    Ok(kept)
+                if about.len() == size {
+                    Ok(size)
                 } else {
                     Err(self.fail())
                 }
@@ -69,21 +61,22 @@ impl Device for JournalFile {
     }
 
     fn read(&mut self, at: u64, buffer: &mut [u8]) -> Result<(), DeviceFailure> {
-        let is_read = self.file.read_exact_at(buffer, at).is_ok();
-        let (_, rest) = self.image.split_at(at as usize);
-        let kept = &rest[..buffer.len()];
-        if is_read && *buffer == *kept {
+        if self.octets.read(at, buffer) {
             Ok(())
         } else {
             Err(self.fail())
         }
     }
 
+    fn forget(&mut self, before: u64) {
+        self.octets.forget(before);
+    }
+
     fn write_at(&mut self, at: u64, octets: &[u8]) -> Result<(), DeviceFailure> {
         if self.file.write_all_at(octets, at).is_err() {
             return Err(self.fail());
         }
-        write_over(&mut self.image, at as usize, octets);
+        self.octets.write_over(at, octets);
         Ok(())
     }
 
@@ -100,31 +93,28 @@ impl Device for JournalFile {
 }
 
 impl JournalFile {
-    /// Writes zeros behind the end, and keeps them beside the file.
-    fn lengthen(&mut self, octets: u64) -> Result<(), GrowthError>
-        ensures grown { OnOk result (self.new.image.items ≡ self.old.image.items ++ replicate octets 0) }
-        ensures full { IsErrOf result GrowthError.Full → self.new.image.items ≡ self.old.image.items }
+    /// Writes zeros behind the end.
+    fn lengthen(&mut self, zeros: u64) -> Result<(), GrowthError>
+        ensures grown { OnOk result (self.new.octets.known.octets ≡ self.old.octets.known.octets ++ replicate zeros 0) }
+        ensures full { IsErrOf result GrowthError.Full → self.new.octets.known.octets ≡ self.old.octets.known.octets }
         ensures later { self.old.failures ≤ self.new.failures }
         ensures cause { IsErrOf result GrowthError.DeviceFailed → HasRisen self.old.failures self.new.failures }
     {
-        let end = self.image.len();
-        // What is in memory comes first: it can be taken back.
-        if self.image.reserve(octets as usize).is_err() {
+        let end = self.octets.size();
+        if zeros > u64::MAX - end {
             return Err(self.fail().into());
         }
-        match write_zeros(&self.file, end as u64, octets) {
+        match write_zeros(&self.file, end, zeros) {
             Ok(()) => {}
-            Err(error) => return Err(self.refuse(end as u64, error.kind())),
+            Err(error) => return Err(self.refuse(end, error.kind())),
         }
-        match self.image.resize(end + octets as usize, 0) {
-            Ok(()) => Ok(()),
-            Err(_) => Err(self.fail().into()),
-        }
+        self.octets.lengthen(zeros);
+        Ok(())
     }
 
     /// Cuts the file where it ended before a growth that didn't end well; why it didn't.
     fn refuse(&mut self, end: u64, kind: ErrorKind) -> GrowthError
-        ensures image { self.new.image ≡ self.old.image }
+        ensures octets { self.new.octets ≡ self.old.octets }
         ensures later { self.old.failures ≤ self.new.failures }
         ensures cause { result ≡ GrowthError.DeviceFailed → HasRisen self.old.failures self.new.failures }
     {

@@ -3,22 +3,24 @@ ghost use Rattle.std.specs.Prelude.{◌≡◌, ◌≤◌, IfOk};
 ghost use Rattle.view_store.specs.Device.{HasRisen};
 
 use crate::fault::FileDeviceError;
-use crate::file::{failed, lock, open_file, read_image, sync_folder};
+use crate::file::{failed, lock, open_file, sync_folder};
+use crate::kept_octets::KeptOctets;
+use crate::reading::read_octets;
 use journal::DeviceFailure;
 use std::alloc::Global;
 use std::fs::{File, Files};
 
 /// How many octets a journal's file may have.
-const MAX_OCTETS: usize = 0x4000_0000_0000_0000;
+const MAX_OCTETS: u64 = 0x4000_0000_0000_0000;
 
-/// A file as the device under a journal. Every octet is kept beside it, as with `FileDevice`, and written over in place: a batch
-/// costs one write of its own octets, and one sync. Nothing is claimed of what a crash leaves of a file: as a device it names no
+/// A file as the device under a journal. It is read once, as it is opened; what was read is kept in pieces until the journal lets go
+/// of it, and a read of what isn't kept fails. A write or a growth lets go of all. So a batch costs one write of its own octets and
+/// one sync, and nothing of the file stays in memory. Nothing is claimed of what a crash leaves of a file: as a device it names no
 /// outcome of a crash at all, so what the contract of a device says of crashes holds of it for want of any.
 pub struct JournalFile {
-    pub(crate) alloc: Global,
     pub(crate) file: File,
     /// What the file holds, as far as it is honest.
-    pub(crate) image: Vec<u8>,
+    pub(crate) octets: KeptOctets,
     pub(crate) failures: u64,
 }
 
@@ -26,9 +28,8 @@ pub struct JournalFile {
 impl Drop for JournalFile {
     fn drop(self) {
         let JournalFile {
-            alloc: _,
             file: _,
-            image: _,
+            octets: _,
             failures: _,
         } = self;
     }
@@ -46,21 +47,20 @@ impl JournalFile {
     {
         let mut file = open_file(rt, path)?;
         lock(&file)?;
-        let image = read_image(alloc, &mut file, MAX_OCTETS)?;
-        if image.is_empty() {
+        let octets = read_octets(alloc, &mut file, MAX_OCTETS)?;
+        if octets.size() == 0 {
             sync_folder(rt, path).map_err(failed)?;
         }
         Ok(JournalFile {
-            alloc,
             file,
-            image,
+            octets,
             failures: 0,
         })
     }
 
     /// Counts a failure.
     pub(crate) fn fail(&mut self) -> DeviceFailure
-        ensures image { self.new.image ≡ self.old.image }
+        ensures octets { self.new.octets ≡ self.old.octets }
         ensures later { self.old.failures ≤ self.new.failures }
         ensures risen { HasRisen self.old.failures self.new.failures }
     {

@@ -87,6 +87,8 @@ impl Device for Disk {
         Ok(())
     }
 
+    fn forget(&mut self, _before: u64) {}
+
     fn write_at(&mut self, at: u64, octets: &[u8]) -> Result<(), DeviceFailure> {
         let fails = self.is_struck();
         let at = at as usize;

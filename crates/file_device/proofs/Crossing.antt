@@ -1,0 +1,15 @@
+-- A journal's file may go to another thread: what clauses alone know of it owns nothing.
+use denote.Param.Send.{IsSend, owning_send, sendable}
+use Rattle.std.proofs.Crossing.{crosses}
+use Rattle.file_device.specs.contracts.journal_file.JournalFile as JournalFile
+use Rattle.file_device.specs.contracts.kept_octets.KeptOctets as KeptOctets
+use Rattle.file_device.specs.contracts.known_octets.KnownOctets as KnownOctets
+
+known_send : IsSend KnownOctets.the_row
+known_send = owning_send KnownOctets.the_type (search sendable, tt) (λ d. tt) (λ k x w. tt)
+
+kept_send : IsSend KeptOctets.the_row
+kept_send = search (known_send, crosses, sendable) depth 40
+
+pub journal_send : IsSend JournalFile.the_row
+journal_send = search (kept_send, crosses, sendable) depth 40
