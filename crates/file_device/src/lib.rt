@@ -9,7 +9,7 @@
 //! Each locks its file, and names no outcome of a crash (`may_leave` holds of no octets). A sync is the system's `fdatasync`; the folder
 //! of a file without octets is synced when that is opened.
 //!
-//! Proved: the octets of a file are as they were written, or it fails (`FileDevice`, `JournalFile`).
+//! Proved: a read gives what was there as the file was opened, and what was written since, or it fails (`FileDevice`, `JournalFile`).
 #![tactic(auto)]
 
 mod copying;
