@@ -5,6 +5,7 @@ use denote.Struct.Declared
 use denote.Param.Send.{IsSend, IsSync, sendable, struct_send, struct_sync, plain_send, recorded_send, recorded_sync, shr_send}
 use Rattle.std.proofs.Crossing.{crosses}
 use Rattle.std.proofs.MapsCrossing.{crosses as maps_cross}
+use Rattle.std.proofs.marker.PhantomData.TheSendSync as phantom
 use Rattle.std.proofs.string.String.TheSendSync as string
 use Rattle.std.proofs.sync.Condvar.TheSendSync as condvar
 use Rattle.std.proofs.sync.Mutex.TheSendSync as mutex
@@ -65,7 +66,7 @@ module _ (D J : RattleType) (g : Device.Ghosts D.Denot) (h : JournalDevice.Ghost
               search (crosses, sendable, string.the_sync) depth 20,
               (
                 search (crosses, sendable) depth 20,
-                (plain_send _ _ _ _ _, tt),
+                (plain_send _ _ _ _ _, (search (crosses, sendable) depth 20, (search (phantom.the_field_send) depth 5, tt))),
               ),
             ),
           ),

@@ -1,4 +1,3 @@
-pub mod Shares
 pub mod Given
 pub mod Grows
 pub mod Sent

@@ -1,6 +1,6 @@
 -- What a session is told by a node that threads share. Updates and how they ended flow in; what that may be flows out. Reads are the seats', and are
--- not here; nor is of which moment the state is.
-use Rattle.std.specs.Prelude.{◌≡◌, ◌⊎◌, ◌==◌, ℕ, cond, Option}
+-- not here.
+use Rattle.std.specs.Prelude.{◌≡◌, ◌⊎◌, ◌==◌, ℕ, cond, Option, Some, None}
 use Rattle.dir_seats.specs.directory_api.Answers.{ReplyModel}
 use Rattle.dir_seats.specs.directory_api.Talk.{Exchange, asked_role, learned, searched, compared, updated}
 use Rattle.dir_seats.specs.directory_api.Talk.{EndedValue}
@@ -23,17 +23,17 @@ EndsAs o talk.stale = o ≡ stale
 EndsAs o talk.lost = (o ≡ lost) ⊎ (o ≡ pending)
 EndsAs o talk.refused_memory = (number : ℕ) × ((reply : ReplyModel) × (o ≡ done number reply))
 
--- A request ended as its outcome at some state of a node.
-pub record IsEnded (D J : Type 0) (client : Client) (number : ℕ) (ended : EndedValue) : Type 0 where
-  pub node : NodeValue D J
-  pub is : EndsAs (outcome_of node client number) ended
+-- A request ended as its outcome at this state of the node, if one was taken under the lock.
+abbrev pub IsEndedAt : {D J : Type 0} → Option (NodeValue D J) → Client → ℕ → EndedValue → Type 0
+IsEndedAt None client number ended = ⊥
+IsEndedAt (Some held) client number ended = EndsAs (outcome_of held client number) ended
 
--- An update is lost where the node doesn't take it, and isn't made where there is no memory for it.
-abbrev pub IsUpdated : (D J : Type 0) → Client → ℕ → EndedValue → Type 0
-IsUpdated D J client number (talk.done place reply) = IsEnded D J client number (talk.done place reply)
-IsUpdated D J client number talk.stale = IsEnded D J client number talk.stale
-IsUpdated D J client number talk.lost = Unit {0}
-IsUpdated D J client number talk.refused_memory = Unit {0}
+-- An update is lost where the node doesn't take it, and isn't made where there is no memory for it; else it ended as its outcome at that state.
+abbrev pub IsUpdated : {D J : Type 0} → Option (NodeValue D J) → Client → ℕ → EndedValue → Type 0
+IsUpdated held client number (talk.done place reply) = IsEndedAt held client number (talk.done place reply)
+IsUpdated held client number talk.stale = IsEndedAt held client number talk.stale
+IsUpdated held client number talk.lost = Unit {0}
+IsUpdated held client number talk.refused_memory = Unit {0}
 
 -- An update isn't taken: it is lost, or there is no memory for it.
 abbrev pub IsRefused : EndedValue → Type 0
@@ -42,10 +42,10 @@ IsRefused talk.stale = ⊥
 IsRefused talk.lost = Unit {0}
 IsRefused talk.refused_memory = Unit {0}
 
--- what a gate to a node may be told
-abbrev pub gates : (D J : Type 0) → Exchange (Option ExecutedValue) → Type 0
-gates D J (asked_role role told) = Unit {0}
-gates D J (learned told) = ⊥
-gates D J (searched named q looked) = ⊥
-gates D J (compared named q looked) = ⊥
-gates D J (updated client number op ended) = IsUpdated D J client number ended
+-- what a gate to a node may be told, where it took this state of the node under the lock
+abbrev pub gates : {D J : Type 0} → Option (NodeValue D J) → Exchange (Option ExecutedValue) → Type 0
+gates held (asked_role role told) = Unit {0}
+gates held (learned told) = ⊥
+gates held (searched named q looked) = ⊥
+gates held (compared named q looked) = ⊥
+gates held (updated client number op ended) = IsUpdated held client number ended

@@ -1,19 +1,21 @@
 // A session's gate to a running node. Updates flow in; how they ended flows out. What must not be here: reads, how replicas agree.
 ghost use Rattle.std.specs.Prelude.{◌≡◌};
+ghost use Rattle.std.specs.Option.{option_map};
 ghost use Rattle.dir_seats.specs.directory_api.View.{ended_view};
 ghost use Rattle.node_gate.specs.Shared.{IsRefused, IsUpdated};
 
 use crate::held::Here;
 use crate::peers::Peers;
 use crate::running::Running;
-use dir_node::{Client, Device, Event, JournalDevice, LogEntry, NodeError, Op, Standing};
+use dir_node::{Client, Device, Event, JournalDevice, LogEntry, Node, NodeError, Op, Standing};
 use dir_seats::{Ended, Gate, Role, Told, Update};
 use std::alloc::Global;
+use std::marker::PhantomData;
+use std::snapshot::Snapshot;
 use std::sync::Wait;
 use std::sync::atomic::AtomicBool;
 
 /// One session's way to a node for updates. The runtime is a part of it, since an update waits for its outcome.
-#[derive(Drop)]
 pub struct NodeGate<'a, 'r, R: Wait, D: Device, J: JournalDevice, P> {
     rt: &'a R,
     running: &'a Running<'r, R, D, J>,
@@ -23,6 +25,26 @@ pub struct NodeGate<'a, 'r, R: Wait, D: Device, J: JournalDevice, P> {
     /// Whether the client has left whose update is waited for.
     has_left: &'a AtomicBool,
     asked: u64,
+    /// The node as the lock held it when the last update had ended: for clauses alone, it has no octets.
+    held: Option<Snapshot<Node<D, J>>>,
+    // prover: the runtime lives as long as the node, which the lock round that hides.
+    lives: PhantomData<&'r R>,
+}
+
+// Not derived: see "What the gate takes" in docs/ARCHITECTURE.md.
+impl<'a, 'r, R: Wait, D: Device, J: JournalDevice, P: Drop> Drop for NodeGate<'a, 'r, R, D, J, P> {
+    fn drop(self) {
+        let NodeGate {
+            rt: _,
+            running: _,
+            peers: _,
+            uris: _,
+            has_left: _,
+            asked: _,
+            held: _,
+            lives: _,
+        } = self;
+    }
 }
 
 impl<'a, 'r, R: Wait, D: Device, J: JournalDevice, P> NodeGate<'a, 'r, R, D, J, P> {
@@ -40,6 +62,8 @@ impl<'a, 'r, R: Wait, D: Device, J: JournalDevice, P> NodeGate<'a, 'r, R, D, J, 
             uris,
             has_left,
             asked: 0,
+            held: None,
+            lives: PhantomData,
         }
     }
 
@@ -68,7 +92,7 @@ fn ended_by(error: NodeError) -> Ended
 impl<'a, 'r, R: Wait, D: Device, J: JournalDevice, P: Peers> NodeGate<'a, 'r, R, D, J, P> {
     /// Hands a request to the node, and waits for its outcome, or until its client has left: then it counts as lost, and goes on.
     fn ask(&mut self, alloc: Global, client: Client, number: u64, payload: Op) -> Ended
-        ensures ended { IsUpdated D J client number (ended_view result) }
+        ensures ended { IsUpdated (option_map (λ s. s.value) self.new.held) client number (ended_view result) }
         ensures asked { self.new.asked ≡ self.old.asked }
     {
         let event = Event::Request {
@@ -80,8 +104,11 @@ impl<'a, 'r, R: Wait, D: Device, J: JournalDevice, P: Peers> NodeGate<'a, 'r, R,
         };
         match self.running.give(self.rt, alloc, &mut self.peers, event) {
             Ok(after) => {
-                self.running
-                    .settled(self.rt, alloc, client, number, after, self.has_left)
+                let (ended, held) = self
+                    .running
+                    .settled(self.rt, alloc, client, number, after, self.has_left);
+                self.held = Some(held);
+                ended
             }
             Err(error) => ended_by(error),
         }
@@ -91,11 +118,12 @@ impl<'a, 'r, R: Wait, D: Device, J: JournalDevice, P: Peers> NodeGate<'a, 'r, R,
 impl<'a, 'r, R: Wait, D: Device, J: JournalDevice, P: Peers> Gate<Option<Told<Here>>>
     for NodeGate<'a, 'r, R, D, J, P> {
     ghost use Rattle.std.specs.Prelude.{◌≡◌, ◌+◌, min};
+    ghost use Rattle.std.specs.Option.{option_map};
     ghost use Rattle.dir_seats.specs.directory_api.Counting.{updates_of, greatest_count};
     ghost use Rattle.node_gate.specs.Shared.{gates};
 
-    // An update ends as its outcome at some state of the node; the count rises by one with each.
-    ghost allows = { λ d x e. (e.asked ≡ min (d.asked + updates_of x) greatest_count) × gates D J x };
+    // An update ends as its outcome at a state of the node that the lock held; the count rises by one with each.
+    ghost allows = { λ d x e. (e.asked ≡ min (d.asked + updates_of x) greatest_count) × gates (option_map (λ s. s.value) e.held) x };
 
     ghost count = { λ d. d.asked };
 

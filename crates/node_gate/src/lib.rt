@@ -8,9 +8,9 @@
 //! those who wait are woken. The role is one atomic word (`standing`), read without the lock. The thread of the clock rests on a lock of
 //! its own (`rest`). With a journal, events wait in an `inbox`, and one thread takes all of them as one batch (`driving`).
 //!
-//! Proved: when the lock is free, what seats see begins what the node has executed; an update ends as its outcome at some state of the node
-//! (`NodeGate`, `Running`). A step's messages are handed over, all, in order, and no others (`Running::handle`, `hear`, `handle_batch`). A
-//! start is a first one, or one that found a pair (`open`).
+//! Proved: when the lock is free, what seats see begins what the node has executed; an update ends as its outcome at a state of the node
+//! that the lock held (`NodeGate`, `Running`). A step's messages are handed over, all, in order, and no others (`Running::handle`, `hear`,
+//! `handle_batch`). A start is a first one, or one that found a pair (`open`).
 #![tactic(auto)]
 
 mod driving;

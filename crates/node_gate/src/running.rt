@@ -2,10 +2,11 @@
 // must not be here: sessions, sockets, reads.
 ghost use Rattle.std.specs.Prelude.{◌≡◌, OnOk, OnErr};
 ghost use Rattle.dir_node.specs.vr_state.declared.event.Event.TheVariants as event;
+ghost use Rattle.dir_node.specs.Outcomes.{outcome_of};
 ghost use Rattle.dir_seats.specs.directory_api.View.{ended_view};
 ghost use Rattle.node_gate.specs.Given.{IsGiven};
 ghost use Rattle.node_gate.specs.Sent.{TakesAll, TakesStep};
-ghost use Rattle.node_gate.specs.Shared.{IsEnded};
+ghost use Rattle.node_gate.specs.Shared.{EndsAs};
 
 use crate::ending::ended_at;
 use crate::held::{Held, Here, Pulse, status_of};
@@ -19,6 +20,7 @@ use dir_node::{
 use dir_seats::{Ended, Publisher, Teller, Told};
 use replica_clock::{Asked, Due, ReplicaClock, Times};
 use std::alloc::{AllocError, Global};
+use std::snapshot::Snapshot;
 use std::sync::atomic::{AtomicBool, Ordering};
 use std::sync::{Condvar, CondvarTimeouts, Mutex, Wait};
 use std::time::{Clock, Duration};
@@ -290,9 +292,9 @@ impl<'a, R: Wait, D: Device, J: JournalDevice> Running<'a, R, D, J> {
         Some(Ticked { pulse, wait, beat })
     }
 
-    #[tactic(auto, using(crate::proofs::Shares::ended_so))]
     /// Waits until the node has had so many of the events that were posted, and while what becomes of a client's request is still to
-    /// come, but only as long as nobody says that the client has left; gives how it ended.
+    /// come, but only as long as nobody says that the client has left; gives how it ended, and the node as the lock then held it, for
+    /// clauses alone.
     pub fn settled(
         &self,
         rt: &R,
@@ -301,15 +303,17 @@ impl<'a, R: Wait, D: Device, J: JournalDevice> Running<'a, R, D, J> {
         number: u64,
         after: u64,
         has_left: &AtomicBool,
-    ) -> Ended
-        ensures { IsEnded D J client number (ended_view result) }
+    ) -> (Ended, Snapshot<Node<D, J>>)
+        ensures { EndsAs (outcome_of result.1.value client number) (ended_view result.0) }
     {
         let held = self.changed.wait_while(
             rt,
             self.held.lock(rt),
             |held| held.is_awaited(client, number, after) && !has_left.load(Ordering::SeqCst),
         );
-        ended_at(alloc, held.node(), client, number)
+        let node = held.node();
+        let ended = ended_at(alloc, node, client, number);
+        (ended, Snapshot::of(node))
     }
 
     /// Has those who wait for an outcome look again whether their clients have left. It takes no lock: who begins to wait meanwhile looks after
