@@ -7,7 +7,7 @@ use server::{
 };
 use std::alloc::{AllocError, Global};
 use std::fs::{File, Files};
-use std::io::{Eprint, Print};
+use std::io::{Eprint, Print, Read};
 use std::net::{Net, TcpListener, TcpStream};
 use std::sync::Wait;
 use std::thread::Threads;
@@ -72,16 +72,21 @@ fn terms_of(
 }
 
 /// Serves as a replica, until it is stopped.
-pub fn serve_as_replica<R>(rt: &R, alloc: Global, service: Service<'_>) -> Result<(), ServerError>
+pub fn serve_as_replica<R, N>(
+    rt: &R,
+    alloc: Global,
+    service: Service<'_>,
+) -> Result<(), ServerError>
 where
     R: Net<Listener = TcpListener, Stream = TcpStream>
-        + Files<File = File>
+        + Files<File = File, Dir = N>
         + Threads
         + Wait
         + Clock
         + Print
         + Eprint
         + Sync,
+    N: Read + Drop + Send,
 {
     let places = places_of(alloc, &service)?;
     let terms = terms_of(alloc, &service, &places)?;

@@ -4,7 +4,8 @@
 //! `FileDevice` is a real file under a stored view. It keeps the octets beside the file: a read or a length that the file answers
 //! otherwise is a failure, as is any call that fails. `JournalFile` is one under a journal, written over in place and grown by zeros. It
 //! is read once, as it is opened, in pieces that reads are answered from, and that are let go as the journal forgets them
-//! (`kept_octets`). What is written is in the file and in clauses, and in no memory (`known_octets`).
+//! (`kept_octets`). What is written is in the file and in clauses, and in no memory (`known_octets`). `ViewGuard` looks at the file of a
+//! stored view beside its device: whether its path still leads to it, and whether it holds what this start of the replica stored.
 //!
 //! Each locks its file, and names no outcome of a crash (`may_leave` holds of no octets). A sync is the system's `fdatasync`; the folder
 //! of a file without octets is synced when that is opened.
@@ -22,8 +23,10 @@ mod kept_octets;
 mod known_octets;
 mod reading;
 mod splicing;
+mod view_guard;
 
 pub use fault::FileDeviceError;
 pub use file::FileDevice;
 pub use journal_file::JournalFile;
+pub use view_guard::ViewGuard;
 pub use view_store::{Cluster, Device, DeviceFailure, Pair, ViewStore, ViewStoreError};

@@ -5,6 +5,7 @@ use denote.Struct.Declared
 use denote.Param.Send.{IsSend, IsSync, sendable, struct_send, struct_sync, recorded_send, recorded_sync, shr_sync}
 use Rattle.std.proofs.Crossing.{crosses}
 use Rattle.file_device.proofs.file.FileDevice.TheSendSync as device
+use Rattle.file_device.proofs.view_guard.ViewGuard.TheSendSync as guard
 use Rattle.file_device.specs.contracts.device.FileDeviceDevice.TheImpl as DeviceRule
 use Rattle.file_device.specs.contracts.file.FileDevice as FileDevice
 use Rattle.file_device.proofs.journal_file.JournalFile.TheSendSync as journal
@@ -14,7 +15,7 @@ use Rattle.node_gate.proofs.Crossing.{gate_send, running_sync}
 use Rattle.node_gate.specs.contracts.gate.NodeGate as NodeGate
 use Rattle.node_gate.specs.contracts.running.Running as Running
 use Rattle.server.proofs.peer_queues.PeerQueuesAt.TheSendSync as peer_queues_at
-use Rattle.server.proofs.peer_queues.PeerQueues.TheSendSync as posts_laws
+use Rattle.server.proofs.peer_queues.PeerQueues.TheSendSync as peer_queues_laws
 use Rattle.server.proofs.options.Times.TheSendSync as times
 use Rattle.server.specs.contracts.peer_queues.PeerQueuesAt as PeerQueuesAt
 use Rattle.server.specs.contracts.peer_queues.PeerQueues as PeerQueues
@@ -32,8 +33,8 @@ journal_send : IsSend JournalFile.the_row
 journal_send = search (journal.the_send) depth 5
 
 -- a look that finds nothing holds nothing
-pub deaf_send : (T : RattleType) → IsSend (NoReads.the_row T)
-deaf_send T = recorded_send (NoReads.the_field T).row _ _ (NoReads.the_type T).to_one (struct_send (Declared.shape (NoReads.the_type T)) (phantom.the_field_send T, tt))
+pub no_reads_send : (T : RattleType) → IsSend (NoReads.the_row T)
+no_reads_send T = recorded_send (NoReads.the_field T).row _ _ (NoReads.the_type T).to_one (struct_send (Declared.shape (NoReads.the_type T)) (phantom.the_field_send T, tt))
 
 pub way_send : (a b c : NamedLft) (R : RattleType) → IsSync R → IsSend (NodeGate.the_row a b R FileDevice.the_row JournalFile.the_row (PeerQueuesAt.the_row c R) DeviceRule.ghosts JournalRule.ghosts)
 way_send a b c R y =
@@ -49,9 +50,9 @@ global_sync = search (crosses, sendable) depth 20
 pub clockwork_sync : (a b : NamedLft) (R : RattleType) → IsSync R → IsSync (TimedNode.the_row a b R)
 clockwork_sync a b R y =
     let running : IsSync (Running.the_row b R FileDevice.the_row JournalFile.the_row DeviceRule.ghosts JournalRule.ghosts) = shared_sync b R y in
-    let peer_queues : IsSync (PeerQueues.the_row a R) = search (y, posts_laws.the_sync) depth 5 in
+    let peer_queues : IsSync (PeerQueues.the_row a R) = search (y, peer_queues_laws.the_sync) depth 5 in
     recorded_sync (TimedNode.the_field a b R).row _ _ (TimedNode.the_type a b R).to_one
     (struct_sync (Declared.shape (TimedNode.the_type a b R)) (
       shr_sync _ _ R y,
-      (global_sync, (search (running, sendable) depth 10, (search (peer_queues, sendable) depth 10, (search (shared_parts.the_sync, sendable) depth 10, (search (times.the_field_sync, sendable) depth 10, (search (instant.the_field_sync, sendable) depth 10, (search (crosses, sendable) depth 20, (search (crosses, sendable) depth 20, tt)))))))),
+      (global_sync, (search (running, sendable) depth 10, (search (peer_queues, sendable) depth 10, (search (shared_parts.the_sync, sendable) depth 10, (search (times.the_field_sync, sendable) depth 10, (search (instant.the_field_sync, sendable) depth 10, (search (crosses, sendable) depth 20, (search (crosses, sendable) depth 20, (search (guard.the_sync, sendable) depth 10, (search (crosses, sendable) depth 20, tt)))))))))),
     ))

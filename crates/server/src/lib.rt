@@ -3,7 +3,7 @@
 //! pass octets on, is decided below.
 //!
 //! One replica put together: `opening` opens the node over its files, `ticking` is the node with its clock behind `Engine`, `serving` joins
-//! them to the threads. `posts` queues what the node sends, but for a GETSTATE while the answer to an earlier one may be on its way. No
+//! them to the threads. `peer_queues` queues what the node sends, but for a GETSTATE while the answer to an earlier one may be on its way. No
 //! rule of the protocol or of the directory is here, and no clause but those of safety.
 #![tactic(auto)]
 

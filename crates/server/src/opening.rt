@@ -1,7 +1,7 @@
 //! Opens a node over its files, and says why there is none.
 ghost use Rattle.std.specs.Prelude.{◌<◌, ◌≤◌};
 
-use file_device::{FileDevice, FileDeviceError, JournalFile, ViewStore};
+use file_device::{FileDevice, FileDeviceError, JournalFile, ViewGuard, ViewStore};
 use node_gate::{Cluster, NodeConfig, NodeError, NoteError, Opened, Times, ViewStoreError, open};
 use server_threads::ServerError;
 use std::alloc::Global;
@@ -98,7 +98,18 @@ fn journal_of<R: Files<File = File>>(
     }
 }
 
-/// The node of a first or a later start, over the files of these names, and so many seats.
+/// What looks at the file of this name while the replica runs.
+fn guard_of(
+    alloc: Global,
+    device: &FileDevice,
+    store: &str,
+    cluster: Cluster,
+) -> Result<ViewGuard, ServerError> {
+    let path = String::from_str(alloc, store)?;
+    ViewGuard::new(device, path, cluster).map_err(fault_of_device)
+}
+
+/// The node of a first or a later start, over the files of these names, and so many seats; and what looks at the file of its stored view.
 pub fn open_node<'a, R: Files<File = File> + Wait>(
     rt: &'a R,
     alloc: Global,
@@ -107,13 +118,17 @@ pub fn open_node<'a, R: Files<File = File> + Wait>(
     is_fresh: bool,
     seats: usize,
     times: Times,
-) -> Result<Opened<'a, R, FileDevice, JournalFile>, ServerError>
+) -> Result<(Opened<'a, R, FileDevice, JournalFile>, ViewGuard), ServerError>
     requires seats { (0 < seats) × (seats ≤ 32) }
 {
     if config.index >= config.count {
         return Err(ServerError::CannotListen);
     }
     let device = device_of(rt, alloc, files.store, config.cluster, is_fresh)?;
+    let guard = guard_of(alloc, &device, files.store, config.cluster)?;
     let journal = journal_of(rt, alloc, files.journal)?;
-    open(rt, alloc, device, journal, config, is_fresh, seats, times).map_err(fault_of_node)
+    match open(rt, alloc, device, journal, config, is_fresh, seats, times) {
+        Ok(opened) => Ok((opened, guard)),
+        Err(error) => Err(fault_of_node(error)),
+    }
 }

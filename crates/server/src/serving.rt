@@ -4,7 +4,7 @@ use crate::opening::{Names, open_node};
 use crate::options::{Options, Times};
 use crate::peer_queues::{PeerQueues, PeerQueuesAt};
 use crate::ticking::{TimedNode, clock_times};
-use file_device::{FileDevice, JournalFile};
+use file_device::{FileDevice, JournalFile, ViewGuard};
 use node_gate::{Cluster, Here, NodeGate, Opened, Pace, Running, Seat, Told};
 use server_threads::{
     Choices, Config, NoReads, PROCESS_STATUS, Place, Server, ServerError, SharedParts,
@@ -12,7 +12,7 @@ use server_threads::{
 };
 use std::alloc::{AllocError, Global};
 use std::fs::{File, Files};
-use std::io::{Eprint, Print};
+use std::io::{Eprint, Print, Read};
 use std::net::{Net, TcpListener, TcpStream};
 use std::sync::atomic::{AtomicBool, AtomicU64};
 use std::sync::{Arc, Mutex, Wait};
@@ -90,7 +90,7 @@ struct Terms<'a> {
 }
 
 /// Runs all threads over what they share.
-fn run_in<'a, 'r, R>(
+fn run_in<'a, 'r, R, N>(
     rt: &'a R,
     alloc: Global,
     shared_parts: &'a SharedParts,
@@ -98,16 +98,19 @@ fn run_in<'a, 'r, R>(
     running: &'a Running<'r, R, FileDevice, JournalFile>,
     peer_queues: &'a PeerQueues<'a, R>,
     places: &'a [Place<'a>],
+    guard: &'a ViewGuard,
     terms: Terms<'_>,
 ) -> Result<(), ServerError>
 where
     R: Net<Listener = TcpListener, Stream = TcpStream>
+        + Files<File = File, Dir = N>
         + Threads
         + Wait
         + Clock
         + Print
         + Eprint
         + Sync,
+    N: Read + Drop + Send,
 {
     let Ok(opened) = Instant::now(rt) else {
         return Err(ServerError::NoClock);
@@ -122,6 +125,8 @@ where
         opened,
         view_number: AtomicU64::new(0),
         last_update: AtomicU64::new(0),
+        guard,
+        restarts: terms.config.restarts,
     };
     let ways = ways(&clock, seats)?;
     let server = Server {
@@ -137,23 +142,26 @@ where
 }
 
 /// Sends what an opened node sends first, and runs all threads over what they share.
-fn serve_opened<R>(
+fn serve_opened<R, N>(
     rt: &R,
     alloc: Global,
     shared_parts: &SharedParts,
     opened: Opened<'_, R, FileDevice, JournalFile>,
     cluster: Cluster,
     places: &[Place<'_>],
+    guard: &ViewGuard,
     terms: Terms<'_>,
 ) -> Result<(), ServerError>
 where
     R: Net<Listener = TcpListener, Stream = TcpStream>
+        + Files<File = File, Dir = N>
         + Threads
         + Wait
         + Clock
         + Print
         + Eprint
         + Sync,
+    N: Read + Drop + Send,
 {
     let Opened {
         running,
@@ -176,12 +184,13 @@ where
         &running,
         &peer_queues,
         places,
+        guard,
         terms,
     )
 }
 
 /// Opens the node, and serves by it.
-fn serve_in<R>(
+fn serve_in<R, N>(
     rt: &R,
     alloc: Global,
     shared_parts: &SharedParts,
@@ -189,13 +198,14 @@ fn serve_in<R>(
 ) -> Result<(), ServerError>
 where
     R: Net<Listener = TcpListener, Stream = TcpStream>
-        + Files<File = File>
+        + Files<File = File, Dir = N>
         + Threads
         + Wait
         + Clock
         + Print
         + Eprint
         + Sync,
+    N: Read + Drop + Send,
 {
     let schema = Arc::try_clone(&options.node.schema)?;
     let Options {
@@ -214,7 +224,7 @@ where
     let cluster = node.cluster;
     let seats = seats.clamp(1, SEATS);
     let files = Names { store, journal };
-    let opened = open_node(rt, alloc, files, node, is_fresh, seats, clock_times(&times))?;
+    let (opened, guard) = open_node(rt, alloc, files, node, is_fresh, seats, clock_times(&times))?;
     let config = Config {
         schema: &schema,
         manager: &manager,
@@ -228,22 +238,32 @@ where
         sessions: sessions.max(1),
         times,
     };
-    serve_opened(rt, alloc, shared_parts, opened, cluster, places, terms)
+    serve_opened(
+        rt,
+        alloc,
+        shared_parts,
+        opened,
+        cluster,
+        places,
+        &guard,
+        terms,
+    )
 }
 
 /// Serves as a replica: listens to the others, opens its node, and serves them, and clients once the node has a state, until the node has stopped
 /// for good. Where clients are heard is said on standard output, once they are. It ends only with an error; where the process is ended from
 /// outside, its replica has crashed in the protocol's sense.
-pub fn serve<R>(rt: &R, alloc: Global, options: Options<'_>) -> Result<(), ServerError>
+pub fn serve<R, N>(rt: &R, alloc: Global, options: Options<'_>) -> Result<(), ServerError>
 where
     R: Net<Listener = TcpListener, Stream = TcpStream>
-        + Files<File = File>
+        + Files<File = File, Dir = N>
         + Threads
         + Wait
         + Clock
         + Print
         + Eprint
         + Sync,
+    N: Read + Drop + Send,
 {
     let index = options.node.index;
     let choices = Choices {

@@ -4,12 +4,14 @@ use crate::opening::fault_of_node;
 use crate::options::Times;
 use crate::peer_queues::{PeerQueues, PeerQueuesAt};
 use crate::telling::{tell_caught_up, tell_pulse, tell_resumed};
-use file_device::{FileDevice, JournalFile};
+use file_device::{FileDevice, JournalFile, ViewGuard};
 use node_gate::{
     NodeError, Op, Pace, PeerMessage, Pulse, Running, Send, Standing, Ticked, copies, send_all,
 };
 use server_threads::{Engine, Figures, Role, ServerError, SharedParts};
 use std::alloc::Global;
+use std::fs::{File, Files};
+use std::io::Read;
 use std::sync::Wait;
 use std::sync::atomic::{AtomicU64, Ordering};
 use std::time::{Clock, Duration, Instant};
@@ -29,6 +31,8 @@ struct Watch {
     pace: Pace,
     /// When all threads that were to have begun had, last.
     whole_at: u64,
+    /// When the file of the stored view was looked at, last.
+    looked_at: u64,
 }
 
 /// A node with its clock.
@@ -45,6 +49,9 @@ pub struct TimedNode<'a, 'r, R: Wait> {
     /// The node's view, and its last update, when its clock was asked last.
     pub view_number: AtomicU64,
     pub last_update: AtomicU64,
+    /// What looks at the file of the stored view, and which start of the replica stored it, counted from 1.
+    pub guard: &'a ViewGuard,
+    pub restarts: u64,
 }
 
 impl<'a, 'r, R: Wait + Clock> TimedNode<'a, 'r, R> {
@@ -130,6 +137,19 @@ impl<'a, 'r, R: Wait + Clock> TimedNode<'a, 'r, R> {
     }
 }
 
+impl<'a, 'r, R: Wait + Clock + Files<File = File>> TimedNode<'a, 'r, R> {
+    /// Whether the stored view is lost, as far as its file shows, which is looked at once a beat.
+    fn has_lost_view(&self, watch: &mut Watch) -> bool {
+        let now = self.now();
+        if now.saturating_sub(watch.looked_at) < micros(self.times.beat) {
+            return false;
+        }
+        watch.looked_at = now;
+        self.guard
+            .is_lost(self.rt, self.restarts, watch.pulse.view_number)
+    }
+}
+
 /// What a replica does that stands so.
 fn role_of(standing: Standing) -> Role {
     match standing {
@@ -151,7 +171,12 @@ pub fn micros(time: Duration) -> u64 {
     u64::try_from(micros).unwrap_or(u64::MAX)
 }
 
-impl<'a, 'r, R: Wait + Clock> Engine for TimedNode<'a, 'r, R> {
+// prover: the type that reads a folder has a name, so that what is known of it holds in every thread.
+impl<'a, 'r, R, N> Engine for TimedNode<'a, 'r, R>
+where
+    R: Wait + Clock + Files<File = File, Dir = N>,
+    N: Read + Drop,
+{
     fn hear(&self, from: u64, message: PeerMessage<Op>) -> bool {
         let now = self.now();
         match &message {
@@ -193,6 +218,7 @@ impl<'a, 'r, R: Wait + Clock> Engine for TimedNode<'a, 'r, R> {
             beat: Vec::new(self.alloc),
             pace: Pace::new(clock_times(&self.times)),
             whole_at: 0,
+            looked_at: 0,
         };
         for _ in self.rt.forever() {
             let wait = self.tick(&mut watch);
@@ -204,6 +230,9 @@ impl<'a, 'r, R: Wait + Clock> Engine for TimedNode<'a, 'r, R> {
             }
             if watch.pulse.is_halted {
                 return Err(ServerError::DeviceFailed);
+            }
+            if self.has_lost_view(&mut watch) {
+                return Err(ServerError::ViewLost);
             }
         }
         Ok(())

@@ -8,7 +8,7 @@ use Rattle.file_device.specs.contracts.journal_calls.JournalFileDevice.TheImpl a
 use Rattle.file_device.specs.contracts.journal_file.JournalFile as JournalFile
 use Rattle.node_gate.proofs.Crossing.{seat_send}
 use Rattle.node_gate.specs.contracts.gate.NodeGate as NodeGate
-use Rattle.server.proofs.Crossing.{way_send, deaf_send, clockwork_sync}
+use Rattle.server.proofs.Crossing.{way_send, no_reads_send, clockwork_sync}
 use Rattle.server.specs.contracts.peer_queues.PeerQueuesAt as PeerQueuesAt
 use Rattle.server.specs.contracts.ticking.TimedNode as TimedNode
 use Rattle.server.proofs.serving.run_in.Goals as goal
@@ -25,7 +25,7 @@ run-requires-send-U g c κs within =
     let s : IsSync g.row.R = search (rules, c.requires-raw) parts 8 in
     let w : (a b d : NamedLft) → IsSend (NodeGate.the_row a b (Param.param 0 g.row.R) FileDevice.the_row JournalFile.the_row (PeerQueuesAt.the_row d (Param.param 0 g.row.R)) DeviceRule.ghosts JournalRule.ghosts) =
     λ a b d. way_send a b d (Param.param 0 g.row.R) (param_sync 0 g.row.R s) in
-    search (w, deaf_send, sendable) depth 40
+    search (w, no_reads_send, sendable) depth 40
 
 pub run-requires-sync-E : goal.run-requires-sync-E
 run-requires-sync-E g c κs within =
