@@ -8,7 +8,7 @@ use Rattle.file_device.proofs.file.FileDevice.TheSendSync as device
 use Rattle.file_device.proofs.view_guard.ViewGuard.TheSendSync as guard
 use Rattle.file_device.specs.contracts.device.FileDeviceDevice.TheImpl as DeviceRule
 use Rattle.file_device.specs.contracts.file.FileDevice as FileDevice
-use Rattle.file_device.proofs.journal_file.JournalFile.TheSendSync as journal
+use Rattle.file_device.proofs.Crossing as files
 use Rattle.file_device.specs.contracts.journal_calls.JournalFileDevice.TheImpl as JournalRule
 use Rattle.file_device.specs.contracts.journal_file.JournalFile as JournalFile
 use Rattle.node_gate.proofs.Crossing.{gate_send, running_sync}
@@ -30,7 +30,7 @@ device_send : IsSend FileDevice.the_row
 device_send = search (device.the_send) depth 5
 
 journal_send : IsSend JournalFile.the_row
-journal_send = search (journal.the_send) depth 5
+journal_send = files.journal_send
 
 -- a look that finds nothing holds nothing
 pub no_reads_send : (T : RattleType) → IsSend (NoReads.the_row T)
