@@ -119,7 +119,7 @@ where
     }
 
     /// What all who read from other replicas share.
-    fn hall(&self) -> PeerReaders<'a, R, E> {
+    fn peer_readers(&self) -> PeerReaders<'a, R, E> {
         PeerReaders {
             rt: self.rt,
             alloc: self.alloc,
@@ -154,12 +154,12 @@ where
         readers: Vec<usize>,
         waiting: Receiver<Peer<'a, R>>,
     ) -> Result<(), AllocError> {
-        let hall = self.hall();
+        let peer_readers = self.peer_readers();
         let needed_threads = &self.shared_parts.needed_threads;
         let shared = &waiting;
         let hears = |_index: usize| {
             needed_threads.begin();
-            hall.hear_each(shared);
+            peer_readers.hear_each(shared);
         };
         let _heard = thread::map_vec(self.rt, readers, &hears)?;
         Ok(())
@@ -330,7 +330,7 @@ where
         };
         self.shared_parts.counters.set_read_threads(ways.len());
         let door = &self.shared_parts.client_door;
-        let Ok(hall) = SessionPool::new(self.rt, self.alloc, door, &teller, terms) else {
+        let Ok(pool) = SessionPool::new(self.rt, self.alloc, door, &teller, terms) else {
             return Err(ServerError::NoMemory);
         };
         if !self.wait_for_state() {
@@ -342,7 +342,7 @@ where
             self.shared_parts.needed_threads.open();
             let ways = self.logged_ways(ways)?;
             let gates = self.logged_gates(gates)?;
-            serve_sessions(&hall, &listener, ways, gates)?;
+            serve_sessions(&pool, &listener, ways, gates)?;
         }
         Ok(())
     }
