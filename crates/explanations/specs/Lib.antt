@@ -5,3 +5,4 @@ pub mod Words
 pub mod Filters
 pub mod Scripts
 pub mod Indexes
+pub mod Names
