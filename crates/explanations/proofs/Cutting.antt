@@ -23,9 +23,10 @@ octets_of ps = map (map (λ o. o.0)) ps
 onto_nothing : (p : ℕ × Bool → Bool) (os : List (ℕ × Bool)) → onto [] (octets_of (slice_split p os)) ≡ octets_of (slice_split p os)
 onto_nothing p [] = refl
 onto_nothing p (o ∷ os) =
-    elim (p o) as (λ b. onto [] (octets_of (cond b ([] ∷ slice_split p os) (onto_first o (slice_split p os)))) ≡ octets_of (cond b ([] ∷ slice_split p os) (onto_first o (slice_split p os))))
-    [ true ↦ refl
-    | false ↦ elim (slice_split p os) as (λ ps. onto [] (octets_of (onto_first o ps)) ≡ octets_of (onto_first o ps)) [ [] ↦ refl | q ∷ qs ↦ refl ] ]
+    elim (p o) as (λ b. onto [] (octets_of (cond b ([] ∷ slice_split p os) (onto_first o (slice_split p os)))) ≡ octets_of (cond b ([] ∷ slice_split p os) (onto_first o (slice_split p os)))) [
+      | true ↦ refl
+      | false ↦ elim (slice_split p os) as (λ ps. onto [] (octets_of (onto_first o ps)) ≡ octets_of (onto_first o ps)) [ [] ↦ refl | q ∷ qs ↦ refl ]
+    ]
 
 onto_one : (front : List ℕ) (o : ℕ × Bool) (ps : List (List (ℕ × Bool))) → onto (front ++ o.0 ∷ []) (octets_of ps) ≡ onto front (octets_of (onto_first o ps))
 onto_one front o [] = refl
@@ -37,9 +38,10 @@ cut_onto front e mark (c ∷ cs) =
     let next : Bool = is_bare 92 (c, e) in
     let rest : List (List (ℕ × Bool)) = slice_split (is_bare mark) (escapes next cs) in
     elim (is_bare mark (c, e)) as
-    (λ b. cond b (front ∷ cut_from [] next mark cs) (cut_from (front ++ c ∷ []) next mark cs) ≡ onto front (octets_of (cond b ([] ∷ rest) (onto_first (c, e) rest))))
-    [ true ↦ ap (λ x. front ∷ x) (cut_onto [] next mark cs ∙ onto_nothing (is_bare mark) (escapes next cs)) ∙ ap (λ x. x ∷ octets_of rest) (sym (append-nil front))
-    | false ↦ cut_onto (front ++ c ∷ []) next mark cs ∙ onto_one front (c, e) rest ]
+    (λ b. cond b (front ∷ cut_from [] next mark cs) (cut_from (front ++ c ∷ []) next mark cs) ≡ onto front (octets_of (cond b ([] ∷ rest) (onto_first (c, e) rest)))) [
+      | true ↦ ap (λ x. front ∷ x) (cut_onto [] next mark cs ∙ onto_nothing (is_bare mark) (escapes next cs)) ∙ ap (λ x. x ∷ octets_of rest) (sym (append-nil front))
+      | false ↦ cut_onto (front ++ c ∷ []) next mark cs ∙ onto_one front (c, e) rest
+    ]
 
 -- the parts of all octets
 pub cut_all : (mark : ℕ) (cs : List ℕ) → cut_from [] false mark cs ≡ parts_from false mark cs

@@ -3,3 +3,4 @@ pub mod Cuts
 pub mod Utf8
 pub mod Cutting
 pub mod Escaping
+pub mod Numbers

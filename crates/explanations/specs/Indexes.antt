@@ -11,7 +11,7 @@ use Rattle.explanations.specs.declared.indexes.RuleKeyword.{RuleKeyword}
 use Rattle.explanations.specs.declared.indexes.RuleKeyword.TheVariants as keyword
 use Rattle.explanations.specs.declared.refusal.IndexRefusal.{IndexRefusal}
 use Rattle.explanations.specs.declared.refusal.IndexRefusal.TheVariants as refusal
-use Rattle.explanations.specs.Records.{word_in}
+use Rattle.explanations.specs.LdifLines.{word_in}
 use Rattle.explanations.specs.Words.{word_shown}
 
 -- the lines of a text, each up to its LF

@@ -6,3 +6,7 @@ pub mod Filters
 pub mod Scripts
 pub mod Indexes
 pub mod Names
+pub mod LdifLines
+pub mod Classes
+pub mod Refused
+pub mod Ldif

@@ -2,7 +2,7 @@
 use Rattle.std.specs.Prelude.{◌++◌, ℕ, List, [], ◌∷◌, nat_eq, if◌then◌else◌, cond, codes, length, Option, None, Some}
 use Rattle.std.specs.List.{position}
 use Rattle.std.specs.Str.{bytes_eq}
-use Rattle.explanations.specs.Records.{word_up_to}
+use Rattle.explanations.specs.LdifLines.{word_up_to}
 use Rattle.explanations.specs.Words.{word_shown}
 
 -- the later words that begin a line, each with the form of the line

@@ -6,7 +6,7 @@ ghost use Rattle.explanations.specs.Indexes.{is_kind, no_kind, first_no_kind, ba
 ghost use Rattle.explanations.specs.Indexes.{no_index, without, of_type, no_rule, first_no_rule, no_rule_of, lacks_some, kinds_in, index_line, index_sentence};
 ghost use Rattle.explanations.specs.Words.{word_shown};
 
-use crate::records::{colon, pair_of};
+use crate::ldif_lines::{colon, word_in};
 use crate::refusal::IndexRefusal;
 use crate::schemas::numbered_line;
 use crate::showing::{said, shown};
@@ -257,7 +257,7 @@ fn line_fault(
 ) -> Result<String, AllocError>
     ensures { IfOk result (λ s. string_bytes s ≡ index_line schema.now refusal line.now) }
 {
-    let name = pair_of(line).word;
+    let name = word_in(line);
     match refusal {
         IndexRefusal::BadDescription => bad_line(alloc, line),
         IndexRefusal::UnknownName => no_type(alloc, name),

@@ -1,29 +1,14 @@
-//! Texts of LDIF (RFC 2849): what is wrong with the line that is refused, by what came before it.
-ghost use Rattle.std.specs.Prelude.{◌≡◌};
+//! Lines of LDIF (RFC 2849): a text comes in, its lines go out, unfolded, with the records that they are in.
+ghost use Rattle.std.specs.Prelude.{◌≡◌, ◌++◌, ◌∷◌, ◌+◌, IfOk, List, MatchOption, OnOk, drop, false, map, nat_eq, true, ◌||◌, ℕ};
+ghost use Rattle.std.specs.List.{position};
 ghost use Rattle.schema_meaning.specs.schema_text.Words.{ends_with};
 ghost use Rattle.schema_meaning.specs.schema_text.Texts.{without_return};
+ghost use Rattle.explanations.specs.LdifLines.{LineModel, continues, lines_from, lines_of, unfolded, word_in, is_named, is_version, opened_by, open_record, has_begun, place_of};
 
-use crate::showing::{octet_shown, said, shown};
-use ldap_words::{is_description, is_same_word};
+use crate::hex_lines::parts;
+use ldap_words::is_same_word;
 use std::alloc::{AllocError, Global};
-
-/// What the lines before one leave.
-#[derive(Clone, Copy)]
-pub struct Before {
-    /// The line of the name of the record that is open.
-    pub record: Option<usize>,
-    /// How many records have begun.
-    pub count: u64,
-    /// Whether a version or a record has come.
-    begun: bool,
-}
-
-/// Nothing before.
-pub const NOTHING: Before = Before {
-    record: None,
-    count: 0,
-    begun: false,
-};
+use std::marker::Model;
 
 /// Whether a line ends with a CR.
 fn ends_with_return(line: &[u8]) -> bool
@@ -46,247 +31,199 @@ pub fn without_return(line: &[u8]) -> &[u8]
     }
 }
 
-/// The front of a line up to its colon.
-fn word_of(line: &[u8]) -> &[u8] {
-    match line.split(|octet| *octet == b':').next() {
-        Some(word) => word,
+/// Where the first colon of a line is.
+pub fn colon(line: &[u8]) -> Option<usize>
+    ensures { result ≡ position (λ octet. nat_eq octet 58) line.now }
+{
+    line.iter().position(|octet| *octet == b':')
+}
+
+/// What is before a line's first colon, or all of it.
+pub fn word_in(line: &[u8]) -> &[u8]
+    ensures { result.now ≡ word_in line.now }
+{
+    match colon(line) {
         None => line,
+        Some(at) => &line[..at],
     }
 }
 
-/// What is left behind one more line, unfolded, with this number.
-pub fn behind(before: Before, line: &[u8], number: usize) -> Before {
-    let word = word_of(line);
-    if line.is_empty() {
-        return Before {
-            record: None,
-            ..before
-        };
-    }
-    if is_same_word(b"dn", word) {
-        return Before {
-            record: Some(number),
-            count: before.count.saturating_add(1),
-            begun: true,
-        };
-    }
-    Before {
-        begun: before.begun || is_same_word(b"version", word),
-        ..before
-    }
-}
-
-/// A line, unfolded, with its number and what came before it.
-pub struct Unfolded {
-    pub number: usize,
-    pub line: Vec<u8>,
-    pub before: Before,
+/// A line, unfolded, with the number of its first part, counted from 1.
+pub struct Line {
+    number: usize,
+    text: Vec<u8>,
 }
 
 // Not derived: see "What the gate takes" in docs/ARCHITECTURE.md.
-impl Drop for Unfolded {
+impl Drop for Line {
     fn drop(self) {
-        let Unfolded {
-            number: _,
-            line: _,
-            before: _,
-        } = self;
+        let Line { number: _, text: _ } = self;
     }
 }
 
-/// Whether a part continues the line before it.
-fn continues(line: &[u8], part: &[u8]) -> bool {
-    !line.is_empty() && part.starts_with(b" ")
+impl Model for Line {
+    ghost use Rattle.explanations.specs.LdifLines.{LineModel};
+
+    ghost Value = { LineModel };
+
+    ghost view = { λ l. record { number = l.number; text = l.text.items } };
 }
 
-/// One more part of a text: it continues the line, or begins the next one.
+impl Line {
+    /// A line of one part.
+    fn new(alloc: Global, number: usize, part: &[u8]) -> Result<Line, AllocError>
+        ensures { IfOk result (λ l. l ≡ record { number = number; text = part.now }) }
+    {
+        Ok(Line {
+            number,
+            text: Vec::from_slice(alloc, part)?,
+        })
+    }
+
+    /// The number of its first part.
+    pub fn number(&self) -> usize
+        ensures { result ≡ self.now.number }
+    {
+        self.number
+    }
+
+    /// Its octets.
+    pub fn text(&self) -> &[u8]
+        ensures { result.now ≡ self.now.text }
+    {
+        self.text.as_slice()
+    }
+
+    /// The line with more octets.
+    fn extend(&mut self, octets: &[u8]) -> Result<(), AllocError>
+        ensures { OnOk result (self.new ≡ record { number = self.old.number; text = self.old.text ++ octets.now }) }
+    {
+        self.text.extend_from_slice(octets)
+    }
+}
+
+/// What a part adds to a line that it continues.
+fn continuation<'a>(line: &[u8], part: &'a [u8]) -> Option<&'a [u8]>
+    ensures { MatchOption result (continues line.now part.now ≡ false) (λ rest. (continues line.now part.now ≡ true) × (rest.now ≡ drop 1 part.now)) }
+{
+    match part {
+        [b' ', rest @ ..] => { if line.is_empty() { None } else { Some(rest) } }
+        _ => None,
+    }
+}
+
+/// One more part of this number: it continues the current line, or begins the next one.
 fn add_part(
     alloc: Global,
-    unfolded: &mut Unfolded,
-    part: &[u8],
+    lines: &mut Vec<Line>,
+    current: Line,
     number: usize,
-) -> Result<(), AllocError> {
-    if continues(unfolded.line.as_slice(), part) {
-        let (_, rest) = part.split_at_checked(1).unwrap_or((&[], &[]));
-        return unfolded.line.extend_from_slice(rest);
-    }
-    unfolded.before = behind(unfolded.before, unfolded.line.as_slice(), unfolded.number);
-    unfolded.number = number;
-    unfolded.line = Vec::from_slice(alloc, part)?;
-    Ok(())
-}
-
-/// The line of this number, unfolded, with what came before it.
-fn line_at(alloc: Global, text: &[u8], number: usize) -> Result<Unfolded, AllocError> {
-    let mut unfolded = Unfolded {
-        number: 0,
-        line: Vec::new(alloc),
-        before: NOTHING,
-    };
-    for (index, part) in text.split(|octet| *octet == b'\n').enumerate() {
-        let part = without_return(part);
-        if unfolded.number == number && !continues(unfolded.line.as_slice(), part) {
-            return Ok(unfolded);
+    part: &[u8],
+) -> Result<Line, AllocError>
+    ensures { IfOk result (λ l. (parts : List (List ℕ)) → lines.new.items ++ lines_from l (number + 1) parts ≡ lines.old.items ++ lines_from current number (part.now ∷ parts)) }
+{
+    let mut current = current;
+    match continuation(current.text(), part) {
+        Some(rest) => {
+            current.extend(rest)?;
+            Ok(current)
         }
-        add_part(alloc, &mut unfolded, part, index + 1)?;
-    }
-    Ok(unfolded)
-}
-
-/// Whether an octet is a digit of base64 or fills its end.
-fn is_base64(octet: u8) -> bool {
-    octet.is_ascii_alphanumeric() || matches!(octet, b'+' | b'/' | b'=')
-}
-
-/// A value in base64 that spells no octets.
-fn base64_fault(alloc: Global, value: &[u8]) -> Result<String, AllocError> {
-    for octet in value.trim_ascii_start() {
-        if !is_base64(*octet) {
-            let octet = octet_shown(alloc, *octet)?;
-            return format!(in alloc; "'{octet}' is no digit of base64");
-        }
-    }
-    said(
-        alloc,
-        "no base64: its end is cut, badly filled by '=', or has bits left over",
-    )
-}
-
-/// A line of a name that may not be here, or is none.
-fn dn_fault(alloc: Global, before: Before, value: &[u8]) -> Result<String, AllocError> {
-    if let Some(line) = before.record {
-        return format!(in alloc;
-            "a second 'dn:' in the record of line {line}: an empty line ends a record"
-        );
-    }
-    match value {
-        [b':', ..] => said(alloc, "the name is no UTF-8 text in base64"),
-        _ => said(alloc, "the name is not UTF-8"),
-    }
-}
-
-/// A line of a value outside records.
-fn unnamed(alloc: Global, before: Before, word: &[u8]) -> Result<String, AllocError> {
-    let word_shown = shown(alloc, word)?;
-    match (is_same_word(b"version", word), before.begun) {
-        (true, false) => said(alloc, "expected 'version: 1', the one version"),
-        (true, true) => said(alloc, "'version:' comes once, before all records"),
-        _ => format!(in alloc;
-            "expected 'dn:', not '{word_shown}:': a record begins with its name"
-        ),
-    }
-}
-
-/// A line with this before and behind its first colon.
-fn pair_fault(
-    alloc: Global,
-    before: Before,
-    word: &[u8],
-    value: &[u8],
-) -> Result<String, AllocError> {
-    if value.starts_with(b"<") {
-        return said(alloc, "a value by URL, behind ':<', is not supported");
-    }
-    if is_same_word(b"dn", word) {
-        return dn_fault(alloc, before, value);
-    }
-    if is_same_word(b"changetype", word) || is_same_word(b"control", word) {
-        return said(alloc, "a change record is not supported, only entries");
-    }
-    if !is_description(word) {
-        let word = shown(alloc, word)?;
-        return format!(in alloc; "'{word}' is no attribute's name");
-    }
-    match (before.record, value) {
-        (None, _) => unnamed(alloc, before, word),
-        (Some(_), [b':', rest @ ..]) => base64_fault(alloc, rest),
-        _ => said(alloc, "no line of LDIF"),
-    }
-}
-
-/// A line without a colon.
-fn no_pair(alloc: Global, line: &[u8]) -> Result<String, AllocError> {
-    match line {
-        b"-" => said(alloc, "a change record is not supported, only entries"),
-        _ => {
-            let line = shown(alloc, line)?;
-            format!(in alloc; "expected 'type: value', found '{line}'")
+        None => {
+            lines.push(current)?;
+            Line::new(alloc, number, part)
         }
     }
 }
 
-/// What is wrong with the line of this number of an LDIF text, which is refused.
-pub fn ldif_fault(alloc: Global, text: &[u8], number: usize) -> Result<String, AllocError> {
-    let unfolded = line_at(alloc, text, number)?;
-    let line = unfolded.line.as_slice();
-    if line.starts_with(b" ") {
-        return said(
-            alloc,
-            "the line begins with a space and continues nothing: no line, or an empty one, is before it",
-        );
+/// The lines of a first part and the parts behind it.
+fn unfolded_from(alloc: Global, first: &[u8], parts: &[&[u8]]) -> Result<Vec<Line>, AllocError>
+    ensures { IfOk result (λ v. v.items ≡ lines_from (record { number = 1; text = first.now }) 2 (map without_return (map (λ x. x.now) parts.now))) }
+{
+    let mut lines = Vec::new(alloc);
+    let mut current = Line::new(alloc, 1, first)?;
+    for (index, part) in parts.iter().enumerate() {
+        current = add_part(alloc, &mut lines, current, index + 2, without_return(part))?;
     }
-    match line.iter().position(|octet| *octet == b':') {
-        None => no_pair(alloc, line),
-        Some(at) => match line.split_at_checked(at) {
-            Some((word, [_, value @ ..])) => pair_fault(alloc, unfolded.before, word, value),
-            _ => no_pair(alloc, line),
-        },
+    lines.push(current)?;
+    Ok(lines)
+}
+
+/// The lines of parts.
+fn unfolded(alloc: Global, parts: &[&[u8]]) -> Result<Vec<Line>, AllocError>
+    ensures { IfOk result (λ v. v.items ≡ unfolded (map without_return (map (λ x. x.now) parts.now))) }
+{
+    match parts {
+        [] => Ok(Vec::new(alloc)),
+        [first, rest @ ..] => unfolded_from(alloc, without_return(first), rest),
     }
 }
 
-/// A line of a record, unfolded, with its number.
-pub struct RecordLine {
-    pub number: usize,
-    pub octets: Vec<u8>,
+/// The lines of a text.
+pub fn lines_of(alloc: Global, text: &[u8]) -> Result<Vec<Line>, AllocError>
+    ensures { IfOk result (λ v. v.items ≡ lines_of text.now) }
+{
+    let parts = parts(alloc, text)?;
+    unfolded(alloc, parts.as_slice())
 }
 
-// Not derived: see "What the gate takes" in docs/ARCHITECTURE.md.
-impl Drop for RecordLine {
-    fn drop(self) {
-        let RecordLine {
-            number: _,
-            octets: _,
-        } = self;
-    }
+/// Whether a line is the name of a record, which begins it.
+pub fn is_named(line: &Line) -> bool
+    ensures { result ≡ is_named line.now }
+{
+    is_same_word(b"dn", word_in(line.text()))
 }
 
-/// Keeps a line that is whole, where it is of the record that is wanted, counted from 1.
-fn keep(
-    alloc: Global,
-    kept: &mut Vec<RecordLine>,
-    unfolded: &Unfolded,
-    wanted: u64,
-) -> Result<(), AllocError> {
-    let line = unfolded.line.as_slice();
-    let after = behind(unfolded.before, line, unfolded.number);
-    if after.record.is_some() && after.count == wanted && !line.starts_with(b"#") {
-        kept.push(RecordLine {
-            number: unfolded.number,
-            octets: Vec::from_slice(alloc, line)?,
-        })?;
-    }
-    Ok(())
+/// Whether a line is a version, or the name of a record.
+fn begins(line: &Line) -> bool
+    ensures { result ≡ (is_named line.now || is_version line.now) }
+{
+    is_named(line) || is_same_word(b"version", word_in(line.text()))
 }
 
-/// The lines of a text's record, counted from 1: its name's, and its values'.
-pub fn lines_of_record(
-    alloc: Global,
-    text: &[u8],
-    wanted: u64,
-) -> Result<Vec<RecordLine>, AllocError> {
-    let mut kept = Vec::new(alloc);
-    let mut unfolded = Unfolded {
-        number: 0,
-        line: Vec::new(alloc),
-        before: NOTHING,
-    };
-    for (index, part) in text.split(|octet| *octet == b'\n').enumerate() {
-        let part = without_return(part);
-        if !continues(unfolded.line.as_slice(), part) {
-            keep(alloc, &mut kept, &unfolded, wanted)?;
-        }
-        add_part(alloc, &mut unfolded, part, index + 1)?;
+/// The line of the name of the record that is open behind a line.
+fn opened_by(opened: Option<usize>, line: &Line) -> Option<usize>
+    ensures { result ≡ opened_by opened line.now }
+{
+    if line.text().is_empty() {
+        return None;
     }
-    keep(alloc, &mut kept, &unfolded, wanted)?;
-    Ok(kept)
+    if is_named(line) {
+        return Some(line.number());
+    }
+    opened
+}
+
+/// The line of the name of the record that is open behind lines.
+pub fn open_record(lines: &[Line]) -> Option<usize>
+    ensures { result ≡ open_record lines.now }
+{
+    let mut opened = None;
+    for line in lines {
+        opened = opened_by(opened, line);
+    }
+    opened
+}
+
+/// Whether a version or a record has come.
+pub fn has_begun(lines: &[Line]) -> bool
+    ensures { result ≡ has_begun lines.now }
+{
+    lines.iter().any(|line| begins(line))
+}
+
+/// The index of the line of a number.
+fn line_of(lines: &[Line], number: usize) -> Option<usize>
+    ensures { result ≡ position (λ line. nat_eq line.number number) lines.now }
+{
+    lines.iter().position(|line| line.number() == number)
+}
+
+/// The index of the line of a number; of the last one, where none has it.
+pub fn place_of(lines: &[Line], number: usize) -> usize
+    ensures { result ≡ place_of lines.now number }
+{
+    match line_of(lines, number) {
+        Some(place) => place,
+        None => lines.len().saturating_sub(1),
+    }
 }

@@ -2,11 +2,12 @@
 //! expected. What is refused is decided by others; here it is only put into words. Where the cause isn't found, the sentence says less.
 //!
 //! Words for what is wrong with a text that is refused: `schemas` (by `descriptions`, `repeats`, `rules`, `unknown`, `loops`), `indexes`,
-//! `ldif_lines`, `records` and `classes`, `filters`, `names`, `hex_lines`, `scripts`.
+//! `ldif` and `records` (by `ldif_lines`), `classes`, `filters`, `names`, `hex_lines`, `scripts`.
 //!
-//! Proved: the sentence is a definition for a result code (`code_word`), a line of hex (`hex_line_fault`), a filter (`filter_fault`), a line
-//! of a lab script (`script_fault`) and of an index choice (`index_fault`), and so is a word as a sentence shows it (`shown`). Of a record
-//! the line of an unknown type is. Of other sentences, that each call is safe and returns.
+//! Proved: the sentence is a definition for a result code (`code_word`), a line of hex (`hex_line_fault`), a filter (`filter_fault`), a name
+//! (`name_fault`), a line of LDIF (`ldif_fault`), a record of LDIF, with its line (`record_fault`), a line of a lab script (`script_fault`)
+//! and of an index choice (`index_fault`), and so is a word as a sentence shows it (`shown`). Of a schema's sentences, that each call is
+//! safe and returns.
 #![tactic(auto)]
 
 mod classes;
@@ -16,6 +17,7 @@ mod filters;
 mod forms;
 mod hex_lines;
 mod indexes;
+mod ldif;
 mod ldif_lines;
 mod loops;
 mod names;
@@ -33,7 +35,7 @@ pub use codes::code_word;
 pub use filters::filter_fault;
 pub use hex_lines::hex_line_fault;
 pub use indexes::index_fault;
-pub use ldif_lines::ldif_fault;
+pub use ldif::ldif_fault;
 pub use names::name_fault;
 pub use records::{Placed, record_fault};
 pub use refusal::{IndexRefusal, SchemaRefusal};
