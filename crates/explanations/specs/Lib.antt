@@ -9,4 +9,6 @@ pub mod Names
 pub mod LdifLines
 pub mod Classes
 pub mod Refused
+pub mod Schemas
+pub mod Rules
 pub mod Ldif

@@ -6,8 +6,8 @@
 //!
 //! Proved: the sentence is a definition for a result code (`code_word`), a line of hex (`hex_line_fault`), a filter (`filter_fault`), a name
 //! (`name_fault`), a line of LDIF (`ldif_fault`), a record of LDIF, with its line (`record_fault`), a line of a lab script (`script_fault`)
-//! and of an index choice (`index_fault`), and so is a word as a sentence shows it (`shown`). Of a schema's sentences, that each call is
-//! safe and returns.
+//! and of an index choice (`index_fault`), and so is a word as a sentence shows it (`shown`). Of a schema's sentences two parts are: what a
+//! description names that isn't there, and rules that don't fit. Of the call itself (`schema_fault`), that it is safe and returns.
 #![tactic(auto)]
 
 mod classes;

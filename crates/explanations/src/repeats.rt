@@ -1,5 +1,6 @@
 //! A description that is bad beside others: a name or an object identifier that is there already.
-ghost use Rattle.std.specs.Prelude.{◌≡◌, ◌<◌, IfSome};
+ghost use Rattle.std.specs.Prelude.{◌≡◌, ◌<◌, IfOk, IfSome, string_bytes};
+ghost use Rattle.explanations.specs.Schemas.{title};
 
 use crate::showing::shown;
 use ldap_words::lower_case;
@@ -19,7 +20,9 @@ pub fn at_line(descriptions: &[Description], line: usize) -> Option<(usize, &Des
 }
 
 /// The first name of a description, or its object identifier.
-pub fn title(alloc: Global, description: &Description) -> Result<String, AllocError> {
+pub fn title(alloc: Global, description: &Description) -> Result<String, AllocError>
+    ensures { IfOk result (λ s. string_bytes s ≡ title description.now) }
+{
     match names(description) {
         [first, ..] => shown(alloc, first.as_slice()),
         [] => shown(alloc, description.oid()),
