@@ -13,7 +13,6 @@ use Rattle.node_gate.proofs.inbox.Inbox.TheSendSync as inbox
 use Rattle.node_gate.proofs.running.Call.TheSendSync as call
 use Rattle.node_gate.proofs.standing.LastStanding.TheSendSync as standing
 use Rattle.dir_node.proofs.Crossing.{node_send}
-use Rattle.dir_node.proofs.Op.TheSendSync as op
 use Rattle.dir_node.proofs.Send.TheSendSync as send
 use Rattle.dir_node.specs.declared.Device as Device
 use Rattle.dir_node.specs.log_journal.journal.declared.device.Device as JournalDevice
@@ -45,7 +44,7 @@ module _ (D J : RattleType) (g : Device.Ghosts D.Denot) (h : JournalDevice.Ghost
               condvar.the_field_sync,
               (
                 search (inbox.the_sync, inbox.the_field_sync, sendable) depth 20,
-                (search (send.the_send, op.the_send, mutex.the_sync, maps_cross, crosses, sendable) depth 60 fits 20000, (search (call.the_send, mutex.the_sync) depth 20, (condvar.the_field_sync, tt))),
+                (search (send.the_send, mutex.the_sync, maps_cross, crosses, sendable) depth 60 fits 20000, (search (call.the_send, mutex.the_sync) depth 20, (condvar.the_field_sync, tt))),
               ),
             ),
           ),
