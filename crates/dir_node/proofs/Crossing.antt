@@ -5,6 +5,7 @@ use denote.Param.Send.{IsSend, sendable, struct_send, plain_send, recorded_send,
 use Rattle.std.proofs.Crossing.{crosses}
 use Rattle.std.proofs.MapsCrossing.{crosses as maps_cross}
 use Rattle.state_machine.proofs.Crossing.{executed_send}
+use Rattle.state_machine.proofs.Op.TheSendSync as op
 use Rattle.journal.proofs.journal.Journal.TheSendSync as journal
 use Rattle.journal.specs.declared.device.Device as JournalDevice
 use Rattle.view_store.proofs.ViewStore.TheSendSync as views
@@ -18,7 +19,7 @@ module _ (D J : RattleType) (g : Device.Ghosts D.Denot) (h : JournalDevice.Ghost
   inside_send s l =
       recorded_send (Inside.the_field D J g h).row _ _ (Inside.the_type D J g h).to_one
       (struct_send (Declared.shape (Inside.the_type D J g h)) (
-        search (replica.the_field_send, maps_cross, crosses, sendable) depth 60 fits 20000,
+        search (replica.the_field_send, op.the_send, maps_cross, crosses, sendable) depth 60 fits 20000,
         (
           executed_send,
           (

@@ -101,8 +101,7 @@ impl Store {
         ensures below { IfOk result (λ reply. NumbersBelow (number + 1) self.new.directory.entries) }
         ensures err { OnErr result (self.new ≡ self.old) }
     {
-        let looked = op.look(alloc)?;
-        match self.update(alloc, number, looked.update()) {
+        match self.update(alloc, number, op.update()) {
             Ok(()) => Ok(Reply::only(alloc, ResultCode::SUCCESS)),
             Err(error) => reply_of_refusal(error),
         }

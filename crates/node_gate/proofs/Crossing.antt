@@ -9,10 +9,11 @@ use Rattle.std.proofs.marker.PhantomData.TheSendSync as phantom
 use Rattle.std.proofs.string.String.TheSendSync as string
 use Rattle.std.proofs.sync.Condvar.TheSendSync as condvar
 use Rattle.std.proofs.sync.Mutex.TheSendSync as mutex
+use Rattle.node_gate.proofs.inbox.Inbox.TheSendSync as inbox
 use Rattle.node_gate.proofs.running.Call.TheSendSync as call
 use Rattle.node_gate.proofs.standing.LastStanding.TheSendSync as standing
 use Rattle.dir_node.proofs.Crossing.{node_send}
-use Rattle.dir_node.proofs.Event.TheSendSync as event
+use Rattle.dir_node.proofs.Op.TheSendSync as op
 use Rattle.dir_node.proofs.Send.TheSendSync as send
 use Rattle.dir_node.specs.declared.Device as Device
 use Rattle.dir_node.specs.log_journal.journal.declared.device.Device as JournalDevice
@@ -20,27 +21,8 @@ use Rattle.dir_seats.proofs.Crossing.{publisher_send, teller_field_sync}
 pub use Rattle.dir_seats.proofs.Crossing.{seat_send}
 use Rattle.node_gate.specs.contracts.held.Here as Here
 use Rattle.node_gate.specs.contracts.held.Held as Held
-use Rattle.node_gate.specs.contracts.inbox.Batch as Batch
-use Rattle.node_gate.specs.contracts.inbox.Inbox as Inbox
-use Rattle.node_gate.specs.contracts.inbox.Waiting as Waiting
 use Rattle.node_gate.specs.contracts.running.Running as Running
 use Rattle.node_gate.specs.contracts.gate.NodeGate as NodeGate
-
--- events that wait
-batch_send : IsSend Batch.the_field.row
-batch_send =
-    struct_send (Declared.shape Batch.the_type) (
-      search (event.the_send, maps_cross, crosses, sendable) depth 60 fits 20000,
-      (search (crosses, sendable) depth 40, (search (crosses, sendable) depth 40, (plain_send _ _ _ _ _, tt))),
-    )
-
-waiting_send : IsSend Waiting.the_row
-waiting_send = recorded_send Waiting.the_field.row _ _ Waiting.the_type.to_one (struct_send (Declared.shape Waiting.the_type) (batch_send, (plain_send _ _ _ _ _, tt)))
-
-inbox_sync : IsSync Inbox.the_row
-inbox_sync =
-    recorded_sync Inbox.the_field.row _ _ Inbox.the_type.to_one
-    (struct_sync (Declared.shape Inbox.the_type) (search (waiting_send, mutex.the_sync) depth 20, (condvar.the_field_sync, (condvar.the_field_sync, tt))))
 
 module _ (D J : RattleType) (g : Device.Ghosts D.Denot) (h : JournalDevice.Ghosts J.Denot) where
   held_send : (a : NamedLft) (R : RattleType) → IsSync R → IsSend D → IsSend J → IsSend (Held.the_row a R D J g h)
@@ -62,8 +44,8 @@ module _ (D J : RattleType) (g : Device.Ghosts D.Denot) (h : JournalDevice.Ghost
             (
               condvar.the_field_sync,
               (
-                search (inbox_sync, sendable) depth 20,
-                (search (send.the_send, mutex.the_sync, maps_cross, crosses, sendable) depth 60 fits 20000, (search (call.the_send, mutex.the_sync) depth 20, (condvar.the_field_sync, tt))),
+                search (inbox.the_sync, inbox.the_field_sync, sendable) depth 20,
+                (search (send.the_send, op.the_send, mutex.the_sync, maps_cross, crosses, sendable) depth 60 fits 20000, (search (call.the_send, mutex.the_sync) depth 20, (condvar.the_field_sync, tt))),
               ),
             ),
           ),

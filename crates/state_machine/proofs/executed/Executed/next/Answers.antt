@@ -1,6 +1,5 @@
 use Rattle.std.proofs.Common.{◌+◌, ◌∷◌, ◌++◌, [], ap, ◌∙◌, arith}
-use Rattle.state_machine.specs.Executing.{ExecutedValue}
-use Rattle.state_machine.proofs.Folds.{fold_pushed, same_schema, same_suffix}
+use Rattle.state_machine.proofs.Folds.{fold_pushed}
 use Rattle.state_machine.proofs.executed.Executed.next.Goals as goal
 
 -- one more record, its update made, its reply kept
@@ -12,10 +11,3 @@ invariant_of-self-2 c =
     c.in_ok-kept.ensures
     (c.push_reserved.ensures.items ∙ ap (λ l. l ++ c.in_ok-kept.kept ∷ []) c.in_ok-reserve.ensures.items)
     (c.push_reserved-2.ensures.items ∙ ap (λ l. l ++ c.in_ok-reply.reply ∷ []) c.in_ok-reserve-2.ensures.items)
-
--- an update leaves the schema and the suffix
-pub returns-clause-schema : goal.returns-clause-schema
-returns-clause-schema c = same_schema c.self.inside.store.directory c.apply.new.self.directory (c.len.result + 1) c.args.entry.now.payload c.in_ok-reply.ensures.directory ∙ ap (λ (e : ExecutedValue). e.schema) c.self.view_is
-
-pub returns-clause-suffix : goal.returns-clause-suffix
-returns-clause-suffix c = same_suffix c.self.inside.store.directory c.apply.new.self.directory (c.len.result + 1) c.args.entry.now.payload c.in_ok-reply.ensures.directory ∙ ap (λ (e : ExecutedValue). e.suffix) c.self.view_is
