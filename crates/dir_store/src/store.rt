@@ -101,7 +101,8 @@ impl Store {
         ensures below { IfOk result (λ reply. NumbersBelow (number + 1) self.new.directory.entries) }
         ensures err { OnErr result (self.new ≡ self.old) }
     {
-        match self.update(alloc, number, op.update()) {
+        let looked = op.look(alloc)?;
+        match self.update(alloc, number, looked.update()) {
             Ok(()) => Ok(Reply::only(alloc, ResultCode::SUCCESS)),
             Err(error) => reply_of_refusal(error),
         }

@@ -2,15 +2,19 @@
 //! In: an update, or the octets of its operation. Out: its octets, the update, or an equal copy.
 //! Not here: messages, who asked, what an update does.
 //!
-//! An update by itself, as a log keeps it. `Op` is a value whose equality is that of its content; a copy shares its memory.
+//! An update by itself, as a log keeps it. `Op` is a value whose equality is that of its content; a copy shares its memory. It keeps the
+//! octets of the operation, which are read when the update is looked at, and copied as they are when it is sent.
 //!
-//! Proved: an update is read exactly where there is one and written in its one form (`read_op`, `write_op`, `one_op`, `is_op`). A copy is
-//! equal (`Op::copy`).
+//! Proved: an update is read exactly where there is one and written in its one form (`read_op`, `write_op`, `one_op`, `is_op`). What is looked
+//! at is the update (`Op::look`), and its octets are those (`Op::octets`). A copy is equal (`Op::copy`).
 #![tactic(auto)]
 
+mod held;
 mod laws;
+mod looked;
 mod op;
 mod reading;
+mod spelling;
 mod update;
 mod writing;
 
@@ -19,6 +23,7 @@ pub use ldap_updates::{
     AddRequest, Change, ModifyDnRequest, ModifyOperation, ModifyRequest, MsgFault,
     PartialAttribute, ResultCode, WriteError,
 };
+pub use looked::Looked;
 pub use op::Op;
 pub use reading::read_op;
 pub use update::Update;

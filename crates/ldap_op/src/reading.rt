@@ -27,6 +27,24 @@ fn update_of(alloc: Global, first: u8, content: &[u8]) -> Result<Update, MsgFaul
     }
 }
 
+/// The update whose octets these are, and nothing after it.
+pub fn read_update(alloc: Global, octets: &[u8]) -> Result<Update, MsgFault>
+    ensures found { IfOk result (λ u. IsOp (update_view u) octets.now) }
+    ensures only { (op : OpValue) → IsOp op octets.now
+        → MatchResult result (λ u. update_view u ≡ op) (λ e. e ≡ MsgFault.NoMemory) }
+    ensures fault { IfErr result (λ e. IsPlainFault e ((op : OpValue) × IsOp op octets.now)) }
+{
+    if octets.is_empty() {
+        return Ok(Update::Noop);
+    }
+    let (element, rest) = element(octets)?;
+    if !rest.is_empty() {
+        return Err(MsgFault::NotAMessage);
+    }
+    let update = update_of(alloc, element.first, element.content)?;
+    Ok(update)
+}
+
 /// The update whose octets these are, and nothing after it: its operation's element, or none for a
 /// no-op. E8 only where there is no such update.
 pub fn read_op(alloc: Global, octets: &[u8]) -> Result<Op, MsgFault>
@@ -38,15 +56,7 @@ pub fn read_op(alloc: Global, octets: &[u8]) -> Result<Op, MsgFault>
     // Which fault it is.
     ensures fault { IfErr result (λ e. IsPlainFault e ((op : OpValue) × IsOp op octets.now)) }
 {
-    if octets.is_empty() {
-        let noop = Op::new(alloc, Update::Noop)?;
-        return Ok(noop);
-    }
-    let (element, rest) = element(octets)?;
-    if !rest.is_empty() {
-        return Err(MsgFault::NotAMessage);
-    }
-    let update = update_of(alloc, element.first, element.content)?;
+    let update = read_update(alloc, octets)?;
     let op = Op::new(alloc, update)?;
     Ok(op)
 }

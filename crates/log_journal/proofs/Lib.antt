@@ -7,5 +7,4 @@ pub mod OneTold
 pub mod Plain
 pub mod Putting
 pub mod Reading
-pub mod Texts
 pub mod ToldOn

@@ -3,26 +3,25 @@ ghost use Rattle.std.specs.Prelude.{◌≡◌, ◌≤◌, IsTrue, length, take};
 
 use crate::spelling::is_same;
 use ldap_op::Op;
-use std::alloc::Global;
 use vr_state::words::LogEntry;
 
 /// Whether two records are found equal.
-fn is_same_entry(alloc: Global, one: &LogEntry<Op>, other: &LogEntry<Op>) -> bool
+fn is_same_entry(one: &LogEntry<Op>, other: &LogEntry<Op>) -> bool
     ensures { IsTrue result → one.now ≡ other.now }
 {
     one.client == other.client
         && one.request_number == other.request_number
-        && is_same(alloc, &one.payload, &other.payload)
+        && is_same(&one.payload, &other.payload)
 }
 
 /// Up to where two logs are found alike, from the front.
-pub fn count_alike(alloc: Global, old: &[LogEntry<Op>], new: &[LogEntry<Op>]) -> usize
+pub fn count_alike(old: &[LogEntry<Op>], new: &[LogEntry<Op>]) -> usize
     ensures alike { take result old.now ≡ take result new.now }
     ensures within { result ≤ length new.now }
 {
     let most = old.len().min(new.len());
     for at in 0..most {
-        if !is_same_entry(alloc, &old[at], &new[at]) {
+        if !is_same_entry(&old[at], &new[at]) {
             return at;
         }
     }

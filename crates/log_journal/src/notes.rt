@@ -177,12 +177,8 @@ pub fn put_record(
     ensures ok { OnOk result (Puts (Step (Record commit_number entry.now) ∷ []) batch.old batch.new) }
     ensures err { OnErr result (batch.new ≡ batch.old) }
 {
-    let octets = spell(alloc, &entry.payload)?;
-    put_fields(
-        alloc,
-        batch,
-        &entry_fields(3, commit_number, entry, &octets),
-    )?;
+    let octets = spell(&entry.payload)?;
+    put_fields(alloc, batch, &entry_fields(3, commit_number, entry, octets))?;
     Ok(())
 }
 
@@ -191,7 +187,7 @@ pub fn put_stage(alloc: Global, batch: &mut Batch, entry: &LogEntry<Op>) -> Resu
     ensures ok { OnOk result (Puts (Step (Stage entry.now) ∷ []) batch.old batch.new) }
     ensures err { OnErr result (batch.new ≡ batch.old) }
 {
-    let octets = spell(alloc, &entry.payload)?;
-    put_fields(alloc, batch, &entry_fields(4, 0, entry, &octets))?;
+    let octets = spell(&entry.payload)?;
+    put_fields(alloc, batch, &entry_fields(4, 0, entry, octets))?;
     Ok(())
 }

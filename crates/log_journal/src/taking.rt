@@ -46,12 +46,12 @@ fn log_before(
 }
 
 /// How many first records a replica's log shares with this one; none where this one isn't known.
-fn shared_with(alloc: Global, held: &Option<Log<Op>>, replica: &Replica<Op>) -> usize
+fn shared_with(held: &Option<Log<Op>>, replica: &Replica<Op>) -> usize
     ensures alike { MatchOption held.now (result ≡ 0) (λ log. take result log ≡ take result replica.now.log) }
     ensures within { result ≤ length replica.now.log }
 {
     match held {
-        Some(log) => count_alike(alloc, log.as_slice(), replica.log.as_slice()),
+        Some(log) => count_alike(log.as_slice(), replica.log.as_slice()),
         None => 0,
     }
 }
@@ -77,7 +77,7 @@ fn take_event(
         Ok(outputs) => outputs,
         Err(error) => return Ok(Err(error)),
     };
-    let base = shared_with(alloc, &held, replica);
+    let base = shared_with(&held, replica);
     put_step(alloc, batch, before, base, replica)?;
     Ok(Ok(outputs))
 }

@@ -8,8 +8,8 @@
 //! can't hold.
 //!
 //! Reading goes over a log twice. The first pass makes a list of places, about 50 octets a record, with room for as many records as the
-//! octets may have (29 at least each). The second makes the updates, with one allocation for the log and those that each update keeps. In
-//! writing, each payload goes through one buffer of its own (`write_op`).
+//! octets may have (29 at least each). The second makes the updates, with one allocation for the log, two for each update, and those of
+//! reading it, which are given back. In writing, the octets of a payload are copied as they are.
 //!
 //! Proved: a message and its frame are each other's, for one cluster; what is no frame is refused, another cluster's by a name of its own
 //! (`read`, `write`, `rest`, `is_frame`). A frame belongs to one message and begins no other (`one_frame`, `no_beginning`). Parts give

@@ -103,7 +103,23 @@ fn op_octets<const LIMIT: usize>(alloc: Global, op: &Op) -> Result<Vec<u8>, Wire
     }
 }
 
-/// A record, whose update is written.
+/// A record, whose update has these octets.
+#[tactic(auto, using(crate::proofs::PutLaws::longer, crate::proofs::PutLaws::longer_by, crate::proofs::PutLaws::memory))]
+fn put_entry_of<const LIMIT: usize>(
+    out: &mut Vec<u8>,
+    entry: &LogEntry<Op>,
+    octets: &[u8],
+) -> Result<(), WireError>
+    requires { octets.now ≡ op_bytes entry.now.payload }
+    ensures spelled { PutsWithin (most_under LIMIT) result out.old.items out.new.items (entry_octets (written_entry entry.now)) }
+    ensures kept { out.new.items ≡ out.old.items ++ drop (length out.old.items) out.new.items }
+{
+    put_client(out, entry.client)?;
+    put_number(out, entry.request_number)?;
+    put_payload::<LIMIT>(out, octets)
+}
+
+/// A record. The octets of its update are copied as they are; one that no octets are read as is written.
 #[tactic(auto, using(crate::proofs::PutLaws::longer, crate::proofs::PutLaws::longer_by, crate::proofs::PutLaws::memory))]
 pub fn put_entry<const LIMIT: usize>(
     alloc: Global,
@@ -113,10 +129,11 @@ pub fn put_entry<const LIMIT: usize>(
     ensures spelled { PutsWithin (most_under LIMIT) result out.old.items out.new.items (entry_octets (written_entry entry.now)) }
     ensures kept { out.new.items ≡ out.old.items ++ drop (length out.old.items) out.new.items }
 {
-    let payload = op_octets::<LIMIT>(alloc, &entry.payload)?;
-    put_client(out, entry.client)?;
-    put_number(out, entry.request_number)?;
-    put_payload::<LIMIT>(out, &payload)
+    if let Some(octets) = entry.payload.octets() {
+        return put_entry_of::<LIMIT>(out, entry, octets);
+    }
+    let octets = op_octets::<LIMIT>(alloc, &entry.payload)?;
+    put_entry_of::<LIMIT>(out, entry, &octets)
 }
 
 /// Records, one after the other.

@@ -1,8 +1,8 @@
 use Rattle.std.proofs.Common.{ℕ, List, subst}
 use Rattle.std.specs.Str.{IsUtf8}
-use Rattle.ldap_op.specs.ldap_updates.View.{change_view}
-use Rattle.log_journal.proofs.Texts.{all_more_at, all_done}
-use Rattle.log_journal.proofs.spelling.see_changes.Goals as goal
+use Rattle.ldap_updates.specs.View.{change_view}
+use Rattle.ldap_op.proofs.Texts.{all_more_at, all_done}
+use Rattle.ldap_op.proofs.spelling.see_changes.Goals as goal
 
 pub loop-change-preserved : goal.loop-change-preserved
 loop-change-preserved c = all_more_at (λ k. IsUtf8 k.modification.description) change_view c.args.changes.now c.loop-change.change-index c.change-item.result

@@ -1,8 +1,8 @@
 use Rattle.std.proofs.Common.{map, take}
 use Rattle.std.specs.List.{AllByRecursion}
 use Rattle.std.specs.Str.{IsUtf8}
-use Rattle.ldap_op.specs.ldap_updates.View.{change_view}
-use Rattle.log_journal.proofs.spelling.see_changes.Given as goal
+use Rattle.ldap_updates.specs.View.{change_view}
+use Rattle.ldap_op.proofs.spelling.see_changes.Given as goal
 
 abbrev pub invariant-loop-change : goal.invariant-loop-change
 invariant-loop-change l = AllByRecursion (λ k. IsUtf8 k.modification.description) (map change_view (take l.change-index l.changes))

@@ -1,9 +1,9 @@
 use Rattle.std.proofs.Common.{map, take}
 use Rattle.std.specs.List.{AllByRecursion}
 use Rattle.std.specs.Str.{IsUtf8}
-use Rattle.ldap_op.specs.ldap_parts.View.{attribute_view}
-use Rattle.ldap_op.specs.ldap_updates.Grammar.{HasAValue}
-use Rattle.log_journal.proofs.spelling.have_values.Given as goal
+use Rattle.ldap_updates.specs.ldap_parts.View.{attribute_view}
+use Rattle.ldap_updates.specs.Grammar.{HasAValue}
+use Rattle.ldap_op.proofs.spelling.have_values.Given as goal
 
 abbrev pub invariant-loop-attribute : goal.invariant-loop-attribute
 invariant-loop-attribute l = AllByRecursion (λ x. IsUtf8 x.description × HasAValue x) (map attribute_view (take l.attribute-index l.attributes))

@@ -1,9 +1,9 @@
 use Rattle.std.proofs.Common.{ℕ, List, subst, sym, ◌∙◌}
 use Rattle.std.specs.Str.{IsUtf8}
-use Rattle.ldap_op.specs.ldap_parts.View.{attribute_view}
-use Rattle.ldap_op.specs.ldap_updates.Grammar.{HasAValue}
-use Rattle.log_journal.proofs.Texts.{all_more_at, all_done, some_value}
-use Rattle.log_journal.proofs.spelling.have_values.Goals as goal
+use Rattle.ldap_updates.specs.ldap_parts.View.{attribute_view}
+use Rattle.ldap_updates.specs.Grammar.{HasAValue}
+use Rattle.ldap_op.proofs.Texts.{all_more_at, all_done, some_value}
+use Rattle.ldap_op.proofs.spelling.have_values.Goals as goal
 
 pub loop-attribute-preserved : goal.loop-attribute-preserved
 loop-attribute-preserved c = all_more_at (λ x. IsUtf8 x.description × HasAValue x) attribute_view c.args.attributes.now c.loop-attribute.attribute-index c.attribute-item.result
