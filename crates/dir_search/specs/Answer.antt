@@ -39,16 +39,19 @@ limited limit shown =
 abbrev pub dse_matching : Directory → SearchRequestValue → List SearchResultEntryValue
 dse_matching d q = cond (is_true (filter_value d.schema q.filter [] (dse_attributes d.schema))) (dse_selected d q.attributes q.types_only ∷ []) []
 
+-- a name of no relative names, the root's
 abbrev pub is_empty : List RdnModel → Bool
 is_empty [] = true
 is_empty (r ∷ rs) = false
 
+-- whether the base itself is all that is searched
 abbrev pub is_base : Scope → Bool
 is_base BaseObject = true
 is_base SingleLevel = false
 is_base WholeSubtree = false
 is_base SubordinateSubtree = false
 
+-- whether the scope is subordinateSubtree, which is no scope of RFC 4511
 abbrev pub is_subordinate : Scope → Bool
 is_subordinate BaseObject = false
 is_subordinate SingleLevel = false
@@ -69,6 +72,7 @@ answer_at d q base =
     cond (is_empty base && is_base q.scope) (record { code = 0; matched = []; entries = dse_matching d q })
     (cond (stands d base) (found_at d q base) (refused (not_found d base)))
 
+-- 34 where the base is no name, else the answer at it
 abbrev pub answer_of : Directory → SearchRequestValue → Option (List RdnModel) → Answer
 answer_of d q None = refused (only 34)
 answer_of d q (Some base) = answer_at d q base
@@ -81,9 +85,11 @@ answer d q = cond (is_subordinate q.scope) (refused (only 2)) (answer_of d q (na
 abbrev pub tried_at : Directory → SearchRequestValue → List RdnModel → ℕ
 tried_at d q base = cond (is_empty base && is_base q.scope) 1 (cond (stands d base) (length (in_scope d q.scope base)) 0)
 
+-- none where the base is no name
 abbrev pub tried_of : Directory → SearchRequestValue → Option (List RdnModel) → ℕ
 tried_of d q None = 0
 tried_of d q (Some base) = tried_at d q base
 
+-- how many entries the filter may be tried on
 abbrev pub tried : Directory → SearchRequestValue → ℕ
 tried d q = cond (is_subordinate q.scope) 0 (tried_of d q (name_of_text d.schema q.base))

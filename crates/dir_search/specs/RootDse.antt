@@ -11,6 +11,7 @@ use Rattle.indexed_tree.specs.directory_api.ldap_msg.Messages.{SearchResultEntry
 use Rattle.indexed_tree.specs.Directory.{Directory}
 use Rattle.dir_search.specs.Selection.{attributes_selected}
 
+-- no attributes where the entry can't be made
 abbrev pub or_nothing : Result (List AttributeModel) ℕ → List AttributeModel
 or_nothing (Err code) = []
 or_nothing (Ok e) = e
@@ -40,6 +41,7 @@ supported_extension = record { description = codes "supportedExtension"; values 
 abbrev pub supported_ldap_version : PartialAttributeValue
 supported_ldap_version = record { description = codes "supportedLDAPVersion"; values = codes "3" ∷ [] }
 
+-- typesOnly leaves the values out (RFC 4511 4.5.1.6)
 abbrev pub without_values : Bool → PartialAttributeValue → PartialAttributeValue
 without_values types_only a = record { description = a.description; values = cond types_only [] a.values }
 

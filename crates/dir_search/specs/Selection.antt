@@ -24,6 +24,7 @@ abbrev pub is_selected : SchemaModel → List (List ℕ) → ℕ → Bool
 is_selected s [] t = true
 is_selected s (selector ∷ selectors) t = list_any (is_selected_by s t) (selector ∷ selectors)
 
+-- the name that a type is shown by: its first, or its OID where it has none
 abbrev pub first_name : SchemaModel → ℕ → List ℕ
 first_name s t = name_of_type (type_at s t)
 

@@ -74,6 +74,7 @@ change_asked d m = then (name_asked d.schema m.object) (λ name. then (entry_ask
 abbrev pub modified : Directory → ModifyRequestValue → Result (List NamedEntry) ReplyModel
 modified d m = then (change_asked d m) (λ k. Ok (with_attributes k.number k.attributes d.entries))
 
+-- the relative name of a name that has just one
 abbrev pub one_rdn : Option (List RdnModel) → Option RdnModel
 one_rdn None = None
 one_rdn (Some []) = None
@@ -89,6 +90,7 @@ abbrev pub superior_asked : SchemaModel → Option (List ℕ) → Result (Option
 superior_asked s None = Ok None
 superior_asked s (Some text) = then (name_asked s text) (λ name. Ok (Some name))
 
+-- whether a name is that of the other entry, or below it
 abbrev pub is_at_or_below : List RdnModel → Option (List RdnModel) → Bool
 is_at_or_below name None = false
 is_at_or_below name (Some above) = begins (rdns name) (rdns above)
@@ -102,6 +104,7 @@ abbrev pub superior_of : Directory → List RdnModel → Option (List RdnModel) 
 superior_of d name None = Ok (parent_of name)
 superior_of d name (Some superior) = then (entry_asked d superior) (λ above. Ok above.name)
 
+-- whether there is an entry, of another number
 abbrev pub is_other_than : ℕ → Option NamedEntry → Bool
 is_other_than number None = false
 is_other_than number (Some e) = not (nat_eq number e.number)
@@ -158,10 +161,12 @@ updated d number (modify m) = modified d m
 updated d number (modify_dn r) = renamed_all d r
 updated d number noop = Ok d.entries
 
+-- the directory with these entries, or as it was where there is a refusal
 abbrev pub with_entries : Directory → Result (List NamedEntry) ReplyModel → Directory
 with_entries d (Err reply) = d
 with_entries d (Ok entries) = record { schema = d.schema; suffix = d.suffix; entries = entries }
 
+-- code 0, or the refusal
 abbrev pub reply_of : Result (List NamedEntry) ReplyModel → ReplyModel
 reply_of (Err reply) = reply
 reply_of (Ok entries) = only 0

@@ -16,11 +16,13 @@ pub data Looked (A : Type 0) : Type 0 where
   gone : Looked A
   no_memory : Looked A
 
+-- what a look answers that finds nothing to look at
 abbrev pub not_looked : {A : Type 0} → LookError → Looked A
 not_looked (NotYet at) = not_yet at
 not_looked Gone = gone
 not_looked NoMemory = no_memory
 
+-- what a look answers, as clauses see it
 abbrev pub looked : {A B : Type 0} → (A → B) → Result (Found A) LookError → Looked B
 looked view (Ok f) = found f.at (view f.answer)
 looked view (Err e) = not_looked e

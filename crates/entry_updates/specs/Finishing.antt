@@ -13,6 +13,7 @@ use Rattle.entry_classes.specs.Structural.{kept_completed}
 abbrev pub named : SchemaModel → List TypeAndValue → List AttributeModel → Result (List AttributeModel) ℕ
 named s rdn e = and_then (with_rdn s rdn e) (settled s)
 
+-- without the old relative name's values, if deleteoldrdn asks for that (RFC 4511 4.9)
 abbrev pub dropped : SchemaModel → Bool → List TypeAndValue → List TypeAndValue → List AttributeModel → Result (List AttributeModel) ℕ
 dropped s false new old e = Ok e
 dropped s true new old e = without_rdn s new old e

@@ -12,6 +12,7 @@ use Rattle.entry_changes.specs.Editing.{with_added, with_deleted, with_replaced}
 use Rattle.entry_changes.specs.Naming.{and_then}
 use Rattle.entry_updates.specs.Finishing.{kept}
 
+-- none of RFC 4511's operations is RFC 4525's increment
 abbrev pub is_increment : ModifyOperation → Bool
 is_increment Add = false
 is_increment Delete = false

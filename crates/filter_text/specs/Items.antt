@@ -101,6 +101,7 @@ IsItemText (extensible e) text = IsExtensible e text
 
 -- ---- what is printed
 
+-- a part of a substring, or nothing where there is none
 abbrev pub printed_part : Option (List ℕ) → List ℕ
 printed_part None = []
 printed_part (Some v) = printed_value v
@@ -110,6 +111,7 @@ abbrev pub printed_parts : List (List ℕ) → List ℕ
 printed_parts [] = []
 printed_parts (v ∷ vs) = printed_value v ++ 42 ∷ printed_parts vs
 
+-- `:dn` where the flag is set
 abbrev pub printed_flag : Bool → List ℕ
 printed_flag true = 58 ∷ 100 ∷ 110 ∷ []
 printed_flag false = []
@@ -128,6 +130,7 @@ abbrev pub is_part : List ℕ → Bool
 is_part [] = false
 is_part (c ∷ cs) = are_octets (c ∷ cs)
 
+-- whether it is a part, where there is one
 abbrev pub is_part_or_none : Option (List ℕ) → Bool
 is_part_or_none None = true
 is_part_or_none (Some v) = is_part v

@@ -47,6 +47,7 @@ is_character n v = nat_le n (length v) && list_all is_high (take n v) && is_utf8
 abbrev pub character_len : List ℕ → ℕ
 character_len v = cond (is_character 2 v) 2 (cond (is_character 3 v) 3 (cond (is_character 4 v) 4 0))
 
+-- the octet at the front: by itself, where no character of several octets begins there
 abbrev pub put_first : ℕ → ℕ → List ℕ
 put_first zero c = put_alone c
 put_first (suc n) c = put_octet c

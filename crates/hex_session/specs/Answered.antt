@@ -55,6 +55,7 @@ pub record HasFailedAt {D T : Type 0} (allows : D → Exchange T → D → Type 
   pub appended : Appends output grown more
   pub comes : (first : D) (read written : List ℕ) → Reached message_lines allows c first old s read written → Ends message_lines allows c first now (read ++ taken) (written ++ more) (end_of fault)
 
+-- after a line's octets were fed: what was written is appended, and all that was read and written so far is what the session comes to
 pub record HasFed {D T : Type 0} (allows : D → Exchange T → D → Type 0) (c : ConfigValue) (old now : D) (s t : SessionValue) (piece : List ℕ) (output grown : Option (List ℕ)) (next : Next) : Type 0 where
   pub more : List ℕ
   pub appended : Appends output grown more

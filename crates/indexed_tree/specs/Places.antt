@@ -30,9 +30,11 @@ nearest q es = entry_named (take (front_from (length q) q es) q) es
 abbrev pub parent_of : List RdnModel → List RdnModel
 parent_of name = take (length name - 1) name
 
+-- a name's own relative name, as a name of one
 abbrev pub last_of : List RdnModel → List RdnModel
 last_of name = drop (length name - 1) name
 
+-- how the first of these relative names is spelled; nothing where there is none
 abbrev pub spelling_of : List RdnModel → List TypeAndValue
 spelling_of [] = []
 spelling_of (r ∷ rs) = r.spelling

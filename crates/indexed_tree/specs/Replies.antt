@@ -8,6 +8,7 @@ use Rattle.directory_api.specs.Answers.{ReplyModel, only}
 use Rattle.indexed_tree.specs.Directory.{Directory, NamedEntry}
 use Rattle.indexed_tree.specs.Places.{entry_named, nearest}
 
+-- an entry's name as text, empty where there is no entry
 abbrev pub printed_in : SchemaModel → Option NamedEntry → List ℕ
 printed_in s None = []
 printed_in s (Some e) = printed_name s e.name

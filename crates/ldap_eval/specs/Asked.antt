@@ -6,6 +6,7 @@ use Rattle.ldap_eval.specs.Value.{parts_of}
 use Rattle.ldap_eval.specs.declared.asking.Asked.{Asked}
 use Rattle.ldap_eval.specs.declared.asking.Asked.TheVariants.{Presence, Equality, AtLeast, AtMost, Substrings}
 
+-- what is asked of an attribute, as clauses see it
 abbrev pub item_of : Asked → Item
 item_of Presence = present
 item_of (Equality a) = equal a.now

@@ -54,6 +54,7 @@ value_step n e (BoundFilter-F.Match m) = match_of_entry n e m
 abbrev pub bound_value : List RdnModel → List KeyedAttribute → BoundFilter → Truth
 bound_value n e = fold-BoundFilter Truth (value_step n e)
 
+-- one leaf more, or not
 abbrev pub leaf_if : Bool → BoundFilter → List BoundFilter → List BoundFilter
 leaf_if true leaf leaves = leaf ∷ leaves
 leaf_if false leaf leaves = leaves
@@ -67,6 +68,7 @@ leaves_from s item t (x ∷ xs) i = leaf_if (is_under s i t) (bound.Leaf (record
 abbrev pub leaves_for : SchemaModel → Item → ℕ → List BoundFilter
 leaves_for s item t = leaves_from s item t s.types 0
 
+-- from the i-th type on, a leaf for each type that the match looks at
 abbrev pub matches_from : SchemaModel → How → Option ℕ → List ℕ → Bool → List TypeModel → ℕ → List BoundFilter
 matches_from s h t a dn [] i = []
 matches_from s h t a dn (x ∷ xs) i =

@@ -59,6 +59,7 @@ pub record IsMatchOn (s : SchemaModel) (h : How) (t : Option ℕ) (a : List ℕ)
   pub matched : is_matched s h t a ≡ true → IsOrOf (λ bs. bs ≡ matches_with s h t a dn) b
   pub unmatched : is_matched s h t a ≡ false → b ≡ bound.Undefined
 
+-- undefined where the rule or the type is unknown, else what the match is on them
 abbrev pub IsMatchFor : SchemaModel → ExtensibleValue → Option How → Option (Option ℕ) → BoundFilter → Type 0
 IsMatchFor s x None t b = b ≡ bound.Undefined
 IsMatchFor s x (Some h) None b = b ≡ bound.Undefined

@@ -14,13 +14,16 @@ use Rattle.ldap_eval.specs.declared.naming_rules.How.{How}
 use Rattle.ldap_eval.specs.declared.matching.MatchTest.{MatchTest}
 use Rattle.ldap_eval.specs.declared.matching.MatchTest.TheVariants as test
 
+-- a test by the kept keys, or by keys made of the values
 abbrev pub match_made : Bool → Rule → Bool → List ℕ → MatchTest
 match_made by_key r less k = cond by_key (test.Kept (record { less = less; key = k })) (test.Text r (record { less = less; key = k }))
 
+-- unknown where the assertion has no key
 abbrev pub match_of_key : SchemaModel → How → ℕ → Rule → Option (List ℕ) → MatchTest
 match_of_key s h t r None = test.Unknown
 match_of_key s h t r (Some k) = match_made (goes_by_key s h t) r (asks_less h) k
 
+-- unknown where there is no rule
 abbrev pub match_of_rule : SchemaModel → How → List ℕ → ℕ → Option Rule → MatchTest
 match_of_rule s h a t None = test.Unknown
 match_of_rule s h a t (Some r) = match_of_key s h t r (key_at s r a)

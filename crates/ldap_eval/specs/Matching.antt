@@ -21,10 +21,12 @@ use Rattle.ldap_eval.specs.declared.naming_rules.NamedRule.{NamedRule}
 use Rattle.ldap_eval.specs.declared.naming_rules.How.{How}
 use Rattle.ldap_eval.specs.declared.naming_rules.How.TheVariants as how
 
+-- the rule of a family, as equality or as order
 abbrev pub named_as : Bool → Option Family → Option NamedRule
 named_as less None = None
 named_as less (Some f) = Some (record { family = f; less = less })
 
+-- the first that there is
 abbrev pub or_named : Option NamedRule → Option NamedRule → Option NamedRule
 or_named None r = r
 or_named (Some q) r = Some q
@@ -33,13 +35,16 @@ or_named (Some q) r = Some q
 abbrev pub named_rule : List ℕ → Option NamedRule
 named_rule w = or_named (named_as false (equality_family w)) (named_as true (ordering_family w))
 
+-- whether a type's rule is used on the syntax, and the family on the rule's
 abbrev pub is_rule_of : Option Rule → Family → Syntax → Bool
 is_rule_of None f x = false
 is_rule_of (Some r) f x = is_used_on r.family x && is_used_on f r.syntax
 
+-- whether values of the syntax may be compared by the family: all texts may, others by their own rule alone
 abbrev pub is_own_or_text : Syntax → Option Rule → Family → Bool
 is_own_or_text x equality f = is_textual x || is_rule_of equality f x
 
+-- the rule of the family for a type, where it is supported
 abbrev pub supported_in : Option TypeModel → Family → Option Rule
 supported_in None f = None
 supported_in (Some t) f = cond (is_used_on f t.syntax && is_own_or_text t.syntax t.equality f) (Some (record { family = f; syntax = t.syntax })) None
@@ -75,6 +80,7 @@ satisfies false m o = is_meant m o
 abbrev pub match_on_values : SchemaModel → How → List ℕ → ℕ → List (List ℕ) → Truth
 match_on_values s h a t values = by_rule (satisfies (asks_less h)) (λ r. meaning s r a) s (rule_for s h t) values
 
+-- whether a type is there and has text values
 abbrev pub is_text_in : Option TypeModel → Bool
 is_text_in None = false
 is_text_in (Some t) = is_textual t.syntax
@@ -88,6 +94,7 @@ abbrev pub goes_by_key : SchemaModel → How → ℕ → Bool
 goes_by_key s how.Own t = true
 goes_by_key s (how.Named r) t = not (is_text_type s t)
 
+-- whether a value's key meets the assertion's, where it has one
 abbrev pub key_meets : Bool → Option (List ℕ) → Option (List ℕ) → Bool
 key_meets less None x = false
 key_meets less (Some k) x = is_met_by less k x
@@ -96,10 +103,12 @@ key_meets less (Some k) x = is_met_by less k x
 abbrev pub pair_satisfies : SchemaModel → How → Rule → List ℕ → Meaning → PairModel → Bool
 pair_satisfies s h r a m p = cond (goes_by_key s h p.kind) (key_meets (asks_less h) (key_at s r a) p.key) (satisfies (asks_less h) m (meaning s r p.value))
 
+-- Undefined where the assertion has no meaning, else whether the pair satisfies it
 abbrev pub pair_answered : SchemaModel → How → Rule → List ℕ → Option Meaning → PairModel → Truth
 pair_answered s h r a None p = Undefined
 pair_answered s h r a (Some m) p = truth_of (pair_satisfies s h r a m p)
 
+-- Undefined where there is no rule, else what the pair answers
 abbrev pub pair_by : SchemaModel → How → List ℕ → Option Rule → PairModel → Truth
 pair_by s h a None p = Undefined
 pair_by s h a (Some r) p = pair_answered s h r a (meaning s r a) p

@@ -28,6 +28,7 @@ attributes_under s t e = filter (λ a. is_under s a.kind t) e
 abbrev pub item_on_type : SchemaModel → Item → ℕ → List AttributeModel → Truth
 item_on_type s asked t e = cond (is_answerable s asked t) (disjunction (map (λ a. item_on_attribute s asked a.kind a.values) (attributes_under s t e))) Undefined
 
+-- Undefined where the type is unknown (RFC 4511 4.5.1.7)
 abbrev pub item_on : SchemaModel → Item → Option ℕ → List AttributeModel → Truth
 item_on s asked None e = Undefined
 item_on s asked (Some t) e = item_on_type s asked t e
@@ -49,6 +50,7 @@ asked_by filter_item.approximate a = equal a
 
 -- ---- extensible items (RFC 4511 4.5.1.7.7)
 
+-- how a named rule compares
 abbrev pub named_how : Option NamedRule → Option How
 named_how None = None
 named_how (Some r) = Some (how.Named r)
@@ -58,6 +60,7 @@ abbrev pub how_of : Option (List ℕ) → Option How
 how_of None = Some how.Own
 how_of (Some word) = named_how (named_rule word)
 
+-- one type, where it is known; none at all where it isn't
 abbrev pub some_type : Option ℕ → Option (Option ℕ)
 some_type None = None
 some_type (Some t) = Some (Some t)
@@ -88,13 +91,16 @@ match_on_entry s h t a e = disjunction (map (λ x. match_on_values s h a x.kind 
 abbrev pub match_on_name : SchemaModel → How → Option ℕ → List ℕ → List RdnModel → Truth
 match_on_name s h t a n = disjunction (map (match_on_pair s h a) (filter (λ p. is_looked_at s h t p.kind) (pairs_of n)))
 
+-- Undefined where no type is matched so; else True, False or Undefined by the entry's values, and by its name where dnAttributes asks for that
 abbrev pub match_with : SchemaModel → How → Option ℕ → List ℕ → Bool → List RdnModel → List AttributeModel → Truth
 match_with s h t a dn n e = cond (is_matched s h t a) (truth_or (match_on_entry s h t a e) (cond dn (match_on_name s h t a n) False)) Undefined
 
+-- Undefined where the type is unknown
 abbrev pub match_of_type : SchemaModel → How → Option (Option ℕ) → ExtensibleValue → List RdnModel → List AttributeModel → Truth
 match_of_type s h None x n e = Undefined
 match_of_type s h (Some t) x n e = match_with s h t x.match_value x.dn_attributes n e
 
+-- Undefined where the rule is unknown
 abbrev pub match_by : SchemaModel → Option How → ExtensibleValue → List RdnModel → List AttributeModel → Truth
 match_by s None x n e = Undefined
 match_by s (Some h) x n e = match_of_type s h (type_of s x.description) x n e

@@ -9,6 +9,7 @@ use Rattle.ldap_fields.specs.Rows.{row_bytes}
 use Rattle.ldap_fields.specs.Written.{optional_bytes, flag_or_false_bytes, IsTextOrNone}
 use Rattle.ldap_filter.specs.Item.{Comparison, equal, at_least, at_most, approximate, SubstringsValue, ExtensibleValue, Item, comparison, substrings, presence, extensible}
 
+-- the first octet of each comparison (RFC 4511 4.5.1)
 abbrev pub comparison_octet : Comparison → ℕ
 comparison_octet equal = 163
 comparison_octet at_least = 165
@@ -55,15 +56,19 @@ IsItem (extensible e) content = IsExtensible e content
 
 -- ---- what is written
 
+-- the content of an AttributeValueAssertion
 abbrev pub assertion_content : List ℕ → List ℕ → List ℕ
 assertion_content d a = element_bytes 4 d ++ element_bytes 4 a
 
+-- the content of a substring's parts
 abbrev pub parts_content : SubstringsValue → List ℕ
 parts_content s = optional_bytes 128 s.initial ++ row_bytes (element_bytes 129) s.any ++ optional_bytes 130 s.last
 
+-- the content of a SubstringFilter
 abbrev pub substrings_content : SubstringsValue → List ℕ
 substrings_content s = element_bytes 4 s.description ++ element_bytes 48 (parts_content s)
 
+-- the content of a MatchingRuleAssertion
 abbrev pub extensible_content : ExtensibleValue → List ℕ
 extensible_content e = optional_bytes 129 e.matching_rule ++ optional_bytes 130 e.description ++ element_bytes 131 e.match_value ++ flag_or_false_bytes 132 e.dn_attributes
 

@@ -8,6 +8,7 @@ use Rattle.ldap_filter.specs.ItemView.{substrings_view, extensible_view}
 use Rattle.ldap_filter.specs.declared.tree.Filter.{Filter, fold-Filter}
 use Rattle.ldap_filter.specs.declared.tree.Filter.TheOpen.{Filter-F}
 
+-- trees in a row
 abbrev pub row : List Tree → Trees
 row [] = no_trees
 row (t ∷ ts) = tree t (row ts)
@@ -25,8 +26,10 @@ view_step (Filter-F.Present d) = item (presence (string_bytes d))
 view_step (Filter-F.Approx d a) = item (comparison approximate (string_bytes d) a.items)
 view_step (Filter-F.Extensible a) = item (extensible (extensible_view a))
 
+-- a filter as clauses see it
 abbrev pub view : Filter → Tree
 view = fold-Filter Tree view_step
 
+-- filters as clauses see them
 abbrev pub views : List Filter → Trees
 views fs = row (map view fs)

@@ -107,6 +107,7 @@ KeepsBy v w octets next Awaits = ⊥
 KeepsBy v w octets next Answered = (next ≡ GoesOn) × (w.unsent ≡ v.unsent ++ octets) × (w.end ≡ None)
 KeepsBy v w octets next (Ends end) = EndsBy v w octets next end
 
+-- a step that leaves the session as it was, with its output and what is next kept as KeepsBy says
 pub record Keeps (v w : ConversationValue) (octets : List ℕ) (next : Next) (step : Step) : Type 0 where
   pub session : w.session ≡ v.session
   pub keeps : KeepsBy v w octets next step

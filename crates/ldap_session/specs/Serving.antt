@@ -29,10 +29,12 @@ abbrev pub IsBetween : Ending → Type 0
 IsBetween (awaits rest) = rest ≡ []
 IsBetween (stops fault) = ⊥
 
+-- whether octets of a message stand at the end, which isn't whole
 abbrev pub IsInside : Ending → Type 0
 IsInside (awaits rest) = rest ≡ [] → ⊥
 IsInside (stops fault) = ⊥
 
+-- whether further octets may follow
 abbrev pub IsAwaiting : Ending → Type 0
 IsAwaiting (awaits rest) = Unit {0}
 IsAwaiting (stops fault) = ⊥

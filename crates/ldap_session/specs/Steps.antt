@@ -43,6 +43,7 @@ IsFlushed Goes Goes = Unit {0}
 IsFlushed Goes (EndsWith end) = end ≡ WriteFailed
 IsFlushed (EndsWith end) flow = flow ≡ EndsWith end
 
+-- nothing was written, and the flow is as after a flush
 pub record HasFlushed (output grown : Option (List ℕ)) (before after : Flow) : Type 0 where
   pub appended : Appends output grown []
   pub flow : IsFlushed before after

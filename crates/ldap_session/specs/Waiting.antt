@@ -21,6 +21,7 @@ may_update (compare c) = false
 may_update (abandon id) = false
 may_update (extended_request x) = true
 
+-- whether an operation is a request that may update
 abbrev pub is_update : OperationValue → Bool
 is_update (request r) = may_update r
 is_update (response r) = false
@@ -53,6 +54,7 @@ bind_name (compare c) = None
 bind_name (abandon id) = None
 bind_name (extended_request x) = None
 
+-- the name that a bind request names
 abbrev pub bind_name_in : OperationValue → Option (List ℕ)
 bind_name_in (request r) = bind_name r
 bind_name_in (response r) = None

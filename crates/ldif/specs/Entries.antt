@@ -12,6 +12,7 @@ lines_with description values = map (λ octets. record { description = descripti
 abbrev pub lines_of : PartialAttributeValue → List ValueModel
 lines_of a = lines_with a.description a.values
 
+-- the values of all attributes, in order
 abbrev pub lines_of_all : List PartialAttributeValue → List ValueModel
 lines_of_all [] = []
 lines_of_all (a ∷ rest) = lines_of a ++ lines_of_all rest

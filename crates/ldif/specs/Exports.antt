@@ -35,6 +35,7 @@ meant_by_response (modify_dn_response r) = Other
 meant_by_response (compare_response r) = Other
 meant_by_response (extended r) = Other
 
+-- what a message means for an export: a request means nothing that an export takes
 abbrev pub meant_by : OperationValue → Meant
 meant_by (request r) = Other
 meant_by (response r) = meant_by_response r
@@ -69,6 +70,7 @@ abbrev pub wrong_behind : List Meant → Option ExportError
 wrong_behind [] = None
 wrong_behind (m ∷ ms) = Some BadMessage
 
+-- what is wrong at the end of a search: its code where that isn't 0, else what stands behind
 abbrev pub wrong_at_end : ℕ → List Meant → Option ExportError
 wrong_at_end n ms = cond (nat_eq n 0) (wrong_behind ms) (Some (Code n))
 

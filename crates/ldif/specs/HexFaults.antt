@@ -13,5 +13,6 @@ IsLineFault NoDoneMessage spelled = ⊥
 IsLineFault BadMessage spelled = ⊥
 IsLineFault NoMemory spelled = Unit {0}
 
+-- the fault of a text of hexadecimal lines
 abbrev pub IsHexFault : ExportError → List ℕ → Type 0
 IsHexFault e text = IsLineFault e (octets_of_lines text)

@@ -11,6 +11,7 @@ abbrev pub after : List (List ℕ) → Result (List (List ℕ)) ℕ → Result (
 after front (Ok os) = Ok (front ++ os)
 after front (Err n) = Err n
 
+-- the octets of a line before those of the rest, or the number of the line that has none
 abbrev pub octets_then : ℕ → Option (List ℕ) → Result (List (List ℕ)) ℕ → Result (List (List ℕ)) ℕ
 octets_then n None rest = Err n
 octets_then n (Some octets) rest = after (octets ∷ []) rest

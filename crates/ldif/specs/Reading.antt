@@ -14,6 +14,7 @@ pub record ReadingModel : Type 0 where
   pub current : Option RecordModel
   pub begun : Bool
 
+-- the records, with the one that isn't closed yet behind them
 abbrev pub with_open : List RecordModel → Option RecordModel → List RecordModel
 with_open rs None = rs
 with_open rs (Some r) = rs ++ r ∷ []
@@ -69,6 +70,7 @@ abbrev pub read_from : ReadingModel → List LineModel → Result (List RecordMo
 read_from s [] = Ok (with_open s.done s.current)
 read_from s (l ∷ ls) = or_wrong (after_line s (line_says l.text)) l.number (λ t. read_from t ls)
 
+-- before the first line
 abbrev pub nothing_read : ReadingModel
 nothing_read = record { done = []; current = None; begun = false }
 

@@ -5,6 +5,7 @@ use Rattle.ldif.specs.Says.{Says, blank, comment, named, valued, encoded, wrong}
 use Rattle.ldif.specs.declared.saying.Said.{Said}
 use Rattle.ldif.specs.declared.saying.Said.TheVariants.{Blank, Comment, Name, Value, Encoded, Wrong}
 
+-- what a line says, as clauses see it
 abbrev pub said_of : Said → Says
 said_of Blank = blank
 said_of Comment = comment

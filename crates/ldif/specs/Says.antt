@@ -54,6 +54,7 @@ abbrev pub value_says : Bool → List ℕ → List ℕ → Says
 value_says in_base64 word octets =
     cond (is_type word) (form_says in_base64 (record { description = word; octets = octets })) wrong
 
+-- what a pair says, by its octets; it is wrong where these can't be read
 abbrev pub pair_says : Bool → List ℕ → Option (List ℕ) → Says
 pair_says in_base64 word None = wrong
 pair_says in_base64 word (Some octets) = cond (is_dn word) (name_says octets) (value_says in_base64 word octets)

@@ -14,6 +14,7 @@ is_safe_octet c = not (nat_eq c 0) && not (nat_eq c 10) && not (nat_eq c 13) && 
 abbrev pub is_safe_first : ℕ → Bool
 is_safe_first c = not (nat_eq c 32 || nat_eq c 58 || nat_eq c 60)
 
+-- whether the last octet is a space
 abbrev pub ends_with_space : List ℕ → Bool
 ends_with_space v = nat_eq (slice_index v (length v - 1)) 32
 
@@ -31,6 +32,7 @@ value_part (c ∷ cs) = cond (is_safe (c ∷ cs)) (32 ∷ c ∷ cs) (58 ∷ 32 �
 abbrev pub pair_line : List ℕ → List ℕ → List ℕ
 pair_line word octets = word ++ 58 ∷ value_part octets
 
+-- a value's line
 abbrev pub value_line : ValueModel → List ℕ
 value_line v = pair_line v.description v.octets
 
@@ -38,6 +40,7 @@ value_line v = pair_line v.description v.octets
 abbrev pub record_lines : RecordModel → List (List ℕ)
 record_lines r = [] ∷ pair_line (codes "dn") r.name ∷ map value_line r.values
 
+-- the lines of all records, in order
 abbrev pub records_lines : List RecordModel → List (List ℕ)
 records_lines [] = []
 records_lines (r ∷ rs) = record_lines r ++ records_lines rs

@@ -25,9 +25,11 @@ Heads cluster first (Err error.NoMemory) = ⊥
 abbrev pub schema_in : List ℕ → List ℕ
 schema_in digests = take 32 digests
 
+-- the digest of the suffix, the second one
 abbrev pub suffix_in : List ℕ → List ℕ
 suffix_in digests = take 32 (drop 32 digests)
 
+-- the digest of the clients' addresses, the third one
 abbrev pub clients_in : List ℕ → List ℕ
 clients_in digests = drop 32 (drop 32 digests)
 

@@ -17,6 +17,7 @@ number_control = codes "2.25.20120101"
 abbrev pub request_control : List ℕ
 request_control = codes "2.25.20120102"
 
+-- whether a control is of this type
 abbrev pub is_of : List ℕ → ControlValue → Bool
 is_of oid c = bytes_eq c.control_type oid
 
@@ -35,6 +36,7 @@ abbrev pub read_value : {A : Type 0} → Option A → Result (Option A) ℕ
 read_value None = Err 2
 read_value (Some x) = Ok (Some x)
 
+-- what a control's value says; code 2 where it has none
 abbrev pub value_of : {A : Type 0} → (List ℕ → Option A) → Option (List ℕ) → Result (Option A) ℕ
 value_of reads None = Err 2
 value_of reads (Some value) = read_value (reads value)
@@ -51,20 +53,25 @@ AreRepeated [] = ⊥
 AreRepeated (c ∷ []) = ⊥
 AreRepeated (c ∷ d ∷ cs) = Unit {0}
 
+-- the number with a request, or the request's code
 abbrev pub with_request : Option ℕ → Result (Option (ℕ × ℕ)) ℕ → Result Named ℕ
 with_request number (Err code) = Err code
 with_request number (Ok request) = Ok (record { number = number; request = request })
 
+-- the number's code first, then the request's
 abbrev pub with_number : Result (Option ℕ) ℕ → Result (Option (ℕ × ℕ)) ℕ → Result Named ℕ
 with_number (Err code) request = Err code
 with_number (Ok number) request = with_request number request
 
+-- the number that a control names, if one does
 abbrev pub number_named : List ControlValue → Result (Option ℕ) ℕ
 number_named controls = named_by number_of (filter (is_of number_control) controls)
 
+-- the request that a control names, if one does
 abbrev pub request_named : List ControlValue → Result (Option (ℕ × ℕ)) ℕ
 request_named controls = named_by pair_of (filter (is_of request_control) controls)
 
+-- what controls name on a request of a kind: a number on each that reads or updates, a request on an update
 abbrev pub named_in : Kind → List ControlValue → Result Named ℕ
 named_in Read controls = with_number (number_named controls) (Ok None)
 named_in Update controls = with_number (number_named controls) (request_named controls)

@@ -13,6 +13,7 @@ is_padded (b ∷ c ∷ bs) = nat_eq b 48
 abbrev pub number_of : List ℕ → Option ℕ
 number_of text = cond (is_padded text) None (number_of_digits text)
 
+-- no number where it is 0
 abbrev pub positive : ℕ → Option ℕ
 positive n = cond (nat_eq n 0) None (Some n)
 
@@ -25,10 +26,12 @@ abbrev pub before_colon : List ℕ → List ℕ
 before_colon [] = []
 before_colon (b ∷ bs) = cond (nat_eq b 58) [] (b ∷ before_colon bs)
 
+-- what stands behind the first colon
 abbrev pub behind_colon : List ℕ → List ℕ
 behind_colon [] = []
 behind_colon (b ∷ bs) = cond (nat_eq b 58) bs (behind_colon bs)
 
+-- both, where both are there
 abbrev pub both : Option ℕ → Option ℕ → Option (ℕ × ℕ)
 both None b = None
 both (Some a) None = None

@@ -14,6 +14,7 @@ use Rattle.request_checks.specs.declared.requests.Answering.TheVariants.{Bind, S
 abbrev pub noop_request : List ℕ
 noop_request = codes "2.25.20120103"
 
+-- whether an extended request is the no-op's
 abbrev pub is_noop : ExtendedRequestValue → Bool
 is_noop x = bytes_eq x.request_name noop_request
 

@@ -14,6 +14,7 @@ use Rattle.dir_index.specs.index_choice.declared.kinds.Kinds.{Kinds}
 use Rattle.dir_index.specs.index_choice.Choice.{kinds_of}
 use Rattle.std.specs.Option.{option_flatten}
 
+-- one more in front, or not
 abbrev pub put_if : Bool → ℕ → List ℕ → List ℕ
 put_if true t ts = t ∷ ts
 put_if false t ts = ts
@@ -45,6 +46,7 @@ abbrev pub is_item_decided : SchemaModel → List Kinds → Item → Option ℕ 
 is_item_decided s ix asked None = true
 is_item_decided s ix asked (Some t) = not (is_answerable s asked t) || list_all (is_decided_on s ix asked) (types_under s t)
 
+-- whether the match looks at one of these types, the first of which has this number
 abbrev pub looks_from : SchemaModel → How → Option ℕ → List TypeModel → ℕ → Bool
 looks_from s h t [] i = false
 looks_from s h t (x ∷ xs) i = is_looked_at s h t i || looks_from s h t xs (i + 1)
@@ -63,6 +65,7 @@ is_left_open s x (Some h) (Some t) = is_matched s h t x.match_value && looks_at_
 abbrev pub is_extensible_decided : SchemaModel → List Kinds → ExtensibleValue → Option How → Option (Option ℕ) → Bool
 is_extensible_decided s ix x h t = cond (is_equality_item s x h t) (is_item_decided s ix (equal x.match_value) (option_flatten t)) (not (is_left_open s x h t))
 
+-- whether an item's value is decided by the lists alone
 abbrev pub is_wire_item_decided : SchemaModel → List Kinds → filter_item.Item → Bool
 is_wire_item_decided s ix (filter_item.comparison k d a) = is_item_decided s ix (asked_by k a) (find s d)
 is_wire_item_decided s ix (filter_item.substrings x) = is_item_decided s ix (substrings (parts_of x)) (find s x.description)

@@ -74,6 +74,7 @@ has_runs_of_item s ix e asked (Some t) = is_answerable s asked t && list_any (λ
 abbrev pub has_runs_of_extensible : SchemaModel → List Kinds → List AttributeModel → ExtensibleValue → Option How → Option (Option ℕ) → Bool
 has_runs_of_extensible s ix e x h t = cond (is_equality_item s x h t) (has_runs_of_item s ix e (equal x.match_value) (option_flatten t)) (is_left_open s x h t)
 
+-- whether the lists of an item have the runs that the entry's values have
 abbrev pub has_runs_of_wire_item : SchemaModel → List Kinds → List AttributeModel → filter_item.Item → Bool
 has_runs_of_wire_item s ix e (filter_item.comparison k d a) = has_runs_of_item s ix e (asked_by k a) (find s d)
 has_runs_of_wire_item s ix e (filter_item.substrings x) = has_runs_of_item s ix e (substrings (parts_of x)) (find s x.description)

@@ -8,6 +8,7 @@ use Rattle.dir_index.specs.Postings.{Lists, has_number, IsRising}
 use Rattle.search_plans.specs.Sets.{is_in, Guides}
 use Rattle.search_plans.specs.declared.plan.Sided.{Sided}
 
+-- whether a value is True
 abbrev pub is_true : Truth → Bool
 is_true True = true
 is_true False = false

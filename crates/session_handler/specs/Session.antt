@@ -79,6 +79,7 @@ identity_refused i ModifyDn = i
 identity_refused i Compare = i
 identity_refused i Extended = i
 
+-- the state after a refusal
 abbrev pub state_refused : State → Answering → State
 state_refused s answering = record s { identity = identity_refused s.identity answering }
 
@@ -95,6 +96,7 @@ pub data Due : Type 0 where
   at_once : Reaction → Due
   after_role : RequestValue → Named → Due
 
+-- a refusal where the controls are wrong, else what follows from the role
 abbrev pub due_by : State → ℕ → RequestValue → Result Named ℕ → Due
 due_by s id r (Err code) = at_once (refused_with s id (answering_of r) code)
 due_by s id r (Ok named) = after_role r named
@@ -109,6 +111,7 @@ abbrev pub due_of_op : State → MessageValue → OperationValue → Due
 due_of_op s m (request r) = due_unless s m r (silence_of r)
 due_of_op s m (response r) = at_once (disconnected s)
 
+-- what is due for a message
 abbrev pub due : State → MessageValue → Due
 due s m = due_of_op s m m.op
 
@@ -119,6 +122,7 @@ pub data Asked : Type 0 where
   a_compare : ℕ → CompareRequestValue → Asked
   an_update : Client → ℕ → OpValue → Asked
 
+-- the number, or 0 where none is named
 abbrev pub or_zero : Option ℕ → ℕ
 or_zero None = 0
 or_zero (Some n) = n

@@ -105,9 +105,11 @@ pub record IsNext (g : PooledSession) (next : Due) : Type 0 where
   pub free : g.is_stuck ≡ false
   pub next_is : due_next (talk g) ≡ next
 
+-- whether no whole message is left over
 abbrev pub IsSilent : PooledSession → Type 0
 IsSilent g = IsNext g DueNothing
 
+-- whether the next message is an update
 abbrev pub IsUpdateNext : PooledSession → Type 0
 IsUpdateNext g = IsNext g DueUpdate
 
@@ -157,6 +159,7 @@ pub record RousesOne (g : PooledSession) (after : Option PooledSession) (told : 
   pub told_is : told ≡ Some (fd, turn)
   pub roused : HasRoused g pooled turn
 
+-- nothing where no session waits there, else what rousing that one does
 abbrev pub RousesAt : Option PooledSession → Option PooledSession → Option (ℤ × Turn) → Type 0
 RousesAt None after told = (after ≡ None) × (told ≡ None)
 RousesAt (Some g) after told = RousesOne g after told

@@ -16,6 +16,7 @@ posted p = p.updaters.items
 abbrev pub post_of : ℕ → Updater
 post_of place = record { place = place; closed = None }
 
+-- a place whose session was closed at this moment
 abbrev pub closed_post : ℕ → Instant → Updater
 closed_post place since = record { place = place; closed = Some since }
 

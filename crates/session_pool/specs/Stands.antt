@@ -31,6 +31,7 @@ abbrev pub is_ready : PlaceState → Bool
 is_ready Ready = true
 is_ready s = false
 
+-- whether a session is with a thread for updates
 abbrev pub is_updates : PlaceState → Bool
 is_updates Updates = true
 is_updates s = false
@@ -52,6 +53,7 @@ is_here (Some Ready) = true
 is_here (Some Updates) = true
 is_here s = false
 
+-- whether there is a place with a session in it
 abbrev pub has_some : {G : Type 0} → Option (Option G) → Bool
 has_some (Some (Some g)) = true
 has_some g = false

@@ -43,6 +43,7 @@ pub record IsHome (t : Tabled) (g : PooledSession) (p : ℕ) : Type 0 where
   pub here : slice_get t.sessions p ≡ Some (Some g)
   pub own : g.place ≡ p
 
+-- the session of a place, if both are there
 abbrev pub flat : Option (Option PooledSession) → Option PooledSession
 flat None = None
 flat (Some g) = g
@@ -128,6 +129,7 @@ pub record IsPatient (t : Tabled) (queue : Queue) (limit : Duration) (now : Inst
   pub longest : WaitsLongest t queue pooled
   pub soon : IsPast pooled.since limit now → ⊥
 
+-- none waits in the queue, or none has waited for the whole limit
 abbrev pub NoneOverdue : Tabled → Queue → Duration → Instant → Type 0
 NoneOverdue t queue limit now = NoneIn t.spots queue ⊎ IsPatient t queue limit now
 
@@ -137,5 +139,6 @@ pub record IsLess (t : Tabled) (queue : Queue) (limit : Duration) (now : Instant
   pub longest : WaitsLongest t queue pooled
   pub less : as_nanos left ≡ as_nanos limit - (instant_nanos now - instant_nanos pooled.since)
 
+-- the time that is left: the limit where none waits, else what is left of it for the one that has waited longest
 abbrev pub LeavesTime : Tabled → Queue → Duration → Instant → Duration → Type 0
 LeavesTime t queue limit now left = (NoneIn t.spots queue × (left ≡ limit)) ⊎ IsLess t queue limit now left

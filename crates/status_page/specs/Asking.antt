@@ -15,9 +15,11 @@ get = 71 ∷ 69 ∷ 84 ∷ []
 abbrev pub live : List ℕ
 live = 47 ∷ 108 ∷ 105 ∷ 118 ∷ 101 ∷ []
 
+-- `/ready`
 abbrev pub ready : List ℕ
 ready = 47 ∷ 114 ∷ 101 ∷ 97 ∷ 100 ∷ 121 ∷ []
 
+-- `/metrics`
 abbrev pub metrics : List ℕ
 metrics = 47 ∷ 109 ∷ 101 ∷ 116 ∷ 114 ∷ 105 ∷ 99 ∷ 115 ∷ []
 

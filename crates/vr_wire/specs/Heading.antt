@@ -29,6 +29,7 @@ abbrev pub heading_by : ℕ → List ℕ → Option (ℕ × (ℕ × ℕ))
 heading_by cluster o =
     cond (slice_index o 0 == 2 && nat_lt 0 cluster && is_kind (slice_index o 7)) (Some (cluster, (slice_index o 7, slice_index o 8))) None
 
+-- the same, with the cluster that octets 1 to 6 tell
 abbrev pub heading_of : List ℕ → Option (ℕ × (ℕ × ℕ))
 heading_of o = heading_by (from_be_bytes w64 (0 ∷ 0 ∷ take 6 (drop 1 o))) o
 

@@ -159,6 +159,7 @@ frame_of (Ok None) = Ok None
 frame_of (Ok (Some v)) = Ok (Some v.items)
 frame_of (Err e) = Err e
 
+-- the frame that is handed out, if there is one, joins those handed out before
 abbrev pub HandsFrame : Result (Option (Vec ℕ Global)) WireError → List (List ℕ) → List (List ℕ) → Type 0
 HandsFrame r old new = HandsOut (frame_of r) old new
 

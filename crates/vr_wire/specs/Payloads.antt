@@ -117,16 +117,20 @@ ReadsFrame cluster (Err e) octets = RefusesFrame cluster e octets
 abbrev pub written_entry : LogEntry OpValue → LogEntry (List ℕ)
 written_entry e = record { client = e.client; request_number = e.request_number; payload = op_bytes e.payload }
 
+-- records whose updates are written
 abbrev pub written_log : List (LogEntry OpValue) → List (LogEntry (List ℕ))
 written_log es = map written_entry es
 
+-- a log and its commit number, its updates written
 abbrev pub written_held : Snapshot OpValue → Snapshot (List ℕ)
 written_held held = record { log = written_log held.log; commit_number = held.commit_number }
 
+-- the same, where there is one
 abbrev pub written_perhaps : Option (Snapshot OpValue) → Option (Snapshot (List ℕ))
 written_perhaps None = None
 written_perhaps (Some held) = Some (written_held held)
 
+-- a message whose updates are written
 abbrev pub written : PeerMessage OpValue → PeerMessage (List ℕ)
 written (Prepare v e p k) = Prepare v (written_entry e) p k
 written (PrepareOk v p) = PrepareOk v p
