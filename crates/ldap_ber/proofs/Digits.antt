@@ -176,3 +176,12 @@ puts_all old reserved one two out first count bits negative z e₀ e₁ e₂ sig
     let all : out ≡ ((old ++ first ∷ []) ++ count ∷ []) ++ signed (is_below z) (digits count (bits_of z)) = cc in
     let width_is : count ≡ width (bits_of z) = is ∙ ap width same in
     puts old out first count z width_is all
+
+-- the element of an integer takes two octets more than its content
+pub integer_measure : (first count bits : ℕ) (z : ℤ) → bits ≡ bits_of z → count ≡ width bits → count + 2 ≡ length (element_bytes first (integer_octets z))
+integer_measure first count bits z same is =
+    let n = width (bits_of z) in
+    let content = integer_octets z in
+    let len : length content ≡ n = length-signed (is_below z) (digits n (bits_of z)) ∙ length-digits n (bits_of z) in
+    let count_is : count ≡ n = is ∙ ap width same in
+    omega (arith, len, count_is, ap length (short_element first n content len (width_short (bits_of z))))

@@ -1,5 +1,5 @@
 -- Wire, the lowest floor: what is written is an element, in its shortest form.
-use Rattle.std.proofs.Common.{◌≡◌, ℕ, ◌/◌, ◌%◌, ◌<◌, ◌≤◌, ltb, List, [], ◌∷◌, ◌++◌, length, refl, ap, ◌∙◌, ◌⊎◌, inl, inr, arith}
+use Rattle.std.proofs.Common.{◌≡◌, ℕ, ◌/◌, ◌%◌, ◌<◌, ◌≤◌, ltb, List, [], ◌∷◌, ◌++◌, length, min, true, refl, ap, ◌∙◌, ◌⊎◌, inl, inr, arith, ◌+◌}
 use Rattle.std.proofs.lemmas.Bool.{cond_both, ltb-true, ltb-false}
 use Rattle.std.proofs.lemmas.List.{length-append}
 use Rattle.ldap_ber.specs.Element.{IsLength, IsElement, length_octets, element_bytes}
@@ -93,3 +93,19 @@ shortest first content other small is =
       | inl same ↦ inl (is.whole ∙ ap (λ (xs : List ℕ). first ∷ xs ++ content) same)
       | inr lt ↦ inr (omega (arith, lt, ap length is.whole, length-append is.len_octets content, length-append (length_octets n) content))
     ]
+
+-- ---- how long it is
+
+-- an element whose content is this long
+long_as : (first content head : ℕ) (octets : List ℕ) → content ≡ length octets → head ≡ 1 + length (length_octets content) → content + head ≡ length (element_bytes first octets)
+long_as first content head octets same is =
+    let there : head ≡ 1 + length (length_octets (length octets)) = is ∙ ap (λ (n : ℕ). 1 + length (length_octets n)) same in
+    omega (arith, same, there, length-append (length_octets (length octets)) octets)
+
+pub element_measure : (first content head whole : ℕ) (octets : List ℕ) → min content 4294967296 ≡ min (length octets) 4294967296 → head ≡ 1 + length (length_octets content)
+    → whole ≡ min (content + head) 4294967296 → whole ≡ min (length (element_bytes first octets)) 4294967296
+element_measure first content head whole octets same head_is is =
+    cond_both (ltb content 4294967296) true true (λ _. whole ≡ min (length (element_bytes first octets)) 4294967296)
+    (λ e. let exact : content ≡ length octets = omega (arith, same, ltb-true content 4294967296 e) in
+    is ∙ ap (λ (n : ℕ). min n 4294967296) (long_as first content head octets exact head_is))
+    (λ e. omega (arith, is, same, ltb-false content 4294967296 e, length-append (length_octets (length octets)) octets))

@@ -2,11 +2,12 @@
 //! In: a first octet and a content, or a number. Out: octets at the end of a buffer, all or none.
 //! Not here: what the content means.
 
-ghost use Rattle.std.specs.Prelude.{◌≡◌, ℕ, ℤ, ◌+◌, ◌^◌, ◌%◌, ◌<◌, ◌≤◌, ◌↔◌, ◌++◌, ◌⊎◌, List, length, OnOk, OnErr, IfErr, IsErrOf, vec_len, vec_capacity};
+ghost use Rattle.std.specs.Prelude.{◌≡◌, ℕ, ℤ, ◌+◌, ◌^◌, ◌%◌, ◌<◌, ◌≤◌, ◌↔◌, ◌++◌, ◌∷◌, ◌⊎◌, List, length, OnOk, OnErr, IfErr, IsErrOf, vec_len, vec_capacity};
 ghost use Rattle.ldap_ber.specs.Element.{IsLength, IsElement, length_octets, element_bytes};
 ghost use Rattle.ldap_ber.specs.Values.{IsInteger, IsLong, width, digits, signed, is_below, bits_of, integer_octets};
 
 use crate::fault::WriteError;
+use crate::measuring::head_length;
 
 /// The greatest length that four octets say.
 const MAX_CONTENT: usize = 0xffff_ffff;
@@ -14,7 +15,7 @@ const MAX_CONTENT: usize = 0xffff_ffff;
 /// Writes the shortest octets of a length, where there is room.
 fn put_length(len: usize, out: &mut Vec<u8>)
     requires small { len < 2 ^ 32 }
-    requires room { vec_len out.old + 5 ≤ vec_capacity out.old }
+    requires room { vec_len out.old + length (length_octets len) ≤ vec_capacity out.old }
     ensures items { out.new.items ≡ out.old.items ++ length_octets len }
     ensures capacity { vec_capacity out.new ≡ vec_capacity out.old }
 {
@@ -41,6 +42,26 @@ fn put_length(len: usize, out: &mut Vec<u8>)
     }
 }
 
+/// Writes what stands before a content of this length: the first octet, whose tag number is below 31,
+/// and the length in the shortest form (X.690 8.1.3). E3 where the length is over 4294967295. An `Err`
+/// changes nothing.
+pub fn write_head(first: u8, len: usize, out: &mut Vec<u8>) -> Result<(), WriteError>
+    requires { first % 32 < 31 }
+    ensures ok { OnOk result (out.new.items ≡ out.old.items ++ first ∷ length_octets len) }
+    ensures too_long { IsErrOf result WriteError.TooLong ↔ (2 ^ 32 ≤ len) }
+    ensures err { OnErr result (out.new.items ≡ out.old.items) }
+{
+    if len > MAX_CONTENT {
+        return Err(WriteError::TooLong);
+    }
+    if out.try_reserve(head_length(len)).is_err() {
+        return Err(WriteError::NoMemory);
+    }
+    out.push_reserved(first);
+    put_length(len, out);
+    Ok(())
+}
+
 /// Writes an element at the end, its length in the shortest form (X.690 8.1.3). The first octet's tag
 /// number is below 31. E3 where the content is over 4294967295 octets. An `Err` changes nothing.
 pub fn write(first: u8, content: &[u8], out: &mut Vec<u8>) -> Result<(), WriteError>
@@ -53,7 +74,7 @@ pub fn write(first: u8, content: &[u8], out: &mut Vec<u8>) -> Result<(), WriteEr
     if len > MAX_CONTENT {
         return Err(WriteError::TooLong);
     }
-    if out.try_reserve(len + 6).is_err() {
+    if out.try_reserve(head_length(len) + len).is_err() {
         return Err(WriteError::NoMemory);
     }
     out.push_reserved(first);
@@ -70,7 +91,7 @@ pub fn shortest()
 {}
 
 /// How many octets an integer takes whose bits after the sign are these.
-fn width(bits: u64) -> usize
+pub fn width(bits: u64) -> usize
     ensures { result ≡ width bits }
 {
     match bits {
@@ -86,7 +107,7 @@ fn width(bits: u64) -> usize
 }
 
 /// Whether an integer is below zero, and its bits after the sign, turned where it is.
-fn sign_and_bits(value: i64) -> (bool, u64)
+pub fn sign_and_bits(value: i64) -> (bool, u64)
     ensures sign { result.0 ≡ is_below value }
     ensures bits { result.1 ≡ bits_of value }
 {
