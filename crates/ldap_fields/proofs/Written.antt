@@ -1,5 +1,5 @@
 -- Wire, between elements and messages: the octets of a row with one more value at its end.
-use Rattle.std.proofs.Common.{◌≡◌, ℕ, zero, suc, ◌+◌, ◌<◌, ◌≤◌, List, [], ◌∷◌, ◌++◌, length, get_or, take, map, sym, ap, ◌∙◌, append_assoc, arith}
+use Rattle.std.proofs.Common.{◌≡◌, ℕ, zero, suc, ◌+◌, ◌<◌, ◌≤◌, List, [], ◌∷◌, ◌++◌, length, min, get_or, take, map, sym, ap, ◌∙◌, append_assoc, arith}
 use Rattle.std.proofs.lemmas.List.{append-nil, take_more, map_push, length-append}
 use Rattle.ldap_ber.specs.Element.{element_bytes, length_octets}
 use Rattle.ldap_fields.specs.Rows.{row_bytes}
@@ -32,3 +32,13 @@ row_long {A} {V} bytes f xs i x n lt is long =
 -- an element is at least as long as its content
 pub element_long : (first : ℕ) (content : List ℕ) (n : ℕ) → n ≤ length content → n ≤ length (element_bytes first content)
 element_long first content n long = omega (arith, length-append (length_octets (length content)) content)
+
+-- the length of a row with one more value, up to a limit
+pub row_measure : {A V : Type 0} (bytes : V → List ℕ) (f : A → V) (xs : List A) (i : ℕ) (x : A) (limit now one new : ℕ) → i < length xs → x ≡ get_or xs i x
+    → now ≡ min (length (row_bytes bytes (map f (take i xs)))) limit → one ≡ min (length (bytes (f x))) limit → new ≡ min (now + one) limit
+    → new ≡ min (length (row_bytes bytes (map f (take (i + 1) xs)))) limit
+row_measure {A} {V} bytes f xs i x limit now one new lt is so_far this sum =
+    let whole : length (row_bytes bytes (map f (take (i + 1) xs))) ≡ length (row_bytes bytes (map f (take i xs))) + length (bytes (f x)) =
+    ap length (row_more bytes f xs i x lt) ∙ length-append (row_bytes bytes (map f (take i xs))) (bytes (f (get_or xs i x)))
+    ∙ ap (λ (y : A). length (row_bytes bytes (map f (take i xs))) + length (bytes (f y))) (sym is) in
+    omega (arith, whole, so_far, this, sum)

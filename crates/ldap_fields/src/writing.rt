@@ -5,7 +5,8 @@ ghost use Rattle.std.specs.Prelude.{◌≡◌, ◌++◌, ◌^◌, ◌≤◌, ◌
 ghost use Rattle.ldap_ber.specs.Element.{element_bytes};
 ghost use Rattle.ldap_fields.specs.Rows.{row_bytes};
 
-use ldap_ber::{WriteError, write};
+use crate::measuring::values_length;
+use ldap_ber::{WriteError, write, write_head};
 use std::alloc::Global;
 
 /// A copy of octets, as a content; the only error is want of memory.
@@ -47,4 +48,17 @@ pub fn put_values(values: &[Vec<u8>], out: &mut Vec<u8>) -> Result<(), WriteErro
         write(0x04, value, out)?;
     }
     Ok(())
+}
+
+/// Writes octet strings as a SET OF, of first octet 31 (X.690 8.12). E3 only where it is longer than a
+/// length can say.
+pub fn put_value_set(values: &[Vec<u8>], out: &mut Vec<u8>) -> Result<(), WriteError>
+    ensures ok { OnOk result (out.new.items ≡ out.old.items ++ element_bytes 49
+        (row_bytes (element_bytes 4) (map (λ v. v.items) values.now))) }
+    ensures too_long { IsErrOf result WriteError.TooLong
+        → 2 ^ 32 ≤ length (row_bytes (element_bytes 4) (map (λ v. v.items) values.now)) }
+    ensures kept { out.new.items ≡ out.old.items ++ drop (length out.old.items) out.new.items }
+{
+    write_head(0x31, values_length(values), out)?;
+    put_values(values, out)
 }
