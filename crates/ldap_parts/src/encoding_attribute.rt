@@ -1,14 +1,62 @@
-//! Wire, parts of messages: writing attributes.
-//! In: attributes. Out: their octets. Not here: whose attributes they are.
+//! Wire, parts of messages: writing attributes, each octet once.
+//! In: attributes. Out: their octets, or how many these are. Not here: whose attributes they are.
 
-ghost use Rattle.std.specs.Prelude.{◌≡◌, ◌^◌, ◌≤◌, ◌++◌, map, drop, length, IfOk, OnOk, IsErrOf};
+ghost use Rattle.std.specs.Prelude.{◌≡◌, ◌^◌, ◌≤◌, ◌++◌, map, drop, length, min, IfOk, OnOk, IsErrOf};
+ghost use Rattle.ldap_fields.specs.ldap_ber.Element.{element_bytes};
 ghost use Rattle.ldap_fields.specs.Rows.{row_bytes};
 ghost use Rattle.ldap_parts.specs.View.{attribute_view};
 ghost use Rattle.ldap_parts.specs.Written.{attribute_content, attribute_bytes};
 
 use crate::attribute::PartialAttribute;
-use ldap_fields::{WriteError, put_values, write};
+use ldap_fields::{
+    WriteError, add_lengths, element_length, put_value_set, values_length, write, write_head,
+};
 use std::alloc::Global;
+
+/// How many octets the content of an attribute takes; 2^32 where there are more.
+fn content_length(attribute: &PartialAttribute) -> usize
+    ensures { result ≡ min (length (attribute_content (attribute_view attribute.now))) (2 ^ 32) }
+{
+    let values = values_length(&attribute.values);
+    let description = attribute.description.as_bytes().len();
+    add_lengths(element_length(description), element_length(values))
+}
+
+/// How many octets attributes take, one after the other; 2^32 where there are more.
+pub fn attributes_length(attributes: &[PartialAttribute]) -> usize
+    ensures { result ≡ min (length (row_bytes attribute_bytes (map attribute_view attributes.now)))
+        (2 ^ 32) }
+{
+    let mut total = 0;
+    for attribute in attributes {
+        total = add_lengths(total, element_length(content_length(attribute)));
+    }
+    total
+}
+
+/// Writes the content of an attribute.
+fn put_content(attribute: &PartialAttribute, out: &mut Vec<u8>) -> Result<(), WriteError>
+    ensures ok { OnOk result (out.new.items ≡ out.old.items ++ attribute_content
+        (attribute_view attribute.now)) }
+    ensures too_long { IsErrOf result WriteError.TooLong
+        → 2 ^ 32 ≤ length (attribute_content (attribute_view attribute.now)) }
+    ensures kept { out.new.items ≡ out.old.items ++ drop (length out.old.items) out.new.items }
+{
+    write(0x04, attribute.description.as_bytes(), out)?;
+    put_value_set(&attribute.values, out)
+}
+
+/// Writes an attribute.
+fn put_attribute(attribute: &PartialAttribute, out: &mut Vec<u8>) -> Result<(), WriteError>
+    ensures ok { OnOk result (out.new.items ≡ out.old.items ++ attribute_bytes
+        (attribute_view attribute.now)) }
+    ensures too_long { IsErrOf result WriteError.TooLong
+        → 2 ^ 32 ≤ length (attribute_bytes (attribute_view attribute.now)) }
+    ensures kept { out.new.items ≡ out.old.items ++ drop (length out.old.items) out.new.items }
+{
+    write_head(0x30, content_length(attribute), out)?;
+    put_content(attribute, out)
+}
 
 /// The content of an attribute's element.
 pub fn attribute_content(alloc: Global, attribute: &PartialAttribute) -> Result<Vec<u8>, WriteError>
@@ -17,16 +65,13 @@ pub fn attribute_content(alloc: Global, attribute: &PartialAttribute) -> Result<
         → 2 ^ 32 ≤ length (attribute_content (attribute_view attribute.now)) }
 {
     let mut content = Vec::new(alloc);
-    write(0x04, attribute.description.as_bytes(), &mut content)?;
-    let mut values = Vec::new(alloc);
-    put_values(&attribute.values, &mut values)?;
-    write(0x31, &values, &mut content)?;
+    put_content(attribute, &mut content)?;
     Ok(content)
 }
 
 /// Writes attributes, one after the other.
 pub fn put_attributes(
-    alloc: Global,
+    _alloc: Global,
     attributes: &[PartialAttribute],
     out: &mut Vec<u8>,
 ) -> Result<(), WriteError>
@@ -37,8 +82,24 @@ pub fn put_attributes(
     ensures kept { out.new.items ≡ out.old.items ++ drop (length out.old.items) out.new.items }
 {
     for attribute in attributes {
-        let content = attribute_content(alloc, attribute)?;
-        write(0x30, &content, out)?;
+        put_attribute(attribute, out)?;
     }
     Ok(())
+}
+
+/// Writes attributes as a PartialAttributeList, of first octet 30 (RFC 4511 4.5.2). E3 only where it is
+/// longer than a length can say.
+pub fn put_attribute_list(
+    alloc: Global,
+    attributes: &[PartialAttribute],
+    out: &mut Vec<u8>,
+) -> Result<(), WriteError>
+    ensures ok { OnOk result (out.new.items ≡ out.old.items ++ element_bytes 48 (row_bytes
+        attribute_bytes (map attribute_view attributes.now))) }
+    ensures too_long { IsErrOf result WriteError.TooLong
+        → 2 ^ 32 ≤ length (row_bytes attribute_bytes (map attribute_view attributes.now)) }
+    ensures kept { out.new.items ≡ out.old.items ++ drop (length out.old.items) out.new.items }
+{
+    write_head(0x30, attributes_length(attributes), out)?;
+    put_attributes(alloc, attributes, out)
 }

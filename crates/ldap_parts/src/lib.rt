@@ -6,7 +6,7 @@
 //! and a lemma for each exit of the reader. The crates of requests, updates and responses are made the same way.
 //!
 //! Proved: results, attributes and controls are read exactly and written in their one form (`result_of`, `attribute_of`, `controls_of`,
-//! `result_content`, `attribute_content`).
+//! `result_content`, `attribute_content`, `put_attribute_list`, `put_controls`), and how long attributes are (`attributes_length`).
 #![tactic(auto)]
 
 mod attribute;
@@ -24,12 +24,14 @@ pub use control::Control;
 pub use decoding_attribute::{attribute_field, attribute_of, attributes_field};
 pub use decoding_control::controls_of;
 pub use decoding_result::{result_field, result_of};
-pub use encoding_attribute::{attribute_content, put_attributes};
+pub use encoding_attribute::{
+    attribute_content, attributes_length, put_attribute_list, put_attributes,
+};
 pub use encoding_control::put_controls;
 pub use encoding_result::result_content;
 pub use ldap_fields::{
-    MsgFault, WriteError, copied, element, elements, field, flag_field, number_field,
-    optional_octets, optional_text, put_flag, put_number, put_optional_octets, put_optional_text,
-    text, text_field, write,
+    MsgFault, WriteError, add_lengths, copied, element, element_length, elements, field,
+    flag_field, number_field, number_length, optional_octets, optional_text, put_flag, put_number,
+    put_optional_octets, put_optional_text, text, text_field, write, write_head,
 };
 pub use result::{LdapResult, ResultCode};
