@@ -4,8 +4,8 @@
 //!
 //! An entry that a search found, and extended; made as `ldap_parts` says.
 //!
-//! Proved: the content of each is read exactly and written in its one form (`entry_of`, `extended_of`, `entry_content`,
-//! `extended_content`).
+//! Proved: the content of each is read exactly and written in its one form (`entry_of`, `extended_of`, `put_entry`, `entry_content`,
+//! `extended_content`); `entry_length` says how long an entry is before it is written.
 #![tactic(auto)]
 
 mod decoding_entry;
@@ -17,7 +17,8 @@ mod extended;
 
 pub use decoding_entry::entry_of;
 pub use decoding_extended::extended_of;
-pub use encoding_entry::entry_content;
+pub use encoding_entry::{entry_content, entry_length, put_entry};
 pub use encoding_extended::extended_content;
 pub use entry::SearchResultEntry;
 pub use extended::ExtendedResponse;
+pub use ldap_parts::{add_lengths, element_length, number_length, write_head};
