@@ -1,6 +1,6 @@
-//! Connections that others make. Takes them from a listener, numbers them, and hands them on by a channel; reads replicas' with a server's
-//! patience; serves sessions of any stream by a fixed set of threads, each with a directory of its own. `session_pool` serves the sessions of
-//! sockets; what a session answers is below.
+//! Takes connections from a listener, numbers them and hands them on; reads other replicas' streams
+//! with time limits; serves sessions of any stream by a fixed set of threads. The sessions of
+//! sockets are served by `session_pool`.
 //!
 //! Takes connections from a listener and numbers them (`accepting`). A `Door` counts who waits for a place and how many are being given up,
 //! and says whether the server closes. A `PieceReader` looks up from its socket every 200 ms. It fails where the door is closed, and by the

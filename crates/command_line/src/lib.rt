@@ -1,5 +1,5 @@
-//! The command line: the system's words flow in, and a job with all that it is told flows out, or a text for the user. What a job does, and
-//! what a text in it means (a name, a filter), is not here.
+//! Reads the command line: a command with its settings, or a text for the user. What a name or a
+//! filter in it means is not here.
 //!
 //! Reads the program's words by `clap`. A command is a row of data with a row for each of its words (`rows`); `words` has all commands but
 //! `serve`, which has its own (`serving`). No clause but safety.

@@ -1,6 +1,7 @@
-//! A lab: replicas of a directory under every schedule. Requests, deliveries, losses, repeats, view changes, crashes, recoveries, returns over a journal
-//! and searches flow in; what real replicas answer flows out, and the sentence that all of it is for stands here, as a clause of `Lab::run`. No clock, no network and
-//! no file is here, and no text of a script.
+//! Plays a schedule with real replicas of a directory, and states the headline: what each search of
+//! any schedule answers (`Lab::run`). A schedule has requests, deliveries, losses, repeats, view
+//! changes, crashes, recoveries, returns over a journal, and searches. No clock, network or file is
+//! here; scripts are read in `lab_script`.
 //!
 //! Real replicas of a directory under a schedule. After each event each replica that is up executes what it has committed (`advancing`),
 //! and replies are shown with their codes (`telling`). A search is answered from what its replica has executed (`searching`).

@@ -1,5 +1,5 @@
-//! A running replica: its state, the directory after what it has executed, its stored pair, and its journal where it keeps one, which change together,
-//! one event or one batch at a time. Events flow in; what is to be sent and answered flows out. Locks, threads, sockets and octets of frames are not here.
+//! Runs one replica, an event or a batch at a time: its protocol state, its directory, its stored
+//! view and its journal change together. Locks, threads and sockets are above.
 //!
 //! A running replica: its state, what it has executed, its stored pair and its journal, which change together, one event (`Node::handle`)
 //! or one batch (`handle_all`) at a time. First comes the step of `vr_recover`, all or nothing; then the journal's append (`taking`). Then

@@ -1,5 +1,4 @@
-//! Searches and compares: a directory and a request flow in, the result code and the entries that are shown flow out. Octets of
-//! messages, sessions and replication are not here.
+//! Answers searches and compares of a directory: the result code and the entries that are shown.
 //!
 //! Answers a search of what it is lent (`searching`); `reading` answers one that names an update, over a directory at a number. A bound
 //! search (`bound_search`) takes its scope from the tree (`scoping`), compiles the filter, and runs the plans. `values` gives and counts

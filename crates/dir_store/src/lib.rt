@@ -1,5 +1,5 @@
-//! Updates of the directory: they flow in, and the entries after them, each with its number and name, flow out, with the reply to each update.
-//! What is asked of attributes is below; filters, searches and the octets of messages are not here.
+//! Applies updates to the directory: judges each by its checks in order, changes the entries, and
+//! gives the reply. What an update asks of attributes is judged in `entry_updates`.
 //!
 //! The directory that updates change: a schema and a tree with its lists. A module for each update (`adding`, `deleting`, `modifying`,
 //! `renaming`, over `names` and `finding`) gives what is to change or the reply that refuses it, and changes nothing. Then `store` changes

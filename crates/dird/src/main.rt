@@ -1,5 +1,5 @@
-//! The program's door: words, files, input, output and sockets come from the system, and the exit status goes back. No rule of the
-//! directory is here.
+//! The program: gives its commands the system's words, files, streams and sockets, and the system
+//! their exit status.
 //!
 //! `main` gives `dird_commands` the system's files and streams; `serving` hands what a replica is to serve to `server`.
 #![tactic(auto)]

@@ -1,5 +1,6 @@
-//! What a session asks of the directory that it serves, and what it is answered. Reads, updates and the role of a replica are asked here,
-//! one question at a time; messages, octets and how a directory answers are not here.
+//! The questions that a session asks of its directory, one at a time, and the answers: searches,
+//! compares, updates, and the role of the replica. Messages and octets are below; a directory
+//! alone, seats and gates answer, each in a crate of its own.
 //!
 //! What a session asks, and the answers as values. The trait `Directory` has searches, compares, the role, updates and their count; a
 //! `Look` (reads) and a `Gate` (updates) are one as a pair. It builds on the wire alone: directories answer in its words, and a session

@@ -1,5 +1,5 @@
-//! Files as devices: the octets of a stored view on a disk, and those of a journal. Each file is this process's alone. What a crash
-//! leaves of a real file is said nowhere.
+//! Makes devices of files, one for a stored view and one for a journal, and locks them for this
+//! process. No clause says what a crash leaves of a real file.
 //!
 //! `FileDevice` is a real file under a stored view. It keeps the octets beside the file: a read or a length that the file answers
 //! otherwise is a failure, as is any call that fails. `JournalFile` is one under a journal, written over in place and grown by zeros. It

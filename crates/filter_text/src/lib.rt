@@ -1,6 +1,5 @@
-//! Filter texts: filters as people write them (RFC 4515, RFC 4526).
-//! In: a filter, or a text. Out: its one printed text, or the filter that a text spells, or why there is none.
-//! Not here: octets of messages, what a filter means on an entry.
+//! Reads and writes the texts of filters (RFC 4515, RFC 4526). What a filter means on an entry is
+//! in `ldap_eval`.
 //!
 //! Filters as people write them (RFC 4515, RFC 4526). To print, `checking` finds out whether a text spells the filter at all;
 //! `printing_value` escapes, `printing_item` and `printing` put the parts together. To read, `scanning` goes over the text once, without

@@ -1,5 +1,5 @@
-//! Sessions over lines of hex: each line of an input is a piece of a client's stream, each response becomes a line of an output. What a message
-//! asks for, and what a directory answers, is not here.
+//! Serves a session over lines of hex: each line of the input is a piece of a client's stream, each
+//! response a line of the output.
 //!
 //! The same over lines of hex (`lines`, `answering`); `Answered` says what a line that is no hex does.
 //!

@@ -1,5 +1,5 @@
-//! The directory as it is kept: entries by number and by name, and the posting lists of them, which change together; and as searches read it. Changes
-//! flow in, each already judged; entries and lists flow out. What an update checks, filters and the octets of messages are not here.
+//! Keeps the tree of entries together with its posting lists, and lends both to searches. An update
+//! is judged before it comes here.
 //!
 //! The tree and the posting lists of its entries, which change together (`indexed`, by the steps of `listing`). That the lists are those of
 //! the entries is the type's invariant. An update makes new lists and a new tree in locals and assigns both last. Plans ask this type:

@@ -1,5 +1,4 @@
-//! The language of lab scripts: which line is which event, and which update or search its text writes. A script's lines come in as octets; what
-//! real replicas of a directory show of it goes out. Nothing of what an event does is here, and nothing of where lines come from.
+//! Reads lab scripts and has a lab play them.
 //!
 //! Reads a script's lines (`script`), and the updates and searches that they write (`updates`, `search_texts`), and has a lab play them.
 //!

@@ -1,7 +1,5 @@
-//! LDIF: entries as text (RFC 2849), and messages: records become the adds that ask for them, and what a search shows becomes records.
-//! In: records of entries, a text, or lines of hex of a search's responses. Out: the one text that is written of records, the records that a text has, or
-//! lines of hex of AddRequests.
-//! Not here: changes, schemas, what names mean, directories, files.
+//! Reads and writes LDIF (RFC 2849) of entries; makes AddRequests of records, and records of what a
+//! search shows. Changes (`changetype`) are refused; schemas and files are not here.
 //!
 //! Entries as text (RFC 2849). `lines` has the unfolded lines with their numbers, `saying` what one line says, `describing` which
 //! descriptions may be a line's type. `reading_state` and `reading` make the records; `record`, `writing` and `written_value` write them.

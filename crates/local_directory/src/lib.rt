@@ -1,6 +1,5 @@
-//! A directory by itself, in memory. Requests of sessions flow in, answers flow out, and the directory after them stays; or a text of
-//! LDIF (RFC 2849) and a search request flow in, and a text of LDIF, or why there is none, flows out.
-//! Messages, sessions, replicas, texts of filters and files are not here.
+//! A directory of one server alone, in memory, that sessions read and update. It also searches and
+//! checks a text of LDIF.
 //!
 //! A directory of one server alone: a `Store`, the number of its last update, and each client's latest request with its reply, looked up by
 //! client. Room for the reply is made before the update. It is the directory of a text of LDIF, too: `adding` adds the records up to the

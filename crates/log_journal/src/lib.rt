@@ -1,5 +1,6 @@
-//! What the strings of a replica's journal say: notes of a log, and the log that they stand for. A note has a fixed form
-//! with a sum that tells damage; which notes a step makes, and what they keep of a replica, is defined in `vr_state`.
+//! Reads and writes the notes of a replica's journal, and finds the log that they stand for. A note
+//! has a fixed form with a sum that tells damage; which notes a step makes, and what they keep of a
+//! replica, is defined in `vr_state`.
 //!
 //! What the strings say: notes of a replica's steps. `fields` spells and reads a note, with a sum that tells damage. `steps` makes the
 //! notes of a step; of a log that is adopted it writes only what isn't `alike`. `taking` has a replica take a batch of events, `keeping`

@@ -1,6 +1,5 @@
-//! A node that threads share: the lock round it, a condition on which sessions wait for an outcome, and a session's gate over them; and the seats by
-//! which sessions read what the node has shown, without its lock. Questions of sessions and events of replicas flow in; answers, outcomes and messages
-//! to other replicas flow out. Sockets, clocks and how a message becomes octets are not here.
+//! Shares a node between threads: the lock around it, a session's gate, which waits for the outcome
+//! of an update, and the seats, which read without the lock.
 //!
 //! A node among threads. `held` is what the lock holds: the node, its publisher and its clock. `running` is the lock, with a condition on
 //! which threads wait for an outcome, until it is there or their client has left. `NodeGate` is a session's gate, a `Seat` its look. Under

@@ -1,5 +1,5 @@
-//! Links between replicas. Items wait in a queue that forgets its oldest. A thread makes frames of them and writes these to a stream that is made
-//! again whenever it fails; the frames of a stream are read. What a frame says is not here.
+//! Sends frames to another replica from a bounded queue, over a stream that it connects again
+//! whenever that fails; and reads frames off a stream.
 //!
 //! Links between replicas. Out: a `Queue` of items, bounded by number and weight, which forgets its oldest and always keeps the newest. An
 //! `Outbox` is a queue under a lock; `put` waits for that lock alone. `send_all`, in a thread of its own, makes an item's frames outside

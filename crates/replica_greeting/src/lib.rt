@@ -1,5 +1,6 @@
-//! Greetings: the first frame on each connection between replicas. It tells by digests what all replicas of a cluster must have alike, so that one
-//! that was started with another schema is refused, and named, before anything of it is heard. What follows a greeting is not here.
+//! Writes and compares greetings, the first frame on each connection between replicas, with digests
+//! of what all replicas of a cluster must have alike. So a replica that was started with another
+//! schema is refused, and named, before anything else of it is heard.
 //!
 //! The first frame on each connection between replicas: digests of what both must have alike (`terms`), compared by `meeting`.
 //!

@@ -1,5 +1,5 @@
-//! What a message says by itself: requests, their controls, binds and responses flow in; what they name, what a bind comes to and the octets
-//! of responses flow out. A session's state and what a directory answers are not here.
+//! Judges a request by itself: its kind, its controls, a bind's name and password. It also writes
+//! responses as octets.
 //!
 //! What needs no session: `requests` knows a request's kind, `controls` and `numbers` read its controls, `binding` judges binds, `writing`
 //! writes responses.

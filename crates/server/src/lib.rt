@@ -1,6 +1,5 @@
-//! One replica of a cluster as a running server. Settings flow in; clients and the other replicas are served until the server is stopped.
-//! A node, its clock and the file of its stored view meet the threads of a server here; what is answered, what a replica does, and how its threads
-//! pass octets on, is decided below.
+//! Puts one replica together and runs it: a node, its clock and its files, under the threads of
+//! `server_threads`.
 //!
 //! One replica put together: `opening` opens the node over its files, `ticking` is the node with its clock behind `Engine`, `serving` joins
 //! them to the threads. `peer_queues` queues what the node sends, but for a GETSTATE while the answer to an earlier one may be on its way. No

@@ -1,6 +1,6 @@
-//! The threads of a server: its listeners, its queues to other replicas, the threads that take connections, serve clients, hear and send; and how
-//! they end. Sockets and a node behind a small trait flow in; octets of clients and frames of replicas flow through. What a node is, its clock and
-//! its stored view are not here.
+//! Runs the threads of a server: they take connections, serve clients, exchange frames with the
+//! other replicas, answer monitors, and write standard error. The node is behind a small trait; its
+//! clock and its files are in `server`.
 //!
 //! The threads of a server, which know the node by a trait alone (`engine`). `rooms` has what they share, `crew` counts them, `serving`
 //! begins and ends them. `posting` puts a message into its replica's queue. `framing` makes its frames in the thread that sends: one, or

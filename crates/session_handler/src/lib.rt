@@ -1,5 +1,5 @@
-//! What a session makes of one message: a message and what the directory answers flow in; the octets of the responses and the session's
-//! state flow out. Streams of octets and how a directory answers are not here.
+//! Answers one message of a session by a directory that it is given: the octets of the responses,
+//! and the session's state after it.
 //!
 //! What a session makes of one message when it asks a directory. `hearing` finds what is due. A request that waits for its answer is one
 //! value with the session's terms (`task`), which asks the directory (`taking`), for updates too (`updating`); `responses` has the answers.

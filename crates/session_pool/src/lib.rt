@@ -1,6 +1,6 @@
-//! Sessions apart from seats: a few threads serve as many sessions as the table has places for. Of the threads that read, one waits for all
-//! sessions that are silent and queues those that are ready; threads of their own serve updates, which may have to wait. What a session
-//! answers is below; nodes and replicas are above.
+//! Serves the sessions of sockets by a few threads, as many sessions as its table has places. Of
+//! the threads that read, one waits for all silent sessions and queues those that are ready. Other
+//! threads serve updates, which may have to wait.
 //!
 //! Serves the sessions of sockets by a few threads. A session is a value (`pooled`): its `Conversation`, its socket, its place. While it
 //! waits the `Table` owns it, while it is served one thread does. Each thread that reads (a seat) has a directory of its own. Of the free

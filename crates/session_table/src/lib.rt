@@ -1,5 +1,5 @@
-//! Which places of a table wait, for what, and since when. Each place stands in one queue, or is away: free, or with whoever
-//! serves its session. Sessions, clocks, sockets and locks are above.
+//! Keeps for each session's place the queue in which it waits, and since when. A place is in one
+//! queue, or away: free, or with whoever serves its session.
 //!
 //! Which place of a table waits in which queue (silent, inside a message, octets unsent), and since when. A queue is an ordered map by
 //! turns.

@@ -1,5 +1,5 @@
-//! What a replica has executed: the records of its log flow in, one after the other; the directory after them and the reply to each flow out.
-//! Which records are committed, and who asks for them, is not here.
+//! Executes the records of a replica's log: keeps the directory after them, and the reply to each.
+//! Which records are committed is decided above.
 //!
 //! Applies the records of a log that come next to a store, and keeps the reply to each.
 //!

@@ -1,5 +1,6 @@
-//! What a replica does, as pages for monitors (HTTP/1.1, RFC 9112): whether it lives, whether it serves clients, and its figures in the text form that Prometheus
-//! reads. Octets of a request become octets of a response; sockets are not here.
+//! Answers monitors over HTTP/1.1 (RFC 9112): whether the replica lives, whether it serves clients,
+//! and its figures in the text form of Prometheus. Octets of a request become octets of a response;
+//! sockets are above.
 //!
 //! What monitors get over HTTP/1.1: `asking` reads a request's head (by `httparse`), `writing` writes the pages of `figures`, by
 //! `metrics` and `samples`.
