@@ -1,5 +1,5 @@
 //! Answers reads of what a replica has published, without a lock: a publisher shows what its node
-//! has executed, and each session's thread reads by a seat.
+//! has executed, and each thread that reads has a seat.
 //!
 //! Readers of what a node has executed that take no lock, by `left_right` in its ruled form. A shown value (`shown`) is an owner of one
 //! version of the node's own directory, with the number of its last record; so each update is made once. By the rule of each step (`rule`,
