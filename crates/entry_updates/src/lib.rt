@@ -1,5 +1,5 @@
-//! What updates ask of one entry's attributes: a schema, an entry and what an add, a modify or a modifyDN says of attributes flow in; the
-//! entry after it, or the code of a refusal, flows out. Names of entries, and where they stand, are not here.
+//! Makes the entry after an add, a modify or a modifyDN from what it asks of attributes, or refuses
+//! it with a code.
 //!
 //! Makes of changes and classes what an add, a modify and a modifyDN ask of one entry; `finishing` has the checks at an update's end.
 //! `dir_store` brings it together with the tree.

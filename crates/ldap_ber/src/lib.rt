@@ -1,6 +1,5 @@
-//! Wire, the lowest floor: elements of definite length, a first octet, the length and the content.
-//! In: octets. Out: elements, integers and booleans, or a named fault; and their octets.
-//! Not here: messages, filters, text, memory but for the writer's buffer.
+//! Reads and writes elements of definite length (X.690): a first octet, the length, the content;
+//! and integers and booleans.
 //!
 //! Reads and writes elements of X.690 in definite form. Its definitions relate octets and elements; one function on lists lies between them
 //! and the code. `heading` reads a header whose element may not be whole yet. `measuring` says how long an element is, so that a writer can

@@ -1,5 +1,4 @@
-//! Filters on entries: a schema and a filter flow in once, then entries, and a three-valued truth flows out. Messages,
-//! plans and indexes are not here.
+//! Gives the three-valued value of a filter on an entry, once the filter is bound to a schema.
 //!
 //! Binds a filter to a schema, and gives its value on an entry and its name (`name_pairs`) without memory. An item becomes an `or` of
 //! leaves, one for each type under its type, each with its own rule and key. An extensible item that no such leaf says becomes a `Match`.

@@ -1,6 +1,4 @@
-//! Wire, between elements and messages: the fields that messages and filters are made of.
-//! In: octets. Out: a field's value and the octets after it, or a named fault; and a row's octets.
-//! Not here: which fields a message has.
+//! Reads and writes the fields that messages and filters are made of.
 //!
 //! What every message shares: the one fault enum `MsgFault`, and a reader for each kind of field. The relations (`HasField`, `HasText`,
 //! `HasNumber`, ..) carry the octets that *follow*; `Seq` puts one part after another. `optional` and `rows` have optional parts, rows and

@@ -1,6 +1,4 @@
-//! Wire, filters: search filters, and the octets that spell them.
-//! In: octets, or a filter. Out: the filter at the front, or a named fault; or its one spelling.
-//! Not here: what a filter means on an entry, filter texts, other fields of a search.
+//! Reads and writes search filters as octets.
 //!
 //! The recursive `Filter`, and its octets. Contracts see its tree without memory (`Tree`). An item's content and grammar are apart from the
 //! filters round it (`Item`, `ItemGrammar`). "Too deep, whatever follows" is the inductive `Opens`.

@@ -1,6 +1,4 @@
-//! Wire, streams: whole messages out of a stream that comes in any pieces.
-//! In: pieces of a stream. Out: its messages, one after the other, or the fault where it stops.
-//! Not here: sockets, what a message asks for.
+//! Cuts a stream of octets, which comes in any pieces, into whole messages.
 //!
 //! Takes a stream in pieces and hands out its messages. A piece costs its own octets and those of the messages that it completes. Of a
 //! message that isn't whole, only the header is looked at again, at most six octets.

@@ -1,6 +1,4 @@
-//! Wire, messages: LDAP messages, and the octets that spell them.
-//! In: the octets of a whole message, or a message. Out: the message, or a named fault; or its one
-//! spelling. Not here: streams of octets, what a message asks for, schema, directory.
+//! Reads and writes whole LDAP messages.
 //!
 //! The envelope and the choice of operations: whole messages. The first octet says which operation it is; no proof compares the operations
 //! two by two. To add an operation, put its content into `ldap_requests`, `ldap_updates` or `ldap_responses`. Then add a case here to the

@@ -1,6 +1,4 @@
-//! Wire, updates by themselves: what a log keeps of an update.
-//! In: an update, or the octets of its operation. Out: its octets, the update, or an equal copy.
-//! Not here: messages, who asked, what an update does.
+//! Reads, writes and copies an update by itself, as a log keeps it.
 //!
 //! An update by itself, as a log keeps it. `Op` is a value whose equality is that of its content; a copy shares its memory. It keeps the
 //! octets of the operation, which are read when the update is looked at, and copied as they are when it is sent.

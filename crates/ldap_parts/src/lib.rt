@@ -1,6 +1,4 @@
-//! Wire, parts of messages: what several operations share: results, attributes, controls.
-//! In: octets, or a part. Out: the part and the octets after it, or a named fault; or its one spelling.
-//! Not here: which operation has which part, filters, the envelope.
+//! Reads and writes what several operations share: results, attributes, controls.
 //!
 //! Each part has its type with the RFC's field names, its value, its grammar and its written form; a reader and a writer of its content,
 //! and a lemma for each exit of the reader. The crates of requests, updates and responses are made the same way.

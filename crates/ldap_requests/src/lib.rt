@@ -1,6 +1,4 @@
-//! Wire, requests: what a client asks for beside updates.
-//! In: the content of an operation, or a request. Out: the request, or a named fault; or its one content.
-//! Not here: updates, the envelope, what a request is answered.
+//! Reads and writes the requests that are no updates.
 //!
 //! Bind, unbind, search, compare, abandon and extended; made as `ldap_parts` says.
 //!

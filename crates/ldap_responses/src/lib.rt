@@ -1,6 +1,4 @@
-//! Wire, responses: what a server sends beside plain results.
-//! In: the content of an operation, or a response. Out: the response, or a named fault; or its one content.
-//! Not here: the envelope, what a response answers.
+//! Reads and writes the responses that are no plain results.
 //!
 //! An entry that a search found, and extended; made as `ldap_parts` says.
 //!

@@ -1,5 +1,5 @@
-//! Sessions: a stream of octets becomes messages, each is answered by what a directory says, and octets flow back. What a request asks for
-//! is decided below; sockets, lines and files are above.
+//! Serves a session: reads messages off a stream, has each answered by a directory, and writes the
+//! responses.
 //!
 //! A client's stream in pieces (`session`): each message of the framer is answered by the rules. `serving` reads, answers all whole
 //! messages that are there, and flushes; `writing` writes until the writer has taken all. A `Conversation` keeps what is heard and not

@@ -1,6 +1,4 @@
-//! Wire, updates: the operations that change the directory.
-//! In: the content of an operation, or an update. Out: the update, or a named fault; or its one content.
-//! Not here: the envelope, what an update does.
+//! Reads and writes the operations that change the directory.
 //!
 //! Add, delete, modify and modifyDN; made as `ldap_parts` says.
 //!

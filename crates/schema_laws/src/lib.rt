@@ -1,6 +1,5 @@
-//! Laws of schemas that are read: what is printed of a name is read again, names are one where they mean one, the rules of a type are of one
-//! family and inherited along its SUPs, and loops and missing superclasses are those of the chains.
-//! Nothing flows in or out; how texts, schemas, names and values are read is not here.
+//! Proves laws of schemas that were read: printed names are read again, names are one where they
+//! mean one, and rules, loops and missing superclasses are those of the chains.
 //!
 //! Laws of every schema that is read; no code runs here. The crate builds on `dir_store` and `ldap_eval`, since some laws speak of entries'
 //! names.

@@ -1,8 +1,6 @@
-//! Plans: a bound filter and an index choice go in, and two plans come out that bound where the filter is
-//! true. Then posting lists, what they keep and a scope go in; whether a number is in a plan's set, and its
-//! candidates one by one, come out; and, with the values of numbered entries, the numbers of the scope whose
-//! value is True, one by one. No set is made as a list, but for the numbers of a range that candidates are
-//! drawn from. Entries and their attributes are not here.
+//! Compiles a filter into two plans over posting lists, and gives the numbers of the entries in
+//! scope where it is True. No set is made as a list, but for the numbers of a range that candidates
+//! are drawn from.
 //!
 //! A plan is a set of numbers: a posting list, a range, the scope, or a union, intersection or difference of plans. `compiling` goes over a
 //! bound filter once and makes two plans, what must be and what may be. `leaves` knows which index serves which test; `octet_runs` takes a

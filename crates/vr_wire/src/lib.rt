@@ -1,5 +1,4 @@
-//! Frames: what replicas say to one another, as octets. Octets become messages of a cluster, and messages octets. What a message makes of a
-//! replica, whose octets they are, and sockets are not here.
+//! Reads and writes frames, the messages between replicas as octets.
 //!
 //! The frames between replicas. `Frames` defines how a message is spelled, `Cutting` what is cut from the front of octets, `Payloads` which
 //! updates payloads spell; callers see the one relation `IsFrame cluster sender message octets`. `cutting`, `logs` and `bodies` cut a
