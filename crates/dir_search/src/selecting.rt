@@ -80,7 +80,7 @@ impl Showing<'_> {
         ensures { IfOk result (λ r. map attribute_view r.items
             ≡ attributes_selected self.now.schema.now (selectors_of self.now.request.now) self.now.request.now.types_only (attributes_of attributes.now)) }
     {
-        let mut shown = Vec::new(self.alloc);
+        let mut shown = Vec::with_capacity(self.alloc, attributes.len())?;
         for attribute in attributes {
             if self.has(attribute) {
                 shown.push(self.show(attribute)?)?;
