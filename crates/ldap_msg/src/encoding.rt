@@ -1,18 +1,28 @@
-//! Wire, messages: the one spelling of a message that is written.
+//! Wire, messages: the one spelling of a message that is written, each octet of an entry once.
 //! In: a message. Out: its octets, or an error. Not here: the parts of each operation.
 
-ghost use Rattle.std.specs.Prelude.{◌≡◌, ◌%◌, ◌^◌, ◌<◌, ◌≤◌, ◌++◌, ℕ, List, length, IfOk, IsErrOf, OnOk};
+ghost use Rattle.std.specs.Prelude.{◌≡◌, ◌%◌, ◌^◌, ◌<◌, ◌≤◌, ◌++◌, ◌∷◌, ◌⊎◌, [], ℕ, List, length, min, IfOk, IfErr, IsErrOf, OnOk};
+ghost use Rattle.ldap_requests.specs.ldap_ber.Element.{length_octets, element_bytes};
+ghost use Rattle.ldap_requests.specs.ldap_fields.Written.{number_bytes};
+ghost use Rattle.ldap_responses.specs.Written.{entry_content};
 ghost use Rattle.ldap_msg.specs.Messages.{MessageValue};
-ghost use Rattle.ldap_msg.specs.View.{operation_view, view};
+ghost use Rattle.ldap_msg.specs.View.{entry_view, operation_view, view};
 ghost use Rattle.ldap_msg.specs.Grammar.{operation_octet, IsMessage};
-ghost use Rattle.ldap_msg.specs.Written.{operation_content, operation_bytes, message_content, message_bytes, IsInRange};
+ghost use Rattle.ldap_msg.specs.Written.{operation_content, operation_bytes, enveloped, message_content, message_bytes, IsInRange};
 
 use crate::encoding_request::{request_content, request_octet};
 use crate::encoding_response::{response_content, response_octet};
-use crate::message::{Message, ProtocolOp};
-use ldap_requests::{WriteError, put_number, write};
+use crate::message::{Message, ProtocolOp, Response};
+use ldap_requests::{WriteError, put_number};
+use ldap_responses::{
+    SearchResultEntry, add_lengths, element_length, entry_length, number_length, put_entry,
+    write_head,
+};
 use ldap_updates::put_controls;
 use std::alloc::Global;
+
+/// The greatest length that a message's content may have.
+const MAX_CONTENT: usize = 0xffff_ffff;
 
 /// The content of an operation's element.
 fn operation_content(alloc: Global, op: &ProtocolOp) -> Result<Vec<u8>, WriteError>
@@ -37,27 +47,136 @@ fn operation_octet(op: &ProtocolOp) -> u8
     }
 }
 
-/// Writes an operation's element.
-fn put_operation(alloc: Global, op: &ProtocolOp, out: &mut Vec<u8>) -> Result<(), WriteError>
-    ensures ok { OnOk result (out.new.items ≡ out.old.items ++ operation_bytes (operation_view op.now)) }
-    ensures too_long { IsErrOf result WriteError.TooLong
-        → 2 ^ 32 ≤ length (operation_content (operation_view op.now)) }
+/// How many octets the content of a message takes, by the lengths of its operation's content and of
+/// its controls; 2^32 where there are more.
+fn message_length(id: u32, content: usize, controls: usize) -> usize
+    ensures { (first : ℕ) (octets ending : List ℕ)
+        → min content (2 ^ 32) ≡ min (length octets) (2 ^ 32) → controls ≡ length ending
+        → result ≡ min (length (enveloped id (element_bytes first octets) ending)) (2 ^ 32) }
 {
-    let content = operation_content(alloc, op)?;
-    write(operation_octet(op), &content, out)
+    add_lengths(
+        add_lengths(number_length(id), element_length(content)),
+        controls,
+    )
 }
 
-/// The content of a message's element.
-fn message_content(alloc: Global, message: &Message) -> Result<Vec<u8>, WriteError>
-    ensures ok { IfOk result (λ v. v.items ≡ message_content (view message.now)) }
-    ensures too_long { IsErrOf result WriteError.TooLong
-        → 2 ^ 32 ≤ length (message_content (view message.now)) }
+/// An empty buffer that holds an element whose content has this length.
+fn buffer(alloc: Global, content: usize) -> Result<Vec<u8>, WriteError>
+    ensures ok { IfOk result (λ v. v.items ≡ []) }
+    ensures too_long { IsErrOf result WriteError.TooLong → 2 ^ 32 ≤ content }
 {
-    let mut content = Vec::new(alloc);
-    put_number(0x02, message.id, &mut content)?;
-    put_operation(alloc, &message.op, &mut content)?;
-    put_controls(alloc, &message.controls, &mut content)?;
-    Ok(content)
+    if content > MAX_CONTENT {
+        return Err(WriteError::TooLong);
+    }
+    match Vec::with_capacity(alloc, element_length(content)) {
+        Ok(octets) => Ok(octets),
+        Err(_) => Err(WriteError::NoMemory),
+    }
+}
+
+/// A buffer that holds a message whose content has the length `total`, and in it all that stands before
+/// the operation's content.
+fn begin(
+    alloc: Global,
+    id: u32,
+    first: u8,
+    content: usize,
+    total: usize,
+) -> Result<Vec<u8>, WriteError>
+    requires { first % 32 < 31 }
+    ensures ok { IfOk result (λ v. v.items
+        ≡ (48 ∷ length_octets total) ++ number_bytes 2 id ++ (first ∷ length_octets content)) }
+    ensures total_fits { OnOk result (total < 2 ^ 32) }
+    ensures content_fits { OnOk result (content < 2 ^ 32) }
+    ensures too_long { IsErrOf result WriteError.TooLong → (2 ^ 32 ≤ content) ⊎ (2 ^ 32 ≤ total) }
+{
+    let mut octets = buffer(alloc, total)?;
+    write_head(0x30, total, &mut octets)?;
+    put_number(0x02, id, &mut octets)?;
+    write_head(first, content, &mut octets)?;
+    Ok(octets)
+}
+
+/// Writes octets that are spelled already.
+fn put_octets(octets: &[u8], out: &mut Vec<u8>) -> Result<(), WriteError>
+    ensures ok { OnOk result (out.new.items ≡ out.old.items ++ octets.now) }
+    ensures no_memory { IfErr result (λ e. e ≡ WriteError.NoMemory) }
+{
+    match out.extend_from_slice(octets) {
+        Ok(()) => Ok(()),
+        Err(_) => Err(WriteError::NoMemory),
+    }
+}
+
+/// A message that shows an entry, its controls spelled already: lengths first, then each octet to its
+/// place.
+fn encode_entry(
+    alloc: Global,
+    id: u32,
+    entry: &SearchResultEntry,
+    controls: &[u8],
+) -> Result<Vec<u8>, WriteError>
+    ensures ok { IfOk result (λ v. v.items ≡ element_bytes 48
+        (enveloped id (element_bytes 100 (entry_content (entry_view entry.now))) controls.now)) }
+    ensures fits { OnOk result (length
+        (enveloped id (element_bytes 100 (entry_content (entry_view entry.now))) controls.now) < 2 ^ 32) }
+    ensures too_long { IsErrOf result WriteError.TooLong → 2 ^ 32 ≤ length
+        (enveloped id (element_bytes 100 (entry_content (entry_view entry.now))) controls.now) }
+{
+    let content = entry_length(entry);
+    let total = message_length(id, content, controls.len());
+    let mut octets = begin(alloc, id, 0x64, content, total)?;
+    put_entry(alloc, entry, &mut octets)?;
+    put_octets(controls, &mut octets)?;
+    Ok(octets)
+}
+
+/// A message whose operation's content and controls are spelled already.
+fn encode_content(
+    alloc: Global,
+    id: u32,
+    first: u8,
+    content: &[u8],
+    controls: &[u8],
+) -> Result<Vec<u8>, WriteError>
+    requires { first % 32 < 31 }
+    ensures ok { IfOk result (λ v. v.items ≡ element_bytes 48
+        (enveloped id (element_bytes first content.now) controls.now)) }
+    ensures fits { OnOk result (length
+        (enveloped id (element_bytes first content.now) controls.now) < 2 ^ 32) }
+    ensures too_long { IsErrOf result WriteError.TooLong → 2 ^ 32 ≤ length
+        (enveloped id (element_bytes first content.now) controls.now) }
+{
+    let total = message_length(id, content.len(), controls.len());
+    let mut octets = begin(alloc, id, first, content.len(), total)?;
+    put_octets(content, &mut octets)?;
+    put_octets(controls, &mut octets)?;
+    Ok(octets)
+}
+
+/// A message of this operation, its controls spelled already.
+fn encode_operation(
+    alloc: Global,
+    id: u32,
+    op: &ProtocolOp,
+    controls: &[u8],
+) -> Result<Vec<u8>, WriteError>
+    ensures ok { IfOk result (λ v. v.items ≡ element_bytes 48
+        (enveloped id (operation_bytes (operation_view op.now)) controls.now)) }
+    ensures fits { OnOk result (length
+        (enveloped id (operation_bytes (operation_view op.now)) controls.now) < 2 ^ 32) }
+    ensures too_long { IsErrOf result WriteError.TooLong → 2 ^ 32 ≤ length
+        (enveloped id (operation_bytes (operation_view op.now)) controls.now) }
+{
+    match op {
+        ProtocolOp::Response(Response::SearchEntry(entry)) => {
+            encode_entry(alloc, id, entry, controls)
+        }
+        _ => {
+            let content = operation_content(alloc, op)?;
+            encode_content(alloc, id, operation_octet(op), &content, controls)
+        }
+    }
 }
 
 /// The octets of a message, in the one shortest form (RFC 4511 5.1). E3 only where the content of the
@@ -68,10 +187,9 @@ pub fn encode(alloc: Global, message: &Message) -> Result<Vec<u8>, WriteError>
     ensures too_long { IsErrOf result WriteError.TooLong
         → 2 ^ 32 ≤ length (message_content (view message.now)) }
 {
-    let content = message_content(alloc, message)?;
-    let mut octets = Vec::new(alloc);
-    write(0x30, &content, &mut octets)?;
-    Ok(octets)
+    let mut controls = Vec::new(alloc);
+    put_controls(alloc, &message.controls, &mut controls)?;
+    encode_operation(alloc, message.id, &message.op, &controls)
 }
 
 /// What is written for values in their ranges is in the grammar.
