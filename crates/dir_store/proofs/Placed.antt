@@ -1,11 +1,7 @@
 -- Replies by place. Facts on definitions flow in and out; no value of the program is here.
-use Rattle.std.proofs.Common.{◌≡◌, ℕ, zero, suc, ◌+◌, List, [], ◌∷◌, ◌++◌, length, Option, None, Some, refl, ap, ap₂, ◌∙◌, arith}
-use Rattle.std.specs.List.{slice_get}
+use Rattle.std.proofs.Common.{◌≡◌, ℕ, zero, suc, ◌+◌, [], ◌∷◌, ◌++◌, length, refl, ap, ap₂, ◌∙◌, arith}
 use Rattle.std.proofs.lemmas.Option.{slice_get_past}
-use Rattle.entry_updates.specs.ldap_op.Values.{OpValue}
-use Rattle.indexed_tree.specs.Directory.{Directory}
-use Rattle.indexed_tree.specs.directory_api.Answers.{ReplyModel}
-use Rattle.dir_store.specs.Updates.{applied, reply_to, directory_after, replies_after}
+use Rattle.dir_store.specs.Updates.{applied, directory_after}
 use Rattle.dir_store.specs.Placed.{reply_at, RepliesArePlaced, PlacesJoin}
 
 -- the replies stand at their places

@@ -8,7 +8,6 @@ use Rattle.indexed_tree.specs.dir_tree.Directory.{NameKey, Entered, name_eq, fin
 use Rattle.indexed_tree.specs.dir_tree.Placed.{name_placed, name_under, IsSpelled, IsPlacedAsSpelled}
 use Rattle.indexed_tree.proofs.Lookups.{found_same}
 use Rattle.indexed_tree.proofs.Shown.{moved_shown}
-use Rattle.indexed_tree.specs.Directory.{NamedEntry}
 use Rattle.indexed_tree.specs.Places.{parent_of, last_of, moved}
 use Rattle.indexed_tree.specs.Stored.{named}
 use Rattle.dir_store.proofs.Moves.{above_of, without_last}

@@ -15,7 +15,7 @@ use Rattle.indexed_tree.specs.dir_tree.Directory.{name_eq, begins}
 use Rattle.indexed_tree.specs.Directory.{Directory, NamedEntry}
 use Rattle.indexed_tree.specs.Places.{entry_named, has_subordinate, parent_of, last_of, own_rdn, without_entry, with_attributes, moved}
 pub use Rattle.indexed_tree.specs.Replies.{name_asked, entry_asked}
-use Rattle.indexed_tree.specs.Replies.{not_found, then, refuse, or_refused, with_reply}
+use Rattle.indexed_tree.specs.Replies.{then, refuse, or_refused, with_reply}
 use Rattle.indexed_tree.specs.directory_api.Answers.{ReplyModel, only}
 
 -- a name and attributes that an entry gets
