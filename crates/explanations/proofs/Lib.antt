@@ -2,5 +2,9 @@ pub mod Written
 pub mod Cuts
 pub mod Utf8
 pub mod Cutting
+pub mod CutPieces
 pub mod Escaping
 pub mod Numbers
+pub mod Ordering
+pub mod Reaching
+pub mod Again

@@ -12,3 +12,10 @@ pub mod Refused
 pub mod Schemas
 pub mod Rules
 pub mod Ldif
+pub mod Pieces
+pub mod Forms
+pub mod Descriptions
+pub mod Repeats
+pub mod Loops
+pub mod Reaching
+pub mod SchemaFaults

@@ -1,132 +1,120 @@
 //! The keywords of schemas' lines, each with what may follow it and its place in the order (RFC 4512 4.1.1, 4.1.2). Only sentences are
 //! made by this table; which lines are read is the schema reader's matter.
-use ldap_words::is_same_word;
+ghost use Rattle.std.specs.Prelude.{◌≡◌, map, option_map};
+ghost use Rattle.std.specs.List.{list_all};
+ghost use Rattle.schema_meaning.specs.schema_text.Words.{is_extension_octet, is_extension_rest, is_extension};
+ghost use Rattle.explanations.specs.Forms.{form_model, common_forms, own_forms, form_among, extension_if, form_of, other_lines, is_elsewhere};
+
+use ldap_words::{is_alpha, is_same_word};
 
 /// Which lines have a keyword.
-#[derive(Clone, Copy, PartialEq, Eq)]
+#[derive(Clone, Copy)]
 pub enum Lines {
     Types,
     Classes,
-    Both,
 }
 
 /// A keyword.
 #[derive(Clone, Copy)]
 pub struct Form {
     pub word: &'static str,
-    pub lines: Lines,
     /// Its place in the order; the kinds of a class share one.
     pub place: usize,
     /// What is to follow it; empty, where nothing may.
     pub wanted: &'static str,
 }
 
-const NAMES: &str = "a name in quotes, or several in parentheses";
-
-const TEXT: &str = "a text in quotes";
-
 const ONE: &str = "a name or an object identifier";
 
 const MANY: &str = "a name, or several in parentheses with $ between them";
 
-const SYNTAX: &str = "an object identifier, or one with a length in braces";
-
-const USAGE: &str = "userApplications, the one usage that is supported";
-
-const FORMS: &[Form] = &[
+/// The keywords of both kinds of line.
+const COMMON: &[Form] = &[
     Form {
         word: "NAME",
-        lines: Lines::Both,
         place: 1,
-        wanted: NAMES,
+        wanted: "a name in quotes, or several in parentheses",
     },
     Form {
         word: "DESC",
-        lines: Lines::Both,
         place: 2,
-        wanted: TEXT,
+        wanted: "a text in quotes",
     },
     Form {
         word: "OBSOLETE",
-        lines: Lines::Both,
         place: 3,
         wanted: "",
     },
+];
+
+/// The keywords of attribute types alone.
+const OF_TYPES: &[Form] = &[
     Form {
         word: "SUP",
-        lines: Lines::Types,
         place: 4,
         wanted: ONE,
     },
     Form {
-        word: "SUP",
-        lines: Lines::Classes,
-        place: 4,
-        wanted: MANY,
-    },
-    Form {
         word: "EQUALITY",
-        lines: Lines::Types,
         place: 5,
         wanted: ONE,
     },
     Form {
         word: "ORDERING",
-        lines: Lines::Types,
         place: 6,
         wanted: ONE,
     },
     Form {
         word: "SUBSTR",
-        lines: Lines::Types,
         place: 7,
         wanted: ONE,
     },
     Form {
         word: "SYNTAX",
-        lines: Lines::Types,
         place: 8,
-        wanted: SYNTAX,
+        wanted: "an object identifier, or one with a length in braces",
     },
     Form {
         word: "SINGLE-VALUE",
-        lines: Lines::Types,
         place: 9,
         wanted: "",
     },
     Form {
         word: "USAGE",
-        lines: Lines::Types,
         place: 10,
-        wanted: USAGE,
+        wanted: "userApplications, the one usage that is supported",
+    },
+];
+
+/// The keywords of object classes alone.
+const OF_CLASSES: &[Form] = &[
+    Form {
+        word: "SUP",
+        place: 4,
+        wanted: MANY,
     },
     Form {
         word: "ABSTRACT",
-        lines: Lines::Classes,
         place: 11,
         wanted: "",
     },
     Form {
         word: "STRUCTURAL",
-        lines: Lines::Classes,
         place: 11,
         wanted: "",
     },
     Form {
         word: "AUXILIARY",
-        lines: Lines::Classes,
         place: 11,
         wanted: "",
     },
     Form {
         word: "MUST",
-        lines: Lines::Classes,
         place: 12,
         wanted: MANY,
     },
     Form {
         word: "MAY",
-        lines: Lines::Classes,
         place: 13,
         wanted: MANY,
     },
@@ -135,36 +123,110 @@ const FORMS: &[Form] = &[
 /// What an extension is: it may be given more than once, behind all others.
 const EXTENSION: Form = Form {
     word: "X-..",
-    lines: Lines::Both,
     place: 14,
     wanted: "a text in quotes, or several in parentheses",
 };
 
-/// Whether octets go on with an extension's word behind `X-`.
-fn is_extension_rest(octets: &[u8]) -> bool {
-    !octets.is_empty()
-        && octets.iter().all(|octet| octet.is_ascii_alphabetic() || matches!(*octet, b'-' | b'_'))
+/// Whether the word of an extension may have the octet.
+fn is_extension_octet(octet: u8) -> bool
+    ensures { result ≡ is_extension_octet octet }
+{
+    is_alpha(octet) || octet == b'-' || octet == b'_'
 }
 
-/// The keyword of a line that a word is, in any case.
-pub fn form_of(lines: Lines, word: &[u8]) -> Option<Form> {
-    for form in FORMS {
-        let is_here = form.lines == lines || form.lines == Lines::Both;
-        if is_here && is_same_word(form.word.as_bytes(), word) {
+/// Whether the word of an extension may have each of the octets.
+fn are_extension_octets(octets: &[u8]) -> bool
+    ensures { result ≡ list_all is_extension_octet octets.now }
+{
+    octets.iter().all(|octet| is_extension_octet(*octet))
+}
+
+/// Whether octets go on with an extension's word behind `X`.
+fn is_extension_rest(octets: &[u8]) -> bool
+    ensures { result ≡ is_extension_rest octets.now }
+{
+    match octets {
+        [] => false,
+        [first, rest @ ..] => *first == b'-' && 0 < rest.len() && are_extension_octets(rest),
+    }
+}
+
+/// Whether a word is that of an extension.
+fn is_extension(word: &[u8]) -> bool
+    ensures { result ≡ is_extension word.now }
+{
+    match word {
+        [] => false,
+        [first, rest @ ..] => (*first == b'X' || *first == b'x') && is_extension_rest(rest),
+    }
+}
+
+/// An extension, where the word is that of one.
+fn extension_if(word: &[u8]) -> Option<Form>
+    ensures { option_map form_model result ≡ extension_if word.now }
+{
+    if is_extension(word) {
+        Some(EXTENSION)
+    } else {
+        None
+    }
+}
+
+/// The first of keywords that a word is, in any case.
+fn form_among(forms: &[Form], word: &[u8]) -> Option<Form>
+    ensures { option_map form_model result ≡ form_among (map form_model forms.now) word.now }
+{
+    for form in forms {
+        if is_same_word(form.word.as_bytes(), word) {
             return Some(*form);
         }
     }
-    match word {
-        [b'X' | b'x', b'-', rest @ ..] if is_extension_rest(rest) => Some(EXTENSION),
-        _ => None,
+    None
+}
+
+/// The first of the keywords of both kinds of line that a word is.
+fn common_form(word: &[u8]) -> Option<Form>
+    ensures { option_map form_model result ≡ form_among common_forms word.now }
+{
+    form_among(COMMON, word)
+}
+
+/// The first of the keywords of one kind of line alone that a word is.
+fn own_form(lines: Lines, word: &[u8]) -> Option<Form>
+    ensures { option_map form_model result ≡ form_among (own_forms lines) word.now }
+{
+    match lines {
+        Lines::Types => form_among(OF_TYPES, word),
+        Lines::Classes => form_among(OF_CLASSES, word),
+    }
+}
+
+/// The keyword of a line that a word is, in any case.
+pub fn form_of(lines: Lines, word: &[u8]) -> Option<Form>
+    ensures { option_map form_model result ≡ form_of lines word.now }
+{
+    if let Some(form) = common_form(word) {
+        return Some(form);
+    }
+    match own_form(lines, word) {
+        Some(form) => Some(form),
+        None => extension_if(word),
+    }
+}
+
+/// The other kind of line.
+fn other_lines(lines: Lines) -> Lines
+    ensures { result ≡ other_lines lines }
+{
+    match lines {
+        Lines::Classes => Lines::Types,
+        Lines::Types => Lines::Classes,
     }
 }
 
 /// Whether a word is a keyword of the other kind of line.
-pub fn is_elsewhere(lines: Lines, word: &[u8]) -> bool {
-    let other = match lines {
-        Lines::Classes => Lines::Types,
-        Lines::Types | Lines::Both => Lines::Classes,
-    };
-    form_of(other, word).is_some()
+pub fn is_elsewhere(lines: Lines, word: &[u8]) -> bool
+    ensures { result ≡ is_elsewhere lines word.now }
+{
+    form_of(other_lines(lines), word).is_some()
 }

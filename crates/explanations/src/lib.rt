@@ -6,8 +6,8 @@
 //!
 //! Proved: the sentence is a definition for a result code (`code_word`), a line of hex (`hex_line_fault`), a filter (`filter_fault`), a name
 //! (`name_fault`), a line of LDIF (`ldif_fault`), a record of LDIF, with its line (`record_fault`), a line of a lab script (`script_fault`)
-//! and of an index choice (`index_fault`), and so is a word as a sentence shows it (`shown`). Of a schema's sentences two parts are: what a
-//! description names that isn't there, and rules that don't fit. Of the call itself (`schema_fault`), that it is safe and returns.
+//! and of an index choice (`index_fault`), the line of a schema (`schema_fault`), and a word as a sentence shows it (`shown`). For a class
+//! whose SUP leads back to it the sentence is one of a way that leads back, where there is one.
 #![tactic(auto)]
 
 mod classes;

@@ -1,8 +1,11 @@
 //! A description between its outer parentheses: where it is cut by spaces, and the first octet that has no place in it (RFC 4512 1.4).
+ghost use Rattle.std.specs.Prelude.{◌≡◌, ◌++◌, ◌<◌, IfOk, IfSome, OnOk, length, map};
+ghost use Rattle.explanations.specs.Pieces.{bare_step, quoted_step, escape_step, half_step, step, stop_in, is_outside, is_break, next_of, piece_of, pieces_of};
+
 use std::alloc::{AllocError, Global};
 
 /// Where a reader is: outside a list or in it, in quotes there, and behind a backslash there. The flag tells that a list is open.
-#[derive(Clone, Copy, PartialEq, Eq)]
+#[derive(Clone, Copy)]
 pub enum Scan {
     Bare { in_list: bool },
     Quoted { in_list: bool },
@@ -14,7 +17,9 @@ pub enum Scan {
 const START: Scan = Scan::Bare { in_list: false };
 
 /// Behind an octet outside quotes.
-fn bare_step(in_list: bool, octet: u8) -> Option<Scan> {
+fn bare_step(in_list: bool, octet: u8) -> Option<Scan>
+    ensures { result ≡ bare_step in_list octet }
+{
     match octet {
         b'(' if in_list => None,
         b')' if !in_list => None,
@@ -26,7 +31,9 @@ fn bare_step(in_list: bool, octet: u8) -> Option<Scan> {
 }
 
 /// Behind an octet in quotes.
-fn quoted_step(in_list: bool, octet: u8) -> Option<Scan> {
+fn quoted_step(in_list: bool, octet: u8) -> Option<Scan>
+    ensures { result ≡ quoted_step in_list octet }
+{
     match octet {
         b'\'' => Some(Scan::Bare { in_list }),
         b'\\' => Some(Scan::Escape { in_list }),
@@ -34,22 +41,38 @@ fn quoted_step(in_list: bool, octet: u8) -> Option<Scan> {
     }
 }
 
+/// Behind an octet that follows a backslash.
+fn escape_step(in_list: bool, octet: u8) -> Option<Scan>
+    ensures { result ≡ escape_step in_list octet }
+{
+    match octet {
+        b'2' | b'5' => Some(Scan::Half {
+            in_list,
+            first: octet,
+        }),
+        _ => None,
+    }
+}
+
+/// Behind the second digit.
+fn half_step(in_list: bool, first: u8, octet: u8) -> Option<Scan>
+    ensures { result ≡ half_step in_list first octet }
+{
+    match (first, octet) {
+        (b'2', b'7') | (b'5', b'c' | b'C') => Some(Scan::Quoted { in_list }),
+        _ => None,
+    }
+}
+
 /// Behind a further octet; none, where it may not come.
-fn step(scan: Scan, octet: u8) -> Option<Scan> {
+fn step(scan: Scan, octet: u8) -> Option<Scan>
+    ensures { result ≡ step scan octet }
+{
     match scan {
         Scan::Bare { in_list } => bare_step(in_list, octet),
         Scan::Quoted { in_list } => quoted_step(in_list, octet),
-        Scan::Escape { in_list } => match octet {
-            b'2' | b'5' => Some(Scan::Half {
-                in_list,
-                first: octet,
-            }),
-            _ => None,
-        },
-        Scan::Half { in_list, first } => match (first, octet) {
-            (b'2', b'7') | (b'5', b'c' | b'C') => Some(Scan::Quoted { in_list }),
-            _ => None,
-        },
+        Scan::Escape { in_list } => escape_step(in_list, octet),
+        Scan::Half { in_list, first } => half_step(in_list, first, octet),
     }
 }
 
@@ -61,7 +84,10 @@ pub struct Stop {
 }
 
 /// Where a reader of these octets stops.
-pub fn stop_in(octets: &[u8]) -> Stop {
+pub fn stop_in(octets: &[u8]) -> Stop
+    ensures stop { result ≡ stop_in octets.now }
+    ensures within { IfSome result.index (λ index. index < length octets.now) }
+{
     let mut scan = START;
     for (index, octet) in octets.iter().enumerate() {
         match step(scan, *octet) {
@@ -77,37 +103,60 @@ pub fn stop_in(octets: &[u8]) -> Stop {
     Stop { index: None, scan }
 }
 
-/// The octets between two places; none, where there are no such places.
-fn between(octets: &[u8], start: usize, end: usize) -> &[u8] {
-    match octets.get(start..end) {
-        Some(part) => part,
-        None => &[],
+/// Whether a reader is outside lists and quotes.
+pub fn is_outside(scan: Scan) -> bool
+    ensures { result ≡ is_outside scan }
+{
+    match scan {
+        Scan::Bare { in_list } => !in_list,
+        Scan::Quoted { .. } | Scan::Escape { .. } | Scan::Half { .. } => false,
+    }
+}
+
+/// Whether an octet ends a piece: a space outside lists and quotes.
+fn is_break(scan: Scan, octet: u8) -> bool
+    ensures { result ≡ is_break scan octet }
+{
+    is_outside(scan) && octet == b' '
+}
+
+/// Behind a further octet, or where the reader was before one that may not come.
+fn next_of(scan: Scan, octet: u8) -> Scan
+    ensures { result ≡ next_of scan octet }
+{
+    match step(scan, octet) {
+        Some(next) => next,
+        None => scan,
     }
 }
 
 /// Adds a piece that has octets.
-fn push_piece<'a>(pieces: &mut Vec<&'a [u8]>, piece: &'a [u8]) -> Result<(), AllocError> {
-    if !piece.is_empty() {
-        pieces.push(piece)?;
+fn push_piece<'a>(pieces: &mut Vec<&'a [u8]>, piece: &'a [u8]) -> Result<(), AllocError>
+    ensures { OnOk result (map (λ x. x.now) pieces.new.items ≡ map (λ x. x.now) pieces.old.items ++ piece_of piece.now) }
+{
+    match piece {
+        [] => Ok(()),
+        [_, ..] => {
+            pieces.push(piece)?;
+            Ok(())
+        }
     }
-    Ok(())
 }
 
 /// The parts between spaces that are outside lists and quotes.
-pub fn pieces_of(alloc: Global, octets: &[u8]) -> Result<Vec<&[u8]>, AllocError> {
+pub fn pieces_of(alloc: Global, octets: &[u8]) -> Result<Vec<&[u8]>, AllocError>
+    ensures { IfOk result (λ v. map (λ x. x.now) v.items ≡ pieces_of octets.now) }
+{
     let mut pieces = Vec::new(alloc);
     let mut scan = START;
     let mut start = 0;
     for (index, octet) in octets.iter().enumerate() {
-        if scan == START && *octet == b' ' {
-            push_piece(&mut pieces, between(octets, start, index))?;
+        if is_break(scan, *octet) {
+            push_piece(&mut pieces, &octets[start..index])?;
             start = index + 1;
         }
-        scan = match step(scan, *octet) {
-            Some(next) => next,
-            None => scan,
-        };
+        scan = next_of(scan, *octet);
     }
-    push_piece(&mut pieces, between(octets, start, octets.len()))?;
+    push_piece(&mut pieces, &octets[start..])?;
     Ok(pieces)
 }

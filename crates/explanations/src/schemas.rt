@@ -1,6 +1,13 @@
 //! Texts of schemas: what is wrong with the line that is refused.
-ghost use Rattle.std.specs.Prelude.{◌≡◌, ◌-◌, IfOk, MatchOption, None, Some, map, slice_get};
+ghost use Rattle.std.specs.Prelude.{◌≡◌, ◌-◌, IfOk, MatchOption, None, Some, map, slice_get, string_bytes};
+ghost use Rattle.schema_meaning.specs.schema_text.Descriptions.{first_text_at};
 ghost use Rattle.explanations.specs.Indexes.{line_of};
+ghost use Rattle.schema_meaning.specs.Inheriting.{effect_of};
+ghost use Rattle.explanations.specs.Repeats.{in_line};
+ghost use Rattle.explanations.specs.Rules.{unfit};
+ghost use Rattle.explanations.specs.Schemas.{title};
+ghost use Rattle.explanations.specs.SchemaFaults.{bad_type, bad_class, bad_beside, unknown_in, unknown_in_class, IsLoop, IsLoopOfClass};
+ghost use Rattle.explanations.specs.SchemaFaults.{lacks_equality, no_equality, is_no_description, IsFault, IsSchemaSentence};
 
 use crate::descriptions::line_fault;
 use crate::hex_lines::parts;
@@ -10,7 +17,7 @@ use crate::repeats::{at_line, repeated, title};
 use crate::rules::unfit;
 use crate::showing::{said, shown};
 use crate::{loops, unknown};
-use schema_meaning::{Description, Effects, IndexedText, Keyword, SchemaText, read_text};
+use schema_meaning::{Description, Effect, Effects, IndexedText, Keyword, SchemaText, read_text};
 use std::alloc::{AllocError, Global};
 
 /// A line of a text that is cut into lines, by its index.
@@ -43,17 +50,46 @@ pub fn numbered_line<'a>(
     }
 }
 
-/// A description that is bad beside the others: E12.
-fn bad_beside(alloc: Global, text: &IndexedText, line: usize) -> Result<String, AllocError> {
-    if let Some((number, description)) = at_line(text.types().all(), line) {
-        return match repeated(alloc, text, description)? {
-            Some(sentence) => Ok(sentence),
-            None => {
-                let effect = Effects::of(alloc, text.types())?.of_type(number);
-                unfit(alloc, description, effect)
-            }
-        };
+/// What is in effect for the type of a number.
+fn effect_in(alloc: Global, text: &IndexedText, number: usize) -> Result<Effect, AllocError>
+    ensures { IfOk result (λ e. e ≡ effect_of text.now.types number) }
+{
+    let effects = Effects::of(alloc, text.types())?;
+    Ok(effects.of_type(number))
+}
+
+/// A type whose rules and syntax don't fit one another.
+fn unfit_type(
+    alloc: Global,
+    text: &IndexedText,
+    number: usize,
+    description: &Description,
+) -> Result<String, AllocError>
+    ensures { IfOk result (λ s. string_bytes s ≡ unfit description.now (effect_of text.now.types number)) }
+{
+    let effect = effect_in(alloc, text, number)?;
+    unfit(alloc, description, effect)
+}
+
+/// A type that is bad beside the others: what it repeats, or else its rules.
+fn bad_type(
+    alloc: Global,
+    text: &IndexedText,
+    number: usize,
+    description: &Description,
+) -> Result<String, AllocError>
+    ensures { IfOk result (λ s. string_bytes s ≡ bad_type text.now (number, description.now)) }
+{
+    match repeated(alloc, text, description)? {
+        Some(sentence) => Ok(sentence),
+        None => unfit_type(alloc, text, number, description),
     }
+}
+
+/// A class that is bad beside the others, or a line of neither.
+fn bad_class(alloc: Global, text: &IndexedText, line: usize) -> Result<String, AllocError>
+    ensures { IfOk result (λ s. string_bytes s ≡ bad_class text.now (in_line text.now.classes line)) }
+{
     let found = match at_line(text.classes().all(), line) {
         Some((_, description)) => repeated(alloc, text, description)?,
         None => None,
@@ -64,42 +100,79 @@ fn bad_beside(alloc: Global, text: &IndexedText, line: usize) -> Result<String, 
     }
 }
 
-/// A line that names what is not there: E13.
-fn unknown_at(alloc: Global, text: &IndexedText, line: usize) -> Result<String, AllocError> {
-    if let Some((_, description)) = at_line(text.types().all(), line) {
-        return unknown::of_type(alloc, text, description);
+/// A description that is bad beside the others: E12.
+fn bad_beside(alloc: Global, text: &IndexedText, line: usize) -> Result<String, AllocError>
+    ensures { IfOk result (λ s. string_bytes s ≡ bad_beside text.now (in_line text.now.types line) (in_line text.now.classes line)) }
+{
+    match at_line(text.types().all(), line) {
+        Some((number, description)) => bad_type(alloc, text, number, description),
+        None => bad_class(alloc, text, line),
     }
+}
+
+/// A line of no type that names what is not there.
+fn unknown_in_class(alloc: Global, text: &IndexedText, line: usize) -> Result<String, AllocError>
+    ensures { IfOk result (λ s. string_bytes s ≡ unknown_in_class text.now (in_line text.now.classes line)) }
+{
     match at_line(text.classes().all(), line) {
         Some((_, description)) => unknown::of_class(alloc, text, description),
         None => unknown::at_end(alloc, text),
     }
 }
 
-/// A line whose SUP leads back to it: E14.
-fn loop_at(alloc: Global, text: &IndexedText, line: usize) -> Result<String, AllocError> {
-    if let Some((number, _)) = at_line(text.types().all(), line) {
-        return loops::of_type(alloc, text.types(), number);
+/// A line that names what is not there: E13.
+fn unknown_at(alloc: Global, text: &IndexedText, line: usize) -> Result<String, AllocError>
+    ensures { IfOk result (λ s. string_bytes s ≡ unknown_in text.now (in_line text.now.types line) (in_line text.now.classes line)) }
+{
+    match at_line(text.types().all(), line) {
+        Some((_, description)) => unknown::of_type(alloc, text, description),
+        None => unknown_in_class(alloc, text, line),
     }
+}
+
+/// A line of no type whose SUP leads back to it.
+fn class_loop_at(alloc: Global, text: &IndexedText, line: usize) -> Result<String, AllocError>
+    ensures { IfOk result (λ s. IsLoopOfClass text.now (in_line text.now.classes line) (string_bytes s)) }
+{
     match at_line(text.classes().all(), line) {
         Some((number, _)) => loops::of_class(alloc, text.classes(), number),
         None => said(alloc, "SUP leads back"),
     }
 }
 
+/// A line whose SUP leads back to it: E14.
+fn loop_at(alloc: Global, text: &IndexedText, line: usize) -> Result<String, AllocError>
+    ensures { IfOk result (λ s. IsLoop text.now (in_line text.now.types line) (in_line text.now.classes line) (string_bytes s)) }
+{
+    match at_line(text.types().all(), line) {
+        Some((number, _)) => loops::of_type(alloc, text.types(), number),
+        None => class_loop_at(alloc, text, line),
+    }
+}
+
+/// A type without EQUALITY, under another without one.
+fn none_inherited(alloc: Global, title: &str, superior: &[u8]) -> Result<String, AllocError>
+    ensures { IfOk result (λ s. string_bytes s ≡ lacks_equality title.now (Some superior.now)) }
+{
+    let above = shown(alloc, superior)?;
+    format!(in alloc; "'{title}' has no EQUALITY, and none by its SUP '{above}'")
+}
+
 /// A type without EQUALITY.
-fn lacks_equality(alloc: Global, description: &Description) -> Result<String, AllocError> {
+fn lacks_equality(alloc: Global, description: &Description) -> Result<String, AllocError>
+    ensures { IfOk result (λ s. string_bytes s ≡ lacks_equality (title description.now) (first_text_at 4 description.now.fields)) }
+{
     let title = title(alloc, description)?;
     match description.text(Keyword::Sup) {
-        Some(word) => {
-            let above = shown(alloc, word)?;
-            format!(in alloc; "'{title}' has no EQUALITY, and none by its SUP '{above}'")
-        }
+        Some(word) => none_inherited(alloc, title.as_str(), word),
         None => format!(in alloc; "'{title}' has no EQUALITY, and no SUP to have it from"),
     }
 }
 
 /// A line of a type without EQUALITY: E15.
-fn no_equality_at(alloc: Global, text: &IndexedText, line: usize) -> Result<String, AllocError> {
+fn no_equality_at(alloc: Global, text: &IndexedText, line: usize) -> Result<String, AllocError>
+    ensures { IfOk result (λ s. string_bytes s ≡ no_equality (in_line text.now.types line)) }
+{
     match at_line(text.types().all(), line) {
         Some((_, description)) => lacks_equality(alloc, description),
         None => said(alloc, "no EQUALITY"),
@@ -112,7 +185,9 @@ fn fault_of(
     text: &SchemaText,
     refusal: SchemaRefusal,
     line: usize,
-) -> Result<String, AllocError> {
+) -> Result<String, AllocError>
+    ensures { IfOk result (λ s. IsFault text.now refusal line (string_bytes s)) }
+{
     let text = IndexedText::of(alloc, text)?;
     match refusal {
         SchemaRefusal::BadDescription => bad_beside(alloc, &text, line),
@@ -122,16 +197,31 @@ fn fault_of(
     }
 }
 
+/// Whether a line is refused as the first that is no description.
+fn is_no_description(text: &SchemaText, refusal: SchemaRefusal, line: usize) -> bool
+    ensures { result ≡ is_no_description text.now refusal line }
+{
+    match refusal {
+        SchemaRefusal::BadDescription => match text.bad() {
+            Some(bad) => bad == line,
+            None => false,
+        },
+        SchemaRefusal::UnknownName | SchemaRefusal::Loop | SchemaRefusal::NoEquality => false,
+    }
+}
+
 /// What is wrong with a schema's text in the line that is refused so. The text is read once more, in time that grows as the text.
 pub fn schema_fault(
     alloc: Global,
     text: &str,
     refusal: SchemaRefusal,
     line: usize,
-) -> Result<String, AllocError> {
+) -> Result<String, AllocError>
+    ensures { IfOk result (λ s. IsSchemaSentence text.now refusal line (string_bytes s)) }
+{
     let octets = text.as_bytes();
     let read = read_text(alloc, octets)?;
-    if refusal == SchemaRefusal::BadDescription && read.bad() == Some(line) {
+    if is_no_description(&read, refusal, line) {
         return line_fault(alloc, numbered_line(alloc, octets, line)?);
     }
     fault_of(alloc, &read, refusal, line)
