@@ -17,6 +17,7 @@ pub record KeyedAttribute : Type 0 where
   pub values : List (List ℕ)
   pub keys : List (List ℕ)
 
+-- an attribute without its keys
 abbrev pub shown : KeyedAttribute → AttributeModel
 shown a = record { kind = a.kind; values = a.values }
 

@@ -9,10 +9,12 @@ use Rattle.ldap_match.specs.ldap_schema.Rules.{equality_of}
 use Rattle.ldap_match.specs.Item.{is_meant}
 use Rattle.ldap_match.specs.Meaning.{meaning}
 
+-- whether two values mean something, and the same
 abbrev pub is_same_meaning : Option Meaning → Option Meaning → Bool
 is_same_meaning None n = false
 is_same_meaning (Some m) n = is_meant m n
 
+-- whether two values match by a rule; where there is none, whether they are identical
 abbrev pub is_equivalent_by : SchemaModel → Option Rule → List ℕ → List ℕ → Bool
 is_equivalent_by s None v w = bytes_eq v w
 is_equivalent_by s (Some r) v w = is_same_meaning (meaning s r v) (meaning s r w)

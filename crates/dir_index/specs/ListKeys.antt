@@ -26,6 +26,7 @@ is_same_list j k = nat_eq j.type_id k.type_id && (nat_eq j.rank k.rank && bytes_
 abbrev pub is_list_in : Range → ListKey → Bool
 is_list_in r k = nat_eq k.type_id r.type_id && (nat_eq k.rank 2 && in_range r k.octets)
 
+-- the key at an end of a range; no octets, the least key, where the range has no such end
 abbrev pub or_nothing : Option (List ℕ) → List ℕ
 or_nothing None = []
 or_nothing (Some k) = k

@@ -2,5 +2,6 @@
 use Rattle.dir_index.specs.declared.list_key.ListKey.{ListKey}
 use Rattle.dir_index.specs.declared.list_key.Place.{Place}
 
+-- the key of the list at a place
 abbrev pub key_at : Place → ListKey
 key_at p = record { type_id = p.type_id; rank = p.rank; octets = p.octets.now }

@@ -53,10 +53,12 @@ is_kept ix (Several t) = (kinds_of ix t).ordering
 is_kept ix (Equal t k) = (kinds_of ix t).equality || (kinds_of ix t).ordering
 is_kept ix (Run t g) = (kinds_of ix t).substrings && nat_eq (length g) 3
 
+-- whether a key isn't below the lower end of a range, where it has one
 abbrev pub is_from : Option (List ℕ) → List ℕ → Bool
 is_from None x = true
 is_from (Some k) x = is_key_at_least k x
 
+-- whether a key isn't above the upper end of a range, where it has one
 abbrev pub is_upto : Option (List ℕ) → List ℕ → Bool
 is_upto None x = true
 is_upto (Some k) x = is_key_at_most k x

@@ -60,6 +60,7 @@ pub record IsLinked (k : ℕ) (place : Option Place) (n n' : Steps) (b b' : ℕ 
   pub children : (a j : ℕ) → has_number j (b' a).children ≡ ((stands_under a place && nat_eq j k) || has_number j (b a).children)
   pub within : (a : ℕ) → (b' a).within ≡ (b a).within
 
+-- what is kept below numbers without the steps to number k from its place
 pub record IsUnlinked (k : ℕ) (place : Option Place) (n n' : Steps) (b b' : ℕ → Below) : Type 0 where
   pub steps : (a : ℕ) (x : List TypeAndKey) → n' a x ≡ cond (stands_at a x place) None (n a x)
   pub children : (a j : ℕ) → has_number j (b' a).children ≡ (not (stands_under a place && nat_eq j k) && has_number j (b a).children)

@@ -102,6 +102,7 @@ below_at bs a = option_map_or (λ (b : Below). b) (lookup (is_at (nat_cmp a)) bs
 abbrev pub number_among : List TypeAndKey → List (RdnModel × ℕ) → Option ℕ
 number_among x names = lookup (λ (r : RdnModel). are_same_keys x r.keys) names
 
+-- the step from a number down to the one that a relative name has right under it
 abbrev pub step_at : List (ℕ × Below) → Steps
 step_at bs a x = number_among x (below_at bs a).names
 

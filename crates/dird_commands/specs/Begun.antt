@@ -17,6 +17,7 @@ use Rattle.dird_commands.specs.declared.fault.Fault.{Fault}
 use Rattle.dird_commands.specs.Undone.{line_fault}
 use Rattle.dird_commands.specs.Sample.{sample}
 
+-- a name; the one of no relative names, where there is none
 abbrev pub or_empty : Option (List RdnModel) → List RdnModel
 or_empty None = []
 or_empty (Some name) = name

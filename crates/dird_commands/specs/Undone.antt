@@ -64,6 +64,7 @@ filter_fault filter_error.NoMemory = NoMemory
 abbrev pub IsImportCause : Fault → List ℕ → Type 0
 IsImportCause fault text = (error : ImportError) × (fault ≡ import_fault error) × IsImportFault error text
 
+-- Why an export isn't made: its text is refused, or there is no memory.
 abbrev pub IsExportCause : Fault → List ℕ → Type 0
 IsExportCause fault text = (error : ExportError) × (fault ≡ export_fault error) × IsExportFault error text
 

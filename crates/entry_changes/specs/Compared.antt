@@ -7,6 +7,7 @@ use Rattle.dir_entry.specs.Entry.{KeyedAttribute}
 use Rattle.dir_entry.specs.declared.fault.EntryError.{EntryError}
 use Rattle.dir_entry.specs.declared.fault.EntryError.TheVariants.{InvalidAttributeSyntax, NoSuchAttribute, AttributeOrValueExists, ConstraintViolation, ObjectClassViolation, NotAllowedOnRdn, ObjectClassModsProhibited, NoMemory}
 
+-- the keys of an attribute's values, where there is an EQUALITY rule, and else the values
 abbrev pub compared_by : Option Rule → KeyedAttribute → List (List ℕ)
 compared_by None a = a.values
 compared_by (Some r) a = a.keys
@@ -15,6 +16,7 @@ compared_by (Some r) a = a.keys
 abbrev pub compared : SchemaModel → KeyedAttribute → List (List ℕ)
 compared s a = compared_by (equality_of s a.kind) a
 
+-- the values of an attribute, where there is one
 abbrev pub values_held : Option KeyedAttribute → List (List ℕ)
 values_held None = []
 values_held (Some a) = a.values

@@ -11,6 +11,7 @@ use Rattle.dir_entry.specs.Adding.{refuse, has_type}
 abbrev pub place : ℕ → List AttributeModel → ℕ
 place t e = prefix_len (λ a. not (nat_eq a.kind t)) e
 
+-- the values of an attribute; none, where it isn't there
 abbrev pub values_in : Option AttributeModel → List (List ℕ)
 values_in None = []
 values_in (Some a) = a.values
@@ -32,6 +33,7 @@ with_values_of t values e = take (place t e) e ++ attribute_with t values ++ dro
 abbrev pub holds : SchemaModel → ℕ → List (List ℕ) → List ℕ → Bool
 holds s t values v = list_any (is_equivalent s t v) values
 
+-- whether a change names no value
 abbrev pub is_empty : List (List ℕ) → Bool
 is_empty [] = true
 is_empty (v ∷ vs) = false

@@ -10,6 +10,7 @@ use Rattle.entry_changes.specs.declared.index.Index.{Index}
 use Rattle.entry_changes.specs.declared.index.Indexed.{Indexed}
 pub use Rattle.dir_entry.specs.ldap_words.NameOrder.{number_at as since}
 
+-- whether values are held at a place: they are held from a place on that isn't behind it
 abbrev pub is_since : Option ℕ → ℕ → Bool
 is_since None place = false
 is_since (Some first) place = nat_le first place
@@ -24,6 +25,7 @@ abbrev pub octets_by : Bool → KeyedAttribute → List (List ℕ)
 octets_by false a = a.values
 octets_by true a = a.keys
 
+-- of each value of an attribute, whether it is held
 abbrev pub marks_in : Bool → (List ℕ → Option ℕ) → KeyedAttribute → List Bool
 marks_in by f a = marks_from f 0 (octets_by by a)
 
@@ -41,10 +43,12 @@ abbrev pub seen : KeyedAttribute → Option Index → KeyedAttribute
 seen a None = a
 seen a (Some i) = held_in i.by_keys (since i.held.entries) a
 
+-- the index of an attribute has what it holds, where there is an index
 abbrev pub FitsIn : KeyedAttribute → Option Index → Type 0
 FitsIn a None = Unit {0}
 FitsIn a (Some i) = Fits i.by_keys (since i.held.entries) a
 
+-- an attribute with an index, as it is seen
 abbrev pub held_of : Indexed → KeyedAttribute
 held_of x = held_in x.index.by_keys (since x.index.held.entries) x.attribute
 

@@ -15,6 +15,7 @@ use Rattle.std.specs.Option.{option_eq}
 abbrev pub is_object_class : SchemaModel → ℕ → Bool
 is_object_class s t = option_eq nat_eq (Some t) (object_class_type s)
 
+-- one more in front, where there is one
 abbrev pub with_some : {A : Type 0} → Option A → List A → List A
 with_some None xs = xs
 with_some (Some x) xs = x ∷ xs
@@ -33,6 +34,7 @@ names_of s (c ∷ cs) = with_some (class_name s c) (names_of s cs)
 abbrev pub missing_names : SchemaModel → List (List ℕ) → List (List ℕ)
 missing_names s values = names_of s (missing_superclasses s (classes_named s values))
 
+-- objectClass with the superclasses that are missing; any other attribute as it is
 abbrev pub completed_attribute : SchemaModel → AttributeModel → AttributeModel
 completed_attribute s a =
     cond (is_object_class s a.kind) (record { kind = a.kind; values = a.values ++ missing_names s a.values }) a
@@ -46,9 +48,11 @@ abbrev pub class_values : SchemaModel → List AttributeModel → List (List ℕ
 class_values s [] = []
 class_values s (a ∷ e) = cond (is_object_class s a.kind) a.values (class_values s e)
 
+-- whether there are fewer than two values
 abbrev pub has_at_most_one : List (List ℕ) → Bool
 has_at_most_one values = nat_lt (length values) 2
 
+-- whether a type is SINGLE-VALUE, where there is one (RFC 4512 4.1.2)
 abbrev pub is_single_in : Option TypeModel → Bool
 is_single_in None = false
 is_single_in (Some t) = t.is_single_value
@@ -57,18 +61,22 @@ is_single_in (Some t) = t.is_single_value
 abbrev pub has_single_value : SchemaModel → AttributeModel → Bool
 has_single_value s a = not (is_single_in (type_at s a.kind)) || has_at_most_one a.values
 
+-- whether no attribute of a SINGLE-VALUE type has two values
 abbrev pub has_single_values : SchemaModel → List AttributeModel → Bool
 has_single_values s e = list_all (has_single_value s) e
 
+-- whether a class of this kind is structural (RFC 4512 2.4.2)
 abbrev pub is_structural_kind : ClassKind → Bool
 is_structural_kind Abstract = false
 is_structural_kind Structural = true
 is_structural_kind Auxiliary = false
 
+-- whether a class is structural, where there is one
 abbrev pub is_structural_in : Option ClassModel → Bool
 is_structural_in None = false
 is_structural_in (Some c) = is_structural_kind c.kind
 
+-- whether the class of a number is structural
 abbrev pub is_structural : SchemaModel → ℕ → Bool
 is_structural s c = is_structural_in (slice_get s.classes c)
 
@@ -76,6 +84,7 @@ is_structural s c = is_structural_in (slice_get s.classes c)
 abbrev pub are_in_line : SchemaModel → ℕ → ℕ → Bool
 are_in_line s a b = is_subclass s a b || is_subclass s b a
 
+-- the structural ones of these classes
 abbrev pub structural_of : SchemaModel → List ℕ → List ℕ
 structural_of s cs = filter (is_structural s) cs
 
@@ -83,10 +92,12 @@ structural_of s cs = filter (is_structural s) cs
 abbrev pub is_one_chain : SchemaModel → List ℕ → Bool
 is_one_chain s cs = list_any (is_structural s) cs && list_all (λ a. list_all (are_in_line s a) (structural_of s cs)) (structural_of s cs)
 
+-- the types that a class requires, where there is one
 abbrev pub required_in : Option ClassModel → List ℕ
 required_in None = []
 required_in (Some c) = c.required
 
+-- the types that a class allows besides, where there is one
 abbrev pub allowed_in : Option ClassModel → List ℕ
 allowed_in None = []
 allowed_in (Some c) = c.allowed
@@ -103,6 +114,7 @@ allowed s c = allowed_in (slice_get s.classes c)
 abbrev pub has_required : SchemaModel → List AttributeModel → ℕ → Bool
 has_required s e c = list_all (λ t. has_type t e) (required s c)
 
+-- whether a class requires or allows a type
 abbrev pub is_allowed_by : SchemaModel → ℕ → ℕ → Bool
 is_allowed_by s t c = is_among (required s c) t || is_among (allowed s c) t
 

@@ -9,6 +9,7 @@ use Rattle.dir_entry.specs.Entry.{AttributeModel}
 use Rattle.dir_entry.specs.Adding.{refuse}
 use Rattle.entry_classes.specs.Classes.{class_values, classes_named, structural_of, is_one_chain, has_single_values, obeys_classes}
 
+-- the first structural class of which each structural one is a superclass, or which it is itself
 abbrev pub lowest_of : SchemaModel → List ℕ → Option ℕ
 lowest_of s cs = first_of (filter (λ c. list_all (is_subclass s c) (structural_of s cs)) (structural_of s cs))
 
@@ -16,6 +17,7 @@ lowest_of s cs = first_of (filter (λ c. list_all (is_subclass s c) (structural_
 abbrev pub structural_class : SchemaModel → List ℕ → Option ℕ
 structural_class s cs = cond (is_one_chain s cs) (lowest_of s cs) None
 
+-- whether there is a class, and it isn't the one before
 abbrev pub is_other_than : Option ℕ → Option ℕ → Bool
 is_other_than None before = false
 is_other_than (Some c) None = true

@@ -23,6 +23,7 @@ abbrev pub class_by : SchemaModel → Option (List ℕ) → Option ℕ
 class_by s None = None
 class_by s (Some name) = class_named s name
 
+-- the class that a line of objectClass names
 abbrev pub class_in : SchemaModel → LineModel → Option ℕ
 class_in s line = cond (is_class_line s line) (class_by s (value_in line.text)) None
 
@@ -44,6 +45,7 @@ abbrev pub is_unknown_by : SchemaModel → Option (List ℕ) → Bool
 is_unknown_by s None = false
 is_unknown_by s (Some name) = is_none (class_named s name)
 
+-- a line of objectClass that names no class of the schema
 abbrev pub is_unknown_class : SchemaModel → LineModel → Bool
 is_unknown_class s line = is_class_line s line && is_unknown_by s (value_in line.text)
 
@@ -56,22 +58,27 @@ abbrev pub types_in : SchemaModel → List LineModel → List ℕ
 types_in s [] = []
 types_in s (line ∷ lines) = option_to_list (find s (word_in line.text)) ++ types_in s lines
 
+-- the types of a relative name, in the order written
 abbrev pub types_in_rdn : Option RdnModel → List ℕ
 types_in_rdn None = []
 types_in_rdn (Some rdn) = map (λ v. v.kind) rdn.spelling
 
+-- the types of a name's own relative name
 abbrev pub types_in_name : Option (List RdnModel) → List ℕ
 types_in_name None = []
 types_in_name (Some rdns) = types_in_rdn (slice_get rdns (length rdns - 1))
 
+-- the types of the first part of a name's text
 abbrev pub types_in_text : SchemaModel → Option (List ℕ) → List ℕ
 types_in_text s None = []
 types_in_text s (Some text) = types_in_name (name_of s text)
 
+-- the types of the first part of a record's name
 abbrev pub types_above : SchemaModel → List LineModel → List ℕ
 types_above s [] = []
 types_above s (line ∷ lines) = types_in_text s (value_in line.text)
 
+-- the types of a record's values, and then those of the first part of its name
 abbrev pub given : SchemaModel → List LineModel → List ℕ
 given s lines = types_in s (drop 1 lines) ++ types_above s lines
 
@@ -80,6 +87,7 @@ pub record TypesModel : Type 0 where
   pub count : ℕ
   pub types : List ℕ
 
+-- whether a type is among these and counts
 abbrev pub has : TypesModel → ℕ → Bool
 has ts t = nat_lt t ts.count && is_among ts.types t
 
@@ -92,9 +100,11 @@ abbrev pub required_in : Option ClassModel → List ℕ
 required_in None = []
 required_in (Some c) = c.required
 
+-- the types that the class of a number requires
 abbrev pub required_of : SchemaModel → ℕ → List ℕ
 required_of s c = required_in (slice_get s.classes c)
 
+-- the types that a class requires or allows
 abbrev pub allowed_in : Option ClassModel → List ℕ
 allowed_in None = []
 allowed_in (Some c) = c.required ++ c.allowed
@@ -110,10 +120,12 @@ is_structural_kind kind.Abstract = false
 is_structural_kind kind.Structural = true
 is_structural_kind kind.Auxiliary = false
 
+-- whether a class is structural, where there is one
 abbrev pub is_structural_in : Option ClassModel → Bool
 is_structural_in None = false
 is_structural_in (Some c) = is_structural_kind c.kind
 
+-- the structural ones of these classes (RFC 4512 2.4.2)
 abbrev pub structural : SchemaModel → List ℕ → List ℕ
 structural s classes = filter (λ c. is_structural_in (slice_get s.classes c)) classes
 
@@ -122,9 +134,11 @@ abbrev pub title_in : Option TypeModel → List ℕ
 title_in None = []
 title_in (Some t) = first_name_of t.oid t.names
 
+-- a type's first name, as a sentence shows it
 abbrev pub type_title : SchemaModel → ℕ → List ℕ
 type_title s t = word_shown (title_in (type_at s t))
 
+-- a class's first name, as a sentence shows it
 abbrev pub class_title : SchemaModel → ℕ → List ℕ
 class_title s c = word_shown (octets_in (class_name s c))
 
@@ -132,9 +146,11 @@ class_title s c = word_shown (octets_in (class_name s c))
 abbrev pub lacks : TypesModel → List ℕ → Option ℕ
 lacks ts required = slice_get (filter (λ t. not (has ts t)) required) 0
 
+-- a type that a class requires, and that has no value
 abbrev pub missing : SchemaModel → ℕ → ℕ → List ℕ
 missing s t c = codes "no value of '" ++ type_title s t ++ codes "', which the class '" ++ class_title s c ++ codes "' requires"
 
+-- the sentence of a required type that is missing, or else what the other classes say
 abbrev pub missing_or : SchemaModel → ℕ → Option ℕ → Option (List ℕ) → Option (List ℕ)
 missing_or s c None others = others
 missing_or s c (Some t) others = Some (missing s t c)
@@ -153,9 +169,11 @@ lowest is_so t (suc k) = cond (is_so t) (Some t) (lowest is_so (t + 1) k)
 abbrev pub foreign : TypesModel → TypesModel → Option ℕ
 foreign ts us = lowest (λ t. has ts t && not (has us t)) 0 ts.count
 
+-- a sentence that names no rule, where none can be told
 abbrev pub some_rule : List ℕ
 some_rule = codes "the entry breaks a rule of its classes"
 
+-- a type that no class allows; without one, no rule is named
 abbrev pub bad_types_by : SchemaModel → Option ℕ → List ℕ
 bad_types_by s None = some_rule
 bad_types_by s (Some t) = codes "'" ++ type_title s t ++ codes "' is allowed by none of the entry's classes"
@@ -171,11 +189,13 @@ by_chain s ts classes is_chain =
     cond is_chain (bad_types s ts classes (first_missing s ts classes))
     (codes "of two STRUCTURAL classes of the entry neither is above the other")
 
+-- the first rule that is broken: there is a structural class, each two of these are in line, and then the types
 abbrev pub demanded_by : SchemaModel → TypesModel → List ℕ → List ℕ → List ℕ
 demanded_by s ts classes structural =
     cond (nat_eq (length structural) 0) (codes "none of the entry's classes is STRUCTURAL")
     (by_chain s ts classes (are_all_in_line (is_subclass s) structural))
 
+-- what the classes of a record demand; a record without classes has no objectClass
 abbrev pub demanded : SchemaModel → List LineModel → List ℕ → List ℕ
 demanded s lines [] = codes "the record has no objectClass"
 demanded s lines (c ∷ cs) = demanded_by s (types_of s (given s lines)) (c ∷ cs) (structural s (c ∷ cs))
@@ -184,6 +204,7 @@ demanded s lines (c ∷ cs) = demanded_by s (types_of s (given s lines)) (c ∷ 
 abbrev pub known_classes : SchemaModel → List LineModel → List ℕ
 known_classes s lines = cond (list_any (is_hidden s) (drop 1 lines)) some_rule (demanded s lines (classes_of s lines))
 
+-- a class that the schema lacks comes before what the known ones demand
 abbrev pub class_sentence_by : SchemaModel → List LineModel → Option LineModel → List ℕ
 class_sentence_by s lines None = known_classes s lines
 class_sentence_by s lines (Some line) = no_class (octets_in (value_in line.text))

@@ -90,9 +90,11 @@ is_unsupported word = is_same_word (codes "COLLECTIVE") word || is_same_word (co
 abbrev pub misplaced_word : Lines → List ℕ → List ℕ
 misplaced_word ls word = word_shown word ++ other_owner ls
 
+-- a keyword of RFC 4512 that isn't read
 abbrev pub unsupported_word : List ℕ → List ℕ
 unsupported_word word = word_shown word ++ codes " is not supported"
 
+-- a word that no description has as a keyword
 abbrev pub unknown_word : List ℕ → List ℕ
 unknown_word word = codes "expected a keyword, not '" ++ word_shown word ++ codes "'"
 
@@ -105,9 +107,11 @@ no_keyword ls word =
 abbrev pub nothing_follows : List ℕ → List ℕ → List ℕ
 nothing_follows word wanted = codes "nothing follows " ++ word_shown word ++ codes ", which needs " ++ wanted
 
+-- a keyword behind which a piece stands that isn't what it needs
 abbrev pub another_follows : List ℕ → List ℕ → List ℕ → List ℕ
 another_follows word wanted argument = word_shown word ++ codes " needs " ++ wanted ++ codes ", not: " ++ word_shown argument
 
+-- a keyword with nothing behind it, or with what it doesn't need
 abbrev pub bad_argument : List ℕ → List ℕ → List ℕ → List ℕ
 bad_argument word wanted [] = nothing_follows word wanted
 bad_argument word wanted (octet ∷ octets) = another_follows word wanted (octet ∷ octets)
@@ -116,6 +120,7 @@ bad_argument word wanted (octet ∷ octets) = another_follows word wanted (octet
 abbrev pub waiting_for : List ℕ → FormModel → Option (List ℕ × List ℕ)
 waiting_for word f = cond (is_empty f.wanted) None (Some (word, f.wanted))
 
+-- on behind a keyword, which may wait for its argument; a sentence, where the piece is no keyword
 abbrev pub keyword_at : Lines → List ℕ → Option FormModel → (Option (List ℕ × List ℕ) → Option (List ℕ)) → Option (List ℕ)
 keyword_at ls word None rest = Some (no_keyword ls word)
 keyword_at ls word (Some f) rest = rest (waiting_for word f)
@@ -132,6 +137,7 @@ field_fault_from ls (Some w) (piece ∷ pieces) =
 abbrev pub second_kind : List ℕ → List ℕ → List ℕ
 second_kind before after = after ++ codes " behind " ++ before ++ codes ": a class has one kind"
 
+-- a keyword behind one that it comes before in the grammar (RFC 4512 4.1.1, 4.1.2)
 abbrev pub too_late : List ℕ → List ℕ → List ℕ
 too_late before after = after ++ codes " comes before " ++ before ++ codes " in a description"
 
@@ -146,10 +152,12 @@ abbrev pub may_follow : Option FormModel → FormModel → Bool
 may_follow None f = true
 may_follow (Some before) f = not (nat_le f.place before.place) || nat_eq f.place 14
 
+-- a keyword that is not in its place behind the last one; nothing, where it is the first
 abbrev pub misordered_behind : Option FormModel → FormModel → List ℕ
 misordered_behind None f = []
 misordered_behind (Some before) f = misordered before f
 
+-- on behind a keyword in its place, or behind a piece that is none; a sentence, where a keyword isn't in its place
 abbrev pub ordered_at : Option FormModel → Option FormModel → (Bool → Option FormModel → List ℕ) → List ℕ
 ordered_at last None rest = rest false last
 ordered_at last (Some f) rest = cond (may_follow last f) (rest (not (is_empty f.wanted)) (Some f)) (misordered_behind last f)
@@ -180,6 +188,7 @@ abbrev pub stopped : Lines → List ℕ → ℕ → Stop → List ℕ
 stopped ls octets column stop =
     cond (is_none stop.index && is_outside stop.scan) (pieces_fault ls (pieces_of octets)) (unbalanced column stop.index stop.scan)
 
+-- what is between the outer parentheses, read up to where a reader stops
 abbrev pub inside_fault : Lines → List ℕ → ℕ → List ℕ
 inside_fault ls octets column = stopped ls octets column (stop_in octets)
 
@@ -188,6 +197,7 @@ abbrev pub opened : Lines → List ℕ → ℕ → List ℕ
 opened ls octets column =
     cond (ends_with 41 octets) (inside_fault ls (take (length octets - 1) octets) column) (codes "expected ')' at the end of the line")
 
+-- a line whose description doesn't begin with a parenthesis, at this column
 abbrev pub not_opened : ℕ → List ℕ
 not_opened column = codes "expected '(' at column " ++ decimal column
 
@@ -196,10 +206,12 @@ abbrev pub body : Lines → List ℕ → ℕ → List ℕ
 body ls [] column = not_opened column
 body ls (octet ∷ octets) column = cond (nat_eq octet 40) (opened ls octets (column + 1)) (not_opened column)
 
+-- what is wrong with a line of a class, the heading of which takes 15 columns; a line of neither has no heading
 abbrev pub class_line : List ℕ → Option (List ℕ) → List ℕ
 class_line line None = no_heading line
 class_line line (Some octets) = body lines.Classes octets 16
 
+-- what is wrong with a line of a type, the heading of which takes 16 columns; another line may be a class's
 abbrev pub type_line : List ℕ → Option (List ℕ) → List ℕ
 type_line line None = class_line line (behind (heading lines.Classes) line)
 type_line line (Some octets) = body lines.Types octets 17

@@ -29,6 +29,7 @@ abbrev pub place_behind : ℕ → Place → List ℕ → Place
 place_behind index p [] = p
 place_behind index p (octet ∷ octets) = place_behind (index + 1) (place_after p index octet) octets
 
+-- what is round the place behind octets, the innermost last
 abbrev pub around_behind : ℕ → Place → List Around → List ℕ → List Around
 around_behind index p outer [] = outer
 around_behind index p outer (octet ∷ octets) =
@@ -81,6 +82,7 @@ abbrev pub wanted_in_parts : List ℕ → Option ℕ → Option ℕ → List ℕ
 wanted_in_parts item None next = wanted_in_front item
 wanted_in_parts item (Some equals) next = wanted_in_value (drop (equals + 1) item) next
 
+-- what is expected in an item that began so
 abbrev pub wanted_in_item : List ℕ → Option ℕ → List ℕ
 wanted_in_item item next = wanted_in_parts item (position (λ octet. nat_eq octet 61) item) next
 

@@ -77,11 +77,13 @@ lacks s t kind =
     (cond (bytes_eq kind (codes "ord") && is_none (ordering_of s t)) (Some keyword.Ordering)
     (cond (bytes_eq kind (codes "sub") && is_none (substrings_of s t)) (Some keyword.Substr) None))
 
+-- a rule's keyword in the schema's text (RFC 4512 4.1.2)
 abbrev pub keyword_word : RuleKeyword → List ℕ
 keyword_word keyword.Equality = codes "EQUALITY"
 keyword_word keyword.Ordering = codes "ORDERING"
 keyword_word keyword.Substr = codes "SUBSTR"
 
+-- a type that lacks a rule, where it isn't told which
 abbrev pub lacks_some : List ℕ → List ℕ
 lacks_some name = codes "'" ++ word_shown name ++ codes "' lacks a rule for one of its kinds"
 
@@ -89,9 +91,11 @@ lacks_some name = codes "'" ++ word_shown name ++ codes "' lacks a rule for one 
 abbrev pub no_index : List ℕ → List ℕ
 no_index kind = codes "no index '" ++ word_shown kind ++ codes "'"
 
+-- the front of what a sentence says of a rule that a type lacks
 abbrev pub without : List ℕ → List ℕ
 without name = codes " of '" ++ word_shown name ++ codes "': the type has no "
 
+-- a type that has no rule of this keyword
 abbrev pub of_type : List ℕ → RuleKeyword → List ℕ
 of_type name keyword = without name ++ keyword_word keyword
 
@@ -109,6 +113,7 @@ abbrev pub first_no_rule : SchemaModel → ℕ → List ℕ → List (List ℕ) 
 first_no_rule s t name [] = lacks_some name
 first_no_rule s t name (kind ∷ kinds) = no_rule_or name kind (lacks s t kind) (first_no_rule s t name kinds)
 
+-- what a sentence says of the kinds of a type, if the schema has the type
 abbrev pub no_rule_of : SchemaModel → Option ℕ → List ℕ → List ℕ → List ℕ
 no_rule_of s None name kinds = lacks_some name
 no_rule_of s (Some t) name kinds = first_no_rule s t name (slice_split (nat_eq 32) kinds)
@@ -118,6 +123,7 @@ abbrev pub kinds_at : List ℕ → Option ℕ → List ℕ
 kinds_at line None = []
 kinds_at line (Some colon) = drop (colon + 2) line
 
+-- the kinds that a line asks for
 abbrev pub kinds_in : List ℕ → List ℕ
 kinds_in line = kinds_at line (position (λ octet. nat_eq octet 58) line)
 

@@ -28,6 +28,7 @@ abbrev pub bad_dn : Option ℕ → List ℕ → List ℕ
 bad_dn (Some line) value = codes "a second 'dn:' in the record of line " ++ decimal line ++ codes ": an empty line ends a record"
 bad_dn None value = cond (begins_with 58 value) (codes "the name is no UTF-8 text in base64") (codes "the name is not UTF-8")
 
+-- a line outside records that isn't a record's name
 abbrev pub no_record : List ℕ → List ℕ
 no_record word = codes "expected 'dn:', not '" ++ word_shown word ++ codes ":': a record begins with its name"
 
@@ -42,16 +43,20 @@ abbrev pub bad_value : List ℕ → List ℕ
 bad_value [] = codes "no line of LDIF"
 bad_value (octet ∷ value) = cond (nat_eq octet 58) (bad_base64 value) (codes "no line of LDIF")
 
+-- what is wrong with a value, by whether a record is open
 abbrev pub bad_value_in : Option ℕ → Bool → List ℕ → List ℕ → List ℕ
 bad_value_in None begun word value = unnamed begun word
 bad_value_in (Some line) begun word value = bad_value value
 
+-- whether a word begins a change record or its controls (RFC 2849)
 abbrev pub is_change : List ℕ → Bool
 is_change word = is_same_word (codes "changetype") word || is_same_word (codes "control") word
 
+-- a word before a colon that is no attribute description
 abbrev pub no_description : List ℕ → List ℕ
 no_description word = codes "'" ++ word_shown word ++ codes "' is no attribute's name"
 
+-- a change record, which isn't read
 abbrev pub no_change : List ℕ
 no_change = codes "a change record is not supported, only entries"
 
@@ -63,6 +68,7 @@ bad_pair opened begun word value =
     (cond (is_change word) no_change
     (cond (is_description word) (bad_value_in opened begun word value) (no_description word))))
 
+-- a line without a colon
 abbrev pub no_value : List ℕ → List ℕ
 no_value line = codes "expected 'type: value', found '" ++ word_shown line ++ codes "'"
 
@@ -71,11 +77,13 @@ abbrev pub bad_at : Option ℕ → Bool → List ℕ → Option ℕ → List ℕ
 bad_at opened begun line None = cond (bytes_eq line (codes "-")) no_change (no_value line)
 bad_at opened begun line (Some colon) = bad_pair opened begun (take colon line) (drop (colon + 1) line)
 
+-- what is wrong with a line, by whether a record is open and whether one has begun
 abbrev pub bad_line : Option ℕ → Bool → List ℕ → List ℕ
 bad_line opened begun line =
     cond (begins_with 32 line) (codes "the line begins with a space and continues nothing: no line, or an empty one, is before it")
     (bad_at opened begun line (position (λ octet. nat_eq octet 58) line))
 
+-- the text of a line; nothing, where there is no line
 abbrev pub text_in : Option LineModel → List ℕ
 text_in None = []
 text_in (Some line) = line.text

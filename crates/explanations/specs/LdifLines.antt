@@ -22,6 +22,7 @@ lines_from line number (part ∷ parts) =
     cond (continues line.text part) (lines_from (record { number = line.number; text = line.text ++ drop 1 part }) (number + 1) parts)
     (line ∷ lines_from (record { number = number; text = part }) (number + 1) parts)
 
+-- the lines of parts, the first of which has the number 1
 abbrev pub unfolded : List (List ℕ) → List LineModel
 unfolded [] = []
 unfolded (part ∷ parts) = lines_from (record { number = 1; text = part }) 2 parts
@@ -35,6 +36,7 @@ abbrev pub word_up_to : List ℕ → Option ℕ → List ℕ
 word_up_to line None = line
 word_up_to line (Some colon) = take colon line
 
+-- what is before the first colon of a line
 abbrev pub word_in : List ℕ → List ℕ
 word_in line = word_up_to line (position (λ octet. nat_eq octet 58) line)
 
@@ -42,6 +44,7 @@ word_in line = word_up_to line (position (λ octet. nat_eq octet 58) line)
 abbrev pub is_named : LineModel → Bool
 is_named line = is_same_word (codes "dn") (word_in line.text)
 
+-- a line of the version, which comes before all records
 abbrev pub is_version : LineModel → Bool
 is_version line = is_same_word (codes "version") (word_in line.text)
 
@@ -49,10 +52,12 @@ is_version line = is_same_word (codes "version") (word_in line.text)
 abbrev pub opened_by : Option ℕ → LineModel → Option ℕ
 opened_by opened line = cond (is_empty line.text) None (cond (is_named line) (Some line.number) opened)
 
+-- the same behind several lines
 abbrev pub open_from : Option ℕ → List LineModel → Option ℕ
 open_from opened [] = opened
 open_from opened (line ∷ lines) = open_from (opened_by opened line) lines
 
+-- the line of the name of the record that is open behind these lines, the first of a text
 abbrev pub open_record : List LineModel → Option ℕ
 open_record lines = open_from None lines
 

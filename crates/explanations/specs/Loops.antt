@@ -15,6 +15,7 @@ going_on (octet ∷ way) = (octet ∷ way) ++ codes " to "
 abbrev pub with_title : List ℕ → List ℕ → List ℕ
 with_title way title = going_on way ++ codes "'" ++ title ++ codes "'"
 
+-- one more description in quotes behind the way so far, where there is one
 abbrev pub with_described : List ℕ → Option DescriptionModel → List ℕ
 with_described way None = way
 with_described way (Some d) = with_title way (title d)
@@ -50,6 +51,7 @@ types_from types start t (x ∷ xs) = t ∷ type_onward start (type_above types 
 abbrev pub type_loop : List DescriptionModel → ℕ → List ℕ
 type_loop types t = way_sentence types (types_from types t t types)
 
+-- whether there is a number, and it is this one
 abbrev pub is_it : ℕ → Option ℕ → Bool
 is_it u None = false
 is_it u (Some v) = nat_eq u v
@@ -58,6 +60,7 @@ is_it u (Some v) = nat_eq u v
 abbrev pub is_calling : List DescriptionModel → ℕ → List ℕ → Bool
 is_calling classes u word = is_it u (find classes word)
 
+-- whether the SUP of a description names the class of a number
 abbrev pub has_right_above : List DescriptionModel → Option DescriptionModel → ℕ → Bool
 has_right_above classes None u = false
 has_right_above classes (Some d) u = list_any (is_calling classes u) (superior_texts d)

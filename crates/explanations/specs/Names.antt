@@ -29,6 +29,7 @@ escapes is_escaped (octet ∷ octets) = (octet, is_escaped) ∷ escapes (is_bare
 abbrev pub parts_from : Bool → ℕ → List ℕ → List (List ℕ)
 parts_from is_escaped mark octets = map (map (λ o. o.0)) (slice_split (is_bare mark) (escapes is_escaped octets))
 
+-- the parts of a text between bare marks
 abbrev pub parts_of : ℕ → List ℕ → List (List ℕ)
 parts_of mark octets = parts_from false mark octets
 
@@ -36,9 +37,11 @@ parts_of mark octets = parts_from false mark octets
 abbrev pub less_front : List ℕ → List ℕ
 less_front octets = drop (prefix_len is_ascii_whitespace octets) octets
 
+-- less the white space at the end
 abbrev pub less_back : List ℕ → List ℕ
 less_back octets = take (length octets - suffix_len is_ascii_whitespace octets) octets
 
+-- less the white space at both ends
 abbrev pub trimmed : List ℕ → List ℕ
 trimmed octets = less_back (less_front octets)
 
@@ -50,6 +53,7 @@ is_blank octets = list_all (λ octet. nat_eq octet 32) octets
 abbrev pub is_name : SchemaModel → List ℕ → Bool
 is_name s octets = is_utf8 octets && is_some (name_of_text s octets)
 
+-- a part of a name that isn't blank and is the text of a name
 abbrev pub is_right : SchemaModel → List ℕ → Bool
 is_right s part = not (is_blank part) && is_name s part
 
@@ -63,6 +67,7 @@ abbrev pub is_mark : ℕ → Bool
 is_mark octet =
     nat_eq octet 34 || nat_eq octet 43 || nat_eq octet 44 || nat_eq octet 59 || nat_eq octet 60 || nat_eq octet 62 || nat_eq octet 0
 
+-- such an octet, not escaped
 abbrev pub is_bare_mark : ℕ × Bool → Bool
 is_bare_mark o = is_mark o.0 && not o.1
 
@@ -70,6 +75,7 @@ is_bare_mark o = is_mark o.0 && not o.1
 abbrev pub bare_from : Bool → List ℕ → Option ℕ
 bare_from is_escaped value = option_map (λ o. o.0) (slice_get (filter is_bare_mark (escapes is_escaped value)) 0)
 
+-- the first such octet of a value that isn't escaped
 abbrev pub bare_mark : List ℕ → Option ℕ
 bare_mark value = bare_from false value
 
@@ -89,12 +95,15 @@ goes_to (step.Gives token) = Some scan.Between
 abbrev pub lacks_equality : List ℕ → List ℕ
 lacks_equality name = codes "'" ++ word_shown name ++ codes "' has no EQUALITY, which a part of a name needs"
 
+-- a value that its type doesn't have in a name
 abbrev pub none_of_type : List ℕ → List ℕ → List ℕ
 none_of_type name value = codes "'" ++ word_shown value ++ codes "' is no value of '" ++ word_shown name ++ codes "' in a name"
 
+-- a value without a key in a name: its type lacks EQUALITY, or has no key for this value
 abbrev pub no_value : SchemaModel → ℕ → List ℕ → List ℕ → List ℕ
 no_value s t name value = cond (is_none (equality_of s t)) (lacks_equality name) (none_of_type name value)
 
+-- a mark that needs a backslash, or else what else is wrong
 abbrev pub bare_or : Option ℕ → List ℕ → List ℕ
 bare_or None others = others
 bare_or (Some octet) others = codes "the '" ++ octet_shown octet ++ codes "' in a value comes behind a backslash"
@@ -110,6 +119,7 @@ abbrev pub bad_typed : SchemaModel → List ℕ → Option ℕ → List ℕ → 
 bad_typed s pair None name value = codes "no attribute type '" ++ word_shown name ++ codes "' (in '" ++ word_shown (trimmed pair) ++ codes "')"
 bad_typed s pair (Some t) name value = bad_value s t name value
 
+-- a type's name and a value, which are this pair
 abbrev pub bad_named : SchemaModel → List ℕ → List ℕ → List ℕ → List ℕ
 bad_named s pair name value = bad_typed s pair (find s name) name value
 
@@ -131,6 +141,7 @@ abbrev pub bad_rdn_by : SchemaModel → List ℕ → Option (List ℕ) → List 
 bad_rdn_by s rdn None = codes "a type comes twice in '" ++ word_shown (trimmed rdn) ++ codes "'"
 bad_rdn_by s rdn (Some pair) = bad_pair s pair
 
+-- what is wrong with a relative name
 abbrev pub bad_rdn : SchemaModel → List ℕ → List ℕ
 bad_rdn s rdn = bad_rdn_by s rdn (first_wrong s (parts_of 43 rdn))
 
@@ -138,6 +149,7 @@ bad_rdn s rdn = bad_rdn_by s rdn (first_wrong s (parts_of 43 rdn))
 abbrev pub no_name : List ℕ → List ℕ
 no_name text = codes "'" ++ word_shown text ++ codes "' is no name"
 
+-- what is wrong with a text's first wrong relative name, if it has one
 abbrev pub bad_name_by : SchemaModel → List ℕ → Option (List ℕ) → List ℕ
 bad_name_by s text None = no_name text
 bad_name_by s text (Some rdn) = bad_rdn s rdn

@@ -18,6 +18,7 @@ with_class from r u = record {
   seen = slice_set r.seen u true;
 }
 
+-- one more class reached, where a word calls one
 abbrev pub with_found : ℕ → ReachedModel → Option ℕ → ReachedModel
 with_found from r None = r
 with_found from r (Some u) = with_class from r u
@@ -27,13 +28,16 @@ abbrev pub with_called : List DescriptionModel → ℕ → ReachedModel → List
 with_called classes from r [] = r
 with_called classes from r (w ∷ ws) = with_called classes from (with_found from r (find classes w)) ws
 
+-- the classes that the SUP of a description names, reached from the one at this place
 abbrev pub with_superiors : List DescriptionModel → ℕ → ReachedModel → Option DescriptionModel → ReachedModel
 with_superiors classes from r None = r
 with_superiors classes from r (Some d) = with_called classes from r (superior_texts d)
 
+-- what a place without a class gives
 abbrev pub nowhere : Step
 nowhere = record { class = 0; from = 0 }
 
+-- the class at a place of the order; class 0, where there is no such place
 abbrev pub class_at : List Step → ℕ → ℕ
 class_at order place = (slice_index_or order place nowhere).class
 

@@ -44,9 +44,11 @@ name_line (line ∷ lines) = line.number
 abbrev pub less_spaces : List ℕ → List ℕ
 less_spaces octets = drop (prefix_len (λ octet. nat_eq octet 32) octets) octets
 
+-- what is behind a line's first colon as a value
 abbrev pub value_behind : List ℕ → Option (List ℕ)
 value_behind octets = cond (begins_with 58 octets) None (Some (less_spaces octets))
 
+-- a line's value behind its first colon; none, where the line has no colon or the value is in base64
 abbrev pub value_at : List ℕ → Option ℕ → Option (List ℕ)
 value_at line None = None
 value_at line (Some colon) = value_behind (drop (colon + 1) line)
@@ -81,6 +83,7 @@ first_line is_so lines = slice_get (filter is_so lines) 0
 abbrev pub is_unknown : SchemaModel → LineModel → Bool
 is_unknown s line = is_none (find s (word_in line.text))
 
+-- a line whose type the schema lacks
 abbrev pub no_type : LineModel → List ℕ
 no_type line = codes "no attribute type '" ++ word_shown (word_in line.text) ++ codes "' in the schema"
 
@@ -89,10 +92,12 @@ abbrev pub is_single_type : Option TypeModel → Bool
 is_single_type None = false
 is_single_type (Some t) = t.is_single_value
 
+-- whether a type of the schema is SINGLE-VALUE, where there is one
 abbrev pub is_single_found : SchemaModel → Option ℕ → Bool
 is_single_found s None = false
 is_single_found s (Some t) = is_single_type (type_at s t)
 
+-- a line of a SINGLE-VALUE type (RFC 4512 4.1.2)
 abbrev pub is_single : SchemaModel → LineModel → Bool
 is_single s line = is_single_found s (find s (word_in line.text))
 
@@ -104,6 +109,7 @@ repeats s before (line ∷ lines) =
     (cond (is_same_word before (word_in line.text)) (Some line) (repeats s (word_in line.text) lines))
     (repeats s before lines)
 
+-- a second value of a type that has one at most
 abbrev pub second_value : LineModel → List ℕ
 second_value line = codes "a second value of '" ++ word_shown (word_in line.text) ++ codes "', which is SINGLE-VALUE"
 
@@ -113,6 +119,7 @@ is_no_value s None value = false
 is_no_value s (Some t) None = false
 is_no_value s (Some t) (Some value) = not (is_of_syntax s t value)
 
+-- a line whose value isn't in the syntax of its type
 abbrev pub is_bad_value : SchemaModel → LineModel → Bool
 is_bad_value s line = is_no_value s (find s (word_in line.text)) (value_in line.text)
 
@@ -121,23 +128,29 @@ abbrev pub is_number : ℕ → Option ℕ → Bool
 is_number t None = false
 is_number t (Some u) = nat_eq t u
 
+-- whether a word stands for objectClass, by the type that the schema has for it
 abbrev pub is_object_class_by : SchemaModel → List ℕ → Option ℕ → Bool
 is_object_class_by s word None = is_same_word (codes "objectClass") word
 is_object_class_by s word (Some t) = is_number t (object_class_type s)
 
+-- whether a line's word stands for objectClass
 abbrev pub is_object_class : SchemaModel → List ℕ → Bool
 is_object_class s word = is_object_class_by s word (find s word)
 
+-- the octets; nothing, where there are none
 abbrev pub octets_in : Option (List ℕ) → List ℕ
 octets_in None = []
 octets_in (Some octets) = octets
 
+-- a value of objectClass that the schema has no class for
 abbrev pub no_class : List ℕ → List ℕ
 no_class name = codes "no object class '" ++ word_shown name ++ codes "' in the schema"
 
+-- a value that isn't in the syntax of its type
 abbrev pub none_of_type : List ℕ → List ℕ → List ℕ
 none_of_type word value = codes "'" ++ word_shown value ++ codes "' is no value of '" ++ word_shown word ++ codes "'"
 
+-- what is wrong with a value that its type's syntax hasn't
 abbrev pub bad_value : SchemaModel → LineModel → List ℕ
 bad_value s line =
     cond (is_object_class s (word_in line.text)) (no_class (octets_in (value_in line.text)))
@@ -147,10 +160,12 @@ bad_value s line =
 abbrev pub text_or_nothing : List ℕ → List ℕ
 text_or_nothing octets = cond (is_utf8 octets) octets []
 
+-- the name that a record's first line gives
 abbrev pub name_text : List LineModel → List ℕ
 name_text [] = []
 name_text (line ∷ lines) = text_or_nothing (octets_in (value_in line.text))
 
+-- what is wrong with the name of a record
 abbrev pub bad_name : SchemaModel → List LineModel → List ℕ → Told
 bad_name s lines text =
     cond (is_empty text) (by_code lines 34) (at_name lines (codes "invalid name: " ++ name_sentence s text))

@@ -13,6 +13,7 @@ abbrev pub in_line_from : ℕ → List DescriptionModel → ℕ → Option (ℕ 
 in_line_from number [] line = None
 in_line_from number (d ∷ ds) line = cond (nat_eq d.line line) (Some (number, d)) (in_line_from (number + 1) ds line)
 
+-- the description of a line among all of a kind, with its number
 abbrev pub in_line : List DescriptionModel → ℕ → Option (ℕ × DescriptionModel)
 in_line ds line = in_line_from 0 ds line
 
@@ -33,6 +34,7 @@ earlier_line s word line = option_or (line_before s.types word line) (line_befor
 abbrev pub oid_of_line : List ℕ → ℕ → List ℕ
 oid_of_line oid line = codes "the object identifier " ++ word_shown oid ++ codes " is that of line " ++ decimal line ++ codes " too"
 
+-- a name that an earlier line has too
 abbrev pub name_of_line : List ℕ → ℕ → List ℕ
 name_of_line name line = codes "the name '" ++ word_shown name ++ codes "' is that of line " ++ decimal line ++ codes " too"
 

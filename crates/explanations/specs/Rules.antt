@@ -15,6 +15,7 @@ abbrev pub given_as : List ℕ → Option (List ℕ) → List ℕ
 given_as keyword None = codes "an inherited " ++ keyword
 given_as keyword (Some name) = keyword ++ codes " " ++ word_shown name
 
+-- the rule or the syntax in a place of the grammar's order, behind its keyword
 abbrev pub rule : DescriptionModel → ℕ → List ℕ → List ℕ
 rule d place keyword = given_as keyword (first_text_at place d.fields)
 

@@ -28,6 +28,7 @@ abbrev pub bad_beside : SchemaTextModel → Option (ℕ × DescriptionModel) →
 bad_beside s None class = bad_class s class
 bad_beside s (Some t) class = bad_type s t
 
+-- the line of a class that names what isn't there; what each schema has, where the line has no class
 abbrev pub unknown_in_class : SchemaTextModel → Option (ℕ × DescriptionModel) → List ℕ
 unknown_in_class s None = unknown_at_end s
 unknown_in_class s (Some d) = unknown_of_class s d.1
@@ -37,6 +38,7 @@ abbrev pub unknown_in : SchemaTextModel → Option (ℕ × DescriptionModel) →
 unknown_in s None class = unknown_in_class s class
 unknown_in s (Some t) class = unknown_of_type s t.1
 
+-- what a sentence says of the class whose SUP leads back to it
 abbrev pub IsLoopOfClass : SchemaTextModel → Option (ℕ × DescriptionModel) → List ℕ → Type 0
 IsLoopOfClass s None sentence = sentence ≡ codes "SUP leads back"
 IsLoopOfClass s (Some d) sentence = IsClassLoop s.classes d.0 sentence
@@ -63,6 +65,7 @@ IsFault s refusal.UnknownName line sentence = sentence ≡ unknown_in s (in_line
 IsFault s refusal.Loop line sentence = IsLoop s (in_line s.types line) (in_line s.classes line) sentence
 IsFault s refusal.NoEquality line sentence = sentence ≡ no_equality (in_line s.types line)
 
+-- whether there is a line, and it is this one
 abbrev pub is_line : ℕ → Option ℕ → Bool
 is_line line None = false
 is_line line (Some bad) = nat_eq bad line

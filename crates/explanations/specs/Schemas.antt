@@ -16,9 +16,11 @@ title d = word_shown (first_name_of d.oid (names_of d))
 abbrev pub no_such : List ℕ → List ℕ → List ℕ
 no_such kind word = codes "no " ++ kind ++ codes " '" ++ word_shown word ++ codes "'"
 
+-- where a description names it
 abbrev pub named_in : DescriptionModel → List ℕ → List ℕ
 named_in d keyword = codes " (in " ++ keyword ++ codes " of '" ++ title d ++ codes "')"
 
+-- something that isn't there, and where a description names it
 abbrev pub missing : DescriptionModel → List ℕ → List ℕ → List ℕ → List ℕ
 missing d kind word keyword = no_such kind word ++ named_in d keyword
 
@@ -36,6 +38,7 @@ abbrev pub unless : {A : Type 0} → List ℕ → Option A → Option (List ℕ)
 unless word None = Some word
 unless word (Some a) = None
 
+-- a field's word that names no rule, or no syntax; none, where the field is left out
 abbrev pub unnamed : {A : Type 0} → (List ℕ → Option A) → Option (List ℕ) → Option (List ℕ)
 unnamed named None = None
 unnamed named (Some word) = unless word (named word)

@@ -6,6 +6,7 @@ use Rattle.index_choice.specs.declared.kinds.Kinds.{Kinds}
 abbrev pub no_kinds : Kinds
 no_kinds = record { presence = false; equality = false; ordering = false; substrings = false }
 
+-- these kinds, or none where a type has no place in the choice
 abbrev pub kinds_or_none : Option Kinds → Kinds
 kinds_or_none None = no_kinds
 kinds_or_none (Some k) = k

@@ -21,6 +21,7 @@ use Rattle.index_choice.specs.Choice.{kinds_of}
 abbrev pub is_kind : List ℕ → Bool
 is_kind w = bytes_eq w (codes "pres") || (bytes_eq w (codes "eq") || (bytes_eq w (codes "ord") || bytes_eq w (codes "sub")))
 
+-- whether a word is one of these, octet for octet
 abbrev pub has_word : List ℕ → List (List ℕ) → Bool
 has_word w words = list_any (λ x. bytes_eq x w) words
 
@@ -37,6 +38,7 @@ kinds_named words = record {
 abbrev pub are_kinds : List (List ℕ) → Bool
 are_kinds words = nat_lt 0 (length words) && list_all is_kind words
 
+-- the name before a line's colon
 abbrev pub without_colon : List ℕ → List ℕ
 without_colon head = take (length head - 1) head
 
@@ -49,6 +51,7 @@ abbrev pub named_by : Option ℕ → Named
 named_by None = Unknown
 named_by (Some t) = Known t
 
+-- what the words of a line say: a name with a colon, then kinds; none, where they are no such line
 abbrev pub line_of_words : SchemaModel → ℕ → List (List ℕ) → Option IndexLine
 line_of_words s n [] = None
 line_of_words s n (head ∷ words) = cond (is_head head && are_kinds words) (Some (record { number = n; named = named_by (find s (without_colon head)); kinds = kinds_named words })) None
@@ -62,6 +65,7 @@ abbrev pub after : List IndexLine → Result (List IndexLine) ℕ → Result (Li
 after front (Ok ls) = Ok (front ++ ls)
 after front (Err n) = Err n
 
+-- what a line says before what those behind it say; the number of a line that says nothing
 abbrev pub line_then : ℕ → Option IndexLine → Result (List IndexLine) ℕ → Result (List IndexLine) ℕ
 line_then n None rest = Err n
 line_then n (Some l) rest = after (l ∷ []) rest
@@ -90,13 +94,16 @@ IsBadLine said NoMemory = Unit {0}
 abbrev pub first_line : (IndexLine → Bool) → List IndexLine → Option ℕ
 first_line p ls = option_map (λ l. l.number) (find_first p ls)
 
+-- whether a name stands for no type of the schema
 abbrev pub stands_for_none : Named → Bool
 stands_for_none Unknown = true
 stands_for_none (Known t) = false
 
+-- whether a line names a type that isn't there
 abbrev pub is_unknown : IndexLine → Bool
 is_unknown l = stands_for_none l.named
 
+-- the second, where the first holds
 abbrev pub implies : Bool → Bool → Bool
 implies a b = not a || b
 
@@ -104,17 +111,21 @@ implies a b = not a || b
 abbrev pub has_rules : SchemaModel → Kinds → ℕ → Bool
 has_rules s k t = implies k.equality (is_some (equality_of s t)) && (implies k.ordering (is_some (ordering_of s t)) && implies k.substrings (is_some (substrings_of s t)))
 
+-- whether a known type lacks a rule that kinds of index need
 abbrev pub lacks_rules_at : SchemaModel → Kinds → Named → Bool
 lacks_rules_at s k Unknown = false
 lacks_rules_at s k (Known t) = not (has_rules s k t)
 
+-- whether a line asks for an index by a rule that its type lacks
 abbrev pub lacks_rules : SchemaModel → IndexLine → Bool
 lacks_rules s l = lacks_rules_at s l.kinds l.named
 
+-- a fault of this kind at a line, or else what is wrong by the other checks
 abbrev pub refused_at : Option ℕ → (ℕ → IndexError) → Option IndexError → Option IndexError
 refused_at None fault rest = rest
 refused_at (Some line) fault rest = Some (fault line)
 
+-- the first thing that is wrong with lines, or with what they ask for
 abbrev pub fault_in : SchemaModel → Result (List IndexLine) ℕ → Option IndexError
 fault_in s (Err line) = Some (BadDescription line)
 fault_in s (Ok ls) = refused_at (first_line is_unknown ls) UnknownName (refused_at (first_line (lacks_rules s) ls) IndexWithoutRule None)
@@ -131,6 +142,7 @@ IsFaultOf o (UnknownName line) = o ≡ Some (UnknownName line)
 IsFaultOf o (IndexWithoutRule line) = o ≡ Some (IndexWithoutRule line)
 IsFaultOf o NoMemory = Unit {0}
 
+-- whether a name stands for this type
 abbrev pub is_type : ℕ → Named → Bool
 is_type t Unknown = false
 is_type t (Known u) = nat_eq u t
@@ -161,6 +173,7 @@ chosen ls t = record {
   substrings = list_any (asks (λ k. k.substrings) t) ls;
 }
 
+-- each type has the indexes that lines ask for; bad lines have no choice
 abbrev pub IsChoiceOfLines : Result (List IndexLine) ℕ → List Kinds → Type 0
 IsChoiceOfLines (Ok ls) ix = (t : ℕ) → kinds_of ix t ≡ chosen ls t
 IsChoiceOfLines (Err n) ix = ⊥

@@ -7,6 +7,7 @@ use Rattle.ldap_schema.specs.ldap_words.declared.rule.Rule.{Rule}
 use Rattle.ldap_schema.specs.Schema.{SchemaModel}
 use Rattle.ldap_dn.specs.Meaning.{dotted}
 
+-- the key by the rule's family: an identifier's is its dotted form, others are made without a schema
 abbrev pub key_by : SchemaModel → Rule → Family → List ℕ → Option (List ℕ)
 key_by s r family.Identifier v = dotted s v
 key_by s r f v = syntax.key_at r v

@@ -10,18 +10,22 @@ use Rattle.ldap_schema.specs.ldap_words.declared.rule.Family.TheVariants as fami
 use Rattle.ldap_schema.specs.ldap_words.declared.rule.Rule.{Rule}
 use Rattle.ldap_schema.specs.Schema.{SchemaModel, TypeModel, ClassModel, find, class_named}
 
+-- the object identifier of a type; none, where there is no type
 abbrev pub oid_of_type : Option TypeModel → Option (List ℕ)
 oid_of_type None = None
 oid_of_type (Some t) = Some t.oid
 
+-- the object identifier of a class; none, where there is no class
 abbrev pub oid_of_class : Option ClassModel → Option (List ℕ)
 oid_of_class None = None
 oid_of_class (Some c) = Some c.oid
 
+-- the object identifier of the class of a number
 abbrev pub class_oid : SchemaModel → Option ℕ → Option (List ℕ)
 class_oid s None = None
 class_oid s (Some c) = oid_of_class (slice_get s.classes c)
 
+-- the object identifier of the type of a number, or else of the class of a name
 abbrev pub type_or_class_oid : SchemaModel → List ℕ → Option ℕ → Option (List ℕ)
 type_or_class_oid s name None = class_oid s (class_named s name)
 type_or_class_oid s name (Some t) = oid_of_type (slice_get s.types t)
@@ -34,6 +38,7 @@ named_oid s name = type_or_class_oid s name (find s name)
 abbrev pub dotted : SchemaModel → List ℕ → Option (List ℕ)
 dotted s v = cond (is_numericoid v) (Some v) (named_oid s v)
 
+-- the meaning of an object identifier in dotted form (RFC 4517 4.2.26)
 abbrev pub identified : Option (List ℕ) → Option Meaning
 identified None = None
 identified (Some oid) = Some (identifier oid)
@@ -43,5 +48,6 @@ abbrev pub meaning_by : SchemaModel → Rule → Family → List ℕ → Option 
 meaning_by s r family.Identifier v = identified (dotted s v)
 meaning_by s r f v = syntax.meaning r v
 
+-- what a value means under a rule, by the rule's family
 abbrev pub meaning : SchemaModel → Rule → List ℕ → Option Meaning
 meaning s r v = meaning_by s r r.family v

@@ -8,6 +8,7 @@ abbrev pub listed : {A : Type 0} → (A → List ℕ) → List A → List ℕ
 listed f [] = 0 ∷ []
 listed f (x ∷ xs) = 1 ∷ f x ++ listed f xs
 
+-- an octet as one item of a list
 abbrev pub itself : ℕ → List ℕ
 itself c = c ∷ []
 

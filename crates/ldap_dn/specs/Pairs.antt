@@ -14,6 +14,7 @@ abbrev pub key_for : ℕ → List TypeAndKey → Option (List ℕ)
 key_for t [] = None
 key_for t (k ∷ ks) = cond (nat_eq k.kind t) (Some k.key) (key_for t ks)
 
+-- a type and its value as written, with the key of the type among these
 abbrev pub pair_in : List TypeAndKey → TypeAndValue → PairModel
 pair_in ks v = record { kind = v.kind; value = v.value; key = key_for v.kind ks }
 

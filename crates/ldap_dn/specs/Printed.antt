@@ -25,6 +25,7 @@ printed_from first (c ∷ cs) = printed_character (is_escaped first (nat_eq (len
 abbrev pub printed_value : List ℕ → List ℕ
 printed_value v = printed_from true (chars v)
 
+-- the first name of a type, or its object identifier where it has no name; nothing, where there is no type
 abbrev pub name_of_type : Option TypeModel → List ℕ
 name_of_type None = []
 name_of_type (Some t) = first_name_of t.oid t.names

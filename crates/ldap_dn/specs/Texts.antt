@@ -20,6 +20,7 @@ use Rattle.ldap_dn.specs.declared.token.Scan.TheVariants.{Between, Escape, Half}
 use Rattle.ldap_dn.specs.declared.token.Step.{Step}
 use Rattle.ldap_dn.specs.declared.token.Step.TheVariants.{Refuses, Reads, Gives}
 
+-- the octet that two digits behind a backslash give; a refusal, where one is no hexadecimal digit (RFC 4514 3, hexpair)
 abbrev pub spelled : Option ℕ → Step
 spelled None = Refuses
 spelled (Some c) = Gives (Escaped c)
@@ -36,6 +37,7 @@ ended ts Between = Some ts
 ended ts Escape = None
 ended ts (Half h) = None
 
+-- on from an octet: with one more token where it gave one; no tokens at all, where it is refused
 abbrev pub stepped : List Token → Step → (List Token → Scan → Option (List Token)) → Option (List Token)
 stepped ts Refuses f = None
 stepped ts (Reads s) f = f ts s
@@ -72,11 +74,13 @@ text_of octets = cond (is_utf8 octets) (Some octets) None
 abbrev pub value_of : List Token → Option (List ℕ)
 value_of ts = cond (not (list_all is_value_octet ts) || begins_with_hash ts) None (text_of (map octet_of ts))
 
+-- a type with its value; none, where one of them is missing
 abbrev pub paired : Option ℕ → Option (List ℕ) → Option TypeAndValue
 paired None v = None
 paired (Some t) None = None
 paired (Some t) (Some v) = Some (record { kind = t; value = v })
 
+-- what stands before the first `=` as the type, and what stands behind it as the value; none, where there is no `=`
 abbrev pub type_and_value_at : SchemaModel → List Token → Option ℕ → Option TypeAndValue
 type_and_value_at s ts None = None
 type_and_value_at s ts (Some i) = paired (type_of s (trimmed (take i ts))) (value_of (trimmed (drop (i + 1) ts)))
@@ -85,6 +89,7 @@ type_and_value_at s ts (Some i) = paired (type_of s (trimmed (take i ts))) (valu
 abbrev pub type_and_value_of : SchemaModel → List Token → Option TypeAndValue
 type_and_value_of s ts = type_and_value_at s ts (position (is_plain 61) ts)
 
+-- one more type and value behind those so far, and then those that follow; none, where a text gave none
 abbrev pub next_written : SchemaModel → List TypeAndValue → Option TypeAndValue → (List TypeAndValue → Option (List TypeAndValue)) → Option (List TypeAndValue)
 next_written s vs None f = None
 next_written s vs (Some v) f = f (vs ++ v ∷ [])
@@ -112,10 +117,12 @@ abbrev pub family_key : SchemaModel → Rule → Family → List ℕ → Option 
 family_key s r family.Name v = None
 family_key s r f v = meant_key s r v
 
+-- the key of a value under a rule; none, where there is no rule
 abbrev pub rule_key : SchemaModel → Option Rule → List ℕ → Option (List ℕ)
 rule_key s None v = None
 rule_key s (Some r) v = family_key s r r.family v
 
+-- a type with a key; none, where there is no key
 abbrev pub keyed : ℕ → Option (List ℕ) → Option TypeAndKey
 keyed t None = None
 keyed t (Some k) = Some (record { kind = t; key = k })
@@ -128,6 +135,7 @@ type_and_key_of s v = keyed v.kind (rule_key s (equality_of s v.kind) v.value)
 abbrev pub count_below : ℕ → List TypeAndKey → ℕ
 count_below t ks = prefix_len (λ k. nat_lt k.kind t) ks
 
+-- whether there is a type with its key, and it is this type
 abbrev pub is_of_type : ℕ → Option TypeAndKey → Bool
 is_of_type t None = false
 is_of_type t (Some k) = nat_eq k.kind t
@@ -138,10 +146,12 @@ placed k ks =
     let n = count_below k.kind ks in
     cond (is_of_type k.kind (slice_get ks n)) None (Some (insert ks n k))
 
+-- one more type with its key in its place; none, where its value has no key
 abbrev pub placed_if : Option TypeAndKey → List TypeAndKey → Option (List TypeAndKey)
 placed_if None ks = None
 placed_if (Some k) ks = placed k ks
 
+-- on to the types and values that follow, with the keys so far; none, where a key had no place
 abbrev pub next_keys : Option (List TypeAndKey) → (List TypeAndKey → Option (List TypeAndKey)) → Option (List TypeAndKey)
 next_keys None f = None
 next_keys (Some ks) f = f ks
@@ -151,10 +161,12 @@ abbrev pub keys_from : SchemaModel → List TypeAndKey → List TypeAndValue →
 keys_from s ks [] = Some ks
 keys_from s ks (v ∷ vs) = next_keys (placed_if (type_and_key_of s v) ks) (λ js. keys_from s js vs)
 
+-- a relative name of these types and values with their keys; none, where the keys can't be set in order
 abbrev pub rdn_by : List TypeAndValue → Option (List TypeAndKey) → Option RdnModel
 rdn_by vs None = None
 rdn_by vs (Some ks) = Some (record { keys = ks; spelling = vs })
 
+-- the relative name of types and values; none, where a text gave none
 abbrev pub rdn_spelled : SchemaModel → Option (List TypeAndValue) → Option RdnModel
 rdn_spelled s None = None
 rdn_spelled s (Some vs) = rdn_by vs (keys_from s [] vs)
@@ -163,6 +175,7 @@ rdn_spelled s (Some vs) = rdn_by vs (keys_from s [] vs)
 abbrev pub rdn_of : SchemaModel → List Token → Option RdnModel
 rdn_of s ts = rdn_spelled s (written_of s ts)
 
+-- one more relative name behind those so far, and then those that follow; none, where a text gave none
 abbrev pub next_rdn : List RdnModel → Option RdnModel → (List RdnModel → Option (List RdnModel)) → Option (List RdnModel)
 next_rdn rs None f = None
 next_rdn rs (Some r) f = f (rs ++ r ∷ [])
@@ -172,6 +185,7 @@ abbrev pub rdns_from : SchemaModel → List RdnModel → List (List Token) → O
 rdns_from s rs [] = Some rs
 rdns_from s rs (p ∷ ps) = next_rdn rs (rdn_of s p) (λ qs. rdns_from s qs ps)
 
+-- relative names in the order of the tree: in the text the root's stands last (RFC 4514 2.1)
 abbrev pub root_first : Option (List RdnModel) → Option (List RdnModel)
 root_first None = None
 root_first (Some rs) = Some (reverse rs)
@@ -180,6 +194,7 @@ root_first (Some rs) = Some (reverse rs)
 abbrev pub name_of_tokens : SchemaModel → List Token → Option (List RdnModel)
 name_of_tokens s ts = cond (list_all is_space ts) (Some []) (root_first (rdns_from s [] (slice_split (is_plain 44) ts)))
 
+-- the name of tokens; none, where the text has an escape that spells nothing
 abbrev pub name_if : SchemaModel → Option (List Token) → Option (List RdnModel)
 name_if s None = None
 name_if s (Some ts) = name_of_tokens s ts

@@ -32,6 +32,7 @@ pub data Item : Type 0 where
   at_most : List ℕ → Item
   substrings : PartsModel → Item
 
+-- whether both are TRUE or both are FALSE (RFC 4517 4.2.2)
 abbrev pub is_same_truth : Bool → Bool → Bool
 is_same_truth true b = b
 is_same_truth false b = not b
@@ -84,10 +85,12 @@ abbrev pub of_family : (Family → Bool) → Option Rule → Option Rule
 of_family offers None = None
 of_family offers (Some r) = cond (offers r.family) (Some r) None
 
+-- the second rule, where there is the first
 abbrev pub beside : Option Rule → Option Rule → Option Rule
 beside None r = None
 beside (Some o) r = r
 
+-- the EQUALITY rule of a type that has an ORDERING rule, where values of its family have an order
 abbrev pub ordering_in : Option TypeModel → Option Rule
 ordering_in None = None
 ordering_in (Some t) = beside t.ordering (of_family is_ordering t.equality)
@@ -97,6 +100,7 @@ ordering_in (Some t) = beside t.ordering (of_family is_ordering t.equality)
 abbrev pub ordering_of : SchemaModel → ℕ → Option Rule
 ordering_of s t = ordering_in (slice_get s.types t)
 
+-- the EQUALITY rule of a type that has a SUBSTR rule, where its family has one of substrings
 abbrev pub substrings_in : Option TypeModel → Option Rule
 substrings_in None = None
 substrings_in (Some t) = beside t.substrings (of_family has_substrings t.equality)
@@ -107,6 +111,7 @@ substrings_of s t = substrings_in (slice_get s.types t)
 
 -- ---- the parts of an assertion
 
+-- a part that is there and prepared; nothing, where it can't be prepared
 abbrev pub some_of : Option (List ℕ) → Option (Option (List ℕ))
 some_of None = None
 some_of (Some x) = Some (Some x)
@@ -116,6 +121,7 @@ abbrev pub end_by : (List ℕ → Option (List ℕ)) → Option (List ℕ) → O
 end_by f None = Some None
 end_by f (Some v) = some_of (f v)
 
+-- one more part at the front; nothing, where it or one behind it can't be prepared
 abbrev pub put_before : Option (List ℕ) → Option (List (List ℕ)) → Option (List (List ℕ))
 put_before (Some x) (Some xs) = Some (x ∷ xs)
 put_before o os = None
@@ -125,6 +131,7 @@ abbrev pub each_by : (List ℕ → Option (List ℕ)) → List (List ℕ) → Op
 each_by f [] = Some []
 each_by f (v ∷ vs) = put_before (f v) (each_by f vs)
 
+-- the initial, any and final parts together; nothing, where one of them can't be prepared
 abbrev pub three_parts : Option (Option (List ℕ)) → Option (List (List ℕ)) → Option (Option (List ℕ)) → Option PartsModel
 three_parts (Some i) (Some a) (Some l) = Some (record { initial = i; any = a; last = l })
 three_parts i a l = None
@@ -149,6 +156,7 @@ by_rule asks asserted s (Some r) values = answered asks s r (asserted r) values
 abbrev pub satisfied : SchemaModel → Rule → Option Meaning → List (List ℕ) → Truth
 satisfied s r m values = answered is_meant s r m values
 
+-- an equality item by the rule of a type
 abbrev pub equality_by : SchemaModel → Option Rule → List ℕ → List (List ℕ) → Truth
 equality_by s o a values = by_rule is_meant (λ r. meaning s r a) s o values
 
@@ -160,10 +168,12 @@ item_on_attribute s (at_least a) t values = by_rule is_at_least (λ r. meaning s
 item_on_attribute s (at_most a) t values = by_rule is_at_most (λ r. meaning s r a) s (ordering_of s t) values
 item_on_attribute s (substrings p) t values = by_rule has_prepared (λ r. prepared_parts r p) s (substrings_of s t) values
 
+-- whether an assertion value means something under a rule, where there is one
 abbrev pub is_valid_by : SchemaModel → Option Rule → List ℕ → Bool
 is_valid_by s None v = false
 is_valid_by s (Some r) v = is_some (meaning s r v)
 
+-- whether the parts of a substring assertion can be prepared under a rule, where there is one
 abbrev pub are_valid_by : Option Rule → PartsModel → Bool
 are_valid_by None p = false
 are_valid_by (Some r) p = is_some (prepared_parts r p)
@@ -174,10 +184,12 @@ is_in_syntax s syntax_of.DistinguishedName v = is_some (name_of s v)
 is_in_syntax s syntax_of.ObjectIdentifier v = is_some (dotted s v)
 is_in_syntax s x v = syntax.is_in_syntax x v
 
+-- whether a value means something under a rule; where there is none, whether it is in the syntax
 abbrev pub is_of_rule : SchemaModel → Syntax → Option Rule → List ℕ → Bool
 is_of_rule s x None v = is_in_syntax s x v
 is_of_rule s x (Some r) v = is_some (meaning s r v)
 
+-- whether a value is in the syntax of a type, where there is one
 abbrev pub is_of_type : SchemaModel → Option TypeModel → List ℕ → Bool
 is_of_type s None v = false
 is_of_type s (Some t) v = is_of_rule s t.syntax t.equality v

@@ -26,6 +26,7 @@ use Rattle.ldap_match.specs.declared.testing.Test.TheVariants as test
 abbrev pub key_of_name : List RdnModel → List ℕ
 key_of_name n = name_key (rdns n)
 
+-- the key by the rule's family: a name's is the key of the name, others are made as those of values that are no names
 abbrev pub key_by : SchemaModel → Rule → Family → List ℕ → Option (List ℕ)
 key_by s r family.Name v = option_map key_of_name (name_of s v)
 key_by s r f v = plain.key_by s r f v
@@ -38,10 +39,12 @@ key_at s r v = key_by s r r.family v
 abbrev pub part_keys_at : Rule → PartsModel → Option PartsModel
 part_keys_at r p = three_parts (end_by (syntax.part_key_at r Initial) p.initial) (each_by (syntax.part_key_at r Any) p.any) (end_by (syntax.part_key_at r Final) p.last)
 
+-- the test by a key; unknown, where there is no key
 abbrev pub test_of : {A : Type 0} → (A → Test) → Option A → Test
 test_of make None = test.Unknown
 test_of make (Some k) = make k
 
+-- the test by the key under a rule; unknown, where there is no rule or no key
 abbrev pub test_by_rule : {A : Type 0} → (A → Test) → (Rule → Option A) → Option Rule → Test
 test_by_rule make keyed None = test.Unknown
 test_by_rule make keyed (Some r) = test_of make (keyed r)
@@ -50,6 +53,7 @@ test_by_rule make keyed (Some r) = test_of make (keyed r)
 abbrev pub equality_test : Option (List ℕ) → Test
 equality_test k = test_of test.Equal k
 
+-- an equality item's, by the rule of a type
 abbrev pub test_by : SchemaModel → Option Rule → List ℕ → Test
 test_by s o a = test_by_rule test.Equal (λ r. key_at s r a) o
 
@@ -65,9 +69,11 @@ test_for s (substrings p) t = test_by_rule test.Parts (λ r. part_keys_at r p) (
 abbrev pub is_same_key : List ℕ → List ℕ → Bool
 is_same_key k x = bytes_eq x k
 
+-- whether a value's key is this one or stands behind it
 abbrev pub is_key_at_least : List ℕ → List ℕ → Bool
 is_key_at_least k x = not (is_before x k)
 
+-- whether a value's key is this one or stands before it
 abbrev pub is_key_at_most : List ℕ → List ℕ → Bool
 is_key_at_most k x = is_before x k || bytes_eq x k
 
@@ -80,6 +86,7 @@ test_value (test.AtLeast k) keys = truth_of (list_any (is_key_at_least k) keys)
 test_value (test.AtMost k) keys = truth_of (list_any (is_key_at_most k) keys)
 test_value (test.Parts p) keys = truth_of (list_any (has_parts p) keys)
 
+-- the keys of values under a rule, one for each; without a rule any keys will do
 abbrev pub AreKeysBy : SchemaModel → Option Rule → List (List ℕ) → List (List ℕ) → Type 0
 AreKeysBy s None values keys = Unit {0}
 AreKeysBy s (Some r) values keys = map (key_at s r) values ≡ map Some keys

@@ -15,6 +15,7 @@ use Rattle.ldap_dn.specs.Texts.{name_of_text}
 abbrev pub name_of : SchemaModel → List ℕ → Option (List RdnModel)
 name_of s v = cond (is_utf8 v) (name_of_text s v) None
 
+-- a type with its key, as a meaning has them
 abbrev pub pair_of : TypeAndKey → ℕ × List ℕ
 pair_of k = (k.kind, k.key)
 
@@ -27,5 +28,6 @@ abbrev pub meaning_by : SchemaModel → Rule → Family → List ℕ → Option 
 meaning_by s r family.Name v = option_map name_meaning (name_of s v)
 meaning_by s r f v = plain.meaning_by s r f v
 
+-- what a value means under a rule, by the rule's family
 abbrev pub meaning : SchemaModel → Rule → List ℕ → Option Meaning
 meaning s r v = meaning_by s r r.family v

@@ -22,10 +22,12 @@ abbrev pub falls : (ℕ → ℕ → Bool) → ℕ → List ℕ → Bool
 falls under a [] = true
 falls under a (b ∷ bs) = under b a && falls under b bs
 
+-- each class of a list is above the one behind it
 abbrev pub falls_whole : (ℕ → ℕ → Bool) → List ℕ → Bool
 falls_whole under [] = true
 falls_whole under (a ∷ bs) = falls under a bs
 
+-- the first class; none, where there is none
 abbrev pub first_of : List ℕ → Option ℕ
 first_of [] = None
 first_of (c ∷ cs) = Some c
@@ -55,5 +57,6 @@ greatest ranks best (c ∷ cs) = greatest ranks (cond (nat_lt (rank_in ranks bes
 abbrev pub cut_class : List ℕ → ℕ → ClassModel → ClassModel
 cut_class ranks low c = record c { superiors = filter (λ u. nat_le low (rank_in ranks u)) c.superiors }
 
+-- the classes, each with those alone of its direct superclasses that have at least this rank
 abbrev pub cut : List ℕ → ℕ → List ClassModel → List ClassModel
 cut ranks low classes = map (cut_class ranks low) classes

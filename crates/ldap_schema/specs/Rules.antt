@@ -3,6 +3,7 @@ use Rattle.std.specs.Prelude.{ℕ, Option, None, Some, slice_get}
 use Rattle.ldap_words.specs.declared.rule.Rule.{Rule}
 use Rattle.ldap_schema.specs.Schema.{SchemaModel, TypeModel}
 
+-- the EQUALITY rule of a type, where there is one
 abbrev pub equality_in : Option TypeModel → Option Rule
 equality_in None = None
 equality_in (Some t) = t.equality

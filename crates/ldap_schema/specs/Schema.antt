@@ -29,6 +29,7 @@ pub record ClassModel : Type 0 where
   pub required : List ℕ
   pub allowed : List ℕ
 
+-- A schema: its attribute types and object classes, each known by its place (RFC 4512 4.1).
 pub record SchemaModel : Type 0 where
   pub types : List TypeModel
   pub classes : List ClassModel
@@ -50,6 +51,7 @@ abbrev pub first_name_of : List ℕ → List (List ℕ) → List ℕ
 first_name_of oid [] = oid
 first_name_of oid (name ∷ names) = name
 
+-- what a class goes by, where there is one
 abbrev pub class_name_in : Option ClassModel → Option (List ℕ)
 class_name_in None = None
 class_name_in (Some c) = Some (first_name_of c.oid c.names)
@@ -62,6 +64,7 @@ class_name s c = class_name_in (slice_get s.classes c)
 abbrev pub type_at : SchemaModel → ℕ → Option TypeModel
 type_at s t = slice_get s.types t
 
+-- the number of the superior of a type, where there is a type and it has one
 abbrev pub superior_in : Option TypeModel → Option ℕ
 superior_in None = None
 superior_in (Some t) = t.superior
@@ -70,6 +73,7 @@ superior_in (Some t) = t.superior
 abbrev pub superior_of : List TypeModel → ℕ → Option ℕ
 superior_of ts t = superior_in (slice_get ts t)
 
+-- a superior, and then those that it leads to; nothing, where there is no superior
 abbrev pub led : Option ℕ → (ℕ → List ℕ) → List ℕ
 led None f = []
 led (Some u) f = u ∷ f u
@@ -88,6 +92,7 @@ pub data IsUnder (s : SchemaModel) : ℕ → ℕ → Type 0 where
   is_itself : {a : ℕ} → IsUnder s a a
   goes_up : {a c : ℕ} (b : ℕ) → superior_of s.types a ≡ Some b → IsUnder s b c → IsUnder s a c
 
+-- what holds of the superior; true, where there is none
 abbrev pub if_led : Option ℕ → (ℕ → Bool) → Bool
 if_led None f = true
 if_led (Some u) f = f u
@@ -97,6 +102,7 @@ abbrev pub ends_within : ℕ → List TypeModel → ℕ → Bool
 ends_within zero ts t = if_led (superior_of ts t) (λ u. false)
 ends_within (suc k) ts t = if_led (superior_of ts t) (λ u. ends_within k ts u)
 
+-- the SUPs of these types, the first of which has this number, end within as many steps as the schema has types
 abbrev pub are_loopless : List TypeModel → List TypeModel → ℕ → Bool
 are_loopless ts [] t = true
 are_loopless ts (x ∷ xs) t = ends_within (length ts) ts t && are_loopless ts xs (t + 1)

@@ -3,9 +3,11 @@ use Rattle.std.specs.Prelude.{ℕ, zero, suc, ◌+◌, List, [], ◌∷◌, ◌+
 use Rattle.std.specs.List.{list_any, list_all}
 use Rattle.ldap_schema.specs.Schema.{ClassModel, SchemaModel}
 
+-- whether a number is one of these
 abbrev pub is_among : List ℕ → ℕ → Bool
 is_among cs c = list_any (nat_eq c) cs
 
+-- the direct superclasses of a class, where there is one
 abbrev pub superclasses_in : Option ClassModel → List ℕ
 superclasses_in None = []
 superclasses_in (Some c) = c.superiors
@@ -19,6 +21,7 @@ abbrev pub with_missing : List ℕ → List ℕ → List ℕ
 with_missing have [] = have
 with_missing have (c ∷ cs) = with_missing (cond (is_among have c) have (have ++ c ∷ [])) cs
 
+-- on from the class at a place; an end, where there is no class at it
 abbrev pub gone_on : Option ℕ → List ℕ → (ℕ → List ℕ) → List ℕ
 gone_on None have next = have
 gone_on (Some c) have next = next c
@@ -28,6 +31,7 @@ abbrev pub filled_from : ℕ → List ClassModel → ℕ → List ℕ → List �
 filled_from zero classes i have = have
 filled_from (suc k) classes i have = gone_on (slice_get have i) have (λ c. filled_from k classes (i + 1) (with_missing have (direct_superclasses classes c)))
 
+-- these classes, and behind them their superclasses that are missing, in a step for each of these and of all classes at most
 abbrev pub filled : List ClassModel → List ℕ → List ℕ
 filled classes cs = filled_from (length cs + length classes) classes 0 cs
 
@@ -49,6 +53,7 @@ pub data IsSubclass (s : SchemaModel) : ℕ → ℕ → Type 0 where
   is_itself : {a : ℕ} → IsSubclass s a a
   goes_up : {a c : ℕ} (b : ℕ) → is_among (direct_superclasses s.classes a) b ≡ true → IsSubclass s b c → IsSubclass s a c
 
+-- whether the direct superclasses of a class are of so many classes
 abbrev pub has_known_superclasses : ℕ → ClassModel → Bool
 has_known_superclasses n c = list_all (λ d. nat_lt d n) c.superiors
 

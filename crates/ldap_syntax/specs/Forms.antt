@@ -44,9 +44,11 @@ pub record TextsModel : Type 0 where
   pub numeric : Option (List ℕ)
   pub telephone : Option (List ℕ)
 
+-- a value's key under the rule of a family on a syntax
 abbrev pub key_of_family : Family → Syntax → List ℕ → Option (List ℕ)
 key_of_family f x v = key_at (record { family = f; syntax = x }) v
 
+-- a value's texts: each is none, where the value has no such text
 abbrev pub texts_of : List ℕ → TextsModel
 texts_of v = record {
   exact = key_of_family family.Exact syntax.OctetString v;
@@ -89,6 +91,7 @@ are_plain x v =
 abbrev pub FormModel : Type 0
 FormModel = Option TextsModel
 
+-- what is kept of the texts of a value
 abbrev pub form_of : List ℕ → FormModel
 form_of v = cond (are_plain (texts_of v) v) None (Some (texts_of v))
 
@@ -97,6 +100,7 @@ abbrev pub is_met : Bool → List ℕ → List ℕ → Bool
 is_met true k x = is_before x k
 is_met false k x = bytes_eq x k
 
+-- whether there is a key that meets an asserted one
 abbrev pub is_met_by : Bool → List ℕ → Option (List ℕ) → Bool
 is_met_by less k None = false
 is_met_by less k (Some x) = is_met less k x

@@ -27,6 +27,7 @@ pub data Meaning : Type 0 where
 abbrev pub spelled : Family → Part → List ℕ → Option (List ℕ)
 spelled f part v = cond (is_utf8 v) (Some (prepared f part (chars v))) None
 
+-- a prepared text as a meaning; none, where the octets are no text
 abbrev pub as_text : Option (List ℕ) → Option Meaning
 as_text None = None
 as_text (Some t) = Some (text t)

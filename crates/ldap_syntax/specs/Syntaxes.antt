@@ -8,16 +8,20 @@ use Rattle.ldap_syntax.specs.Times.{is_time}
 use Rattle.ldap_words.specs.declared.rule.Syntax.{Syntax}
 use Rattle.ldap_words.specs.declared.rule.Syntax.TheVariants as syntax
 
+-- whether a value isn't empty
 abbrev pub has_octets : List ℕ → Bool
 has_octets [] = false
 has_octets (c ∷ cs) = true
 
+-- whether an octet is of IA5, the first 128 characters (RFC 4517 3.3.15)
 abbrev pub is_ascii : ℕ → Bool
 is_ascii c = nat_lt c 128
 
+-- the octets of an IA5 String (RFC 4517 3.3.15)
 abbrev pub is_all_ascii : List ℕ → Bool
 is_all_ascii v = list_all is_ascii v
 
+-- the octets of a Numeric String (RFC 4517 3.3.23)
 abbrev pub are_digits_or_spaces : List ℕ → Bool
 are_digits_or_spaces v = list_all (λ c. is_digit c || nat_eq c 32) v
 
@@ -27,6 +31,7 @@ is_printable c =
     (nat_le 65 c && nat_le c 90) || (nat_le 97 c && nat_le c 122) || is_digit c || nat_eq c 32
     || nat_eq c 39 || nat_eq c 40 || nat_eq c 41 || (nat_le 43 c && nat_le c 47) || nat_eq c 58 || nat_eq c 63 || nat_eq c 61
 
+-- the octets of a Telephone Number (RFC 4517 3.3.31)
 abbrev pub are_printable : List ℕ → Bool
 are_printable v = list_all is_printable v
 

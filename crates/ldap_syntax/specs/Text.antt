@@ -92,6 +92,7 @@ blank Initial = 0x20 ∷ []
 blank Any = 0x20 ∷ []
 blank Final = 0x20 ∷ []
 
+-- the words of a text with SPACEs at its edges and between them, or SPACEs alone where it has no word
 abbrev pub spaced_words : Part → List ℕ → List (List ℕ) → List ℕ
 spaced_words part text [] = blank part
 spaced_words part text (w ∷ ws) = space_if (is_led part text) ++ joined (w ∷ ws) ++ space_if (is_closed part text)

@@ -8,10 +8,12 @@ hex_digit c =
     (cond (nat_le 65 c && nat_le c 70) (Some (c - 55))
     (cond (nat_le 97 c && nat_le c 102) (Some (c - 87)) None))
 
+-- the octet of a high and a low digit; none, where the low one is no digit
 abbrev pub with_low : ℕ → Option ℕ → Option ℕ
 with_low h None = None
 with_low h (Some l) = Some (h * 16 + l)
 
+-- the octet of two digits; none, where one of them is no digit
 abbrev pub with_high : Option ℕ → Option ℕ → Option ℕ
 with_high None low = None
 with_high (Some h) low = with_low h low

@@ -3,6 +3,7 @@ use Rattle.std.specs.Prelude.{ℕ, List, Bool, ◌&&◌, nat_eq}
 use Rattle.std.specs.List.{list_all, list_any, slice_split}
 use Rattle.ldap_words.specs.Numbers.{is_number}
 
+-- whether octets have a dot
 abbrev pub has_dot : List ℕ → Bool
 has_dot v = list_any (λ c. nat_eq c 46) v
 

@@ -22,6 +22,7 @@ abbrev pub kept_or : Option ℕ → Bool → ℕ → Option ℕ
 kept_or None is n = cond is (Some n) None
 kept_or (Some m) is n = Some m
 
+-- the lower of a number and another one, where there is another
 abbrev pub lower_than : ℕ → Option ℕ → Option ℕ
 lower_than n None = Some n
 lower_than n (Some m) = Some (cond (nat_lt m n) m n)

@@ -8,6 +8,7 @@ use Rattle.std.specs.Int.Digits.{number_from_digits}
 abbrev pub is_digit : ℕ → Bool
 is_digit c = nat_le 48 c && nat_le c 57
 
+-- decimal digits alone
 abbrev pub are_digits : List ℕ → Bool
 are_digits cs = list_all is_digit cs
 

@@ -12,6 +12,7 @@ use Rattle.ldap_words.specs.declared.rule.Syntax.TheVariants as syntax
 abbrev pub is_rule : List ℕ → List ℕ → List ℕ → Bool
 is_rule name oid w = bytes_eq (map to_ascii_lowercase name) (map to_ascii_lowercase w) || bytes_eq oid w
 
+-- the equality rules that `equality_family` doesn't name itself (RFC 4517 4.2)
 abbrev pub other_equality : List ℕ → Option Family
 other_equality w =
     cond (is_rule (codes "integerMatch") (codes "2.5.13.14") w) (Some family.Integer)
@@ -49,6 +50,7 @@ substrings_family w =
     (cond (is_rule (codes "telephoneNumberSubstringsMatch") (codes "2.5.13.21") w) (Some family.Telephone)
     (cond (is_rule (codes "caseIgnoreIA5SubstringsMatch") (codes "1.3.6.1.4.1.1466.109.114.3") w) (Some family.Ia5) None))))
 
+-- the syntaxes that `syntax_of` doesn't name itself (RFC 4517 3.3)
 abbrev pub other_syntax : List ℕ → Option Syntax
 other_syntax w =
     cond (bytes_eq (codes "1.3.6.1.4.1.1466.115.121.1.27") w) (Some syntax.Integer)

@@ -29,6 +29,7 @@ bad_line s =
     earlier s.bad
     (earlier (first_of_types (is_bad_type s) 0 s.types) (first_of_all (is_repeated s.types s.classes) s.classes))
 
+-- whether a word that a field has names something; a field that is left out names nothing unknown
 abbrev pub is_known_by : {A : Type 0} → (List ℕ → Option A) → Option (List ℕ) → Bool
 is_known_by f None = true
 is_known_by f (Some w) = is_some (f w)
@@ -42,6 +43,7 @@ names_known_type types d =
     && is_known_by substrings_family (first_text_at 7 d.fields)
     && is_known_by syntax_of (first_text_at 8 d.fields)
 
+-- whether each word calls one of the descriptions
 abbrev pub are_known : List DescriptionModel → List (List ℕ) → Bool
 are_known ds ws = list_all (λ w. is_some (find ds w)) ws
 

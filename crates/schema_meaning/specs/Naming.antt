@@ -10,9 +10,11 @@ use Rattle.schema_text.specs.Descriptions.{DescriptionModel, texts_at, first_tex
 abbrev pub names_of : DescriptionModel → List (List ℕ)
 names_of d = texts_at 1 d.fields
 
+-- the word of a type's SUP (RFC 4512 4.1.2)
 abbrev pub superior_text : DescriptionModel → Option (List ℕ)
 superior_text d = first_text_at 4 d.fields
 
+-- the words of a class's SUP (RFC 4512 4.1.1)
 abbrev pub superior_texts : DescriptionModel → List (List ℕ)
 superior_texts d = texts_at 4 d.fields
 
@@ -28,6 +30,7 @@ calls w d = bytes_eq w d.oid || is_name_among (names_of d) w
 abbrev pub find : List DescriptionModel → List ℕ → Option ℕ
 find ds w = position_from (calls w) 0 ds
 
+-- the number of the description that a word calls, where there is a word
 abbrev pub found_by : List DescriptionModel → Option (List ℕ) → Option ℕ
 found_by ds None = None
 found_by ds (Some w) = find ds w
@@ -36,10 +39,12 @@ found_by ds (Some w) = find ds w
 abbrev pub superior_of : List DescriptionModel → DescriptionModel → Option ℕ
 superior_of types d = found_by types (superior_text d)
 
+-- whether a name is there twice, in any case
 abbrev pub has_twice : List (List ℕ) → Bool
 has_twice [] = false
 has_twice (n ∷ ns) = is_name_among ns n || has_twice ns
 
+-- whether descriptions with these names have one in common, in any case
 abbrev pub share_a_name : List (List ℕ) → List (List ℕ) → Bool
 share_a_name [] ms = false
 share_a_name (n ∷ ns) ms = is_name_among ms n || share_a_name ns ms

@@ -7,6 +7,7 @@ use Rattle.schema_meaning.specs.declared.inheriting.Way.TheVariants.{Ends, IsLos
 use Rattle.schema_meaning.specs.declared.inheriting.Effect.{Effect}
 use Rattle.schema_meaning.specs.Inheriting.{way_from, lineage, inherited, nothing, own_at, effect_down}
 
+-- what is in effect down a chain of SUPs; none, where there is no chain
 abbrev pub settled_by : List DescriptionModel → Option (List ℕ) → Option Effect
 settled_by types None = None
 settled_by types (Some chain) = Some (effect_down types nothing (reverse chain))
@@ -20,6 +21,7 @@ abbrev pub settled_under : List DescriptionModel → ℕ → Option Effect → O
 settled_under types t None = None
 settled_under types t (Some above) = Some (inherited above (own_at types t))
 
+-- what is in effect for a type: under nothing where its SUPs end, under its superior where they go on; none, where they are lost
 abbrev pub gone_on : List DescriptionModel → ℕ → Way → (ℕ → Option Effect) → Option Effect
 gone_on types t Ends f = settled_under types t (Some nothing)
 gone_on types t IsLost f = None
@@ -30,6 +32,7 @@ abbrev pub settled_within : List DescriptionModel → ℕ → ℕ → Option Eff
 settled_within types zero t = None
 settled_within types (suc k) t = gone_on types t (way_from types t) (λ u. settled_within types k u)
 
+-- what a table has at a place; none, where it has no such place
 abbrev pub effect_in : Option (Option Effect) → Option Effect
 effect_in None = None
 effect_in (Some o) = o
@@ -42,6 +45,7 @@ effect_at table t = effect_in (slice_get table t)
 abbrev pub effect_by : List DescriptionModel → List (Option Effect) → ℕ → Option Effect
 effect_by types table t = gone_on types t (way_from types t) (effect_at table)
 
+-- the second one, where there isn't the first
 abbrev pub new_if : Option Effect → Option Effect → Option Effect
 new_if (Some e) o = None
 new_if None o = o

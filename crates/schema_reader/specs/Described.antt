@@ -33,6 +33,7 @@ abbrev pub rule_on : Given → Option Family → Option Rule
 rule_on g None = None
 rule_on g (Some f) = Some (record { family = f; syntax = known_syntax g })
 
+-- the type of a description, with what is in effect for it, own or inherited (RFC 4512 4.1.2)
 abbrev pub type_with : List DescriptionModel → DescriptionModel → Effect → TypeModel
 type_with types d e = record {
   oid = as_text d.oid;
@@ -50,6 +51,7 @@ abbrev pub types_from : List DescriptionModel → ℕ → List DescriptionModel 
 types_from types t [] = []
 types_from types t (d ∷ ds) = type_with types d (effect_of types t) ∷ types_from types (t + 1) ds
 
+-- the number of a description that a word calls, before those of the words behind it
 abbrev pub with_number : Option ℕ → List ℕ → List ℕ
 with_number None ns = ns
 with_number (Some n) ns = n ∷ ns
@@ -59,6 +61,7 @@ abbrev pub numbers_of : List DescriptionModel → List (List ℕ) → List ℕ
 numbers_of ds [] = []
 numbers_of ds (w ∷ ws) = with_number (find ds w) (numbers_of ds ws)
 
+-- the kind that a field gives a class; another field leaves it to those behind it (RFC 4512 4.1.1)
 abbrev pub kind_by : Keyword → ClassKind → ClassKind
 kind_by keyword.Abstract k = Abstract
 kind_by keyword.Structural k = Structural

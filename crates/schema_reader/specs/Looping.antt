@@ -3,6 +3,7 @@ use Rattle.std.specs.Prelude.{ℕ, ◌*◌, ◌+◌, ◌<◌, zero, suc, List, [
 use Rattle.ldap_schema.specs.Schema.{TypeModel, superior_of}
 use Rattle.std.specs.Option.{option_flatten}
 
+-- on from the type of a number; nowhere, where there is none
 abbrev pub then_up : Option ℕ → (ℕ → Option ℕ) → Option ℕ
 then_up None f = None
 then_up (Some u) f = f u
@@ -39,6 +40,7 @@ abbrev pub all_marked : List Bool → List (Option ℕ) → List Bool
 all_marked marks [] = marks
 all_marked marks (o ∷ os) = all_marked (marked marks o) os
 
+-- whether there is a mark, and it is set
 abbrev pub mark_in : Option Bool → Bool
 mark_in None = false
 mark_in (Some b) = b

@@ -20,14 +20,17 @@ abbrev pub is_identifier_on : Syntax → Family → Bool
 is_identifier_on syntax.ObjectIdentifier family.Identifier = true
 is_identifier_on s f = false
 
+-- whether there is a rule, and it is objectIdentifierMatch on its syntax
 abbrev pub is_identifier_rule : Option Rule → Bool
 is_identifier_rule None = false
 is_identifier_rule (Some r) = is_identifier_on r.syntax r.family
 
+-- whether there is a type, and its EQUALITY is objectIdentifierMatch
 abbrev pub has_identifier_rule : Option TypeModel → Bool
 has_identifier_rule None = false
 has_identifier_rule (Some t) = is_identifier_rule t.equality
 
+-- the type of a number, where its EQUALITY is objectIdentifierMatch
 abbrev pub object_class_found : List TypeModel → Option ℕ → Option ℕ
 object_class_found types None = None
 object_class_found types (Some t) = cond (has_identifier_rule (slice_get types t)) (Some t) None
@@ -40,6 +43,7 @@ object_class_in types = object_class_found types (position_from (λ t. is_called
 abbrev pub required_in : SchemaModel → Option ℕ
 required_in s = cond (is_some (class_named s (codes "top"))) (object_class_in s.types) None
 
+-- this line, unless there is a type
 abbrev pub line_unless : ℕ → Option ℕ → Option ℕ
 line_unless n None = Some n
 line_unless n (Some t) = None
@@ -61,6 +65,7 @@ abbrev pub loop_line : SchemaTextModel → SchemaModel → Option ℕ
 loop_line text s =
     earlier (first_of_types (λ t d. is_type_looping s.types t) 0 text.types) (first_of_types (λ c d. is_class_looping s.classes c) 0 text.classes)
 
+-- whether there is a type, and it has no EQUALITY rule
 abbrev pub has_no_equality : Option TypeModel → Bool
 has_no_equality None = false
 has_no_equality (Some t) = not (is_some t.equality)
@@ -69,6 +74,7 @@ has_no_equality (Some t) = not (is_some t.equality)
 abbrev pub no_equality_line : SchemaTextModel → SchemaModel → Option ℕ
 no_equality_line text s = first_of_types (λ t d. has_no_equality (slice_get s.types t)) 0 text.types
 
+-- a fault of this kind at a line, or else what is wrong by the other checks
 abbrev pub refused_at : Option ℕ → (ℕ → SchemaError) → Option SchemaError → Option SchemaError
 refused_at None fault rest = rest
 refused_at (Some line) fault rest = Some (fault line)
@@ -96,6 +102,7 @@ IsFaultOf o (LoopInSup line) = o ≡ Some (LoopInSup line)
 IsFaultOf o (NoEquality line) = o ≡ Some (NoEquality line)
 IsFaultOf o NoMemory = Unit {0}
 
+-- the error is an unknown name, at the line that is there
 abbrev pub IsUnknown : Option ℕ → SchemaError → Type 0
 IsUnknown o (BadDescription line) = ⊥
 IsUnknown o (UnknownName line) = o ≡ Some line
@@ -103,10 +110,12 @@ IsUnknown o (LoopInSup line) = ⊥
 IsUnknown o (NoEquality line) = ⊥
 IsUnknown o NoMemory = ⊥
 
+-- the schema, unless something is wrong
 abbrev pub unless_refused : SchemaModel → Option SchemaError → Result SchemaModel SchemaError
 unless_refused s None = Ok s
 unless_refused s (Some e) = Err e
 
+-- the schema of a text's descriptions, or the first thing that is wrong with them
 abbrev pub schema_of_lines : SchemaTextModel → Result SchemaModel SchemaError
 schema_of_lines text = unless_refused (schema_of text) (fault_of text (schema_of text))
 

@@ -9,6 +9,7 @@ use Rattle.schema_text.specs.declared.keyword.Shape.{Shape}
 use Rattle.schema_text.specs.declared.keyword.Shape.TheVariants as shape
 use Rattle.std.specs.Option.{option_and_then}
 
+-- whether tokens are a piece: there is at least one
 abbrev pub is_some_piece : List Token → Bool
 is_some_piece ts = nat_lt 0 (length ts)
 
@@ -16,10 +17,12 @@ is_some_piece ts = nat_lt 0 (length ts)
 abbrev pub pieces : Bool → List Token → List (List Token)
 pieces b ts = filter is_some_piece (slice_split (is_bare b 32) ts)
 
+-- whether there is a token, and it passes
 abbrev pub is_such : (Token → Bool) → Option Token → Bool
 is_such p None = false
 is_such p (Some t) = p t
 
+-- whether the last token passes
 abbrev pub ends_at : (Token → Bool) → List Token → Bool
 ends_at p ts = is_such p (slice_get ts (length ts - 1))
 
@@ -28,6 +31,7 @@ abbrev pub between : (Token → Bool) → (Token → Bool) → List Token → Op
 between p q [] = None
 between p q (t ∷ ts) = cond (p t && ends_at q ts) (Some (take (length ts - 1) ts)) None
 
+-- dstring: the octets of tokens that stand in quotes, one at least (RFC 4512 1.4)
 abbrev pub dstring_of : List Token → Option (List ℕ)
 dstring_of ts = cond (nat_lt 0 (length ts) && list_all is_quoted ts) (Some (map octet_of ts)) None
 
@@ -35,6 +39,7 @@ dstring_of ts = cond (nat_lt 0 (length ts) && list_all is_quoted ts) (Some (map 
 abbrev pub quoted_text : Bool → List Token → Option (List ℕ)
 quoted_text b ts = option_and_then dstring_of (between (is_bare b 39) (is_bare b 39) ts)
 
+-- the word, where it is a descr: a letter, then letters, digits and hyphens (RFC 4512 1.4)
 abbrev pub descr_if : List ℕ → Option (List ℕ)
 descr_if w = cond (is_descr w) (Some w) None
 
@@ -46,9 +51,11 @@ quoted_name b ts = option_and_then descr_if (quoted_text b ts)
 abbrev pub word_of : List Token → Option (List ℕ)
 word_of ts = cond (list_all is_outer ts) (Some (map octet_of ts)) None
 
+-- the word, where it is an oid: a descr or a numericoid (RFC 4512 1.4)
 abbrev pub oid_if : List ℕ → Option (List ℕ)
 oid_if w = cond (is_oid w) (Some w) None
 
+-- an oid outside lists and quoted texts (RFC 4512 1.4)
 abbrev pub oid_of : List Token → Option (List ℕ)
 oid_of ts = option_and_then oid_if (word_of ts)
 
@@ -60,6 +67,7 @@ without_leading ts = drop (prefix_len (is_bare true 32) ts) ts
 abbrev pub without_trailing : List Token → List Token
 without_trailing ts = take (length ts - suffix_len (is_bare true 32) ts) ts
 
+-- an oid inside a list, without SPACEs around it
 abbrev pub inner_oid_if : List Token → Option (List ℕ)
 inner_oid_if ts = cond (list_all is_inner ts) (oid_if (map octet_of ts)) None
 
@@ -67,6 +75,7 @@ inner_oid_if ts = cond (list_all is_inner ts) (oid_if (map octet_of ts)) None
 abbrev pub inner_oid : List Token → Option (List ℕ)
 inner_oid ts = inner_oid_if (without_trailing (without_leading ts))
 
+-- one more text behind those so far, and then those that follow; none, where a piece gave no text
 abbrev pub next_text : List (List ℕ) → Option (List ℕ) → (List (List ℕ) → Option (List (List ℕ))) → Option (List (List ℕ))
 next_text xs None f = None
 next_text xs (Some x) f = f (xs ++ x ∷ [])
@@ -76,6 +85,7 @@ abbrev pub all_from : (List Token → Option (List ℕ)) → List (List ℕ) →
 all_from f xs [] = Some xs
 all_from f xs (p ∷ ps) = next_text xs (f p) (λ ys. all_from f ys ps)
 
+-- a list of the one text
 abbrev pub one : Option (List ℕ) → Option (List (List ℕ))
 one o = option_and_then (λ x. Some (x ∷ [])) o
 
@@ -100,6 +110,7 @@ texts_of ts = one_or (quoted_text false) (λ inside. all_from (quoted_text true)
 abbrev pub oids_of : List Token → Option (List (List ℕ))
 oids_of ts = one_or oid_of (λ inside. all_from inner_oid [] (slice_split (is_bare true 36) inside)) ts (listed ts)
 
+-- the word, where it is userApplications in any case: descriptions of other usages are refused (RFC 4512 4.1.2)
 abbrev pub usage_if : List ℕ → Option (List ℕ)
 usage_if w = cond (is_same_word (codes "userApplications") w) (Some w) None
 

@@ -33,16 +33,20 @@ abbrev pub has_field_at : ℕ → List FieldModel → Bool
 has_field_at n [] = false
 has_field_at n (f ∷ fs) = cond (nat_eq (place_of f.keyword) n) true (has_field_at n fs)
 
+-- the first text; none, where there is none
 abbrev pub first_of : List (List ℕ) → Option (List ℕ)
 first_of [] = None
 first_of (x ∷ xs) = Some x
 
+-- the first text of the field in a place of the grammar's order; none, where there is no such field
 abbrev pub first_text_at : ℕ → List FieldModel → Option (List ℕ)
 first_text_at n fs = first_of (texts_at n fs)
 
+-- the keyword that a piece is in a description of this kind; none, where it is a quoted text, a list or another word
 abbrev pub keyword_at : Section → List Token → Option Keyword
 keyword_at s p = option_and_then (keyword_of s) (word_of p)
 
+-- whether a keyword stands alone, without an argument
 abbrev pub is_flag : Shape → Bool
 is_flag shape.Flag = true
 is_flag shape.Names = false
@@ -58,10 +62,12 @@ abbrev pub fields_end : List FieldModel → Option Keyword → Option (List Fiel
 fields_end fs None = Some fs
 fields_end fs (Some k) = None
 
+-- a keyword ends a field where it is a flag, and else waits for its argument; no description, where the piece is no keyword
 abbrev pub begun : Section → List FieldModel → Option Keyword → (List FieldModel → Option Keyword → Option (List FieldModel)) → Option (List FieldModel)
 begun s fs None f = None
 begun s fs (Some k) f = cond (is_flag (shape_of s k)) (f (fs ++ record { keyword = k; texts = [] } ∷ []) None) (f fs (Some k))
 
+-- the field with its argument behind those so far; no description, where the piece is no such argument
 abbrev pub completed : List FieldModel → Option FieldModel → (List FieldModel → Option Keyword → Option (List FieldModel)) → Option (List FieldModel)
 completed fs None f = None
 completed fs (Some g) f = f (fs ++ g ∷ []) None
@@ -85,12 +91,15 @@ abbrev pub are_in_order : ℕ → List FieldModel → Bool
 are_in_order last [] = true
 are_in_order last (f ∷ fs) = may_follow last f.keyword && are_in_order (place_of f.keyword) fs
 
+-- the fields, where they stand in the order of the grammar (RFC 4512 4.1.1, 4.1.2)
 abbrev pub in_order : List FieldModel → Option (List FieldModel)
 in_order fs = cond (are_in_order 0 fs) (Some fs) None
 
+-- the word, where it is a numericoid (RFC 4512 1.4)
 abbrev pub numericoid_if : List ℕ → Option (List ℕ)
 numericoid_if w = cond (is_numericoid w) (Some w) None
 
+-- a numericoid outside lists and quoted texts, which begins a description (RFC 4512 4.1)
 abbrev pub numericoid_of : List Token → Option (List ℕ)
 numericoid_of p = option_and_then numericoid_if (word_of p)
 

@@ -37,10 +37,12 @@ class_keyword w =
     (cond (is_same_word (codes "MUST") w) (Some keyword.Must)
     (cond (is_same_word (codes "MAY") w) (Some keyword.May) None))))
 
+-- the keywords that one kind of description has and the other hasn't
 abbrev pub own_keyword : Section → List ℕ → Option Keyword
 own_keyword AttributeTypes w = type_keyword w
 own_keyword ObjectClasses w = class_keyword w
 
+-- a keyword of both kinds of description, or else of this kind alone
 abbrev pub or_own : Section → List ℕ → Option Keyword → Option Keyword
 or_own s w None = own_keyword s w
 or_own s w (Some k) = Some k
@@ -72,6 +74,7 @@ place_of keyword.Extension = 14
 abbrev pub may_follow : ℕ → Keyword → Bool
 may_follow last k = nat_lt last (place_of k) || (nat_eq last 14 && nat_eq (place_of k) 14)
 
+-- SUP names one attribute type, but one object class or several (RFC 4512 4.1.1, 4.1.2)
 abbrev pub superior_shape : Section → Shape
 superior_shape AttributeTypes = shape.Oid
 superior_shape ObjectClasses = shape.Oids

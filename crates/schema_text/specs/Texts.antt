@@ -12,12 +12,15 @@ use Rattle.ldap_words.specs.Words.{part_or_nothing}
 abbrev pub without_return : List ℕ → List ℕ
 without_return l = cond (ends_with 13 l) (take (length l - 1) l) l
 
+-- what stands behind the last LF
 abbrev pub last_part : List (List ℕ) → List ℕ
 last_part parts = part_or_nothing (slice_get parts (length parts - 1))
 
+-- what stands before each LF
 abbrev pub but_last : List (List ℕ) → List (List ℕ)
 but_last parts = take (length parts - 1) parts
 
+-- what stands behind the last LF as a line, unless it is empty
 abbrev pub one_line : List ℕ → List (List ℕ)
 one_line l = cond (nat_lt 0 (length l)) (l ∷ []) []
 
@@ -39,6 +42,7 @@ abbrev pub heading_of : Section → List ℕ
 heading_of AttributeTypes = codes "attributeTypes: "
 heading_of ObjectClasses = codes "objectClasses: "
 
+-- whether a line begins with the heading of a section, in any case
 abbrev pub is_headed : Section → List ℕ → Bool
 is_headed s line = is_same_word (heading_of s) (take (length (heading_of s)) line)
 
@@ -50,21 +54,26 @@ pub record SchemaTextModel : Type 0 where
   pub bad : Option ℕ
   pub behind : ℕ
 
+-- the line that is bad already, or else this one
 abbrev pub or_else : Option ℕ → ℕ → Option ℕ
 or_else None n = Some n
 or_else (Some m) n = Some m
 
+-- after a line that is no description: the first such line is kept
 abbrev pub with_bad : SchemaTextModel → ℕ → SchemaTextModel
 with_bad t n = record { types = t.types; classes = t.classes; bad = or_else t.bad n; behind = t.behind }
 
+-- after a line with this type; a line without one is bad
 abbrev pub with_type : SchemaTextModel → ℕ → Option DescriptionModel → SchemaTextModel
 with_type t n None = with_bad t n
 with_type t n (Some d) = record { types = t.types ++ d ∷ []; classes = t.classes; bad = t.bad; behind = t.behind }
 
+-- after a line with this class; a line without one is bad
 abbrev pub with_class : SchemaTextModel → ℕ → Option DescriptionModel → SchemaTextModel
 with_class t n None = with_bad t n
 with_class t n (Some d) = record { types = t.types; classes = t.classes ++ d ∷ []; bad = t.bad; behind = t.behind }
 
+-- the description behind a line's heading
 abbrev pub description_behind : ℕ → Section → List ℕ → Option DescriptionModel
 description_behind n s line = description_of n s (drop (length (heading_of s)) line)
 
@@ -80,12 +89,15 @@ abbrev pub read_from : SchemaTextModel → ℕ → List (List ℕ) → SchemaTex
 read_from t n [] = t
 read_from t n (l ∷ ls) = read_from (with_line t n l) (n + 1) ls
 
+-- what a schema's text has before its first line
 abbrev pub nothing : SchemaTextModel
 nothing = record { types = []; classes = []; bad = None; behind = 1 }
 
+-- after the last line, with the number that follows it
 abbrev pub ended_at : SchemaTextModel → ℕ → SchemaTextModel
 ended_at t n = record { types = t.types; classes = t.classes; bad = t.bad; behind = n }
 
+-- what the lines of a schema's text have
 abbrev pub read_lines : List (List ℕ) → SchemaTextModel
 read_lines ls = ended_at (read_from nothing 1 ls) (length ls + 1)
 

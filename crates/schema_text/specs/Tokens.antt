@@ -44,6 +44,7 @@ ended ts (Quote b) = None
 ended ts (Escape b) = None
 ended ts (Half b d) = None
 
+-- one more token behind those so far, and the reading goes on; none, where the octet is refused
 abbrev pub stepped : List Token → Step → (List Token → Scan → Option (List Token)) → Option (List Token)
 stepped ts Refuses f = None
 stepped ts (Gives t s) f = f (ts ++ t ∷ []) s
@@ -65,6 +66,7 @@ octet_of (Quoted c) = c
 octet_of Open = 40
 octet_of Close = 41
 
+-- whether a token stands outside lists and quoted texts
 abbrev pub is_outer : Token → Bool
 is_outer (Outer c) = true
 is_outer (Inner c) = false
@@ -72,6 +74,7 @@ is_outer (Quoted c) = false
 is_outer Open = false
 is_outer Close = false
 
+-- whether a token stands inside a list, and in no quoted text
 abbrev pub is_inner : Token → Bool
 is_inner (Outer c) = false
 is_inner (Inner c) = true
@@ -79,6 +82,7 @@ is_inner (Quoted c) = false
 is_inner Open = false
 is_inner Close = false
 
+-- whether a token stands in a quoted text
 abbrev pub is_quoted : Token → Bool
 is_quoted (Outer c) = false
 is_quoted (Inner c) = false
@@ -86,6 +90,7 @@ is_quoted (Quoted c) = true
 is_quoted Open = false
 is_quoted Close = false
 
+-- a parenthesis that begins a list
 abbrev pub is_open : Token → Bool
 is_open (Outer c) = false
 is_open (Inner c) = false
@@ -93,6 +98,7 @@ is_open (Quoted c) = false
 is_open Open = true
 is_open Close = false
 
+-- a parenthesis that ends a list
 abbrev pub is_close : Token → Bool
 is_close (Outer c) = false
 is_close (Inner c) = false

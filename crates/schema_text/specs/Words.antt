@@ -5,6 +5,7 @@ pub use Rattle.ldap_words.specs.Identifiers.{is_numericoid}
 pub use Rattle.ldap_words.specs.Numbers.{is_digit, is_number}
 pub use Rattle.ldap_words.specs.Words.{is_same_word, is_alpha, is_key_octet, is_descr, is_oid}
 
+-- whether there is an octet, and it is this one
 abbrev pub is_octet : ℕ → Option ℕ → Bool
 is_octet c None = false
 is_octet c (Some x) = nat_eq x c
@@ -17,6 +18,7 @@ ends_with c word = is_octet c (slice_get word (length word - 1))
 abbrev pub is_length : List ℕ → Bool
 is_length word = ends_with 125 word && is_number (take (length word - 1) word)
 
+-- the numericoid before the first brace: a len in braces stands behind it, or there is no brace
 abbrev pub bounded_at : List ℕ → Option ℕ → Option (List ℕ)
 bounded_at word None = cond (is_numericoid word) (Some word) None
 bounded_at word (Some i) = cond (is_numericoid (take i word) && is_length (drop (i + 1) word)) (Some (take i word)) None
@@ -25,9 +27,11 @@ bounded_at word (Some i) = cond (is_numericoid (take i word) && is_length (drop 
 abbrev pub bounded_oid : List ℕ → Option (List ℕ)
 bounded_oid word = bounded_at word (position (nat_eq 123) word)
 
+-- a letter, a hyphen or an underscore (RFC 4512 4.1, xstring)
 abbrev pub is_extension_octet : ℕ → Bool
 is_extension_octet c = is_alpha c || nat_eq c 45 || nat_eq c 95
 
+-- what follows the `X` of an xstring: a hyphen, and one of those octets or more (RFC 4512 4.1)
 abbrev pub is_extension_rest : List ℕ → Bool
 is_extension_rest [] = false
 is_extension_rest (c ∷ cs) = nat_eq c 45 && nat_lt 0 (length cs) && list_all is_extension_octet cs

@@ -5,6 +5,7 @@ use Rattle.std.specs.Str.{bytes_eq}
 use Rattle.std.specs.Cmp.{IsEquivalence, eq_by_cmp_equiv}
 use Rattle.std.specs.Cmp.Lexicographic.{slice_cmp, nat_list_cmp_total, texts_ties}
 
+-- to be the same octets is an equivalence
 pub octets_equiv : IsEquivalence {K = List ℕ} bytes_eq
 octets_equiv =
     let h = texts_ties in
