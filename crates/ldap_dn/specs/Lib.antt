@@ -4,6 +4,7 @@ pub mod Names
 pub mod Tokens
 pub mod Texts
 pub mod Printed
+pub mod Plain
 pub mod Grammar
 pub mod Parted
 pub mod NameTexts

@@ -1,9 +1,11 @@
 // Names printed. Relative names and a schema flow in, their one text flows out.
 // What must not be here: keys, how texts are read.
 
-ghost use Rattle.std.specs.Prelude.{◌≡◌, ◌++◌, drop, length, chars, true, map, reverse, flat_map, ◌∷◌, string_bytes, IfOk, OnOk};
+ghost use Rattle.std.specs.Prelude.{◌≡◌, ◌++◌, [], drop, length, chars, true, IsTrue, map, reverse, flat_map, ◌∷◌, string_bytes, IfOk, OnOk};
+ghost use Rattle.std.specs.List.{list_all};
 ghost use Rattle.ldap_schema.specs.Schema.{first_name_of};
 ghost use Rattle.ldap_dn.specs.Printed as printed;
+ghost use Rattle.ldap_dn.specs.Plain.{is_plain as is_plain_octet, are_plain_ends};
 
 use crate::rdn::{Rdn, TypeAndValue};
 use ldap_schema::{AttributeType, Schema, TypeId};
@@ -59,11 +61,49 @@ fn characters(alloc: Global, text: &str) -> Result<Vec<char>, AllocError>
     text.chars().collect(alloc)
 }
 
-/// Puts a value.
+/// Whether an octet is a character of ASCII that is escaped at the ends of a value at most.
+fn is_plain(octet: u8) -> bool
+    ensures { result ≡ is_plain_octet octet }
+{
+    octet > 0 && octet < 128 && !is_special(octet as char)
+}
+
+/// Whether all octets are such.
+fn are_plain(octets: &[u8]) -> bool
+    ensures { result ≡ list_all is_plain_octet octets.now }
+{
+    octets.iter().all(|octet| is_plain(*octet))
+}
+
+/// Whether neither the first octet of a value is escaped as the first, nor the last as the last.
+fn has_plain_ends(first: u8, last: u8) -> bool
+    ensures { result ≡ are_plain_ends first last }
+{
+    first != b' ' && first != b'#' && last != b' '
+}
+
+/// Whether a value is one of ASCII of which no character is escaped.
+fn is_printed_as_is(value: &str) -> bool
+    ensures { IsTrue result → printed.printed_value value.now ≡ value.now }
+{
+    let octets = value.as_bytes();
+    let Some(first) = octets.first() else {
+        return true;
+    };
+    let Some(last) = octets.last() else {
+        return true;
+    };
+    has_plain_ends(*first, *last) && are_plain(octets)
+}
+
+/// Puts a value: at once, where it is printed as it is.
 fn put_value(alloc: Global, out: &mut String, value: &str) -> Result<(), AllocError>
     ensures ok { OnOk result (string_bytes out.new ≡ string_bytes out.old ++ printed.printed_value value.now) }
     ensures kept { string_bytes out.new ≡ string_bytes out.old ++ drop (length (string_bytes out.old)) (string_bytes out.new) }
 {
+    if is_printed_as_is(value) {
+        return out.push_str(value);
+    }
     let characters = characters(alloc, value)?;
     put_characters(out, characters.as_slice())
 }
@@ -182,11 +222,34 @@ fn leaf_first(alloc: Global, rdns: &[Rdn]) -> Result<Vec<&Rdn>, AllocError>
     rdns.iter().rev().collect(alloc)
 }
 
+/// How many octets a relative name takes with the `,` before it, if nothing in it is escaped.
+fn room_for(schema: &Schema, rdn: &Rdn) -> usize {
+    let mut room: usize = 0;
+    for one in rdn.types_and_values() {
+        let both = type_name(schema, one.type_id)
+            .len()
+            .saturating_add(one.value.len());
+        room = room.saturating_add(both).saturating_add(2);
+    }
+    room
+}
+
+/// An empty text with room for relative names, if nothing in them is escaped.
+fn text_for(alloc: Global, schema: &Schema, rdns: &[&Rdn]) -> Result<String, AllocError>
+    ensures { IfOk result (λ t. string_bytes t ≡ []) }
+{
+    let mut room: usize = 0;
+    for rdn in rdns {
+        room = room.saturating_add(room_for(schema, rdn));
+    }
+    String::with_capacity(alloc, room)
+}
+
 /// The printed form of relative names that are given the last one first, as they are printed. It copies none of them.
 pub fn print_from_leaf(alloc: Global, schema: &Schema, rdns: &[&Rdn]) -> Result<String, AllocError>
     ensures { IfOk result (λ t. string_bytes t ≡ printed.printed_name schema.now (reverse (map (λ r. r.now) rdns.now))) }
 {
-    let mut out = String::new(alloc);
+    let mut out = text_for(alloc, schema, rdns)?;
     put_rdns(alloc, &mut out, schema, rdns)?;
     Ok(out)
 }
@@ -196,7 +259,7 @@ pub fn print(alloc: Global, schema: &Schema, rdns: &[Rdn]) -> Result<String, All
     ensures { IfOk result (λ t. string_bytes t ≡ printed.printed_name schema.now rdns.now) }
 {
     let order = leaf_first(alloc, rdns)?;
-    let mut out = String::new(alloc);
+    let mut out = text_for(alloc, schema, order.as_slice())?;
     put_rdns(alloc, &mut out, schema, order.as_slice())?;
     Ok(out)
 }

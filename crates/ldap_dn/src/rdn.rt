@@ -9,6 +9,7 @@ ghost use Rattle.ldap_dn.specs.Rising.{KeysAreRising};
 
 use ldap_schema::TypeId;
 use ldap_syntax::{Form, Key};
+use smallvec::SmallVec;
 use std::alloc::{AllocError, Global};
 use std::marker::Model;
 
@@ -85,10 +86,24 @@ impl Model for TypeAndKey {
     ghost view = { λ t. record { kind = t.type_id; key = t.key } };
 }
 
+/// The first type and no octets; it is where a list that holds one in place has none.
+impl Default for TypeAndKey {
+    ghost use Rattle.std.specs.Prelude.{◌≡◌, []};
+
+    ghost is_default = { λ t. t.key ≡ [] };
+
+    fn default() -> TypeAndKey {
+        TypeAndKey {
+            type_id: TypeId::new(0),
+            key: Key::default(),
+        }
+    }
+}
+
 /// A relative name (RFC 4512 2.3.1).
 pub struct Rdn {
-    /// In rising order of type, each type once.
-    pub(crate) keys: Vec<TypeAndKey>,
+    /// In rising order of type, each type once; one, as most have, in place.
+    pub(crate) keys: SmallVec<TypeAndKey, 1>,
     /// In the order written.
     pub(crate) spelling: Vec<TypeAndValue>,
 }
@@ -164,7 +179,7 @@ impl Rdn {
         ensures { IfOk result (λ r. r ≡ self.now) }
     {
         Ok(Rdn {
-            keys: copy_keys(alloc, self.keys.as_slice())?,
+            keys: SmallVec::from_vec(copy_keys(alloc, self.keys.as_slice())?),
             spelling: copy_spelling(alloc, self.spelling.as_slice())?,
         })
     }

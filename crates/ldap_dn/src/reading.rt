@@ -13,6 +13,7 @@ use crate::token::Token;
 use crate::value_keys::key;
 use ldap_schema::{Family, Rule, Schema, TypeId, equality_rule};
 use ldap_syntax::{Key, ValueError};
+use smallvec::SmallVec;
 use std::alloc::{AllocError, Global};
 
 /// The octets of the tokens.
@@ -243,7 +244,10 @@ fn rdn(alloc: Global, schema: &Schema, tokens: &[Token]) -> Result<Rdn, NameErro
 {
     let spelling = written(alloc, schema, tokens)?;
     let keys = keys_of(alloc, schema, spelling.as_slice())?;
-    Ok(Rdn { keys, spelling })
+    Ok(Rdn {
+        keys: SmallVec::from_vec(keys),
+        spelling,
+    })
 }
 
 /// The relative names that the pieces spell, in their order.

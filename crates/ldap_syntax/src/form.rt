@@ -56,6 +56,17 @@ fn are_seen(octets: &[u8]) -> bool
     !is_behind_space
 }
 
+/// Nothing; it is where a list that holds few in place has none.
+impl Default for Form {
+    ghost use Rattle.std.specs.Prelude.{◌≡◌, None};
+
+    ghost is_default = { λ f. f ≡ None };
+
+    fn default() -> Form {
+        Form { kept: None }
+    }
+}
+
 impl Form {
     /// What is kept of a value's texts. Its only error is want of memory.
     #[tactic(auto, using(crate::proofs::Seen::seen_form))]

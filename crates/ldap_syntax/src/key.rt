@@ -53,6 +53,19 @@ impl Model for Key {
     ghost invariant = { λ k. IsWithinRoom k.held };
 }
 
+/// No octets; it is where a list that holds few keys in place has none.
+impl Default for Key {
+    ghost use Rattle.std.specs.Prelude.{◌≡◌, []};
+
+    ghost is_default = { λ k. k ≡ [] };
+
+    fn default() -> Key {
+        Key {
+            held: Held::Short(0, [0; ROOM]),
+        }
+    }
+}
+
 /// The key of so few octets.
 fn short(octets: &[u8]) -> Key
     requires { length octets.now ≤ ROOM }
