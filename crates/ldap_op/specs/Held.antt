@@ -1,11 +1,10 @@
 -- Wire, updates by themselves: what an update is that lies in memory so.
 -- In: what is held. Out: its value. Not here: who else has it.
 use Rattle.ldap_op.specs.Values.{OpValue}
-use Rattle.ldap_op.specs.View.{update_view}
 use Rattle.ldap_op.specs.declared.held.Held.{Held}
 use Rattle.ldap_op.specs.declared.held.Held.TheVariants.{Written, Loose}
 
 -- what the octets say, or itself
 abbrev pub held_view : Held → OpValue
 held_view (Written spelled) = spelled
-held_view (Loose update) = update_view update.value
+held_view (Loose update) = update

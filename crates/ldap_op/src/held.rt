@@ -5,7 +5,7 @@ ghost use Rattle.std.specs.Prelude.{◌≡◌};
 ghost use Rattle.std.specs.Borrow.{ftrue};
 ghost use Rattle.ldap_op.specs.Values.{OpValue};
 ghost use Rattle.ldap_op.specs.View.{update_view};
-ghost use Rattle.ldap_op.specs.Written.{IsSpelled};
+ghost use Rattle.ldap_op.specs.Written.{IsSpelled, HasNoSpelling};
 
 use crate::update::Update;
 use std::marker::{Model, PhantomData};
@@ -77,12 +77,54 @@ impl Spelled {
     }
 }
 
+/// An update that no octets spell. Contracts see the update.
+pub struct Unspelled {
+    update: Box<Update>,
+}
+
+// Not derived: see "What the gate takes" in docs/ARCHITECTURE.md.
+impl Drop for Unspelled {
+    fn drop(self) {
+        let Unspelled { update: _ } = self;
+    }
+}
+
+impl Model for Unspelled {
+    ghost use Rattle.ldap_op.specs.Values.{OpValue};
+    ghost use Rattle.ldap_op.specs.View.{update_view};
+    ghost use Rattle.ldap_op.specs.Written.{HasNoSpelling};
+
+    ghost Value = { OpValue };
+
+    ghost view = { λ u. update_view u.update.value };
+
+    ghost invariant = { λ u. HasNoSpelling (update_view u.update.value) };
+}
+
+impl Unspelled {
+    /// An update, which no octets spell.
+    pub fn new(update: Box<Update>) -> Unspelled
+        requires { HasNoSpelling (update_view update.value) }
+        ensures { result ≡ update_view update.value }
+    {
+        Unspelled { update }
+    }
+
+    /// The update.
+    pub fn update(&self) -> &Update
+        ensures is { update_view result.now ≡ self.now }
+        ensures unspelled { HasNoSpelling self.now }
+    {
+        &self.update
+    }
+}
+
 /// How an update lies in memory.
 pub enum Held {
     /// As its octets.
     Written(Spelled),
     /// As itself, since no octets are read as it: an attribute of an add has no value, or it is too long for any message.
-    Loose(Box<Update>),
+    Loose(Unspelled),
 }
 
 // Not derived: see "What the gate takes" in docs/ARCHITECTURE.md.

@@ -1,6 +1,6 @@
 //! Wire, updates by themselves: octets of an update that are read as the same update again. An update in memory may be one that no octets spell.
 //! In: an update. Out: its octets, if they are read as it. Not here: who keeps them.
-ghost use Rattle.std.specs.Prelude.{◌≡◌, ◌^◌, ◌<◌, IsTrue, length, map, IfOk, IfSome};
+ghost use Rattle.std.specs.Prelude.{◌≡◌, ◌^◌, ◌<◌, IsTrue, IsFalse, IsNone, length, map, IfOk, IfSome};
 ghost use Rattle.std.specs.Str.{IsUtf8};
 ghost use Rattle.std.specs.List.{AllByRecursion};
 ghost use Rattle.ldap_updates.specs.ldap_parts.View.{attribute_view};
@@ -8,7 +8,7 @@ ghost use Rattle.ldap_updates.specs.Grammar.{HasAValue};
 ghost use Rattle.ldap_updates.specs.View.{add_view, change_view, modify_view, modify_dn_view};
 ghost use Rattle.ldap_updates.specs.Written.{IsAddInRange, IsModifyInRange, IsModifyDnInRange};
 ghost use Rattle.ldap_op.specs.View.{update_view};
-ghost use Rattle.ldap_op.specs.Written.{IsOpInRange, IsSpelled, op_content};
+ghost use Rattle.ldap_op.specs.Written.{IsOpInRange, IsSpelled, HasNoSpelling, op_content};
 
 use crate::laws::is_op;
 use crate::update::Update;
@@ -23,7 +23,8 @@ const MOST: usize = 0x1_0000_0000;
 
 /// Whether each of these attributes has a value.
 fn have_values(attributes: &[PartialAttribute]) -> bool
-    ensures { IsTrue result → AllByRecursion (λ x. IsUtf8 x.description × HasAValue x) (map attribute_view attributes.now) }
+    ensures in_range { IsTrue result → AllByRecursion (λ x. IsUtf8 x.description × HasAValue x) (map attribute_view attributes.now) }
+    ensures lacks { IsFalse result → AllByRecursion (λ x. IsUtf8 x.description × HasAValue x) (map attribute_view attributes.now) → ⊥ }
 {
     for attribute in attributes {
         let _ = attribute.description.as_str();
@@ -36,7 +37,8 @@ fn have_values(attributes: &[PartialAttribute]) -> bool
 
 /// Whether an add has octets that are read as it.
 fn is_add_in_range(add: &AddRequest) -> bool
-    ensures { IsTrue result → IsAddInRange (add_view add.now) }
+    ensures in_range { IsTrue result → IsAddInRange (add_view add.now) }
+    ensures lacks { IsFalse result → IsAddInRange (add_view add.now) → ⊥ }
 {
     let _ = add.entry.as_str();
     have_values(&add.attributes)
@@ -72,7 +74,8 @@ fn see_modify_dn(modify_dn: &ModifyDnRequest)
 
 /// Whether an update has octets that are read as it, if they aren't too many.
 fn is_in_range(update: &Update) -> bool
-    ensures { IsTrue result → IsOpInRange (update_view update.now) }
+    ensures in_range { IsTrue result → IsOpInRange (update_view update.now) }
+    ensures lacks { IsFalse result → IsOpInRange (update_view update.now) → ⊥ }
 {
     match update {
         Update::Add(add) => is_add_in_range(add),
@@ -94,7 +97,8 @@ fn is_in_range(update: &Update) -> bool
 
 /// The octets of an update, in a buffer of their length; none, where no octets are read as it. The only error is want of memory.
 pub fn spell(alloc: Global, update: &Update) -> Result<Option<Vec<u8>>, AllocError>
-    ensures { IfOk result (λ spelled. IfSome spelled (λ octets. IsSpelled (update_view update.now) octets.items)) }
+    ensures spelled { IfOk result (λ spelled. IfSome spelled (λ octets. IsSpelled (update_view update.now) octets.items)) }
+    ensures none { IfOk result (λ spelled. IsNone spelled → HasNoSpelling (update_view update.now)) }
 {
     is_op();
     if !is_in_range(update) {
