@@ -1,3 +1,4 @@
+pub mod Crossing
 pub mod Keyed
 pub mod Shown
 pub mod Twice

@@ -16,17 +16,18 @@ use crate::repeats::has_twice;
 use ldap_match::{
     Form, Key, Rule, Schema, TypeId, ValueError, equality_rule, is_of_syntax, key, tests_are_items,
 };
+use smallvec::SmallVec;
 use std::alloc::{AllocError, Global};
 use std::marker::Model;
 
-/// An attribute of an entry: a type and its values (RFC 4512 2.2).
+/// An attribute of an entry: a type and its values (RFC 4512 2.2). Most have one value, which stands in place.
 pub struct Attribute {
     type_id: TypeId,
-    values: Vec<Vec<u8>>,
+    values: SmallVec<Vec<u8>, 1>,
     /// Of each value its key under the type's EQUALITY rule; none, where the type lacks the rule.
-    keys: Vec<Key>,
+    keys: SmallVec<Key, 1>,
     /// Of each value its texts.
-    forms: Vec<Form>,
+    forms: SmallVec<Form, 1>,
 }
 
 // Not derived: see "What the gate takes" in docs/ARCHITECTURE.md.
@@ -79,9 +80,9 @@ impl Attribute {
         let forms = forms_of(alloc, values.as_slice())?;
         Ok(Attribute {
             type_id,
-            values,
-            keys,
-            forms,
+            values: SmallVec::from_vec(values),
+            keys: SmallVec::from_vec(keys),
+            forms: SmallVec::from_vec(forms),
         })
     }
 
@@ -105,9 +106,11 @@ impl Attribute {
             mut keys,
             mut forms,
         } = self;
-        let mut more_keys = keys_of(alloc, schema, type_id, more.as_slice())?;
-        let mut more_forms = forms_of(alloc, more.as_slice())?;
-        let mut more = more;
+        let more_keys = keys_of(alloc, schema, type_id, more.as_slice())?;
+        let more_forms = forms_of(alloc, more.as_slice())?;
+        let mut more: SmallVec<Vec<u8>, 1> = SmallVec::from_vec(more);
+        let mut more_keys: SmallVec<Key, 1> = SmallVec::from_vec(more_keys);
+        let mut more_forms: SmallVec<Form, 1> = SmallVec::from_vec(more_forms);
         values.append(&mut more)?;
         keys.append(&mut more_keys)?;
         forms.append(&mut more_forms)?;
@@ -160,14 +163,14 @@ impl Attribute {
             keys,
             forms,
         } = self;
-        let values = pick(alloc, marks, values)?;
-        let keys = pick(alloc, marks, keys)?;
-        let forms = pick(alloc, marks, forms)?;
+        let values = pick(alloc, marks, values.into_vec()?)?;
+        let keys = pick(alloc, marks, keys.into_vec()?)?;
+        let forms = pick(alloc, marks, forms.into_vec()?)?;
         Ok(Attribute {
             type_id,
-            values,
-            keys,
-            forms,
+            values: SmallVec::from_vec(values),
+            keys: SmallVec::from_vec(keys),
+            forms: SmallVec::from_vec(forms),
         })
     }
 
@@ -175,11 +178,14 @@ impl Attribute {
     pub fn copy(&self, alloc: Global) -> Result<Attribute, AllocError>
         ensures { IfOk result (λ a. a ≡ self.now) }
     {
+        let values = copy_values(alloc, self.values.as_slice())?;
+        let keys = copy_keys(alloc, self.keys.as_slice())?;
+        let forms = copy_forms(alloc, self.forms.as_slice())?;
         Ok(Attribute {
             type_id: self.type_id,
-            values: copy_values(alloc, self.values.as_slice())?,
-            keys: copy_keys(alloc, self.keys.as_slice())?,
-            forms: copy_forms(alloc, self.forms.as_slice())?,
+            values: SmallVec::from_vec(values),
+            keys: SmallVec::from_vec(keys),
+            forms: SmallVec::from_vec(forms),
         })
     }
 

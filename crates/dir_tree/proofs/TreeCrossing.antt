@@ -2,6 +2,7 @@
 use denote.Param.Send.{IsSend, IsSync, sendable}
 use Rattle.std.proofs.Crossing.{crosses}
 use Rattle.shared_map.proofs.Crossing.{map_crosses}
+use Rattle.dir_entry.proofs.Crossing.{entry_crosses}
 use Rattle.dir_tree.specs.contracts.shared_names.SharedRdn as SharedRdn
 use Rattle.dir_tree.specs.contracts.shared_names.SharedName as SharedName
 use Rattle.dir_tree.specs.contracts.shared.SharedEntry as SharedEntry
@@ -12,22 +13,22 @@ use Rattle.dir_tree.specs.contracts.roots.Roots as Roots
 use Rattle.dir_tree.specs.contracts.tree.Tree as Tree
 
 rdn_send : IsSend SharedRdn.the_field.row
-rdn_send = search (map_crosses, crosses, sendable) depth 60 fits 20000
+rdn_send = search (entry_crosses, map_crosses, crosses, sendable) depth 60 fits 20000
 
 rdn_sync : IsSync SharedRdn.the_field.row
-rdn_sync = search (map_crosses, crosses, sendable) depth 60 fits 20000
+rdn_sync = search (entry_crosses, map_crosses, crosses, sendable) depth 60 fits 20000
 
 name_send : IsSend SharedName.the_field.row
-name_send = search (map_crosses, crosses, sendable) depth 60 fits 20000
+name_send = search (entry_crosses, map_crosses, crosses, sendable) depth 60 fits 20000
 
 name_sync : IsSync SharedName.the_field.row
-name_sync = search (map_crosses, crosses, sendable) depth 60 fits 20000
+name_sync = search (entry_crosses, map_crosses, crosses, sendable) depth 60 fits 20000
 
 entry_send : IsSend SharedEntry.the_field.row
-entry_send = search (map_crosses, crosses, sendable) depth 60 fits 20000
+entry_send = search (entry_crosses, map_crosses, crosses, sendable) depth 60 fits 20000
 
 entry_sync : IsSync SharedEntry.the_field.row
-entry_sync = search (map_crosses, crosses, sendable) depth 60 fits 20000
+entry_sync = search (entry_crosses, map_crosses, crosses, sendable) depth 60 fits 20000
 
 standing_send : IsSend Standing.the_field.row
 standing_send = search (rdn_send, rdn_sync, name_send, name_sync, entry_send, entry_sync, map_crosses, crosses, sendable) depth 60 fits 20000

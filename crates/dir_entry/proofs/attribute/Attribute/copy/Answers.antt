@@ -5,8 +5,9 @@ use Rattle.dir_entry.proofs.attribute.Attribute.copy.Goals as goal
 
 pub invariant_of-result : goal.invariant_of-result
 invariant_of-result c =
-    c.in_ok-copy_forms.ensures ∙ c.as_slice-3.ensures.value
+    c.from_vec-3.ensures.items ∙ c.in_ok-forms.ensures ∙ c.as_slice-3.ensures
     ∙ c.self.invariant
     ∙ sym (map-map form_of (λ (v : Vec ℕ Global). v.items) c.self.inside.values.items)
-    ∙ sym (ap (map form_of) (c.in_ok-copy_values.ensures ∙ ap (map (λ (v : Vec ℕ Global). v.items)) c.as_slice.ensures.value))
-    ∙ map-map form_of (λ (v : Vec ℕ Global). v.items) c.in_ok-copy_values.field-0.items
+    ∙ sym (ap (map form_of) (c.in_ok-values.ensures ∙ ap (map (λ (v : Vec ℕ Global). v.items)) c.as_slice.ensures))
+    ∙ map-map form_of (λ (v : Vec ℕ Global). v.items) c.in_ok-values.values.items
+    ∙ ap (map (λ (v : Vec ℕ Global). form_of v.items)) (sym c.from_vec.ensures.items)

@@ -6,7 +6,7 @@ use Rattle.dir_entry.proofs.attribute.Attribute.forms.Goals as goal
 
 pub returns : goal.returns
 returns c =
-    c.as_slice.ensures.value
+    c.as_slice.ensures
     ∙ c.self.invariant
     ∙ sym (map-map form_of (λ (v : Vec ℕ Global). v.items) c.self.inside.values.items)
     ∙ ap (λ (a : KeyedAttribute). map form_of a.values) c.self.view_is
