@@ -18,7 +18,7 @@ const WRITE: u64 = 20;
 pub struct Limits {
     /// For a client's message, from its first octet on; for the next octet inside of another replica's.
     pub message: Duration,
-    /// For the next whole message, where another client waits for the place.
+    /// For the next whole message of another replica, where another connection waits for its place.
     pub idle: Duration,
     /// For the client to take an answer: in all, and as long again for each MiB that it has taken of it.
     pub write: Duration,

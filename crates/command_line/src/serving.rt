@@ -54,7 +54,7 @@ pub struct Serving<'a> {
     pub suspect: u64,
     /// Within how long a client has to send a message that it has begun.
     pub stall: u64,
-    /// How long a client may ask nothing while others wait for a seat.
+    /// How long another replica's connection may be silent while others wait for its place.
     pub idle: u64,
     /// How long a client may take nothing of what it is sent.
     pub take: u64,
@@ -204,7 +204,7 @@ const WORDS: &[Word] = &[
             last: LONGEST,
             default: "60000",
         },
-        help: "How long a client may ask nothing while others wait for a seat",
+        help: "How long another replica's connection may be silent while others wait for its place",
     },
     Word {
         name: "take",
