@@ -1,3 +1,5 @@
 pub mod Sampled
 pub mod Beginning
 pub mod Reading
+pub mod Replying
+pub mod Playing

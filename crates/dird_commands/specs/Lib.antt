@@ -5,4 +5,5 @@ pub mod Opened
 pub mod Texts
 pub mod Checked
 pub mod Undone
+pub mod Replies
 pub mod Played

@@ -1,14 +1,19 @@
--- Why a script isn't played: an input comes in, and the fault that a run of it ends with.
-use Rattle.std.specs.Prelude.{◌≡◌, ◌⊎◌, ℕ, List, [], ◌∷◌, false, Option, None, IfSome, codes}
+-- What playing a script writes, and why a script isn't played: an input comes in, and the text that is written or the fault that a run of it
+-- ends with.
+use Rattle.std.specs.Prelude.{◌≡◌, ◌⊎◌, ℕ, List, [], ◌∷◌, false, Option, None, IfSome, codes, flat_map}
+use Rattle.dir_lab.specs.Shown.{Shown}
 use Rattle.hex_session.specs.Lines.{is_empty, first_line, after_line}
 use Rattle.lab_script.specs.Script.{IsBadLine}
+use Rattle.lab_script.specs.Played.{IsPlayed}
 use Rattle.lab_script.specs.declared.fault.ScriptError.{ScriptError}
 use Rattle.lab_script.specs.declared.fault.ScriptError.TheVariants as script_error
 use Rattle.local_directory.specs.ldap_schema.Schema.{SchemaModel}
 use Rattle.local_directory.specs.ldap_dn.Texts.{name_of_text}
 use Rattle.dird_commands.specs.declared.fault.Fault.{Fault}
 use Rattle.dird_commands.specs.declared.fault.Fault.TheVariants.{BadName, BadLine, CannotWrite, NoMemory}
+use Rattle.dird_commands.specs.Begun.{name_of}
 use Rattle.dird_commands.specs.Undone.{IsUnread}
+use Rattle.dird_commands.specs.Replies.{text_of}
 
 -- a fault of a script
 abbrev pub script_fault : ScriptError → Fault
@@ -38,3 +43,15 @@ IsScriptCause s fault input =
 -- Nothing is written where no replies are made; or the output can't be written.
 abbrev pub IsUnplayed : SchemaModel → Fault → Option (List ℕ) → Option (List ℕ) → Option (List ℕ) → Type 0
 IsUnplayed s fault input output grown = ((grown ≡ output) × IsScriptCause s fault input) ⊎ (fault ≡ CannotWrite)
+
+-- what a lab shows of a script's text: its lines are played over a directory whose root is dc=example,dc=com
+pub record IsShownOf (s : SchemaModel) (text : List ℕ) (shown : List Shown) : Type 0 where
+  pub lines : List (List ℕ)
+  pub are_lines : AreLines text lines
+  pub played : IsPlayed s (name_of s (codes "dc=example,dc=com")) lines shown
+
+-- What is written of a script's text: all that a lab shows of it, in order.
+pub record IsPlayedText (s : SchemaModel) (text made : List ℕ) : Type 0 where
+  pub shown : List Shown
+  pub played : IsShownOf s text shown
+  pub whole : made ≡ flat_map text_of shown

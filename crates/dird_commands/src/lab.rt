@@ -1,22 +1,26 @@
 //! The lab: the lines of a script flow in, what real replicas answer flows out. No rule of replication or of the directory is here, and no line's
 //! meaning: those stand in the crates below.
-ghost use Rattle.std.specs.Prelude.{◌≡◌, map, codes, IfOk, IfErr, IfSome};
+ghost use Rattle.std.specs.Prelude.{map, IfOk, IfErr, IfSome, OnOk};
 ghost use Rattle.std.specs.Arc.{arc_value};
+ghost use Rattle.dir_lab.specs.Shown.{shown_view};
+ghost use Rattle.dird_commands.specs.Texts.{Turns};
 ghost use Rattle.dird_commands.specs.Undone.{IsUnread};
-ghost use Rattle.dird_commands.specs.Played.{AreLines, IsScriptCause, IsUnplayed};
+ghost use Rattle.dird_commands.specs.Played.{AreLines, IsScriptCause, IsUnplayed, IsShownOf, IsPlayedText};
 
 use crate::explaining::{script_refusal, session_refusal};
 use crate::fault::Fault;
 use crate::local::root_name;
 use crate::reasons::write_refusal;
 use crate::refusal::Refusal;
+use crate::replies::write_replies;
 use hex_session::next_line;
-use lab_script::{LabReply, ReplyBy, SearchAnswer, Status, play};
+use lab_script::{LabReply, play};
 use local_directory::{Indexes, Schema};
 use std::alloc::Global;
 use std::io::{BufRead, Write};
 use std::sync::Arc;
 
+#[tactic(auto, using(crate::proofs::Playing::turned))]
 /// Plays a script over replicas with this schema and these indexes, once it is read whole: a line that isn't in the language refuses all of it.
 pub fn play_script<R: BufRead, W: Write>(
     alloc: Global,
@@ -25,6 +29,9 @@ pub fn play_script<R: BufRead, W: Write>(
     input: &mut R,
     output: &mut W,
 ) -> Result<(), Refusal>
+    // The output grows by all that a lab shows of the script, in order.
+    ensures ok { OnOk result (Turns (IsPlayedText (arc_value schema)) (R.remaining input.old)
+        (W.contents output.old) (W.contents output.new)) }
     // Nothing is written but where the output can't be written; which refusal it is.
     ensures err { IfErr result (λ refusal. IsUnplayed (arc_value schema) refusal.fault (R.remaining input.old)
         (W.contents output.old) (W.contents output.new)) }
@@ -33,12 +40,13 @@ pub fn play_script<R: BufRead, W: Write>(
         Ok(replies) => replies,
         Err(refusal) => return Err(refusal),
     };
-    match write_replies(&replies, output) {
+    match write_replies(replies.as_slice(), output) {
         Ok(()) => Ok(()),
         Err(error) => Err(write_refusal(alloc, error.kind())),
     }
 }
 
+#[tactic(auto, using(crate::proofs::Playing::shown_of))]
 /// What a script shows.
 fn replies_of<R: BufRead>(
     alloc: Global,
@@ -46,6 +54,8 @@ fn replies_of<R: BufRead>(
     indexes: Indexes,
     input: &mut R,
 ) -> Result<Vec<LabReply>, Refusal>
+    ensures ok { IfOk result (λ v. IfSome (R.remaining input.old) (λ text. IsShownOf (arc_value schema) text
+        (map shown_view v.items))) }
     ensures err { IfErr result (λ refusal. IsScriptCause (arc_value schema) refusal.fault (R.remaining input.old)) }
 {
     let suffix = match root_name(alloc, &schema) {
@@ -75,63 +85,4 @@ fn read_lines<R: BufRead>(alloc: Global, input: &mut R) -> Result<Vec<Vec<u8>>, 
         }
     }
     Err(Fault::CannotRead)
-}
-
-/// Writes what a lab shows, in order.
-fn write_replies<W: Write>(replies: &[LabReply], output: &mut W) -> std::io::Result<()> {
-    for reply in replies {
-        write_reply(reply, output)?;
-    }
-    Ok(())
-}
-
-/// Writes what a lab shows at once: a line, and one more for each entry of an answer.
-fn write_reply<W: Write>(reply: &LabReply, output: &mut W) -> std::io::Result<()> {
-    match reply {
-        LabReply::Replied { by, code } => write_replied(by, code.number(), output),
-        LabReply::Unavailable => writeln!(output, "unavailable"),
-        LabReply::NotYet { at } => writeln!(output, "notyet at={at}"),
-        LabReply::Answered { at, answer } => write_answer(*at, answer, output),
-        LabReply::Standing {
-            replica,
-            view_number,
-            status,
-            op_number,
-            commit_number,
-        } => writeln!(
-            output,
-            "state replica={replica} view={view_number} status={} log={op_number} commit={commit_number}",
-            status_word(*status)
-        ),
-        LabReply::Down { replica } => writeln!(output, "state replica={replica} down"),
-    }
-}
-
-/// Writes a reply to an update.
-fn write_replied<W: Write>(by: &ReplyBy, code: u32, output: &mut W) -> std::io::Result<()> {
-    writeln!(
-        output,
-        "reply replica={} client={} number={} op={} code={code}",
-        by.replica, by.reply.client.number, by.reply.request_number, by.reply.op_number
-    )
-}
-
-/// Writes the answer of a search: its code and how many entries it has, and then the name of each.
-fn write_answer<W: Write>(at: u64, answer: &SearchAnswer, output: &mut W) -> std::io::Result<()> {
-    let code = answer.code.number();
-    let count = answer.entries.len();
-    writeln!(output, "answer at={at} code={code} entries={count}")?;
-    for entry in &answer.entries {
-        writeln!(output, "entry {}", entry.object_name)?;
-    }
-    Ok(())
-}
-
-/// The word for a status.
-fn status_word(status: Status) -> &'static str {
-    match status {
-        Status::Normal => "normal",
-        Status::ViewChange => "changing",
-        Status::Recovering => "recovering",
-    }
 }
