@@ -10,6 +10,7 @@ use Rattle.std.proofs.string.String.TheSendSync as string
 use Rattle.std.proofs.sync.Condvar.TheSendSync as condvar
 use Rattle.std.proofs.sync.Mutex.TheSendSync as mutex
 use Rattle.node_gate.proofs.inbox.Inbox.TheSendSync as inbox
+use Rattle.node_gate.proofs.incarnation.Incarnation.TheSendSync as incarnation
 use Rattle.node_gate.proofs.running.Call.TheSendSync as call
 use Rattle.node_gate.proofs.standing.LastStanding.TheSendSync as standing
 use Rattle.dir_node.proofs.Crossing.{node_send}
@@ -29,23 +30,26 @@ module _ (D J : RattleType) (g : Device.Ghosts D.Denot) (h : JournalDevice.Ghost
   held_send a R y s t =
       recorded_send (Held.the_field a R D J g h).row _ _ (Held.the_type a R D J g h).to_one
       (struct_send (Declared.shape (Held.the_type a R D J g h))
-      (node_send D J g h s t, (publisher_send Here.the_row _ (shr_send _ _ R y), (search (crosses, sendable) depth 40, (plain_send _ _ _ _ _, (plain_send _ _ _ _ _, tt))))))
+      (node_send D J g h s t, (publisher_send Here.the_row _ (shr_send _ _ R y), (search (crosses, sendable) depth 40, (plain_send _ _ _ _ _, (plain_send _ _ _ _ _, (incarnation.the_field_send, tt)))))))
 
   pub running_sync : (a : NamedLft) (R : RattleType) → IsSync R → IsSend D → IsSend J → IsSync (Running.the_row a R D J g h)
   running_sync a R y s t =
       let held : IsSend (Held.the_row a R D J g h) = held_send a R y s t in
       recorded_sync (Running.the_field a R D J g h).row _ _ (Running.the_type a R D J g h).to_one
       (struct_sync (Declared.shape (Running.the_type a R D J g h)) (
-        search (held, mutex.the_sync) depth 20,
+        incarnation.the_field_sync,
         (
-          standing.the_field_sync,
+          search (held, mutex.the_sync) depth 20,
           (
-            teller_field_sync Here.the_row,
+            standing.the_field_sync,
             (
-              condvar.the_field_sync,
+              teller_field_sync Here.the_row,
               (
-                search (inbox.the_sync, inbox.the_field_sync, sendable) depth 20,
-                (search (send.the_send, op.the_send, mutex.the_sync, maps_cross, crosses, sendable) depth 60 fits 20000, (search (call.the_send, mutex.the_sync) depth 20, (condvar.the_field_sync, tt))),
+                condvar.the_field_sync,
+                (
+                  search (inbox.the_sync, inbox.the_field_sync, sendable) depth 20,
+                  (search (send.the_send, op.the_send, mutex.the_sync, maps_cross, crosses, sendable) depth 60 fits 20000, (search (call.the_send, mutex.the_sync) depth 20, (condvar.the_field_sync, tt))),
+                ),
               ),
             ),
           ),
@@ -61,12 +65,15 @@ module _ (D J : RattleType) (g : Device.Ghosts D.Denot) (h : JournalDevice.Ghost
         (
           search (running, sendable) depth 20,
           (
-            p,
+            incarnation.the_field_send,
             (
-              search (crosses, sendable, string.the_sync) depth 20,
+              p,
               (
-                search (crosses, sendable) depth 20,
-                (plain_send _ _ _ _ _, (search (crosses, sendable) depth 20, (search (phantom.the_field_send) depth 5, tt))),
+                search (crosses, sendable, string.the_sync) depth 20,
+                (
+                  search (crosses, sendable) depth 20,
+                  (plain_send _ _ _ _ _, (search (crosses, sendable) depth 20, (search (phantom.the_field_send) depth 5, tt))),
+                ),
               ),
             ),
           ),

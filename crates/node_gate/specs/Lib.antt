@@ -1,3 +1,4 @@
+pub mod Incarnations
 pub mod Shared
 pub mod Given
 pub mod Handled

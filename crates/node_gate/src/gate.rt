@@ -1,10 +1,12 @@
 // A session's gate to a running node. Updates flow in; how they ended flows out. What must not be here: reads, how replicas agree.
-ghost use Rattle.std.specs.Prelude.{◌≡◌};
+ghost use Rattle.std.specs.Prelude.{◌≡◌, None};
 ghost use Rattle.std.specs.Option.{option_map};
 ghost use Rattle.dir_seats.specs.directory_api.View.{ended_view};
 ghost use Rattle.node_gate.specs.Shared.{IsRefused, IsUpdated};
 
+use crate::ending::Request;
 use crate::held::Here;
+use crate::incarnation::Incarnation;
 use crate::peers::Peers;
 use crate::running::Running;
 use dir_node::{Client, Device, Event, JournalDevice, LogEntry, Node, NodeError, Op, Standing};
@@ -19,6 +21,8 @@ use std::sync::atomic::AtomicBool;
 pub struct NodeGate<'a, 'r, R: Wait, D: Device, J: JournalDevice, P> {
     rt: &'a R,
     running: &'a Running<'r, R, D, J>,
+    /// Which start of which replica the node was opened as.
+    incarnation: Incarnation,
     peers: P,
     /// The URI of each replica, by index (RFC 4516).
     uris: &'a [String],
@@ -37,6 +41,7 @@ impl<'a, 'r, R: Wait, D: Device, J: JournalDevice, P: Drop> Drop for NodeGate<'a
         let NodeGate {
             rt: _,
             running: _,
+            incarnation: _,
             peers: _,
             uris: _,
             has_left: _,
@@ -54,10 +59,14 @@ impl<'a, 'r, R: Wait, D: Device, J: JournalDevice, P> NodeGate<'a, 'r, R, D, J, 
         peers: P,
         uris: &'a [String],
         has_left: &'a AtomicBool,
-    ) -> NodeGate<'a, 'r, R, D, J, P> {
+    ) -> NodeGate<'a, 'r, R, D, J, P>
+        ensures own { result.incarnation ≡ running.now.incarnation }
+        ensures nothing { (result.asked ≡ 0) × (result.held ≡ None) }
+    {
         NodeGate {
             rt,
             running,
+            incarnation: running.incarnation,
             peers,
             uris,
             has_left,
@@ -92,7 +101,8 @@ fn ended_by(error: NodeError) -> Ended
 impl<'a, 'r, R: Wait, D: Device, J: JournalDevice, P: Peers> NodeGate<'a, 'r, R, D, J, P> {
     /// Hands a request to the node, and waits for its outcome, or until its client has left: then it counts as lost, and goes on.
     fn ask(&mut self, alloc: Global, client: Client, number: u64, payload: Op) -> Ended
-        ensures ended { IsUpdated (option_map (λ s. s.value) self.new.held) client number (ended_view result) }
+        ensures ended { IsUpdated self.old.incarnation (option_map (λ s. s.value) self.new.held) client number (ended_view result) }
+        ensures own { self.new.incarnation ≡ self.old.incarnation }
         ensures asked { self.new.asked ≡ self.old.asked }
     {
         let event = Event::Request {
@@ -103,10 +113,14 @@ impl<'a, 'r, R: Wait, D: Device, J: JournalDevice, P: Peers> NodeGate<'a, 'r, R,
             },
         };
         match self.running.give(self.rt, alloc, &mut self.peers, event) {
-            Ok(after) => {
-                let (ended, held) = self
-                    .running
-                    .settled(self.rt, alloc, client, number, after, self.has_left);
+            Ok(event) => {
+                let request = Request {
+                    client,
+                    number,
+                    event,
+                    incarnation: self.incarnation,
+                };
+                let (ended, held) = self.running.settled(self.rt, alloc, request, self.has_left);
                 self.held = Some(held);
                 ended
             }
@@ -122,8 +136,10 @@ impl<'a, 'r, R: Wait, D: Device, J: JournalDevice, P: Peers> Gate<Option<Told<He
     ghost use Rattle.dir_seats.specs.directory_api.Counting.{updates_of, greatest_count};
     ghost use Rattle.node_gate.specs.Shared.{gates};
 
-    // An update ends as its outcome at a state of the node that the lock held; the count rises by one with each.
-    ghost allows = { λ d x e. (e.asked ≡ min (d.asked + updates_of x) greatest_count) × gates (option_map (λ s. s.value) e.held) x };
+    // An update ends as its outcome at a state of this replica's node, of this start, that the lock held; the count rises by one with each.
+    ghost allows = { λ d x e. (e.asked ≡ min (d.asked + updates_of x) greatest_count)
+        × (e.incarnation ≡ d.incarnation)
+        × gates d.incarnation (option_map (λ s. s.value) e.held) x };
 
     ghost count = { λ d. d.asked };
 

@@ -1,17 +1,20 @@
 // What the lock holds. Events flow in, one at a time; what they give out flows out, and the seats see what was executed. What must not be
 // here: locks, threads.
-ghost use Rattle.std.specs.Prelude.{◌≡◌, IsTrue, IfOk};
+ghost use Rattle.std.specs.Prelude.{◌≡◌, ◌↔◌, IsTrue, IfOk};
 ghost use Rattle.dir_node.specs.vr_state.declared.event.Event.TheVariants as event;
 ghost use Rattle.node_gate.specs.Given.{IsGiven, HasAll};
 ghost use Rattle.node_gate.specs.Batches.{HasHandledAll};
 ghost use Rattle.node_gate.specs.Handled.{HasExecuted, HasHandled};
+ghost use Rattle.node_gate.specs.Incarnations.{incarnation_of};
 ghost use Rattle.node_gate.specs.Shared.{standing_to_sessions};
 
+use crate::ending::Request;
 use crate::events::{execute_node, handle_node, handle_node_all};
 use crate::inbox::Heard;
+use crate::incarnation::Incarnation;
 pub use dir_node::Standing;
 use dir_node::{
-    AllHandled, Client, Device, Event, Handled, JournalDevice, Node, NodeError, Op, Outcome,
+    AllHandled, Cluster, Device, Event, Handled, JournalDevice, Node, NodeError, Op, Outcome,
     PeerMessage, Status,
 };
 use dir_seats::Publisher;
@@ -41,7 +44,7 @@ impl Pulse {
 }
 
 /// The node, what its seats see of it, its clock, and whether those who wait are to go on. What its seats see, and what they are to see next, is a
-/// beginning of what it has executed.
+/// beginning of what it has executed. It stays one start of one replica.
 pub struct Held<'a, R: Wait, D: Device, J: JournalDevice> {
     node: Node<D, J>,
     publisher: Publisher<Here, &'a R>,
@@ -49,7 +52,9 @@ pub struct Held<'a, R: Wait, D: Device, J: JournalDevice> {
     pub is_stopping: bool,
     /// How many of the events that were posted the node has had.
     pub had: u64,
+    incarnation: Incarnation,
     ghost shows: { IsGiven node.executed publisher },
+    ghost stays: { incarnation_of node ≡ incarnation },
 }
 
 // Not derived: see "What the gate takes" in docs/ARCHITECTURE.md.
@@ -61,6 +66,7 @@ impl<'a, R: Wait, D: Device + Drop, J: JournalDevice + Drop> Drop for Held<'a, R
             clock: _,
             is_stopping: _,
             had: _,
+            incarnation: _,
         } = self;
     }
 }
@@ -75,20 +81,30 @@ pub fn status_of(standing: Standing) -> Status {
 }
 
 impl<'a, R: Wait, D: Device, J: JournalDevice> Held<'a, R, D, J> {
-    /// A node, and the publisher to its seats.
+    /// A node of this cluster, and the publisher to its seats.
     pub fn new(
         node: Node<D, J>,
         publisher: Publisher<Here, &'a R>,
         clock: ReplicaClock,
+        cluster: Cluster,
     ) -> Held<'a, R, D, J>
         requires shows { IsGiven node.executed publisher }
+        requires cluster { node.cluster ≡ cluster }
+        ensures own { result.incarnation ≡ incarnation_of node }
     {
+        let incarnation = Incarnation {
+            index: node.index(),
+            count: node.count(),
+            cluster,
+            restarts: node.restarts(),
+        };
         Held {
             node,
             publisher,
             clock,
             is_stopping: false,
             had: 0,
+            incarnation,
         }
     }
 
@@ -96,6 +112,20 @@ impl<'a, R: Wait, D: Device, J: JournalDevice> Held<'a, R, D, J> {
         ensures { result.now ≡ self.now.node }
     {
         &self.node
+    }
+
+    /// Which start of which replica the node is.
+    pub fn incarnation(&self) -> Incarnation
+        ensures { result ≡ self.now.incarnation }
+    {
+        self.incarnation
+    }
+
+    /// Whether the node is this start of this replica.
+    pub fn is_of(&self, incarnation: &Incarnation) -> bool
+        ensures { IsTrue result ↔ (incarnation_of self.now.node ≡ incarnation.now) }
+    {
+        self.incarnation == *incarnation
     }
 
     /// What the node does now.
@@ -230,15 +260,15 @@ impl<'a, R: Wait, D: Device, J: JournalDevice> Held<'a, R, D, J> {
         true
     }
 
-    /// Whether somebody waits for what becomes of a request, that is this one of the events that were posted.
-    pub fn is_awaited(&self, client: Client, number: u64, after: u64) -> bool {
+    /// Whether somebody waits for what becomes of a request.
+    pub fn is_awaited(&self, request: &Request) -> bool {
         if self.is_stopping {
             return false;
         }
-        if self.had < after {
+        if self.had < request.event {
             return true;
         }
-        match self.node.outcome(client, number) {
+        match self.node.outcome(request.client, request.number) {
             Outcome::Pending => true,
             Outcome::Done {
                 number: _,

@@ -7,8 +7,8 @@
 //! those who wait are woken. The role is one atomic word (`standing`), read without the lock. The thread of the clock rests on a lock of
 //! its own (`rest`). With a journal, events wait in an `inbox`, and one thread takes all of them as one batch (`driving`).
 //!
-//! Proved: when the lock is free, what seats see begins what the node has executed; an update ends as its outcome at a state of the node
-//! that the lock held (`NodeGate`, `Running`). A step's messages are handed over, all, in order, and no others (`Running::handle`, `hear`,
+//! Proved: when the lock is free, what seats see begins what the node has executed; an update ends as its outcome at a state of this
+//! replica's node, of this start, that the lock held (`NodeGate`, `Running`). A step's messages are handed over, all, in order, and no others (`Running::handle`, `hear`,
 //! `handle_batch`). A start is a first one, or one that found a pair (`open`).
 #![tactic(auto)]
 
@@ -18,6 +18,7 @@ mod events;
 mod gate;
 mod held;
 mod inbox;
+mod incarnation;
 mod opening;
 mod peers;
 mod running;
@@ -28,9 +29,11 @@ pub use dir_node::{
     PeerMessage, Send, ViewStoreError,
 };
 pub use dir_seats::{Seat, Told};
+pub use ending::Request;
 pub use gate::NodeGate;
 pub use held::{Here, Pulse, Standing};
 pub use inbox::Batch;
+pub use incarnation::Incarnation;
 pub use opening::{Opened, open};
 pub use peers::{Peers, send_all};
 pub use replica_clock::{Pace, Sign, Times};

@@ -5,6 +5,7 @@ ghost use Rattle.dir_node.specs.NodeState.{IsMade, given, nothing_executed};
 ghost use Rattle.dir_node.specs.Restarting.{IsRestarted};
 ghost use Rattle.dir_node.specs.log_journal.journal.Frames.{recorded};
 ghost use Rattle.dir_node.specs.view_store.Slots.{found};
+ghost use Rattle.node_gate.specs.Incarnations.{IsReplicaOf, incarnation_by};
 ghost use Rattle.node_gate.specs.Starting.{IsOpenedOver, IsPlain, MayStart, outcome_of_start, pair_of_start, state_of_start};
 
 use crate::held::Here;
@@ -39,6 +40,7 @@ fn start_first<D: Device + Drop, J: JournalDevice + Drop>(
         IfOk result (λ made. IsMade config (state_of_start true config.count finding) (pair_of_start true finding).restarts made.0) }
     ensures outputs { let finding = found config.cluster (D.seen device) in
         IfOk result (λ made. given made.0.replica made.1 ≡ outcome_of_start true config.count config.index finding) }
+    ensures replica { IfOk result (λ made. IsReplicaOf config made.0) }
 {
     match Node::fresh(alloc, device, journal, config) {
         Ok(made) => Ok(made),
@@ -61,6 +63,7 @@ fn start_again<D: Device + Drop, J: JournalDevice + Drop>(
         IfOk result (λ made. given made.0.replica made.1 ≡ outcome_of_start false config.count config.index finding) }
     ensures restarted { (j : J) → journal ≡ Some j → IfOk result (λ made. IsRestarted config (found config.cluster (D.seen device))
         (recorded (J.seen j)) made.0 made.1) }
+    ensures replica { IfOk result (λ made. IsReplicaOf config made.0) }
     ensures nothing { IfOk result (λ made. made.0.executed ≡ nothing_executed config) }
 {
     match Node::reopen(alloc, device, journal, config) {
@@ -85,6 +88,7 @@ fn start<D: Device + Drop, J: JournalDevice + Drop>(
         IfOk result (λ made. given made.0.replica made.1 ≡ outcome_of_start is_fresh config.count config.index finding) }
     ensures restarted { (j : J) → is_fresh ≡ false → journal ≡ Some j
         → IfOk result (λ made. IsRestarted config (found config.cluster (D.seen device)) (recorded (J.seen j)) made.0 made.1) }
+    ensures replica { IfOk result (λ made. IsReplicaOf config made.0) }
     ensures nothing { IfOk result (λ made. made.0.executed ≡ nothing_executed config) }
 {
     if is_fresh {
@@ -116,6 +120,9 @@ pub fn open<'a, R: Wait, D: Device + Drop, J: JournalDevice + Drop>(
         IfOk result (λ opened. given (state_of_start is_fresh config.count finding) opened.outputs ≡ outcome_of_start is_fresh config.count config.index finding) }
     ensures restarts { IsPlain is_fresh journal → IfOk result (λ opened. opened.restarts ≡ (pair_of_start is_fresh (found config.cluster (D.seen device))).restarts) }
 
+    // It is the configuration's replica, at that start.
+    ensures own_start { IfOk result (λ opened. opened.running.incarnation ≡ incarnation_by config opened.restarts) }
+
     // A later start that keeps a journal goes on from it, or recovers and begins it, as its strings say.
     ensures restarted { (j : J) → is_fresh ≡ false → journal ≡ Some j
         → IfOk result (λ opened. IsOpenedOver D J config (found config.cluster (D.seen device)) (recorded (J.seen j)) opened.outputs opened.restarts) }
@@ -130,6 +137,7 @@ pub fn open<'a, R: Wait, D: Device + Drop, J: JournalDevice + Drop>(
     )?;
     let teller = publisher.teller()?;
     let has_journal = journal.is_some();
+    let cluster = config.cluster;
     let (node, outputs) = start(alloc, device, journal, config, is_fresh)?;
     let restarts = node.restarts();
     let inbox = if has_journal {
@@ -137,7 +145,7 @@ pub fn open<'a, R: Wait, D: Device + Drop, J: JournalDevice + Drop>(
     } else {
         None
     };
-    let running = Running::new(node, publisher, teller, times, inbox);
+    let running = Running::new(node, publisher, teller, times, inbox, cluster);
     if has_journal {
         // What is left for want of memory is executed after the first event.
         let _is_behind = running.execute_due(rt, alloc);

@@ -2,19 +2,20 @@
 // must not be here: sessions, sockets, reads.
 ghost use Rattle.std.specs.Prelude.{◌≡◌, OnOk, OnErr};
 ghost use Rattle.dir_node.specs.vr_state.declared.event.Event.TheVariants as event;
-ghost use Rattle.dir_node.specs.Outcomes.{outcome_of};
 ghost use Rattle.dir_seats.specs.directory_api.View.{ended_view};
 ghost use Rattle.node_gate.specs.Given.{IsGiven};
+ghost use Rattle.node_gate.specs.Incarnations.{incarnation_of};
 ghost use Rattle.node_gate.specs.Sent.{TakesAll, TakesStep};
-ghost use Rattle.node_gate.specs.Shared.{EndsAs};
+ghost use Rattle.node_gate.specs.Shared.{SettlesAs};
 
-use crate::ending::ended_at;
+use crate::ending::{Request, ended_at};
 use crate::held::{Held, Here, Pulse, status_of};
 use crate::inbox::Inbox;
+use crate::incarnation::Incarnation;
 use crate::peers::{Peers, send_all};
 use crate::standing::LastStanding;
 use dir_node::{
-    Client, Device, Event, JournalDevice, Node, NodeError, Op, Outputs, PeerMessage, Send,
+    Cluster, Device, Event, JournalDevice, Node, NodeError, Op, Outputs, PeerMessage, Send,
     Standing, copy_message,
 };
 use dir_seats::{Ended, Publisher, Teller, Told};
@@ -35,6 +36,8 @@ struct Call {
 
 /// A node under its lock, with a condition that is told of each change, and one for the thread that asks its clock.
 pub struct Running<'a, R: Wait, D: Device, J: JournalDevice> {
+    /// Which start of which replica the node was opened as.
+    pub incarnation: Incarnation,
     pub(crate) held: Mutex<Held<'a, R, D, J>>,
     /// The standing to sessions after the last event, for who doesn't wait for the lock.
     pub(crate) standing: LastStanding,
@@ -52,6 +55,7 @@ pub struct Running<'a, R: Wait, D: Device, J: JournalDevice> {
 impl<'a, R: Wait, D: Device + Drop, J: JournalDevice + Drop> Drop for Running<'a, R, D, J> {
     fn drop(self) {
         let Running {
+            incarnation: _,
             held: _,
             standing: _,
             teller: _,
@@ -163,15 +167,18 @@ fn act<R: Wait, D: Device, J: JournalDevice, P: Peers>(
 }
 
 impl<'a, R: Wait, D: Device, J: JournalDevice> Running<'a, R, D, J> {
-    /// A node for threads to share, the publisher to its seats, and what tells what that shows. Its clock begins at the moment 0.
+    /// A node of this cluster for threads to share, the publisher to its seats, and what tells what that shows. Its clock begins at the moment 0.
     pub(crate) fn new(
         node: Node<D, J>,
         publisher: Publisher<Here, &'a R>,
         teller: Teller<Here>,
         times: Times,
         inbox: Option<Inbox>,
+        cluster: Cluster,
     ) -> Running<'a, R, D, J>
         requires shows { IsGiven node.executed publisher }
+        requires cluster { node.cluster ≡ cluster }
+        ensures own { result.incarnation ≡ incarnation_of node }
     {
         let status = status_of(node.standing());
         let clock = ReplicaClock::new(
@@ -182,8 +189,9 @@ impl<'a, R: Wait, D: Device, J: JournalDevice> Running<'a, R, D, J> {
             status,
             0,
         );
-        let held = Held::new(node, publisher, clock);
+        let held = Held::new(node, publisher, clock, cluster);
         Running {
+            incarnation: held.incarnation(),
             standing: LastStanding::new(held.standing()),
             teller,
             held: Mutex::new(held),
@@ -292,27 +300,29 @@ impl<'a, R: Wait, D: Device, J: JournalDevice> Running<'a, R, D, J> {
         Some(Ticked { pulse, wait, beat })
     }
 
-    /// Waits until the node has had so many of the events that were posted, and while what becomes of a client's request is still to
+    /// Waits until the node has had the event of a client's request, where it was posted, and while what becomes of that is still to
     /// come, but only as long as nobody says that the client has left; gives how it ended, and the node as the lock then held it, for
-    /// clauses alone.
+    /// clauses alone. The node is the request's: no clause of a lock says so, so it is compared.
     pub fn settled(
         &self,
         rt: &R,
         alloc: Global,
-        client: Client,
-        number: u64,
-        after: u64,
+        request: Request,
         has_left: &AtomicBool,
     ) -> (Ended, Snapshot<Node<D, J>>)
-        ensures { EndsAs (outcome_of result.1.value client number) (ended_view result.0) }
+        ensures { SettlesAs request.incarnation result.1.value request.client request.number (ended_view result.0) }
     {
         let held = self.changed.wait_while(
             rt,
             self.held.lock(rt),
-            |held| held.is_awaited(client, number, after) && !has_left.load(Ordering::SeqCst),
+            |held| held.is_awaited(&request) && !has_left.load(Ordering::SeqCst),
         );
         let node = held.node();
-        let ended = ended_at(alloc, node, client, number);
+        let ended = if held.is_of(&request.incarnation) {
+            ended_at(alloc, node, request.client, request.number)
+        } else {
+            Ended::Lost
+        };
         (ended, Snapshot::of(node))
     }
 
