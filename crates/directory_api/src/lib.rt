@@ -1,10 +1,9 @@
-//! The questions that a session asks of its directory, one at a time, and the answers: searches,
-//! compares, updates, and the role of the replica. Messages and octets are below; a directory
-//! alone, seats and gates answer, each in a crate of its own.
+//! The questions that a session asks of its directory, and the answers: searches, compares, updates, the replica's role. Messages and octets
+//! are below; a directory alone, seats and gates answer, each in a crate of its own.
 //!
-//! What a session asks, and the answers as values. The trait `Directory` has searches, compares, the role, updates and their count; a
-//! `Look` (reads) and a `Gate` (updates) are one as a pair. It builds on the wire alone: directories answer in its words, and a session
-//! asks whichever it is given.
+//! What a session asks, and the answers as values. The trait `Directory` has searches, compares, the role, updates and their count; a `Look`
+//! (reads) and a `Gate` (updates) are one as a pair. It builds on the wire alone: directories answer in its words, and a session asks whichever
+//! it is given.
 //!
 //! Proved: along a talk with a pair each part goes along its own, and the gate's count rises by the talk's updates (`pair_goes_along`,
 //! `pair_counts`).

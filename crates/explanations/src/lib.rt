@@ -1,13 +1,13 @@
-//! Explanations: a text and its refusal come in, a sentence for whoever wrote the text goes out: what is wrong there, and what was
-//! expected. What is refused is decided by others; here it is only put into words. Where the cause isn't found, the sentence says less.
+//! Explains a refusal to whoever wrote the text: what is wrong there, and what was expected. What is refused is decided by others; here it is
+//! only put into words. Where the cause isn't found, the sentence says less.
 //!
 //! Words for what is wrong with a text that is refused: `schemas` (by `descriptions`, `repeats`, `rules`, `unknown`, `loops`), `indexes`,
 //! `ldif` and `records` (by `ldif_lines`), `classes`, `filters`, `names`, `hex_lines`, `scripts`.
 //!
 //! Proved: the sentence is a definition for a result code (`code_word`), a line of hex (`hex_line_fault`), a filter (`filter_fault`), a name
-//! (`name_fault`), a line of LDIF (`ldif_fault`), a record of LDIF, with its line (`record_fault`), a line of a lab script (`script_fault`)
-//! and of an index choice (`index_fault`), the line of a schema (`schema_fault`), and a word as a sentence shows it (`shown`). For a class
-//! whose SUP leads back to it the sentence is one of a way that leads back, where there is one.
+//! (`name_fault`), a line of LDIF (`ldif_fault`), a record of LDIF, with its line (`record_fault`), a line of a lab script (`script_fault`) and
+//! of an index choice (`index_fault`), the line of a schema (`schema_fault`), and a word as a sentence shows it (`shown`). For a class whose
+//! SUP leads back to it the sentence is one of a way that leads back, where there is one.
 #![tactic(auto)]
 
 mod classes;

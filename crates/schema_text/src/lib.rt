@@ -1,5 +1,4 @@
-//! Texts of schemas: the octets of a text flow in, the descriptions in its lines flow out, with the first line that is none. What
-//! their names stand for, and schemas, are not here.
+//! Reads the descriptions in a schema's text, and finds the first line that is none. What their names stand for, and schemas, are not here.
 //!
 //! `text` cuts a text into lines; each description is taken from octets to tokens to fields.
 //!

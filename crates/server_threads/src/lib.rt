@@ -1,16 +1,15 @@
-//! Runs the threads of a server: they take connections, serve clients, exchange frames with the
-//! other replicas, answer monitors, and write standard error. The node is behind a small trait; its
-//! clock and its files are in `server`.
+//! Runs the threads of a server: they take connections, serve clients, exchange frames with the other replicas, answer monitors, and write
+//! standard error. The node is behind a small trait; its clock and its files are in `server`.
 //!
-//! The threads of a server, which know the node by a trait alone (`engine`). `rooms` has what they share, `crew` counts them, `serving`
-//! begins and ends them. `posting` puts a message into its replica's queue. `framing` makes its frames in the thread that sends: one, or
-//! parts of 16 MiB where one can't hold it. `porch` keeps strangers at the port for peers until a greeting begins; `receiving` reads
-//! greetings and frames for the node. `monitoring` answers monitors; `reporter`, `lines` and `notes` write standard error, which nobody
-//! else waits for. `logged` wraps a directory whose updates and slow searches are logged (`logging` has the lines). For each other replica
-//! one thread writes and four read (in all 8 at least, and at most 64 or two each). The node's clock has the thread that calls.
+//! The threads of a server, which know the node by a trait alone (`engine`). `shared_parts` has what they share, `counters` counts what they answer,
+//! `serving` begins and ends them. `posting` puts a message into its replica's queue. `framing` makes its frames in the thread that sends: one,
+//! or parts of 16 MiB where one can't hold it. `porch` keeps strangers at the port for peers until a greeting begins; `receiving` reads
+//! greetings and frames for the node. `monitoring` answers monitors; `reporter`, `lines` and `notes` write standard error, which nobody else
+//! waits for. `logged` wraps a directory whose updates and slow searches are logged (`logging` has the lines). For each other replica one
+//! thread writes and four read (in all 8 at least, and at most 64 or two each). The node's clock has the thread that calls.
 //!
-//! Proved: a directory that logs answers as the one that it wraps (`Logged`). No line goes uncounted (`Lines`, `none_uncounted`); readers
-//! are 8 or more, and two or more for each other replica (`readers`). Of the rest, safety alone.
+//! Proved: a directory that logs answers as the one that it wraps (`Logged`). No line goes uncounted (`Lines`, `none_uncounted`); readers are 8
+//! or more, and two or more for each other replica (`readers`). Of the rest, safety alone.
 #![tactic(auto)]
 
 mod addresses;
