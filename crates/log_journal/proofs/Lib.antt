@@ -4,6 +4,7 @@ pub mod Finding
 pub mod Joining
 pub mod OfTaken
 pub mod OneTold
+pub mod Parting
 pub mod Plain
 pub mod Putting
 pub mod Reading

@@ -1,5 +1,7 @@
 //! How much of two logs is alike.
-ghost use Rattle.std.specs.Prelude.{◌≡◌, ◌≤◌, IsTrue, length, take};
+ghost use Rattle.std.specs.Prelude.{◌≡◌, ◌≤◌, IsTrue, drop, length, take};
+ghost use Rattle.std.specs.Bool.{OnFalse};
+ghost use Rattle.log_journal.specs.Apart.{AreApart, ComeApart};
 
 use crate::spelling::is_same;
 use ldap_op::Op;
@@ -7,7 +9,8 @@ use vr_state::words::LogEntry;
 
 /// Whether two records are found equal.
 fn is_same_entry(one: &LogEntry<Op>, other: &LogEntry<Op>) -> bool
-    ensures { IsTrue result → one.now ≡ other.now }
+    ensures same { IsTrue result → one.now ≡ other.now }
+    ensures apart { OnFalse result (AreApart one.now other.now) }
 {
     one.client == other.client
         && one.request_number == other.request_number
@@ -18,6 +21,7 @@ fn is_same_entry(one: &LogEntry<Op>, other: &LogEntry<Op>) -> bool
 pub fn count_alike(old: &[LogEntry<Op>], new: &[LogEntry<Op>]) -> usize
     ensures alike { take result old.now ≡ take result new.now }
     ensures within { result ≤ length new.now }
+    ensures stops { ComeApart (drop result old.now) (drop result new.now) }
 {
     let most = old.len().min(new.len());
     for at in 0..most {

@@ -1,13 +1,17 @@
 //! Octets of updates that are read as the same update again, and whether two updates are equal. An update in memory may be one that no octets spell.
-ghost use Rattle.std.specs.Prelude.{◌≡◌, IsTrue, IfOk};
+ghost use Rattle.std.specs.Prelude.{◌≡◌, IsTrue, IfOk, IfErr};
+ghost use Rattle.std.specs.Bool.{OnFalse};
 ghost use Rattle.ldap_op.specs.Grammar.{IsOp};
+ghost use Rattle.ldap_op.specs.Written.{HasNoSpelling};
+ghost use Rattle.log_journal.specs.Apart.{AreUpdatesApart};
 
 use crate::error::NoteError;
 use ldap_op::{Op, one_op};
 
-/// The octets of an update, which are read as this update and no other.
+/// The octets of an update, which are read as this update and no other. E3 where it has no spelling.
 pub fn spell(op: &Op) -> Result<&[u8], NoteError>
-    ensures { IfOk result (λ octets. IsOp op.now octets.now) }
+    ensures octets { IfOk result (λ octets. IsOp op.now octets.now) }
+    ensures unwritable { IfErr result (λ e. (e ≡ NoteError.Unwritable) × HasNoSpelling op.now) }
 {
     match op.octets() {
         Some(octets) => Ok(octets),
@@ -17,7 +21,8 @@ pub fn spell(op: &Op) -> Result<&[u8], NoteError>
 
 /// Whether two updates are found equal, by their octets. Equal ones may not be found so, where no octets are read as them.
 pub fn is_same(one: &Op, other: &Op) -> bool
-    ensures { IsTrue result → one.now ≡ other.now }
+    ensures same { IsTrue result → one.now ≡ other.now }
+    ensures apart { OnFalse result (AreUpdatesApart one.now other.now) }
 {
     one_op();
     match (one.octets(), other.octets()) {
