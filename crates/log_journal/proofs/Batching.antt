@@ -1,5 +1,5 @@
 -- One string more in a batch. In: octets that are the frames of their strings. Out: the same with a frame more, and what they are read as.
-use Rattle.std.proofs.Common.{◌≡◌, ◌<◌, ◌+◌, ◌^◌, ℕ, List, [], ◌∷◌, ◌++◌, length, sym, ap, ◌∙◌, subst, arith, append_assoc}
+use Rattle.std.proofs.Common.{◌≡◌, ◌<◌, ◌+◌, ◌^◌, ℕ, List, [], ◌∷◌, ◌++◌, length, sym, ap, ◌∙◌, subst, arith, append_assoc, length-append}
 use Rattle.std.proofs.lemmas.List.{append-nil}
 use Rattle.journal.specs.Frames.{frame, frames, recorded, FramesAreRead}
 use Rattle.log_journal.specs.Framed.{IsFramed}
@@ -10,6 +10,12 @@ frames_more (b ∷ bs) s = ap (λ (l : List ℕ). frame b ++ l) (frames_more bs 
 
 pub frame_length : (s : List ℕ) → length (frame s) ≡ length s + 10
 frame_length s = omega arith
+
+-- how long the frames with one more are
+pub frames_longer : (old s : List ℕ) (strings : List (List ℕ)) → IsFramed old → recorded old ≡ strings → length (frames (strings ++ s ∷ [])) ≡ length old + length s + 10
+frames_longer old s strings h is =
+    let whole : length (frames strings) ≡ length old = ap (λ (l : List (List ℕ)). length (frames l)) (sym is) ∙ sym (ap length h.framed) in
+    omega (arith, ap length (frames_more strings s), length-append (frames strings) (frame s), frame_length s, whole)
 
 module _ (law : FramesAreRead) (old s new : List ℕ) (h : IsFramed old) (is : new ≡ old ++ frame s) (short : length new < 2 ^ 35) where
   are_frames : new ≡ frames (recorded old ++ s ∷ [])

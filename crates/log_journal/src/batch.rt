@@ -1,6 +1,7 @@
 //! A batch of strings as the frames that a journal takes, built up string by string.
-ghost use Rattle.std.specs.Prelude.{◌≡◌, ◌<◌, ◌^◌, ◌++◌, ◌∷◌, [], length, IsTrue, OnOk, OnErr};
+ghost use Rattle.std.specs.Prelude.{◌≡◌, ◌⊎◌, ◌<◌, ◌^◌, ◌++◌, ◌∷◌, [], length, IsTrue, OnOk, OnErr, IfErr, IsErrOf};
 ghost use Rattle.journal.specs.Frames.{frames, recorded};
+ghost use Rattle.log_journal.specs.Framed.{AreTooLong};
 
 use crate::error::NoteError;
 use journal::{frames_are_read, put_string};
@@ -41,15 +42,16 @@ impl Batch {
         }
     }
 
-    /// Adds a string. At an error nothing has changed.
+    /// Adds a string. E29 where the frames would be too long, else want of memory is the only error. At an error
+    /// nothing has changed.
     pub fn push(&mut self, string: &[u8]) -> Result<(), NoteError>
         ensures ok { OnOk result (self.new ≡ self.old ++ string.now ∷ []) }
         ensures err { OnErr result (self.new ≡ self.old) }
+        ensures errors { IfErr result (λ e. (e ≡ NoteError.Full) ⊎ (e ≡ NoteError.NoMemory)) }
+        ensures full { IsErrOf result NoteError.Full → AreTooLong (self.old ++ string.now ∷ []) }
+        ensures too_long { AreTooLong (self.old ++ string.now ∷ []) → IsErrOf result NoteError.Full }
     {
         frames_are_read();
-        if string.len() >= MOST - HEADER {
-            return Err(NoteError::Full);
-        }
         if string.len() + HEADER >= MOST - self.octets.len() {
             return Err(NoteError::Full);
         }
@@ -68,7 +70,8 @@ impl Batch {
 
     /// Whether there are none.
     pub fn is_empty(&self) -> bool
-        ensures { IsTrue result → self.now ≡ [] }
+        ensures none { IsTrue result → self.now ≡ [] }
+        ensures some { self.now ≡ [] → IsTrue result }
     {
         self.octets.is_empty()
     }
