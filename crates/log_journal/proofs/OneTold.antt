@@ -23,26 +23,26 @@ flag_back true = refl
 flag_back false = refl
 
 -- the kind of what a step notes
-abbrev step_kind : journaled.Note OpValue → ℕ
+abbrev pub step_kind : journaled.Note OpValue → ℕ
 step_kind (journaled.Enter v) = 2
 step_kind (journaled.Record k e) = 3
 step_kind (journaled.Stage e) = 4
 step_kind (journaled.Adopt v last base k) = 5
 
 -- the kind of a note
-abbrev kind_of : Note → ℕ
+abbrev pub kind_of : Note → ℕ
 kind_of (Begin cluster index count) = 0
 kind_of (Start r v w) = 1
 kind_of (Step x) = step_kind x
 kind_of (Commit k) = 6
 
-step_kind_is : (x : journaled.Note OpValue) (f : Fields) → IsStepIn x f → f.kind ≡ step_kind x
+pub step_kind_is : (x : journaled.Note OpValue) (f : Fields) → IsStepIn x f → f.kind ≡ step_kind x
 step_kind_is (journaled.Enter v) f h = ap (λ (g : Fields). g.kind) h
 step_kind_is (journaled.Record k e) f h = h.kind_is
 step_kind_is (journaled.Stage e) f h = h.kind_is
 step_kind_is (journaled.Adopt v last base k) f h = ap (λ (g : Fields). g.kind) h
 
-kind_is : (x : Note) (f : Fields) → IsNoteIn x f → f.kind ≡ kind_of x
+pub kind_is : (x : Note) (f : Fields) → IsNoteIn x f → f.kind ≡ kind_of x
 kind_is (Begin cluster index count) f h = ap (λ (g : Fields). g.kind) h
 kind_is (Start r v w) f h = ap (λ (g : Fields). g.kind) h
 kind_is (Step x) f h = step_kind_is x f h

@@ -5,6 +5,7 @@ pub mod Found
 pub mod Framed
 pub mod Kept
 pub mod Notes
+pub mod Refused
 pub mod Steps
 pub mod Taken
 pub mod Told

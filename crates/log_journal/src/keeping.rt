@@ -68,7 +68,7 @@ pub fn settle<J: Device>(journal: &mut Journal<J>, batch: &Batch) -> Result<(), 
 }
 
 // prover: no device was called, so none has failed
-pub fn before_the_device(error: NoteError) -> NoteError
+fn before_the_device(error: NoteError) -> NoteError
     ensures device { result ≢ NoteError.DeviceFailed }
     ensures version { result ≡ NoteError.AnotherVersion → error ≡ NoteError.AnotherVersion }
 {

@@ -1,15 +1,15 @@
 //! Opens a journal: each string is taken as it is read, so that no more of the journal is in memory than a window of it.
-ghost use Rattle.std.specs.Prelude.{◌≡◌, ◌≢◌, ◌≤◌, [], drop, false, IfOk, OnOk, IsErrOf};
+ghost use Rattle.std.specs.Prelude.{◌≡◌, ◌≢◌, ◌≤◌, [], drop, false, IfOk, IfErr, OnOk, IsErrOf};
 ghost use Rattle.journal.specs.Device.{HasRisen, LeavesOnly, Only};
 ghost use Rattle.journal.specs.Frames.{is_whole, recorded};
 ghost use Rattle.journal.specs.Reading.{HasRead};
 ghost use Rattle.log_journal.specs.Found.{HasAnotherVersion, IsFound, TellsNext};
 ghost use Rattle.log_journal.specs.Kept.{IsHeld};
+ghost use Rattle.log_journal.specs.Refused.{HasDamage, IsOfOpening};
 ghost use Rattle.log_journal.specs.Told.{Tells, nothing_told};
 ghost use Rattle.log_journal.specs.Views.{told_view};
 
 use crate::error::NoteError;
-use crate::keeping::before_the_device;
 use crate::telling::take_string;
 use crate::told::{Told, nothing_told};
 use journal::{Device, Journal, JournalError, StringReader};
@@ -19,6 +19,8 @@ use std::alloc::Global;
 fn note_of_reading(error: JournalError) -> NoteError
     ensures device { result ≡ NoteError.DeviceFailed → error ≡ JournalError.DeviceFailed }
     ensures version { result ≡ NoteError.AnotherVersion → ⊥ }
+    ensures damaged { result ≡ NoteError.Damaged → ⊥ }
+    ensures errors { IsOfOpening result }
 {
     match error {
         JournalError::NoMemory => NoteError::NoMemory,
@@ -43,6 +45,8 @@ fn tell_next<J: Device>(
     ensures later { J.failure_count device.old ≤ J.failure_count device.new }
     ensures device_failed { IsErrOf result NoteError.DeviceFailed → HasRisen (J.failure_count device.old) (J.failure_count device.new) }
     ensures version { IsErrOf result NoteError.AnotherVersion → HasAnotherVersion (recorded (drop reader.old.end (J.seen device.old))) }
+    ensures damaged { IsErrOf result NoteError.Damaged → HasDamage (recorded (drop reader.old.end (J.seen device.old))) }
+    ensures errors { IfErr result (λ e. IsOfOpening e) }
 {
     let more = match reader.advance(device) {
         Ok(more) => more,
@@ -51,7 +55,7 @@ fn tell_next<J: Device>(
     if more {
         match take_string(alloc, told, reader.string()) {
             Ok(()) => Ok(true),
-            Err(error) => Err(before_the_device(error)),
+            Err(error) => Err(error),
         }
     } else {
         Ok(false)
@@ -78,6 +82,8 @@ fn tell_all<J: Device>(
     ensures later { J.failure_count device.old ≤ J.failure_count device.new }
     ensures device_failed { IsErrOf result NoteError.DeviceFailed → HasRisen (J.failure_count device.old) (J.failure_count device.new) }
     ensures version { IsErrOf result NoteError.AnotherVersion → HasAnotherVersion (recorded (J.seen device.old)) }
+    ensures damaged { IsErrOf result NoteError.Damaged → HasDamage (recorded (J.seen device.old)) }
+    ensures errors { IfErr result (λ e. IsOfOpening e) }
 {
     let mut told = nothing_told(alloc);
     'strings: loop {
@@ -108,6 +114,8 @@ pub fn open<J: Device>(alloc: Global, journal: &mut Journal<J>) -> Result<Option
     ensures device_failed { IsErrOf result NoteError.DeviceFailed
         → HasRisen (J.failure_count journal.old.device) (J.failure_count journal.new.device) }
     ensures version { IsErrOf result NoteError.AnotherVersion → HasAnotherVersion (recorded (J.seen journal.old.device)) }
+    ensures damaged { IsErrOf result NoteError.Damaged → HasDamage (recorded (J.seen journal.old.device)) }
+    ensures errors { IfErr result (λ e. IsOfOpening e) }
 {
     let mut reader = StringReader::new(alloc, &mut journal.device)?;
     let told = match tell_all(alloc, &mut reader, &mut journal.device) {

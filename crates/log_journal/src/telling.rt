@@ -1,9 +1,11 @@
 //! Reads what strings tell: notes are taken one by one, the oldest first.
-ghost use Rattle.std.specs.Prelude.{◌≡◌, ◌≢◌, true, false, OnOk, IfOk, IsErrOf, IsTrue};
+ghost use Rattle.std.specs.Prelude.{◌≡◌, ◌≢◌, true, false, OnOk, IfOk, IfErr, IsErrOf, IsTrue};
 ghost use Rattle.ldap_op.specs.Grammar.{IsOp};
+ghost use Rattle.ldap_op.specs.Values.{OpValue};
 ghost use Rattle.journal.specs.Journal.{octets_of};
-ghost use Rattle.log_journal.specs.Found.{IsOfAnotherVersion};
+ghost use Rattle.log_journal.specs.Found.{HasAnotherVersion, IsOfAnotherVersion};
 ghost use Rattle.log_journal.specs.Notes.{IsEntryIn, Start, plain};
+ghost use Rattle.log_journal.specs.Refused.{AreNoEntry, AreNoNote, HasDamage, IsDamaged, IsOfTaking};
 ghost use Rattle.log_journal.specs.Told.{Takes, TakesString, Tells, nothing_told, told_by};
 ghost use Rattle.log_journal.specs.Views.{fields_view, told_view};
 
@@ -21,6 +23,8 @@ use vr_state::words::{Client, LogEntry};
 fn update_of(alloc: Global, octets: &[u8]) -> Result<Op, NoteError>
     ensures update { IfOk result (λ op. IsOp op octets.now) }
     ensures version { IsErrOf result NoteError.AnotherVersion → ⊥ }
+    ensures damaged { IsErrOf result NoteError.Damaged → (op : OpValue) → IsOp op octets.now → ⊥ }
+    ensures errors { IfErr result (λ e. IsOfTaking e) }
 {
     match read_op(alloc, octets) {
         Ok(op) => Ok(op),
@@ -33,6 +37,8 @@ fn update_of(alloc: Global, octets: &[u8]) -> Result<Op, NoteError>
 fn entry_in(alloc: Global, fields: &Fields<'_>) -> Result<LogEntry<Op>, NoteError>
     ensures entry { IfOk result (λ e. IsEntryIn fields.now.kind fields.now.first e (fields_view fields.now)) }
     ensures version { IsErrOf result NoteError.AnotherVersion → ⊥ }
+    ensures damaged { IsErrOf result NoteError.Damaged → AreNoEntry (fields_view fields.now) }
+    ensures errors { IfErr result (λ e. IsOfTaking e) }
 {
     if fields.second > 255 {
         return Err(NoteError::Damaged);
@@ -51,15 +57,18 @@ fn entry_in(alloc: Global, fields: &Fields<'_>) -> Result<LogEntry<Op>, NoteErro
 
 /// Whether fields are four numbers, and nothing behind them.
 fn is_plain(fields: &Fields<'_>) -> bool
-    ensures { IsTrue result → fields_view fields.now
+    ensures plain { IsTrue result → fields_view fields.now
         ≡ plain fields.now.kind fields.now.first fields.now.second fields.now.third fields.now.fourth 0 }
+    ensures only { fields_view fields.now
+        ≡ plain fields.now.kind fields.now.first fields.now.second fields.now.third fields.now.fourth 0 → IsTrue result }
 {
     fields.fifth == 0 && fields.rest.is_empty()
 }
 
 /// Whether fields are one number, and nothing behind it.
 fn is_number(fields: &Fields<'_>) -> bool
-    ensures { IsTrue result → fields_view fields.now ≡ plain fields.now.kind fields.now.first 0 0 0 0 }
+    ensures number { IsTrue result → fields_view fields.now ≡ plain fields.now.kind fields.now.first 0 0 0 0 }
+    ensures only { fields_view fields.now ≡ plain fields.now.kind fields.now.first 0 0 0 0 → IsTrue result }
 {
     fields.second == 0 && fields.third == 0 && fields.fourth == 0 && is_plain(fields)
 }
@@ -69,6 +78,9 @@ fn take_begin(told: &mut Told, fields: &Fields<'_>) -> Result<(), NoteError>
     requires { fields.now.kind ≡ 0 }
     ensures taken { OnOk result (Takes (fields_view fields.now) (told_view told.old) (told_view told.new)) }
     ensures version { IsErrOf result NoteError.AnotherVersion → fields.now.first ≢ 1 }
+    ensures another { fields.now.first ≢ 1 → IsErrOf result NoteError.AnotherVersion }
+    ensures damaged { IsErrOf result NoteError.Damaged → AreNoNote (fields_view fields.now) }
+    ensures errors { IfErr result (λ e. IsOfTaking e) }
 {
     if fields.first != VERSION {
         return Err(NoteError::AnotherVersion);
@@ -109,6 +121,8 @@ fn take_start(alloc: Global, told: &mut Told, fields: &Fields<'_>) -> Result<(),
     requires { fields.now.kind ≡ 1 }
     ensures taken { OnOk result (Takes (fields_view fields.now) (told_view told.old) (told_view told.new)) }
     ensures version { IsErrOf result NoteError.AnotherVersion → ⊥ }
+    ensures damaged { IsErrOf result NoteError.Damaged → AreNoNote (fields_view fields.now) }
+    ensures errors { IfErr result (λ e. IsOfTaking e) }
 {
     if !is_plain(fields) {
         return Err(NoteError::Damaged);
@@ -134,6 +148,8 @@ fn take_enter(alloc: Global, told: &mut Told, fields: &Fields<'_>) -> Result<(),
     requires { fields.now.kind ≡ 2 }
     ensures taken { OnOk result (Takes (fields_view fields.now) (told_view told.old) (told_view told.new)) }
     ensures version { IsErrOf result NoteError.AnotherVersion → ⊥ }
+    ensures damaged { IsErrOf result NoteError.Damaged → AreNoNote (fields_view fields.now) }
+    ensures errors { IfErr result (λ e. IsOfTaking e) }
 {
     if !is_number(fields) {
         return Err(NoteError::Damaged);
@@ -148,6 +164,8 @@ fn take_record(alloc: Global, told: &mut Told, fields: &Fields<'_>) -> Result<()
     requires { fields.now.kind ≡ 3 }
     ensures taken { OnOk result (Takes (fields_view fields.now) (told_view told.old) (told_view told.new)) }
     ensures version { IsErrOf result NoteError.AnotherVersion → ⊥ }
+    ensures damaged { IsErrOf result NoteError.Damaged → AreNoNote (fields_view fields.now) }
+    ensures errors { IfErr result (λ e. IsOfTaking e) }
 {
     let entry = entry_in(alloc, fields)?;
     told.log.push(entry)?;
@@ -161,6 +179,8 @@ fn take_stage(alloc: Global, told: &mut Told, fields: &Fields<'_>) -> Result<(),
     requires { fields.now.kind ≡ 4 }
     ensures taken { OnOk result (Takes (fields_view fields.now) (told_view told.old) (told_view told.new)) }
     ensures version { IsErrOf result NoteError.AnotherVersion → ⊥ }
+    ensures damaged { IsErrOf result NoteError.Damaged → AreNoNote (fields_view fields.now) }
+    ensures errors { IfErr result (λ e. IsOfTaking e) }
 {
     if fields.first != 0 {
         return Err(NoteError::Damaged);
@@ -175,6 +195,8 @@ fn take_adopt(alloc: Global, told: &mut Told, fields: &Fields<'_>) -> Result<(),
     requires { fields.now.kind ≡ 5 }
     ensures taken { OnOk result (Takes (fields_view fields.now) (told_view told.old) (told_view told.new)) }
     ensures version { IsErrOf result NoteError.AnotherVersion → ⊥ }
+    ensures damaged { IsErrOf result NoteError.Damaged → AreNoNote (fields_view fields.now) }
+    ensures errors { IfErr result (λ e. IsOfTaking e) }
 {
     if !is_plain(fields) {
         return Err(NoteError::Damaged);
@@ -193,6 +215,8 @@ fn take_commit(told: &mut Told, fields: &Fields<'_>) -> Result<(), NoteError>
     requires { fields.now.kind ≡ 6 }
     ensures taken { OnOk result (Takes (fields_view fields.now) (told_view told.old) (told_view told.new)) }
     ensures version { IsErrOf result NoteError.AnotherVersion → ⊥ }
+    ensures damaged { IsErrOf result NoteError.Damaged → AreNoNote (fields_view fields.now) }
+    ensures errors { IfErr result (λ e. IsOfTaking e) }
 {
     if !is_number(fields) {
         return Err(NoteError::Damaged);
@@ -205,6 +229,9 @@ fn take_commit(told: &mut Told, fields: &Fields<'_>) -> Result<(), NoteError>
 fn take_fields(alloc: Global, told: &mut Told, fields: &Fields<'_>) -> Result<(), NoteError>
     ensures taken { OnOk result (Takes (fields_view fields.now) (told_view told.old) (told_view told.new)) }
     ensures version { IsErrOf result NoteError.AnotherVersion → (fields.now.kind ≡ 0) × (fields.now.first ≢ 1) }
+    ensures another { fields.now.kind ≡ 0 → fields.now.first ≢ 1 → IsErrOf result NoteError.AnotherVersion }
+    ensures damaged { IsErrOf result NoteError.Damaged → AreNoNote (fields_view fields.now) }
+    ensures errors { IfErr result (λ e. IsOfTaking e) }
 {
     match fields.kind {
         0 => take_begin(told, fields),
@@ -218,10 +245,14 @@ fn take_fields(alloc: Global, told: &mut Told, fields: &Fields<'_>) -> Result<()
     }
 }
 
-/// Takes the note of a string. After an error what is told is of no use.
+/// Takes the note of a string. E27 where it is of another version, E28 where it is no note, else want of memory is the only
+/// error; after an error what is told is of no use.
 pub fn take_string(alloc: Global, told: &mut Told, string: &[u8]) -> Result<(), NoteError>
     ensures taken { OnOk result (TakesString string.now (told_view told.old) (told_view told.new)) }
     ensures version { IsErrOf result NoteError.AnotherVersion → IsOfAnotherVersion string.now }
+    ensures another { IsOfAnotherVersion string.now → IsErrOf result NoteError.AnotherVersion }
+    ensures damaged { IsErrOf result NoteError.Damaged → IsDamaged string.now }
+    ensures errors { IfErr result (λ e. IsOfTaking e) }
 {
     match read_fields(string) {
         Some(fields) => take_fields(alloc, told, &fields),
@@ -229,9 +260,13 @@ pub fn take_string(alloc: Global, told: &mut Told, string: &[u8]) -> Result<(), 
     }
 }
 
-/// What these strings tell, the oldest first.
+/// What these strings tell, the oldest first. E27 where one of them is of another version, E28 where one is no note, else want of
+/// memory is the only error.
 pub fn tell(alloc: Global, strings: &[Vec<u8>]) -> Result<Told, NoteError>
-    ensures { IfOk result (λ told. Tells nothing_told (octets_of strings.now) (told_view told)) }
+    ensures told { IfOk result (λ told. Tells nothing_told (octets_of strings.now) (told_view told)) }
+    ensures version { IsErrOf result NoteError.AnotherVersion → HasAnotherVersion (octets_of strings.now) }
+    ensures damaged { IsErrOf result NoteError.Damaged → HasDamage (octets_of strings.now) }
+    ensures errors { IfErr result (λ e. IsOfTaking e) }
 {
     let mut told = nothing_told(alloc);
     for string in strings {

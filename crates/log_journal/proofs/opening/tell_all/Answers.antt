@@ -2,10 +2,11 @@ use Rattle.std.proofs.Common.{◌≡◌, List, ℕ, true, false, Err, length, dr
 use Rattle.journal.specs.Device.{LeavesOnly}
 use Rattle.journal.specs.Frames.{is_whole, recorded}
 use Rattle.log_journal.specs.Found.{HasAnotherVersion, TellsNext}
+use Rattle.log_journal.specs.Refused.{HasDamage}
 use Rattle.log_journal.specs.Told.{Told, Tells, nothing_told}
 use Rattle.log_journal.specs.Views.{told_view}
 use Rattle.log_journal.specs.declared.error.NoteError.{NoteError}
-use Rattle.log_journal.specs.declared.error.NoteError.TheVariants.{AnotherVersion}
+use Rattle.log_journal.specs.declared.error.NoteError.TheVariants.{AnotherVersion, Damaged}
 use Rattle.log_journal.proofs.Along.{chained, started}
 use Rattle.log_journal.proofs.Finding.{nothing_found, some_found, telling_done, telling_next, telling_none}
 use Rattle.log_journal.proofs.opening.tell_all.Goals as goal
@@ -74,6 +75,14 @@ returns-in-Err-clause-version g c = λ is.
     let before = c.strings.invariant in
     let same : c.in-Err.error ≡ AnotherVersion = cc is in
     before.telling.version (subst (λ (l : List ℕ). HasAnotherVersion (recorded (drop c.strings.reader.end l))) before.seen (c.in-Err.ensures.version (ap (λ (x : NoteError). Err x) same)))
+
+pub returns-in-Err-clause-damaged : goal.returns-in-Err-clause-damaged
+returns-in-Err-clause-damaged g c = λ is.
+    let d = c.args.device.now in
+    let image = g.J.Device.seen d in
+    let before = c.strings.invariant in
+    let same : c.in-Err.error ≡ Damaged = cc is in
+    before.telling.damage (subst (λ (l : List ℕ). HasDamage (recorded (drop c.strings.reader.end l))) before.seen (c.in-Err.ensures.damaged (ap (λ (x : NoteError). Err x) same)))
 
 pub returns-then-not-more-clause-told : goal.returns-then-not-more-clause-told
 returns-then-not-more-clause-told g c =

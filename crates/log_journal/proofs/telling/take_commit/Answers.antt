@@ -6,6 +6,6 @@ use Rattle.log_journal.proofs.telling.take_commit.Goals as goal
 pub returns-clause-taken : goal.returns-clause-taken
 returns-clause-taken c = record {
   note = Commit c.args.fields.now.first;
-  is = c.is_number.ensures (search rules) ∙ ap (λ (k : ℕ). plain k c.args.fields.now.first 0 0 0 0) c.requires;
+  is = c.is_number.ensures.number (search rules) ∙ ap (λ (k : ℕ). plain k c.args.fields.now.first 0 0 0 0) c.requires;
   told = told_is _ _ refl refl refl refl refl refl refl (sym c.max-told.ensures) refl refl;
 }

@@ -1,7 +1,8 @@
-use Rattle.std.proofs.Common.{ℕ, refl, sym, subst}
+use Rattle.std.proofs.Common.{ℕ, refl, sym, subst, rules}
 use Rattle.log_journal.specs.Notes.{Step, IsEntryIn}
 use Rattle.log_journal.specs.Views.{fields_view}
 use Rattle.vr_state.specs.Journaled.{Record}
+use Rattle.log_journal.proofs.NoNote.{no_record}
 use Rattle.log_journal.proofs.Plain.{told_is}
 use Rattle.log_journal.proofs.telling.take_record.Goals as goal
 
@@ -11,3 +12,6 @@ returns-clause-taken c = record {
   is = subst (λ (k : ℕ). IsEntryIn k c.args.fields.now.first c.in_ok-entry.entry (fields_view c.args.fields.now)) c.requires c.in_ok-entry.ensures.entry;
   told = told_is _ _ refl refl refl refl refl refl (sym c.in_ok-push.ensures.ok) (sym c.max-told.ensures) (sym c.new.ensures) refl;
 }
+
+pub returns-in_err-entry-clause-damaged : goal.returns-in_err-entry-clause-damaged
+returns-in_err-entry-clause-damaged c = λ is. no_record (fields_view c.args.fields.now) c.requires (c.in_err-entry.ensures.damaged (search rules))

@@ -1,0 +1,47 @@
+-- Why a note isn't taken: it is of another version, or its fields are of no note, or memory is wanting.
+use Rattle.std.specs.Prelude.{◌≡◌, ◌<◌, ◌^◌, ℕ, List, ◌∷◌, ◌++◌}
+use Rattle.ldap_op.specs.Values.{OpValue}
+use Rattle.vr_state.specs.Words.{LogEntry}
+use Rattle.vr_state.specs.Journaled as journaled
+use Rattle.log_journal.specs.Fields.{Fields}
+use Rattle.log_journal.specs.Notes.{Note, Step, IsEntryIn, IsNoteIn, Spells}
+use Rattle.log_journal.specs.declared.error.NoteError.{NoteError}
+use Rattle.log_journal.specs.declared.error.NoteError.TheVariants.{NoMemory, Damaged, AnotherVersion, DeviceFailed}
+
+-- Taking a note is refused for these alone.
+abbrev pub IsOfTaking : NoteError → Type 0
+IsOfTaking NoMemory = Unit {0}
+IsOfTaking Damaged = Unit {0}
+IsOfTaking AnotherVersion = Unit {0}
+IsOfTaking e = ⊥
+
+-- Opening a journal is refused for these, or since the device failed.
+abbrev pub IsOfOpening : NoteError → Type 0
+IsOfOpening DeviceFailed = Unit {0}
+IsOfOpening e = IsOfTaking e
+
+-- The home of a note's client fits its octet.
+abbrev pub HasHome : Note → Type 0
+HasHome (Step (journaled.Record k e)) = e.client.home < 2 ^ 8
+HasHome (Step (journaled.Stage e)) = e.client.home < 2 ^ 8
+HasHome x = Unit {0}
+
+-- Fields are of no record.
+abbrev pub AreNoEntry : Fields → Type 0
+AreNoEntry f = (kind first : ℕ) (e : LogEntry OpValue) → e.client.home < 2 ^ 8 → IsEntryIn kind first e f → ⊥
+
+-- Fields are of no note.
+abbrev pub AreNoNote : Fields → Type 0
+AreNoNote f = (x : Note) → HasHome x → IsNoteIn x f → ⊥
+
+-- A string spells no note.
+abbrev pub IsDamaged : List ℕ → Type 0
+IsDamaged string = (x : Note) → HasHome x → Spells x string → ⊥
+
+-- One of these strings spells no note.
+pub record HasDamage (strings : List (List ℕ)) : Type 0 where
+  pub before : List (List ℕ)
+  pub string : List ℕ
+  pub behind : List (List ℕ)
+  pub is : strings ≡ before ++ string ∷ behind
+  pub of : IsDamaged string
