@@ -6,6 +6,7 @@ use Rattle.vr_state.specs.State.{State, is_normal}
 use Rattle.vr_state.specs.Journaled as journaled
 use Rattle.log_journal.specs.Fields.{Fields}
 use Rattle.log_journal.specs.Notes.{Note, Step, IsNoteIn, PutsFields, Puts}
+use Rattle.log_journal.specs.Refused.{HasNoRoom, HasNoRoomFor}
 use Rattle.log_journal.specs.Steps.{grown, adopted, entered, only_grew, notes_since}
 use Rattle.log_journal.specs.declared.steps.Before.{Before}
 use Rattle.log_journal.proofs.ToldOn.{spell_both}
@@ -13,6 +14,10 @@ use Rattle.log_journal.proofs.ToldOn.{spell_both}
 -- the fields of one note
 pub one_put : (x : Note) (f : Fields) (old new : List (List ℕ)) → PutsFields f old new → IsNoteIn x f → Puts (x ∷ []) old new
 one_put x f old new h note = record { strings = h.string ∷ []; is = h.is; spelled = (record { fields = f; read = h.read; note = note }, tt) }
+
+-- no room for the fields of one note
+pub one_full : (x : Note) (f : Fields) (old : List (List ℕ)) → HasNoRoomFor f old → IsNoteIn x f → HasNoRoom x old
+one_full x f old h note = record { string = h.string; spells = record { fields = f; read = h.read; note = note }; long = h.long }
 
 -- nothing is put
 pub none_put : (old : List (List ℕ)) → Puts [] old old

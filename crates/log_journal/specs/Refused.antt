@@ -1,12 +1,13 @@
--- Why a note isn't taken: it is of another version, or its fields are of no note, or memory is wanting.
-use Rattle.std.specs.Prelude.{◌≡◌, ◌<◌, ◌^◌, ℕ, List, ◌∷◌, ◌++◌}
+-- Why a note isn't taken or isn't put: it is of another version, or its fields are of no note, or a batch has no room for it.
+use Rattle.std.specs.Prelude.{◌≡◌, ◌<◌, ◌^◌, ℕ, List, [], ◌∷◌, ◌++◌, Some}
 use Rattle.ldap_op.specs.Values.{OpValue}
 use Rattle.vr_state.specs.Words.{LogEntry}
 use Rattle.vr_state.specs.Journaled as journaled
-use Rattle.log_journal.specs.Fields.{Fields}
+use Rattle.log_journal.specs.Fields.{Fields, fields_at}
+use Rattle.log_journal.specs.Framed.{AreTooLong}
 use Rattle.log_journal.specs.Notes.{Note, Step, IsEntryIn, IsNoteIn, Spells}
 use Rattle.log_journal.specs.declared.error.NoteError.{NoteError}
-use Rattle.log_journal.specs.declared.error.NoteError.TheVariants.{NoMemory, Damaged, AnotherVersion, DeviceFailed}
+use Rattle.log_journal.specs.declared.error.NoteError.TheVariants.{NoMemory, Damaged, AnotherVersion, Full, DeviceFailed}
 
 -- Taking a note is refused for these alone.
 abbrev pub IsOfTaking : NoteError → Type 0
@@ -45,3 +46,21 @@ pub record HasDamage (strings : List (List ℕ)) : Type 0 where
   pub behind : List (List ℕ)
   pub is : strings ≡ before ++ string ∷ behind
   pub of : IsDamaged string
+
+-- Putting a note's fields is refused for these alone.
+abbrev pub IsOfPutting : NoteError → Type 0
+IsOfPutting NoMemory = Unit {0}
+IsOfPutting Full = Unit {0}
+IsOfPutting e = ⊥
+
+-- The frames of a batch with a string of these fields are too long.
+pub record HasNoRoomFor (f : Fields) (batch : List (List ℕ)) : Type 0 where
+  pub string : List ℕ
+  pub read : fields_at string ≡ Some f
+  pub long : AreTooLong (batch ++ string ∷ [])
+
+-- The frames of a batch with a string that spells a note are too long.
+pub record HasNoRoom (x : Note) (batch : List (List ℕ)) : Type 0 where
+  pub string : List ℕ
+  pub spells : Spells x string
+  pub long : AreTooLong (batch ++ string ∷ [])

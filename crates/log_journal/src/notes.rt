@@ -1,8 +1,9 @@
 //! Puts notes into a batch: each as the string of its fields.
-ghost use Rattle.std.specs.Prelude.{◌≡◌, ◌<◌, ◌^◌, ◌∷◌, [], OnOk, OnErr, IfOk, map};
+ghost use Rattle.std.specs.Prelude.{◌≡◌, ◌<◌, ◌^◌, ◌∷◌, [], OnOk, OnErr, IfOk, IfErr, IsErrOf, map};
 ghost use Rattle.ldap_op.specs.Grammar.{IsOp};
 ghost use Rattle.log_journal.specs.Fields.{AreInRange};
 ghost use Rattle.log_journal.specs.Notes.{Begin, Start, Step, Commit, Puts, plain, flag, PutsFields, IsEntryIn};
+ghost use Rattle.log_journal.specs.Refused.{HasNoRoom, HasNoRoomFor, IsOfPutting};
 ghost use Rattle.log_journal.specs.Views.{fields_view};
 ghost use Rattle.vr_state.specs.Journaled.{Enter, Record, Stage, Adopt};
 
@@ -48,6 +49,8 @@ fn see_fields(fields: &Fields<'_>)
 fn put_fields(alloc: Global, batch: &mut Batch, fields: &Fields<'_>) -> Result<(), NoteError>
     ensures ok { OnOk result (PutsFields (fields_view fields.now) batch.old batch.new) }
     ensures err { OnErr result (batch.new ≡ batch.old) }
+    ensures errors { IfErr result (λ e. IsOfPutting e) }
+    ensures full { IsErrOf result NoteError.Full → HasNoRoomFor (fields_view fields.now) batch.old }
 {
     see_fields(fields);
     fields_are_read();
@@ -78,7 +81,8 @@ fn flag_of(is: bool) -> u64
     if is { 1 } else { 0 }
 }
 
-/// Notes whose the journal is. At an error nothing has changed.
+/// Notes whose the journal is. E29 where the batch has no room for it, else want of memory is the only error. At an
+/// error nothing has changed.
 pub fn put_begin(
     alloc: Global,
     batch: &mut Batch,
@@ -88,12 +92,15 @@ pub fn put_begin(
 ) -> Result<(), NoteError>
     ensures ok { OnOk result (Puts (Begin cluster index count ∷ []) batch.old batch.new) }
     ensures err { OnErr result (batch.new ≡ batch.old) }
+    ensures errors { IfErr result (λ e. IsOfPutting e) }
+    ensures full { IsErrOf result NoteError.Full → HasNoRoom (Begin cluster index count) batch.old }
 {
     put_fields(alloc, batch, &plain(0, VERSION, cluster, index, count))?;
     Ok(())
 }
 
-/// Notes a start of the replica, and whether it goes on from what is kept. At an error nothing has changed.
+/// Notes a start of the replica, and whether it goes on from what is kept. E29 where the batch has no room for it,
+/// else want of memory is the only error. At an error nothing has changed.
 pub fn put_start(
     alloc: Global,
     batch: &mut Batch,
@@ -103,6 +110,8 @@ pub fn put_start(
 ) -> Result<(), NoteError>
     ensures ok { OnOk result (Puts (Start restarts view_number is_whole ∷ []) batch.old batch.new) }
     ensures err { OnErr result (batch.new ≡ batch.old) }
+    ensures errors { IfErr result (λ e. IsOfPutting e) }
+    ensures full { IsErrOf result NoteError.Full → HasNoRoom (Start restarts view_number is_whole) batch.old }
 {
     put_fields(
         alloc,
@@ -142,10 +151,13 @@ pub fn put_adopt(
     Ok(())
 }
 
-/// Notes how much is known to be committed. At an error nothing has changed.
+/// Notes how much is known to be committed. E29 where the batch has no room for it, else want of memory is the only
+/// error. At an error nothing has changed.
 pub fn put_commit(alloc: Global, batch: &mut Batch, commit_number: u64) -> Result<(), NoteError>
     ensures ok { OnOk result (Puts (Commit commit_number ∷ []) batch.old batch.new) }
     ensures err { OnErr result (batch.new ≡ batch.old) }
+    ensures errors { IfErr result (λ e. IsOfPutting e) }
+    ensures full { IsErrOf result NoteError.Full → HasNoRoom (Commit commit_number) batch.old }
 {
     put_fields(alloc, batch, &plain(6, commit_number, 0, 0, 0))?;
     Ok(())
