@@ -1,5 +1,5 @@
--- Why a note isn't taken or isn't put: it is of another version, or its fields are of no note, or a batch has no room for it.
-use Rattle.std.specs.Prelude.{◌≡◌, ◌<◌, ◌^◌, ℕ, List, [], ◌∷◌, ◌++◌, Some}
+-- Why a note isn't taken, put or settled: it is of another version, or its fields are of no note, or there is no room for it.
+use Rattle.std.specs.Prelude.{◌≡◌, ◌<◌, ◌≤◌, ◌+◌, ◌^◌, ℕ, List, [], ◌∷◌, ◌++◌, length, Some}
 use Rattle.ldap_op.specs.Values.{OpValue}
 use Rattle.vr_state.specs.Words.{LogEntry}
 use Rattle.vr_state.specs.Journaled as journaled
@@ -7,7 +7,7 @@ use Rattle.log_journal.specs.Fields.{Fields, fields_at}
 use Rattle.log_journal.specs.Framed.{AreTooLong}
 use Rattle.log_journal.specs.Notes.{Note, Step, IsEntryIn, IsNoteIn, Spells}
 use Rattle.log_journal.specs.declared.error.NoteError.{NoteError}
-use Rattle.log_journal.specs.declared.error.NoteError.TheVariants.{NoMemory, Damaged, AnotherVersion, Full, DeviceFailed}
+use Rattle.log_journal.specs.declared.error.NoteError.TheVariants.{NoMemory, Damaged, AnotherVersion, Unwritable, Full, DeviceFailed}
 
 -- Taking a note is refused for these alone.
 abbrev pub IsOfTaking : NoteError → Type 0
@@ -53,6 +53,13 @@ IsOfPutting NoMemory = Unit {0}
 IsOfPutting Full = Unit {0}
 IsOfPutting e = ⊥
 
+-- Noting a step is refused for these alone.
+abbrev pub IsOfNoting : NoteError → Type 0
+IsOfNoting NoMemory = Unit {0}
+IsOfNoting Full = Unit {0}
+IsOfNoting Unwritable = Unit {0}
+IsOfNoting e = ⊥
+
 -- The frames of a batch with a string of these fields are too long.
 pub record HasNoRoomFor (f : Fields) (batch : List (List ℕ)) : Type 0 where
   pub string : List ℕ
@@ -64,3 +71,19 @@ pub record HasNoRoom (x : Note) (batch : List (List ℕ)) : Type 0 where
   pub string : List ℕ
   pub spells : Spells x string
   pub long : AreTooLong (batch ++ string ∷ [])
+
+-- Keeping events is refused for these alone.
+abbrev pub IsOfKeeping : NoteError → Type 0
+IsOfKeeping DeviceFailed = Unit {0}
+IsOfKeeping e = IsOfNoting e
+
+-- Settling a batch is refused for these alone.
+abbrev pub IsOfSettling : NoteError → Type 0
+IsOfSettling Full = Unit {0}
+IsOfSettling DeviceFailed = Unit {0}
+IsOfSettling e = ⊥
+
+-- So many octets fit behind a journal's end on a device with this image, which is short enough.
+pub record HasRoom (image : List ℕ) (end octets : ℕ) : Type 0 where
+  pub room : end + octets ≤ length image
+  pub short : length image < 2 ^ 63

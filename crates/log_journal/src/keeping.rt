@@ -1,10 +1,11 @@
 //! A replica and its journal go along: a batch of events is taken, and its notes are settled by one write and one sync.
 //! What is sent or answered for it is handed out by the caller, after that.
-ghost use Rattle.std.specs.Prelude.{◌≡◌, ◌≢◌, ◌≤◌, ◌<◌, ◌+◌, ◌^◌, ◌++◌, length, IfOk, OnOk, IsErrOf};
+ghost use Rattle.std.specs.Prelude.{◌≡◌, ◌≤◌, ◌<◌, ◌+◌, ◌^◌, ◌++◌, length, IfOk, IfErr, OnOk, IsErrOf};
 ghost use Rattle.journal.specs.Device.{HasRisen, LeavesOnly};
-ghost use Rattle.journal.specs.Frames.{recorded};
+ghost use Rattle.journal.specs.Frames.{frames, recorded};
 ghost use Rattle.journal.specs.Journal.{IsGrown, IsSettled};
 ghost use Rattle.log_journal.specs.Kept.{IsHeld, IsMemory, IsMemoryOfTaken};
+ghost use Rattle.log_journal.specs.Refused.{HasRoom, IsOfKeeping, IsOfSettling};
 ghost use Rattle.log_journal.specs.Taken.{IsTaken};
 ghost use Rattle.log_journal.specs.Told.{Told};
 ghost use Rattle.vr_state.specs.Views.{state};
@@ -22,7 +23,9 @@ use vr_state::replica::Replica;
 
 /// Why a batch isn't settled whose device didn't grow.
 fn note_of_growth(error: GrowthError) -> NoteError
-    ensures { result ≡ NoteError.DeviceFailed → error ≡ GrowthError.DeviceFailed }
+    ensures device { result ≡ NoteError.DeviceFailed → error ≡ GrowthError.DeviceFailed }
+    ensures full { result ≡ NoteError.Full → error ≡ GrowthError.Full }
+    ensures errors { IsOfSettling result }
 {
     match error {
         GrowthError::Full => NoteError::Full,
@@ -41,6 +44,8 @@ fn make_room<J: Device>(journal: &mut Journal<J>, octets: u64) -> Result<(), Not
         (λ c. recorded c ≡ recorded (J.seen journal.old.device)) }
     ensures later { J.failure_count journal.old.device ≤ J.failure_count journal.new.device }
     ensures device_failed { IsErrOf result NoteError.DeviceFailed → HasRisen (J.failure_count journal.old.device) (J.failure_count journal.new.device) }
+    ensures full { IsErrOf result NoteError.Full → HasRoom (J.seen journal.old.device) journal.old.end octets → ⊥ }
+    ensures errors { IfErr result (λ e. IsOfSettling e) }
 {
     match journal.reserve(octets) {
         Ok(()) => Ok(()),
@@ -57,6 +62,10 @@ pub fn settle<J: Device>(journal: &mut Journal<J>, batch: &Batch) -> Result<(), 
     ensures any_moment { LeavesOnly J.moment J.left_since journal.old.device journal.new.device
         (IsGrown (recorded (J.seen journal.old.device)) batch.now) }
     ensures device_failed { IsErrOf result NoteError.DeviceFailed → HasRisen (J.failure_count journal.old.device) (J.failure_count journal.new.device) }
+    // It isn't full where there is room already.
+    ensures full { IsErrOf result NoteError.Full
+        → HasRoom (J.seen journal.old.device) journal.old.end (length (frames batch.now)) → ⊥ }
+    ensures errors { IfErr result (λ e. IsOfSettling e) }
 {
     if batch.is_empty() {
         return Ok(());
@@ -65,20 +74,6 @@ pub fn settle<J: Device>(journal: &mut Journal<J>, batch: &Batch) -> Result<(), 
     make_room(journal, octets.len() as u64)?;
     journal.append(octets)?;
     Ok(())
-}
-
-// prover: no device was called, so none has failed
-fn before_the_device(error: NoteError) -> NoteError
-    ensures device { result ≢ NoteError.DeviceFailed }
-    ensures version { result ≡ NoteError.AnotherVersion → error ≡ NoteError.AnotherVersion }
-{
-    match error {
-        NoteError::NoMemory => NoteError::NoMemory,
-        NoteError::Unwritable => NoteError::Unwritable,
-        NoteError::Full => NoteError::Full,
-        NoteError::AnotherVersion => NoteError::AnotherVersion,
-        NoteError::Damaged | NoteError::DeviceFailed => NoteError::Damaged,
-    }
 }
 
 /// A replica takes these events, and its journal keeps it as it is then. Each event gives its outputs, or is left out for want of
@@ -103,13 +98,14 @@ pub fn keep_events<J: Device>(
         → LeavesOnly J.moment J.left_since journal.old.device journal.new.device
         (λ c. IsMemoryOfTaken t replica.old.count replica.old.index (state replica.old) events.items (recorded c)) }
     ensures device_failed { IsErrOf result NoteError.DeviceFailed → HasRisen (J.failure_count journal.old.device) (J.failure_count journal.new.device) }
+    ensures errors { IfErr result (λ e. IsOfKeeping e) }
 {
     taken_is_told();
     told_goes_on();
     let mut batch = Batch::new(alloc);
     let taken = match take_events(alloc, replica, &mut batch, events) {
         Ok(taken) => taken,
-        Err(error) => return Err(before_the_device(error)),
+        Err(error) => return Err(error),
     };
     settle(journal, &batch)?;
     Ok(taken)

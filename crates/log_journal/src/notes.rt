@@ -3,7 +3,7 @@ ghost use Rattle.std.specs.Prelude.{◌≡◌, ◌<◌, ◌^◌, ◌∷◌, [], 
 ghost use Rattle.ldap_op.specs.Grammar.{IsOp};
 ghost use Rattle.log_journal.specs.Fields.{AreInRange};
 ghost use Rattle.log_journal.specs.Notes.{Begin, Start, Step, Commit, Puts, plain, flag, PutsFields, IsEntryIn};
-ghost use Rattle.log_journal.specs.Refused.{HasNoRoom, HasNoRoomFor, IsOfPutting};
+ghost use Rattle.log_journal.specs.Refused.{HasNoRoom, HasNoRoomFor, IsOfNoting, IsOfPutting};
 ghost use Rattle.log_journal.specs.Views.{fields_view};
 ghost use Rattle.vr_state.specs.Journaled.{Enter, Record, Stage, Adopt};
 
@@ -51,6 +51,7 @@ fn put_fields(alloc: Global, batch: &mut Batch, fields: &Fields<'_>) -> Result<(
     ensures err { OnErr result (batch.new ≡ batch.old) }
     ensures errors { IfErr result (λ e. IsOfPutting e) }
     ensures full { IsErrOf result NoteError.Full → HasNoRoomFor (fields_view fields.now) batch.old }
+    ensures noting { IfErr result (λ e. IsOfNoting e) }
 {
     see_fields(fields);
     fields_are_read();
@@ -125,6 +126,7 @@ pub fn put_start(
 pub fn put_enter(alloc: Global, batch: &mut Batch, view_number: u64) -> Result<(), NoteError>
     ensures ok { OnOk result (Puts (Step (Enter view_number) ∷ []) batch.old batch.new) }
     ensures err { OnErr result (batch.new ≡ batch.old) }
+    ensures noting { IfErr result (λ e. IsOfNoting e) }
 {
     put_fields(alloc, batch, &plain(2, view_number, 0, 0, 0))?;
     Ok(())
@@ -142,6 +144,7 @@ pub fn put_adopt(
 ) -> Result<(), NoteError>
     ensures ok { OnOk result (Puts (Step (Adopt view_number last_normal_view base commit_number) ∷ []) batch.old batch.new) }
     ensures err { OnErr result (batch.new ≡ batch.old) }
+    ensures noting { IfErr result (λ e. IsOfNoting e) }
 {
     put_fields(
         alloc,
@@ -188,6 +191,7 @@ pub fn put_record(
 ) -> Result<(), NoteError>
     ensures ok { OnOk result (Puts (Step (Record commit_number entry.now) ∷ []) batch.old batch.new) }
     ensures err { OnErr result (batch.new ≡ batch.old) }
+    ensures noting { IfErr result (λ e. IsOfNoting e) }
 {
     let octets = spell(&entry.payload)?;
     put_fields(alloc, batch, &entry_fields(3, commit_number, entry, octets))?;
@@ -198,6 +202,7 @@ pub fn put_record(
 pub fn put_stage(alloc: Global, batch: &mut Batch, entry: &LogEntry<Op>) -> Result<(), NoteError>
     ensures ok { OnOk result (Puts (Step (Stage entry.now) ∷ []) batch.old batch.new) }
     ensures err { OnErr result (batch.new ≡ batch.old) }
+    ensures noting { IfErr result (λ e. IsOfNoting e) }
 {
     let octets = spell(&entry.payload)?;
     put_fields(alloc, batch, &entry_fields(4, 0, entry, octets))?;

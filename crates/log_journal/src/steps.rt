@@ -1,6 +1,7 @@
 //! Puts what a step of a replica notes into a batch. How much of two logs is alike is found out elsewhere.
-ghost use Rattle.std.specs.Prelude.{◌≡◌, ◌≤◌, ◌∷◌, [], length, map, OnOk};
+ghost use Rattle.std.specs.Prelude.{◌≡◌, ◌≤◌, ◌∷◌, [], length, map, OnOk, IfErr};
 ghost use Rattle.log_journal.specs.Notes.{Step, Puts};
+ghost use Rattle.log_journal.specs.Refused.{IsOfNoting};
 ghost use Rattle.log_journal.specs.Steps.{adopted, before_of, entered, grown, notes_since, only_grew};
 ghost use Rattle.vr_state.specs.Journaled.{Record, Stage, Enter};
 ghost use Rattle.vr_state.specs.State.{is_normal};
@@ -73,7 +74,8 @@ fn put_records(
     commit_number: u64,
     entries: &[LogEntry<Op>],
 ) -> Result<(), NoteError>
-    ensures { OnOk result (Puts (map (λ e. Step (Record commit_number e)) entries.now) batch.old batch.new) }
+    ensures ok { OnOk result (Puts (map (λ e. Step (Record commit_number e)) entries.now) batch.old batch.new) }
+    ensures errors { IfErr result (λ e. IsOfNoting e) }
 {
     for entry in entries {
         put_record(alloc, batch, commit_number, entry)?;
@@ -83,7 +85,8 @@ fn put_records(
 
 /// Notes records that wait to be adopted.
 fn put_stages(alloc: Global, batch: &mut Batch, entries: &[LogEntry<Op>]) -> Result<(), NoteError>
-    ensures { OnOk result (Puts (map (λ e. Step (Stage e)) entries.now) batch.old batch.new) }
+    ensures ok { OnOk result (Puts (map (λ e. Step (Stage e)) entries.now) batch.old batch.new) }
+    ensures errors { IfErr result (λ e. IsOfNoting e) }
 {
     for entry in entries {
         put_stage(alloc, batch, entry)?;
@@ -99,7 +102,8 @@ fn put_adopted(
     replica: &Replica<Op>,
 ) -> Result<(), NoteError>
     requires { base ≤ length replica.now.log }
-    ensures { OnOk result (Puts (map (λ x. Step x) (adopted base (state replica.now))) batch.old batch.new) }
+    ensures ok { OnOk result (Puts (map (λ x. Step x) (adopted base (state replica.now))) batch.old batch.new) }
+    ensures errors { IfErr result (λ e. IsOfNoting e) }
 {
     let (_, behind) = replica.log.as_slice().split_at(base);
     put_stages(alloc, batch, behind)?;
@@ -121,7 +125,8 @@ fn put_grown(
     length: u64,
     replica: &Replica<Op>,
 ) -> Result<(), NoteError>
-    ensures { OnOk result (Puts (map (λ x. Step x) (grown length (state replica.now))) batch.old batch.new) }
+    ensures ok { OnOk result (Puts (map (λ x. Step x) (grown length (state replica.now))) batch.old batch.new) }
+    ensures errors { IfErr result (λ e. IsOfNoting e) }
 {
     let from = (length as usize).min(replica.log.len());
     let (_, behind) = replica.log.as_slice().split_at(from);
@@ -136,7 +141,8 @@ fn put_entered(
     before: u64,
     view_number: u64,
 ) -> Result<(), NoteError>
-    ensures { OnOk result (Puts (map (λ x. Step x) (entered before view_number)) batch.old batch.new) }
+    ensures ok { OnOk result (Puts (map (λ x. Step x) (entered before view_number)) batch.old batch.new) }
+    ensures errors { IfErr result (λ e. IsOfNoting e) }
 {
     if before < view_number {
         put_enter(alloc, batch, view_number)?;
@@ -161,7 +167,8 @@ pub fn put_step(
     replica: &Replica<Op>,
 ) -> Result<(), NoteError>
     requires { base ≤ length replica.now.log }
-    ensures { OnOk result (Puts (map (λ x. Step x) (notes_since before base (state replica.now))) batch.old batch.new) }
+    ensures ok { OnOk result (Puts (map (λ x. Step x) (notes_since before base (state replica.now))) batch.old batch.new) }
+    ensures errors { IfErr result (λ e. IsOfNoting e) }
 {
     if !is_normal(replica.status) {
         put_entered(alloc, batch, before.view_number, replica.view_number)?;

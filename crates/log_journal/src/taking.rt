@@ -1,5 +1,6 @@
 //! A replica takes a batch of events: each makes its step, and what it notes is put into the batch.
-ghost use Rattle.std.specs.Prelude.{◌≡◌, ◌≤◌, length, take, IfOk, IfSome, MatchOption};
+ghost use Rattle.std.specs.Prelude.{◌≡◌, ◌≤◌, length, take, IfOk, IfErr, IfSome, MatchOption};
+ghost use Rattle.log_journal.specs.Refused.{IsOfNoting};
 ghost use Rattle.log_journal.specs.Taken.{Takes, TakesAll};
 ghost use Rattle.vr_state.specs.Views.{state};
 
@@ -67,6 +68,7 @@ fn take_event(
     ensures taken { IfOk result (λ taken. Takes replica.old.count replica.old.index (state replica.old) event taken (state replica.new) batch.old batch.new) }
     ensures index { replica.new.index ≡ replica.old.index }
     ensures count { replica.new.count ≡ replica.old.count }
+    ensures errors { IfErr result (λ e. IsOfNoting e) }
 {
     let before = Before::of(replica, &event);
     let held = match log_before(alloc, replica, &event) {
@@ -93,6 +95,7 @@ pub fn take_events(
     ensures taken { IfOk result (λ taken. TakesAll replica.old.count replica.old.index (state replica.old) events.items taken.items (state replica.new) batch.old batch.new) }
     ensures index { replica.new.index ≡ replica.old.index }
     ensures count { replica.new.count ≡ replica.old.count }
+    ensures errors { IfErr result (λ e. IsOfNoting e) }
 {
     let mut all = Vec::with_capacity(alloc, events.len())?;
     for event in events {

@@ -11,5 +11,5 @@ returns-clause-taken c = record {
   step = c.in-Ok-step.ensures.step;
   base = c.shared_with-base.result;
   alike = alike_of c.in-Ok.held c.args.replica.now.log c.step.new.replica.log c.shared_with-base.result c.in-Ok.ensures c.shared_with-base.ensures.alike;
-  puts = subst (λ (b : Before). Puts (map (λ x. Step x) (notes_since b c.shared_with-base.result (state c.step.new.replica))) c.args.batch.now c.put_step.new.batch) c.of-before.ensures c.in_ok-put_step.ensures;
+  puts = subst (λ (b : Before). Puts (map (λ x. Step x) (notes_since b c.shared_with-base.result (state c.step.new.replica))) c.args.batch.now c.put_step.new.batch) c.of-before.ensures c.in_ok-put_step.ensures.ok;
 }
