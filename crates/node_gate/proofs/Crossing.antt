@@ -10,7 +10,6 @@ use Rattle.std.proofs.string.String.TheSendSync as string
 use Rattle.std.proofs.sync.Condvar.TheSendSync as condvar
 use Rattle.std.proofs.sync.Mutex.TheSendSync as mutex
 use Rattle.node_gate.proofs.inbox.Inbox.TheSendSync as inbox
-use Rattle.node_gate.proofs.incarnation.Incarnation.TheSendSync as incarnation
 use Rattle.node_gate.proofs.running.Call.TheSendSync as call
 use Rattle.node_gate.proofs.standing.LastStanding.TheSendSync as standing
 use Rattle.dir_node.proofs.Crossing.{node_send}
@@ -20,60 +19,61 @@ use Rattle.dir_node.specs.declared.Device as Device
 use Rattle.dir_node.specs.log_journal.journal.declared.device.Device as JournalDevice
 use Rattle.dir_seats.proofs.Crossing.{publisher_send, teller_field_sync}
 pub use Rattle.dir_seats.proofs.Crossing.{seat_send}
-use Rattle.node_gate.specs.contracts.held.Here as Here
+use Rattle.node_gate.specs.declared.identity.Identity as Identity
+use Rattle.node_gate.specs.contracts.published.Here as Here
+use Rattle.node_gate.specs.contracts.published.PublishedNode as PublishedNode
 use Rattle.node_gate.specs.contracts.held.Held as Held
 use Rattle.node_gate.specs.contracts.running.Running as Running
 use Rattle.node_gate.specs.contracts.gate.NodeGate as NodeGate
 
-module _ (D J : RattleType) (g : Device.Ghosts D.Denot) (h : JournalDevice.Ghosts J.Denot) where
-  held_send : (a : NamedLft) (R : RattleType) → IsSync R → IsSend D → IsSend J → IsSend (Held.the_row a R D J g h)
-  held_send a R y s t =
-      recorded_send (Held.the_field a R D J g h).row _ _ (Held.the_type a R D J g h).to_one
-      (struct_send (Declared.shape (Held.the_type a R D J g h))
-      (node_send D J g h s t, (publisher_send Here.the_row _ (shr_send _ _ R y), (search (crosses, sendable) depth 40, (plain_send _ _ _ _ _, (plain_send _ _ _ _ _, (incarnation.the_field_send, tt)))))))
+module _ (D J I : RattleType) (g : Device.Ghosts D.Denot) (h : JournalDevice.Ghosts J.Denot) (i : Identity.Ghosts I.Denot) where
+  published_field_send : (a : NamedLft) (R : RattleType) → IsSync R → IsSend D → IsSend J → IsSend (PublishedNode.the_field a R D J g h).row
+  published_field_send a R y s t =
+      struct_send (Declared.shape (PublishedNode.the_type a R D J g h))
+      (node_send D J g h s t, (publisher_send Here.the_row _ (shr_send _ _ R y), tt))
 
-  pub running_sync : (a : NamedLft) (R : RattleType) → IsSync R → IsSend D → IsSend J → IsSync (Running.the_row a R D J g h)
+  held_send : (a : NamedLft) (R : RattleType) → IsSync R → IsSend D → IsSend J → IsSend (Held.the_row a R D J I g h i)
+  held_send a R y s t =
+      recorded_send (Held.the_field a R D J I g h i).row _ _ (Held.the_type a R D J I g h i).to_one
+      (struct_send (Declared.shape (Held.the_type a R D J I g h i))
+      (published_field_send a R y s t, (search (crosses, sendable) depth 40, (plain_send _ _ _ _ _, (plain_send _ _ _ _ _, (phantom.the_field_send I, tt))))))
+
+  pub running_sync : (a : NamedLft) (R : RattleType) → IsSync R → IsSend D → IsSend J → IsSync (Running.the_row a R D J I g h i)
   running_sync a R y s t =
-      let held : IsSend (Held.the_row a R D J g h) = held_send a R y s t in
-      recorded_sync (Running.the_field a R D J g h).row _ _ (Running.the_type a R D J g h).to_one
-      (struct_sync (Declared.shape (Running.the_type a R D J g h)) (
-        incarnation.the_field_sync,
+      let held : IsSend (Held.the_row a R D J I g h i) = held_send a R y s t in
+      recorded_sync (Running.the_field a R D J I g h i).row _ _ (Running.the_type a R D J I g h i).to_one
+      (struct_sync (Declared.shape (Running.the_type a R D J I g h i)) (
+        search (held, mutex.the_sync) depth 20,
         (
-          search (held, mutex.the_sync) depth 20,
+          standing.the_field_sync,
           (
-            standing.the_field_sync,
+            teller_field_sync Here.the_row,
             (
-              teller_field_sync Here.the_row,
+              condvar.the_field_sync,
               (
-                condvar.the_field_sync,
-                (
-                  search (inbox.the_sync, inbox.the_field_sync, sendable) depth 20,
-                  (search (send.the_send, op.the_send, mutex.the_sync, maps_cross, crosses, sendable) depth 60 fits 20000, (search (call.the_send, mutex.the_sync) depth 20, (condvar.the_field_sync, tt))),
-                ),
+                search (inbox.the_sync, sendable) depth 20,
+                (search (send.the_send, op.the_send, mutex.the_sync, maps_cross, crosses, sendable) depth 60 fits 20000, (search (call.the_send, mutex.the_sync) depth 20, (condvar.the_field_sync, tt))),
               ),
             ),
           ),
         ),
       ))
 
-  pub gate_send : (a b : NamedLft) (R P : RattleType) → IsSync R → IsSend D → IsSend J → IsSend P → IsSend (NodeGate.the_row a b R D J P g h)
+  pub gate_send : (a b : NamedLft) (R P : RattleType) → IsSync R → IsSend D → IsSend J → IsSend P → IsSend (NodeGate.the_row a b R D J I P g h i)
   gate_send a b R P y s t p =
-      let running : IsSync (Running.the_row b R D J g h) = running_sync b R y s t in
-      recorded_send (NodeGate.the_field a b R D J P g h).row _ _ (NodeGate.the_type a b R D J P g h).to_one
-      (struct_send (Declared.shape (NodeGate.the_type a b R D J P g h)) (
+      let running : IsSync (Running.the_row b R D J I g h i) = running_sync b R y s t in
+      recorded_send (NodeGate.the_field a b R D J I P g h i).row _ _ (NodeGate.the_type a b R D J I P g h i).to_one
+      (struct_send (Declared.shape (NodeGate.the_type a b R D J I P g h i)) (
         shr_send _ _ R y,
         (
           search (running, sendable) depth 20,
           (
-            incarnation.the_field_send,
+            p,
             (
-              p,
+              search (crosses, sendable, string.the_sync) depth 20,
               (
-                search (crosses, sendable, string.the_sync) depth 20,
-                (
-                  search (crosses, sendable) depth 20,
-                  (plain_send _ _ _ _ _, (search (crosses, sendable) depth 20, (search (phantom.the_field_send) depth 5, tt))),
-                ),
+                search (crosses, sendable) depth 20,
+                (plain_send _ _ _ _ _, (search (crosses, sendable) depth 20, (search (phantom.the_field_send) depth 5, tt))),
               ),
             ),
           ),

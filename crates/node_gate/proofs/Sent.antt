@@ -1,5 +1,5 @@
 -- What a step sends is what was handed over. An event at a node and what was taken flow in; that it is the step's flows out.
-use Rattle.std.proofs.Common.{ℕ, List, [], ◌∷◌, ◌++◌, subst}
+use Rattle.std.proofs.Common.{ℕ, List, ◌++◌, subst}
 use Rattle.dir_node.specs.dir_store.ldap_op.Values.{OpValue}
 use Rattle.dir_node.specs.vr_state.Outcome as steps
 use Rattle.dir_node.specs.vr_state.declared.event.Event.{Event}

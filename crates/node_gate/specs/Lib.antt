@@ -1,4 +1,4 @@
-pub mod Incarnations
+pub mod Identities
 pub mod Shared
 pub mod Given
 pub mod Handled

@@ -11,8 +11,7 @@ use Rattle.dir_node.specs.NodeState.{NodeValue}
 use Rattle.dir_node.specs.Outcomes.{OutcomeValue, done, pending, stale, lost, outcome_of, standing_of}
 use Rattle.dir_node.specs.declared.standing.Standing.{Standing}
 use Rattle.dir_node.specs.declared.standing.Standing.TheVariants.{Recovering}
-use Rattle.node_gate.specs.declared.incarnation.Incarnation.{Incarnation}
-use Rattle.node_gate.specs.Incarnations.{incarnation_of}
+use Rattle.node_gate.specs.Identities.{NodeIdentity, identity_of}
 
 -- how a node stands to sessions: as one that recovers, until it has committed as much as its journal told when it went on from it
 abbrev pub standing_to_sessions : {D J : Type 0} → NodeValue D J → Standing
@@ -25,18 +24,17 @@ EndsAs o talk.stale = o ≡ stale
 EndsAs o talk.lost = (o ≡ lost) ⊎ (o ≡ pending)
 EndsAs o talk.refused_memory = (number : ℕ) × ((reply : ReplyModel) × (o ≡ done number reply))
 
--- A request ended as its outcome at this state of a node of this start; at a node of another it counts as lost.
-abbrev pub SettlesAs : {D J : Type 0} → Incarnation → NodeValue D J → Client → ℕ → EndedValue → Type 0
-SettlesAs own held client number ended =
-    ((incarnation_of held ≡ own) × EndsAs (outcome_of held client number) ended) ⊎ ((incarnation_of held ≡ own → ⊥) × (ended ≡ talk.lost))
+-- A request ended as its outcome at this state of the node of this identity.
+abbrev pub SettlesAs : {D J : Type 0} → NodeIdentity → NodeValue D J → Client → ℕ → EndedValue → Type 0
+SettlesAs own held client number ended = (identity_of held ≡ own) × EndsAs (outcome_of held client number) ended
 
--- A request ended as its outcome at this state of a node of this start, if one was taken under the lock.
-abbrev pub IsEndedAt : {D J : Type 0} → Incarnation → Option (NodeValue D J) → Client → ℕ → EndedValue → Type 0
+-- A request ended as its outcome at this state of the node of this identity, if one was taken under the lock.
+abbrev pub IsEndedAt : {D J : Type 0} → NodeIdentity → Option (NodeValue D J) → Client → ℕ → EndedValue → Type 0
 IsEndedAt own None client number ended = ⊥
-IsEndedAt own (Some held) client number ended = (incarnation_of held ≡ own) × EndsAs (outcome_of held client number) ended
+IsEndedAt own (Some held) client number ended = SettlesAs own held client number ended
 
 -- An update is lost where the node doesn't take it, and isn't made where there is no memory for it; else it ended as its outcome at that state.
-abbrev pub IsUpdated : {D J : Type 0} → Incarnation → Option (NodeValue D J) → Client → ℕ → EndedValue → Type 0
+abbrev pub IsUpdated : {D J : Type 0} → NodeIdentity → Option (NodeValue D J) → Client → ℕ → EndedValue → Type 0
 IsUpdated own held client number (talk.done place reply) = IsEndedAt own held client number (talk.done place reply)
 IsUpdated own held client number talk.stale = IsEndedAt own held client number talk.stale
 IsUpdated own held client number talk.lost = Unit {0}
@@ -49,8 +47,8 @@ IsRefused talk.stale = ⊥
 IsRefused talk.lost = Unit {0}
 IsRefused talk.refused_memory = Unit {0}
 
--- what a gate to a node of this start may be told, where it took this state of the node under the lock
-abbrev pub gates : {D J : Type 0} → Incarnation → Option (NodeValue D J) → Exchange (Option ExecutedValue) → Type 0
+-- what a gate to the node of this identity may be told, where it took this state of the node under the lock
+abbrev pub gates : {D J : Type 0} → NodeIdentity → Option (NodeValue D J) → Exchange (Option ExecutedValue) → Type 0
 gates own held (asked_role role told) = Unit {0}
 gates own held (learned told) = ⊥
 gates own held (searched named q looked) = ⊥

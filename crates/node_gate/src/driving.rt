@@ -4,11 +4,13 @@ ghost use Rattle.std.specs.Prelude.{◌≡◌, OnOk, OnErr};
 ghost use Rattle.node_gate.specs.Batches.{TakesBatch, sends_in, sends_of};
 ghost use Rattle.node_gate.specs.Sent.{TakesAll};
 
+use crate::arrival::Arrival;
 use crate::held::Held;
+use crate::identity::Identity;
 use crate::inbox::{Batch, Inbox};
 use crate::peers::Peers;
 use crate::running::{Running, Ticked, copies, send_outputs};
-use dir_node::{Device, Event, JournalDevice, NodeError, Op, Outputs, PeerMessage, Send};
+use dir_node::{Device, Event, JournalDevice, NodeError, Op, Outputs, Send};
 use replica_clock::{Asked, Due};
 use std::alloc::{AllocError, Global};
 use std::sync::Wait;
@@ -44,9 +46,9 @@ fn send_each<P: Peers>(peers: &mut P, outputs: Vec<Given>)
 }
 
 /// Hands a batch of events to the node, and over what its steps send; copies of what the event at this place has sent.
-fn take_all<R: Wait, D: Device, J: JournalDevice, P: Peers>(
+fn take_all<R: Wait, D: Device, J: JournalDevice, I: Identity, P: Peers>(
     alloc: Global,
-    held: &mut Held<'_, R, D, J>,
+    held: &mut Held<'_, R, D, J, I>,
     peers: &mut P,
     events: Vec<Event<Op>>,
     beat_at: Option<usize>,
@@ -60,7 +62,7 @@ fn take_all<R: Wait, D: Device, J: JournalDevice, P: Peers>(
     Ok(beat)
 }
 
-impl<'a, R: Wait, D: Device, J: JournalDevice> Running<'a, R, D, J> {
+impl<'a, R: Wait, D: Device, J: JournalDevice, I: Identity> Running<'a, R, D, J, I> {
     /// Whether a thread drives the node, so that events are posted.
     pub fn is_driven(&self) -> bool {
         self.inbox.is_some()
@@ -99,22 +101,20 @@ impl<'a, R: Wait, D: Device, J: JournalDevice> Running<'a, R, D, J> {
         }
     }
 
-    /// Hands the message of another replica to the node, at this moment, or posts it where a thread drives the node.
+    /// Hands the message of another replica to the node, or posts it where a thread drives the node.
     pub fn give_message<P: Peers>(
         &self,
         rt: &R,
         alloc: Global,
         peers: &mut P,
-        from: u64,
-        message: PeerMessage<Op>,
-        now: u64,
+        arrival: Arrival,
     ) -> Result<(), NodeError> {
         match &self.inbox {
             Some(inbox) => {
-                inbox.post_message(rt, from, message, now)?;
+                inbox.post_message(rt, arrival)?;
                 Ok(())
             }
-            None => self.hear(rt, alloc, peers, from, message, now),
+            None => self.hear(rt, alloc, peers, arrival),
         }
     }
 

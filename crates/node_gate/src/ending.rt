@@ -4,7 +4,6 @@ ghost use Rattle.dir_seats.specs.directory_api.View.{ended_view};
 ghost use Rattle.dir_node.specs.Outcomes.{outcome_of};
 ghost use Rattle.node_gate.specs.Shared.{EndsAs};
 
-use crate::incarnation::Incarnation;
 use dir_node::{Client, Device, JournalDevice, Node, Outcome};
 use dir_seats::Ended;
 use std::alloc::Global;
@@ -17,8 +16,6 @@ pub struct Request {
     pub number: u64,
     /// Which of the events that were posted it is, from 1 on; 0 where none are.
     pub event: u64,
-    /// Which start of which replica the node is.
-    pub incarnation: Incarnation,
 }
 
 /// How a client's request of this number ended; one that is still to come counts as lost.

@@ -46,6 +46,7 @@ pub fn execute_node<D: Device, J: JournalDevice>(alloc: Global, node: &mut Node<
     ensures executed { CatchesUp result node.old.executed.records
         (due_after (length node.old.executed.records) node.old.replica.commit_number node.old.replica.log) node.new.executed.records }
     ensures nothing_else { node.new ≡ record node.old { executed = node.new.executed } }
+    ensures same { IsSameNode node.old node.new }
 {
     node.execute_due(alloc)
 }

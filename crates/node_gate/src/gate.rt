@@ -5,9 +5,9 @@ ghost use Rattle.dir_seats.specs.directory_api.View.{ended_view};
 ghost use Rattle.node_gate.specs.Shared.{IsRefused, IsUpdated};
 
 use crate::ending::Request;
-use crate::held::Here;
-use crate::incarnation::Incarnation;
+use crate::identity::Identity;
 use crate::peers::Peers;
+use crate::published::Here;
 use crate::running::Running;
 use dir_node::{Client, Device, Event, JournalDevice, LogEntry, Node, NodeError, Op, Standing};
 use dir_seats::{Ended, Gate, Role, Told, Update};
@@ -18,11 +18,9 @@ use std::sync::Wait;
 use std::sync::atomic::AtomicBool;
 
 /// One session's way to a node for updates. The runtime is a part of it, since an update waits for its outcome.
-pub struct NodeGate<'a, 'r, R: Wait, D: Device, J: JournalDevice, P> {
+pub struct NodeGate<'a, 'r, R: Wait, D: Device, J: JournalDevice, I: Identity, P> {
     rt: &'a R,
-    running: &'a Running<'r, R, D, J>,
-    /// Which start of which replica the node was opened as.
-    incarnation: Incarnation,
+    running: &'a Running<'r, R, D, J, I>,
     peers: P,
     /// The URI of each replica, by index (RFC 4516).
     uris: &'a [String],
@@ -36,12 +34,12 @@ pub struct NodeGate<'a, 'r, R: Wait, D: Device, J: JournalDevice, P> {
 }
 
 // Not derived: see "What the gate takes" in docs/ARCHITECTURE.md.
-impl<'a, 'r, R: Wait, D: Device, J: JournalDevice, P: Drop> Drop for NodeGate<'a, 'r, R, D, J, P> {
+impl<'a, 'r, R: Wait, D: Device, J: JournalDevice, I: Identity, P: Drop> Drop
+    for NodeGate<'a, 'r, R, D, J, I, P> {
     fn drop(self) {
         let NodeGate {
             rt: _,
             running: _,
-            incarnation: _,
             peers: _,
             uris: _,
             has_left: _,
@@ -52,21 +50,19 @@ impl<'a, 'r, R: Wait, D: Device, J: JournalDevice, P: Drop> Drop for NodeGate<'a
     }
 }
 
-impl<'a, 'r, R: Wait, D: Device, J: JournalDevice, P> NodeGate<'a, 'r, R, D, J, P> {
+impl<'a, 'r, R: Wait, D: Device, J: JournalDevice, I: Identity, P> NodeGate<'a, 'r, R, D, J, I, P> {
     pub fn new(
         rt: &'a R,
-        running: &'a Running<'r, R, D, J>,
+        running: &'a Running<'r, R, D, J, I>,
         peers: P,
         uris: &'a [String],
         has_left: &'a AtomicBool,
-    ) -> NodeGate<'a, 'r, R, D, J, P>
-        ensures own { result.incarnation ≡ running.now.incarnation }
+    ) -> NodeGate<'a, 'r, R, D, J, I, P>
         ensures nothing { (result.asked ≡ 0) × (result.held ≡ None) }
     {
         NodeGate {
             rt,
             running,
-            incarnation: running.incarnation,
             peers,
             uris,
             has_left,
@@ -98,11 +94,18 @@ fn ended_by(error: NodeError) -> Ended
     }
 }
 
-impl<'a, 'r, R: Wait, D: Device, J: JournalDevice, P: Peers> NodeGate<'a, 'r, R, D, J, P> {
+impl<'a, 'r, R: Wait, D: Device, J: JournalDevice, I: Identity, P: Peers> NodeGate<
+    'a,
+    'r,
+    R,
+    D,
+    J,
+    I,
+    P,
+> {
     /// Hands a request to the node, and waits for its outcome, or until its client has left: then it counts as lost, and goes on.
     fn ask(&mut self, alloc: Global, client: Client, number: u64, payload: Op) -> Ended
-        ensures ended { IsUpdated self.old.incarnation (option_map (λ s. s.value) self.new.held) client number (ended_view result) }
-        ensures own { self.new.incarnation ≡ self.old.incarnation }
+        ensures ended { IsUpdated I.own (option_map (λ s. s.value) self.new.held) client number (ended_view result) }
         ensures asked { self.new.asked ≡ self.old.asked }
     {
         let event = Event::Request {
@@ -118,7 +121,6 @@ impl<'a, 'r, R: Wait, D: Device, J: JournalDevice, P: Peers> NodeGate<'a, 'r, R,
                     client,
                     number,
                     event,
-                    incarnation: self.incarnation,
                 };
                 let (ended, held) = self.running.settled(self.rt, alloc, request, self.has_left);
                 self.held = Some(held);
@@ -129,17 +131,16 @@ impl<'a, 'r, R: Wait, D: Device, J: JournalDevice, P: Peers> NodeGate<'a, 'r, R,
     }
 }
 
-impl<'a, 'r, R: Wait, D: Device, J: JournalDevice, P: Peers> Gate<Option<Told<Here>>>
-    for NodeGate<'a, 'r, R, D, J, P> {
+impl<'a, 'r, R: Wait, D: Device, J: JournalDevice, I: Identity, P: Peers> Gate<Option<Told<Here>>>
+    for NodeGate<'a, 'r, R, D, J, I, P> {
     ghost use Rattle.std.specs.Prelude.{◌≡◌, ◌+◌, min};
     ghost use Rattle.std.specs.Option.{option_map};
     ghost use Rattle.dir_seats.specs.directory_api.Counting.{updates_of, greatest_count};
     ghost use Rattle.node_gate.specs.Shared.{gates};
 
-    // An update ends as its outcome at a state of this replica's node, of this start, that the lock held; the count rises by one with each.
+    // An update ends as its outcome at a state of the node with this identity that the lock held; the count rises by one with each.
     ghost allows = { λ d x e. (e.asked ≡ min (d.asked + updates_of x) greatest_count)
-        × (e.incarnation ≡ d.incarnation)
-        × gates d.incarnation (option_map (λ s. s.value) e.held) x };
+        × gates I.own (option_map (λ s. s.value) e.held) x };
 
     ghost count = { λ d. d.asked };
 

@@ -1,29 +1,24 @@
-// What the lock holds. Events flow in, one at a time; what they give out flows out, and the seats see what was executed. What must not be
-// here: locks, threads.
-ghost use Rattle.std.specs.Prelude.{◌≡◌, ◌↔◌, IsTrue, IfOk};
+// What the lock holds: the node that threads share, its clock, and whether those who wait are to go on. Locks and threads are above.
+ghost use Rattle.std.specs.Prelude.{◌≡◌, IfOk};
 ghost use Rattle.dir_node.specs.vr_state.declared.event.Event.TheVariants as event;
-ghost use Rattle.node_gate.specs.Given.{IsGiven, HasAll};
 ghost use Rattle.node_gate.specs.Batches.{HasHandledAll};
-ghost use Rattle.node_gate.specs.Handled.{HasExecuted, HasHandled};
-ghost use Rattle.node_gate.specs.Incarnations.{incarnation_of};
+ghost use Rattle.node_gate.specs.Handled.{HasHandled};
+ghost use Rattle.node_gate.specs.Identities.{identity_of};
 ghost use Rattle.node_gate.specs.Shared.{standing_to_sessions};
 
+use crate::arrival::Arrival;
 use crate::ending::Request;
-use crate::events::{execute_node, handle_node, handle_node_all};
+use crate::identity::Identity;
 use crate::inbox::Heard;
-use crate::incarnation::Incarnation;
+use crate::published::PublishedNode;
 pub use dir_node::Standing;
 use dir_node::{
-    AllHandled, Cluster, Device, Event, Handled, JournalDevice, Node, NodeError, Op, Outcome,
-    PeerMessage, Status,
+    AllHandled, Device, Event, Handled, JournalDevice, Node, NodeError, Op, Outcome, Status,
 };
-use dir_seats::Publisher;
 use replica_clock::{Asked, ReplicaClock, Sign, sign_of};
 use std::alloc::Global;
+use std::marker::PhantomData;
 use std::sync::Wait;
-
-/// Which node a seat is of: there is one in a process.
-pub struct Here;
 
 /// What a node does at a moment.
 #[derive(Clone, Copy, Debug, PartialEq, Eq)]
@@ -43,30 +38,27 @@ impl Pulse {
     }
 }
 
-/// The node, what its seats see of it, its clock, and whether those who wait are to go on. What its seats see, and what they are to see next, is a
-/// beginning of what it has executed. It stays one start of one replica.
-pub struct Held<'a, R: Wait, D: Device, J: JournalDevice> {
-    node: Node<D, J>,
-    publisher: Publisher<Here, &'a R>,
+/// The node with this identity, what its seats see of it, its clock, and whether those who wait are to go on.
+pub struct Held<'a, R: Wait, D: Device, J: JournalDevice, I: Identity> {
+    published: PublishedNode<'a, R, D, J>,
     clock: ReplicaClock,
     pub is_stopping: bool,
     /// How many of the events that were posted the node has had.
     pub had: u64,
-    incarnation: Incarnation,
-    ghost shows: { IsGiven node.executed publisher },
-    ghost stays: { incarnation_of node ≡ incarnation },
+    of: PhantomData<I>,
+    ghost stays: { identity_of published.node ≡ I.own },
 }
 
 // Not derived: see "What the gate takes" in docs/ARCHITECTURE.md.
-impl<'a, R: Wait, D: Device + Drop, J: JournalDevice + Drop> Drop for Held<'a, R, D, J> {
+impl<'a, R: Wait, D: Device + Drop, J: JournalDevice + Drop, I: Identity> Drop
+    for Held<'a, R, D, J, I> {
     fn drop(self) {
         let Held {
-            node: _,
-            publisher: _,
+            published: _,
             clock: _,
             is_stopping: _,
             had: _,
-            incarnation: _,
+            of: _,
         } = self;
     }
 }
@@ -80,71 +72,45 @@ pub fn status_of(standing: Standing) -> Status {
     }
 }
 
-impl<'a, R: Wait, D: Device, J: JournalDevice> Held<'a, R, D, J> {
-    /// A node of this cluster, and the publisher to its seats.
-    pub fn new(
-        node: Node<D, J>,
-        publisher: Publisher<Here, &'a R>,
-        clock: ReplicaClock,
-        cluster: Cluster,
-    ) -> Held<'a, R, D, J>
-        requires shows { IsGiven node.executed publisher }
-        requires cluster { node.cluster ≡ cluster }
-        ensures own { result.incarnation ≡ incarnation_of node }
+impl<'a, R: Wait, D: Device, J: JournalDevice, I: Identity> Held<'a, R, D, J, I> {
+    /// The node with this identity, and its clock.
+    pub fn new(published: PublishedNode<'a, R, D, J>, clock: ReplicaClock) -> Held<'a, R, D, J, I>
+        requires { identity_of published.node ≡ I.own }
     {
-        let incarnation = Incarnation {
-            index: node.index(),
-            count: node.count(),
-            cluster,
-            restarts: node.restarts(),
-        };
         Held {
-            node,
-            publisher,
+            published,
             clock,
             is_stopping: false,
             had: 0,
-            incarnation,
+            of: PhantomData,
         }
     }
 
     pub fn node(&self) -> &Node<D, J>
-        ensures { result.now ≡ self.now.node }
+        ensures { result.now ≡ self.now.published.node }
     {
-        &self.node
-    }
-
-    /// Which start of which replica the node is.
-    pub fn incarnation(&self) -> Incarnation
-        ensures { result ≡ self.now.incarnation }
-    {
-        self.incarnation
-    }
-
-    /// Whether the node is this start of this replica.
-    pub fn is_of(&self, incarnation: &Incarnation) -> bool
-        ensures { IsTrue result ↔ (incarnation_of self.now.node ≡ incarnation.now) }
-    {
-        self.incarnation == *incarnation
+        self.published.node()
     }
 
     /// What the node does now.
     pub fn pulse(&self) -> Pulse {
+        let node = self.node();
         Pulse {
-            standing: self.node.standing(),
-            view_number: self.node.view_number(),
-            last_update: self.node.executed_len() as u64,
-            is_halted: self.node.is_halted(),
+            standing: node.standing(),
+            view_number: node.view_number(),
+            last_update: node.executed_len() as u64,
+            is_halted: node.is_halted(),
         }
     }
 
     /// How the node stands to sessions: one that went on from its journal is as one that recovers, until it has committed as much
     /// as it may have shown before.
     pub fn standing(&self) -> Standing
-        ensures { result ≡ standing_to_sessions self.now.node }
+        ensures { result ≡ standing_to_sessions self.now.published.node }
     {
-        if self.node.is_caught_up() {
-            self.node.standing()
+        let node = self.node();
+        if node.is_caught_up() {
+            node.standing()
         } else {
             Standing::Recovering
         }
@@ -157,14 +123,9 @@ impl<'a, R: Wait, D: Device, J: JournalDevice> Held<'a, R, D, J> {
 
     /// Hands an event to the node, and shows its seats what it then has executed. It is behind too where there was no memory to show all.
     pub fn handle(&mut self, alloc: Global, event: Event<Op>) -> Result<Handled, NodeError>
-        ensures { IfOk result (λ h. HasHandled self.old.node event h self.new.node self.new.publisher) }
+        ensures { IfOk result (λ h. HasHandled self.old.published.node event h self.new.published.node self.new.published.publisher) }
     {
-        let Handled { outputs, behind } = handle_node(alloc, &mut self.node, event)?;
-        let is_shown = self.show();
-        Ok(Handled {
-            outputs,
-            behind: behind || !is_shown,
-        })
+        self.published.handle(alloc, event)
     }
 
     /// Hands a batch of events to the node, and shows its seats what it then has executed. It is behind too where there was no
@@ -174,29 +135,14 @@ impl<'a, R: Wait, D: Device, J: JournalDevice> Held<'a, R, D, J> {
         alloc: Global,
         events: Vec<Event<Op>>,
     ) -> Result<AllHandled, NodeError>
-        ensures { IfOk result (λ h. HasHandledAll self.old.node events.items h self.new.node self.new.publisher) }
+        ensures { IfOk result (λ h. HasHandledAll self.old.published.node events.items h self.new.published.node self.new.published.publisher) }
     {
-        let AllHandled { outputs, behind } = handle_node_all(alloc, &mut self.node, events)?;
-        let sees_all = self.show();
-        Ok(AllHandled {
-            outputs,
-            behind: behind || !sees_all,
-        })
-    }
-
-    /// Has the node execute what is committed, before any event, and shows its seats what it then has executed. Whether some of that is left for want of
-    /// memory.
-    pub fn execute_due(&mut self, alloc: Global) -> bool
-        ensures { HasExecuted self.old.node result self.new.node self.new.publisher }
-    {
-        let behind = execute_node(alloc, &mut self.node);
-        let sees_all = self.show();
-        behind || !sees_all
+        self.published.handle_all(alloc, events)
     }
 
     /// The clock is told of the messages that were heard, and of what the node does after them.
     pub fn hear_all(&mut self, heard: &[Heard], now: u64)
-        ensures node { self.new.node ≡ self.old.node }
+        ensures published { self.new.published ≡ self.old.published }
     {
         self.note(now);
         for one in heard {
@@ -205,32 +151,27 @@ impl<'a, R: Wait, D: Device, J: JournalDevice> Held<'a, R, D, J> {
     }
 
     /// Hands the message of another replica to the node, and tells its clock of it.
-    pub fn hear(
-        &mut self,
-        alloc: Global,
-        from: u64,
-        message: PeerMessage<Op>,
-        now: u64,
-    ) -> Result<Handled, NodeError>
-        ensures { IfOk result (λ h. HasHandled self.old.node (event.Message from message) h self.new.node self.new.publisher) }
+    pub fn hear(&mut self, alloc: Global, arrival: Arrival) -> Result<Handled, NodeError>
+        ensures { IfOk result (λ h. HasHandled self.old.published.node (event.Message arrival.from arrival.message) h self.new.published.node self.new.published.publisher) }
     {
+        let Arrival { from, message, at } = arrival;
         let sign = sign_of(&message);
         let handled = self.handle(alloc, Event::Message { from, message });
-        self.note(now);
-        self.clock.hear(from, sign, now);
+        self.note(at);
+        self.clock.hear(from, sign, at);
         handled
     }
 
     /// A part of a long message of another replica has come.
     pub fn hear_part(&mut self, from: u64, now: u64)
-        ensures node { self.new.node ≡ self.old.node }
+        ensures published { self.new.published ≡ self.old.published }
     {
         self.clock.hear(from, Sign::Part, now);
     }
 
     /// Asks the node's clock what is due.
     pub fn ask(&mut self, now: u64) -> Asked
-        ensures node { self.new.node ≡ self.old.node }
+        ensures published { self.new.published ≡ self.old.published }
     {
         self.note(now);
         self.clock.ask(now)
@@ -238,26 +179,12 @@ impl<'a, R: Wait, D: Device, J: JournalDevice> Held<'a, R, D, J> {
 
     /// The clock is told what the node does.
     pub fn note(&mut self, now: u64)
-        ensures node { self.new.node ≡ self.old.node }
-        ensures publisher { self.new.publisher ≡ self.old.publisher }
+        ensures published { self.new.published ≡ self.old.published }
     {
-        let status = status_of(self.node.standing());
-        self.clock.note(self.node.view_number(), status, now);
-    }
-
-    /// Shows the seats what the node has executed and they don't see yet; whether they see all of it. What finds no memory is shown after the
-    /// next event.
-    fn show(&mut self) -> bool
-        ensures node { self.new.node ≡ self.old.node }
-        ensures all { IsTrue result → HasAll self.new.node.executed self.new.publisher }
-    {
-        if self.publisher.append(self.node.executed()).is_err() {
-            return false;
-        }
-        if self.publisher.is_behind() && self.publisher.publish().is_err() {
-            return false;
-        }
-        true
+        let node = self.published.node();
+        let view_number = node.view_number();
+        let status = status_of(node.standing());
+        self.clock.note(view_number, status, now);
     }
 
     /// Whether somebody waits for what becomes of a request.
@@ -268,7 +195,7 @@ impl<'a, R: Wait, D: Device, J: JournalDevice> Held<'a, R, D, J> {
         if self.had < request.event {
             return true;
         }
-        match self.node.outcome(request.client, request.number) {
+        match self.node().outcome(request.client, request.number) {
             Outcome::Pending => true,
             Outcome::Done {
                 number: _,

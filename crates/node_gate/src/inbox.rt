@@ -1,5 +1,6 @@
 //! Events that wait for the thread that drives a node with a journal: it takes all of them at once, so that one sync settles them all.
-use dir_node::{Event, NodeError, Op, PeerMessage};
+use crate::arrival::Arrival;
+use dir_node::{Event, NodeError, Op};
 use replica_clock::{Sign, sign_of};
 use std::alloc::{AllocError, Global};
 use std::mem;
@@ -45,12 +46,8 @@ impl Batch {
     }
 
     /// Adds a message. At an error nothing has changed.
-    fn push_message(
-        &mut self,
-        from: u64,
-        message: PeerMessage<Op>,
-        at: u64,
-    ) -> Result<u64, AllocError> {
+    fn push_message(&mut self, arrival: Arrival) -> Result<u64, AllocError> {
+        let Arrival { from, message, at } = arrival;
         let sign = sign_of(&message);
         self.heard.reserve(1)?;
         let number = self.push(Event::Message { from, message })?;
@@ -118,21 +115,15 @@ impl Inbox {
         Ok(number)
     }
 
-    /// Posts the message of another replica that came at this moment, likewise.
-    pub fn post_message<R: Wait>(
-        &self,
-        rt: &R,
-        from: u64,
-        message: PeerMessage<Op>,
-        at: u64,
-    ) -> Result<u64, NodeError> {
+    /// Posts the message of another replica, likewise.
+    pub fn post_message<R: Wait>(&self, rt: &R, arrival: Arrival) -> Result<u64, NodeError> {
         let mut waiting = self.taken.wait_while(rt, self.waiting.lock(rt), |waiting| {
             waiting.batch.events.len() >= EVENTS && !waiting.is_stopping
         });
         if waiting.is_stopping {
             return Err(NodeError::Halted);
         }
-        let number = waiting.batch.push_message(from, message, at)?;
+        let number = waiting.batch.push_message(arrival)?;
         drop(waiting);
         self.came.notify_all();
         Ok(number)

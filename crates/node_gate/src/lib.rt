@@ -1,29 +1,37 @@
 //! Shares a node between threads: the lock around it, a session's gate, which waits for the outcome
 //! of an update, and the seats, which read without the lock.
 //!
-//! A node among threads. `held` is what the lock holds: the node, its publisher and its clock. `running` is the lock, with a condition on
-//! which threads wait for an outcome, until it is there or their client has left. `NodeGate` is a session's gate, a `Seat` its look. Under
-//! the lock an event goes to the node, the seats are shown what is executed, and the step's messages go into the queues (`Peers`). Then
-//! those who wait are woken. The role is one atomic word (`standing`), read without the lock. The thread of the clock rests on a lock of
-//! its own (`rest`). With a journal, events wait in an `inbox`, and one thread takes all of them as one batch (`driving`).
+//! A node among threads. `open` gives an `OpenedNode`, of which `share` makes what threads share. `held` is what the lock holds: the node,
+//! its publisher (`published`) and its clock. `running` is the lock, with a condition on which threads wait for an outcome, until it is
+//! there or their client has left. `NodeGate` is a session's gate, a `Seat` its look. Under the lock an event goes to the node, the seats
+//! are shown what is executed, and the step's messages go into the queues (`Peers`). Then those who wait are woken. The role is one atomic
+//! word (`standing`), read without the lock. The thread of the clock rests on a lock of its own (`rest`). With a journal, events wait in an
+//! `inbox`, and one thread takes all of them as one batch (`driving`).
 //!
-//! Proved: when the lock is free, what seats see begins what the node has executed; an update ends as its outcome at a state of this
-//! replica's node, of this start, that the lock held (`NodeGate`, `Running`). A step's messages are handed over, all, in order, and no others (`Running::handle`, `hear`,
-//! `handle_batch`). A start is a first one, or one that found a pair (`open`).
+//! A lock tells no state of what it holds, but the node's identity never changes. So a type parameter stands for it (`Identity`): it is
+//! picked in the proof of the call that shares the opened node.
+//!
+//! Proved: when the lock is free, what seats see begins what the node has executed; an update ends as its outcome at a state of the opened
+//! node that the lock held (`NodeGate`, `Running`). A step's messages are handed over, all, in order, and no others (`Running::handle`,
+//! `hear`, `handle_batch`). A start is a first one, or one that found a pair (`open`).
 #![tactic(auto)]
 
+mod arrival;
 mod driving;
 mod ending;
 mod events;
 mod gate;
 mod held;
+mod identity;
 mod inbox;
-mod incarnation;
+mod opened;
 mod opening;
 mod peers;
+mod published;
 mod running;
 mod standing;
 
+pub use arrival::Arrival;
 pub use dir_node::{
     Cluster, Event, JournalDevice, Name, Node, NodeConfig, NodeError, NoteError, Op, Outputs,
     PeerMessage, Send, ViewStoreError,
@@ -31,10 +39,12 @@ pub use dir_node::{
 pub use dir_seats::{Seat, Told};
 pub use ending::Request;
 pub use gate::NodeGate;
-pub use held::{Here, Pulse, Standing};
+pub use held::{Pulse, Standing};
+pub use identity::Identity;
 pub use inbox::Batch;
-pub use incarnation::Incarnation;
-pub use opening::{Opened, open};
+pub use opened::{Opened, OpenedNode};
+pub use opening::{OpenOptions, open};
 pub use peers::{Peers, send_all};
+pub use published::Here;
 pub use replica_clock::{Pace, Sign, Times};
 pub use running::{Running, Ticked, copies};

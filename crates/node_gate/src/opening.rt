@@ -1,31 +1,31 @@
-// Opens a node for threads to share, over a device: puts it into its lock, makes its seats, and hands on what its start sends. What must not be
-// here: files, sockets.
+// Opens a node over its devices: starts it, makes its seats, and hands on what its start sends. Threads share it later (`opened`). Files and sockets
+// are above.
 ghost use Rattle.std.specs.Prelude.{◌≡◌, ◌<◌, ◌≤◌, true, false, Some, None, IfOk, OnOk};
 ghost use Rattle.dir_node.specs.NodeState.{IsMade, given, nothing_executed};
 ghost use Rattle.dir_node.specs.Restarting.{IsRestarted};
 ghost use Rattle.dir_node.specs.log_journal.journal.Frames.{recorded};
 ghost use Rattle.dir_node.specs.view_store.Slots.{found};
-ghost use Rattle.node_gate.specs.Incarnations.{IsReplicaOf, incarnation_by};
+ghost use Rattle.node_gate.specs.Identities.{IsReplicaOf, identity_by, identity_of};
 ghost use Rattle.node_gate.specs.Starting.{IsOpenedOver, IsPlain, MayStart, outcome_of_start, pair_of_start, state_of_start};
 
-use crate::held::Here;
 use crate::inbox::Inbox;
-use crate::running::Running;
+use crate::opened::{Opened, OpenedNode};
+use crate::published::PublishedNode;
 use dir_node::{Device, JournalDevice, Node, NodeConfig, NodeError, Op, Outputs};
-use dir_seats::{Seat, seats};
+use dir_seats::seats;
 use replica_clock::Times;
 use std::alloc::Global;
 use std::sync::Wait;
 
-/// A node that threads share, as it begins.
-#[derive(Drop)]
-pub struct Opened<'a, R: Wait, D: Device, J: JournalDevice> {
-    pub running: Running<'a, R, D, J>,
-    pub seats: Vec<Seat<Here>>,
-    /// What its start sends.
-    pub outputs: Outputs<Op>,
-    /// Which start of the replica this is, counted from 1.
-    pub restarts: u64,
+/// How a node is opened.
+#[derive(Clone, Copy)]
+pub struct OpenOptions {
+    /// Whether this is the first start of the replica's life.
+    pub is_fresh: bool,
+    /// How many seats it has, 1 to 32.
+    pub seats: usize,
+    /// When it moves by itself.
+    pub times: Times,
 }
 
 /// The node of a first start.
@@ -98,33 +98,31 @@ fn start<D: Device + Drop, J: JournalDevice + Drop>(
     }
 }
 
-/// The node of a first or a later start over a device, and so many seats, 1 to 32, which see what it has executed. What a seat takes in memory is
-/// made first; the errors are those of the start. Where it goes on from a journal, it has executed what that says is committed when it comes back, so that
-/// its clock and its threads begin after that.
+/// The node of a first or a later start over a device, and its seats, which see what it has executed. What a seat takes in memory is made first; the
+/// errors are those of the start. Where it goes on from a journal, it has executed what that says is committed when it comes back, so that its clock and
+/// its threads begin after that.
 pub fn open<'a, R: Wait, D: Device + Drop, J: JournalDevice + Drop>(
     rt: &'a R,
     alloc: Global,
     device: D,
     journal: Option<J>,
     config: NodeConfig,
-    is_fresh: bool,
-    count: usize,
-    times: Times,
+    options: OpenOptions,
 ) -> Result<Opened<'a, R, D, J>, NodeError>
     requires within { config.index < config.count }
-    requires seats { (0 < count) × (count ≤ 32) }
+    requires seats { (0 < options.seats) × (options.seats ≤ 32) }
 
     // The replica starts for the first time, or from the pair that was found: what it sends is what such a start sends, and its restarts are the pair's.
-    ensures own { IsPlain is_fresh journal → OnOk result (MayStart is_fresh (found config.cluster (D.seen device))) }
-    ensures outputs { IsPlain is_fresh journal → let finding = found config.cluster (D.seen device) in
-        IfOk result (λ opened. given (state_of_start is_fresh config.count finding) opened.outputs ≡ outcome_of_start is_fresh config.count config.index finding) }
-    ensures restarts { IsPlain is_fresh journal → IfOk result (λ opened. opened.restarts ≡ (pair_of_start is_fresh (found config.cluster (D.seen device))).restarts) }
+    ensures own { IsPlain options.is_fresh journal → OnOk result (MayStart options.is_fresh (found config.cluster (D.seen device))) }
+    ensures outputs { IsPlain options.is_fresh journal → let finding = found config.cluster (D.seen device) in
+        IfOk result (λ opened. given (state_of_start options.is_fresh config.count finding) opened.outputs ≡ outcome_of_start options.is_fresh config.count config.index finding) }
+    ensures restarts { IsPlain options.is_fresh journal → IfOk result (λ opened. opened.restarts ≡ (pair_of_start options.is_fresh (found config.cluster (D.seen device))).restarts) }
 
-    // It is the configuration's replica, at that start.
-    ensures own_start { IfOk result (λ opened. opened.running.incarnation ≡ incarnation_by config opened.restarts) }
+    // It is the configuration's replica, at that start, over the configuration's schema, root and index choice.
+    ensures own_start { IfOk result (λ opened. identity_of opened.node ≡ identity_by config opened.restarts) }
 
     // A later start that keeps a journal goes on from it, or recovers and begins it, as its strings say.
-    ensures restarted { (j : J) → is_fresh ≡ false → journal ≡ Some j
+    ensures restarted { (j : J) → options.is_fresh ≡ false → journal ≡ Some j
         → IfOk result (λ opened. IsOpenedOver D J config (found config.cluster (D.seen device)) (recorded (J.seen j)) opened.outputs opened.restarts) }
 {
     let (publisher, seats) = seats(
@@ -133,25 +131,27 @@ pub fn open<'a, R: Wait, D: Device + Drop, J: JournalDevice + Drop>(
         &config.schema,
         &config.indexes,
         &config.suffix,
-        count,
+        options.seats,
     )?;
     let teller = publisher.teller()?;
     let has_journal = journal.is_some();
-    let cluster = config.cluster;
-    let (node, outputs) = start(alloc, device, journal, config, is_fresh)?;
+    let (node, outputs) = start(alloc, device, journal, config, options.is_fresh)?;
     let restarts = node.restarts();
+    let mut published = PublishedNode::new(node, publisher);
     let inbox = if has_journal {
+        // What is left for want of memory is executed after the first event.
+        let _is_behind = published.execute_due(alloc);
         Some(Inbox::new(alloc))
     } else {
         None
     };
-    let running = Running::new(node, publisher, teller, times, inbox, cluster);
-    if has_journal {
-        // What is left for want of memory is executed after the first event.
-        let _is_behind = running.execute_due(rt, alloc);
-    }
     Ok(Opened {
-        running,
+        node: OpenedNode {
+            published,
+            teller,
+            times: options.times,
+            inbox,
+        },
         seats,
         outputs,
         restarts,

@@ -3,22 +3,22 @@
 ghost use Rattle.std.specs.Prelude.{◌≡◌, OnOk, OnErr};
 ghost use Rattle.dir_node.specs.vr_state.declared.event.Event.TheVariants as event;
 ghost use Rattle.dir_seats.specs.directory_api.View.{ended_view};
-ghost use Rattle.node_gate.specs.Given.{IsGiven};
-ghost use Rattle.node_gate.specs.Incarnations.{incarnation_of};
+ghost use Rattle.node_gate.specs.Identities.{identity_of};
 ghost use Rattle.node_gate.specs.Sent.{TakesAll, TakesStep};
 ghost use Rattle.node_gate.specs.Shared.{SettlesAs};
 
+use crate::arrival::Arrival;
 use crate::ending::{Request, ended_at};
-use crate::held::{Held, Here, Pulse, status_of};
+use crate::held::{Held, Pulse, status_of};
+use crate::identity::Identity;
 use crate::inbox::Inbox;
-use crate::incarnation::Incarnation;
 use crate::peers::{Peers, send_all};
+use crate::published::{Here, PublishedNode};
 use crate::standing::LastStanding;
 use dir_node::{
-    Cluster, Device, Event, JournalDevice, Node, NodeError, Op, Outputs, PeerMessage, Send,
-    Standing, copy_message,
+    Device, Event, JournalDevice, Node, NodeError, Op, Outputs, Send, Standing, copy_message,
 };
-use dir_seats::{Ended, Publisher, Teller, Told};
+use dir_seats::{Ended, Teller, Told};
 use replica_clock::{Asked, Due, ReplicaClock, Times};
 use std::alloc::{AllocError, Global};
 use std::snapshot::Snapshot;
@@ -34,11 +34,9 @@ struct Call {
     is_stopping: bool,
 }
 
-/// A node under its lock, with a condition that is told of each change, and one for the thread that asks its clock.
-pub struct Running<'a, R: Wait, D: Device, J: JournalDevice> {
-    /// Which start of which replica the node was opened as.
-    pub incarnation: Incarnation,
-    pub(crate) held: Mutex<Held<'a, R, D, J>>,
+/// The node with this identity under its lock, with a condition that is told of each change, and one for the thread that asks its clock.
+pub struct Running<'a, R: Wait, D: Device, J: JournalDevice, I: Identity> {
+    pub(crate) held: Mutex<Held<'a, R, D, J, I>>,
     /// The standing to sessions after the last event, for who doesn't wait for the lock.
     pub(crate) standing: LastStanding,
     teller: Teller<Here>,
@@ -52,10 +50,10 @@ pub struct Running<'a, R: Wait, D: Device, J: JournalDevice> {
 }
 
 // Not derived: see "What the gate takes" in docs/ARCHITECTURE.md.
-impl<'a, R: Wait, D: Device + Drop, J: JournalDevice + Drop> Drop for Running<'a, R, D, J> {
+impl<'a, R: Wait, D: Device + Drop, J: JournalDevice + Drop, I: Identity> Drop
+    for Running<'a, R, D, J, I> {
     fn drop(self) {
         let Running {
-            incarnation: _,
             held: _,
             standing: _,
             teller: _,
@@ -104,9 +102,9 @@ pub(crate) fn send_outputs<P: Peers>(peers: &mut P, outputs: Outputs<Op>)
 }
 
 /// Hands an event to the node, and over what its step sends.
-fn take<R: Wait, D: Device, J: JournalDevice, P: Peers>(
+fn take<R: Wait, D: Device, J: JournalDevice, I: Identity, P: Peers>(
     alloc: Global,
-    held: &mut Held<'_, R, D, J>,
+    held: &mut Held<'_, R, D, J, I>,
     peers: &mut P,
     event: Event<Op>,
 ) -> Result<(), NodeError>
@@ -119,26 +117,24 @@ fn take<R: Wait, D: Device, J: JournalDevice, P: Peers>(
 }
 
 /// Hands the message of another replica to the node, likewise.
-fn take_message<R: Wait, D: Device, J: JournalDevice, P: Peers>(
+fn take_message<R: Wait, D: Device, J: JournalDevice, I: Identity, P: Peers>(
     alloc: Global,
-    held: &mut Held<'_, R, D, J>,
+    held: &mut Held<'_, R, D, J, I>,
     peers: &mut P,
-    from: u64,
-    message: PeerMessage<Op>,
-    now: u64,
+    arrival: Arrival,
 ) -> Result<(), NodeError>
-    ensures sent { OnOk result (TakesStep D J P.takes (event.Message from message) peers.old peers.new) }
+    ensures sent { OnOk result (TakesStep D J P.takes (event.Message arrival.from arrival.message) peers.old peers.new) }
     ensures nothing { OnErr result (peers.new ≡ peers.old) }
 {
-    let handled = held.hear(alloc, from, message, now)?;
+    let handled = held.hear(alloc, arrival)?;
     send_outputs(peers, handled.outputs);
     Ok(())
 }
 
 /// Lets the node make a beat, and copies what it sends. Without memory what it gives out is lost, and a node that stopped shows in its pulse.
-fn beat<R: Wait, D: Device, J: JournalDevice, P: Peers>(
+fn beat<R: Wait, D: Device, J: JournalDevice, I: Identity, P: Peers>(
     alloc: Global,
-    held: &mut Held<'_, R, D, J>,
+    held: &mut Held<'_, R, D, J, I>,
     peers: &mut P,
 ) -> Option<Vec<Send<Op>>> {
     let Ok(handled) = held.handle(alloc, Event::Beat) else {
@@ -150,9 +146,9 @@ fn beat<R: Wait, D: Device, J: JournalDevice, P: Peers>(
 }
 
 /// Does what is due; copies of what a beat has sent.
-fn act<R: Wait, D: Device, J: JournalDevice, P: Peers>(
+fn act<R: Wait, D: Device, J: JournalDevice, I: Identity, P: Peers>(
     alloc: Global,
-    held: &mut Held<'_, R, D, J>,
+    held: &mut Held<'_, R, D, J, I>,
     peers: &mut P,
     due: Due,
 ) -> Option<Vec<Send<Op>>> {
@@ -166,20 +162,17 @@ fn act<R: Wait, D: Device, J: JournalDevice, P: Peers>(
     }
 }
 
-impl<'a, R: Wait, D: Device, J: JournalDevice> Running<'a, R, D, J> {
-    /// A node of this cluster for threads to share, the publisher to its seats, and what tells what that shows. Its clock begins at the moment 0.
+impl<'a, R: Wait, D: Device, J: JournalDevice, I: Identity> Running<'a, R, D, J, I> {
+    /// The node with this identity for threads to share, and what tells what its publisher shows. Its clock begins at the moment 0.
     pub(crate) fn new(
-        node: Node<D, J>,
-        publisher: Publisher<Here, &'a R>,
+        published: PublishedNode<'a, R, D, J>,
         teller: Teller<Here>,
         times: Times,
         inbox: Option<Inbox>,
-        cluster: Cluster,
-    ) -> Running<'a, R, D, J>
-        requires shows { IsGiven node.executed publisher }
-        requires cluster { node.cluster ≡ cluster }
-        ensures own { result.incarnation ≡ incarnation_of node }
+    ) -> Running<'a, R, D, J, I>
+        requires { identity_of published.node ≡ I.own }
     {
+        let node = published.node();
         let status = status_of(node.standing());
         let clock = ReplicaClock::new(
             times,
@@ -189,9 +182,8 @@ impl<'a, R: Wait, D: Device, J: JournalDevice> Running<'a, R, D, J> {
             status,
             0,
         );
-        let held = Held::new(node, publisher, clock, cluster);
+        let held = Held::new(published, clock);
         Running {
-            incarnation: held.incarnation(),
             standing: LastStanding::new(held.standing()),
             teller,
             held: Mutex::new(held),
@@ -204,15 +196,6 @@ impl<'a, R: Wait, D: Device, J: JournalDevice> Running<'a, R, D, J> {
             }),
             called: Condvar::new(),
         }
-    }
-
-    /// Has the node execute what is committed, before any event, so that the first one needn't: after a start over a journal that is all that it says is
-    /// committed. Whether some of that is left for want of memory; it is executed after the next event.
-    pub fn execute_due(&self, rt: &R, alloc: Global) -> bool {
-        let mut held = self.held.lock(rt);
-        let behind = held.execute_due(alloc);
-        self.standing.set(held.standing());
-        behind
     }
 
     /// Hands an event to the node, which shows the seats what it then has executed; hands over what the step sends, in the order of the steps; and tells
@@ -235,22 +218,20 @@ impl<'a, R: Wait, D: Device, J: JournalDevice> Running<'a, R, D, J> {
         done
     }
 
-    /// Hands the message of another replica to the node, at this moment, as `handle` does.
+    /// Hands the message of another replica to the node, as `handle` does.
     pub fn hear<P: Peers>(
         &self,
         rt: &R,
         alloc: Global,
         peers: &mut P,
-        from: u64,
-        message: PeerMessage<Op>,
-        now: u64,
+        arrival: Arrival,
     ) -> Result<(), NodeError>
-        ensures sent { OnOk result (TakesStep D J P.takes (event.Message from message) peers.old peers.new) }
+        ensures sent { OnOk result (TakesStep D J P.takes (event.Message arrival.from arrival.message) peers.old peers.new) }
         ensures nothing { OnErr result (peers.new ≡ peers.old) }
     {
         let mut held = self.held.lock(rt);
         let before = held.ask_at();
-        let done = take_message(alloc, &mut held, peers, from, message, now);
+        let done = take_message(alloc, &mut held, peers, arrival);
         let is_early = held.ask_at() < before;
         self.standing.set(held.standing());
         drop(held);
@@ -302,7 +283,7 @@ impl<'a, R: Wait, D: Device, J: JournalDevice> Running<'a, R, D, J> {
 
     /// Waits until the node has had the event of a client's request, where it was posted, and while what becomes of that is still to
     /// come, but only as long as nobody says that the client has left; gives how it ended, and the node as the lock then held it, for
-    /// clauses alone. The node is the request's: no clause of a lock says so, so it is compared.
+    /// clauses alone.
     pub fn settled(
         &self,
         rt: &R,
@@ -310,7 +291,7 @@ impl<'a, R: Wait, D: Device, J: JournalDevice> Running<'a, R, D, J> {
         request: Request,
         has_left: &AtomicBool,
     ) -> (Ended, Snapshot<Node<D, J>>)
-        ensures { SettlesAs request.incarnation result.1.value request.client request.number (ended_view result.0) }
+        ensures { SettlesAs I.own result.1.value request.client request.number (ended_view result.0) }
     {
         let held = self.changed.wait_while(
             rt,
@@ -318,11 +299,7 @@ impl<'a, R: Wait, D: Device, J: JournalDevice> Running<'a, R, D, J> {
             |held| held.is_awaited(&request) && !has_left.load(Ordering::SeqCst),
         );
         let node = held.node();
-        let ended = if held.is_of(&request.incarnation) {
-            ended_at(alloc, node, request.client, request.number)
-        } else {
-            Ended::Lost
-        };
+        let ended = ended_at(alloc, node, request.client, request.number);
         (ended, Snapshot::of(node))
     }
 

@@ -12,6 +12,7 @@ use Rattle.file_device.proofs.Crossing as files
 use Rattle.file_device.specs.contracts.journal_calls.JournalFileDevice.TheImpl as JournalRule
 use Rattle.file_device.specs.contracts.journal_file.JournalFile as JournalFile
 use Rattle.node_gate.proofs.Crossing.{gate_send, running_sync}
+use Rattle.node_gate.specs.declared.identity.Identity as Identity
 use Rattle.node_gate.specs.contracts.gate.NodeGate as NodeGate
 use Rattle.node_gate.specs.contracts.running.Running as Running
 use Rattle.server.proofs.peer_queues.PeerQueuesAt.TheSendSync as peer_queues_at
@@ -36,23 +37,24 @@ journal_send = files.journal_send
 pub no_reads_send : (T : RattleType) → IsSend (NoReads.the_row T)
 no_reads_send T = recorded_send (NoReads.the_field T).row _ _ (NoReads.the_type T).to_one (struct_send (Declared.shape (NoReads.the_type T)) (phantom.the_field_send T, tt))
 
-pub way_send : (a b c : NamedLft) (R : RattleType) → IsSync R → IsSend (NodeGate.the_row a b R FileDevice.the_row JournalFile.the_row (PeerQueuesAt.the_row c R) DeviceRule.ghosts JournalRule.ghosts)
-way_send a b c R y =
-    let peer_queues : IsSend (PeerQueuesAt.the_row c R) = search (y, peer_queues_at.the_send) depth 5 in
-    gate_send FileDevice.the_row JournalFile.the_row DeviceRule.ghosts JournalRule.ghosts a b R _ y device_send journal_send peer_queues
-
-pub shared_sync : (a : NamedLft) (R : RattleType) → IsSync R → IsSync (Running.the_row a R FileDevice.the_row JournalFile.the_row DeviceRule.ghosts JournalRule.ghosts)
-shared_sync a R y = running_sync FileDevice.the_row JournalFile.the_row DeviceRule.ghosts JournalRule.ghosts a R y device_send journal_send
-
 global_sync : IsSync Global.the_field.row
 global_sync = search (crosses, sendable) depth 20
 
-pub clockwork_sync : (a b : NamedLft) (R : RattleType) → IsSync R → IsSync (TimedNode.the_row a b R)
-clockwork_sync a b R y =
-    let running : IsSync (Running.the_row b R FileDevice.the_row JournalFile.the_row DeviceRule.ghosts JournalRule.ghosts) = shared_sync b R y in
-    let peer_queues : IsSync (PeerQueues.the_row a R) = search (y, peer_queues_laws.the_sync) depth 5 in
-    recorded_sync (TimedNode.the_field a b R).row _ _ (TimedNode.the_type a b R).to_one
-    (struct_sync (Declared.shape (TimedNode.the_type a b R)) (
-      shr_sync _ _ R y,
-      (global_sync, (search (running, sendable) depth 10, (search (peer_queues, sendable) depth 10, (search (shared_parts.the_sync, sendable) depth 10, (search (times.the_field_sync, sendable) depth 10, (search (instant.the_field_sync, sendable) depth 10, (search (crosses, sendable) depth 20, (search (crosses, sendable) depth 20, (search (guard.the_sync, sendable) depth 10, (search (crosses, sendable) depth 20, tt)))))))))),
-    ))
+module _ (I : RattleType) (i : Identity.Ghosts I.Denot) where
+  pub way_send : (a b c : NamedLft) (R : RattleType) → IsSync R → IsSend (NodeGate.the_row a b R FileDevice.the_row JournalFile.the_row I (PeerQueuesAt.the_row c R) DeviceRule.ghosts JournalRule.ghosts i)
+  way_send a b c R y =
+      let peer_queues : IsSend (PeerQueuesAt.the_row c R) = search (y, peer_queues_at.the_send) depth 5 in
+      gate_send FileDevice.the_row JournalFile.the_row I DeviceRule.ghosts JournalRule.ghosts i a b R _ y device_send journal_send peer_queues
+
+  pub shared_sync : (a : NamedLft) (R : RattleType) → IsSync R → IsSync (Running.the_row a R FileDevice.the_row JournalFile.the_row I DeviceRule.ghosts JournalRule.ghosts i)
+  shared_sync a R y = running_sync FileDevice.the_row JournalFile.the_row I DeviceRule.ghosts JournalRule.ghosts i a R y device_send journal_send
+
+  pub clockwork_sync : (a b : NamedLft) (R : RattleType) → IsSync R → IsSync (TimedNode.the_row a b R I i)
+  clockwork_sync a b R y =
+      let running : IsSync (Running.the_row b R FileDevice.the_row JournalFile.the_row I DeviceRule.ghosts JournalRule.ghosts i) = shared_sync b R y in
+      let peer_queues : IsSync (PeerQueues.the_row a R) = search (y, peer_queues_laws.the_sync) depth 5 in
+      recorded_sync (TimedNode.the_field a b R I i).row _ _ (TimedNode.the_type a b R I i).to_one
+      (struct_sync (Declared.shape (TimedNode.the_type a b R I i)) (
+        shr_sync _ _ R y,
+        (global_sync, (search (running, sendable) depth 10, (search (peer_queues, sendable) depth 10, (search (shared_parts.the_sync, sendable) depth 10, (search (times.the_field_sync, sendable) depth 10, (search (instant.the_field_sync, sendable) depth 10, (search (crosses, sendable) depth 20, (search (crosses, sendable) depth 20, (search (guard.the_sync, sendable) depth 10, (search (crosses, sendable) depth 20, tt)))))))))),
+      ))

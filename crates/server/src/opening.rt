@@ -2,7 +2,9 @@
 ghost use Rattle.std.specs.Prelude.{◌<◌, ◌≤◌};
 
 use file_device::{FileDevice, FileDeviceError, JournalFile, ViewGuard, ViewStore};
-use node_gate::{Cluster, NodeConfig, NodeError, NoteError, Opened, Times, ViewStoreError, open};
+use node_gate::{
+    Cluster, NodeConfig, NodeError, NoteError, OpenOptions, Opened, ViewStoreError, open,
+};
 use server_threads::ServerError;
 use std::alloc::Global;
 use std::fs::{File, Files};
@@ -109,25 +111,23 @@ fn guard_of(
     ViewGuard::new(device, path, cluster).map_err(fault_of_device)
 }
 
-/// The node of a first or a later start, over the files of these names, and so many seats; and what looks at the file of its stored view.
+/// The node of a first or a later start, over the files of these names, and its seats; and what looks at the file of its stored view.
 pub fn open_node<'a, R: Files<File = File> + Wait>(
     rt: &'a R,
     alloc: Global,
     files: Names<'_>,
     config: NodeConfig,
-    is_fresh: bool,
-    seats: usize,
-    times: Times,
+    options: OpenOptions,
 ) -> Result<(Opened<'a, R, FileDevice, JournalFile>, ViewGuard), ServerError>
-    requires seats { (0 < seats) × (seats ≤ 32) }
+    requires seats { (0 < options.seats) × (options.seats ≤ 32) }
 {
     if config.index >= config.count {
         return Err(ServerError::CannotListen);
     }
-    let device = device_of(rt, alloc, files.store, config.cluster, is_fresh)?;
+    let device = device_of(rt, alloc, files.store, config.cluster, options.is_fresh)?;
     let guard = guard_of(alloc, &device, files.store, config.cluster)?;
     let journal = journal_of(rt, alloc, files.journal)?;
-    match open(rt, alloc, device, journal, config, is_fresh, seats, times) {
+    match open(rt, alloc, device, journal, config, options) {
         Ok(opened) => Ok((opened, guard)),
         Err(error) => Err(fault_of_node(error)),
     }

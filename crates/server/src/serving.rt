@@ -1,11 +1,16 @@
 //! A replica put together: its node, its queues and its clock, handed to its threads. Settings flow in; clients and replicas are served until the
 //! node has stopped for good. Listeners and threads are not here.
+ghost use Rattle.std.specs.Prelude.{◌≡◌};
+ghost use Rattle.node_gate.specs.Identities.{identity_of};
+
 use crate::opening::{Names, open_node};
 use crate::options::{Options, Times};
 use crate::peer_queues::{PeerQueues, PeerQueuesAt};
 use crate::ticking::{TimedNode, clock_times};
 use file_device::{FileDevice, JournalFile, ViewGuard};
-use node_gate::{Cluster, Here, NodeGate, Opened, Pace, Running, Seat, Told};
+use node_gate::{
+    Cluster, Here, Identity, NodeGate, OpenOptions, Opened, Pace, Running, Seat, Told,
+};
 use server_threads::{
     Choices, Config, NoReads, PROCESS_STATUS, Place, Server, ServerError, SharedParts,
     make_shared_parts,
@@ -13,6 +18,7 @@ use server_threads::{
 use std::alloc::{AllocError, Global};
 use std::fs::{File, Files};
 use std::io::{Eprint, Print, Read};
+use std::marker::Brand;
 use std::net::{Net, TcpListener, TcpStream};
 use std::sync::atomic::{AtomicBool, AtomicU64};
 use std::sync::{Arc, Mutex, Wait};
@@ -26,22 +32,22 @@ const SEATS: usize = 32;
 const UPDATES: usize = 256;
 
 /// One session's way to the node: a seat for its reads, a gate for its updates.
-type Way<'a, 'r, R> = (
+type Way<'a, 'r, R, I> = (
     Seat<Here>,
-    NodeGate<'a, 'r, R, FileDevice, JournalFile, PeerQueuesAt<'a, R>>,
+    NodeGate<'a, 'r, R, FileDevice, JournalFile, I, PeerQueuesAt<'a, R>>,
 );
 
 /// One thread's way to the node for updates alone.
-type Updates<'a, 'r, R> = (
+type Updates<'a, 'r, R, I> = (
     NoReads<Option<Told<Here>>>,
-    NodeGate<'a, 'r, R, FileDevice, JournalFile, PeerQueuesAt<'a, R>>,
+    NodeGate<'a, 'r, R, FileDevice, JournalFile, I, PeerQueuesAt<'a, R>>,
 );
 
 /// A way to the node's updates, and what says that the client of one has left.
-fn gate<'a, 'r, R: Wait>(
-    clock: &TimedNode<'a, 'r, R>,
+fn gate<'a, 'r, R: Wait, I: Identity>(
+    clock: &TimedNode<'a, 'r, R, I>,
     has_left: &'a AtomicBool,
-) -> NodeGate<'a, 'r, R, FileDevice, JournalFile, PeerQueuesAt<'a, R>> {
+) -> NodeGate<'a, 'r, R, FileDevice, JournalFile, I, PeerQueuesAt<'a, R>> {
     let peer_queues = PeerQueuesAt {
         peer_queues: clock.peer_queues,
         now: 0,
@@ -57,9 +63,9 @@ fn gate<'a, 'r, R: Wait>(
 }
 
 /// A way to the node for each thread that updates.
-fn gates<'a, 'r, R: Wait>(
-    clock: &TimedNode<'a, 'r, R>,
-) -> Result<Vec<(usize, Updates<'a, 'r, R>)>, AllocError> {
+fn gates<'a, 'r, R: Wait, I: Identity>(
+    clock: &TimedNode<'a, 'r, R, I>,
+) -> Result<Vec<(usize, Updates<'a, 'r, R, I>)>, AllocError> {
     let shared_parts: &'a SharedParts = clock.shared_parts;
     let mut gates = Vec::new(clock.alloc);
     for (thread, has_left) in shared_parts.leaves.iter().enumerate() {
@@ -69,10 +75,10 @@ fn gates<'a, 'r, R: Wait>(
 }
 
 /// A gate beside each seat.
-fn ways<'a, 'r, R: Wait>(
-    clock: &TimedNode<'a, 'r, R>,
+fn ways<'a, 'r, R: Wait, I: Identity>(
+    clock: &TimedNode<'a, 'r, R, I>,
     seats: Vec<Seat<Here>>,
-) -> Result<Vec<Way<'a, 'r, R>>, AllocError> {
+) -> Result<Vec<Way<'a, 'r, R, I>>, AllocError> {
     let shared_parts: &'a SharedParts = clock.shared_parts;
     let mut ways = Vec::new(clock.alloc);
     for seat in seats {
@@ -90,12 +96,12 @@ struct Terms<'a> {
 }
 
 /// Runs all threads over what they share.
-fn run_in<'a, 'r, R, N>(
+fn run_in<'a, 'r, R, N, I>(
     rt: &'a R,
     alloc: Global,
     shared_parts: &'a SharedParts,
     seats: Vec<Seat<Here>>,
-    running: &'a Running<'r, R, FileDevice, JournalFile>,
+    running: &'a Running<'r, R, FileDevice, JournalFile, I>,
     peer_queues: &'a PeerQueues<'a, R>,
     places: &'a [Place<'a>],
     guard: &'a ViewGuard,
@@ -111,6 +117,7 @@ where
         + Eprint
         + Sync,
     N: Read + Drop + Send,
+    I: Identity + Send + Sync,
 {
     let Ok(opened) = Instant::now(rt) else {
         return Err(ServerError::NoClock);
@@ -141,8 +148,8 @@ where
     server.run(ways, gates, terms.sessions, &terms.config)
 }
 
-/// Sends what an opened node sends first, and runs all threads over what they share.
-fn serve_opened<R, N>(
+/// Sends what an opened node sends first, and runs all threads over what they share, which is the node with this identity.
+fn serve_opened<R, N, I>(
     rt: &R,
     alloc: Global,
     shared_parts: &SharedParts,
@@ -162,13 +169,16 @@ where
         + Eprint
         + Sync,
     N: Read + Drop + Send,
+    I: Identity + Send + Sync,
+    requires { identity_of opened.node ≡ I.own }
 {
     let Opened {
-        running,
+        node,
         seats,
         outputs,
         restarts: _,
     } = opened;
+    let running = node.share::<I>();
     let peer_queues = PeerQueues {
         rt,
         cluster,
@@ -222,9 +232,13 @@ where
         ..
     } = options;
     let cluster = node.cluster;
-    let seats = seats.clamp(1, SEATS);
     let files = Names { store, journal };
-    let (opened, guard) = open_node(rt, alloc, files, node, is_fresh, seats, clock_times(&times))?;
+    let options = OpenOptions {
+        is_fresh,
+        seats: seats.clamp(1, SEATS),
+        times: clock_times(&times),
+    };
+    let (opened, guard) = open_node(rt, alloc, files, node, options)?;
     let config = Config {
         schema: &schema,
         manager: &manager,
@@ -238,7 +252,8 @@ where
         sessions: sessions.max(1),
         times,
     };
-    serve_opened(
+    // prover: the proof of this call picks the identity of the node that was opened.
+    serve_opened::<R, N, Brand>(
         rt,
         alloc,
         shared_parts,

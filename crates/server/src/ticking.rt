@@ -6,7 +6,8 @@ use crate::peer_queues::{PeerQueues, PeerQueuesAt};
 use crate::telling::{tell_caught_up, tell_pulse, tell_resumed};
 use file_device::{FileDevice, JournalFile, ViewGuard};
 use node_gate::{
-    NodeError, Op, Pace, PeerMessage, Pulse, Running, Send, Standing, Ticked, copies, send_all,
+    Arrival, Identity, NodeError, Op, Pace, PeerMessage, Pulse, Running, Send, Standing, Ticked,
+    copies, send_all,
 };
 use server_threads::{Engine, Figures, Role, ServerError, SharedParts};
 use std::alloc::Global;
@@ -37,10 +38,10 @@ struct Watch {
 
 /// A node with its clock.
 #[derive(Drop)]
-pub struct TimedNode<'a, 'r, R: Wait> {
+pub struct TimedNode<'a, 'r, R: Wait, I: Identity> {
     pub rt: &'a R,
     pub alloc: Global,
-    pub running: &'a Running<'r, R, FileDevice, JournalFile>,
+    pub running: &'a Running<'r, R, FileDevice, JournalFile, I>,
     pub peer_queues: &'a PeerQueues<'a, R>,
     pub shared_parts: &'a SharedParts,
     pub times: Times,
@@ -54,7 +55,7 @@ pub struct TimedNode<'a, 'r, R: Wait> {
     pub restarts: u64,
 }
 
-impl<'a, 'r, R: Wait + Clock> TimedNode<'a, 'r, R> {
+impl<'a, 'r, R: Wait + Clock, I: Identity> TimedNode<'a, 'r, R, I> {
     /// The moment of now, in microseconds since the node was opened; that of a clock that can't be read is the first.
     fn now(&self) -> u64 {
         match Instant::now(self.rt) {
@@ -137,7 +138,7 @@ impl<'a, 'r, R: Wait + Clock> TimedNode<'a, 'r, R> {
     }
 }
 
-impl<'a, 'r, R: Wait + Clock + Files<File = File>> TimedNode<'a, 'r, R> {
+impl<'a, 'r, R: Wait + Clock + Files<File = File>, I: Identity> TimedNode<'a, 'r, R, I> {
     /// Whether the stored view is lost, as far as its file shows, which is looked at once a beat.
     fn has_lost_view(&self, watch: &mut Watch) -> bool {
         let now = self.now();
@@ -172,10 +173,11 @@ pub fn micros(time: Duration) -> u64 {
 }
 
 // prover: the type that reads a folder has a name, so that what is known of it holds in every thread.
-impl<'a, 'r, R, N> Engine for TimedNode<'a, 'r, R>
+impl<'a, 'r, R, N, I> Engine for TimedNode<'a, 'r, R, I>
 where
     R: Wait + Clock + Files<File = File, Dir = N>,
     N: Read + Drop,
+    I: Identity,
 {
     fn hear(&self, from: u64, message: PeerMessage<Op>) -> bool {
         let now = self.now();
@@ -186,10 +188,15 @@ where
             }
             _ => {}
         }
+        let arrival = Arrival {
+            from,
+            message,
+            at: now,
+        };
         let mut peer_queues = self.peer_queues_at(now);
         match self
             .running
-            .give_message(self.rt, self.alloc, &mut peer_queues, from, message, now)
+            .give_message(self.rt, self.alloc, &mut peer_queues, arrival)
         {
             // Without memory the message is lost, as the network may lose one.
             Ok(()) | Err(NodeError::NoMemory) => true,

@@ -2,7 +2,7 @@ use Rattle.std.proofs.Common.{sym, subst}
 use Rattle.dir_node.specs.state_machine.Executing.{ExecutedValue}
 use Rattle.dir_seats.specs.Lists.{IsBeginning, with_records}
 use Rattle.node_gate.proofs.Given.{given_begins}
-use Rattle.node_gate.proofs.held.Held.show.Goals as goal
+use Rattle.node_gate.proofs.published.PublishedNode.show.Goals as goal
 
 -- what was given before begins what is executed
 pub append-requires : goal.append-requires
