@@ -8,9 +8,7 @@ use crate::options::{Options, Times};
 use crate::peer_queues::{PeerQueues, PeerQueuesAt};
 use crate::ticking::{TimedNode, clock_times};
 use file_device::{FileDevice, JournalFile, ViewGuard};
-use node_gate::{
-    Cluster, Here, Identity, NodeGate, OpenOptions, Opened, Pace, Running, Seat, Told,
-};
+use node_gate::{Here, Identity, NodeGate, OpenOptions, Opened, Pace, Running, Seat, Told};
 use server_threads::{
     Choices, Config, NoReads, PROCESS_STATUS, Place, Server, ServerError, SharedParts,
     make_shared_parts,
@@ -97,9 +95,7 @@ struct Terms<'a> {
 
 /// Runs all threads over what they share.
 fn run_in<'a, 'r, R, N, I>(
-    rt: &'a R,
     alloc: Global,
-    shared_parts: &'a SharedParts,
     seats: Vec<Seat<Here>>,
     running: &'a Running<'r, R, FileDevice, JournalFile, I>,
     peer_queues: &'a PeerQueues<'a, R>,
@@ -119,6 +115,8 @@ where
     N: Read + Drop + Send,
     I: Identity + Send + Sync,
 {
+    let rt = peer_queues.rt;
+    let shared_parts = peer_queues.shared_parts;
     let Ok(opened) = Instant::now(rt) else {
         return Err(ServerError::NoClock);
     };
@@ -150,11 +148,9 @@ where
 
 /// Sends what an opened node sends first, and runs all threads over what they share, which is the node with this identity.
 fn serve_opened<R, N, I>(
-    rt: &R,
     alloc: Global,
-    shared_parts: &SharedParts,
     opened: Opened<'_, R, FileDevice, JournalFile>,
-    cluster: Cluster,
+    peer_queues: PeerQueues<'_, R>,
     places: &[Place<'_>],
     guard: &ViewGuard,
     terms: Terms<'_>,
@@ -179,24 +175,8 @@ where
         restarts: _,
     } = opened;
     let running = node.share::<I>();
-    let peer_queues = PeerQueues {
-        rt,
-        cluster,
-        shared_parts,
-        asking: Mutex::new(Pace::new(clock_times(&terms.times))),
-    };
     peer_queues.post_all(outputs.sends);
-    run_in(
-        rt,
-        alloc,
-        shared_parts,
-        seats,
-        &running,
-        &peer_queues,
-        places,
-        guard,
-        terms,
-    )
+    run_in(alloc, seats, &running, &peer_queues, places, guard, terms)
 }
 
 /// Opens the node, and serves by it.
@@ -252,17 +232,14 @@ where
         sessions: sessions.max(1),
         times,
     };
-    // prover: the proof of this call picks the identity of the node that was opened.
-    serve_opened::<R, N, Brand>(
+    let peer_queues = PeerQueues {
         rt,
-        alloc,
-        shared_parts,
-        opened,
         cluster,
-        places,
-        &guard,
-        terms,
-    )
+        shared_parts,
+        asking: Mutex::new(Pace::new(clock_times(&times))),
+    };
+    // prover: the proof of this call picks the identity of the node that was opened.
+    serve_opened::<R, N, Brand>(alloc, opened, peer_queues, places, &guard, terms)
 }
 
 /// Serves as a replica: listens to the others, opens its node, and serves them, and clients once the node has a state, until the node has stopped
