@@ -8,8 +8,10 @@ use Rattle.ldap_match.specs.ldap_words.declared.rule.Rule.{Rule}
 use Rattle.ldap_match.specs.ldap_schema.Schema.{SchemaModel}
 use Rattle.ldap_match.specs.Meaning.{meaning}
 use Rattle.ldap_match.specs.ldap_schema.Rules.{equality_of}
-use Rattle.ldap_match.specs.Item.{Item, equal, is_meant, satisfied, equality_by, item_on_attribute}
-use Rattle.ldap_match.specs.Keyed.{key_at, equality_test, test_by, test_for, test_value, AreKeysBy, AreKeysOf}
+use Rattle.ldap_match.specs.Item.{Item, equal, is_meant, equality_by, item_on_attribute}
+use Rattle.ldap_match.specs.private.Item.{satisfied}
+use Rattle.ldap_match.specs.Keyed.{key_at, test_by, test_for, test_value, AreKeysBy, AreKeysOf}
+use Rattle.ldap_match.specs.private.Keyed.{equality_test}
 use Rattle.ldap_match.specs.Truth.{truth_of}
 use Rattle.ldap_match.specs.declared.truth.Truth.TheVariants.{Undefined}
 use Rattle.dir_entry.specs.Values.{is_same_meaning, is_equivalent_by, is_equivalent, has_twice, has_repeats}

@@ -12,7 +12,8 @@ use Rattle.dir_entry.specs.ldap_syntax.Meaning.{is_before}
 use Rattle.dir_entry.specs.ldap_match.Keyed.{is_key_at_least, is_key_at_most}
 use Rattle.dir_index.specs.declared.list_key.ListKey.{ListKey}
 use Rattle.dir_index.specs.declared.posting.Range.{Range}
-use Rattle.dir_index.specs.ListKeys.{list_order, is_same_list, is_list_in, range_start, or_nothing}
+use Rattle.dir_index.specs.ListKeys.{list_order, is_same_list}
+use Rattle.dir_index.specs.private.ListKeys.{is_list_in, range_start, or_nothing}
 use Rattle.dir_index.specs.OrderLaws.{list_ties}
 use Rattle.dir_index.specs.Postings.{in_range, is_from, is_upto}
 

@@ -9,9 +9,11 @@ use Rattle.index_choice.specs.declared.kinds.Kinds.{Kinds}
 use Rattle.dir_index.specs.declared.posting.Posting.{Posting}
 use Rattle.dir_index.specs.Postings.{Indexed, has_number, IsRising, numbers_where, is_kept, is_listed}
 use Rattle.dir_index.specs.ListKeys.{key_of}
-use Rattle.dir_index.specs.Stored.{ListRows, list_at, is_in, AllRise}
-use Rattle.dir_index.specs.Marked.{lists_entry}
-use Rattle.dir_index.specs.Whole.{PostingsModel, AreOf, AllBelow, HasEntry, without, with_attributes, moved}
+use Rattle.dir_index.specs.Stored.{ListRows, list_at}
+use Rattle.dir_index.specs.private.Stored.{is_in, AllRise}
+use Rattle.dir_index.specs.private.Marked.{lists_entry}
+use Rattle.dir_index.specs.Whole.{PostingsModel, AreOf, AllBelow, HasEntry, without, with_attributes}
+use Rattle.dir_index.specs.private.Whole.{moved}
 use Rattle.dir_index.proofs.Marking.{entry_none}
 
 -- nothing below the first of a rising list is in it

@@ -20,7 +20,7 @@ use Rattle.dir_index.specs.ListKeys.{key_of, list_order, is_same_list}
 use Rattle.dir_index.specs.OrderLaws.{list_ties, list_equiv}
 use Rattle.dir_index.specs.Postings.{is_of, has_type, stands_in, is_kept, is_listed}
 use Rattle.dir_index.proofs.Keys.{by_bool}
-use Rattle.dir_index.specs.Marked.{is_marked, lists_entry, is_of_key, is_first_run, is_from_key, is_from_presence, makes_several, is_from_several, is_from_attribute}
+use Rattle.dir_index.specs.private.Marked.{is_marked, lists_entry, is_of_key, is_first_run, is_from_key, is_from_presence, makes_several, is_from_several, is_from_attribute}
 
 -- what std's set has is what is marked
 pub marked_at : (ks : List ListKey) (k : ListKey) → is_marked ks k ≡ list_any (is_at (list_order k)) ks

@@ -13,7 +13,8 @@ use Rattle.std.proofs.lemmas.Bool.{eqb-true, eq-eqb, ne_eqb}
 use Rattle.dir_index.specs.declared.list_key.ListKey.{ListKey}
 use Rattle.dir_index.specs.Postings.{has_number, IsRising}
 use Rattle.dir_index.specs.ListKeys.{is_same_list}
-use Rattle.dir_index.specs.Stored.{ListRows, list_at, is_in}
+use Rattle.dir_index.specs.Stored.{ListRows, list_at}
+use Rattle.dir_index.specs.private.Stored.{is_in}
 use Rattle.dir_index.proofs.Keys.{one_list}
 use Rattle.dir_index.proofs.Listed.{none_above}
 use Rattle.dir_index.proofs.Marking.{or_swap}

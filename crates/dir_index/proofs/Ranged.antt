@@ -20,9 +20,11 @@ use Rattle.dir_index.specs.declared.posting.Posting.TheVariants.{Equal}
 use Rattle.dir_index.specs.declared.posting.Range.{Range}
 use Rattle.dir_index.specs.declared.list_key.ListKey.{ListKey}
 use Rattle.dir_index.specs.Postings.{Indexed, has_number, is_of, some_key, in_range, has_in_range, is_kept, is_listed, postings_of}
-use Rattle.dir_index.specs.ListKeys.{key_of, list_order, is_list_in, range_start, or_nothing}
+use Rattle.dir_index.specs.ListKeys.{key_of, list_order}
+use Rattle.dir_index.specs.private.ListKeys.{is_list_in, range_start, or_nothing}
 use Rattle.dir_index.specs.OrderLaws.{list_total}
-use Rattle.dir_index.specs.Stored.{ListRows, list_at, is_in, has_in_lists}
+use Rattle.dir_index.specs.Stored.{ListRows, list_at}
+use Rattle.dir_index.specs.private.Stored.{is_in, has_in_lists}
 use Rattle.dir_index.specs.Whole.{PostingsModel, AreOf}
 use Rattle.dir_index.proofs.Keys.{by_ordering, one_by_order, list_in, in_list, past, early, start_in, not_true}
 use Rattle.dir_index.proofs.Listed.{found, number_found, one_way}

@@ -1,13 +1,11 @@
 -- What posting lists are kept by, and its order. The lists are not here.
-use Rattle.std.specs.Prelude.{ℕ, List, [], Bool, ◌&&◌, Option, None, Some, nat_eq}
+use Rattle.std.specs.Prelude.{Bool, ◌&&◌, nat_eq}
 use Rattle.std.specs.declared.cmp.Ordering.{Ordering}
 use Rattle.std.specs.Ordering.{nat_cmp, on, then_cmp}
 use Rattle.std.specs.Cmp.Lexicographic.{slice_cmp}
 use Rattle.std.specs.Str.{bytes_eq}
 use Rattle.dir_index.specs.declared.posting.Posting.{Posting}
-use Rattle.dir_index.specs.declared.posting.Range.{Range}
 use Rattle.dir_index.specs.declared.list_key.ListKey.{ListKey}
-use Rattle.dir_index.specs.Postings.{in_range}
 use Rattle.dir_index.specs.Ordered.{type_of, rank_of, octets_of}
 
 -- what the list of a posting is kept by
@@ -21,16 +19,3 @@ list_order = then_cmp (on (λ k. k.type_id) nat_cmp) (then_cmp (on (λ k. k.rank
 -- whether two keys are one
 abbrev pub is_same_list : ListKey → ListKey → Bool
 is_same_list j k = nat_eq j.type_id k.type_id && (nat_eq j.rank k.rank && bytes_eq j.octets k.octets)
-
--- whether a list is one of a value's key in a range
-abbrev pub is_list_in : Range → ListKey → Bool
-is_list_in r k = nat_eq k.type_id r.type_id && (nat_eq k.rank 2 && in_range r k.octets)
-
--- the key at an end of a range; no octets, the least key, where the range has no such end
-abbrev pub or_nothing : Option (List ℕ) → List ℕ
-or_nothing None = []
-or_nothing (Some k) = k
-
--- the least key that a list of the range may have
-abbrev pub range_start : Range → ListKey
-range_start r = record { type_id = r.type_id; rank = 2; octets = or_nothing r.from }

@@ -1,7 +1,7 @@
 -- The posting lists of entries. Entries by number and an index choice flow in, lists of numbers flow out: each list is a function of the
 -- entries. How lists are kept and changed is not here.
-use Rattle.std.specs.Prelude.{◌≡◌, ℕ, List, [], ◌∷◌, Bool, true, ◌&&◌, ◌||◌, map, filter, length, nat_eq, nat_lt, false, Option, None, Some}
-use Rattle.std.specs.List.{list_any, AllByRecursion}
+use Rattle.std.specs.Prelude.{ℕ, List, [], ◌∷◌, Bool, true, ◌&&◌, ◌||◌, map, filter, length, nat_eq, nat_lt, false, Option, None, Some}
+use Rattle.std.specs.List.{list_any}
 use Rattle.dir_entry.specs.ldap_match.Keyed.{is_same_key, is_key_at_least, is_key_at_most}
 use Rattle.dir_entry.specs.ldap_match.Parts.{is_at_start, tails}
 use Rattle.dir_entry.specs.Entry.{KeyedAttribute}
@@ -86,11 +86,3 @@ postings_of ix es = record {
   posting = λ p. numbers_where (λ e. is_kept ix p && is_listed p e) es;
   range = λ r. numbers_where (λ e. (kinds_of ix r.type_id).ordering && has_in_range r e) es;
 }
-
--- each list rises
-abbrev pub AreRising : List (List ℕ) → Type 0
-AreRising ls = AllByRecursion IsRising ls
-
--- Lists that together have what some lists had and the numbers of one more, and nothing else.
-abbrev pub HaveTogether : List (List ℕ) → List ℕ → List (List ℕ) → Type 0
-HaveTogether before ns after = (n : ℕ) → list_any (has_number n) after ≡ (list_any (has_number n) before || has_number n ns)

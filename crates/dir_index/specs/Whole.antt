@@ -1,5 +1,5 @@
 -- What is kept as a whole, and which entries it is of. How it is changed is not here.
-use Rattle.std.specs.Prelude.{◌≡◌, ℕ, ◌<◌, List, [], ◌∷◌, Bool, ◌&&◌, ◌||◌, cond, map, filter, not, nat_eq, ◌⊎◌}
+use Rattle.std.specs.Prelude.{◌≡◌, ℕ, ◌<◌, List, [], ◌∷◌, cond, map, filter, not, nat_eq, ◌⊎◌}
 use Rattle.std.specs.List.{AllByRecursion}
 use Rattle.dir_entry.specs.Entry.{KeyedAttribute}
 use Rattle.index_choice.specs.declared.kinds.Kinds.{Kinds}
@@ -38,8 +38,3 @@ without n es = filter (λ e. not (nat_eq e.number n)) es
 -- the entries with other attributes for a number
 abbrev pub with_attributes : ℕ → List KeyedAttribute → List Indexed → List Indexed
 with_attributes n a es = map (λ e. cond (nat_eq e.number n) (record { number = n; entry = a }) e) es
-
--- whether a number is in a list once its entry has changed: it is in those that list the entry after and not before, it isn't in those
--- that list the entry before and not after, and elsewhere it is as it was
-abbrev pub moved : Bool → Bool → Bool → Bool
-moved before after was = (was || (after && not before)) && not (before && not after)

@@ -10,8 +10,9 @@ ghost use Rattle.std.specs.Set.{remove_key};
 ghost use Rattle.dir_index.specs.declared.list_key.ListKey.{ListKey};
 ghost use Rattle.dir_index.specs.declared.posting.Posting.{Posting};
 ghost use Rattle.dir_index.specs.ListKeys.{key_of, is_same_list};
-ghost use Rattle.dir_index.specs.Marked.{has_posting};
-ghost use Rattle.dir_index.specs.Stored.{list_at, is_in, AllRise};
+ghost use Rattle.dir_index.specs.private.Marked.{has_posting};
+ghost use Rattle.dir_index.specs.Stored.{list_at};
+ghost use Rattle.dir_index.specs.private.Stored.{is_in, AllRise};
 
 use crate::list_key::ListKey;
 use crate::marks::Marks;

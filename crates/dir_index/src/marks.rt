@@ -6,7 +6,7 @@ ghost use Rattle.std.specs.List.{list_any};
 ghost use Rattle.dir_index.specs.declared.posting.Posting.{Posting};
 ghost use Rattle.dir_index.specs.Postings.{has_type as is_type_in};
 ghost use Rattle.dir_index.specs.ListKeys.{key_of, is_same_list};
-ghost use Rattle.dir_index.specs.Marked.{has_posting, lists_entry, is_of_key, is_first_run, is_run_of, is_from_key, is_from_presence, makes_several, is_from_several, is_from_attribute};
+ghost use Rattle.dir_index.specs.private.Marked.{has_posting, lists_entry, is_of_key, is_first_run, is_run_of, is_from_key, is_from_presence, makes_several, is_from_several, is_from_attribute};
 
 use crate::list_key::{ListKey, PRESENCE, RUN, SEVERAL, VALUE};
 use dir_entry::{Attribute, Key, TypeId};

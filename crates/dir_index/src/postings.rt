@@ -4,10 +4,11 @@
 ghost use Rattle.std.specs.Prelude.{◌≡◌, ◌||◌, ℕ, [], ◌∷◌, ◌++◌, List, nat_eq, cond, IfOk, OnOk, OnErr};
 ghost use Rattle.dir_index.specs.declared.posting.Posting.{Posting};
 ghost use Rattle.dir_index.specs.ListKeys.{key_of};
-ghost use Rattle.dir_index.specs.Marked.{lists_entry};
+ghost use Rattle.dir_index.specs.private.Marked.{lists_entry};
 ghost use Rattle.dir_index.specs.Postings.{Indexed, has_number, postings_of};
-ghost use Rattle.dir_index.specs.Stored.{is_in, AllRise};
-ghost use Rattle.dir_index.specs.Whole.{list_of, AreOf, AllBelow, HasEntry, without, with_attributes, moved};
+ghost use Rattle.dir_index.specs.private.Stored.{is_in, AllRise};
+ghost use Rattle.dir_index.specs.Whole.{list_of, AreOf, AllBelow, HasEntry, without, with_attributes};
+ghost use Rattle.dir_index.specs.private.Whole.{moved};
 
 use crate::choice::Choice;
 use crate::lists::{Lists, enlisted_in, struck_from};

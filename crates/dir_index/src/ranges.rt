@@ -6,9 +6,10 @@ ghost use Rattle.std.specs.List.{list_any};
 ghost use Rattle.dir_entry.specs.ldap_syntax.Meaning.{is_before};
 ghost use Rattle.index_choice.specs.Choice.{kinds_of};
 ghost use Rattle.dir_index.specs.Postings.{has_number, in_range, is_from as is_from_start, is_upto as is_upto_end, has_in_range as entry_has_in_range};
-ghost use Rattle.dir_index.specs.ListKeys.{is_list_in as is_list_in_range, range_start};
+ghost use Rattle.dir_index.specs.private.ListKeys.{is_list_in as is_list_in_range, range_start};
 ghost use Rattle.dir_index.specs.Places.{key_at};
-ghost use Rattle.dir_index.specs.Stored.{list_at, has_in_lists};
+ghost use Rattle.dir_index.specs.Stored.{list_at};
+ghost use Rattle.dir_index.specs.private.Stored.{has_in_lists};
 ghost use Rattle.shared_map.specs.Runs.{entries_after};
 ghost use Rattle.dir_index.specs.ListKeys.{list_order};
 

@@ -13,7 +13,7 @@ use Rattle.state_machine.specs.Executing.{ExecutedValue}
 use Rattle.state_machine.specs.dir_store.ldap_schema.Schema.{SchemaModel}
 use Rattle.state_machine.specs.dir_store.ldap_dn.Names.{RdnModel}
 use Rattle.state_machine.specs.dir_store.ldap_op.Values.{OpValue}
-use Rattle.dir_lab.specs.Executions.{records_of, records_in, records_by, caught_up, all_caught_up, IsOver, AreOver, IsAdvancedAt}
+use Rattle.dir_lab.specs.private.Executions.{records_of, records_in, records_by, caught_up, all_caught_up, IsOver, AreOver, IsAdvancedAt}
 
 -- what is written is there,
 get_here : {A : Type 0} (xs : List A) (i : ℕ) (x : A) → i < length xs → slice_get (set xs i x) i ≡ Some x

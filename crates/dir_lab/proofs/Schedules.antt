@@ -9,7 +9,7 @@ use Rattle.vr_world.proofs.Laws.{run-append}
 use Rattle.state_machine.specs.dir_store.ldap_schema.Schema.{SchemaModel}
 use Rattle.state_machine.specs.dir_store.ldap_dn.Names.{RdnModel}
 use Rattle.state_machine.specs.dir_store.ldap_op.Values.{OpValue}
-use Rattle.dir_lab.specs.Executions.{all_caught_up, played_from, played}
+use Rattle.dir_lab.specs.private.Executions.{all_caught_up, played_from, played}
 use Rattle.dir_lab.specs.Schedule.{happening, happenings, executions, shown_at, shown_from, shown_by}
 use Rattle.dir_lab.specs.Shown.{Shown, shown_view}
 use Rattle.dir_lab.specs.declared.events.LabReply.{LabReply}

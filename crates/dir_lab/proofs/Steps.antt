@@ -10,7 +10,7 @@ use Rattle.vr_world.specs.World.{World, happens, start, after}
 use Rattle.vr_world.specs.declared.events.WorldEvent.{WorldEvent}
 use Rattle.vr_world.proofs.Laws.{steps_keep, run-append}
 use Rattle.state_machine.specs.dir_store.ldap_op.Values.{OpValue}
-use Rattle.dir_lab.specs.Executions.{caught_up, all_caught_up}
+use Rattle.dir_lab.specs.private.Executions.{caught_up, all_caught_up}
 use Rattle.dir_lab.specs.Schedule.{executed, executions}
 
 -- a list goes on to one that it begins

@@ -1,8 +1,8 @@
 pub mod Shown
 pub mod Schedule
-pub mod Executions
 pub mod Headline
 pub mod Exact
+pub mod private
 -- what layers above name of the crates below
 pub use Rattle.vr_world.specs as vr_world
 pub use Rattle.dir_search.specs as dir_search

@@ -2,7 +2,7 @@
 ghost use Rattle.std.specs.Prelude.{◌≡◌, ◌<◌, None, IfOk, OnOk, length, replicate};
 ghost use Rattle.std.specs.Arc.{arc_value};
 ghost use Rattle.vr_world.specs.Cluster.{world};
-ghost use Rattle.dir_lab.specs.Executions.{AreOver, IsAdvancedAt, all_caught_up, records_by};
+ghost use Rattle.dir_lab.specs.private.Executions.{AreOver, IsAdvancedAt, all_caught_up, records_by};
 
 use crate::executions::catch_up;
 use crate::lab::Lab;

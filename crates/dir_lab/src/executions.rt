@@ -4,7 +4,7 @@ ghost use Rattle.std.specs.Prelude.{◌≡◌, [], Some, IfOk};
 ghost use Rattle.std.specs.Option.{option_map};
 ghost use Rattle.std.specs.Arc.{arc_value};
 ghost use Rattle.vr_state.specs.Views.{state};
-ghost use Rattle.dir_lab.specs.Executions.{IsOver, caught_up, records_of};
+ghost use Rattle.dir_lab.specs.private.Executions.{IsOver, caught_up, records_of};
 
 use crate::lab::Lab;
 use state_machine::{Executed, Op, Store};

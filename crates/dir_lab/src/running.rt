@@ -4,7 +4,7 @@ ghost use Rattle.std.specs.Prelude.{◌≡◌, ◌<◌, [], IfOk, OnOk};
 ghost use Rattle.std.specs.Arc.{arc_value};
 ghost use Rattle.vr_world.specs.Cluster.{world};
 ghost use Rattle.vr_world.specs.World.{start};
-ghost use Rattle.dir_lab.specs.Executions.{IsNext, IsRunning, records_by};
+ghost use Rattle.dir_lab.specs.private.Executions.{IsNext, IsRunning, records_by};
 ghost use Rattle.dir_lab.specs.declared.events.LabEvent.TheVariants as kinds;
 
 use crate::advancing::{advance_all, none_kept};

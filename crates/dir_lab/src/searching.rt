@@ -8,7 +8,7 @@ ghost use Rattle.dir_search.specs.ldap_msg.View.{search_view};
 ghost use Rattle.state_machine.specs.Executing.{directory_at, ops_of};
 ghost use Rattle.state_machine.specs.dir_store.Updates.{directory_of};
 ghost use Rattle.dir_search.specs.Answer.{answer};
-ghost use Rattle.dir_lab.specs.Executions.{IsOver, records_of};
+ghost use Rattle.dir_lab.specs.private.Executions.{IsOver, records_of};
 ghost use Rattle.dir_lab.specs.Schedule.{found};
 ghost use Rattle.dir_lab.specs.Shown.{Answered, shown_view};
 

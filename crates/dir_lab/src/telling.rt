@@ -5,7 +5,7 @@ ghost use Rattle.std.specs.Arc.{arc_value};
 ghost use Rattle.std.specs.Option.{option_map};
 ghost use Rattle.state_machine.specs.Executing.{ops_of, replies_at};
 ghost use Rattle.state_machine.specs.dir_store.Updates.{replies_of};
-ghost use Rattle.dir_lab.specs.Executions.{AreOver, IsOverAt, records_by, records_in};
+ghost use Rattle.dir_lab.specs.private.Executions.{AreOver, IsOverAt, records_by, records_in};
 ghost use Rattle.dir_lab.specs.Schedule.{told};
 ghost use Rattle.dir_lab.specs.Shown.{code_at, shown_view};
 

@@ -7,8 +7,9 @@ use Rattle.log_journal.specs.journal.Frames.{recorded}
 use Rattle.log_journal.specs.journal.declared.journal.Journal.{Journal}
 use Rattle.view_store.specs.Stored.{Stored}
 use Rattle.vr_state.specs.State.{State}
-use Rattle.dir_node.specs.Logged.{GoesAlong, IsHeldIn, IsToldIn, LeavesTold, LeavesOnlyIn, device_in, head_of}
-use Rattle.dir_node.specs.NodeState.{Holds, IsRunning}
+use Rattle.dir_node.specs.Logged.{LeavesTold, LeavesOnlyIn, device_in, head_of}
+use Rattle.dir_node.specs.private.Logged.{GoesAlong, IsHeldIn, IsToldIn}
+use Rattle.dir_node.specs.private.NodeState.{Holds, IsRunning}
 
 -- A settled journal leaves, at every crash, what it tells.
 pub left_told : {J : Type 0} (seen : J → List ℕ) (may_leave : J → List ℕ → Type 0) (journal : Option (Journal J)) (t : Told) (r : State OpValue) → IsHeldIn seen may_leave journal → IsToldIn seen journal t r

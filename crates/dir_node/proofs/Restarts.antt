@@ -19,13 +19,14 @@ use Rattle.vr_state.specs.State.{State}
 use Rattle.vr_state.specs.Views.{state}
 use Rattle.dir_node.specs.Logged.{ReadsAsBefore, head_of}
 use Rattle.dir_node.specs.Restarting.{CannotRestart, IsRestart, Restart, RestartLeaves, RestartNotes}
-use Rattle.dir_node.specs.NodeState.{Holds, IsRunning}
-use Rattle.dir_node.specs.Ways.{IsMadeBy, IsStartedOver, IsWay, start_by}
+use Rattle.dir_node.specs.private.NodeState.{Holds, IsRunning}
+use Rattle.dir_node.specs.private.Ways.{IsMadeBy, IsStartedOver, IsWay, start_by}
 use Rattle.dir_node.specs.declared.owner.Owner.{Owner}
 use Rattle.dir_node.specs.declared.made.Made.{Made}
 use Rattle.dir_node.specs.declared.way.Way.{Way}
 use Rattle.dir_node.specs.declared.way.Way.TheVariants.{Begin, BeginAgain, Resume}
-use Rattle.dir_node.specs.Faults.{IsEarly, IsWriteFault}
+use Rattle.dir_node.specs.Faults.{IsEarly}
+use Rattle.dir_node.specs.private.Faults.{IsWriteFault}
 use Rattle.dir_node.specs.declared.error.NodeError.{NodeError}
 use Rattle.dir_node.specs.declared.error.NodeError.TheVariants.{NoMemory, Store, Journal, ForeignJournal, StaleJournal, Halted}
 use Rattle.log_journal.specs.declared.error.NoteError.TheVariants as note

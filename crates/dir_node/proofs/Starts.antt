@@ -12,7 +12,7 @@ use Rattle.vr_state.specs.State.{first, is_recovering}
 use Rattle.vr_state.specs.declared.words.Status.TheVariants.{Normal, ViewChange}
 use Rattle.dir_node.specs.Logged.{IsBegun, head_of}
 use Rattle.dir_node.specs.Restarting.{IsOf, IsRestart, begins, first_notes, may_resume, recovered, resumed}
-use Rattle.dir_node.specs.Ways.{IsWay, IsWayOf, start_by}
+use Rattle.dir_node.specs.private.Ways.{IsWay, IsWayOf, start_by}
 use Rattle.dir_node.specs.declared.error.NodeError.{NodeError}
 use Rattle.dir_node.specs.declared.owner.Owner.{Owner}
 use Rattle.dir_node.specs.declared.way.Way.{Way}

@@ -8,7 +8,8 @@ use Rattle.view_store.specs.declared.slot.Pair.{Pair}
 use Rattle.view_store.specs.declared.state.Status.{Status}
 use Rattle.view_store.specs.declared.state.Status.TheVariants as status
 use Rattle.view_store.proofs.Moments.{joined, weaker_fact}
-use Rattle.dir_node.specs.NodeState.{CannotStart, CannotStore, Holds, StartLeaves, started_pair}
+use Rattle.dir_node.specs.NodeState.{CannotStart, CannotStore, StartLeaves, started_pair}
+use Rattle.dir_node.specs.private.NodeState.{Holds}
 use Rattle.dir_node.specs.declared.error.NodeError.{NodeError}
 use Rattle.dir_node.specs.declared.error.NodeError.TheVariants.{Store}
 use Rattle.view_store.specs.declared.fault.ViewStoreError.{ViewStoreError}

@@ -2,38 +2,7 @@
 use Rattle.log_journal.specs.declared.error.NoteError.TheVariants as note
 use Rattle.view_store.specs.declared.fault.ViewStoreError.TheVariants as view
 use Rattle.dir_node.specs.declared.error.NodeError.{NodeError}
-use Rattle.dir_node.specs.declared.error.NodeError.TheVariants.{NoMemory, Store, Journal, ForeignJournal, StaleJournal, Halted}
-
--- Want of memory, or what spelling notes may give: no device has failed, and no journal was read.
-abbrev pub IsNoteFault : NodeError → Type 0
-IsNoteFault NoMemory = Unit {0}
-IsNoteFault (Journal note.DeviceFailed) = ⊥
-IsNoteFault (Journal note.AnotherVersion) = ⊥
-IsNoteFault (Journal _) = Unit {0}
-IsNoteFault _ = ⊥
-
--- What opening a journal may give.
-abbrev pub IsOpenFault : NodeError → Type 0
-IsOpenFault NoMemory = Unit {0}
-IsOpenFault (Journal _) = Unit {0}
-IsOpenFault _ = ⊥
-
--- What reading a journal may give.
-abbrev pub IsLogFault : NodeError → Type 0
-IsLogFault NoMemory = Unit {0}
-IsLogFault (Journal _) = Unit {0}
-IsLogFault ForeignJournal = Unit {0}
-IsLogFault StaleJournal = Unit {0}
-IsLogFault (Store _) = ⊥
-IsLogFault Halted = ⊥
-
--- What writing a start may give.
-abbrev pub IsWriteFault : NodeError → Type 0
-IsWriteFault (Journal note.DeviceFailed) = Unit {0}
-IsWriteFault (Journal note.Full) = Unit {0}
-IsWriteFault (Store view.DeviceFailed) = Unit {0}
-IsWriteFault (Store view.NoPair) = Unit {0}
-IsWriteFault _ = ⊥
+use Rattle.dir_node.specs.declared.error.NodeError.TheVariants.{NoMemory, Store, Journal, ForeignJournal, StaleJournal}
 
 -- A start that is refused so has written nothing, but for what it cleared behind the strings of its journal.
 abbrev pub IsEarly : NodeError → Type 0
@@ -45,10 +14,3 @@ IsEarly (Journal note.AnotherVersion) = Unit {0}
 IsEarly (Store view.ForeignCluster) = Unit {0}
 IsEarly (Store view.KeepsJournal) = Unit {0}
 IsEarly _ = ⊥
-
--- What a start without a journal may give.
-abbrev pub IsPairFault : NodeError → Type 0
-IsPairFault NoMemory = Unit {0}
-IsPairFault (Store view.Failed) = ⊥
-IsPairFault (Store _) = Unit {0}
-IsPairFault _ = ⊥

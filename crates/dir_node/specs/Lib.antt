@@ -4,7 +4,7 @@ pub mod Logged
 pub mod NodeState
 pub mod Outcomes
 pub mod Restarting
-pub mod Ways
+pub mod private
 -- what layers above name of the crates below
 pub use Rattle.state_machine.specs as state_machine
 pub use Rattle.state_machine.specs.dir_store as dir_store

@@ -2,7 +2,7 @@
 -- log_journal.
 use Rattle.std.specs.Prelude.{◌≡◌, ◌≢◌, ◌⊎◌, ℕ, true, Option, Some, None, List, []}
 use Rattle.state_machine.specs.dir_store.ldap_op.Values.{OpValue}
-use Rattle.log_journal.specs.Kept.{IsHeld, IsMemory, IsMemoryOfTaken}
+use Rattle.log_journal.specs.Kept.{IsMemory, IsMemoryOfTaken}
 use Rattle.log_journal.specs.Notes.{Note, SpellAll}
 use Rattle.log_journal.specs.Told.{Told, nothing_kept}
 use Rattle.log_journal.specs.journal.Device.{HasRisen, LeavesOnly}
@@ -16,21 +16,6 @@ use Rattle.vr_state.specs.declared.event.Event.{Event}
 abbrev pub head_of : (cluster index count restarts : ℕ) → Told
 head_of cluster index count restarts =
     record { cluster = cluster; index = index; count = count; restarts = restarts; kept = nothing_kept true 0 }
-
--- A journal, where there is one, holds what it is read as, all of it settled.
-abbrev pub IsHeldIn : {J : Type 0} → (J → List ℕ) → (J → List ℕ → Type 0) → Option (Journal J) → Type 0
-IsHeldIn seen may_leave None = Unit {0}
-IsHeldIn seen may_leave (Some j) = IsHeld seen may_leave j
-
--- Where there is a journal, it tells this state below this head.
-abbrev pub IsToldIn : {J : Type 0} → (J → List ℕ) → Option (Journal J) → Told → State OpValue → Type 0
-IsToldIn seen None t r = Unit {0}
-IsToldIn seen (Some j) t r = IsMemory t r (recorded (seen j.device))
-
--- A journal goes along as its replica comes from r to s: it is settled, and tells s where it told r.
-pub record GoesAlong {J : Type 0} (seen : J → List ℕ) (may_leave : J → List ℕ → Type 0) (r s : State OpValue) (old new : Option (Journal J)) : Type 0 where
-  pub held : IsHeldIn seen may_leave new
-  pub told : (t : Told) → IsToldIn seen old t r → IsToldIn seen new t s
 
 -- Where there is a journal, every crash leaves strings that tell this state below this head.
 abbrev pub LeavesTold : {J : Type 0} → (J → List ℕ → Type 0) → Option (Journal J) → Told → State OpValue → Type 0

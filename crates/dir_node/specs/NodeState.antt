@@ -7,17 +7,14 @@ use Rattle.state_machine.specs.dir_store.ldap_op.Values.{OpValue}
 use Rattle.state_machine.specs.Executing.{ExecutedValue, IsFront}
 use Rattle.log_journal.specs.journal.declared.journal.Journal.{Journal}
 use Rattle.view_store.specs.declared.slot.Pair.{Pair}
-use Rattle.view_store.specs.declared.state.Status.TheVariants as status
-use Rattle.view_store.specs.Device.{Only}
 use Rattle.view_store.specs.Slots.{Finding, nothing, foreign, own, found, taken_from, sequence_of}
 use Rattle.view_store.specs.Store.{IsFormerOrNew}
-use Rattle.view_store.specs.Stored.{Stored}
 use Rattle.vr_state.specs.declared.message.Outputs.{Outputs}
 use Rattle.vr_state.specs.Words.{LogEntry}
 use Rattle.vr_state.specs.Outcome as steps
 use Rattle.vr_state.specs.State.{State}
 use Rattle.log_journal.specs.Told.{Told}
-use Rattle.dir_node.specs.Logged.{IsHeldIn, IsToldIn, LeavesTold, head_of}
+use Rattle.dir_node.specs.Logged.{LeavesTold, head_of}
 use Rattle.dir_node.specs.declared.config.NodeConfig.{NodeConfig}
 
 -- a node: its place among the replicas, its cluster, the replica's state, what it has executed, the device of its pair, its journal where it keeps one,
@@ -50,19 +47,6 @@ KeepsPair may_leave n = (image : List ℕ) → may_leave n.device image → foun
 -- log, all of it.
 abbrev pub KeepsLog : {D J : Type 0} → (J → List ℕ → Type 0) → NodeValue D J → Type 0
 KeepsLog may_leave n = LeavesTold may_leave n.journal (head n) n.replica
-
--- A view store is ready, its device holds this pair, and all of that is settled.
-pub record Holds {D : Type 0} (seen : D → List ℕ) (may_leave : D → List ℕ → Type 0) (views : Stored D) (pair : Pair) : Type 0 where
-  pub ready : views.status ≡ status.Ready
-  pub holds : found views.cluster (seen views.device) ≡ own pair
-  pub settled : Only (seen views.device) (may_leave views.device)
-
--- A node that runs: the device holds its pair, and its journal, where it keeps one, is settled and tells its replica.
-pub record IsRunning {D J : Type 0} (seen : D → List ℕ) (may_leave : D → List ℕ → Type 0) (log_seen : J → List ℕ) (log_may_leave : J → List ℕ → Type 0)
-    (views : Stored D) (journal : Option (Journal J)) (index count : ℕ) (r : State OpValue) (restarts : ℕ) : Type 0 where
-  pub stored : Holds seen may_leave views (record { view = r.view_number; restarts = restarts; journaled = is_some journal })
-  pub held : IsHeldIn log_seen log_may_leave journal
-  pub told : IsToldIn log_seen journal (head_of views.cluster index count restarts) r
 
 -- A view can't be stored: it is past the greatest number, or the sequence of pairs on the device is at its end.
 abbrev pub CannotStore : ℕ → List ℕ → Type 0

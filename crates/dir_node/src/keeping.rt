@@ -1,7 +1,8 @@
 //! What follows the steps of a replica: the stored pair goes along with the view, and committed records are executed. Why the view grew is not here.
 ghost use Rattle.std.specs.Prelude.{◌≡◌, ◌⊎◌, length, IfOk, OnOk, OnErr, IsErrOf};
 ghost use Rattle.state_machine.specs.Executing.{due_after};
-ghost use Rattle.dir_node.specs.NodeState.{CatchesUp, Holds, CannotStore};
+ghost use Rattle.dir_node.specs.NodeState.{CatchesUp, CannotStore};
+ghost use Rattle.dir_node.specs.private.NodeState.{Holds};
 ghost use Rattle.view_store.specs.Device.{HasRisen, LeavesOnly};
 ghost use Rattle.view_store.specs.Slots.{own, IsWellPlaced};
 ghost use Rattle.view_store.specs.Store.{IsFormerOrNew};

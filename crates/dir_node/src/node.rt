@@ -4,7 +4,8 @@ ghost use Rattle.std.specs.Prelude.{◌≡◌, ◌-◌, ◌==◌, ◌∷◌, [],
 ghost use Rattle.state_machine.specs.Executing.{directory_at, due_after, replies_at};
 ghost use Rattle.dir_node.specs.Handling.{MakesSteps, left_to_catch_up};
 ghost use Rattle.dir_node.specs.Logged.{HasRisenIn, LeavesOnlyIn, TellsSome, device_in};
-ghost use Rattle.dir_node.specs.NodeState.{CannotStore, CatchesUp, IsRunning, IsSameNode, KeepsLog, KeepsPair, given, head, pair_of};
+ghost use Rattle.dir_node.specs.NodeState.{CannotStore, CatchesUp, IsSameNode, KeepsLog, KeepsPair, given, head, pair_of};
+ghost use Rattle.dir_node.specs.private.NodeState.{IsRunning};
 ghost use Rattle.dir_node.specs.Outcomes.{outcome_at, outcome_of, outcome_view, standing_of};
 ghost use Rattle.view_store.specs.Device.{HasRisen, LeavesOnly};
 ghost use Rattle.view_store.specs.Slots.{own, IsWellPlaced};
@@ -57,7 +58,8 @@ impl<D: Device + Drop, J: JournalDevice + Drop> Drop for Node<D, J> {
 
 impl<D: Device, J: JournalDevice> Model for Node<D, J> {
     ghost use Rattle.std.specs.Prelude.{◌≡◌, false};
-    ghost use Rattle.dir_node.specs.NodeState.{NodeValue, IsRunning};
+    ghost use Rattle.dir_node.specs.NodeState.{NodeValue};
+    ghost use Rattle.dir_node.specs.private.NodeState.{IsRunning};
     ghost use Rattle.vr_state.specs.Views.{state};
 
     ghost Value = { NodeValue D J };

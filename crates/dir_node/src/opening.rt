@@ -1,8 +1,10 @@
 //! Nodes at their start, without a journal or with one. Devices flow in; a node flows out, with what its start sends, or a refusal with the devices.
 //! What is stored and noted is decided below.
 ghost use Rattle.std.specs.Prelude.{◌≡◌, ◌≢◌, ◌<◌, ◌≤◌, true, Some, None, is_some, length, IfOk, OnOk, IfErr, IsErrOf};
-ghost use Rattle.dir_node.specs.Faults.{IsEarly, IsLogFault, IsPairFault};
-ghost use Rattle.dir_node.specs.Logged.{FirstLeaves, HasRisenIn, IsHeldIn, IsNotEmpty, IsToldIn, LeavesOnlyIn, RefusedLeaves, device_in, head_of};
+ghost use Rattle.dir_node.specs.Faults.{IsEarly};
+ghost use Rattle.dir_node.specs.private.Faults.{IsLogFault, IsPairFault};
+ghost use Rattle.dir_node.specs.Logged.{FirstLeaves, HasRisenIn, IsNotEmpty, LeavesOnlyIn, RefusedLeaves, device_in, head_of};
+ghost use Rattle.dir_node.specs.private.Logged.{IsHeldIn, IsToldIn};
 ghost use Rattle.dir_node.specs.NodeState.{CannotStart, IsJournaled, IsMade, IsOwn, KeepsLog, KeepsPair, StartLeaves, given, started_pair};
 ghost use Rattle.dir_node.specs.Restarting.{CannotRestart, IsForeign, IsRestarted, IsStale, RestartLeaves, RestartNotes, owner_of, first_notes};
 ghost use Rattle.dir_node.specs.declared.error.NodeError.TheVariants as error;

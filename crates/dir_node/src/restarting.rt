@@ -1,11 +1,13 @@
 //! A node with a journal at its start: what the journal tells is read, and the replica that goes with it and with the pair is made; what the start
 //! notes is settled before the pair is stored, and both before anything is handed out.
 ghost use Rattle.std.specs.Prelude.{◌≡◌, ◌≢◌, ◌⊎◌, ℕ, ◌+◌, ◌<◌, ◌≤◌, ◌∷◌, ◌++◌, ◌^◌, [], false, Some, is_some, IfOk, IfErr, OnOk, IsErrOf, IsTrue};
-ghost use Rattle.dir_node.specs.Faults.{IsEarly, IsLogFault, IsNoteFault, IsOpenFault, IsWriteFault};
-ghost use Rattle.dir_node.specs.Logged.{FirstLeaves, HasRisenIn, IsHeldIn, IsNotEmpty, IsToldIn, LeavesOnlyIn, ReadsAsBefore, RefusedLeaves, device_in, head_of};
-ghost use Rattle.dir_node.specs.NodeState.{Holds};
+ghost use Rattle.dir_node.specs.Faults.{IsEarly};
+ghost use Rattle.dir_node.specs.private.Faults.{IsLogFault, IsNoteFault, IsOpenFault, IsWriteFault};
+ghost use Rattle.dir_node.specs.Logged.{FirstLeaves, HasRisenIn, IsNotEmpty, LeavesOnlyIn, ReadsAsBefore, RefusedLeaves, device_in, head_of};
+ghost use Rattle.dir_node.specs.private.Logged.{IsHeldIn, IsToldIn};
+ghost use Rattle.dir_node.specs.private.NodeState.{Holds};
 ghost use Rattle.dir_node.specs.Restarting.{CannotRestart, GoTogether, IsForeign, IsOf, IsStale, RestartLeaves, RestartNotes, begins, change_of, first_notes, may_resume, recovered, resumed};
-ghost use Rattle.dir_node.specs.Ways.{IsMadeBy, IsStaleOf, IsStartedOver, IsWay, IsWayOf, start_by};
+ghost use Rattle.dir_node.specs.private.Ways.{IsMadeBy, IsStaleOf, IsStartedOver, IsWay, IsWayOf, start_by};
 ghost use Rattle.dir_node.specs.declared.error.NodeError.TheVariants as error;
 ghost use Rattle.log_journal.specs.Found.{HasAnotherVersion, IsFound};
 ghost use Rattle.log_journal.specs.Kept.{IsHeld, IsMemory};

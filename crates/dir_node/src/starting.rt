@@ -1,7 +1,8 @@
 //! A node without a journal at its start: the device's pair and the replica that goes with it. A device flows in; the pair on it, a replica and its first outputs flow
 //! out. What is asked of the other replicas is decided below.
 ghost use Rattle.std.specs.Prelude.{◌≡◌, ◌≢◌, ◌<◌, ◌≤◌, false, length, IfOk, OnOk, IsErrOf};
-ghost use Rattle.dir_node.specs.NodeState.{CannotStart, Holds, IsJournaled, IsOwn, StartLeaves, started_pair};
+ghost use Rattle.dir_node.specs.NodeState.{CannotStart, IsJournaled, IsOwn, StartLeaves, started_pair};
+ghost use Rattle.dir_node.specs.private.NodeState.{Holds};
 ghost use Rattle.view_store.specs.Device.{HasRisen, LeavesOnly};
 ghost use Rattle.view_store.specs.Slots.{found, foreign, IsWellPlaced};
 ghost use Rattle.view_store.specs.declared.state.Status.TheVariants as status;

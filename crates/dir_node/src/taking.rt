@@ -2,7 +2,8 @@
 //! before that, by the caller.
 ghost use Rattle.std.specs.Prelude.{◌≡◌, ◌∷◌, [], Some, None, is_some, IfOk, IfErr, IsErrOf, OnOk};
 ghost use Rattle.dir_node.specs.Handling.{MakesSteps};
-ghost use Rattle.dir_node.specs.Logged.{GoesAlong, HasRisenIn, IsHeldIn, IsToldIn, LeavesOnlyIn, TellsSome, device_in};
+ghost use Rattle.dir_node.specs.Logged.{HasRisenIn, LeavesOnlyIn, TellsSome, device_in};
+ghost use Rattle.dir_node.specs.private.Logged.{GoesAlong, IsHeldIn, IsToldIn};
 ghost use Rattle.dir_node.specs.NodeState.{given};
 ghost use Rattle.dir_node.specs.declared.fault.Untaken.TheVariants as untaken;
 ghost use Rattle.log_journal.specs.Told.{Told};

@@ -11,14 +11,14 @@ use Rattle.indexed_tree.specs.index_choice.declared.kinds.Kinds.{Kinds}
 use Rattle.indexed_tree.specs.ldap_dn.Names.{RdnModel, rdns}
 use Rattle.indexed_tree.specs.dir_tree.Directory.{Entered}
 use Rattle.indexed_tree.specs.Listed.{StoreModel}
-use Rattle.dir_search.specs.Among.{FindsOf, FindsWhere}
+use Rattle.dir_search.specs.private.Among.{FindsOf, FindsWhere}
 use Rattle.dir_search.specs.Answer.{is_subordinate, is_empty, is_base, stands}
 use Rattle.indexed_tree.specs.directory_api.Answers.{Answer}
 use Rattle.dir_search.specs.Counted.{IsCountAtBase, IsCountFrom, IsCountAt}
 use Rattle.dir_search.specs.Evaluated.{IsFewAt}
-use Rattle.dir_search.specs.Numbered.{found_of}
+use Rattle.dir_search.specs.private.Numbered.{found_of}
 use Rattle.dir_search.specs.Scopes.{is_in_scope}
-use Rattle.dir_search.specs.View.{Finds, FindsAmong}
+use Rattle.dir_search.specs.private.View.{Finds, FindsAmong}
 use Rattle.dir_search.specs.declared.bound_search.BoundSearch.{BoundSearch}
 use Rattle.indexed_tree.specs.directory_api.declared.search_answer.SearchAnswer.{SearchAnswer}
 

@@ -24,10 +24,10 @@ use Rattle.search_plans.proofs.HeldRuns.{TestsAreItems}
 use Rattle.dir_search.specs.Answer.{is_match, in_scope, matching}
 use Rattle.dir_search.specs.Counted.{leaves_open, first_past, keyed_in_scope, up_to_entry, IsCountAtBase}
 use Rattle.dir_search.specs.Evaluated.{IsFewOf, IsWithinParts, IsFewAtBase}
-use Rattle.dir_search.specs.Looks.{true_numbers, has_runs_on, leaves_open_on, up_to, AreHere, IsFew, numbers_in_scope}
-use Rattle.dir_search.specs.Numbered.{put_some, entries_of}
+use Rattle.dir_search.specs.private.Looks.{true_numbers, has_runs_on, leaves_open_on, up_to, AreHere, IsFew, numbers_in_scope}
+use Rattle.dir_search.specs.private.Numbered.{put_some, entries_of}
 use Rattle.dir_search.specs.Scopes.{is_in_scope}
-use Rattle.dir_search.specs.View.{FindsAmong}
+use Rattle.dir_search.specs.private.View.{FindsAmong}
 use Rattle.indexed_tree.specs.directory_api.declared.search_answer.SearchAnswer.{SearchAnswer}
 use Rattle.dir_search.proofs.Few.{true_here, bound_on, found_true}
 use Rattle.dir_search.proofs.Limits.{keyed_at}

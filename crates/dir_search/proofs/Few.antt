@@ -24,10 +24,11 @@ use Rattle.search_plans.specs.Runs.{is_true as is_true_value}
 use Rattle.indexed_tree.specs.Listed.{listed_of}
 use Rattle.dir_search.specs.Answer.{is_true, is_match, limited}
 use Rattle.dir_search.specs.Counted.{first_past}
-use Rattle.dir_search.specs.Looks.{value_on, value_in, IsBoundOn, true_numbers, has_runs_on, leaves_open_on, up_to, AreNumbersOf, AreHere, IsFew, LeavesFew}
-use Rattle.dir_search.specs.Numbered.{put_some, entries_of}
+use Rattle.dir_search.specs.Looks.{value_on, value_in}
+use Rattle.dir_search.specs.private.Looks.{IsBoundOn, true_numbers, has_runs_on, leaves_open_on, up_to, AreNumbersOf, AreHere, IsFew, LeavesFew}
+use Rattle.dir_search.specs.private.Numbered.{put_some, entries_of}
 use Rattle.dir_search.specs.Selection.{selected}
-use Rattle.dir_search.specs.View.{Shows, FindsAmong}
+use Rattle.dir_search.specs.private.View.{Shows, FindsAmong}
 use Rattle.indexed_tree.specs.directory_api.declared.search_answer.SearchAnswer.{SearchAnswer}
 use Rattle.dir_search.proofs.Limits.{keyed_at}
 

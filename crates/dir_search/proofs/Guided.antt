@@ -17,7 +17,8 @@ use Rattle.search_plans.specs.declared.plan.Plan.{Plan}
 use Rattle.search_plans.specs.Bounds.{is_decided, BoundsSets, DecidedAreTrue}
 use Rattle.search_plans.specs.OctetRuns.{has_runs_for}
 use Rattle.search_plans.specs.Runs.{is_open}
-use Rattle.dir_search.specs.Looks.{value_on, value_in, has_runs_on, leaves_open_on, AreNumbersOf, LeavesFew}
+use Rattle.dir_search.specs.Looks.{value_on, value_in}
+use Rattle.dir_search.specs.private.Looks.{has_runs_on, leaves_open_on, AreNumbersOf, LeavesFew}
 
 above_listed : (k : ℕ) (d : List Entered) → AllAbove k d → AllByRecursion (λ y. k < y) (map (λ e. e.number) (listed_of d))
 above_listed k [] h = tt

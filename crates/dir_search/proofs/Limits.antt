@@ -13,8 +13,8 @@ use Rattle.indexed_tree.specs.Directory.{NamedEntry}
 use Rattle.indexed_tree.specs.Stored.{named, AreKeyedBy}
 use Rattle.dir_search.specs.Answer.{limited}
 use Rattle.indexed_tree.specs.directory_api.Answers.{Answer}
-use Rattle.dir_search.specs.Looks.{AreHere}
-use Rattle.dir_search.specs.Numbered.{put_some, entries_of}
+use Rattle.dir_search.specs.private.Looks.{AreHere}
+use Rattle.dir_search.specs.private.Numbered.{put_some, entries_of}
 
 -- what is shown of the entries of numbers
 abbrev pub shown_of : (NamedEntry → SearchResultEntryValue) → List Entered → List ℕ → List SearchResultEntryValue

@@ -7,7 +7,8 @@ use Rattle.indexed_tree.specs.dir_entry.Entry.{KeyedAttribute, attributes_of}
 use Rattle.indexed_tree.specs.directory_api.ldap_msg.Messages.{SearchResultEntryValue}
 use Rattle.indexed_tree.specs.Stored.{named}
 use Rattle.indexed_tree.specs.dir_tree.Directory.{Entered, entry_at, numbers, AllAbove, NumbersRise}
-use Rattle.dir_search.specs.Numbered.{put_some, entries_of, name_of}
+use Rattle.dir_search.specs.Numbered.{name_of}
+use Rattle.dir_search.specs.private.Numbered.{put_some, entries_of}
 use Rattle.dir_search.specs.Selection.{attributes_selected, selected}
 
 -- each of the numbers is above one

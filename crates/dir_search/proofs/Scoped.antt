@@ -12,7 +12,7 @@ use Rattle.indexed_tree.specs.Directory.{NamedEntry}
 use Rattle.indexed_tree.specs.Places.{entry_named}
 use Rattle.indexed_tree.specs.Stored.{named, directory}
 use Rattle.dir_search.specs.Answer.{is_empty, is_match, in_scope, limited, stands, found_at}
-use Rattle.dir_search.specs.Numbered.{found_of}
+use Rattle.dir_search.specs.private.Numbered.{found_of}
 use Rattle.dir_search.specs.Scopes.{is_right_under, is_in_scope}
 use Rattle.dir_search.specs.Selection.{selected}
 use Rattle.dir_search.proofs.Numbers.{numbers_are}

@@ -7,8 +7,8 @@ use Rattle.indexed_tree.specs.directory_api.ldap_msg.Messages.{SearchResultEntry
 use Rattle.indexed_tree.specs.dir_tree.Directory.{Entered}
 use Rattle.indexed_tree.specs.Directory.{NamedEntry}
 use Rattle.dir_search.specs.Counted.{first_past}
-use Rattle.dir_search.specs.Looks.{up_to}
-use Rattle.dir_search.specs.View.{Shows}
+use Rattle.dir_search.specs.private.Looks.{up_to}
+use Rattle.dir_search.specs.private.View.{Shows}
 use Rattle.indexed_tree.specs.directory_api.View.{answer_view}
 use Rattle.indexed_tree.specs.directory_api.declared.search_answer.SearchAnswer.{SearchAnswer}
 use Rattle.dir_search.proofs.Limits.{SoFar, stops, stops_at, ends, ends_before}

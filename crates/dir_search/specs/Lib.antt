@@ -1,6 +1,5 @@
 pub mod Scopes
 pub mod Selection
-pub mod Resolved
 pub mod RootDse
 pub mod Answer
 pub mod Compared
@@ -8,8 +7,7 @@ pub mod Numbered
 pub mod Looks
 pub mod Counted
 pub mod Evaluated
-pub mod View
-pub mod Among
+pub mod private
 -- what layers above name of the crates below
 pub use Rattle.indexed_tree.specs.directory_api.ldap_msg as ldap_msg
 pub use Rattle.indexed_tree.specs.ldap_schema as ldap_schema

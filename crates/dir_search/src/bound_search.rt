@@ -15,7 +15,8 @@ ghost use Rattle.search_plans.specs.Sets.{is_in};
 ghost use Rattle.search_plans.specs.Planned.{ArePlansFor};
 ghost use Rattle.search_plans.specs.Runs.{AreGuides, is_open};
 ghost use Rattle.dir_search.specs.Answer.{stands};
-ghost use Rattle.dir_search.specs.Looks.{AreNumbersOf, IsBoundOn, LeavesFew, leaves_open_on, value_in};
+ghost use Rattle.dir_search.specs.Looks.{value_in};
+ghost use Rattle.dir_search.specs.private.Looks.{AreNumbersOf, IsBoundOn, LeavesFew, leaves_open_on};
 ghost use Rattle.dir_search.specs.Scopes.{is_right_under, is_in_scope};
 
 use crate::scoping::{is_unnamed, numbers_right_under, numbers_within};
@@ -73,7 +74,7 @@ impl<'a> Drop for BoundSearch<'a> {
 }
 
 impl BoundSearch<'_> {
-    ghost use Rattle.dir_search.specs.Among.{FindsOf, FindsWhere};
+    ghost use Rattle.dir_search.specs.private.Among.{FindsOf, FindsWhere};
 
     /// What is shown of the entries of these numbers that match, up to the limit; 0 is no limit. The numbers come from the posting lists; the
     /// filter is evaluated only where its plans leave open whether it is True.

@@ -1,7 +1,7 @@
 // Searches with nothing to find. A reply flows in; the answer that says so flows out. What must not be here: which search that is.
 ghost use Rattle.indexed_tree.specs.directory_api.View.{reply_view};
 ghost use Rattle.indexed_tree.specs.directory_api.Answers.{refused as refused_answer};
-ghost use Rattle.dir_search.specs.View.{Finds};
+ghost use Rattle.dir_search.specs.private.View.{Finds};
 
 use indexed_tree::{Reply, SearchAnswer};
 use std::alloc::Global;

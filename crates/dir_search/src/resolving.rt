@@ -4,7 +4,7 @@ ghost use Rattle.std.specs.Prelude.{◌≡◌, ◌||◌, ℕ, length, map, IfOk,
 ghost use Rattle.std.specs.List.{list_any};
 ghost use Rattle.indexed_tree.specs.ldap_schema.Schema.{find, superior_of, superiors};
 ghost use Rattle.dir_search.specs.Selection.{is_named_by, is_selected_by};
-ghost use Rattle.dir_search.specs.Resolved.{Resolves, is_held, is_none, picks, picks_named};
+ghost use Rattle.dir_search.specs.private.Resolved.{Resolves, is_held, is_none, picks, picks_named};
 
 use indexed_tree::{Schema, TypeId};
 use std::alloc::{AllocError, Global};

@@ -9,9 +9,9 @@ ghost use Rattle.search_plans.specs.Runs.{is_true};
 ghost use Rattle.indexed_tree.specs.directory_api.ldap_msg.View.{attribute_view, entry_view, search_view};
 ghost use Rattle.indexed_tree.specs.dir_entry.Entry.{attributes_of, IsKeyedBy};
 ghost use Rattle.dir_search.specs.Answer.{dse_matching};
-ghost use Rattle.dir_search.specs.Resolved.{selectors_of};
+ghost use Rattle.dir_search.specs.private.Resolved.{selectors_of};
 ghost use Rattle.dir_search.specs.RootDse.{class_top, dse_attributes, dse_selected, where_named, without_values};
-ghost use Rattle.dir_search.specs.View.{Finds};
+ghost use Rattle.dir_search.specs.private.View.{Finds};
 
 use crate::resolving::Selection;
 use crate::searching::matches;

@@ -14,7 +14,7 @@ ghost use Rattle.dir_search.specs.Answer.{answer, answer_of, answer_at, found_at
 ghost use Rattle.indexed_tree.specs.directory_api.Answers.{refused as refused_answer};
 ghost use Rattle.dir_search.specs.Counted.{IsCountAtBase, IsCountFrom, IsCountOf};
 ghost use Rattle.dir_search.specs.Evaluated.{IsFewAtBase, LooksAtFew, goes_over};
-ghost use Rattle.dir_search.specs.View.{Finds};
+ghost use Rattle.dir_search.specs.private.View.{Finds};
 ghost use Rattle.indexed_tree.specs.directory_api.View.{answer_view};
 
 use crate::bound_search::BoundSearch;

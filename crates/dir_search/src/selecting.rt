@@ -6,7 +6,7 @@ ghost use Rattle.indexed_tree.specs.ldap_dn.Printed.{printed_name};
 ghost use Rattle.indexed_tree.specs.dir_entry.Entry.{shown as without_keys, attributes_of};
 ghost use Rattle.indexed_tree.specs.dir_tree.Directory.{entry_at};
 ghost use Rattle.dir_search.specs.Numbered.{name_of};
-ghost use Rattle.dir_search.specs.Resolved.{Resolves, selectors_of};
+ghost use Rattle.dir_search.specs.private.Resolved.{Resolves, selectors_of};
 ghost use Rattle.dir_search.specs.Selection.{is_selected, first_name, shown, attributes_selected};
 
 use crate::resolving::Selection;

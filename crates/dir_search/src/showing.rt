@@ -4,11 +4,11 @@ ghost use Rattle.std.specs.Prelude.{◌≡◌, ◌<◌, ◌++◌, ◌∷◌, [],
 ghost use Rattle.std.specs.Bool.{OnTrue, OnFalse};
 ghost use Rattle.indexed_tree.specs.directory_api.ldap_msg.View.{entry_view};
 ghost use Rattle.indexed_tree.specs.Stored.{named};
-ghost use Rattle.dir_search.specs.Looks.{AreHere};
-ghost use Rattle.dir_search.specs.Numbered.{entries_of};
-ghost use Rattle.dir_search.specs.Resolved.{selectors_of};
+ghost use Rattle.dir_search.specs.private.Looks.{AreHere};
+ghost use Rattle.dir_search.specs.private.Numbered.{entries_of};
+ghost use Rattle.dir_search.specs.private.Resolved.{selectors_of};
 ghost use Rattle.dir_search.specs.Selection.{selected};
-ghost use Rattle.dir_search.specs.View.{Shows};
+ghost use Rattle.dir_search.specs.private.View.{Shows};
 ghost use Rattle.indexed_tree.specs.directory_api.View.{answer_view};
 
 use crate::resolving::Selection;

@@ -8,7 +8,8 @@ use Rattle.dir_seats.specs.state_machine.dir_store.ldap_op.Values.{OpValue}
 use Rattle.dir_seats.specs.state_machine.Executing.{ExecutedValue}
 use Rattle.dir_seats.specs.Lists.{with_records, IsBeginning}
 use Rattle.dir_seats.specs.Rule.{Floor}
-use Rattle.dir_seats.specs.Showing.{HoldsVersions, latest, showing}
+use Rattle.dir_seats.specs.Showing.{latest, showing}
+use Rattle.dir_seats.specs.private.Showing.{HoldsVersions}
 
 prefix_trans : (xs ys zs : List (LogEntry OpValue)) → IsPrefix xs ys → IsPrefix ys zs → IsPrefix xs zs
 prefix_trans xs ys zs p q = (p.0 ++ q.0, sym (append_assoc xs p.0 q.0) ∙ (ap (λ w. w ++ q.0) p.1 ∙ q.1))

@@ -1,8 +1,8 @@
 pub mod Lists
 pub mod Rule
-pub mod Versions
 pub mod Showing
 pub mod Reads
+pub mod private
 -- what layers above name of the crates below
 pub use Rattle.state_machine.specs as state_machine
 pub use Rattle.directory_api.specs as directory_api

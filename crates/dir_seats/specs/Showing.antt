@@ -1,10 +1,8 @@
 -- What a publisher shows, and what it is to show next.
-use Rattle.std.specs.Prelude.{◌≡◌, ℕ, List, true, fold, drop, length}
+use Rattle.std.specs.Prelude.{List, fold, drop, length}
 use Rattle.vr_state.specs.Words.{LogEntry}
 use Rattle.state_machine.specs.dir_store.ldap_op.Values.{OpValue}
 use Rattle.state_machine.specs.Executing.{ExecutedValue}
-use Rattle.dir_seats.specs.Lists.{IsBeginning}
-use Rattle.dir_seats.specs.Rule.{Floor}
 
 -- what seats see, and the records that they are to see next
 pub record Showing : Type 0 where
@@ -18,9 +16,3 @@ latest shown nexts = fold (λ _ next. next) shown nexts
 -- what is shown, and the records that the latest version has beyond it
 abbrev pub showing : ExecutedValue → List ExecutedValue → Showing
 showing shown nexts = record { published = shown; waiting = drop (length shown.records) (latest shown nexts).records }
-
--- A publisher knows what it shows; that begins the latest of the versions to come, which has so many records.
-pub record HoldsVersions (floor : Floor) (shown : ExecutedValue) (nexts : List ExecutedValue) (count : ℕ) : Type 0 where
-  pub known : floor ≡ (true, shown)
-  pub begins : IsBeginning shown (latest shown nexts)
-  pub records : count ≡ length (latest shown nexts).records

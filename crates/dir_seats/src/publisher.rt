@@ -29,7 +29,8 @@ pub struct Publisher<N, R: Wait + Drop> {
 impl<N, R: Wait + Drop> Model for Publisher<N, R> {
     ghost use Rattle.std.specs.Prelude.{drop};
     ghost use Rattle.left_right.specs.Sides.{view as known};
-    ghost use Rattle.dir_seats.specs.Showing.{Showing, showing, HoldsVersions};
+    ghost use Rattle.dir_seats.specs.Showing.{Showing, showing};
+    ghost use Rattle.dir_seats.specs.private.Showing.{HoldsVersions};
 
     ghost Value = { Showing };
 

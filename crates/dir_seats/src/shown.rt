@@ -30,7 +30,7 @@ impl Drop for Version {
 
 impl Model for Version {
     ghost use Rattle.state_machine.specs.Executing.{ExecutedValue};
-    ghost use Rattle.dir_seats.specs.Versions.{IsAfter};
+    ghost use Rattle.dir_seats.specs.private.Versions.{IsAfter};
 
     ghost Value = { ExecutedValue };
 

@@ -2,7 +2,7 @@ pub mod Updates
 pub mod Joins
 pub mod Order
 pub mod Placed
-pub mod View
+pub mod private
 -- what layers above name of the crates below
 pub use Rattle.entry_updates.specs.ldap_op.ldap_parts as ldap_parts
 pub use Rattle.entry_updates.specs.ldap_op as ldap_op

@@ -10,7 +10,7 @@ ghost use Rattle.indexed_tree.specs.dir_tree.Placed.{name_placed};
 ghost use Rattle.indexed_tree.specs.Places.{last_of};
 ghost use Rattle.indexed_tree.specs.Stored.{directory, AreKeyedBy};
 ghost use Rattle.dir_store.specs.Updates.{place_under, place_asked, addition_of, addition_at as addition_that_stands, addition as addition_that_is_asked};
-ghost use Rattle.dir_store.specs.View.{placed_view, RefusedWith};
+ghost use Rattle.dir_store.specs.private.View.{placed_view, RefusedWith};
 
 use crate::fault::{StoreError, refused_attributes};
 use crate::finding::asked_entry;

@@ -6,7 +6,7 @@ ghost use Rattle.indexed_tree.specs.ldap_dn.Names.{rdns};
 ghost use Rattle.indexed_tree.specs.dir_tree.Directory.{find, has_below};
 ghost use Rattle.indexed_tree.specs.Stored.{directory, AreKeyedBy};
 ghost use Rattle.dir_store.specs.Updates.{leaf_asked};
-ghost use Rattle.dir_store.specs.View.{RefusedWith};
+ghost use Rattle.dir_store.specs.private.View.{RefusedWith};
 
 use crate::fault::StoreError;
 use crate::finding::asked_entry;

@@ -3,7 +3,7 @@ ghost use Rattle.std.specs.Prelude.{◌≡◌, ℕ, List, Result, IfOk};
 ghost use Rattle.indexed_tree.specs.dir_entry.Entry.{AttributeModel};
 ghost use Rattle.entry_updates.specs.Refused.{RefusedAs};
 ghost use Rattle.indexed_tree.specs.Replies.{with_reply};
-ghost use Rattle.dir_store.specs.View.{RefusedWith};
+ghost use Rattle.dir_store.specs.private.View.{RefusedWith};
 ghost use Rattle.dir_store.specs.declared.fault.StoreError.TheVariants.{NoMemory};
 
 use entry_updates::UpdateError;

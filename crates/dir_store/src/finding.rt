@@ -5,7 +5,7 @@ ghost use Rattle.indexed_tree.specs.dir_entry.Entry.{IsKeyedBy};
 ghost use Rattle.indexed_tree.specs.dir_tree.Directory.{find};
 ghost use Rattle.indexed_tree.specs.Replies.{entry_asked};
 ghost use Rattle.indexed_tree.specs.Stored.{entered_of, named, directory, AreKeyedBy};
-ghost use Rattle.dir_store.specs.View.{RefusedWith};
+ghost use Rattle.dir_store.specs.private.View.{RefusedWith};
 
 use crate::fault::StoreError;
 use indexed_tree::{Rdn, Schema, Standing, Tree, not_found, standing};

@@ -5,7 +5,7 @@ ghost use Rattle.entry_updates.specs.ldap_updates.View.{change_view, modify_view
 ghost use Rattle.indexed_tree.specs.dir_entry.Entry.{IsKeyedBy};
 ghost use Rattle.indexed_tree.specs.Stored.{entered_of, named, directory, AreKeyedBy};
 ghost use Rattle.dir_store.specs.Updates.{change_of, change_asked};
-ghost use Rattle.dir_store.specs.View.{kept_view, RefusedWith};
+ghost use Rattle.dir_store.specs.private.View.{kept_view, RefusedWith};
 
 use crate::fault::{StoreError, refused_attributes};
 use crate::finding::asked_entry;

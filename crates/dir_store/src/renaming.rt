@@ -10,8 +10,8 @@ ghost use Rattle.indexed_tree.specs.dir_tree.Placed.{name_placed};
 ghost use Rattle.indexed_tree.specs.Places.{parent_of, entry_named};
 ghost use Rattle.indexed_tree.specs.Stored.{named, directory, AreKeyedBy};
 ghost use Rattle.dir_store.specs.Updates.{is_at_or_below as is_name_at_or_below, is_misplaced as is_move_misplaced, superior_of, is_other_than, moved_entry, move_names, move_to, move_under, move_asked as move_that_is_asked};
-ghost use Rattle.indexed_tree.specs.Moving.{MayMove};
-ghost use Rattle.dir_store.specs.View.{names_view, moved_view, RefusedWith};
+ghost use Rattle.indexed_tree.specs.private.Moving.{MayMove};
+ghost use Rattle.dir_store.specs.private.View.{names_view, moved_view, RefusedWith};
 
 use crate::fault::{StoreError, refused_attributes};
 use crate::finding::asked_entry;
@@ -113,7 +113,7 @@ struct Move<'a> {
 
 impl<'a> Model for Move<'a> {
     ghost use Rattle.indexed_tree.specs.Stored.{entered_of};
-    ghost use Rattle.indexed_tree.specs.Moving.{MoveAsked, IsOfTree};
+    ghost use Rattle.indexed_tree.specs.private.Moving.{MoveAsked, IsOfTree};
 
     ghost Value = { MoveAsked };
 

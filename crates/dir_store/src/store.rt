@@ -7,7 +7,7 @@ ghost use Rattle.indexed_tree.specs.directory_api.View.{reply_view};
 ghost use Rattle.entry_updates.specs.ldap_updates.View.{add_view, modify_view, modify_dn_view};
 ghost use Rattle.entry_updates.specs.ldap_op.View.{update_view};
 ghost use Rattle.dir_store.specs.Updates.{added, deleted, modified, renamed_all, updated, applied, reply_to};
-ghost use Rattle.dir_store.specs.View.{RefusedWith};
+ghost use Rattle.dir_store.specs.private.View.{RefusedWith};
 
 use crate::adding::{Placed, addition};
 use crate::deleting::asked_leaf;

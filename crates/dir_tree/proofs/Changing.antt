@@ -8,8 +8,9 @@ use Rattle.dir_tree.specs.Directory.{NameKey}
 use Rattle.dir_tree.specs.declared.place.Place.{Place}
 use Rattle.dir_tree.specs.declared.place.Place.TheVariants.{Root}
 use Rattle.dir_tree.specs.declared.place.Below.{Below}
-use Rattle.dir_tree.specs.Superiors.{Places, Steps, above_in, is_root, stands_under, stands_at, ends, is_over, name_up, has_number, IsHung, IsListed}
-use Rattle.dir_tree.specs.Changes.{put, is_above, steps_after, child_after, over_after, IsAfter}
+use Rattle.dir_tree.specs.Superiors.{Places, name_up, has_number}
+use Rattle.dir_tree.specs.private.Superiors.{Steps, above_in, is_root, stands_under, stands_at, ends, is_over, IsHung, IsListed}
+use Rattle.dir_tree.specs.private.Changes.{put, is_above, steps_after, child_after, over_after, IsAfter}
 use Rattle.dir_tree.proofs.Kept.{own_eq, same_number, turned_eq, apart_eq}
 use Rattle.dir_tree.proofs.Ways.{under-above, IsApart, ends-more, ends-apart, over-apart, name-apart, name-enough, over-enough, over-step, over-top, over-under, over-own, name-under, climb}
 use Rattle.dir_tree.proofs.Hung.{key, over-long, long-under, over-not}

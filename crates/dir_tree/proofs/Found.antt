@@ -12,7 +12,8 @@ use Rattle.dir_tree.specs.declared.place.Place.{Place}
 use Rattle.dir_tree.specs.declared.place.Standing.{Standing}
 use Rattle.dir_tree.specs.declared.place.Below.{Below}
 use Rattle.shared_map.specs.Sets.{IsRising}
-use Rattle.dir_tree.specs.Superiors.{Places, Steps, above_in, stands_under, name_up, down, number_at, place_at, has_number, entered, directory_of, IsHung, IsListed}
+use Rattle.dir_tree.specs.Superiors.{Places, name_up, place_at, has_number, entered, directory_of}
+use Rattle.dir_tree.specs.private.Superiors.{Steps, above_in, stands_under, down, number_at, IsHung, IsListed}
 use Rattle.dir_tree.proofs.Kept.{own_eq, same_number, apart_eq, under, under-cons, same_set}
 use Rattle.dir_tree.proofs.NameFacts.{begins-own, name_decides, above-joined}
 use Rattle.dir_tree.proofs.Ways.{under-above, over-top}

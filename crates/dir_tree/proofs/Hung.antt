@@ -8,7 +8,8 @@ use Rattle.dir_entry.specs.ldap_dn.Names.{RdnModel, rdns, TypeAndKey, are_same_k
 use Rattle.dir_tree.specs.Directory.{NameKey, begins, is_child}
 use Rattle.dir_tree.specs.declared.place.Place.{Place}
 use Rattle.dir_tree.specs.declared.place.Place.TheVariants.{Root, Under}
-use Rattle.dir_tree.specs.Superiors.{Places, Steps, above_in, is_root, stands_under, stands_at, is_over, name_up, down, number_at, IsHung}
+use Rattle.dir_tree.specs.Superiors.{Places, name_up}
+use Rattle.dir_tree.specs.private.Superiors.{Steps, above_in, is_root, stands_under, stands_at, is_over, down, number_at, IsHung}
 use Rattle.dir_tree.proofs.Kept.{own_eq, same_number}
 use Rattle.dir_tree.proofs.NameFacts.{begins-own, begins-joined, behind-joined, begins-through, begins-long, begins-all, begins-front, split, part_decides, both, and_true}
 use Rattle.dir_tree.proofs.Ways.{IsUnder, under-above, name-under, name-root, over-top, over-under, over-own, climb}

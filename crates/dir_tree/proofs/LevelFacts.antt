@@ -12,7 +12,8 @@ use Rattle.dir_entry.specs.ldap_dn.Names.{RdnModel, TypeAndKey, are_same_keys}
 use Rattle.dir_entry.specs.ldap_dn.Ordered.{rdn_order}
 use Rattle.dir_entry.specs.ldap_dn.OrderLaws.{rdn_ties}
 use Rattle.dir_tree.specs.declared.place.Below.{Below}
-use Rattle.dir_tree.specs.Superiors.{alone, below_at, number_among, has_number}
+use Rattle.dir_tree.specs.Superiors.{has_number}
+use Rattle.dir_tree.specs.private.Superiors.{alone, below_at, number_among}
 use Rattle.shared_map.specs.Sets.{IsRising}
 use Rattle.dir_tree.proofs.Kept.{under, under-put, under-out, same_number, has-put, has-out}
 use Rattle.dir_tree.proofs.NameFacts.{part_decides}

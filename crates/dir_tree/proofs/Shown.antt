@@ -15,7 +15,7 @@ use Rattle.dir_tree.specs.declared.place.Standing.{Standing}
 use Rattle.dir_tree.specs.Superiors.{Places, name_up, entered, place_at}
 use Rattle.dir_tree.proofs.Kept.{extended, own_eq, same_number, is_eq-nat, under, under-cons, under-put, under-out, under-ahead, less_apart}
 use Rattle.dir_tree.proofs.Found.{listed}
-use Rattle.dir_tree.specs.Changes.{put}
+use Rattle.dir_tree.specs.private.Changes.{put}
 
 -- ---- places
 

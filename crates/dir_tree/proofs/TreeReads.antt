@@ -14,8 +14,10 @@ use Rattle.dir_tree.specs.declared.place.Place.{Place}
 use Rattle.dir_tree.specs.declared.place.Place.TheVariants.{Root, Under}
 use Rattle.dir_tree.specs.declared.place.Standing.{Standing}
 use Rattle.dir_tree.specs.declared.roots.Roots.{Roots}
-use Rattle.dir_tree.specs.Superiors.{Places, Steps, above_in, name_in, name_up, down, number_at, unreached, place_at, step_at, below_at, entered}
-use Rattle.dir_tree.specs.Kept.{IsTree, shown}
+use Rattle.dir_tree.specs.Superiors.{Places, name_in, name_up, place_at, entered}
+use Rattle.dir_tree.specs.private.Superiors.{Steps, above_in, down, number_at, unreached, step_at, below_at}
+use Rattle.dir_tree.specs.Kept.{shown}
+use Rattle.dir_tree.specs.private.Kept.{IsTree}
 use Rattle.dir_tree.proofs.Kept.{same_number, under, under-cons}
 use Rattle.dir_tree.proofs.NameFacts.{begins-own, begins-joined, begins-through, begins-take, begins-long, begins-all, split, name_decides, and-false, above-joined, behind-joined}
 use Rattle.dir_tree.proofs.Ways.{name-under}

@@ -13,9 +13,11 @@ use Rattle.dir_tree.specs.declared.place.Place.TheVariants.{Root, Under}
 use Rattle.dir_tree.specs.declared.place.Standing.{Standing}
 use Rattle.dir_tree.specs.declared.place.Below.{Below}
 use Rattle.dir_tree.specs.declared.roots.Roots.{Roots}
-use Rattle.dir_tree.specs.Superiors.{Places, Steps, above_in, stands_at, stands_under, is_over, name_up, place_at, step_at, below_at, number_among, alone, entered, directory_of, IsHung, IsListed, AreOwn}
-use Rattle.dir_tree.specs.Changes.{put, is_above, over_after, child_after, steps_after, IsAfter}
-use Rattle.dir_tree.specs.Kept.{IsTree, IsPlaced, shown}
+use Rattle.dir_tree.specs.Superiors.{Places, name_up, place_at, entered, directory_of}
+use Rattle.dir_tree.specs.private.Superiors.{Steps, above_in, stands_at, stands_under, is_over, step_at, below_at, number_among, alone, IsHung, IsListed, AreOwn}
+use Rattle.dir_tree.specs.private.Changes.{put, is_above, over_after, child_after, steps_after, IsAfter}
+use Rattle.dir_tree.specs.Kept.{shown}
+use Rattle.dir_tree.specs.private.Kept.{IsTree, IsPlaced}
 use Rattle.dir_tree.proofs.Kept.{own_eq, same_number, turned_eq, apart_eq, under, under-put}
 use Rattle.dir_tree.proofs.Hung.{over-not, at-stands}
 use Rattle.dir_tree.proofs.Found.{listed}

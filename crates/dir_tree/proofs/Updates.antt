@@ -13,9 +13,11 @@ use Rattle.dir_tree.specs.declared.place.Place.{Place}
 use Rattle.dir_tree.specs.declared.place.Place.TheVariants.{Root, Under}
 use Rattle.dir_tree.specs.declared.place.Standing.{Standing}
 use Rattle.dir_tree.specs.declared.roots.Roots.{Roots}
-use Rattle.dir_tree.specs.Superiors.{Places, Steps, above_in, is_root, stands_at, ends, is_over, name_up, down, number_at, place_at, step_at, below_at, entered, IsHung, IsListed, AreOwn}
-use Rattle.dir_tree.specs.Changes.{put, place_of, under_last}
-use Rattle.dir_tree.specs.Kept.{IsTree, IsPlaced, IsRemoved, shown, root_but}
+use Rattle.dir_tree.specs.Superiors.{Places, name_up, place_at, entered}
+use Rattle.dir_tree.specs.private.Superiors.{Steps, above_in, is_root, stands_at, ends, is_over, down, number_at, step_at, below_at, IsHung, IsListed, AreOwn}
+use Rattle.dir_tree.specs.private.Changes.{put, place_of, under_last}
+use Rattle.dir_tree.specs.Kept.{shown}
+use Rattle.dir_tree.specs.private.Kept.{IsTree, IsPlaced, IsRemoved, root_but}
 use Rattle.dir_tree.specs.Placed.{name_placed, name_under}
 use Rattle.dir_tree.proofs.Kept.{own_eq, same_number, apart_eq, under, under-out}
 use Rattle.dir_tree.proofs.NameFacts.{begins-own, begins-joined, begins-long, name_decides, name_eq-refl, part_decides, both, and_true, above-joined}

@@ -5,8 +5,9 @@ use Rattle.shared_map.specs.Sets.{has_number}
 use Rattle.dir_tree.specs.declared.place.Below.{Below}
 use Rattle.dir_entry.specs.ldap_dn.Names.{TypeAndKey}
 use Rattle.dir_tree.specs.declared.place.Place.{Place}
-use Rattle.dir_tree.specs.Superiors.{Places, Steps, above_in, is_over, stands_at, stands_under, IsListed}
-use Rattle.dir_tree.specs.Changes.{over_any, is_above, over_after, holds, IsJoined, IsParted, IsLinked, IsUnlinked, IsAfter}
+use Rattle.dir_tree.specs.Superiors.{Places}
+use Rattle.dir_tree.specs.private.Superiors.{Steps, above_in, is_over, stands_at, stands_under, IsListed}
+use Rattle.dir_tree.specs.private.Changes.{over_any, is_above, over_after, holds, IsJoined, IsParted, IsLinked, IsUnlinked, IsAfter}
 
 -- the sets so far: with what the numbers that are left would add, they have what they are to have
 pub record Joining (left whole : ℕ → Bool) (before : ℕ → Below) (except : Option ℕ) (ks : List ℕ) (start now : ℕ → Below) : Type 0 where

@@ -4,7 +4,8 @@ use Rattle.std.specs.Option.{option_map_or}
 use Rattle.dir_entry.specs.ldap_dn.Names.{RdnModel}
 use Rattle.dir_tree.specs.declared.place.Place.{Place}
 use Rattle.dir_tree.specs.declared.place.Place.TheVariants.{Root, Under}
-use Rattle.dir_tree.specs.Superiors.{Places, above_in, ends, is_over, name_in, name_up}
+use Rattle.dir_tree.specs.Superiors.{Places, name_in, name_up}
+use Rattle.dir_tree.specs.private.Superiors.{above_in, ends, is_over}
 use Rattle.dir_tree.proofs.Kept.{own_eq}
 
 -- a place with a number above it

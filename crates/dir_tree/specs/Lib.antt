@@ -1,9 +1,9 @@
 pub mod Directory
 pub mod Holdings
 pub mod Superiors
-pub mod Changes
 pub mod Kept
 pub mod Placed
+pub mod private
 -- what layers above name of the crates below
 pub use Rattle.dir_entry.specs.ldap_schema as ldap_schema
 pub use Rattle.dir_entry.specs.ldap_dn as ldap_dn

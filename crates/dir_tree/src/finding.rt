@@ -5,7 +5,7 @@ ghost use Rattle.std.specs.Prelude.{◌≡◌, ◌≤◌, ◌-◌, ◌||◌, Non
 ghost use Rattle.std.specs.Option.{option_and_then, option_map, option_map_or};
 ghost use Rattle.dir_entry.specs.ldap_dn.Names.{rdns};
 ghost use Rattle.dir_tree.specs.Directory.{above, begins, name_eq};
-ghost use Rattle.dir_tree.specs.Superiors.{down as down_from, number_at, step_at, unreached as not_reached};
+ghost use Rattle.dir_tree.specs.private.Superiors.{down as down_from, number_at, step_at, unreached as not_reached};
 
 use crate::comparing::are_same;
 use crate::levels::number_under;

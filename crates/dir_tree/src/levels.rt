@@ -6,7 +6,7 @@ ghost use Rattle.std.specs.Prelude.{◌≡◌, ◌&&◌, ◌||◌, ◌∷◌, �
 ghost use Rattle.std.specs.Option.{option_map, option_map_or};
 ghost use Rattle.dir_entry.specs.ldap_dn.Names.{TypeAndKey, are_same_keys};
 ghost use Rattle.shared_map.specs.Sets.{has_number};
-ghost use Rattle.dir_tree.specs.Superiors.{alone, below_at, step_at, number_among};
+ghost use Rattle.dir_tree.specs.private.Superiors.{alone, below_at, step_at, number_among};
 
 use crate::number_sets::{joined, parted};
 use crate::place::{Below, Levels};

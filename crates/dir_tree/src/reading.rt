@@ -9,7 +9,8 @@ ghost use Rattle.std.specs.Ordering.{nat_cmp};
 ghost use Rattle.shared_map.specs.Sets.{IsRising};
 ghost use Rattle.dir_tree.specs.Directory.{AllBelow};
 ghost use Rattle.dir_tree.specs.Kept.{shown};
-ghost use Rattle.dir_tree.specs.Superiors.{AreOwn, below_at, name_up, place_at};
+ghost use Rattle.dir_tree.specs.Superiors.{name_up, place_at};
+ghost use Rattle.dir_tree.specs.private.Superiors.{AreOwn, below_at};
 
 use crate::place::{Entries, Place};
 use crate::roots::Roots;

@@ -6,9 +6,11 @@ ghost use Rattle.std.specs.Prelude.{◌≡◌, ◌∷◌, [], ℕ, IfOk, Some, N
 ghost use Rattle.std.specs.Option.{option_map_or};
 ghost use Rattle.dir_entry.specs.ldap_dn.Names.{rdns};
 ghost use Rattle.dir_tree.specs.Directory.{replaced};
-ghost use Rattle.dir_tree.specs.Superiors.{place_at, step_at, below_at, above_in, IsHung, IsListed};
-ghost use Rattle.dir_tree.specs.Kept.{IsTree, IsPlaced, IsRemoved, shown, root_but};
-ghost use Rattle.dir_tree.specs.Changes.{IsAfter, IsJoined, IsParted, IsLinked, IsUnlinked, over_any, place_of};
+ghost use Rattle.dir_tree.specs.Superiors.{place_at};
+ghost use Rattle.dir_tree.specs.private.Superiors.{step_at, below_at, above_in, IsHung, IsListed};
+ghost use Rattle.dir_tree.specs.Kept.{shown};
+ghost use Rattle.dir_tree.specs.private.Kept.{IsTree, IsPlaced, IsRemoved, root_but};
+ghost use Rattle.dir_tree.specs.private.Changes.{IsAfter, IsJoined, IsParted, IsLinked, IsUnlinked, over_any, place_of};
 
 use crate::levels::{
     is_within, with_child, with_within, without_below, without_child, without_within,

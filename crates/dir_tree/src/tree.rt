@@ -36,7 +36,8 @@ impl Model for Tree {
 
     ghost Value = { TreeModel };
 
-    ghost use Rattle.dir_tree.specs.Kept.{IsTree, shown};
+    ghost use Rattle.dir_tree.specs.Kept.{shown};
+    ghost use Rattle.dir_tree.specs.private.Kept.{IsTree};
 
     ghost view = { λ t. record { suffix = t.roots.suffix; entries = shown t.roots } };
 

@@ -5,7 +5,8 @@ ghost use Rattle.std.specs.Prelude.{◌≡◌, ◌++◌, ◌∷◌, [], IfOk, So
 ghost use Rattle.std.specs.Option.{option_map};
 ghost use Rattle.dir_entry.specs.ldap_dn.Names.{rdns};
 ghost use Rattle.dir_tree.specs.Directory.{AllBelow, find, name_eq, begins, above, has_below, has_footing, moved, unnumbered};
-ghost use Rattle.dir_tree.specs.Kept.{IsTree, shown};
+ghost use Rattle.dir_tree.specs.Kept.{shown};
+ghost use Rattle.dir_tree.specs.private.Kept.{IsTree};
 ghost use Rattle.dir_tree.specs.Placed.{name_placed};
 
 use crate::roots::{Roots, place_in, root_after};

@@ -6,9 +6,9 @@ use Rattle.lab_script.specs.Played.{IsPlayed}
 use Rattle.local_directory.specs.ldap_schema.Schema.{SchemaModel}
 use Rattle.local_directory.specs.ldap_dn.Names.{RdnModel}
 use Rattle.dird_commands.specs.Begun.{name_of}
-use Rattle.dird_commands.specs.Texts.{Turns}
-use Rattle.dird_commands.specs.Replies.{text_of}
-use Rattle.dird_commands.specs.Played.{AreLines, IsShownOf, IsPlayedText}
+use Rattle.dird_commands.specs.private.Texts.{Turns}
+use Rattle.dird_commands.specs.private.Replies.{text_of}
+use Rattle.dird_commands.specs.private.Played.{AreLines, IsShownOf, IsPlayedText}
 
 -- what is shown when the lines of an input are played
 pub shown_of : (input : Option (List ℕ)) (s : SchemaModel) (suffix : List RdnModel) (lines : List (List ℕ)) (shown : List Shown) → suffix ≡ name_of s (codes "dc=example,dc=com")

@@ -1,9 +1,6 @@
 pub mod Sample
 pub mod Begun
 pub mod Status
-pub mod Opened
-pub mod Texts
-pub mod Checked
 pub mod Undone
-pub mod Replies
 pub mod Played
+pub mod private

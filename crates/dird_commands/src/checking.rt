@@ -3,8 +3,8 @@ ghost use Rattle.std.specs.Prelude.{◌≡◌, IfOk, IfErr};
 ghost use Rattle.std.specs.Arc.{arc_value};
 ghost use Rattle.dird_commands.specs.Begun.{empty_under};
 ghost use Rattle.local_directory.specs.Checked.{IsChecked};
-ghost use Rattle.dird_commands.specs.Checked.{verdict, IsVerdict};
-ghost use Rattle.dird_commands.specs.Undone.{IsCheckCause, IsUnchecked};
+ghost use Rattle.dird_commands.specs.private.Checked.{verdict, IsVerdict};
+ghost use Rattle.dird_commands.specs.private.Undone.{IsCheckCause, IsUnchecked};
 
 use crate::explaining::{check_refusal, record_told};
 use crate::opening::EmptyDirectory;

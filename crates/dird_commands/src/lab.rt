@@ -3,9 +3,9 @@
 ghost use Rattle.std.specs.Prelude.{map, IfOk, IfErr, IfSome, OnOk};
 ghost use Rattle.std.specs.Arc.{arc_value};
 ghost use Rattle.dir_lab.specs.Shown.{shown_view};
-ghost use Rattle.dird_commands.specs.Texts.{Turns};
-ghost use Rattle.dird_commands.specs.Undone.{IsUnread};
-ghost use Rattle.dird_commands.specs.Played.{AreLines, IsScriptCause, IsUnplayed, IsShownOf, IsPlayedText};
+ghost use Rattle.dird_commands.specs.private.Texts.{Turns};
+ghost use Rattle.dird_commands.specs.private.Undone.{IsUnread};
+ghost use Rattle.dird_commands.specs.private.Played.{AreLines, IsScriptCause, IsUnplayed, IsShownOf, IsPlayedText};
 
 use crate::explaining::{script_refusal, session_refusal};
 use crate::fault::Fault;

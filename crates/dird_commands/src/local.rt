@@ -5,7 +5,7 @@ ghost use Rattle.local_directory.specs.indexed_tree.Stored.{NumbersBelow};
 ghost use Rattle.local_directory.specs.Allows.{allows};
 ghost use Rattle.hex_session.specs.Answered.{Answers};
 ghost use Rattle.dird_commands.specs.Begun.{name_of, config_of, empty_directory, directory_at_first, number_at_first, AnswersFrom, IsCutFrom, FailsFrom};
-ghost use Rattle.dird_commands.specs.Played.{IsUnnamed};
+ghost use Rattle.dird_commands.specs.private.Played.{IsUnnamed};
 
 use crate::fault::Fault;
 use crate::sample::add_sample;

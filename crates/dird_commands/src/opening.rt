@@ -3,7 +3,7 @@ ghost use Rattle.std.specs.Prelude.{◌≡◌, IfOk, string_bytes};
 ghost use Rattle.std.specs.Option.{option_map};
 ghost use Rattle.std.specs.Arc.{arc_value};
 ghost use Rattle.dird_commands.specs.Begun.{empty_under};
-ghost use Rattle.dird_commands.specs.Opened.{IsSchemaOf, IsIndexOf};
+ghost use Rattle.dird_commands.specs.private.Opened.{IsSchemaOf, IsIndexOf};
 
 use crate::explaining::{index_refusal, name_refusal, schema_refusal};
 use crate::fault::Fault;

@@ -3,7 +3,7 @@ ghost use Rattle.std.specs.Prelude.{◌≡◌, ◌++◌, map, codes, decimal, fl
 ghost use Rattle.std.specs.Io.KnownBytes.{Appends};
 ghost use Rattle.dir_lab.specs.Shown.{shown_view};
 ghost use Rattle.dir_lab.specs.dir_search.directory_api.View.{answer_view};
-ghost use Rattle.dird_commands.specs.Replies.{line_of, reply_line, entry_line, answer_line, answer_text, status_word, state_line, text_of};
+ghost use Rattle.dird_commands.specs.private.Replies.{line_of, reply_line, entry_line, answer_line, answer_text, status_word, state_line, text_of};
 
 use lab_script::{LabReply, ReplyBy, SearchAnswer, Status};
 use std::io::Write;

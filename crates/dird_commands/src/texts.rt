@@ -7,9 +7,9 @@ ghost use Rattle.local_directory.specs.ldif.Exports.{IsExport};
 ghost use Rattle.local_directory.specs.Searched.{IsSearched};
 ghost use Rattle.std.specs.Arc.{arc_value};
 ghost use Rattle.dird_commands.specs.Begun.{empty_under};
-ghost use Rattle.dird_commands.specs.Texts.{Turns, IsRequestOf, IsAnswerTo};
-ghost use Rattle.dird_commands.specs.Undone.{IsImportCause, IsExportCause, IsFoundCause, IsUnasked, IsUnread};
-ghost use Rattle.dird_commands.specs.Undone.{IsUnmade, IsUndone, IsUnanswered};
+ghost use Rattle.dird_commands.specs.private.Texts.{Turns, IsRequestOf, IsAnswerTo};
+ghost use Rattle.dird_commands.specs.private.Undone.{IsImportCause, IsExportCause, IsFoundCause, IsUnasked, IsUnread};
+ghost use Rattle.dird_commands.specs.private.Undone.{IsUnmade, IsUndone, IsUnanswered};
 
 use crate::explaining::{export_refusal, filter_refusal, import_refusal, search_refusal};
 use crate::fault::Fault;

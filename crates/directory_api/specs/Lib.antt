@@ -5,6 +5,7 @@ pub mod View
 pub mod Pairs
 pub mod Counting
 pub mod Reading
+pub mod private
 -- what layers above name of the crates below
 pub use Rattle.ldap_msg.specs.ldap_requests as ldap_requests
 pub use Rattle.ldap_op.specs as ldap_op

@@ -1,6 +1,6 @@
 -- What is asked of a directory and what it answers, in turn. A session's questions and the answers to them flow in; which of them a
 -- directory allows is its own.
-use Rattle.std.specs.Prelude.{ℕ, List, [], ◌∷◌, ◌++◌, Result, Ok, Err}
+use Rattle.std.specs.Prelude.{ℕ, List, [], ◌∷◌, Result, Ok, Err}
 use Rattle.ldap_msg.specs.Messages.{SearchRequestValue, CompareRequestValue}
 use Rattle.ldap_op.specs.Values.{OpValue}
 use Rattle.directory_api.specs.Answers.{ReplyModel, Answer}
@@ -53,8 +53,3 @@ pub data Exchange (T : Type 0) : Type 0 where
 pub data Along {D T : Type 0} (allows : D → Exchange T → D → Type 0) : D → List (Exchange T) → D → Type 0 where
   ends : {d : D} → Along allows d [] d
   goes : {d e f : D} {x : Exchange T} {xs : List (Exchange T)} → allows d x e → Along allows e xs f → Along allows d (x ∷ xs) f
-
--- A directory that goes along a talk and then along another goes along both.
-abbrev pub TalksJoin : Type 1
-TalksJoin = (D T : Type 0) (allows : D → Exchange T → D → Type 0) (d e f : D) (xs ys : List (Exchange T)) →
-    Along allows d xs e → Along allows e ys f → Along allows d (xs ++ ys) f

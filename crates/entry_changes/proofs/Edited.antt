@@ -6,7 +6,7 @@ use Rattle.dir_entry.specs.ldap_schema.Schema.{SchemaModel}
 use Rattle.dir_entry.specs.Entry.{AttributeModel, KeyedAttribute, are_in_syntax}
 use Rattle.dir_entry.specs.Values.{has_repeats}
 use Rattle.dir_entry.specs.Adding.{refuse, Refuses}
-use Rattle.entry_changes.specs.Compared.{values_held, RefusesFor}
+use Rattle.entry_changes.specs.private.Compared.{values_held, RefusesFor}
 use Rattle.entry_changes.specs.Editing.{place, holds, is_empty, if_distinct, values_of, values_left, attribute_with, with_values_of, with_added, with_replaced, without_values}
 use Rattle.dir_entry.specs.declared.fault.EntryError.{EntryError}
 use Rattle.dir_entry.specs.declared.fault.EntryError.TheVariants.{InvalidAttributeSyntax, NoSuchAttribute, AttributeOrValueExists, ConstraintViolation, ObjectClassViolation, NotAllowedOnRdn, ObjectClassModsProhibited, NoMemory}

@@ -11,7 +11,7 @@ use Rattle.dir_entry.specs.ldap_match.Keyed.{key_at, AreKeysBy, AreKeysOf}
 use Rattle.dir_entry.specs.Values.{is_same_meaning, is_equivalent_by, is_equivalent}
 use Rattle.dir_entry.specs.Entry.{KeyedAttribute}
 use Rattle.entry_changes.specs.Editing.{holds}
-use Rattle.entry_changes.specs.Compared.{compared_by, compared}
+use Rattle.entry_changes.specs.private.Compared.{compared_by, compared}
 use Rattle.dir_entry.proofs.Equivalents.{TestsAreItems, alike, any_alike}
 use Rattle.dir_entry.proofs.Shown.{any_of_map}
 use Rattle.entry_changes.proofs.Marked.{none_of}

@@ -12,10 +12,11 @@ use Rattle.dir_entry.specs.Entry.{KeyedAttribute}
 use Rattle.dir_entry.specs.Picked.{picked}
 use Rattle.dir_entry.proofs.Equivalents.{TestsAreItems}
 use Rattle.dir_entry.proofs.Keyed.{keyed_join, keyed_picked}
-use Rattle.entry_changes.specs.Compared.{compared_by, compared}
+use Rattle.entry_changes.specs.private.Compared.{compared_by, compared}
 use Rattle.entry_changes.specs.Editing.{holds, values_left, is_empty}
 use Rattle.entry_changes.specs.declared.index.Indexed.{Indexed}
-use Rattle.entry_changes.specs.Opening.{since, marks_from, octets_by, marks_in, held_in, Fits, held_of, IsIndexed}
+use Rattle.entry_changes.specs.Opening.{since, marks_from, octets_by, marks_in, held_in}
+use Rattle.entry_changes.specs.private.Opening.{Fits, held_of, IsIndexed}
 use Rattle.entry_changes.proofs.Held.{among}
 use Rattle.entry_changes.proofs.Marked.{any_marked, all_marked, marks_turned, kept_left}
 use Rattle.entry_changes.proofs.Slots.{At, same_octets, picked_all, picked_more, picked_less, any_left}

@@ -2,7 +2,7 @@
 use Rattle.std.proofs.Common.{ℕ, ◌+◌, zero, suc, List, [], ◌∷◌, ◌++◌, Bool, true, false, cond, not, ◌||◌, nat_eq, is_some, Option, None, Some, ◌≡◌, refl, ap, ap₂, sym, subst, ◌∙◌, map, take, drop, slice_get, arith}
 use Rattle.std.specs.List.{prefix_len, list_any}
 use Rattle.dir_entry.specs.Adding.{has_type}
-use Rattle.entry_changes.specs.Compared.{values_held}
+use Rattle.entry_changes.specs.private.Compared.{values_held}
 use Rattle.dir_entry.proofs.Shown.{has_type_shown}
 use Rattle.std.proofs.lemmas.Bool.Decides.{nat_tests}
 use Rattle.std.proofs.lemmas.List.{take-append-drop}

@@ -9,7 +9,7 @@ ghost use Rattle.dir_entry.specs.Adding.{IsInvalid, Refuses};
 ghost use Rattle.std.specs.Prelude.{Result, ℕ, List};
 ghost use Rattle.dir_entry.specs.Entry.{AttributeModel};
 ghost use Rattle.dir_entry.specs.Values.{has_repeats};
-ghost use Rattle.entry_changes.specs.Compared.{values_held, RefusesFor};
+ghost use Rattle.entry_changes.specs.private.Compared.{values_held, RefusesFor};
 ghost use Rattle.entry_changes.specs.Editing.{attribute_with, holds, is_empty, if_distinct, values_left, with_added, with_replaced, with_deleted, without_attribute, without_values};
 ghost use Rattle.dir_entry.specs.ldap_schema.Schema.{SchemaModel};
 

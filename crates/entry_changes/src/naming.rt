@@ -11,7 +11,7 @@ ghost use Rattle.dir_entry.specs.ldap_match.Keyed.{key_at, AreKeysOf};
 ghost use Rattle.dir_entry.specs.Entry.{KeyedAttribute, attributes_of, IsKeyedBy};
 ghost use Rattle.dir_entry.specs.Values.{is_equivalent};
 ghost use Rattle.dir_entry.specs.Adding.{Refuses};
-ghost use Rattle.entry_changes.specs.Compared.{values_held};
+ghost use Rattle.entry_changes.specs.private.Compared.{values_held};
 ghost use Rattle.entry_changes.specs.Editing.{holds, values_of, with_added, with_deleted, place as place_of};
 ghost use Rattle.entry_changes.specs.Naming.{has_value, with_value, with_rdn, has_rdn, is_same_value, without_value, without_rdn};
 

@@ -7,9 +7,10 @@ ghost use Rattle.std.specs.Str.{bytes_eq};
 ghost use Rattle.dir_entry.specs.ldap_match.Keyed.{AreKeysOf};
 ghost use Rattle.dir_entry.specs.ldap_schema.Rules.{equality_of};
 ghost use Rattle.dir_entry.specs.Picked.{picked};
-ghost use Rattle.entry_changes.specs.Compared.{RefusesFor};
+ghost use Rattle.entry_changes.specs.private.Compared.{RefusesFor};
 ghost use Rattle.entry_changes.specs.Editing.{holds, values_left, is_empty as is_empty_list};
-ghost use Rattle.entry_changes.specs.Opening.{since, octets_by, held_in, Fits, IsIndexed};
+ghost use Rattle.entry_changes.specs.Opening.{since, octets_by, held_in};
+ghost use Rattle.entry_changes.specs.private.Opening.{Fits, IsIndexed};
 
 use crate::index::{Index, Indexed, hold, holds_all_of, holds_some_of, index_of, let_go, marks_of};
 use dir_entry::{Attribute, EntryError, Schema, TypeId, equality_rule, tests_are_items};
@@ -26,7 +27,8 @@ pub struct Opened {
 
 impl Model for Opened {
     ghost use Rattle.dir_entry.specs.Entry.{KeyedAttribute};
-    ghost use Rattle.entry_changes.specs.Opening.{seen, FitsIn};
+    ghost use Rattle.entry_changes.specs.Opening.{seen};
+    ghost use Rattle.entry_changes.specs.private.Opening.{FitsIn};
 
     ghost Value = { KeyedAttribute };
 

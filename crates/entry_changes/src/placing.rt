@@ -8,7 +8,7 @@ ghost use Rattle.dir_entry.specs.ldap_schema.Schema.{SchemaModel};
 ghost use Rattle.dir_entry.specs.Entry.{attributes_of, IsKeyedBy};
 ghost use Rattle.entry_changes.specs.Editing.{attribute_with, values_of, place as place_of};
 ghost use Rattle.dir_entry.specs.Entry.{KeyedAttribute};
-ghost use Rattle.entry_changes.specs.Compared.{values_held};
+ghost use Rattle.entry_changes.specs.private.Compared.{values_held};
 ghost use Rattle.dir_entry.specs.Adding.{has_type};
 
 use crate::opened::Opened;

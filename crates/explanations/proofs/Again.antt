@@ -5,7 +5,7 @@ use Rattle.std.specs.Str.{bytes_eq}
 use Rattle.std.proofs.lemmas.List.{take_more, map-append}
 use Rattle.std.proofs.lemmas.List.Folds.{list_any-append}
 use Rattle.schema_meaning.specs.Naming.{is_name_among}
-use Rattle.schema_meaning.specs.Octets.{has_folded}
+use Rattle.schema_meaning.specs.private.Octets.{has_folded}
 use Rattle.explanations.specs.Repeats.{again}
 pub use Rattle.schema_meaning.proofs.Before.{opened, line_lookup, line_put}
 

@@ -7,7 +7,7 @@ use Rattle.ldap_match.specs.ldap_dn.declared.token.Scan.{Scan}
 use Rattle.ldap_match.specs.ldap_dn.declared.token.Scan.TheVariants.{Between, Escape, Half}
 use Rattle.ldap_match.specs.ldap_dn.declared.token.Step.{Step}
 use Rattle.ldap_match.specs.ldap_dn.declared.token.Step.TheVariants.{Refuses, Reads, Gives}
-use Rattle.explanations.specs.Names.{goes_to}
+use Rattle.explanations.specs.private.Names.{goes_to}
 
 -- whether octets are refused behind others
 abbrev pub fails : Scan → List ℕ → Bool

@@ -11,7 +11,7 @@ use Rattle.schema_meaning.specs.Naming.{find, calls, superior_texts}
 use Rattle.schema_meaning.specs.schema_text.Descriptions.{DescriptionModel}
 use Rattle.explanations.specs.declared.loops.Step.{Step}
 use Rattle.explanations.specs.Loops.{is_it, is_calling, has_right_above, is_right_above, leads_along, leads_back, way_sentence, IsWayOf}
-use Rattle.explanations.specs.Reaching.{ReachedModel, with_class, with_found, with_called, with_superiors, nowhere, class_at, IsOrder, IsAmongReached, IsReached}
+use Rattle.explanations.specs.private.Reaching.{ReachedModel, with_class, with_found, with_called, with_superiors, nowhere, class_at, IsOrder, IsAmongReached, IsReached}
 
 pub carried : {A : Type 0} (P : A → Type 0) (x y : A) → x ≡ y → P y → P x
 carried P x y e p = subst P (sym e) p

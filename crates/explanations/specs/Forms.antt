@@ -4,17 +4,12 @@ use Rattle.std.specs.Option.{option_or}
 use Rattle.schema_meaning.specs.schema_text.Words.{is_same_word, is_extension}
 use Rattle.explanations.specs.declared.forms.Lines.{Lines}
 use Rattle.explanations.specs.declared.forms.Lines.TheVariants as lines
-use Rattle.explanations.specs.declared.forms.Form.{Form}
 
 -- a keyword: its word, its place in the order, and what is to follow it
 pub record FormModel : Type 0 where
   pub word : List ℕ
   pub place : ℕ
   pub wanted : List ℕ
-
--- a keyword of the program's table
-abbrev pub form_model : Form → FormModel
-form_model f = record { word = f.word.now; place = f.place; wanted = f.wanted.now }
 
 -- the keyword of these parts
 abbrev pub form : List ℕ → ℕ → List ℕ → FormModel

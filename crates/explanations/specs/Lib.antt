@@ -17,5 +17,5 @@ pub mod Forms
 pub mod Descriptions
 pub mod Repeats
 pub mod Loops
-pub mod Reaching
 pub mod SchemaFaults
+pub mod private

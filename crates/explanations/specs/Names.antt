@@ -4,15 +4,9 @@ use Rattle.std.specs.List.{filter, list_all, position, prefix_len, slice_split, 
 use Rattle.std.specs.Char.{is_ascii_whitespace}
 use Rattle.std.specs.Str.{is_utf8}
 use Rattle.ldap_match.specs.ldap_dn.Texts.{name_of_text, tokens_of}
-use Rattle.ldap_match.specs.ldap_dn.declared.token.Scan.{Scan}
-use Rattle.ldap_match.specs.ldap_dn.declared.token.Scan.TheVariants as scan
-use Rattle.ldap_match.specs.ldap_dn.declared.token.Step.{Step}
-use Rattle.ldap_match.specs.ldap_dn.declared.token.Step.TheVariants as step
 use Rattle.ldap_match.specs.ldap_schema.Rules.{equality_of}
 use Rattle.ldap_match.specs.ldap_schema.Schema.{SchemaModel, find}
 use Rattle.ldap_match.specs.ldap_words.Octets.{begins_with}
-use Rattle.explanations.specs.declared.names.Escape.{Escape}
-use Rattle.explanations.specs.declared.names.Escape.TheVariants as escape
 use Rattle.explanations.specs.Lines.{octet_shown}
 use Rattle.explanations.specs.Words.{word_shown}
 
@@ -78,18 +72,6 @@ bare_from is_escaped value = option_map (λ o. o.0) (slice_get (filter is_bare_m
 -- the first such octet of a value that isn't escaped
 abbrev pub bare_mark : List ℕ → Option ℕ
 bare_mark value = bare_from false value
-
--- where the reader of names is with an escape
-abbrev pub scan_of : Escape → Scan
-scan_of escape.Outside = scan.Between
-scan_of escape.Begun = scan.Escape
-scan_of (escape.Half digit) = scan.Half digit
-
--- where it goes from there
-abbrev pub goes_to : Step → Option Scan
-goes_to step.Refuses = None
-goes_to (step.Reads next) = Some next
-goes_to (step.Gives token) = Some scan.Between
 
 -- a value that is in no name for its type's sake
 abbrev pub lacks_equality : List ℕ → List ℕ

@@ -2,7 +2,7 @@
 ghost use Rattle.std.specs.Prelude.{◌≡◌, ◌<◌, ◌+◌, ◌-◌, ◌^◌, false, IfOk, IfSome, None, Some, map, take, drop, length, nat_eq, position, option_map, string_bytes};
 ghost use Rattle.schema_meaning.specs.ldap_words.Octets.{is_empty};
 ghost use Rattle.schema_meaning.specs.schema_text.Words.{ends_with};
-ghost use Rattle.explanations.specs.Forms.{form_model};
+ghost use Rattle.explanations.specs.private.Forms.{form_model};
 ghost use Rattle.explanations.specs.Pieces.{pieces_of};
 ghost use Rattle.explanations.specs.Descriptions.{heading, behind, up_to, first_word, other_front, no_heading, bad_escape, bad_parenthesis, misplaced};
 ghost use Rattle.explanations.specs.Descriptions.{unended, unbalanced, line_with, is_field, other_owner, is_unsupported, misplaced_word, unsupported_word};

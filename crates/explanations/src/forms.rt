@@ -3,7 +3,8 @@
 ghost use Rattle.std.specs.Prelude.{◌≡◌, map, option_map};
 ghost use Rattle.std.specs.List.{list_all};
 ghost use Rattle.schema_meaning.specs.schema_text.Words.{is_extension_octet, is_extension_rest, is_extension};
-ghost use Rattle.explanations.specs.Forms.{form_model, common_forms, own_forms, form_among, extension_if, form_of, other_lines, is_elsewhere};
+ghost use Rattle.explanations.specs.Forms.{common_forms, own_forms, form_among, extension_if, form_of, other_lines, is_elsewhere};
+ghost use Rattle.explanations.specs.private.Forms.{form_model};
 
 use ldap_words::{is_alpha, is_same_word};
 

@@ -3,7 +3,7 @@ ghost use Rattle.std.specs.Prelude.{◌≡◌, ◌<◌, [], true, IfOk, OnOk, le
 ghost use Rattle.std.specs.List.{list_any};
 ghost use Rattle.explanations.specs.Loops.{with_title, with_described, along, way_shown, way_sentence, type_above, types_from, type_loop};
 ghost use Rattle.explanations.specs.Loops.{is_calling, is_right_above, IsWayOf, IsClassLoop};
-ghost use Rattle.explanations.specs.Reaching.{with_class, with_found, with_called, with_superiors, class_at, IsOrder, IsReached};
+ghost use Rattle.explanations.specs.private.Reaching.{with_class, with_found, with_called, with_superiors, class_at, IsOrder, IsReached};
 
 use crate::repeats::title;
 use schema_meaning::{Called, Keyword, superior_of};
@@ -147,7 +147,7 @@ impl Drop for Reached {
 }
 
 impl Model for Reached {
-    ghost use Rattle.explanations.specs.Reaching.{ReachedModel};
+    ghost use Rattle.explanations.specs.private.Reaching.{ReachedModel};
 
     ghost Value = { ReachedModel };
 

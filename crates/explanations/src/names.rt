@@ -3,7 +3,8 @@ ghost use Rattle.std.specs.Prelude.{◌≡◌, ◌++◌, ◌∷◌, [], IfOk, On
 ghost use Rattle.std.specs.List.{position};
 ghost use Rattle.ldap_match.specs.ldap_dn.Texts.{name_of_text, step as reader_step, tokens_of};
 ghost use Rattle.ldap_match.specs.ldap_dn.Tokens.{is_escapable};
-ghost use Rattle.explanations.specs.Names.{is_bare, parts_of, less_front, trimmed, is_blank, is_name, is_right, first_wrong, is_mark, bare_mark, scan_of, goes_to};
+ghost use Rattle.explanations.specs.Names.{is_bare, parts_of, less_front, trimmed, is_blank, is_name, is_right, first_wrong, is_mark, bare_mark};
+ghost use Rattle.explanations.specs.private.Names.{scan_of, goes_to};
 ghost use Rattle.explanations.specs.Names.{lacks_equality, none_of_type, no_value, bad_value, bad_typed, bad_named, bad_cut, bad_pair, bad_rdn_by, bad_rdn, no_name, bad_name_by, name_sentence};
 ghost use Rattle.explanations.specs.Lines.{octet_shown};
 ghost use Rattle.explanations.specs.Words.{word_shown};

@@ -3,7 +3,7 @@ ghost use Rattle.std.specs.Prelude.{◌≡◌, ◌<◌, ℕ, List, [], Some, con
 ghost use Rattle.std.specs.Option.{option_and_then};
 ghost use Rattle.std.specs.Char.{to_ascii_lowercase};
 ghost use Rattle.std.specs.Str.{bytes_eq};
-ghost use Rattle.schema_meaning.specs.Octets.{number_at};
+ghost use Rattle.schema_meaning.specs.private.Octets.{number_at};
 ghost use Rattle.schema_meaning.specs.Naming.{find, names_of};
 ghost use Rattle.explanations.specs.Schemas.{title};
 ghost use Rattle.explanations.specs.Repeats.{in_line, line_if_before, line_before, earlier_line, oid_of_line, name_of_line};

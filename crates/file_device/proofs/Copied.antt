@@ -1,7 +1,7 @@
 -- Octets that are copied out of pieces, and pieces that are let go.
 use Rattle.std.proofs.Common.{◌≡◌, ℕ, zero, suc, ◌+◌, ◌-◌, ◌≤◌, ◌<◌, List, [], ◌∷◌, ◌++◌, length, take, drop, min, get_or, Vec, refl, sym, ap, ap₂, ◌∙◌, subst, arith, append_assoc, length-append, length-drop, take-append-drop}
 use Rattle.std.proofs.lemmas.List.{append-nil, take_at, take_all, length-take-le, drop_all, drop_at, drop-append-le, drop_min, drop-drop, at_drop_more}
-use Rattle.file_device.specs.Pieces.{octets_in}
+use Rattle.file_device.specs.private.Pieces.{octets_in}
 
 -- What is left out from the front of two lists is so of the first, and then of the second.
 pub left_out : (skip : ℕ) (p rest : List ℕ) → drop skip (p ++ rest) ≡ drop skip p ++ drop (skip - length p) rest

@@ -1,6 +1,6 @@
 //! Copies octets out of pieces.
 ghost use Rattle.std.specs.Prelude.{◌≡◌, ◌+◌, ◌-◌, ◌≤◌, ◌++◌, IsTrue, length, min, take, drop};
-ghost use Rattle.file_device.specs.Pieces.{octets_in};
+ghost use Rattle.file_device.specs.private.Pieces.{octets_in};
 
 /// Copies octets from a place on into the buffer behind those that are done, as many as there are or find room; how many.
 fn copy_behind(octets: &[u8], from: usize, buffer: &mut [u8], done: usize) -> usize

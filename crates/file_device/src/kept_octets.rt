@@ -1,7 +1,7 @@
 //! Holds the octets of a file: all as clauses know them, in no memory, and those at its end that reads are answered from.
 ghost use Rattle.std.specs.Prelude.{◌≡◌, ◌≤◌, ◌<◌, ◌+◌, ◌-◌, ◌++◌, ◌^◌, [], IsTrue, OnOk, length, max, vec_len, take, drop, replicate};
 ghost use Rattle.journal.specs.Device.{Holds};
-ghost use Rattle.file_device.specs.Pieces.{octets_in};
+ghost use Rattle.file_device.specs.private.Pieces.{octets_in};
 
 use crate::copying::copy_out;
 use crate::known_octets::KnownOctets;

@@ -2,7 +2,7 @@
 //! What a replica stores there is not here.
 ghost use Rattle.std.specs.Prelude.{◌↔◌, IsTrue};
 ghost use Rattle.view_store.specs.Slots.{found};
-ghost use Rattle.file_device.specs.Guarded.{IsOfStart};
+ghost use Rattle.file_device.specs.private.Guarded.{IsOfStart};
 
 use crate::fault::FileDeviceError;
 use crate::file::{FileDevice, failed};

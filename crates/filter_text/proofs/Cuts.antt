@@ -8,15 +8,15 @@ use Rattle.ldap_filter.specs.Item.{Comparison, equal, at_least, at_most, approxi
 use Rattle.filter_text.specs.Descriptions.{is_alpha, is_key_octet, is_oid, is_description, is_dn}
 use Rattle.filter_text.specs.Values.{is_normal, hex_digit, with_high, IsValue, nothing, normal, escaped}
 use Rattle.filter_text.specs.Items.{IsPart, IsPartOrNone, AreParts, Starred, has_part, operator, part_or_nothing, rule_text, IsFlag, is_applicable, IsItemText}
-use Rattle.filter_text.specs.Machine.{run, within}
-use Rattle.filter_text.specs.ItemScan.{oid_first, oid_step, oid_out, oid_ends, name_step}
+use Rattle.filter_text.specs.private.Machine.{run, within}
+use Rattle.filter_text.specs.private.ItemScan.{oid_first, oid_step, oid_out, oid_ends, name_step}
 use Rattle.filter_text.specs.declared.fault.FilterTextError.{FilterTextError}
 use Rattle.filter_text.specs.declared.fault.FilterTextError.TheVariants.{BadFilterText, TooDeep, TooManyItems, NoMemory}
-use Rattle.filter_text.specs.Reads.{PartFault}
-use Rattle.filter_text.specs.Scanned.{spelled, turned, scanned, value_of}
+use Rattle.filter_text.specs.private.Reads.{PartFault}
+use Rattle.filter_text.specs.private.Scanned.{spelled, turned, scanned, value_of}
 use Rattle.filter_text.specs.declared.value_reading.Reading.TheVariants.{Between, Escape}
 use Rattle.filter_text.specs.declared.value_reading.Turn.TheVariants.{Refuses, Reads, Gives}
-use Rattle.filter_text.specs.Cuts.{is_name_octet, is_other, front, behind, tail, begins_with, is_empty, part_of, spread, parts_of, substrings_of, starred, equal_or_starred, equality, Applied, worded, applied, described_by, extensible_with, item_at, item_of}
+use Rattle.filter_text.specs.private.Cuts.{is_name_octet, is_other, front, behind, tail, begins_with, is_empty, part_of, spread, parts_of, substrings_of, starred, equal_or_starred, equality, Applied, worded, applied, described_by, extensible_with, item_at, item_of}
 use Rattle.filter_text.specs.declared.place.OidPlace.{OidPlace}
 use Rattle.filter_text.specs.declared.place.OidPlace.TheVariants.{Letters, Zero, Number, Dot, DottedZero, DottedNumber}
 use Rattle.filter_text.specs.declared.place.NamePlace.{NamePlace}

@@ -4,9 +4,9 @@ use Rattle.std.specs.Option.{option_map, option_and_then}
 use Rattle.std.proofs.lemmas.Bool.{eqb-true}
 use Rattle.ldap_filter.specs.Tree.{Tree, conj, disj, negation, item, Trees, no_trees, tree}
 use Rattle.filter_text.specs.Grammar.{HasFilter, HasFilters, IsFilterText}
-use Rattle.filter_text.specs.Machine.{holds, run, accepts, within}
-use Rattle.filter_text.specs.ItemScan.{oid_ends, name_ends, name_out, word_step, rule_out, last_out, item_step, item_ends}
-use Rattle.filter_text.specs.FilterScan.{Spot, at, filter_step, filter_ends, is_empty}
+use Rattle.filter_text.specs.private.Machine.{holds, run, accepts, within}
+use Rattle.filter_text.specs.private.ItemScan.{oid_ends, name_ends, name_out, word_step, rule_out, last_out, item_step, item_ends}
+use Rattle.filter_text.specs.private.FilterScan.{Spot, at, filter_step, filter_ends, is_empty}
 use Rattle.filter_text.specs.declared.place.ValuePlace.TheVariants.{Between, Escape, Half}
 use Rattle.filter_text.specs.declared.place.ItemPlace.{ItemPlace}
 use Rattle.filter_text.specs.declared.place.ItemPlace.TheVariants.{Start, Name, Sign, Plain, Part, Star, BareColon, Colon, Rule, DnColon, LastRule, Assign}

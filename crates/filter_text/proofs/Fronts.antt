@@ -4,7 +4,7 @@ use Rattle.std.specs.List.{list_all, prefix_len}
 use Rattle.std.proofs.lemmas.Bool.{eqb-true, leb-true}
 use Rattle.std.proofs.lemmas.List.Folds.{list_all_at}
 use Rattle.filter_text.specs.Descriptions.{is_alpha, is_key_octet}
-use Rattle.filter_text.specs.Cuts.{is_name_octet, front}
+use Rattle.filter_text.specs.private.Cuts.{is_name_octet, front}
 use Rattle.filter_text.proofs.Booleans.{right, both, either}
 use Rattle.filter_text.proofs.Machines.{false_true}
 

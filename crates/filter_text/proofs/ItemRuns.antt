@@ -7,8 +7,8 @@ use Rattle.ldap_filter.specs.Item.{Comparison, equal, at_least, at_most, approxi
 use Rattle.filter_text.specs.Descriptions.{is_key_octet, is_oid, is_description, is_dn}
 use Rattle.filter_text.specs.Values.{IsValue}
 use Rattle.filter_text.specs.Items.{operator, part_or_nothing, rule_text, IsFlag, is_applicable, IsItemText}
-use Rattle.filter_text.specs.Machine.{holds, run, accepts, within}
-use Rattle.filter_text.specs.ItemScan.{oid_first, dotted, oid_step, oid_ends, oid_out, name_step, name_ends, word_first, word_step, behind_word, rule_first, rule_out, last_out, name_out, item_step, item_ends}
+use Rattle.filter_text.specs.private.Machine.{holds, run, accepts, within}
+use Rattle.filter_text.specs.private.ItemScan.{oid_first, dotted, oid_step, oid_ends, oid_out, name_step, name_ends, word_first, word_step, behind_word, rule_first, rule_out, last_out, name_out, item_step, item_ends}
 use Rattle.filter_text.specs.declared.place.OidPlace.{OidPlace}
 use Rattle.filter_text.specs.declared.place.OidPlace.TheVariants.{Letters, Zero, Number, Dot, DottedZero, DottedNumber}
 use Rattle.filter_text.specs.declared.place.NamePlace.{NamePlace}

@@ -6,8 +6,8 @@ use Rattle.ldap_filter.specs.Item.{Comparison, equal, at_least, at_most, approxi
 use Rattle.filter_text.specs.Descriptions.{is_oid, is_description, is_dn}
 use Rattle.filter_text.specs.Values.{IsValue, nothing, normal, escaped}
 use Rattle.filter_text.specs.Items.{AreParts, operator, rule_text, IsFlag, is_applicable, IsItemText}
-use Rattle.filter_text.specs.Machine.{accepts}
-use Rattle.filter_text.specs.ItemScan.{oid_first, oid_step, oid_ends, name_step, name_ends, word_first, behind_word, rule_first, last_out, name_out, is_sign, item_step, item_ends}
+use Rattle.filter_text.specs.private.Machine.{accepts}
+use Rattle.filter_text.specs.private.ItemScan.{oid_first, oid_step, oid_ends, name_step, name_ends, word_first, behind_word, rule_first, last_out, name_out, is_sign, item_step, item_ends}
 use Rattle.filter_text.specs.declared.place.OidPlace.{OidPlace}
 use Rattle.filter_text.specs.declared.place.NamePlace.TheVariants.{Oid}
 use Rattle.filter_text.specs.declared.place.ValuePlace.TheVariants.{Between}

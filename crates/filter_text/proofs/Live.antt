@@ -2,10 +2,10 @@
 use Rattle.std.proofs.Common.{◌≡◌, ℕ, ◌+◌, ◌<◌, ◌≤◌, zero, suc, List, [], ◌∷◌, ◌++◌, length, take, Bool, true, false, cond, Option, None, Some, refl, sym, ap, subst, ◌∙◌, arith}
 use Rattle.ldap_filter.specs.Tree.{Tree}
 use Rattle.filter_text.specs.Grammar.{IsFilterText}
-use Rattle.filter_text.specs.Machine.{holds, run, accepts, goes_on, stops}
+use Rattle.filter_text.specs.private.Machine.{holds, run, accepts, goes_on, stops}
 use Rattle.filter_text.specs.Longest.{Begins, IsLongestFront}
-use Rattle.filter_text.specs.ItemScan.{item_step, item_ends}
-use Rattle.filter_text.specs.FilterScan.{at, filter_step, filter_ends}
+use Rattle.filter_text.specs.private.ItemScan.{item_step, item_ends}
+use Rattle.filter_text.specs.private.FilterScan.{at, filter_step, filter_ends}
 use Rattle.filter_text.specs.declared.place.OidPlace.{OidPlace}
 use Rattle.filter_text.specs.declared.place.OidPlace.TheVariants.{Letters, Zero, Number, Dot, DottedZero, DottedNumber}
 use Rattle.filter_text.specs.declared.place.NamePlace.{NamePlace}

@@ -1,6 +1,6 @@
 -- Filter texts, scanning: what holds of every machine.
 use Rattle.std.proofs.Common.{◌≡◌, ℕ, List, [], ◌∷◌, ◌++◌, Bool, true, false, Option, None, Some, refl, sym, ap, ◌∙◌}
-use Rattle.filter_text.specs.Machine.{holds, run, accepts, within}
+use Rattle.filter_text.specs.private.Machine.{holds, run, accepts, within}
 use Rattle.std.specs.Option.{option_and_then}
 
 pub false_true : false ≡ true → ⊥

@@ -3,8 +3,8 @@ use Rattle.std.proofs.Common.{◌≡◌, ℕ, List, [], ◌∷◌, Bool, true, f
 use Rattle.std.specs.List.{list_all, slice_split, onto_first}
 use Rattle.std.proofs.lemmas.Bool.{eqb-true}
 use Rattle.filter_text.specs.Descriptions.{is_key_octet, is_oid, is_option, is_description}
-use Rattle.filter_text.specs.Machine.{holds, run, accepts, within}
-use Rattle.filter_text.specs.ItemScan.{oid_first, oid_step, oid_ends, name_step, name_ends}
+use Rattle.filter_text.specs.private.Machine.{holds, run, accepts, within}
+use Rattle.filter_text.specs.private.ItemScan.{oid_first, oid_step, oid_ends, name_step, name_ends}
 use Rattle.filter_text.specs.declared.place.OidPlace.{OidPlace}
 use Rattle.filter_text.specs.declared.place.OidPlace.TheVariants.{Letters, Zero, Number, Dot, DottedZero, DottedNumber}
 use Rattle.filter_text.specs.declared.place.NamePlace.{NamePlace}

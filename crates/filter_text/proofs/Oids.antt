@@ -5,8 +5,8 @@ use Rattle.std.proofs.lemmas.Bool.{eqb-true, eqb-false, lt-ltb, leb-true, le-leb
 use Rattle.ldap_words.specs.Numbers.{is_digit, are_digits, is_number}
 use Rattle.ldap_words.specs.Identifiers.{has_dot}
 use Rattle.filter_text.specs.Descriptions.{is_alpha, is_key_octet, is_oid}
-use Rattle.filter_text.specs.Machine.{holds, run, accepts}
-use Rattle.filter_text.specs.ItemScan.{oid_first, oid_step, oid_ends}
+use Rattle.filter_text.specs.private.Machine.{holds, run, accepts}
+use Rattle.filter_text.specs.private.ItemScan.{oid_first, oid_step, oid_ends}
 use Rattle.filter_text.specs.declared.place.OidPlace.{OidPlace}
 use Rattle.filter_text.specs.declared.place.OidPlace.TheVariants.{Letters, Zero, Number, Dot, DottedZero, DottedNumber}
 use Rattle.filter_text.proofs.Booleans.{left, right, both, either}

@@ -6,16 +6,17 @@ use Rattle.std.proofs.lemmas.List.{map_push}
 use Rattle.std.proofs.lemmas.Bool.{eqb-true}
 use Rattle.ldap_filter.specs.Item.{Item}
 use Rattle.ldap_filter.specs.Tree.{Tree, conj, disj, negation, item, Trees, no_trees, tree, depth, depths, count, counts}
-use Rattle.ldap_filter.specs.View.{view, views, row}
+use Rattle.ldap_filter.specs.View.{view, row}
+use Rattle.ldap_filter.specs.private.View.{views}
 use Rattle.ldap_filter.specs.declared.tree.Filter.{Filter}
 use Rattle.filter_text.specs.Items.{IsItemText}
 use Rattle.filter_text.specs.Grammar.{HasFilter, HasFilters}
 use Rattle.filter_text.specs.declared.fault.FilterTextError.{FilterTextError}
 use Rattle.filter_text.specs.declared.fault.FilterTextError.TheVariants.{BadFilterText, TooDeep, TooManyItems, NoMemory}
-use Rattle.filter_text.specs.Machine.{holds, run, accepts}
-use Rattle.filter_text.specs.ItemScan.{item_step, item_ends}
-use Rattle.filter_text.specs.Cuts.{is_other, front, behind, begins_with, item_of}
-use Rattle.filter_text.specs.Reads.{IsItemRead, PartFault, IsFrontRead, IsRowRead, IsFrontFault, IsRowFault}
+use Rattle.filter_text.specs.private.Machine.{holds, run, accepts}
+use Rattle.filter_text.specs.private.ItemScan.{item_step, item_ends}
+use Rattle.filter_text.specs.private.Cuts.{is_other, front, behind, begins_with, item_of}
+use Rattle.filter_text.specs.private.Reads.{IsItemRead, PartFault, IsFrontRead, IsRowRead, IsFrontFault, IsRowFault}
 use Rattle.filter_text.specs.declared.place.ItemPlace.{ItemPlace}
 use Rattle.filter_text.specs.declared.place.ItemPlace.TheVariants.{Start}
 use Rattle.filter_text.proofs.Booleans.{both}

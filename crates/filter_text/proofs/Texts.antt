@@ -4,8 +4,8 @@ use Rattle.ldap_filter.specs.Tree.{Tree, depth, count}
 use Rattle.filter_text.specs.Grammar.{IsFilterText}
 use Rattle.filter_text.specs.declared.fault.FilterTextError.{FilterTextError}
 use Rattle.filter_text.specs.declared.fault.FilterTextError.TheVariants.{BadFilterText, TooDeep, TooManyItems, NoMemory}
-use Rattle.filter_text.specs.Scanning.{stop, IsScanFault}
-use Rattle.filter_text.specs.Reads.{IsFrontRead, IsFrontFault}
+use Rattle.filter_text.specs.private.Scanning.{stop, IsScanFault}
+use Rattle.filter_text.specs.private.Reads.{IsFrontRead, IsFrontFault}
 use Rattle.filter_text.specs.Refusals.{IsReadFault}
 use Rattle.filter_text.proofs.Live.{stopped_longest, stopped_no_text, passed_text}
 

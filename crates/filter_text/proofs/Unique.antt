@@ -4,7 +4,7 @@ use Rattle.ldap_filter.specs.Item.{Item}
 use Rattle.ldap_filter.specs.Tree.{Tree, conj, disj, negation, item, Trees, no_trees, tree}
 use Rattle.filter_text.specs.Items.{IsItemText}
 use Rattle.filter_text.specs.Grammar.{HasFilter, HasFilters, IsFilterText}
-use Rattle.filter_text.specs.Cuts.{is_other, front}
+use Rattle.filter_text.specs.private.Cuts.{is_other, front}
 use Rattle.filter_text.proofs.Machines.{some_same}
 use Rattle.filter_text.proofs.Cuts.{item_is}
 use Rattle.filter_text.proofs.Rows.{head_same, tail_same, no_item, body_of, opened}

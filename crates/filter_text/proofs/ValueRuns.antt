@@ -4,8 +4,8 @@ use Rattle.std.specs.Option.{option_map, is_some, option_and_then}
 use Rattle.std.proofs.lemmas.Bool.{eqb-true}
 use Rattle.filter_text.specs.Values.{is_normal, hex_digit, with_high, hex_octet, IsValue, nothing, normal, escaped}
 use Rattle.filter_text.specs.Items.{IsPart, IsPartOrNone, AreParts, Starred}
-use Rattle.filter_text.specs.Machine.{holds, run, accepts}
-use Rattle.filter_text.specs.ItemScan.{is_hex, value_step, item_step, item_ends}
+use Rattle.filter_text.specs.private.Machine.{holds, run, accepts}
+use Rattle.filter_text.specs.private.ItemScan.{is_hex, value_step, item_step, item_ends}
 use Rattle.filter_text.specs.declared.place.ValuePlace.{ValuePlace}
 use Rattle.filter_text.specs.declared.place.ValuePlace.TheVariants.{Between, Escape, Half}
 use Rattle.filter_text.specs.declared.place.ItemPlace.{ItemPlace}

@@ -4,8 +4,8 @@ use Rattle.std.specs.Option.{option_map, option_and_then}
 use Rattle.std.specs.Char.{to_ascii_lowercase}
 use Rattle.std.proofs.lemmas.Bool.{eqb-true}
 use Rattle.filter_text.specs.Descriptions.{is_oid, is_dn}
-use Rattle.filter_text.specs.Machine.{run, within}
-use Rattle.filter_text.specs.ItemScan.{oid_step, word_first, word_step, rule_out, item_step}
+use Rattle.filter_text.specs.private.Machine.{run, within}
+use Rattle.filter_text.specs.private.ItemScan.{oid_step, word_first, word_step, rule_out, item_step}
 use Rattle.filter_text.specs.declared.place.OidPlace.{OidPlace}
 use Rattle.filter_text.specs.declared.place.Word.{Word}
 use Rattle.filter_text.specs.declared.place.Word.TheVariants.{OnlyD, Dn, Other}

@@ -3,7 +3,7 @@
 
 ghost use Rattle.std.specs.Prelude.{◌≡◌, ◌∷◌, ◌≤◌, length, List, ℕ, true, MatchOption};
 ghost use Rattle.std.specs.List.{list_all, prefix_len};
-ghost use Rattle.filter_text.specs.Cuts as cuts;
+ghost use Rattle.filter_text.specs.private.Cuts as cuts;
 
 use ldap_words::is_key_octet;
 

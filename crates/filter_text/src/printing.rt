@@ -3,7 +3,8 @@
 
 ghost use Rattle.std.specs.Prelude.{◌≡◌, ◌++◌, drop, length, ◌∷◌, [], List, ℕ, true, string_bytes, IfOk, IfErr, OnOk};
 ghost use Rattle.ldap_filter.specs.Tree.{Tree};
-ghost use Rattle.ldap_filter.specs.View.{view, views};
+ghost use Rattle.ldap_filter.specs.View.{view};
+ghost use Rattle.ldap_filter.specs.private.View.{views};
 ghost use Rattle.filter_text.specs.Grammar as grammar;
 ghost use Rattle.filter_text.specs.Faults.{IsPrintFault};
 

@@ -4,9 +4,10 @@
 
 ghost use Rattle.std.specs.Prelude.{◌≡◌, ◌≤◌, ◌<◌, ◌∷◌, ℕ, suc, List, true, IfOk, IfErr, MatchResult};
 ghost use Rattle.ldap_filter.specs.Tree.{Tree, conj, disj, negation, depth as depth_of, count};
-ghost use Rattle.ldap_filter.specs.View.{view, views};
+ghost use Rattle.ldap_filter.specs.View.{view};
+ghost use Rattle.ldap_filter.specs.private.View.{views};
 ghost use Rattle.filter_text.specs.Grammar.{IsFilterText, filter_text, has_text};
-ghost use Rattle.filter_text.specs.Reads.{IsFrontRead, IsRowRead, IsFrontFault, IsRowFault};
+ghost use Rattle.filter_text.specs.private.Reads.{IsFrontRead, IsRowRead, IsFrontFault, IsRowFault};
 ghost use Rattle.filter_text.specs.Refusals.{IsReadFault};
 
 use crate::cutting::{before, begins_with, behind, from};

@@ -6,9 +6,9 @@ ghost use Rattle.std.specs.Prelude.{◌≡◌, ◌∷◌, Option, Some, None, tr
 ghost use Rattle.std.specs.List.{list_all};
 ghost use Rattle.std.specs.Option.{option_map};
 ghost use Rattle.ldap_filter.specs.View.{view};
-ghost use Rattle.filter_text.specs.Cuts as cuts;
-ghost use Rattle.filter_text.specs.Reads.{PartFault, IsItemRead};
-ghost use Rattle.filter_text.specs.Scanned.{value_of};
+ghost use Rattle.filter_text.specs.private.Cuts as cuts;
+ghost use Rattle.filter_text.specs.private.Reads.{PartFault, IsItemRead};
+ghost use Rattle.filter_text.specs.private.Scanned.{value_of};
 ghost use Rattle.filter_text.specs.Descriptions.{is_dn as is_dn_text};
 
 use crate::cutting::{before, begins_with, behind_name, from, is_nil, name, tail};

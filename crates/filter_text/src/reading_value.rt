@@ -3,9 +3,9 @@
 
 ghost use Rattle.std.specs.Prelude.{◌≡◌, ◌<◌, ◌++◌, ◌∷◌, [], None, Some, true, string_bytes, IfOk, IfErr, OnOk};
 ghost use Rattle.std.specs.List.{list_all};
-ghost use Rattle.filter_text.specs.Cuts.{is_name_octet};
-ghost use Rattle.filter_text.specs.Reads.{PartFault};
-ghost use Rattle.filter_text.specs.Scanned.{turn as turn_from, value_of};
+ghost use Rattle.filter_text.specs.private.Cuts.{is_name_octet};
+ghost use Rattle.filter_text.specs.private.Reads.{PartFault};
+ghost use Rattle.filter_text.specs.private.Scanned.{turn as turn_from, value_of};
 ghost use Rattle.filter_text.specs.declared.value_reading.Reading.TheVariants.{Between};
 
 use crate::fault::FilterTextError;

@@ -4,8 +4,8 @@
 
 ghost use Rattle.std.specs.Prelude.{◌≡◌, ◌∷◌, [], List, reverse, None, IfOk, IfErr, OnOk};
 ghost use Rattle.std.specs.Option.{option_map};
-ghost use Rattle.filter_text.specs.FilterScan as scan;
-ghost use Rattle.filter_text.specs.Scanning.{spot, stop, IsScanFault};
+ghost use Rattle.filter_text.specs.private.FilterScan as scan;
+ghost use Rattle.filter_text.specs.private.Scanning.{spot, stop, IsScanFault};
 
 use crate::fault::FilterTextError;
 use crate::place::{Around, ItemPlace, Place};

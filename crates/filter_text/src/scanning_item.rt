@@ -4,7 +4,7 @@
 
 ghost use Rattle.std.specs.Prelude.{◌≡◌};
 ghost use Rattle.std.specs.Option.{option_map};
-ghost use Rattle.filter_text.specs.ItemScan as scan;
+ghost use Rattle.filter_text.specs.private.ItemScan as scan;
 
 use crate::place::{ItemPlace, NamePlace, OidPlace, ValuePlace, Word};
 use crate::printing_value::is_normal;

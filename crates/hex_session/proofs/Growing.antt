@@ -4,8 +4,9 @@ use Rattle.std.proofs.lemmas.List.{take_more}
 use Rattle.std.specs.Io.KnownBytes.{Appends}
 use Rattle.ldap_session.specs.ldap_msg.Messages.{MessageValue}
 use Rattle.ldap_session.specs.ldap_msg.Written.{message_bytes}
-use Rattle.hex_session.specs.Lines.{hex_line, hex_lines, message_lines}
-use Rattle.hex_session.specs.Faults.{IsCutOff}
+use Rattle.hex_session.specs.Lines.{hex_line, message_lines}
+use Rattle.hex_session.specs.private.Lines.{hex_lines}
+use Rattle.hex_session.specs.private.Faults.{IsCutOff}
 use Rattle.hex_session.specs.declared.fault.LineFault.{LineFault}
 
 pub append-nil : {A : Type 0} (xs : List A) → xs ++ [] ≡ xs

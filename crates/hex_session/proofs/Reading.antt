@@ -19,9 +19,12 @@ use Rattle.ldap_session.specs.declared.end.SessionEnd.TheVariants.{Unbound, EndO
 use Rattle.ldap_session.proofs.Written.{joined_append, whole_front}
 use Rattle.ldap_session.proofs.Progressed.{ends_here}
 use Rattle.ldap_session.proofs.Served.{awaiting, last}
-use Rattle.hex_session.specs.Lines.{after_line, after_lines, BeginsWith, Spell, stops, skips, spells, message_lines}
-use Rattle.hex_session.specs.Faults.{IsLineFault, IsReadFault, IsWriteFault, end_of}
-use Rattle.hex_session.specs.Answered.{ComesTo, HasFed, HasFailedAt, EndsBy, IsUntouched, Takes, FailsAt, IsAllRead, IsAnswered, Answers, IsCause, IsCutShort, Fails}
+use Rattle.hex_session.specs.Lines.{after_line, after_lines, Spell, stops, skips, spells, message_lines}
+use Rattle.hex_session.specs.private.Lines.{BeginsWith}
+use Rattle.hex_session.specs.Faults.{IsReadFault, IsWriteFault, end_of}
+use Rattle.hex_session.specs.private.Faults.{IsLineFault}
+use Rattle.hex_session.specs.Answered.{IsAllRead, IsAnswered, Answers, IsCause, IsCutShort, Fails}
+use Rattle.hex_session.specs.private.Answered.{ComesTo, HasFed, HasFailedAt, EndsBy, IsUntouched, Takes, FailsAt}
 use Rattle.hex_session.specs.declared.line.Line.{Line}
 use Rattle.hex_session.specs.declared.line.Line.TheVariants.{End, Blank, Piece}
 use Rattle.hex_session.specs.declared.answering.Flow.{Flow}

@@ -1,10 +1,8 @@
 -- Lines of hex: the octets of an input and of an output flow in; the pieces that lines spell, and the lines of responses, flow out.
 -- What a message means is not here.
-use Rattle.std.specs.Prelude.{◌≡◌, ℕ, zero, suc, List, [], ◌∷◌, ◌++◌, true, false, Ok, Option, None, Some}
+use Rattle.std.specs.Prelude.{◌≡◌, ℕ, zero, suc, List, [], ◌∷◌, true, false, Ok, Option, None, Some}
 use Rattle.std.specs.Io.BufRead.{take_through, drop_through, strip_last}
 use Rattle.hex.specs.Hex.{decode_of}
-use Rattle.hex_session.specs.declared.line.Line.{Line}
-use Rattle.hex_session.specs.declared.line.Line.TheVariants.{End, Blank, Piece}
 pub use Rattle.ldap_session.specs.Octets.{is_empty}
 pub use Rattle.ldap_session.specs.ldap_msg.HexLines.{hex_line, message_lines}
 
@@ -30,26 +28,9 @@ IsNextLine xs (Some line) left = (is_empty xs ≡ false) × (line ≡ first_line
 abbrev pub IsNoHex : List ℕ → Type 0
 IsNoHex line = (octets : List ℕ) → decode_of line ≡ Ok octets → ⊥
 
--- what an input begins with, and what is left of it: its end, an empty line, or a line that is a piece of a stream in hex
-abbrev pub BeginsWith : List ℕ → Line → Option (List ℕ) → Type 0
-BeginsWith xs End left = (xs ≡ []) × (left ≡ Some [])
-BeginsWith xs Blank left = (is_empty xs ≡ false) × (is_empty (first_line xs) ≡ true) × (left ≡ Some (after_line xs))
-BeginsWith xs (Piece v) left = (is_empty xs ≡ false) × (is_empty (first_line xs) ≡ false) × (decode_of (first_line xs) ≡ Ok v.items) × (left ≡ Some (after_line xs))
-
--- the same of a line without its end
-abbrev pub IsLineOf : List ℕ → Line → Type 0
-IsLineOf line End = ⊥
-IsLineOf line Blank = is_empty line ≡ true
-IsLineOf line (Piece v) = (is_empty line ≡ false) × (decode_of line ≡ Ok v.items)
-
 -- The lines at the front spell these pieces of a stream, and this is left: each line that isn't empty is one piece in hex.
 pub data Spell : List ℕ → List (List ℕ) → List ℕ → Type 0 where
   stops : {xs : List ℕ} → Spell xs [] xs
   skips : {xs rest : List ℕ} {ms : List (List ℕ)} → is_empty xs ≡ false → is_empty (first_line xs) ≡ true → Spell (after_line xs) ms rest → Spell xs ms rest
   spells : {xs rest : List ℕ} {ms : List (List ℕ)} (m : List ℕ) → is_empty (first_line xs) ≡ false → decode_of (first_line xs) ≡ Ok m → Spell (after_line xs) ms rest →
       Spell xs (m ∷ ms) rest
-
--- octets, each as a line
-abbrev pub hex_lines : List (List ℕ) → List ℕ
-hex_lines [] = []
-hex_lines (o ∷ os) = hex_line o ++ hex_lines os

@@ -3,9 +3,10 @@ ghost use Rattle.std.specs.Prelude.{◌≡◌, map, IfOk, IfErr};
 ghost use Rattle.std.specs.Io.KnownBytes.{Appends};
 ghost use Rattle.ldap_session.specs.session_handler.View.{config_view};
 ghost use Rattle.ldap_session.specs.View.{session_view};
-ghost use Rattle.hex_session.specs.Lines.{hex_lines};
-ghost use Rattle.hex_session.specs.Faults.{IsCutOff};
-ghost use Rattle.hex_session.specs.Answered.{HasPut, HasWorked, HasFailed, HasFlushed, HasNotFlushed, HasFed, HasFailedAt, Takes, FailsAt, Answers, Fails, IsProperEnd, EndsProperly};
+ghost use Rattle.hex_session.specs.private.Lines.{hex_lines};
+ghost use Rattle.hex_session.specs.private.Faults.{IsCutOff};
+ghost use Rattle.hex_session.specs.Answered.{Answers, Fails, IsProperEnd};
+ghost use Rattle.hex_session.specs.private.Answered.{HasPut, HasWorked, HasFailed, HasFlushed, HasNotFlushed, HasFed, HasFailedAt, Takes, FailsAt, EndsProperly};
 ghost use Rattle.ldap_session.specs.Progress.{IsAtLast};
 
 use crate::fault::LineFault;

@@ -2,8 +2,10 @@
 ghost use Rattle.std.specs.Prelude.{◌≡◌, map, option_map, string_bytes, IfOk, IfErr, OnOk, IfSome};
 ghost use Rattle.std.specs.Io.KnownBytes.{Appends};
 ghost use Rattle.std.specs.Io.BufRead.{strip_last};
-ghost use Rattle.hex_session.specs.Lines.{hex_line, hex_lines, IsNextLine, IsLineOf, BeginsWith};
-ghost use Rattle.hex_session.specs.Faults.{IsReadFault, IsLineFault, IsFaultOf, IsCutOff};
+ghost use Rattle.hex_session.specs.Lines.{hex_line, IsNextLine};
+ghost use Rattle.hex_session.specs.private.Lines.{hex_lines, IsLineOf, BeginsWith};
+ghost use Rattle.hex_session.specs.Faults.{IsReadFault};
+ghost use Rattle.hex_session.specs.private.Faults.{IsLineFault, IsFaultOf, IsCutOff};
 ghost use Rattle.hex_session.specs.declared.fault.LineFault.TheVariants.{NoMemory};
 
 use crate::fault::LineFault;

@@ -83,13 +83,6 @@ lines_from s n (l ∷ ls) = line_said s n l (lines_from s (n + 1) ls)
 abbrev pub index_lines : SchemaModel → List ℕ → Result (List IndexLine) ℕ
 index_lines s text = lines_from s 1 (lines_of text)
 
--- the error is the first bad line; want of memory is none
-abbrev pub IsBadLine : Result (List IndexLine) ℕ → IndexError → Type 0
-IsBadLine said (BadDescription line) = said ≡ Err line
-IsBadLine said (UnknownName line) = ⊥
-IsBadLine said (IndexWithoutRule line) = ⊥
-IsBadLine said NoMemory = Unit {0}
-
 -- the number of the first line that passes
 abbrev pub first_line : (IndexLine → Bool) → List IndexLine → Option ℕ
 first_line p ls = option_map (λ l. l.number) (find_first p ls)
@@ -146,19 +139,6 @@ IsFaultOf o NoMemory = Unit {0}
 abbrev pub is_type : ℕ → Named → Bool
 is_type t Unknown = false
 is_type t (Known u) = nat_eq u t
-
--- the kinds of both
-abbrev pub joined : Kinds → Kinds → Kinds
-joined a b = record {
-  presence = a.presence || b.presence;
-  equality = a.equality || b.equality;
-  ordering = a.ordering || b.ordering;
-  substrings = a.substrings || b.substrings;
-}
-
--- the kinds of a type with those that one more line asks for
-abbrev pub one_more : IndexLine → ℕ → Kinds → Kinds
-one_more l t k = cond (is_type t l.named) (joined k l.kinds) k
 
 -- whether a line asks for an index of a type
 abbrev pub asks : (Kinds → Bool) → ℕ → IndexLine → Bool

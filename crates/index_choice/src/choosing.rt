@@ -3,7 +3,8 @@
 
 ghost use Rattle.std.specs.Prelude.{◌≡◌, ◌<◌, ◌||◌, ℕ, cond, length, nat_eq, IfOk, OnOk, OnErr};
 ghost use Rattle.index_choice.specs.Choice.{kinds_of};
-ghost use Rattle.index_choice.specs.Texts.{chosen, joined as joined_kinds, one_more};
+ghost use Rattle.index_choice.specs.Texts.{chosen};
+ghost use Rattle.index_choice.specs.private.Texts.{joined as joined_kinds, one_more};
 
 use crate::kinds::Kinds;
 use crate::line::{IndexLine, Named};

@@ -5,7 +5,8 @@ ghost use Rattle.std.specs.Prelude.{◌≡◌, ℕ, List, Result, map, Ok, Err, 
 ghost use Rattle.index_choice.specs.declared.line.IndexLine.{IndexLine};
 ghost use Rattle.index_choice.specs.declared.error.IndexError.TheVariants.{BadDescription, NoMemory};
 ghost use Rattle.ldap_match.specs.ldap_schema.Schema.{find};
-ghost use Rattle.index_choice.specs.Texts.{named_by, line_of_words as said_by_words, index_line as said, index_lines as lines_said, line_said, lines_from, after, is_unknown as is_unknown_line, lacks_rules as lacks_rules_for, has_rules as has_rules_for, implies as is_implied, first_line, fault_in, IsFaultOf, IsBadLine};
+ghost use Rattle.index_choice.specs.Texts.{named_by, line_of_words as said_by_words, index_line as said, index_lines as lines_said, line_said, lines_from, after, is_unknown as is_unknown_line, lacks_rules as lacks_rules_for, has_rules as has_rules_for, implies as is_implied, first_line, fault_in, IsFaultOf};
+ghost use Rattle.index_choice.specs.private.Texts.{IsBadLine};
 
 use crate::error::IndexError;
 use crate::kinds::Kinds;

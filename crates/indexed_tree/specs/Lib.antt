@@ -1,9 +1,9 @@
 pub mod Directory
 pub mod Listed
-pub mod Moving
 pub mod Places
 pub mod Replies
 pub mod Stored
+pub mod private
 -- what layers above name of the crates below
 pub use Rattle.directory_api.specs.ldap_msg as ldap_msg
 pub use Rattle.dir_tree.specs.ldap_schema as ldap_schema

@@ -4,7 +4,8 @@ use Rattle.std.proofs.Common.{◌≡◌, ℕ, zero, suc, ◌+◌, ◌-◌, ◌<�
 use Rattle.std.proofs.lemmas.List.{append-nil, drop_at, take-append-le, drop-append-le, drop-drop, length-take-le}
 use Rattle.journal.specs.Frames.{are_digits, nonzeros, head_length, head_count, body_at, after, is_whole, bodies, recorded}
 use Rattle.journal.specs.Journal.{IsReadTo, IsRead}
-use Rattle.journal.specs.Reading.{HasRead, ReadsNext, ReadsNone, TakesFrame, ahead, string_read}
+use Rattle.journal.specs.Reading.{HasRead, ReadsNext, ReadsNone, ahead, string_read}
+use Rattle.journal.specs.private.Reading.{TakesFrame}
 use Rattle.journal.specs.declared.reader.StringReader.{StringReader}
 use Rattle.journal.proofs.Clearing.{no_frame}
 use Rattle.journal.proofs.Reading.{Headed, headed, digits_alone, named_alone, counted_alone, behind, after_shorter, not_whole, reads_next, reads_none, read_is}

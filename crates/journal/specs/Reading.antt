@@ -1,6 +1,6 @@
 -- How the strings of an image are read one after another, by a window of its octets.
-use Rattle.std.specs.Prelude.{◌≡◌, ℕ, ◌+◌, ◌-◌, ◌<◌, ◌≤◌, Bool, true, false, List, [], ◌∷◌, ◌++◌, length, take, drop}
-use Rattle.journal.specs.Frames.{after, body_at, head_length, is_whole, recorded}
+use Rattle.std.specs.Prelude.{◌≡◌, ℕ, ◌-◌, ◌<◌, ◌≤◌, Bool, true, false, List, [], ◌∷◌, ◌++◌, length, take, drop}
+use Rattle.journal.specs.Frames.{after, body_at, is_whole, recorded}
 use Rattle.journal.specs.Journal.{IsReadTo}
 use Rattle.journal.specs.declared.reader.StringReader.{StringReader}
 
@@ -39,10 +39,3 @@ pub record ReadsNone (old new : StringReader) (image : List ℕ) : Type 0 where
 abbrev pub Advances : Bool → StringReader → StringReader → List ℕ → Type 0
 Advances true = ReadsNext
 Advances false = ReadsNone
-
--- The whole frame at the front of what is ahead is taken; where there is none, nothing has changed.
-abbrev pub TakesFrame : Bool → StringReader → StringReader → Type 0
-TakesFrame true old new =
-    (is_whole (ahead old) ≡ true) × (string_read new ≡ body_at (ahead old)) × (ahead new ≡ after (ahead old))
-    × (new.end ≡ old.end + (10 + head_length (ahead old))) × (new.size ≡ old.size)
-TakesFrame false old new = (is_whole (ahead old) ≡ false) × (new ≡ old)

@@ -27,7 +27,8 @@ impl Model for MemoryDevice {
     ghost Value = { MemoryModel };
 
     ghost use Rattle.std.specs.Prelude.{◌≡◌, map, reverse};
-    ghost use Rattle.journal.specs.Memory.{event, IsReplayed};
+    ghost use Rattle.journal.specs.Memory.{event};
+    ghost use Rattle.journal.specs.private.Memory.{IsReplayed};
 
     ghost view = { λ m. record { base = m.base.items; events = reverse (map event m.calls.items); failures = m.failures } };
 
@@ -35,7 +36,8 @@ impl Model for MemoryDevice {
 }
 
 impl MemoryDevice {
-    ghost use Rattle.journal.specs.Memory.{seen_after, MayLeave, event, write, grow, counted};
+    ghost use Rattle.journal.specs.Memory.{seen_after, MayLeave, event, write, grow};
+    ghost use Rattle.journal.specs.private.Memory.{counted};
 
     /// A device that holds these bytes, all of them settled, with room for the record of so many calls. A call past that
     /// fails.

@@ -3,7 +3,8 @@ ghost use Rattle.std.specs.Prelude.{◌≡◌, ◌≤◌, ◌<◌, ◌+◌, ◌-
 ghost use Rattle.journal.specs.Device.{HasCause, HasRisen, LeavesOnly, Only};
 ghost use Rattle.journal.specs.Frames.{is_whole, recorded};
 ghost use Rattle.journal.specs.Journal.{IsSettled};
-ghost use Rattle.journal.specs.Reading.{Advances, HasRead, TakesFrame, ahead, string_read};
+ghost use Rattle.journal.specs.Reading.{Advances, HasRead, ahead, string_read};
+ghost use Rattle.journal.specs.private.Reading.{TakesFrame};
 
 use crate::device::{Device, DeviceFailure};
 use crate::fault::JournalError;

@@ -2,7 +2,8 @@
 ghost use Rattle.std.specs.Prelude.{◌≡◌, ◌≤◌, ◌<◌, ◌+◌, ◌^◌, length, min, replicate, OnOk, IsErrOf};
 ghost use Rattle.journal.specs.Device.{HasCause, HasRisen, LeavesOnly, Only};
 ghost use Rattle.journal.specs.Frames.{recorded};
-ghost use Rattle.journal.specs.Journal.{Cleared, IsRead, IsSettled};
+ghost use Rattle.journal.specs.Journal.{IsRead, IsSettled};
+ghost use Rattle.journal.specs.private.Journal.{Cleared};
 
 use crate::device::{Device, DeviceFailure};
 use crate::fault::JournalError;

@@ -2,12 +2,11 @@ pub mod Cuts
 pub mod Each
 pub mod Updates
 pub mod Searches
-pub mod Kinds
 pub mod Events
 pub mod Words
 pub mod Lines
-pub mod LineKinds
 pub mod Script
 pub mod Played
+pub mod private
 -- what layers above name of the crates below
 pub use Rattle.filter_text.specs.ldap_words as ldap_words

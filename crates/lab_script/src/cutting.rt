@@ -4,7 +4,7 @@
 
 ghost use Rattle.std.specs.Prelude.{◌≡◌, MatchOption};
 ghost use Rattle.lab_script.specs.Lines as lines;
-ghost use Rattle.lab_script.specs.LineKinds.{kind_view};
+ghost use Rattle.lab_script.specs.private.LineKinds.{kind_view};
 ghost use Rattle.lab_script.specs.Words as words;
 
 use crate::cuts::cut_text;

@@ -3,7 +3,7 @@
 
 ghost use Rattle.std.specs.Prelude.{◌≡◌, bytes_eq};
 ghost use Rattle.lab_script.specs.Updates as updates;
-ghost use Rattle.lab_script.specs.Kinds.{kind_view};
+ghost use Rattle.lab_script.specs.private.Kinds.{kind_view};
 
 use crate::cuts::cut_text;
 

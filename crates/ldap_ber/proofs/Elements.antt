@@ -8,7 +8,8 @@ use Rattle.ldap_ber.specs.declared.fault.BerFault.{BerFault}
 use Rattle.ldap_ber.specs.declared.fault.BerFault.TheVariants.{HighTag, Short, Indefinite, LengthTooLong}
 use Rattle.ldap_ber.specs.Number.{number}
 use Rattle.ldap_ber.specs.Element.{AreOctets, IsLength, IsElement, IsFront}
-use Rattle.ldap_ber.specs.Reading.{IsFault, length_at, content_at, body_at, with_first, element_at, Gives}
+use Rattle.ldap_ber.specs.Reading.{IsFault}
+use Rattle.ldap_ber.specs.private.Reading.{length_at, content_at, body_at, with_first, element_at, Gives}
 use Rattle.ldap_ber.proofs.Lengths.{TakesLength, LengthFault, none, few, no_end, many, length_reads, length_again, is_long}
 
 -- a first octet, its element's content and what follows

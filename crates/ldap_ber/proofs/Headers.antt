@@ -8,8 +8,9 @@ use Rattle.ldap_ber.specs.declared.fault.BerFault.{BerFault}
 use Rattle.ldap_ber.specs.declared.fault.BerFault.TheVariants.{HighTag, Short, Indefinite, LengthTooLong}
 use Rattle.ldap_ber.specs.Number.{number}
 use Rattle.ldap_ber.specs.Element.{AreOctets, IsLength}
-use Rattle.ldap_ber.specs.Reading.{length_at, Gives}
-use Rattle.ldap_ber.specs.Header.{IsHeader, IsHeaderFront, IsHeaderFault, beside, header_at}
+use Rattle.ldap_ber.specs.private.Reading.{length_at, Gives}
+use Rattle.ldap_ber.specs.Header.{IsHeader, IsHeaderFront, IsHeaderFault}
+use Rattle.ldap_ber.specs.private.Header.{beside, header_at}
 use Rattle.ldap_ber.proofs.Lengths.{TakesLength, LengthFault, none, few, no_end, many, length_reads, length_again, is_long}
 use Rattle.ldap_ber.proofs.Elements.{octets-zeros, second}
 

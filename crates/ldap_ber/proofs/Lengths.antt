@@ -7,7 +7,7 @@ use Rattle.ldap_ber.specs.declared.fault.BerFault.{BerFault}
 use Rattle.ldap_ber.specs.declared.fault.BerFault.TheVariants.{Short, Indefinite, LengthTooLong}
 use Rattle.ldap_ber.specs.Number.{number}
 use Rattle.ldap_ber.specs.Element.{AreOctets, IsLength}
-use Rattle.ldap_ber.specs.Reading.{length_at}
+use Rattle.ldap_ber.specs.private.Reading.{length_at}
 use Rattle.ldap_ber.proofs.Numbers.{octets-take}
 
 pub chosen : {A : Type 0} (b : Bool) (x y z : A) → cond b x y ≡ z → ((b ≡ true) × (x ≡ z)) ⊎ ((b ≡ false) × (y ≡ z))

@@ -1,10 +1,10 @@
 -- Wire, the lowest floor: the header of an element, before its content is there.
 -- In: octets. Out: what a header is, and what stands in its place. Not here: content.
-use Rattle.std.specs.Prelude.{◌≡◌, ℕ, ◌-◌, ◌%◌, ◌<◌, List, [], ◌∷◌, ◌++◌, length, Result, Ok, Err, ◌==◌, if◌then◌else◌}
+use Rattle.std.specs.Prelude.{◌≡◌, ℕ, ◌%◌, ◌<◌, List, ◌∷◌, ◌++◌, length}
 use Rattle.ldap_ber.specs.declared.fault.BerFault.{BerFault}
 use Rattle.ldap_ber.specs.declared.fault.BerFault.TheVariants.{HighTag, Short, Indefinite, LengthTooLong}
 use Rattle.ldap_ber.specs.Element.{IsLength}
-use Rattle.ldap_ber.specs.Reading.{IsFault, length_at}
+use Rattle.ldap_ber.specs.Reading.{IsFault}
 
 -- The identifier octet and the length octets of an element with a content of n octets (X.690 8.1.2, 8.1.3).
 pub record IsHeader (octets : List ℕ) (first n : ℕ) : Type 0 where
@@ -29,13 +29,3 @@ IsHeaderFault Short octets = IsHeaderFront octets
 IsHeaderFault HighTag octets = IsFault HighTag octets
 IsHeaderFault Indefinite octets = IsFault Indefinite octets
 IsHeaderFault LengthTooLong octets = IsFault LengthTooLong octets
-
--- The first octet beside a length that was read, and how many of the octets were read.
-abbrev pub beside : ℕ → ℕ → Result (ℕ × List ℕ) BerFault → Result (ℕ × ℕ × ℕ) BerFault
-beside a total (Ok x) = Ok (a, x.0, total - length x.1)
-beside a total (Err f) = Err f
-
--- The first octet, the length and the count of octets of the header, read from the left.
-abbrev pub header_at : List ℕ → Result (ℕ × ℕ × ℕ) BerFault
-header_at [] = Err Short
-header_at (a ∷ bs) = if a % 32 == 31 then Err HighTag else beside a (length (a ∷ bs)) (length_at bs)

@@ -3,3 +3,4 @@ pub mod Element
 pub mod Reading
 pub mod Header
 pub mod Values
+pub mod private

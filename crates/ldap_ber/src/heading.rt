@@ -2,8 +2,9 @@
 //! In: octets. Out: the first octet, the stated length and the header's size. Not here: content.
 
 ghost use Rattle.std.specs.Prelude.{◌≡◌, ℕ, ◌↔◌, ◌++◌, List, length, IfOk, IsOkAnd, IsErrOf, Ok, Err};
-ghost use Rattle.ldap_ber.specs.Header.{IsHeader, IsHeaderFault, header_at};
-ghost use Rattle.ldap_ber.specs.Reading.{Gives};
+ghost use Rattle.ldap_ber.specs.Header.{IsHeader, IsHeaderFault};
+ghost use Rattle.ldap_ber.specs.private.Header.{header_at};
+ghost use Rattle.ldap_ber.specs.private.Reading.{Gives};
 ghost use Rattle.ldap_ber.specs.declared.fault.BerFault.{BerFault};
 
 use crate::fault::BerFault;

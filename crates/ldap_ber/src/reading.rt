@@ -3,7 +3,8 @@
 
 ghost use Rattle.std.specs.Prelude.{◌≡◌, ℕ, ◌↔◌, ◌++◌, List, length, IfOk, IfErr, IsOkAnd, IsErrOf, Ok, Err};
 ghost use Rattle.ldap_ber.specs.Element.{IsElement};
-ghost use Rattle.ldap_ber.specs.Reading.{IsFault, length_at, element_at, Gives};
+ghost use Rattle.ldap_ber.specs.Reading.{IsFault};
+ghost use Rattle.ldap_ber.specs.private.Reading.{length_at, element_at, Gives};
 ghost use Rattle.ldap_ber.specs.declared.fault.BerFault.{BerFault};
 
 use crate::element::Element;

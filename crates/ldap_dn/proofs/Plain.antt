@@ -4,7 +4,7 @@ use Rattle.std.proofs.lemmas.Bool.{and_parts, or_from, cond-false, ltb-true, ne_
 use Rattle.std.proofs.lemmas.Str.{encode_ascii, chars-IsAscii, chars-nil}
 use Rattle.std.specs.List.{list_all}
 use Rattle.std.specs.Str.{IsAscii}
-use Rattle.ldap_dn.specs.Plain.{is_plain, are_plain_ends}
+use Rattle.ldap_dn.specs.private.Plain.{is_plain, are_plain_ends}
 use Rattle.ldap_dn.specs.Printed.{is_special, is_escaped, printed_character, printed_from, printed_value}
 
 same_some : {m n : ℕ} → Some m ≡ Some n → m ≡ n

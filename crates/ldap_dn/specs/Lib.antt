@@ -4,7 +4,6 @@ pub mod Names
 pub mod Tokens
 pub mod Texts
 pub mod Printed
-pub mod Plain
 pub mod Grammar
 pub mod Parted
 pub mod NameTexts
@@ -13,6 +12,7 @@ pub mod Ordered
 pub mod OrderLaws
 pub mod NameKeys
 pub mod Pairs
+pub mod private
 -- what layers above name of the crates below
 pub use Rattle.ldap_schema.specs.ldap_words as ldap_words
 pub use Rattle.ldap_syntax.specs as ldap_syntax

@@ -5,7 +5,7 @@ ghost use Rattle.std.specs.Prelude.{◌≡◌, ◌++◌, [], drop, length, chars
 ghost use Rattle.std.specs.List.{list_all};
 ghost use Rattle.ldap_schema.specs.Schema.{first_name_of};
 ghost use Rattle.ldap_dn.specs.Printed as printed;
-ghost use Rattle.ldap_dn.specs.Plain.{is_plain as is_plain_octet, are_plain_ends};
+ghost use Rattle.ldap_dn.specs.private.Plain.{is_plain as is_plain_octet, are_plain_ends};
 
 use crate::rdn::{Rdn, TypeAndValue};
 use ldap_schema::{AttributeType, Schema, TypeId};

@@ -8,7 +8,8 @@ use Rattle.dir_entry.specs.ldap_match.declared.truth.Truth.TheVariants.{Undefine
 use Rattle.dir_entry.specs.ldap_dn.Names.{RdnModel}
 use Rattle.dir_entry.specs.Entry.{KeyedAttribute, attributes_of, IsKeyedBy}
 use Rattle.ldap_eval.specs.Value.{attributes_under, item_on}
-use Rattle.ldap_eval.specs.Bound.{bound_value, leaves_for, leaves_from, leaf_if, IsBoundItem}
+use Rattle.ldap_eval.specs.Bound.{bound_value, leaves_for, leaves_from, leaf_if}
+use Rattle.ldap_eval.specs.private.Bound.{IsBoundItem}
 use Rattle.ldap_eval.specs.declared.bound.BoundFilter.{BoundFilter}
 use Rattle.ldap_eval.specs.declared.bound.BoundFilter.TheVariants as bound
 use Rattle.ldap_eval.proofs.Leaves.{value-Or, value-Undefined, leaves_valued, leaves_are_item, find_below}

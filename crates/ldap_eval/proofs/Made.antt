@@ -4,7 +4,8 @@ use Rattle.std.proofs.lemmas.List.{take_more}
 use Rattle.ldap_filter.specs.Item as filter_item
 use Rattle.ldap_filter.specs.Item.{ExtensibleValue}
 use Rattle.ldap_filter.specs.Tree.{Tree, conj, disj, negation, item}
-use Rattle.ldap_filter.specs.View.{view, views, view_step}
+use Rattle.ldap_filter.specs.View.{view, view_step}
+use Rattle.ldap_filter.specs.private.View.{views}
 use Rattle.ldap_filter.specs.declared.tree.Filter.{Filter}
 use Rattle.ldap_filter.specs.declared.tree.Filter.TheVariants as filter
 use Rattle.ldap_filter.specs.declared.tree.Filter.TheVariants.{rolls-And, rolls-Or, rolls-Not}

@@ -21,7 +21,8 @@ use Rattle.dir_entry.specs.ldap_dn.Pairs.{PairModel, pairs_of}
 use Rattle.dir_entry.specs.Entry.{AttributeModel, KeyedAttribute, shown, attributes_of, IsKeyedBy}
 use Rattle.ldap_eval.specs.Value.{item_on, how_of, some_type, type_of, is_matched, is_looked_at, match_on_entry, match_on_name, match_with, match_of_type, match_by, extensible_value}
 use Rattle.ldap_eval.specs.Made.{is_equality_item, type_with_equality}
-use Rattle.ldap_eval.specs.Bound.{match_of_entry, value_step, bound_value, leaf_if, matches_from, matches_for, matches_with, IsBoundMatch}
+use Rattle.ldap_eval.specs.Bound.{match_of_entry, value_step, bound_value, leaf_if, matches_from, matches_for, matches_with}
+use Rattle.ldap_eval.specs.private.Bound.{IsBoundMatch}
 use Rattle.ldap_eval.specs.declared.bound.Match.{Match}
 use Rattle.ldap_eval.specs.declared.bound.BoundFilter.{BoundFilter}
 use Rattle.ldap_eval.specs.declared.bound.BoundFilter.TheVariants as bound

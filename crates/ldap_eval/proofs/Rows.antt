@@ -3,7 +3,8 @@ use Rattle.std.proofs.Common.{ℕ, ◌+◌, ◌<◌, List, [], ◌∷◌, ◌++�
 use Rattle.std.proofs.lemmas.List.{take_more}
 use Rattle.ldap_filter.specs.Item as filter_item
 use Rattle.ldap_filter.specs.Tree.{Tree, conj, disj, item, Trees, no_trees, tree}
-use Rattle.ldap_filter.specs.View.{view, views, view_step}
+use Rattle.ldap_filter.specs.View.{view, view_step}
+use Rattle.ldap_filter.specs.private.View.{views}
 use Rattle.ldap_filter.specs.declared.tree.Filter.{Filter}
 use Rattle.ldap_filter.specs.declared.tree.Filter.TheVariants as filter
 use Rattle.ldap_filter.specs.declared.tree.Filter.TheVariants.{rolls-And, rolls-Or, rolls-Equal, rolls-Approx, rolls-AtLeast, rolls-AtMost, rolls-Present, rolls-Substrings}
@@ -18,7 +19,8 @@ use Rattle.dir_entry.specs.ldap_match.Item.{present, substrings}
 use Rattle.dir_entry.specs.ldap_dn.Names.{RdnModel}
 use Rattle.dir_entry.specs.Entry.{KeyedAttribute, attributes_of, IsKeyedBy}
 use Rattle.ldap_eval.specs.Value.{filter_value, all_value, any_value, wire_item_value, item_value, asked_by, parts_of}
-use Rattle.ldap_eval.specs.Bound.{bound_value, value_step, IsBoundItem, IsBoundTo, AreBoundTo}
+use Rattle.ldap_eval.specs.Bound.{bound_value, value_step, IsBoundTo}
+use Rattle.ldap_eval.specs.private.Bound.{IsBoundItem, AreBoundTo}
 use Rattle.ldap_eval.specs.declared.bound.BoundFilter.{BoundFilter}
 use Rattle.ldap_eval.specs.declared.bound.BoundFilter.TheVariants as bound
 use Rattle.ldap_eval.specs.declared.bound.BoundFilter.TheOpen.{BoundFilter-F}

@@ -8,13 +8,12 @@ use Rattle.dir_entry.specs.ldap_match.Keyed.{test_value, test_for}
 use Rattle.dir_entry.specs.ldap_match.declared.truth.Truth.{Truth}
 use Rattle.dir_entry.specs.ldap_match.declared.truth.Truth.TheVariants.{False, Undefined}
 use Rattle.dir_entry.specs.Entry.{KeyedAttribute, attributes_of, IsKeyedBy}
-use Rattle.ldap_filter.specs.Tree.{Tree, Trees, no_trees, tree}
+use Rattle.ldap_filter.specs.Tree.{Tree}
 use Rattle.ldap_eval.specs.Matched.{match_for, match_value, match_pair}
 use Rattle.ldap_eval.specs.declared.naming_rules.How.{How}
 use Rattle.dir_entry.specs.ldap_dn.Names.{RdnModel}
 use Rattle.dir_entry.specs.ldap_dn.Pairs.{PairModel, pairs_of}
-use Rattle.ldap_filter.specs.Item.{ExtensibleValue}
-use Rattle.ldap_eval.specs.Value.{item_value, is_looked_at, extensible_value, filter_value}
+use Rattle.ldap_eval.specs.Value.{is_looked_at, filter_value}
 use Rattle.ldap_eval.specs.declared.bound.Leaf.{Leaf}
 use Rattle.ldap_eval.specs.declared.bound.Match.{Match}
 use Rattle.ldap_eval.specs.declared.bound.BoundFilter.{BoundFilter, fold-BoundFilter}
@@ -82,21 +81,6 @@ matches_for s h t a dn = matches_from s h t a dn s.types 0
 abbrev pub matches_with : SchemaModel → How → Option ℕ → List ℕ → Bool → List BoundFilter
 matches_with s h t a dn = matches_for s h t a false ++ cond dn (matches_for s h t a true) []
 
--- A bound item has the item's value on every entry that is keyed by the schema.
-abbrev pub IsBoundItem : SchemaModel → List ℕ → Item → BoundFilter → Type 0
-IsBoundItem s description item b = (n : List RdnModel) (e : List KeyedAttribute) → IsKeyedBy s e → bound_value n e b ≡ item_value s description item (attributes_of e)
-
--- the same of an extensible item
-abbrev pub IsBoundMatch : SchemaModel → ExtensibleValue → BoundFilter → Type 0
-IsBoundMatch s x b = (n : List RdnModel) (e : List KeyedAttribute) → IsKeyedBy s e → bound_value n e b ≡ extensible_value s x n (attributes_of e)
-
 -- A bound filter stands for a filter under a schema: it has the filter's value on every entry that is keyed by the schema.
 abbrev pub IsBoundTo : SchemaModel → Tree → BoundFilter → Type 0
 IsBoundTo s t b = (n : List RdnModel) (e : List KeyedAttribute) → IsKeyedBy s e → bound_value n e b ≡ filter_value s t n (attributes_of e)
-
--- bound filters stand for filters, one by one
-abbrev pub AreBoundTo : SchemaModel → Trees → List BoundFilter → Type 0
-AreBoundTo s no_trees [] = Unit {0}
-AreBoundTo s no_trees (b ∷ bs) = ⊥
-AreBoundTo s (tree t ts) [] = ⊥
-AreBoundTo s (tree t ts) (b ∷ bs) = IsBoundTo s t b × AreBoundTo s ts bs

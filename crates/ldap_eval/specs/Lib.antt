@@ -1,9 +1,9 @@
 pub mod Matching
 pub mod Matched
 pub mod Value
-pub mod Asked
 pub mod Bound
 pub mod Made
+pub mod private
 -- what layers above name of the crates below
 pub use Rattle.ldap_filter.specs as ldap_filter
 pub use Rattle.dir_entry.specs.ldap_words as ldap_words

@@ -2,16 +2,19 @@
 // flows out. What must not be here: entries.
 
 ghost use Rattle.std.specs.Prelude.{◌≡◌, ◌<◌, ◌++◌, ℕ, true, false, IfOk, OnOk, List, length, None, Some, string_bytes};
-ghost use Rattle.ldap_filter.specs.View.{view, views};
+ghost use Rattle.ldap_filter.specs.View.{view};
+ghost use Rattle.ldap_filter.specs.private.View.{views};
 ghost use Rattle.dir_entry.specs.ldap_match.Item.{is_answerable as is_answerable_item};
 ghost use Rattle.dir_entry.specs.ldap_match.Keyed.{test_for};
-ghost use Rattle.ldap_eval.specs.Asked.{item_of};
+ghost use Rattle.ldap_eval.specs.private.Asked.{item_of};
 ghost use Rattle.dir_entry.specs.ldap_schema.Schema.{find};
-ghost use Rattle.ldap_eval.specs.Bound.{IsBoundTo, AreBoundTo, IsBoundItem, leaves_for};
+ghost use Rattle.ldap_eval.specs.Bound.{IsBoundTo, leaves_for};
+ghost use Rattle.ldap_eval.specs.private.Bound.{AreBoundTo, IsBoundItem};
 ghost use Rattle.ldap_eval.specs.Made.{IsMadeOf, AreMadeOf, IsItemFor, IsItemOn, IsExtensible, IsMatchOn, is_equality_item, type_with_equality};
 ghost use Rattle.ldap_filter.specs.ItemView.{extensible_view};
 ghost use Rattle.ldap_eval.specs.Value.{how_of as how_of_name, type_of as type_of_name, is_matched as can_be_matched, is_looked_at as looks_at, item_on, match_with};
-ghost use Rattle.ldap_eval.specs.Bound.{IsBoundMatch, bound_value, matches_for, matches_with};
+ghost use Rattle.ldap_eval.specs.Bound.{bound_value, matches_for, matches_with};
+ghost use Rattle.ldap_eval.specs.private.Bound.{IsBoundMatch};
 ghost use Rattle.std.specs.Option.{option_map};
 ghost use Rattle.dir_entry.specs.ldap_dn.Names.{RdnModel};
 ghost use Rattle.dir_entry.specs.Entry.{KeyedAttribute, IsKeyedBy, attributes_of};

@@ -8,7 +8,8 @@ use Rattle.ldap_filter.specs.ItemGrammar.{item_octet, IsItem}
 use Rattle.ldap_filter.specs.Grammar.{octet_of, IsBody, IsFilter}
 use Rattle.ldap_fields.specs.Fields.{HasField}
 use Rattle.ldap_fields.specs.Faults.{IsPlainFault}
-use Rattle.ldap_filter.specs.Limits.{IsOctet, IsItemTree, Opens, under, along, Reads, IsFault, IsRowFault}
+use Rattle.ldap_filter.specs.Limits.{IsOctet, Opens, under, along, IsFault}
+use Rattle.ldap_filter.specs.private.Limits.{IsItemTree, Reads, IsRowFault}
 use Rattle.ldap_fields.specs.declared.fault.MsgFault.{MsgFault}
 use Rattle.ldap_fields.specs.declared.fault.MsgFault.TheVariants.{TooLarge, NotAMessage, TooDeep, TooManyItems, NoMemory}
 use Rattle.ldap_fields.proofs.Same.{same_field}

@@ -2,9 +2,11 @@
 use Rattle.std.proofs.Common.{◌≡◌, ℕ, ◌+◌, ◌≤◌, max, List, [], ◌∷◌, ◌++◌, map, refl, sym, ap, subst, ◌∙◌, append_assoc, arith}
 use Rattle.std.proofs.lemmas.List.{append-nil, map_push}
 use Rattle.ldap_filter.specs.Tree.{Tree, Trees, no_trees, tree, depth, depths, count, counts}
-use Rattle.ldap_filter.specs.View.{view, views, row}
+use Rattle.ldap_filter.specs.View.{view, row}
+use Rattle.ldap_filter.specs.private.View.{views}
 use Rattle.ldap_filter.specs.Grammar.{AreFilters, IsFilter}
-use Rattle.ldap_filter.specs.Limits.{Reads, ReadsRow, IsFault, IsRowFault}
+use Rattle.ldap_filter.specs.Limits.{IsFault}
+use Rattle.ldap_filter.specs.private.Limits.{Reads, ReadsRow, IsRowFault}
 use Rattle.ldap_filter.specs.declared.tree.Filter.{Filter}
 use Rattle.ldap_fields.specs.declared.fault.MsgFault.{MsgFault}
 use Rattle.ldap_fields.specs.declared.fault.MsgFault.TheVariants.{TooLarge, NotAMessage, TooDeep, TooManyItems, NoMemory}

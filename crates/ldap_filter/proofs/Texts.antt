@@ -4,7 +4,8 @@ use Rattle.ldap_filter.specs.Tree.{Tree, depth, count}
 use Rattle.ldap_filter.specs.Grammar.{IsFilter}
 use Rattle.ldap_filter.specs.ItemGrammar.{IsAssertion}
 use Rattle.ldap_fields.specs.Fields.{HasField}
-use Rattle.ldap_filter.specs.Limits.{Reads, IsFault}
+use Rattle.ldap_filter.specs.Limits.{IsFault}
+use Rattle.ldap_filter.specs.private.Limits.{Reads}
 use Rattle.ldap_fields.specs.declared.fault.MsgFault.{MsgFault}
 use Rattle.ldap_fields.specs.declared.fault.MsgFault.TheVariants.{TooLarge, NotAMessage, TooDeep, TooManyItems, NoMemory}
 use Rattle.ldap_fields.proofs.Same.{behind_text, octets_unique}

@@ -2,7 +2,8 @@
 use Rattle.std.proofs.Common.{◌≡◌, ℕ, zero, suc, ◌+◌, ◌<◌, ◌≤◌, List, [], ◌∷◌, ◌++◌, arith, length, get_or, take, sym, ap, ◌∙◌, append_assoc}
 use Rattle.std.proofs.lemmas.List.{append-nil, take_more, length-append}
 use Rattle.ldap_filter.specs.Tree.{Tree, Trees, no_trees, tree}
-use Rattle.ldap_filter.specs.View.{view, views}
+use Rattle.ldap_filter.specs.View.{view}
+use Rattle.ldap_filter.specs.private.View.{views}
 use Rattle.ldap_filter.specs.Grammar.{octet_of, filter_content, filter_bytes, filters_bytes}
 use Rattle.ldap_filter.specs.declared.tree.Filter.{Filter}
 use Rattle.ldap_fields.proofs.Written.{element_long}

@@ -1,6 +1,6 @@
 -- Wire, filters: the tree that a `Filter` stands for.
 -- In: a filter in memory. Out: its tree. Not here: octets.
-use Rattle.std.specs.Prelude.{List, [], ◌∷◌, map}
+use Rattle.std.specs.Prelude.{List, [], ◌∷◌}
 use Rattle.std.specs.String.{string_bytes}
 use Rattle.ldap_filter.specs.Item.{equal, at_least, at_most, approximate, comparison, substrings, presence, extensible}
 use Rattle.ldap_filter.specs.Tree.{Tree, conj, disj, negation, item, Trees, no_trees, tree}
@@ -29,7 +29,3 @@ view_step (Filter-F.Extensible a) = item (extensible (extensible_view a))
 -- a filter as clauses see it
 abbrev pub view : Filter → Tree
 view = fold-Filter Tree view_step
-
--- filters as clauses see them
-abbrev pub views : List Filter → Trees
-views fs = row (map view fs)

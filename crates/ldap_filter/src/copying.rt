@@ -2,7 +2,8 @@
 //! In: a filter. Out: an equal one. Not here: octets.
 
 ghost use Rattle.std.specs.Prelude.{◌≡◌, IfOk};
-ghost use Rattle.ldap_filter.specs.View.{view, views};
+ghost use Rattle.ldap_filter.specs.View.{view};
+ghost use Rattle.ldap_filter.specs.private.View.{views};
 
 use crate::copying_item::{copy_extensible, copy_octets, copy_substrings, copy_text};
 use crate::tree::Filter;

@@ -5,9 +5,11 @@
 ghost use Rattle.std.specs.Prelude.{◌≡◌, ℕ, ◌≤◌, ◌++◌, List, IfOk, IfErr, MatchResult};
 ghost use Rattle.std.specs.Bool.{OnTrue, OnFalse};
 ghost use Rattle.ldap_filter.specs.Tree.{Tree, depth as depth_of, count};
-ghost use Rattle.ldap_filter.specs.View.{view, views};
+ghost use Rattle.ldap_filter.specs.View.{view};
+ghost use Rattle.ldap_filter.specs.private.View.{views};
 ghost use Rattle.ldap_filter.specs.Grammar.{IsFilter};
-ghost use Rattle.ldap_filter.specs.Limits.{IsOctet, Reads, ReadsRow, IsFault, IsRowFault};
+ghost use Rattle.ldap_filter.specs.Limits.{IsOctet, IsFault};
+ghost use Rattle.ldap_filter.specs.private.Limits.{Reads, ReadsRow, IsRowFault};
 
 use crate::reading_item::item_of;
 use crate::tree::Filter;

@@ -7,7 +7,7 @@ ghost use Rattle.ldap_filter.specs.Item.{Comparison, SubstringsValue, Extensible
 ghost use Rattle.ldap_filter.specs.ItemView.{substrings_view, extensible_view};
 ghost use Rattle.ldap_filter.specs.ItemGrammar.{comparison_octet, item_octet, IsAssertion, IsSubstrings, IsExtensible, IsItem};
 ghost use Rattle.ldap_filter.specs.View.{view};
-ghost use Rattle.ldap_filter.specs.Limits.{IsItemTree};
+ghost use Rattle.ldap_filter.specs.private.Limits.{IsItemTree};
 
 use crate::item::{MatchingRuleAssertion, SubstringFilter};
 use crate::parts::parts_of;

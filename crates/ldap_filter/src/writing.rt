@@ -3,7 +3,8 @@
 
 ghost use Rattle.std.specs.Prelude.{◌≡◌, ◌<◌, ◌≤◌, ◌^◌, ◌++◌, length, OnOk, OnErr, IsErrOf};
 ghost use Rattle.ldap_filter.specs.Tree.{Tree};
-ghost use Rattle.ldap_filter.specs.View.{view, views};
+ghost use Rattle.ldap_filter.specs.View.{view};
+ghost use Rattle.ldap_filter.specs.private.View.{views};
 ghost use Rattle.ldap_filter.specs.Grammar.{filter_content, filter_bytes, filters_bytes, HasTexts, IsFilter};
 
 use crate::tree::Filter;

@@ -13,7 +13,7 @@ use Rattle.ldap_msg.specs.ldap_fields.declared.fault.MsgFault.{MsgFault}
 use Rattle.ldap_msg.specs.Limits.{IsFault}
 use Rattle.ldap_msg.specs.View.{view}
 use Rattle.ldap_msg.specs.declared.message.Message.{Message}
-use Rattle.ldap_framer.specs.Fronts.{BeginsFrame}
+use Rattle.ldap_framer.specs.private.Fronts.{BeginsFrame}
 use Rattle.ldap_framer.specs.Stream.{IsFrame, IsWhole, IsAwaited, BeginsNoFrame, HasBadFrame, Ending, awaits, EndsIn, Reads}
 
 -- ---- how a stream goes on

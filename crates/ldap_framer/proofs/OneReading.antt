@@ -4,7 +4,7 @@ use Rattle.std.specs.Prelude.{replicate}
 use Rattle.std.proofs.lemmas.List.{append-nil, append_cancel_left, append_cancel_right, length-append, length-replicate}
 use Rattle.ldap_msg.specs.ldap_ber.Element.{IsElement, IsLength}
 use Rattle.ldap_msg.specs.ldap_ber.Header.{IsHeader}
-use Rattle.ldap_msg.specs.ldap_ber.Reading.{length_at}
+use Rattle.ldap_msg.specs.ldap_ber.private.Reading.{length_at}
 use Rattle.ldap_msg.specs.ldap_ber.declared.fault.BerFault.{BerFault}
 use Rattle.ldap_msg.proofs.ldap_ber.Elements.{one}
 use Rattle.ldap_msg.proofs.ldap_ber.Lengths.{length_again}

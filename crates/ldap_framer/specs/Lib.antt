@@ -1,4 +1,4 @@
 pub mod Stream
 pub mod Framed
-pub mod Fronts
 pub mod View
+pub mod private

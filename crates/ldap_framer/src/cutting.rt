@@ -6,7 +6,7 @@ ghost use Rattle.std.specs.Prelude.{◌≡◌, ◌≤◌, ℕ, List, length, map
 ghost use Rattle.ldap_msg.specs.View.{view};
 ghost use Rattle.ldap_framer.specs.Stream.{IsFrame, Reads};
 ghost use Rattle.ldap_framer.specs.Framed.{ending_of};
-ghost use Rattle.ldap_framer.specs.Fronts.{BeginsFrame, IsTrueOf};
+ghost use Rattle.ldap_framer.specs.private.Fronts.{BeginsFrame, IsTrueOf};
 
 use crate::finding::{Cut, Finding};
 use ldap_msg::{BerFault, MAX_MESSAGE, MsgFault, decode, header};

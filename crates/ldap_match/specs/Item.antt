@@ -152,10 +152,6 @@ abbrev pub by_rule : {A : Type 0} → (A → Option Meaning → Bool) → (Rule 
 by_rule asks asserted s None values = Undefined
 by_rule asks asserted s (Some r) values = answered asks s r (asserted r) values
 
--- an equality item: whether a value means what the assertion means (RFC 4511 4.5.1.7.1)
-abbrev pub satisfied : SchemaModel → Rule → Option Meaning → List (List ℕ) → Truth
-satisfied s r m values = answered is_meant s r m values
-
 -- an equality item by the rule of a type
 abbrev pub equality_by : SchemaModel → Option Rule → List ℕ → List (List ℕ) → Truth
 equality_by s o a values = by_rule is_meant (λ r. meaning s r a) s o values

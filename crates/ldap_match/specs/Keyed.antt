@@ -49,10 +49,6 @@ abbrev pub test_by_rule : {A : Type 0} → (A → Test) → (Rule → Option A) 
 test_by_rule make keyed None = test.Unknown
 test_by_rule make keyed (Some r) = test_of make (keyed r)
 
--- an equality item's
-abbrev pub equality_test : Option (List ℕ) → Test
-equality_test k = test_of test.Equal k
-
 -- an equality item's, by the rule of a type
 abbrev pub test_by : SchemaModel → Option Rule → List ℕ → Test
 test_by s o a = test_by_rule test.Equal (λ r. key_at s r a) o

@@ -4,7 +4,7 @@ use Rattle.std.proofs.lemmas.List.{length-append}
 use Rattle.ldap_requests.specs.ldap_ber.Element.{length_octets, element_bytes}
 use Rattle.ldap_requests.specs.ldap_fields.Written.{number_bytes}
 use Rattle.ldap_requests.proofs.ldap_fields.Written.{element_long}
-use Rattle.ldap_msg.specs.Written.{enveloped}
+use Rattle.ldap_msg.specs.private.Written.{enveloped}
 
 -- the length of three parts, up to a limit
 pub three_measure : (a b k : List ℕ) (m n limit sum total : ℕ) → m ≡ length a → n ≡ min (length b) limit → sum ≡ min (m + n) limit → total ≡ min (sum + length k) limit

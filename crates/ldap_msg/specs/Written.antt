@@ -51,10 +51,6 @@ operation_content (response r) = response_content r
 abbrev pub operation_bytes : OperationValue → List ℕ
 operation_bytes op = element_bytes (operation_octet op) (operation_content op)
 
--- the content of a message, around the octets of its operation and of its controls
-abbrev pub enveloped : ℕ → List ℕ → List ℕ → List ℕ
-enveloped id operation controls = number_bytes 2 id ++ operation ++ controls
-
 -- the content of a message
 abbrev pub message_content : MessageValue → List ℕ
 message_content m = number_bytes 2 m.id ++ operation_bytes m.op ++ row_or_none_bytes control_bytes 160 m.controls

@@ -8,7 +8,8 @@ ghost use Rattle.ldap_responses.specs.Written.{entry_content};
 ghost use Rattle.ldap_msg.specs.Messages.{MessageValue};
 ghost use Rattle.ldap_msg.specs.View.{entry_view, operation_view, view};
 ghost use Rattle.ldap_msg.specs.Grammar.{operation_octet, IsMessage};
-ghost use Rattle.ldap_msg.specs.Written.{operation_content, operation_bytes, enveloped, message_content, message_bytes, IsInRange};
+ghost use Rattle.ldap_msg.specs.Written.{operation_content, operation_bytes, message_content, message_bytes, IsInRange};
+ghost use Rattle.ldap_msg.specs.private.Written.{enveloped};
 
 use crate::encoding_request::{request_content, request_octet};
 use crate::encoding_response::{response_content, response_octet};

@@ -4,7 +4,7 @@ use Rattle.std.specs.List.{list_any, position_from}
 use Rattle.std.specs.Char.{to_ascii_lowercase}
 use Rattle.std.specs.Str.{bytes_eq}
 use Rattle.ldap_schema.specs.Schema.{is_called, is_same_name}
-use Rattle.ldap_schema.specs.NameOrder.{number_at, has_name, lower, IndexModel, find_in}
+use Rattle.ldap_schema.specs.private.NameOrder.{number_at, has_name, lower, IndexModel, find_in}
 pub use Rattle.ldap_words.proofs.NumbersKept.{or_else, kept_not, name_more, names_done, number_more, numbers_done, first_of_either}
 
 pub found_either : {A : Type 0} (oid : A → List ℕ) (names : A → List (List ℕ)) (xs : List A) (m : IndexModel)

@@ -6,7 +6,8 @@ use Rattle.std.specs.List.Sorted.{IsPermutation, IsNonDecreasingBy}
 use Rattle.std.proofs.lemmas.Bool.Decides.{nat_tests}
 use Rattle.std.proofs.lemmas.List.Sorted.{list_any-IsPermutation, IsPermutation-sym}
 use Rattle.ldap_schema.specs.Superclasses.{is_among}
-use Rattle.ldap_schema.specs.Lines.{is_either_under, are_all_in_line, falls, falls_whole, first_of, lowest_in, rank_in, greatest}
+use Rattle.ldap_schema.specs.Lines.{is_either_under, are_all_in_line, first_of, lowest_in, rank_in}
+use Rattle.ldap_schema.specs.private.Lines.{falls, falls_whole, greatest}
 pub use Rattle.ldap_schema.proofs.Chains.{and_one}
 pub use Rattle.ldap_schema.proofs.Chains.{and_two}
 use Rattle.ldap_schema.proofs.Chains.{or_cases, or_second}

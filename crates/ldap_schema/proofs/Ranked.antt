@@ -10,7 +10,8 @@ use Rattle.std.proofs.lemmas.List.Folds.{list_all-map}
 use Rattle.std.proofs.lemmas.Map.Views.{any-filter_same}
 use Rattle.ldap_schema.specs.Schema.{ClassModel, SchemaModel}
 use Rattle.ldap_schema.specs.Superclasses.{is_among, superclasses_in, direct_superclasses, filled, filled_from, with_missing, IsSubclass, is_itself, goes_up, has_known_superclasses, AreSuperclassesKnown}
-use Rattle.ldap_schema.specs.Lines.{is_under_in, rank_in, IsRanking, IsRankingBelow, cut_class, cut}
+use Rattle.ldap_schema.specs.Lines.{rank_in}
+use Rattle.ldap_schema.specs.private.Lines.{is_under_in, IsRanking, IsRankingBelow, cut_class, cut}
 use Rattle.ldap_schema.proofs.Lineage.{chain_from_list, list_from_chain, within_of}
 use Rattle.ldap_schema.proofs.Filling.{fill_step}
 use Rattle.ldap_schema.proofs.Ordered.{IsRankedOrder, and_one, and_two, both, bool_ext, one_of, same_number}

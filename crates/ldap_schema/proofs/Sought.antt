@@ -10,7 +10,7 @@ use Rattle.std.proofs.lemmas.Bool.{cases_lt}
 use Rattle.std.proofs.lemmas.Cmp.{nat_list_cmp_total, nat_list_eq_equiv, alike_right}
 use Rattle.std.proofs.lemmas.List.Sorted.{searchable_from_sorted}
 use Rattle.std.proofs.lemmas.Map.{NonePasses, lookup-none, lookup-insert}
-use Rattle.ldap_schema.specs.NameOrder.{order, number_at, kept_or, IsBefore, IsInOrder}
+use Rattle.ldap_schema.specs.private.NameOrder.{order, number_at, kept_or, IsBefore, IsInOrder}
 pub use Rattle.ldap_words.proofs.OctetOrder.{all_at, turned, turned_back, same_is, other_is, above_is}
 
 abbrev pub Entries : Type 0

@@ -1,10 +1,8 @@
 pub mod Schema
 pub mod Superclasses
-pub mod NameOrder
 pub mod ObjectClassType
-pub mod Marks
 pub mod Lines
-pub mod Tables
 pub mod Rules
+pub mod private
 -- what layers above name of the crates below
 pub use Rattle.ldap_words.specs as ldap_words

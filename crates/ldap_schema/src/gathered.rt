@@ -3,7 +3,7 @@
 
 ghost use Rattle.std.specs.Prelude.{◌≡◌, ◌||◌, [], ◌∷◌, ◌++◌, nat_eq, cond, IfOk, OnOk, OnErr, slice_get};
 ghost use Rattle.ldap_schema.specs.Superclasses.{is_among as is_one_of};
-ghost use Rattle.ldap_schema.specs.Marks.{AreNumbersOf};
+ghost use Rattle.ldap_schema.specs.private.Marks.{AreNumbersOf};
 
 use crate::class::ClassId;
 use std::alloc::{AllocError, Global};
@@ -19,7 +19,7 @@ pub struct Gathered {
 
 impl Model for Gathered {
     ghost use Rattle.std.specs.Prelude.{ℕ, List};
-    ghost use Rattle.ldap_schema.specs.Marks.{AreNumbersOf};
+    ghost use Rattle.ldap_schema.specs.private.Marks.{AreNumbersOf};
 
     ghost Value = { List ℕ };
 

@@ -4,7 +4,8 @@
 ghost use Rattle.std.specs.Prelude.{◌≡◌, IfOk, cond, filter, nat_le, nat_lt};
 ghost use Rattle.std.specs.List.Sorted.{IsPermutation, IsNonDecreasingBy};
 ghost use Rattle.ldap_schema.specs.Superclasses.{filled, AreSuperclassesKnown};
-ghost use Rattle.ldap_schema.specs.Lines.{rank_in, IsRanking, cut, is_under_in, falls, falls_whole, are_all_in_line, lowest_in, greatest as greatest_of};
+ghost use Rattle.ldap_schema.specs.Lines.{rank_in, are_all_in_line, lowest_in};
+ghost use Rattle.ldap_schema.specs.private.Lines.{IsRanking, cut, is_under_in, falls, falls_whole, greatest as greatest_of};
 
 use crate::class::{ClassId, ObjectClass};
 use crate::gathered::{Gathered, is_class_among};

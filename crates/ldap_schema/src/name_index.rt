@@ -7,7 +7,7 @@ ghost use Rattle.std.specs.Char.{to_ascii_lowercase};
 ghost use Rattle.std.specs.List.{list_any, position_from};
 ghost use Rattle.std.specs.Str.{bytes_eq};
 ghost use Rattle.std.specs.String.{string_bytes};
-ghost use Rattle.ldap_schema.specs.NameOrder.{number_at, kept_or, find_in, has_name, lower as lower_one};
+ghost use Rattle.ldap_schema.specs.private.NameOrder.{number_at, kept_or, find_in, has_name, lower as lower_one};
 ghost use Rattle.ldap_schema.specs.Schema.{is_called};
 
 use crate::attribute_type::AttributeType;
@@ -26,7 +26,7 @@ pub struct NameIndex {
 }
 
 impl Model for NameIndex {
-    ghost use Rattle.ldap_schema.specs.NameOrder.{IndexModel};
+    ghost use Rattle.ldap_schema.specs.private.NameOrder.{IndexModel};
 
     ghost Value = { IndexModel };
 

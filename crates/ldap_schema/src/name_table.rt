@@ -4,7 +4,7 @@
 ghost use Rattle.std.specs.Prelude.{◌≡◌, ℕ, [], List, map, OnOk, OnErr};
 ghost use Rattle.std.specs.Char.{to_ascii_lowercase};
 ghost use Rattle.std.specs.Str.{bytes_eq};
-ghost use Rattle.ldap_schema.specs.NameOrder.{order, number_at, kept_or};
+ghost use Rattle.ldap_schema.specs.private.NameOrder.{order, number_at, kept_or};
 
 use ldap_words::compare_folded;
 use std::alloc::{AllocError, Global};
@@ -56,7 +56,7 @@ pub struct NameTable {
 
 impl Model for NameTable {
     ghost use Rattle.std.specs.Prelude.{ℕ, List};
-    ghost use Rattle.ldap_schema.specs.NameOrder.{IsInOrder};
+    ghost use Rattle.ldap_schema.specs.private.NameOrder.{IsInOrder};
 
     ghost Value = { List (List ℕ × ℕ) };
 

@@ -4,7 +4,8 @@
 ghost use Rattle.std.specs.Prelude.{◌≡◌, ◌||◌, IfOk, nat_eq};
 ghost use Rattle.std.specs.List.{list_all};
 ghost use Rattle.ldap_schema.specs.Superclasses.{is_among};
-ghost use Rattle.ldap_schema.specs.Lines.{is_under_in, is_either_under as is_one_under_other, are_all_in_line, lowest_in};
+ghost use Rattle.ldap_schema.specs.Lines.{is_either_under as is_one_under_other, are_all_in_line, lowest_in};
+ghost use Rattle.ldap_schema.specs.private.Lines.{is_under_in};
 
 use crate::class::{ClassId, ObjectClass};
 use crate::gathered::Gathered;

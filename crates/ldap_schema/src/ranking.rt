@@ -3,7 +3,8 @@
 
 ghost use Rattle.std.specs.Prelude.{◌≡◌, ◌<◌, IsTrue, ℕ, true, nat_lt};
 ghost use Rattle.std.specs.List.{list_all};
-ghost use Rattle.ldap_schema.specs.Lines.{rank_in, IsRanking};
+ghost use Rattle.ldap_schema.specs.Lines.{rank_in};
+ghost use Rattle.ldap_schema.specs.private.Lines.{IsRanking};
 
 use crate::class::{ClassId, ObjectClass};
 use crate::lines::rank_of;

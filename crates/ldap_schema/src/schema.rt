@@ -54,7 +54,7 @@ impl Drop for Schema {
 
 impl Model for Schema {
     ghost use Rattle.ldap_schema.specs.Schema.{SchemaModel};
-    ghost use Rattle.ldap_schema.specs.Tables.{AreTablesOf};
+    ghost use Rattle.ldap_schema.specs.private.Tables.{AreTablesOf};
 
     ghost Value = { SchemaModel };
 

@@ -9,10 +9,12 @@ use Rattle.session_handler.specs.declared.answered.Next.{Next}
 use Rattle.session_handler.specs.declared.answered.Next.TheVariants.{Disconnected as DisconnectedNext}
 use Rattle.session_handler.specs.request_checks.declared.fault.AnswerError.{AnswerError}
 use Rattle.session_handler.specs.request_checks.declared.fault.AnswerError.TheVariants.{TooLong, NoMemory as NoMemoryError}
-use Rattle.ldap_session.specs.Octets.{joined, octets_of, HasGrown}
+use Rattle.ldap_session.specs.Octets.{joined, octets_of}
+use Rattle.ldap_session.specs.private.Octets.{HasGrown}
 use Rattle.ldap_session.specs.View.{SessionValue, ConversationValue}
 use Rattle.ldap_session.specs.Progress.{TakesNext, IsWritten, AnswersNext, FailsNext, IsIdle}
-use Rattle.ldap_session.specs.Conversing.{IsLast, EndsBy, Keeps, StepsTo}
+use Rattle.ldap_session.specs.Conversing.{IsLast, EndsBy, StepsTo}
+use Rattle.ldap_session.specs.private.Conversing.{Keeps}
 use Rattle.ldap_session.specs.declared.due.Step.{Step}
 use Rattle.ldap_session.specs.declared.due.Step.TheVariants.{Awaits, Answered, Ends}
 use Rattle.ldap_session.specs.declared.end.SessionEnd.{SessionEnd}

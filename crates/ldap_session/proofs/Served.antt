@@ -13,8 +13,9 @@ use Rattle.session_handler.specs.declared.answered.Next.TheVariants.{GoesOn}
 use Rattle.ldap_session.specs.Octets.{octets_of}
 use Rattle.ldap_session.specs.View.{SessionValue}
 use Rattle.ldap_session.specs.Progress.{Reached, IsAtLast}
-use Rattle.ldap_session.specs.Serving.{IsBetween, IsInside, IsAwaiting, Ends, IsRead, Served, IsCaughtUp, ComesTo}
-use Rattle.ldap_session.specs.Steps.{IsFlushed, HasFlushed, IsEarly, HasWorked, Takes, HasFed}
+use Rattle.ldap_session.specs.Serving.{IsBetween, IsInside, IsAwaiting, Ends, IsRead, Served, IsCaughtUp}
+use Rattle.ldap_session.specs.private.Serving.{ComesTo}
+use Rattle.ldap_session.specs.private.Steps.{IsFlushed, HasFlushed, IsEarly, HasWorked, Takes, HasFed}
 use Rattle.ldap_session.specs.declared.end.SessionEnd.{SessionEnd}
 use Rattle.ldap_session.specs.declared.end.SessionEnd.TheVariants.{Unbound, EndOfInput, Truncated, Disconnected, ReadFailed, WriteFailed, NoMemory}
 use Rattle.ldap_session.specs.declared.serving.Flow.{Flow}

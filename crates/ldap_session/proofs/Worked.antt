@@ -15,7 +15,7 @@ use Rattle.ldap_session.specs.View.{SessionValue, ConversationValue}
 use Rattle.ldap_session.specs.Progress.{TakesNext, IsWritten, IsIdle, Reached}
 use Rattle.ldap_session.specs.Serving.{IsStopped, Ends, IsCaughtUp}
 use Rattle.ldap_session.specs.Conversing.{IsLast, TakesTurn, TakesLast, GivesNotice}
-use Rattle.ldap_session.specs.Steps.{IsEarly, HasPutLast, HasWorked}
+use Rattle.ldap_session.specs.private.Steps.{IsEarly, HasPutLast, HasWorked}
 use Rattle.ldap_session.specs.declared.end.SessionEnd.{SessionEnd}
 use Rattle.ldap_session.specs.declared.end.SessionEnd.TheVariants.{Unbound, EndOfInput, Truncated, Disconnected, ReadFailed, WriteFailed, NoMemory}
 use Rattle.ldap_session.specs.declared.serving.Flow.TheVariants.{Goes, Ends as EndsWith}

@@ -5,7 +5,8 @@ use Rattle.std.proofs.KnownBytes.{Appends-nil, Appends-trans}
 use Rattle.std.specs.Io.KnownBytes.{Appends}
 use Rattle.session_handler.specs.ldap_msg.Messages.{MessageValue}
 use Rattle.session_handler.specs.ldap_msg.Written.{message_bytes}
-use Rattle.ldap_session.specs.Octets.{is_empty, joined, octets_of, IsFront, WritesSome, HasWritten}
+use Rattle.ldap_session.specs.Octets.{is_empty, joined, octets_of, IsFront, HasWritten}
+use Rattle.ldap_session.specs.private.Octets.{WritesSome}
 
 pub begun : (a : Option (List ℕ)) (octets : List ℕ) → WritesSome a a octets octets
 begun a octets = record { taken = []; grown = Appends-nil a; whole = refl }

@@ -101,17 +101,6 @@ pub record EndsBy (v w : ConversationValue) (octets : List ℕ) (next : Next) (e
   pub last : IsLast end next octets more
   pub end_is : w.end ≡ Some end
 
--- octets are kept behind what is unsent, and the conversation goes on or ends
-abbrev pub KeepsBy : ConversationValue → ConversationValue → List ℕ → Next → Step → Type 0
-KeepsBy v w octets next Awaits = ⊥
-KeepsBy v w octets next Answered = (next ≡ GoesOn) × (w.unsent ≡ v.unsent ++ octets) × (w.end ≡ None)
-KeepsBy v w octets next (Ends end) = EndsBy v w octets next end
-
--- a step that leaves the session as it was, with its output and what is next kept as KeepsBy says
-pub record Keeps (v w : ConversationValue) (octets : List ℕ) (next : Next) (step : Step) : Type 0 where
-  pub session : w.session ≡ v.session
-  pub keeps : KeepsBy v w octets next step
-
 -- the next message is answered
 pub record TakesTurn {D T : Type 0} (allows : D → Exchange T → D → Type 0) (c : ConfigValue) (v w : ConversationValue) (d e : D) : Type 0 where
   pub reaction : Reaction

@@ -3,10 +3,10 @@ pub mod Counting
 pub mod Octets
 pub mod Progress
 pub mod Serving
-pub mod Steps
 pub mod Visits
 pub mod Waiting
 pub mod View
+pub mod private
 -- what layers above name of the crates below
 pub use Rattle.session_handler.specs.ldap_msg as ldap_msg
 pub use Rattle.ldap_framer.specs as ldap_framer

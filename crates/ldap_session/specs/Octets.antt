@@ -21,22 +21,9 @@ pub record IsFront (front whole : List ℕ) : Type 0 where
   pub rest : List ℕ
   pub is : whole ≡ front ++ rest
 
--- a front of the octets was taken, and this is left
-pub record WritesSome (before after : Option (List ℕ)) (octets left : List ℕ) : Type 0 where
-  pub taken : List ℕ
-  pub grown : Appends before after taken
-  pub whole : octets ≡ taken ++ left
-
 -- a front of the octets was taken: all of them, where that is said
 pub record HasWritten (before after : Option (List ℕ)) (octets : List ℕ) (all : Bool) : Type 0 where
   pub taken : List ℕ
   pub grown : Appends before after taken
-  pub front : IsFront taken octets
-  pub whole : all ≡ true → taken ≡ octets
-
--- octets have grown by a front of others: by all of them, where that is said
-pub record HasGrown (old new octets : List ℕ) (all : Bool) : Type 0 where
-  pub taken : List ℕ
-  pub grown : new ≡ old ++ taken
   pub front : IsFront taken octets
   pub whole : all ≡ true → taken ≡ octets

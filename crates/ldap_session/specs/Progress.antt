@@ -13,7 +13,6 @@ use Rattle.session_handler.specs.declared.answered.Next.{Next}
 use Rattle.session_handler.specs.declared.answered.Next.TheVariants.{GoesOn, Disconnected}
 use Rattle.session_handler.specs.request_checks.declared.fault.AnswerError.{AnswerError}
 use Rattle.session_handler.specs.request_checks.declared.fault.AnswerError.TheVariants.{TooLong}
-use Rattle.session_handler.specs.ldap_fields.declared.fault.MsgFault.{MsgFault}
 use Rattle.ldap_session.specs.View.{SessionValue}
 use Rattle.ldap_session.specs.declared.end.SessionEnd.{SessionEnd}
 use Rattle.ldap_session.specs.declared.end.SessionEnd.TheVariants.{EndOfInput, Truncated}
@@ -71,12 +70,6 @@ pub record Reached {D T : Type 0} (shown : List MessageValue → List ℕ) (allo
   pub session : Session c at_first handed talk s.state responses GoesOn
   pub along : Along allows d talk e
   pub written_are : written ≡ shown responses
-
--- what stands where a message is to begin: nothing yet, or what is no message, which is answered by the notice
-abbrev pub IsNoMessage : Option MsgFault → Result (Option Answered) AnswerError → Type 0
-IsNoMessage fault (Ok None) = fault ≡ None
-IsNoMessage fault (Ok (Some given)) = (fault ≡ None → ⊥) × IsWritten given (notice ∷ []) Disconnected
-IsNoMessage fault (Err error) = (fault ≡ None → ⊥) × (error ≡ TooLong → ⊥)
 
 -- how a session ends where its stream does: between two messages, or inside one
 abbrev pub IsAtLast : SessionValue → SessionEnd → Type 0

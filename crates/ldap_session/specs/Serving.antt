@@ -13,11 +13,8 @@ use Rattle.session_handler.specs.declared.answered.Next.{Next}
 use Rattle.session_handler.specs.declared.answered.Next.TheVariants.{GoesOn, Unbound as UnboundNext, Disconnected as DisconnectedNext}
 use Rattle.ldap_session.specs.Octets.{octets_of, IsFront}
 use Rattle.ldap_session.specs.View.{SessionValue}
-use Rattle.ldap_session.specs.Progress.{Reached}
 use Rattle.ldap_session.specs.declared.end.SessionEnd.{SessionEnd}
 use Rattle.ldap_session.specs.declared.end.SessionEnd.TheVariants.{Unbound, EndOfInput, Truncated, Disconnected, ReadFailed, WriteFailed, NoMemory}
-use Rattle.ldap_session.specs.declared.serving.Flow.{Flow}
-use Rattle.ldap_session.specs.declared.serving.Flow.TheVariants.{Goes, Ends as EndsWith}
 
 -- what is no message stands behind the messages
 abbrev pub IsStopped : Ending → Type 0
@@ -121,8 +118,3 @@ pub record Served {D T : Type 0} (allows : D → Exchange T → D → Type 0) (c
 pub record IsCaughtUp (s : SessionValue) : Type 0 where
   pub none_ready : s.framed.ready ≡ []
   pub no_fault : s.framed.fault ≡ None
-
--- What a session comes to once a piece is read: it has answered every message and goes on, or it has ended.
-abbrev pub ComesTo : {D T : Type 0} → (D → Exchange T → D → Type 0) → ConfigValue → D → D → SessionValue → List ℕ → List ℕ → Flow → Type 0
-ComesTo allows c d e s read written Goes = Reached octets_of allows c d e s read written × IsCaughtUp s
-ComesTo allows c d e s read written (EndsWith end) = Ends octets_of allows c d e read written end

@@ -4,11 +4,13 @@ ghost use Rattle.std.specs.Prelude.{◌≡◌, ◌≤◌, ◌++◌, drop, length
 ghost use Rattle.std.specs.Bool.{OnTrue, OnFalse};
 ghost use Rattle.std.specs.Option.{option_map};
 ghost use Rattle.session_handler.specs.View.{config_view};
-ghost use Rattle.ldap_session.specs.Octets.{joined, HasGrown};
+ghost use Rattle.ldap_session.specs.Octets.{joined};
+ghost use Rattle.ldap_session.specs.private.Octets.{HasGrown};
 ghost use Rattle.ldap_session.specs.Progress.{IsAtLast};
 ghost use Rattle.ldap_session.specs.Waiting.{due, bind_next};
 ghost use Rattle.ldap_session.specs.View.{ConversationValue, conversation_view};
-ghost use Rattle.ldap_session.specs.Conversing.{IsFresh, Hears, Keeps, StepsTo, StaysOver, Continues};
+ghost use Rattle.ldap_session.specs.Conversing.{IsFresh, Hears, StepsTo, StaysOver, Continues};
+ghost use Rattle.ldap_session.specs.private.Conversing.{Keeps};
 
 use crate::due::{Due, Step};
 use crate::end::SessionEnd;

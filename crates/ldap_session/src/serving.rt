@@ -6,7 +6,7 @@ ghost use Rattle.session_handler.specs.View.{config_view};
 ghost use Rattle.ldap_session.specs.Octets.{HasWritten};
 ghost use Rattle.ldap_session.specs.View.{conversation_view};
 ghost use Rattle.ldap_session.specs.Serving.{Served};
-ghost use Rattle.ldap_session.specs.Steps.{HasPutLast, HasGot, HasWorked, HasFlushed, HasFed, IsAllSent, OnGoing};
+ghost use Rattle.ldap_session.specs.private.Steps.{HasPutLast, HasGot, HasWorked, HasFlushed, HasFed, IsAllSent, OnGoing};
 
 use crate::conversation::Conversation;
 use crate::due::{Due, Step};

@@ -7,7 +7,8 @@ ghost use Rattle.ldap_framer.specs.Framed.{HasSeen};
 ghost use Rattle.session_handler.specs.Session.{at_first};
 ghost use Rattle.session_handler.specs.View.{config_view};
 ghost use Rattle.ldap_session.specs.View.{session_view};
-ghost use Rattle.ldap_session.specs.Progress.{Answers, IsNoMessage, IsAtLast};
+ghost use Rattle.ldap_session.specs.Progress.{Answers, IsAtLast};
+ghost use Rattle.ldap_session.specs.private.Progress.{IsNoMessage};
 ghost use Rattle.ldap_session.specs.Waiting.{is_update, due_at_last, due_of, bind_name_in, bind_of};
 ghost use Rattle.session_handler.specs.ldap_msg.View.{view};
 

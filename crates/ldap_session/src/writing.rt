@@ -1,7 +1,8 @@
 // Octets written. Octets and a writer flow in; whether they were all taken flows out. What must not be here: messages.
 ghost use Rattle.std.specs.Prelude.{◌≡◌, [], IfSome, IfNone};
 ghost use Rattle.std.specs.Io.KnownBytes.{Appends};
-ghost use Rattle.ldap_session.specs.Octets.{is_empty, HasWritten, WritesSome};
+ghost use Rattle.ldap_session.specs.Octets.{is_empty, HasWritten};
+ghost use Rattle.ldap_session.specs.private.Octets.{WritesSome};
 
 use std::io::{ErrorKind, Write};
 

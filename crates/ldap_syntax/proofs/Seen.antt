@@ -17,7 +17,7 @@ use Rattle.ldap_words.specs.declared.rule.Syntax.TheVariants as syntax
 use Rattle.ldap_syntax.specs.declared.plain.Style.{Style}
 use Rattle.ldap_syntax.specs.declared.plain.Style.TheVariants as style
 use Rattle.ldap_syntax.specs.declared.preparing.Part.TheVariants.{Whole}
-use Rattle.ldap_syntax.specs.Seen.{are_seen, are_seen_behind}
+use Rattle.ldap_syntax.specs.private.Seen.{are_seen, are_seen_behind}
 use Rattle.ldap_syntax.specs.Text.{is_white, is_control, mapped_character, mapped, normal, folded, words, joined, spaced, spaced_words, prepared}
 use Rattle.ldap_syntax.specs.Meaning.{spelled}
 use Rattle.ldap_syntax.specs.Keys.{key_in, key_at}

@@ -1,5 +1,5 @@
 -- What a key is seen as.
-use Rattle.std.specs.Prelude.{ℕ, ◌≤◌, List, take}
+use Rattle.std.specs.Prelude.{ℕ, List, take}
 use Rattle.ldap_syntax.specs.declared.key.Held.{Held}
 use Rattle.ldap_syntax.specs.declared.key.Held.TheVariants.{Short, Long}
 
@@ -7,8 +7,3 @@ use Rattle.ldap_syntax.specs.declared.key.Held.TheVariants.{Short, Long}
 abbrev pub octets_in : Held → List ℕ
 octets_in (Short n room) = take n room
 octets_in (Long all) = all.items
-
--- no more octets count than there is room for
-abbrev pub IsWithinRoom : Held → Type 0
-IsWithinRoom (Short n room) = n ≤ 30
-IsWithinRoom (Long all) = Unit {0}

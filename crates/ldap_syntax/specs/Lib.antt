@@ -7,6 +7,6 @@ pub mod Parts
 pub mod Keys
 pub mod Forms
 pub mod Styles
-pub mod Seen
+pub mod private
 -- what layers above name of the crates below
 pub use Rattle.ldap_words.specs as ldap_words

@@ -2,7 +2,7 @@
 // What must not be here: which types support which rules, entries.
 
 ghost use Rattle.std.specs.Prelude.{◌≡◌, IfOk};
-ghost use Rattle.ldap_syntax.specs.Seen.{are_seen as are_octets_seen};
+ghost use Rattle.ldap_syntax.specs.private.Seen.{are_seen as are_octets_seen};
 ghost use Rattle.ldap_syntax.specs.Forms.{form_of, form_meets, has_met, TextsTell};
 
 use crate::admitting::is_in_syntax;

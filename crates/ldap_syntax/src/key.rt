@@ -44,7 +44,8 @@ impl Drop for Key {
 
 impl Model for Key {
     ghost use Rattle.std.specs.Prelude.{ℕ, List};
-    ghost use Rattle.ldap_syntax.specs.KeyOctets.{octets_in, IsWithinRoom};
+    ghost use Rattle.ldap_syntax.specs.KeyOctets.{octets_in};
+    ghost use Rattle.ldap_syntax.specs.private.KeyOctets.{IsWithinRoom};
 
     ghost Value = { List ℕ };
 

@@ -9,7 +9,8 @@ use Rattle.std.specs.Str.{bytes_eq}
 use Rattle.std.proofs.lemmas.Bool.Decides.{nat_tests}
 use Rattle.std.proofs.lemmas.Slice.Eq.{bytes_eq-Decides}
 use Rattle.std.proofs.lemmas.Map.Text.{is_eq-slice_cmp}
-use Rattle.ldap_words.specs.NameOrder.{number_at, kept_or, lower}
+use Rattle.ldap_words.specs.NameOrder.{number_at, lower}
+use Rattle.ldap_words.specs.private.NameOrder.{kept_or}
 
 -- the element at a place and what stands behind it
 pub opened : {A : Type 0} (xs : List A) (i : ℕ) (x : A) → i < length xs → x ≡ get_or xs i x → drop i xs ≡ x ∷ drop (i + 1) xs

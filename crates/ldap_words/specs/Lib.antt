@@ -6,3 +6,4 @@ pub mod NameOrder
 pub mod Identifiers
 pub mod Families
 pub mod RulesByName
+pub mod private

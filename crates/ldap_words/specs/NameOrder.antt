@@ -1,12 +1,10 @@
 -- Octets in order, and numbers that are kept at octets, as those of names are. Octets flow in, numbers flow out; what has a name is not here.
-use Rattle.std.specs.Prelude.{ℕ, List, Option, None, Some, Bool, cond, Vec, nat_lt, map}
+use Rattle.std.specs.Prelude.{ℕ, List, Option, None, Some, cond, Vec, nat_lt}
 use Rattle.std.specs.Ordering.{nat_cmp}
 use Rattle.std.specs.declared.cmp.Ordering.{Ordering}
 use Rattle.std.specs.declared.alloc.Global.{Global}
 use Rattle.std.specs.Cmp.Lexicographic.{slice_cmp}
-use Rattle.std.specs.List.{list_any}
 use Rattle.std.specs.Map.{lookup}
-use Rattle.std.specs.Char.{to_ascii_lowercase}
 use Rattle.std.specs.Str.{bytes_eq}
 
 -- octet by octet, and octets before what they begin
@@ -17,11 +15,6 @@ order = slice_cmp nat_cmp
 abbrev pub number_at : List (Vec ℕ Global × ℕ) → List ℕ → Option ℕ
 number_at entries q = lookup (λ (k : Vec ℕ Global). bytes_eq q k.items) entries
 
--- what was there, else the new number
-abbrev pub kept_or : Option ℕ → Bool → ℕ → Option ℕ
-kept_or None is n = cond is (Some n) None
-kept_or (Some m) is n = Some m
-
 -- the lower of a number and another one, where there is another
 abbrev pub lower_than : ℕ → Option ℕ → Option ℕ
 lower_than n None = Some n
@@ -31,7 +24,3 @@ lower_than n (Some m) = Some (cond (nat_lt m n) m n)
 abbrev pub lower : Option ℕ → Option ℕ → Option ℕ
 lower None m = m
 lower (Some n) m = lower_than n m
-
--- one of the names is this one in lower case
-abbrev pub has_name : List ℕ → List (List ℕ) → Bool
-has_name folded names = list_any (λ n. bytes_eq folded (map to_ascii_lowercase n)) names

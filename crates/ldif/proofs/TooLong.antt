@@ -3,7 +3,8 @@ use Rattle.std.proofs.Common.{◌≡◌, ℕ, suc, ◌+◌, ◌<◌, ◌≤◌, 
 use Rattle.ldif.specs.Records.{RecordModel}
 use Rattle.ldap_msg.specs.Written.{message_content}
 use Rattle.ldif.specs.Adds.{add_message, adds_from}
-use Rattle.ldif.specs.Imports.{HasTooLong, IsPutFault, IsAskFault}
+use Rattle.ldif.specs.Imports.{HasTooLong, IsAskFault}
+use Rattle.ldif.specs.private.Imports.{IsPutFault}
 use Rattle.ldif.specs.declared.refusals.ImportError.{ImportError}
 use Rattle.ldif.specs.declared.refusals.ImportError.TheVariants.{BadLdif, TooLong, TooManyRecords, NoMemory}
 

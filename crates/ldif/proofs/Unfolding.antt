@@ -1,7 +1,7 @@
 -- LDIF: a part put behind lines, whatever follows.
 use Rattle.std.proofs.Common.{◌≡◌, ◌≤◌, ℕ, zero, suc, List, [], ◌∷◌, ◌++◌, length, drop, arith, Bool, true, false, cond, nat_eq, refl, sym, ap, ◌∙◌, append_assoc}
 use Rattle.ldif.specs.Lines.{LineModel, continues, before, folded}
-use Rattle.ldif.specs.Folding.{resumed, Puts}
+use Rattle.ldif.specs.private.Folding.{resumed, Puts}
 
 abbrev line : ℕ → List ℕ → LineModel
 line n t = record { number = n; text = t }

@@ -1,17 +1,12 @@
 -- LDIF: what a refusal says.
 -- In: a refusal, and a line or a text. Out: what is so where it comes. Not here: what lines say.
-use Rattle.std.specs.Prelude.{◌≡◌, ℕ, List, Option, None}
+use Rattle.std.specs.Prelude.{◌≡◌, ℕ, List}
 use Rattle.std.specs.declared.result.Result.{Result}
 use Rattle.std.specs.declared.result.Result.TheVariants.{Err}
 use Rattle.ldif.specs.Records.{RecordModel}
-use Rattle.ldif.specs.Reading.{ReadingModel, records_of}
+use Rattle.ldif.specs.Reading.{records_of}
 use Rattle.ldif.specs.declared.fault.LdifError.{LdifError}
 use Rattle.ldif.specs.declared.fault.LdifError.TheVariants.{BadLdif, NoMemory}
-
--- why a line is not taken: it has no meaning where it stands, or memory ran out
-abbrev pub IsLineFault : LdifError → Option ReadingModel → ℕ → Type 0
-IsLineFault (BadLdif line) after n = (after ≡ None) × (line ≡ n)
-IsLineFault NoMemory after n = Unit {0}
 
 -- why lines give no records: the first that is wrong, or memory ran out
 abbrev pub IsLinesFault : LdifError → Result (List RecordModel) ℕ → Type 0

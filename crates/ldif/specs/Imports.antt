@@ -9,26 +9,12 @@ use Rattle.ldif.specs.declared.refusals.ImportError.{ImportError}
 use Rattle.ldif.specs.declared.refusals.ImportError.TheVariants.{BadLdif, TooLong, TooManyRecords, NoMemory}
 pub use Rattle.ldap_msg.specs.Limits.{HasTooLong}
 
--- why a message is not written: its content is too long, or memory ran out
-abbrev pub IsPutFault : ImportError → List ℕ → Type 0
-IsPutFault (BadLdif line) content = ⊥
-IsPutFault TooLong content = 2 ^ 32 ≤ length content
-IsPutFault TooManyRecords content = ⊥
-IsPutFault NoMemory content = Unit {0}
-
 -- why records give no lines
 abbrev pub IsAskFault : ImportError → List RecordModel → Type 0
 IsAskFault (BadLdif line) rs = ⊥
 IsAskFault TooLong rs = HasTooLong (adds_from 1 rs)
 IsAskFault TooManyRecords rs = 2 ^ 31 ≤ length rs
 IsAskFault NoMemory rs = Unit {0}
-
--- why a text has no records: its first line that is no LDIF, or memory ran out
-abbrev pub IsReadFault : ImportError → List ℕ → Type 0
-IsReadFault (BadLdif line) text = records_of text ≡ Err line
-IsReadFault TooLong text = ⊥
-IsReadFault TooManyRecords text = ⊥
-IsReadFault NoMemory text = Unit {0}
 
 -- What is written of a text of LDIF: the adds of its records, each a line, with messageIDs from 1 on.
 pub record IsImport (text out : List ℕ) : Type 0 where

@@ -5,7 +5,8 @@ ghost use Rattle.std.specs.Prelude.{◌≡◌, ◌≤◌, ◌<◌, ◌+◌, ◌^
 ghost use Rattle.ldap_msg.specs.Written.{message_bytes, message_content};
 ghost use Rattle.ldif.specs.Adds.{add_message, adds_from};
 ghost use Rattle.ldif.specs.HexLines.{hex_line, message_lines};
-ghost use Rattle.ldif.specs.Imports.{IsAskFault, IsPutFault};
+ghost use Rattle.ldif.specs.Imports.{IsAskFault};
+ghost use Rattle.ldif.specs.private.Imports.{IsPutFault};
 
 use crate::adding::add_of;
 use crate::hex_lines::put_hex_line;

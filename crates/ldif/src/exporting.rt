@@ -2,7 +2,7 @@
 //! In: lines of hex. Out: a text of LDIF, or why there is none. Not here: where the lines come from.
 
 ghost use Rattle.std.specs.Prelude.{◌≡◌, IfOk, IfErr};
-ghost use Rattle.ldif.specs.HexFaults.{IsHexFault};
+ghost use Rattle.ldif.specs.private.HexFaults.{IsHexFault};
 ghost use Rattle.ldif.specs.Written.{ldif_text};
 ghost use Rattle.ldif.specs.Exports.{AreMeant, IsExport, IsExportFault, entries_in};
 

@@ -7,7 +7,7 @@ ghost use Rattle.std.specs.Result.{result_ok};
 ghost use Rattle.hex.specs.Hex.{decode_of};
 ghost use Rattle.ldif.specs.Lines as lines;
 ghost use Rattle.ldif.specs.HexLines as specs;
-ghost use Rattle.ldif.specs.HexFaults.{IsHexFault, IsLineFault};
+ghost use Rattle.ldif.specs.private.HexFaults.{IsHexFault, IsLineFault};
 
 use crate::lines::{line_parts, without_return};
 use crate::refusals::ExportError;

@@ -3,7 +3,8 @@
 
 ghost use Rattle.std.specs.Prelude.{◌≡◌, Ok, IfOk, IfErr};
 ghost use Rattle.ldif.specs.Reading.{records_of};
-ghost use Rattle.ldif.specs.Imports.{IsImport, IsImportFault, IsReadFault};
+ghost use Rattle.ldif.specs.Imports.{IsImport, IsImportFault};
+ghost use Rattle.ldif.specs.private.Imports.{IsReadFault};
 
 use crate::asking::add_lines;
 use crate::fault::LdifError;

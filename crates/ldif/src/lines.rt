@@ -4,7 +4,7 @@
 ghost use Rattle.std.specs.Prelude.{◌≡◌, ◌++◌, map, drop, length, nat_eq, true, false, IfOk, OnOk, OnErr, MatchOption};
 ghost use Rattle.std.specs.List.{slice_split};
 ghost use Rattle.ldif.specs.Lines as lines;
-ghost use Rattle.ldif.specs.Folding as folding;
+ghost use Rattle.ldif.specs.private.Folding as folding;
 
 use std::alloc::{AllocError, Global};
 use std::marker::Model;

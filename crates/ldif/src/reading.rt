@@ -6,7 +6,8 @@ ghost use Rattle.ldif.specs.Reading as specs;
 ghost use Rattle.ldif.specs.Says.{line_says};
 ghost use Rattle.ldif.specs.RoundTrip.{RecordsReturn};
 ghost use Rattle.ldif.specs.Content.{RecordsAreOfText};
-ghost use Rattle.ldif.specs.Faults.{IsLineFault, IsLinesFault, IsReadFault};
+ghost use Rattle.ldif.specs.Faults.{IsLinesFault, IsReadFault};
+ghost use Rattle.ldif.specs.private.Faults.{IsLineFault};
 
 use crate::fault::LdifError;
 use crate::lines::{Line, lines_of};

@@ -3,8 +3,8 @@
 
 ghost use Rattle.std.specs.Prelude.{◌≡◌, Some, IfOk, IfErr, OnOk, OnErr, string_bytes};
 ghost use Rattle.ldif.specs.Reading as specs;
-ghost use Rattle.ldif.specs.Said.{said_of};
-ghost use Rattle.ldif.specs.Faults.{IsLineFault};
+ghost use Rattle.ldif.specs.private.Said.{said_of};
+ghost use Rattle.ldif.specs.private.Faults.{IsLineFault};
 
 use crate::fault::LdifError;
 use crate::record::{AttributeValue, Record};

@@ -7,7 +7,7 @@ ghost use Rattle.std.specs.Str.{is_utf8};
 ghost use Rattle.base64.specs.Engines.{standard};
 ghost use Rattle.base64.specs.GeneralPurpose.{decode_of};
 ghost use Rattle.ldif.specs.Says as says;
-ghost use Rattle.ldif.specs.Said.{said_of};
+ghost use Rattle.ldif.specs.private.Said.{said_of};
 
 use crate::describing::{is_dn, is_type};
 use crate::record::AttributeValue;

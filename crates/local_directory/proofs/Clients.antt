@@ -10,7 +10,7 @@ use Rattle.std.specs.Map.{lookup}
 pub use Rattle.directory_api.proofs.log_entry.Clients.{exact_clients, clients_total}
 use Rattle.directory_api.specs.log_entry.declared.words.Client.{Client}
 use Rattle.local_directory.specs.declared.kept.Kept.{Kept}
-use Rattle.local_directory.specs.ClientOrder.{client_cmp}
+use Rattle.local_directory.specs.private.ClientOrder.{client_cmp}
 use Rattle.local_directory.specs.Latest.{KeptValue}
 use Rattle.local_directory.specs.View.{kept_view, entries_view}
 

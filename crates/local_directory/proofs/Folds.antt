@@ -11,7 +11,7 @@ use Rattle.directory_api.specs.Answers.{ReplyModel}
 use Rattle.dir_store.specs.Updates.{reply_to, directory_after, replies_after}
 use Rattle.directory_api.specs.log_entry.declared.words.Client.{Client}
 use Rattle.directory_api.specs.Talk.{EndedValue, done, stale, lost, refused_memory, Exchange, asked_role, learned, searched, compared, updated, Along, ends, goes}
-use Rattle.local_directory.specs.ClientOrder.{client_cmp}
+use Rattle.local_directory.specs.private.ClientOrder.{client_cmp}
 use Rattle.local_directory.specs.Latest.{KeptValue, Standing, older, repeated, newer, standing}
 use Rattle.local_directory.specs.Local.{LocalValue}
 use Rattle.local_directory.specs.Allows.{allows, Ends, outcome_by, made_as, unchanged, greatest}

@@ -6,8 +6,8 @@ use Rattle.std.specs.Ordering.{is_eq, eq_by_cmp}
 use Rattle.std.specs.Cmp.{eq_by_cmp_equiv}
 use Rattle.std.specs.FinMap.{FinMap, get, insert, get-insert, get-remove, get_tied, same_map}
 use Rattle.directory_api.specs.log_entry.declared.words.Client.{Client}
-use Rattle.local_directory.specs.ClientOrder.{client_cmp}
-use Rattle.local_directory.specs.Changes.{with_kept}
+use Rattle.local_directory.specs.private.ClientOrder.{client_cmp}
+use Rattle.local_directory.specs.private.Changes.{with_kept}
 use Rattle.local_directory.specs.Latest.{KeptValue}
 use Rattle.local_directory.proofs.Clients.{exact_clients, clients_total}
 

@@ -1,13 +1,11 @@
 -- LDIF and the directory: records added to a directory.
 -- In: a directory and records. Out: their adds, and the first that is refused. Not here: how an add is judged, texts.
-use Rattle.std.specs.Prelude.{◌≡◌, ℕ, ◌+◌, List, [], ◌∷◌, Bool, false, cond, nat_eq, Option, None, Some}
+use Rattle.std.specs.Prelude.{ℕ, ◌+◌, List, [], ◌∷◌, cond, nat_eq, Option, None, Some}
 use Rattle.ldif.specs.Records.{RecordModel}
 use Rattle.ldif.specs.Adds.{add_of}
 use Rattle.directory_api.specs.ldap_op.Values.{OpValue, add}
 use Rattle.dir_store.specs.indexed_tree.Directory.{Directory}
 use Rattle.dir_store.specs.Updates.{applied, reply_to}
-use Rattle.local_directory.specs.declared.fault.SearchError.{SearchError}
-use Rattle.local_directory.specs.declared.fault.SearchError.TheVariants.{BadLdif, Refused, Code, NoMemory}
 
 -- the adds of records (RFC 4511 4.7)
 abbrev pub adds : List RecordModel → List OpValue
@@ -27,17 +25,3 @@ refusal_or number code rest = cond (nat_eq code 0) rest (Some (record { number =
 abbrev pub first_refused : Directory → ℕ → List OpValue → Option Refusal
 first_refused d number [] = None
 first_refused d number (op ∷ ops) = refusal_or (number + 1) (reply_to d (number + 1) op).code (first_refused (applied d (number + 1) op) (number + 1) ops)
-
--- why a record is not added: it is refused, with this number and code, or memory ran out
-abbrev pub IsPutFault : SearchError → ℕ → ℕ → Type 0
-IsPutFault (BadLdif line) n k = ⊥
-IsPutFault (Refused number code) n k = (number ≡ n) × (code ≡ k) × (nat_eq k 0 ≡ false)
-IsPutFault (Code number) n k = ⊥
-IsPutFault NoMemory n k = Unit {0}
-
--- why records are not all added: the first that is refused, or memory ran out
-abbrev pub IsAddFault : SearchError → Directory → List RecordModel → Type 0
-IsAddFault (BadLdif line) d rs = ⊥
-IsAddFault (Refused number code) d rs = first_refused d 0 (adds rs) ≡ Some (record { number = number; code = code })
-IsAddFault (Code number) d rs = ⊥
-IsAddFault NoMemory d rs = Unit {0}

@@ -1,6 +1,4 @@
 pub mod Latest
-pub mod ClientOrder
-pub mod Changes
 pub mod View
 pub mod Local
 pub mod Allows
@@ -9,6 +7,7 @@ pub mod Added
 pub mod Checked
 pub mod Searched
 pub mod Filled
+pub mod private
 -- what layers above name of the crates below
 pub use Rattle.directory_api.specs.ldap_requests as ldap_requests
 pub use Rattle.directory_api.specs.ldap_op as ldap_op

@@ -59,11 +59,6 @@ IsReadFault (Refused number code) text = ⊥
 IsReadFault (Code number) text = ⊥
 IsReadFault NoMemory text = Unit {0}
 
--- an answer with success, and its text
-pub record IsShown (a : Answer) (out : List ℕ) : Type 0 where
-  pub success : a.code ≡ 0
-  pub written : out ≡ answer_text a
-
 -- why an answer has no text: its code is not success, or memory ran out
 abbrev pub IsShowFault : SearchError → Answer → Type 0
 IsShowFault (BadLdif line) a = ⊥

@@ -6,7 +6,8 @@ ghost use Rattle.directory_api.specs.ldap_op.Values.{add as add_op};
 ghost use Rattle.dir_store.specs.indexed_tree.Stored.{NumbersBelow};
 ghost use Rattle.dir_store.specs.Updates.{applied, reply_to, directory_after};
 ghost use Rattle.ldif.specs.Adds.{add_of as add_value};
-ghost use Rattle.local_directory.specs.Added.{adds, first_refused, IsPutFault, IsAddFault};
+ghost use Rattle.local_directory.specs.Added.{adds, first_refused};
+ghost use Rattle.local_directory.specs.private.Added.{IsPutFault, IsAddFault};
 
 use crate::fault::SearchError;
 use dir_store::Store;

@@ -4,7 +4,7 @@ ghost use Rattle.std.specs.Prelude.{◌≡◌, IfOk, OnOk, OnErr, Some, is_some,
 ghost use Rattle.std.specs.Option.{option_map};
 ghost use Rattle.std.specs.FinMap as map;
 ghost use Rattle.local_directory.specs.View.{kept_view};
-ghost use Rattle.local_directory.specs.Changes.{with_kept};
+ghost use Rattle.local_directory.specs.private.Changes.{with_kept};
 
 use crate::kept::Kept;
 use directory_api::Client;
@@ -20,7 +20,7 @@ pub struct ClientTable {
 
 impl Model for ClientTable {
     ghost use Rattle.std.specs.FinMap as map;
-    ghost use Rattle.local_directory.specs.ClientOrder.{client_cmp, coded_table};
+    ghost use Rattle.local_directory.specs.private.ClientOrder.{client_cmp, coded_table};
     ghost use Rattle.local_directory.specs.Latest.{KeptValue};
     ghost use Rattle.local_directory.specs.View.{entries_view};
 

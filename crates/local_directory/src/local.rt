@@ -45,7 +45,7 @@ impl Model for LocalDirectory {
     ghost use Rattle.std.specs.Prelude.{◌+◌};
     ghost use Rattle.dir_store.specs.indexed_tree.Stored.{NumbersBelow};
     ghost use Rattle.std.specs.Coded.{codes};
-    ghost use Rattle.local_directory.specs.ClientOrder.{coded_table};
+    ghost use Rattle.local_directory.specs.private.ClientOrder.{coded_table};
     ghost use Rattle.local_directory.specs.Local.{LocalValue};
 
     ghost Value = { LocalValue };

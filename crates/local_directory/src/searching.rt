@@ -8,7 +8,8 @@ ghost use Rattle.dir_store.specs.indexed_tree.Stored.{NumbersBelow};
 ghost use Rattle.dir_search.specs.Answer.{answer as answer_of};
 ghost use Rattle.dir_search.specs.Counted.{IsCountOf};
 ghost use Rattle.local_directory.specs.Filled.{IsFilled, IsFillFault};
-ghost use Rattle.local_directory.specs.Searched.{IsShown, IsShowFault, IsReadFault, IsSearched, IsSearchFault};
+ghost use Rattle.local_directory.specs.Searched.{IsShowFault, IsReadFault, IsSearched, IsSearchFault};
+ghost use Rattle.local_directory.specs.private.Searched.{IsShown};
 
 use crate::adding::add_records;
 use crate::fault::SearchError;

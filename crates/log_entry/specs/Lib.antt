@@ -1,1 +1,2 @@
 pub mod ClientOrder
+pub mod private

@@ -2,7 +2,7 @@
 use Rattle.std.proofs.Common.{◌≡◌, ◌<◌, ◌+◌, ◌^◌, ℕ, List, [], ◌∷◌, ◌++◌, length, sym, ap, ◌∙◌, subst, arith, append_assoc, length-append}
 use Rattle.std.proofs.lemmas.List.{append-nil}
 use Rattle.journal.specs.Frames.{frame, frames, recorded, FramesAreRead}
-use Rattle.log_journal.specs.Framed.{IsFramed}
+use Rattle.log_journal.specs.private.Framed.{IsFramed}
 
 frames_more : (bs : List (List ℕ)) (s : List ℕ) → frames (bs ++ s ∷ []) ≡ frames bs ++ frame s
 frames_more [] s = append-nil (frame s)

@@ -6,7 +6,8 @@ use Rattle.journal.specs.Reading.{ReadsNext, ReadsNone, string_read}
 use Rattle.journal.specs.declared.reader.StringReader.{StringReader}
 use Rattle.log_journal.specs.Found.{HasAnotherVersion, IsOfAnotherVersion}
 use Rattle.log_journal.specs.Refused.{HasDamage, IsDamaged}
-use Rattle.log_journal.specs.Told.{Told, TakesString, Tells, nothing_told}
+use Rattle.log_journal.specs.Told.{Told, Tells, nothing_told}
+use Rattle.log_journal.specs.private.Told.{TakesString}
 
 -- What is told so far, up to a place of an image.
 pub record IsTelling (image : List ℕ) (end : ℕ) (t : Told) : Type 0 where

@@ -5,7 +5,7 @@ use Rattle.vr_state.specs.Words.{LogEntry}
 use Rattle.vr_state.specs.Journaled as journaled
 use Rattle.log_journal.specs.Fields.{Fields}
 use Rattle.log_journal.specs.Notes.{Step, IsEntryIn}
-use Rattle.log_journal.specs.Refused.{AreNoEntry, AreNoNote}
+use Rattle.log_journal.specs.private.Refused.{AreNoEntry, AreNoNote}
 use Rattle.log_journal.proofs.OneTold.{kind_is, step_kind_is}
 
 module _ (f : Fields) where

@@ -6,7 +6,7 @@ use Rattle.std.specs.Bool.{OnFalse}
 use Rattle.std.specs.Str.{bytes_eq}
 use Rattle.ldap_op.specs.Values.{OpValue}
 use Rattle.ldap_op.specs.Written.{IsSpelled, op_bytes}
-use Rattle.log_journal.specs.Apart.{AreUpdatesApart}
+use Rattle.log_journal.specs.private.Apart.{AreUpdatesApart}
 
 pub octets_differ : (b : Bool) (one other : OpValue) (x y : List ℕ) → IsSpelled one x → IsSpelled other y → b ≡ bytes_eq x y → OnFalse b (AreUpdatesApart one other)
 octets_differ b one other x y p q is = OnFalse_from b (AreUpdatesApart one other) (λ off. inl (λ e.

@@ -5,8 +5,10 @@ use Rattle.ldap_op.specs.Values.{OpValue}
 use Rattle.vr_state.specs.State.{State, is_normal}
 use Rattle.vr_state.specs.Journaled as journaled
 use Rattle.log_journal.specs.Fields.{Fields}
-use Rattle.log_journal.specs.Notes.{Note, Step, IsNoteIn, PutsFields, Puts}
-use Rattle.log_journal.specs.Refused.{HasNoRoom, HasNoRoomFor}
+use Rattle.log_journal.specs.Notes.{Note, Step, IsNoteIn, Puts}
+use Rattle.log_journal.specs.private.Notes.{PutsFields}
+use Rattle.log_journal.specs.Refused.{HasNoRoom}
+use Rattle.log_journal.specs.private.Refused.{HasNoRoomFor}
 use Rattle.log_journal.specs.Steps.{grown, adopted, entered, only_grew, notes_since}
 use Rattle.log_journal.specs.declared.steps.Before.{Before}
 use Rattle.log_journal.proofs.ToldOn.{spell_both}

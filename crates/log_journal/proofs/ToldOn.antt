@@ -5,7 +5,8 @@ use Rattle.std.proofs.lemmas.List.{take-map, map_more}
 use Rattle.ldap_op.specs.Values.{OpValue}
 use Rattle.vr_state.specs.Journaled as journaled
 use Rattle.log_journal.specs.Notes.{Note, Step, Spells, SpellAll}
-use Rattle.log_journal.specs.Told.{Told, told_by, Tells, TakesString}
+use Rattle.log_journal.specs.Told.{Told, told_by, Tells}
+use Rattle.log_journal.specs.private.Told.{TakesString}
 use Rattle.log_journal.specs.Batches.{BatchesAreTold, ToldGoesOn, notes_of_batch}
 
 -- one string more

@@ -4,10 +4,6 @@ use Rattle.ldap_op.specs.Values.{OpValue}
 use Rattle.ldap_op.specs.Written.{HasNoSpelling}
 use Rattle.vr_state.specs.Words.{LogEntry}
 
--- Two updates differ, or one of them has no spelling.
-abbrev pub AreUpdatesApart : OpValue → OpValue → Type 0
-AreUpdatesApart one other = (one ≢ other) ⊎ (HasNoSpelling one ⊎ HasNoSpelling other)
-
 -- Two records differ, or the update of one of them has no spelling.
 abbrev pub AreApart : LogEntry OpValue → LogEntry OpValue → Type 0
 AreApart one other = (one ≢ other) ⊎ (HasNoSpelling one.payload ⊎ HasNoSpelling other.payload)

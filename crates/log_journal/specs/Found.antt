@@ -1,9 +1,7 @@
 -- What opening a journal finds, and why it is refused as one of another version.
-use Rattle.std.specs.Prelude.{◌≡◌, ◌≢◌, ℕ, Bool, true, false, List, [], ◌∷◌, ◌++◌, Option, Some, None}
-use Rattle.journal.specs.Reading.{ReadsNext, ReadsNone, string_read}
-use Rattle.journal.specs.declared.reader.StringReader.{StringReader}
+use Rattle.std.specs.Prelude.{◌≡◌, ◌≢◌, ℕ, List, [], ◌∷◌, ◌++◌, Option, Some, None}
 use Rattle.log_journal.specs.Fields.{Fields, fields_at}
-use Rattle.log_journal.specs.Told.{Told, TakesString, Tells, nothing_told}
+use Rattle.log_journal.specs.Told.{Tells, nothing_told}
 use Rattle.log_journal.specs.Views.{told_view}
 use Rattle.log_journal.specs.declared.told.Told as held
 
@@ -26,8 +24,3 @@ pub record HasAnotherVersion (strings : List (List ℕ)) : Type 0 where
   pub behind : List (List ℕ)
   pub is : strings ≡ before ++ string ∷ behind
   pub of : IsOfAnotherVersion string
-
--- The next string of an image is read and taken, or there is none.
-abbrev pub TellsNext : Bool → StringReader → StringReader → Told → Told → List ℕ → Type 0
-TellsNext true old new t u image = ReadsNext old new image × TakesString (string_read new) t u
-TellsNext false old new t u image = ReadsNone old new image × (u ≡ t)

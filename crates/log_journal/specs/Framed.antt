@@ -1,11 +1,6 @@
 -- The octets of a batch: the frames of its strings, and not so many that a length couldn't say it.
-use Rattle.std.specs.Prelude.{◌≡◌, ◌<◌, ◌≤◌, ◌^◌, ℕ, List, length}
-use Rattle.journal.specs.Frames.{frames, recorded}
-
--- Octets are the frames of the strings that they stand for, and fewer than 2 ^ 35.
-pub record IsFramed (octets : List ℕ) : Type 0 where
-  pub framed : octets ≡ frames (recorded octets)
-  pub short : length octets < 2 ^ 35
+use Rattle.std.specs.Prelude.{◌≤◌, ◌^◌, ℕ, List, length}
+use Rattle.journal.specs.Frames.{frames}
 
 -- The frames of strings take 2 ^ 35 octets or more.
 abbrev pub AreTooLong : List (List ℕ) → Type 0

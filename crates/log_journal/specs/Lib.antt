@@ -10,6 +10,7 @@ pub mod Steps
 pub mod Taken
 pub mod Told
 pub mod Views
+pub mod private
 -- what layers above name of the crates below
 pub use Rattle.journal.specs as journal
 pub use Rattle.vr_state.specs as vr_state

@@ -61,12 +61,6 @@ SpellAll [] [] = Unit {0}
 SpellAll (x ∷ xs) (s ∷ ss) = Spells x s × SpellAll xs ss
 SpellAll _ _ = ⊥
 
--- The new strings are the old ones and then one with these fields.
-pub record PutsFields (f : Fields) (old new : List (List ℕ)) : Type 0 where
-  pub string : List ℕ
-  pub is : new ≡ old ++ string ∷ []
-  pub read : fields_at string ≡ Some f
-
 -- The new strings are the old ones and then those of these notes.
 pub record Puts (xs : List Note) (old new : List (List ℕ)) : Type 0 where
   pub strings : List (List ℕ)

@@ -1,11 +1,8 @@
 -- Why a note isn't taken, put or settled: it is of another version, or its fields are of no note, or there is no room for it.
-use Rattle.std.specs.Prelude.{◌≡◌, ◌<◌, ◌≤◌, ◌+◌, ◌^◌, ℕ, List, [], ◌∷◌, ◌++◌, length, Some}
-use Rattle.ldap_op.specs.Values.{OpValue}
-use Rattle.vr_state.specs.Words.{LogEntry}
+use Rattle.std.specs.Prelude.{◌≡◌, ◌<◌, ◌≤◌, ◌+◌, ◌^◌, ℕ, List, [], ◌∷◌, ◌++◌, length}
 use Rattle.vr_state.specs.Journaled as journaled
-use Rattle.log_journal.specs.Fields.{Fields, fields_at}
 use Rattle.log_journal.specs.Framed.{AreTooLong}
-use Rattle.log_journal.specs.Notes.{Note, Step, IsEntryIn, IsNoteIn, Spells}
+use Rattle.log_journal.specs.Notes.{Note, Step, Spells}
 use Rattle.log_journal.specs.declared.error.NoteError.{NoteError}
 use Rattle.log_journal.specs.declared.error.NoteError.TheVariants.{NoMemory, Damaged, AnotherVersion, Unwritable, Full, DeviceFailed}
 
@@ -26,14 +23,6 @@ abbrev pub HasHome : Note → Type 0
 HasHome (Step (journaled.Record k e)) = e.client.home < 2 ^ 8
 HasHome (Step (journaled.Stage e)) = e.client.home < 2 ^ 8
 HasHome x = Unit {0}
-
--- Fields are of no record.
-abbrev pub AreNoEntry : Fields → Type 0
-AreNoEntry f = (kind first : ℕ) (e : LogEntry OpValue) → e.client.home < 2 ^ 8 → IsEntryIn kind first e f → ⊥
-
--- Fields are of no note.
-abbrev pub AreNoNote : Fields → Type 0
-AreNoNote f = (x : Note) → HasHome x → IsNoteIn x f → ⊥
 
 -- A string spells no note.
 abbrev pub IsDamaged : List ℕ → Type 0
@@ -59,12 +48,6 @@ IsOfNoting NoMemory = Unit {0}
 IsOfNoting Full = Unit {0}
 IsOfNoting Unwritable = Unit {0}
 IsOfNoting e = ⊥
-
--- The frames of a batch with a string of these fields are too long.
-pub record HasNoRoomFor (f : Fields) (batch : List (List ℕ)) : Type 0 where
-  pub string : List ℕ
-  pub read : fields_at string ≡ Some f
-  pub long : AreTooLong (batch ++ string ∷ [])
 
 -- The frames of a batch with a string that spells a note are too long.
 pub record HasNoRoom (x : Note) (batch : List (List ℕ)) : Type 0 where

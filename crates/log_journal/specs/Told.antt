@@ -2,8 +2,7 @@
 use Rattle.std.specs.Prelude.{◌≡◌, ℕ, max, Bool, true, false, List, [], ◌∷◌}
 use Rattle.ldap_op.specs.Values.{OpValue}
 use Rattle.vr_state.specs.Journaled as journaled
-use Rattle.log_journal.specs.Fields.{Fields}
-use Rattle.log_journal.specs.Notes.{Note, Begin, Start, Step, Commit, IsNoteIn, Spells}
+use Rattle.log_journal.specs.Notes.{Note, Begin, Start, Step, Commit, Spells}
 
 -- whose the journal is, how often the replica was started, and the replica as it would go on
 pub record Told : Type 0 where
@@ -37,15 +36,3 @@ told_by t (Commit k) = record t { kept = record t.kept { k = max t.kept.k k } }
 abbrev pub Tells : Told → List (List ℕ) → Told → Type 0
 Tells t [] u = t ≡ u
 Tells t (s ∷ ss) u = (x : Note) × Spells x s × Tells (told_by t x) ss u
-
--- What is told goes from t to u by the note of these fields.
-pub record Takes (f : Fields) (t u : Told) : Type 0 where
-  pub note : Note
-  pub is : IsNoteIn note f
-  pub told : told_by t note ≡ u
-
--- What is told goes from t to u by the note of this string.
-pub record TakesString (string : List ℕ) (t u : Told) : Type 0 where
-  pub note : Note
-  pub spells : Spells note string
-  pub told : told_by t note ≡ u

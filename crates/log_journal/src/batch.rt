@@ -23,7 +23,7 @@ pub struct Batch {
 impl Model for Batch {
     ghost use Rattle.std.specs.Prelude.{ℕ, List};
     ghost use Rattle.journal.specs.Frames.{recorded};
-    ghost use Rattle.log_journal.specs.Framed.{IsFramed};
+    ghost use Rattle.log_journal.specs.private.Framed.{IsFramed};
 
     ghost Value = { List (List ℕ) };
 

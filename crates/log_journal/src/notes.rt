@@ -2,8 +2,10 @@
 ghost use Rattle.std.specs.Prelude.{◌≡◌, ◌<◌, ◌^◌, ◌∷◌, [], OnOk, OnErr, IfOk, IfErr, IsErrOf, map};
 ghost use Rattle.ldap_op.specs.Grammar.{IsOp};
 ghost use Rattle.log_journal.specs.Fields.{AreInRange};
-ghost use Rattle.log_journal.specs.Notes.{Begin, Start, Step, Commit, Puts, plain, flag, PutsFields, IsEntryIn};
-ghost use Rattle.log_journal.specs.Refused.{HasNoRoom, HasNoRoomFor, IsOfNoting, IsOfPutting};
+ghost use Rattle.log_journal.specs.Notes.{Begin, Start, Step, Commit, Puts, plain, flag, IsEntryIn};
+ghost use Rattle.log_journal.specs.private.Notes.{PutsFields};
+ghost use Rattle.log_journal.specs.Refused.{HasNoRoom, IsOfNoting, IsOfPutting};
+ghost use Rattle.log_journal.specs.private.Refused.{HasNoRoomFor};
 ghost use Rattle.log_journal.specs.Views.{fields_view};
 ghost use Rattle.vr_state.specs.Journaled.{Enter, Record, Stage, Adopt};
 

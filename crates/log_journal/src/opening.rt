@@ -3,7 +3,8 @@ ghost use Rattle.std.specs.Prelude.{◌≡◌, ◌≢◌, ◌≤◌, [], drop, f
 ghost use Rattle.journal.specs.Device.{HasRisen, LeavesOnly, Only};
 ghost use Rattle.journal.specs.Frames.{is_whole, recorded};
 ghost use Rattle.journal.specs.Reading.{HasRead};
-ghost use Rattle.log_journal.specs.Found.{HasAnotherVersion, IsFound, TellsNext};
+ghost use Rattle.log_journal.specs.Found.{HasAnotherVersion, IsFound};
+ghost use Rattle.log_journal.specs.private.Found.{TellsNext};
 ghost use Rattle.log_journal.specs.Kept.{IsHeld};
 ghost use Rattle.log_journal.specs.Refused.{HasDamage, IsOfOpening};
 ghost use Rattle.log_journal.specs.Told.{Tells, nothing_told};

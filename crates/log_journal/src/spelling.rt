@@ -3,7 +3,7 @@ ghost use Rattle.std.specs.Prelude.{◌≡◌, IsTrue, IfOk, IfErr};
 ghost use Rattle.std.specs.Bool.{OnFalse};
 ghost use Rattle.ldap_op.specs.Grammar.{IsOp};
 ghost use Rattle.ldap_op.specs.Written.{HasNoSpelling};
-ghost use Rattle.log_journal.specs.Apart.{AreUpdatesApart};
+ghost use Rattle.log_journal.specs.private.Apart.{AreUpdatesApart};
 
 use crate::error::NoteError;
 use ldap_op::{Op, one_op};

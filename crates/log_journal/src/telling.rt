@@ -5,8 +5,10 @@ ghost use Rattle.ldap_op.specs.Values.{OpValue};
 ghost use Rattle.journal.specs.Journal.{octets_of};
 ghost use Rattle.log_journal.specs.Found.{HasAnotherVersion, IsOfAnotherVersion};
 ghost use Rattle.log_journal.specs.Notes.{IsEntryIn, Start, plain};
-ghost use Rattle.log_journal.specs.Refused.{AreNoEntry, AreNoNote, HasDamage, IsDamaged, IsOfTaking};
-ghost use Rattle.log_journal.specs.Told.{Takes, TakesString, Tells, nothing_told, told_by};
+ghost use Rattle.log_journal.specs.Refused.{HasDamage, IsDamaged, IsOfTaking};
+ghost use Rattle.log_journal.specs.private.Refused.{AreNoEntry, AreNoNote};
+ghost use Rattle.log_journal.specs.Told.{Tells, nothing_told, told_by};
+ghost use Rattle.log_journal.specs.private.Told.{Takes, TakesString};
 ghost use Rattle.log_journal.specs.Views.{fields_view, told_view};
 
 use crate::error::NoteError;

@@ -9,7 +9,7 @@ use Rattle.dir_node.specs.NodeState.{CatchesUp}
 use Rattle.dir_seats.specs.Lists.{IsBeginning, with_records}
 use Rattle.dir_seats.specs.Showing.{Showing}
 use Rattle.dir_seats.proofs.Begins.{begins_self, begins_trans}
-use Rattle.node_gate.specs.Given.{IsGiven, given_records}
+use Rattle.node_gate.specs.private.Given.{IsGiven, given_records}
 
 -- what is executed by an event is put at the end
 caught : (behind : Bool) (old due new : List (LogEntry OpValue)) → CatchesUp behind old due new → IsPrefix old new

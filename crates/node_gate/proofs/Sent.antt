@@ -7,10 +7,11 @@ use Rattle.dir_node.specs.vr_state.declared.message.PeerMessage.{PeerMessage}
 use Rattle.dir_node.specs.declared.config.Handled.{Handled}
 use Rattle.dir_node.specs.NodeState.{NodeValue}
 use Rattle.dir_seats.specs.Showing.{Showing}
-use Rattle.node_gate.specs.Handled.{HasHandled}
+use Rattle.node_gate.specs.private.Handled.{HasHandled}
 use Rattle.dir_node.specs.vr_state.declared.message.Send.{Send}
 use Rattle.dir_node.specs.declared.config.AllHandled.{AllHandled}
-use Rattle.node_gate.specs.Batches.{HasHandledAll, TakesBatch, sends_of}
+use Rattle.node_gate.specs.Batches.{TakesBatch, sends_of}
+use Rattle.node_gate.specs.private.Batches.{HasHandledAll}
 use Rattle.node_gate.specs.Sent.{TakesAll, TakesStep, none, next}
 
 pub takes_step : {P D J : Type 0} (takes : P → ℕ → PeerMessage OpValue → P → Type 0) (old new : NodeValue D J) (event : Event OpValue) (h : Handled) (shown : Showing)

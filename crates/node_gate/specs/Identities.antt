@@ -1,5 +1,5 @@
 -- Which node it is: what no event at a node changes.
-use Rattle.std.specs.Prelude.{◌≡◌, ℕ, List}
+use Rattle.std.specs.Prelude.{ℕ, List}
 use Rattle.std.specs.Arc.{arc_value}
 use Rattle.dir_node.specs.dir_store.index_choice.declared.kinds.Kinds.{Kinds}
 use Rattle.dir_node.specs.dir_store.ldap_dn.Names.{RdnModel}
@@ -40,9 +40,3 @@ identity_by config restarts = record {
   suffix = config.suffix;
   indexes = config.indexes;
 }
-
--- A node is the replica of a configuration, at some start.
-pub record IsReplicaOf {D J : Type 0} (config : NodeConfig) (n : NodeValue D J) : Type 0 where
-  pub index : n.index ≡ config.index
-  pub count : n.count ≡ config.count
-  pub cluster : n.cluster ≡ config.cluster

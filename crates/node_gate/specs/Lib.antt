@@ -1,9 +1,8 @@
 pub mod Identities
 pub mod Shared
-pub mod Given
-pub mod Handled
 pub mod Sent
 pub mod Batches
 pub mod Starting
+pub mod private
 -- what layers above name of the crates below
 pub use Rattle.dir_seats.specs as dir_seats

@@ -2,7 +2,7 @@
 ghost use Rattle.std.specs.Prelude.{◌≡◌, None};
 ghost use Rattle.std.specs.Option.{option_map};
 ghost use Rattle.dir_seats.specs.directory_api.View.{ended_view};
-ghost use Rattle.node_gate.specs.Shared.{IsRefused, IsUpdated};
+ghost use Rattle.node_gate.specs.private.Shared.{IsRefused, IsUpdated};
 
 use crate::ending::Request;
 use crate::identity::Identity;
@@ -136,7 +136,7 @@ impl<'a, 'r, R: Wait, D: Device, J: JournalDevice, I: Identity, P: Peers> Gate<O
     ghost use Rattle.std.specs.Prelude.{◌≡◌, ◌+◌, min};
     ghost use Rattle.std.specs.Option.{option_map};
     ghost use Rattle.dir_seats.specs.directory_api.Counting.{updates_of, greatest_count};
-    ghost use Rattle.node_gate.specs.Shared.{gates};
+    ghost use Rattle.node_gate.specs.private.Shared.{gates};
 
     // An update ends as its outcome at a state of the node with this identity that the lock held; the count rises by one with each.
     ghost allows = { λ d x e. (e.asked ≡ min (d.asked + updates_of x) greatest_count)

@@ -1,10 +1,10 @@
 // What the lock holds: the node that threads share, its clock, and whether those who wait are to go on. Locks and threads are above.
 ghost use Rattle.std.specs.Prelude.{◌≡◌, IfOk};
 ghost use Rattle.dir_node.specs.vr_state.declared.event.Event.TheVariants as event;
-ghost use Rattle.node_gate.specs.Batches.{HasHandledAll};
-ghost use Rattle.node_gate.specs.Handled.{HasHandled};
+ghost use Rattle.node_gate.specs.private.Batches.{HasHandledAll};
+ghost use Rattle.node_gate.specs.private.Handled.{HasHandled};
 ghost use Rattle.node_gate.specs.Identities.{identity_of};
-ghost use Rattle.node_gate.specs.Shared.{standing_to_sessions};
+ghost use Rattle.node_gate.specs.private.Shared.{standing_to_sessions};
 
 use crate::arrival::Arrival;
 use crate::ending::Request;

@@ -5,7 +5,8 @@ ghost use Rattle.dir_node.specs.NodeState.{IsMade, given, nothing_executed};
 ghost use Rattle.dir_node.specs.Restarting.{IsRestarted};
 ghost use Rattle.dir_node.specs.log_journal.journal.Frames.{recorded};
 ghost use Rattle.dir_node.specs.view_store.Slots.{found};
-ghost use Rattle.node_gate.specs.Identities.{IsReplicaOf, identity_by, identity_of};
+ghost use Rattle.node_gate.specs.Identities.{identity_by, identity_of};
+ghost use Rattle.node_gate.specs.private.Identities.{IsReplicaOf};
 ghost use Rattle.node_gate.specs.Starting.{IsOpenedOver, IsPlain, MayStart, outcome_of_start, pair_of_start, state_of_start};
 
 use crate::inbox::Inbox;

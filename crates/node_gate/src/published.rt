@@ -1,9 +1,9 @@
 // A node and what its seats see of it. Takes events to the node, and shows the seats what it then has executed. Locks and clocks are above.
 ghost use Rattle.std.specs.Prelude.{◌≡◌, IsTrue, IfOk};
 ghost use Rattle.dir_node.specs.NodeState.{IsSameNode};
-ghost use Rattle.node_gate.specs.Given.{IsGiven, HasAll};
-ghost use Rattle.node_gate.specs.Batches.{HasHandledAll};
-ghost use Rattle.node_gate.specs.Handled.{HasExecuted, HasHandled};
+ghost use Rattle.node_gate.specs.private.Given.{IsGiven, HasAll};
+ghost use Rattle.node_gate.specs.private.Batches.{HasHandledAll};
+ghost use Rattle.node_gate.specs.private.Handled.{HasExecuted, HasHandled};
 
 use crate::events::{execute_node, handle_node, handle_node_all};
 use dir_node::{AllHandled, Device, Event, Handled, JournalDevice, Node, NodeError, Op};

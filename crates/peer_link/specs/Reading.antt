@@ -1,5 +1,5 @@
 -- What is read of a stream of frames. The octets that a stream has and those that were read flow in. What a frame says is not here.
-use Rattle.std.specs.Prelude.{◌≡◌, ◌≤◌, ℕ, List, [], ◌++◌, length, take, Option}
+use Rattle.std.specs.Prelude.{◌≡◌, ℕ, List, [], ◌++◌, length, Option}
 use Rattle.std.specs.Io.KnownBytes.{Consumes, IsAtEnd}
 
 -- so many octets are taken off the stream and added to a frame
@@ -8,11 +8,6 @@ pub record HasRead (input left : Option (List ℕ)) (before after : List ℕ) (c
   pub added : after ≡ before ++ octets
   pub length_is : length octets ≡ count
   pub consumed : Consumes input left octets
-
--- so many octets, which are now the first of a buffer, are taken off the stream
-pub record IsFrontRead (input left : Option (List ℕ)) (buffer : List ℕ) (count : ℕ) : Type 0 where
-  pub fits : count ≤ length buffer
-  pub consumed : Consumes input left (take count buffer)
 
 -- nothing is taken off the stream, which is at its end
 pub record IsEnded (input left : Option (List ℕ)) : Type 0 where

@@ -2,7 +2,8 @@
 //! may be, is not here.
 ghost use Rattle.std.specs.Prelude.{◌<◌, ◌≤◌, length, IfOk, OnOk, IsErrOf};
 ghost use Rattle.std.specs.Io.KnownBytes.{Consumes};
-ghost use Rattle.peer_link.specs.Reading.{HasRead, IsFrontRead, IsEnded};
+ghost use Rattle.peer_link.specs.Reading.{HasRead, IsEnded};
+ghost use Rattle.peer_link.specs.private.Reading.{IsFrontRead};
 ghost use Rattle.peer_link.specs.declared.reading.FrameEnd.TheVariants.{Closed};
 
 use std::alloc::Global;

@@ -47,12 +47,6 @@ named_by reads [] = Ok None
 named_by reads (c ∷ []) = value_of reads c.value
 named_by reads (c ∷ d ∷ cs) = Err 2
 
--- two controls or more
-abbrev pub AreRepeated : List ControlValue → Type 0
-AreRepeated [] = ⊥
-AreRepeated (c ∷ []) = ⊥
-AreRepeated (c ∷ d ∷ cs) = Unit {0}
-
 -- the number with a request, or the request's code
 abbrev pub with_request : Option ℕ → Result (Option (ℕ × ℕ)) ℕ → Result Named ℕ
 with_request number (Err code) = Err code

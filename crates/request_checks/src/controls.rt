@@ -5,7 +5,8 @@ ghost use Rattle.std.specs.Option.{option_map, option_copied, option_to_list};
 ghost use Rattle.request_checks.specs.Numbers.{number_of, pair_of};
 ghost use Rattle.std.specs.Str.{bytes_eq};
 ghost use Rattle.ldap_msg.specs.ldap_parts.View.{control_view};
-ghost use Rattle.request_checks.specs.Controls.{number_control, request_control, is_of, has_meaning, is_unavailable, value_of, number_named, request_named, named_in, judged, AreRepeated};
+ghost use Rattle.request_checks.specs.Controls.{number_control, request_control, is_of, has_meaning, is_unavailable, value_of, number_named, request_named, named_in, judged};
+ghost use Rattle.request_checks.specs.private.Controls.{AreRepeated};
 
 use crate::numbers::{number_of, pair_of};
 use ldap_msg::{Control, ResultCode};

@@ -8,10 +8,10 @@ use Rattle.std.proofs.lemmas.Bool.Decides.{nat_tests}
 use Rattle.std.proofs.lemmas.Slice.Eq.{bytes_eq-Decides}
 use Rattle.schema_text.specs.Descriptions.{DescriptionModel}
 use Rattle.schema_text.specs.Texts.{SchemaTextModel}
-use Rattle.schema_meaning.specs.Octets.{has_folded}
+use Rattle.schema_meaning.specs.private.Octets.{has_folded}
 use Rattle.schema_meaning.specs.Naming.{names_of, is_name_among, has_twice, share_a_name, is_before}
 use Rattle.schema_meaning.specs.Faults.{earlier_of}
-use Rattle.schema_meaning.specs.FirstLines.{noted, first_line, line_in, is_less}
+use Rattle.schema_meaning.specs.private.FirstLines.{noted, first_line, line_in, is_less}
 pub use Rattle.schema_text.proofs.ldap_words.NumbersKept.{opened, number_lookup as line_lookup, number_put as line_put}
 
 -- the lower line is put

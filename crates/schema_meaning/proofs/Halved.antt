@@ -10,7 +10,7 @@ use Rattle.std.specs.Str.{bytes_eq}
 use Rattle.std.proofs.lemmas.Bool.{cases_lt}
 use Rattle.std.proofs.lemmas.Cmp.{nat_list_cmp_total, alike_right}
 use Rattle.std.proofs.lemmas.List.Sorted.{searchable_from_sorted}
-use Rattle.schema_meaning.specs.Octets.{order, number_at, IsBefore, IsInOrder}
+use Rattle.schema_meaning.specs.private.Octets.{order, number_at, IsBefore, IsInOrder}
 pub use Rattle.schema_text.proofs.ldap_words.OctetOrder.{all_at, turned, same_is, other_is, above_is}
 
 abbrev pub Entries : Type 0

@@ -6,7 +6,7 @@ use Rattle.std.specs.Str.{bytes_eq}
 use Rattle.std.proofs.lemmas.Slice.Eq.{bytes_eq-Decides}
 use Rattle.schema_text.specs.Descriptions.{DescriptionModel}
 use Rattle.schema_text.specs.Words.{is_same_word}
-use Rattle.schema_meaning.specs.Octets.{kept_or, has_folded, lower}
+use Rattle.schema_meaning.specs.private.Octets.{kept_or, has_folded, lower}
 use Rattle.schema_meaning.specs.Naming.{names_of, find}
 pub use Rattle.schema_text.proofs.ldap_words.NumbersKept.{or_else, kept_not, name_more, names_done, number_more, numbers_done, first_of_either}
 

@@ -9,7 +9,7 @@ use Rattle.schema_meaning.specs.declared.inheriting.Way.{Way}
 use Rattle.schema_meaning.specs.declared.inheriting.Way.TheVariants.{Ends, IsLost, GoesTo}
 use Rattle.schema_meaning.specs.declared.inheriting.Effect.{Effect}
 use Rattle.schema_meaning.specs.Inheriting.{way_from, way_of, own_at}
-use Rattle.schema_meaning.specs.Settling.{settled, settled_under, settled_within, gone_on, effect_at, effect_in, effect_by, new_if, new_effect, Knows, HasAll}
+use Rattle.schema_meaning.specs.private.Settling.{settled, settled_under, settled_within, gone_on, effect_at, effect_in, effect_by, new_if, new_effect, Knows, HasAll}
 use Rattle.schema_meaning.proofs.Settling.{settled_is, settled_step, not_above, none_some, under_later as under_told}
 
 told_by : (types : List DescriptionModel) (table : List (Option Effect)) (t : ℕ) (w : Way) (e : Effect) → Knows types table → gone_on types t w (effect_at table) ≡ Some e → gone_on types t w (settled types) ≡ Some e

@@ -12,7 +12,7 @@ use Rattle.schema_meaning.specs.declared.inheriting.Way.{Way}
 use Rattle.schema_meaning.specs.declared.inheriting.Way.TheVariants.{Ends, IsLost, GoesTo}
 use Rattle.schema_meaning.specs.declared.inheriting.Effect.{Effect}
 use Rattle.schema_meaning.specs.Inheriting.{gone, lineage_from, way_from, way_of, nothing, effect_down}
-use Rattle.schema_meaning.specs.Settling.{settled_by, settled, settled_under, gone_on, settled_within}
+use Rattle.schema_meaning.specs.private.Settling.{settled_by, settled, settled_under, gone_on, settled_within}
 
 -- the chain and the steps say the same
 abbrev down_from : List DescriptionModel → List ℕ → Option Effect → Option Effect

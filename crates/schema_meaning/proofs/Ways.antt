@@ -4,7 +4,8 @@ use Rattle.schema_text.specs.Descriptions.{DescriptionModel}
 use Rattle.schema_meaning.specs.Naming.{superior_text}
 use Rattle.schema_meaning.specs.declared.inheriting.Way.{Way}
 use Rattle.schema_meaning.specs.declared.inheriting.Way.TheVariants.{IsLost}
-use Rattle.schema_meaning.specs.Inheriting.{way_by, way_of, ways_of, way_from}
+use Rattle.schema_meaning.specs.Inheriting.{way_by, way_of, way_from}
+use Rattle.schema_meaning.specs.private.Inheriting.{ways_of}
 
 -- the way at a place; to no type, where the place is behind the list
 abbrev pub way_in : Option Way → Way

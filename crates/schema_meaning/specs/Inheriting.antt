@@ -1,6 +1,6 @@
 -- The chain of SUPs, and the rules and the syntax that are in effect for a type: RFC 4512 2.5.1 and 4.1.2. Descriptions flow in,
 -- rules flow out; faults are not here.
-use Rattle.std.specs.Prelude.{ℕ, List, [], ◌∷◌, ◌++◌, map, reverse, slice_get, Bool, true, false, not, ◌&&◌, ◌||◌, Option, None, Some, is_some, nat_eq}
+use Rattle.std.specs.Prelude.{ℕ, List, [], ◌∷◌, ◌++◌, reverse, slice_get, Bool, true, false, not, ◌&&◌, ◌||◌, Option, None, Some, is_some, nat_eq}
 use Rattle.schema_text.specs.Descriptions.{DescriptionModel, first_text_at}
 use Rattle.schema_text.specs.ldap_words.RulesByName.{equality_family, ordering_family, substrings_family, syntax_of, family_number}
 use Rattle.schema_meaning.specs.Naming.{superior_text, find}
@@ -31,10 +31,6 @@ way_of types (Some d) = way_by types (superior_text d)
 -- where the SUP of a type leads: nowhere, where it has none; to no type, where none is called so; or to the type of a number
 abbrev pub way_from : List DescriptionModel → ℕ → Way
 way_from types t = way_of types (slice_get types t)
-
--- where the SUP of each type leads
-abbrev pub ways_of : List DescriptionModel → List Way
-ways_of types = map (λ d. way_by types (superior_text d)) types
 
 -- the chain so far where SUP ends, with one type more where it goes on; none, where it leads to no type
 abbrev pub gone : List ℕ → Way → (List ℕ → ℕ → Option (List ℕ)) → Option (List ℕ)

@@ -4,7 +4,7 @@
 
 ghost use Rattle.std.specs.Prelude.{◌≡◌, ℕ, List, map, IfOk, OnOk};
 ghost use Rattle.std.specs.Str.{bytes_eq};
-ghost use Rattle.schema_meaning.specs.Octets.{number_at, kept_or, has_folded, found_in, lower as lower_one};
+ghost use Rattle.schema_meaning.specs.private.Octets.{number_at, kept_or, has_folded, found_in, lower as lower_one};
 ghost use Rattle.schema_meaning.specs.Naming as naming;
 
 use crate::naming::names;
@@ -92,7 +92,7 @@ impl<'a> Drop for Called<'a> {
 impl<'a> Model for Called<'a> {
     ghost use Rattle.std.specs.Prelude.{◌≡◌, ℕ, List};
     ghost use Rattle.schema_text.specs.Descriptions.{DescriptionModel};
-    ghost use Rattle.schema_meaning.specs.Octets.{found_in};
+    ghost use Rattle.schema_meaning.specs.private.Octets.{found_in};
     ghost use Rattle.schema_meaning.specs.Naming.{find};
 
     ghost Value = { List DescriptionModel };

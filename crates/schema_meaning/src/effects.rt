@@ -4,8 +4,9 @@
 
 ghost use Rattle.std.specs.Prelude.{◌≡◌, None, Some, IfOk};
 ghost use Rattle.schema_meaning.specs.Inheriting as inheriting;
-ghost use Rattle.schema_meaning.specs.Settling as settling;
-ghost use Rattle.schema_meaning.specs.Settling.{Knows, IsNews, HasAll};
+ghost use Rattle.schema_meaning.specs.private.Inheriting as private_inheriting;
+ghost use Rattle.schema_meaning.specs.private.Settling as settling;
+ghost use Rattle.schema_meaning.specs.private.Settling.{Knows, IsNews, HasAll};
 
 use crate::called::Called;
 use crate::inheriting::{
@@ -54,7 +55,7 @@ fn effect_by(
     table: &[Option<Effect>],
     number: usize,
 ) -> Option<Effect>
-    requires { ways.now ≡ inheriting.ways_of types.now }
+    requires { ways.now ≡ private_inheriting.ways_of types.now }
     ensures { result ≡ settling.effect_by types.now table.now number }
 {
     match way_from(types, ways, number) {
@@ -99,7 +100,7 @@ fn walk(
 
 /// Notes in a table what it tells of a type.
 fn note(types: &[Description], ways: &[Way], table: &mut Vec<Option<Effect>>, number: usize)
-    requires ways { ways.now ≡ inheriting.ways_of types.now }
+    requires ways { ways.now ≡ private_inheriting.ways_of types.now }
     requires known { Knows types.now table.old.items }
     ensures { Knows types.now table.new.items }
 {
@@ -111,7 +112,7 @@ fn note(types: &[Description], ways: &[Way], table: &mut Vec<Option<Effect>>, nu
 
 /// Notes in a table what it tells of types, in this order.
 fn note_all(types: &[Description], ways: &[Way], table: &mut Vec<Option<Effect>>, numbers: &[usize])
-    requires ways { ways.now ≡ inheriting.ways_of types.now }
+    requires ways { ways.now ≡ private_inheriting.ways_of types.now }
     requires known { Knows types.now table.old.items }
     ensures { Knows types.now table.new.items }
 {
@@ -127,7 +128,7 @@ fn new_effect(
     table: &[Option<Effect>],
     number: usize,
 ) -> Option<Effect>
-    requires { ways.now ≡ inheriting.ways_of types.now }
+    requires { ways.now ≡ private_inheriting.ways_of types.now }
     ensures { result ≡ settling.new_effect types.now table.now number }
 {
     match effect_at(table, number) {
@@ -138,7 +139,7 @@ fn new_effect(
 
 /// The first type that a table has nothing for, though it tells what is in effect for it.
 fn news(types: &[Description], ways: &[Way], table: &[Option<Effect>]) -> Option<(usize, Effect)>
-    requires { ways.now ≡ inheriting.ways_of types.now }
+    requires { ways.now ≡ private_inheriting.ways_of types.now }
     ensures { IsNews types.now table.now result }
 {
     for number in 0..table.len() {
@@ -152,7 +153,7 @@ fn news(types: &[Description], ways: &[Way], table: &[Option<Effect>]) -> Option
 
 /// Notes in a table what it tells, until it tells nothing new.
 fn note_news(types: &[Description], ways: &[Way], table: &mut Vec<Option<Effect>>)
-    requires ways { ways.now ≡ inheriting.ways_of types.now }
+    requires ways { ways.now ≡ private_inheriting.ways_of types.now }
     requires known { Knows types.now table.old.items }
     ensures { HasAll types.now table.new.items }
 {
@@ -174,7 +175,7 @@ fn table_of(
     types: &[Description],
     ways: &[Way],
 ) -> Result<Vec<Option<Effect>>, AllocError>
-    requires { ways.now ≡ inheriting.ways_of types.now }
+    requires { ways.now ≡ private_inheriting.ways_of types.now }
     ensures { IfOk result (λ v. HasAll types.now v.items) }
 {
     let mut table = empty_table(alloc, types)?;
@@ -204,7 +205,7 @@ impl<'a> Drop for Effects<'a> {
 impl<'a> Model for Effects<'a> {
     ghost use Rattle.std.specs.Prelude.{List};
     ghost use Rattle.schema_text.specs.Descriptions.{DescriptionModel};
-    ghost use Rattle.schema_meaning.specs.Settling.{HasAll};
+    ghost use Rattle.schema_meaning.specs.private.Settling.{HasAll};
 
     ghost Value = { List DescriptionModel };
 

@@ -7,9 +7,9 @@ ghost use Rattle.std.specs.Char.{to_ascii_lowercase};
 ghost use Rattle.std.specs.List.{list_any};
 ghost use Rattle.std.specs.Str.{bytes_eq};
 ghost use Rattle.schema_meaning.specs.Naming as naming;
-ghost use Rattle.schema_meaning.specs.Octets.{number_at, has_folded};
+ghost use Rattle.schema_meaning.specs.private.Octets.{number_at, has_folded};
 ghost use Rattle.schema_meaning.specs.Faults.{earlier_of};
-ghost use Rattle.schema_meaning.specs.FirstLines.{noted, first_line, is_less as is_line_less};
+ghost use Rattle.schema_meaning.specs.private.FirstLines.{noted, first_line, is_less as is_line_less};
 
 use crate::naming::names;
 use crate::octets::{Numbers, number_of, put};
@@ -178,7 +178,7 @@ impl<'a> Drop for FirstLines<'a> {
 
 impl<'a> Model for FirstLines<'a> {
     ghost use Rattle.schema_text.specs.Texts.{SchemaTextModel};
-    ghost use Rattle.schema_meaning.specs.FirstLines.{AreFirst};
+    ghost use Rattle.schema_meaning.specs.private.FirstLines.{AreFirst};
 
     ghost Value = { SchemaTextModel };
 

@@ -6,6 +6,7 @@ ghost use Rattle.schema_text.specs.Descriptions.{first_text_at};
 ghost use Rattle.schema_text.specs.ldap_words.RulesByName as rules;
 ghost use Rattle.schema_meaning.specs.Naming.{superior_text};
 ghost use Rattle.schema_meaning.specs.Inheriting as inheriting;
+ghost use Rattle.schema_meaning.specs.private.Inheriting as private_inheriting;
 
 use crate::called::Called;
 use schema_text::{
@@ -58,7 +59,7 @@ fn way_of(types: &Called, description: &Description) -> Way
 
 /// Where the SUP of each type leads: each is looked up once, whatever leads to it.
 pub fn ways_of(alloc: Global, types: &Called) -> Result<Vec<Way>, AllocError>
-    ensures { IfOk result (λ v. v.items ≡ inheriting.ways_of types.now) }
+    ensures { IfOk result (λ v. v.items ≡ private_inheriting.ways_of types.now) }
 {
     let descriptions = types.all();
     let mut ways = Vec::with_capacity(alloc, descriptions.len())?;
@@ -71,7 +72,7 @@ pub fn ways_of(alloc: Global, types: &Called) -> Result<Vec<Way>, AllocError>
 /// Where the SUP of the type of a number leads.
 #[tactic(auto, using(crate::proofs::Ways::way_at))]
 pub fn way_from(types: &[Description], ways: &[Way], number: usize) -> Way
-    requires { ways.now ≡ inheriting.ways_of types.now }
+    requires { ways.now ≡ private_inheriting.ways_of types.now }
     ensures { result ≡ inheriting.way_from types.now number }
 {
     match ways.get(number) {

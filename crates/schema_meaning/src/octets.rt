@@ -3,7 +3,7 @@
 
 ghost use Rattle.std.specs.Prelude.{◌≡◌, ℕ, List, Some, cond, OnOk};
 ghost use Rattle.std.specs.Str.{bytes_eq};
-ghost use Rattle.schema_meaning.specs.Octets.{number_at, kept_or};
+ghost use Rattle.schema_meaning.specs.private.Octets.{number_at, kept_or};
 
 use std::alloc::AllocError;
 use std::collections::BTreeMap;

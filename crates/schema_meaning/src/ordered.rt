@@ -4,7 +4,7 @@
 
 ghost use Rattle.std.specs.Prelude.{◌≡◌, map, IfOk};
 ghost use Rattle.std.specs.Char.{to_ascii_lowercase};
-ghost use Rattle.schema_meaning.specs.Octets.{number_at};
+ghost use Rattle.schema_meaning.specs.private.Octets.{number_at};
 
 use crate::octets::Numbers;
 use schema_text::compare_folded;
@@ -20,7 +20,7 @@ pub struct Ordered {
 impl Model for Ordered {
     ghost use Rattle.std.specs.Prelude.{ℕ, List, Vec};
     ghost use Rattle.std.specs.declared.alloc.Global.{Global};
-    ghost use Rattle.schema_meaning.specs.Octets.{IsInOrder};
+    ghost use Rattle.schema_meaning.specs.private.Octets.{IsInOrder};
 
     ghost Value = { List (Vec ℕ Global × ℕ) };
 

@@ -8,7 +8,7 @@ use Rattle.ldap_schema.specs.Superclasses.{is_among, direct_superclasses, with_m
 use Rattle.ldap_schema.specs.Lines.{rank_in}
 use Rattle.ldap_schema.proofs.Lineage.{within_of}
 use Rattle.schema_reader.specs.Reading.{is_class_looping}
-use Rattle.schema_reader.specs.Falling.{IsFalling, IsFallingBelow}
+use Rattle.schema_reader.specs.private.Falling.{IsFalling, IsFallingBelow}
 use Rattle.schema_reader.proofs.Loops.{false_true, or_cases, same_number}
 
 and_one : (a b : Bool) → (a && b) ≡ true → a ≡ true

@@ -9,7 +9,7 @@ use Rattle.std.proofs.lemmas.Map.Steps.{length-le_from_distinct_below}
 use Rattle.std.proofs.lemmas.Bool.Decides.{nat_tests}
 use Rattle.ldap_schema.specs.Schema.{TypeModel, led, if_led, superior_of, superiors, ends_within}
 use Rattle.schema_reader.specs.Reading.{is_type_looping}
-use Rattle.schema_reader.specs.Looping.{then_up, up, step_at, doubled, IsUp, IsUpBut, marked, all_marked, has_mark}
+use Rattle.schema_reader.specs.private.Looping.{then_up, up, step_at, doubled, IsUp, IsUpBut, marked, all_marked, has_mark}
 use Rattle.schema_reader.proofs.Loops.{false_true, none_some, or_cases, same_number, within, len, below, begun, apart, one_distinct}
 use Rattle.schema_reader.proofs.FallingClasses.{behind_or as or_two}
 

@@ -94,22 +94,6 @@ abbrev pub fault_of : SchemaTextModel → SchemaModel → Option SchemaError
 fault_of text s =
     refused_at (bad_line text) BadDescription (refused_at (unknown_of text s) UnknownName (loop_fault text s))
 
--- a fault is the definition's; want of memory is no fault of a text
-abbrev pub IsFaultOf : Option SchemaError → SchemaError → Type 0
-IsFaultOf o (BadDescription line) = o ≡ Some (BadDescription line)
-IsFaultOf o (UnknownName line) = o ≡ Some (UnknownName line)
-IsFaultOf o (LoopInSup line) = o ≡ Some (LoopInSup line)
-IsFaultOf o (NoEquality line) = o ≡ Some (NoEquality line)
-IsFaultOf o NoMemory = Unit {0}
-
--- the error is an unknown name, at the line that is there
-abbrev pub IsUnknown : Option ℕ → SchemaError → Type 0
-IsUnknown o (BadDescription line) = ⊥
-IsUnknown o (UnknownName line) = o ≡ Some line
-IsUnknown o (LoopInSup line) = ⊥
-IsUnknown o (NoEquality line) = ⊥
-IsUnknown o NoMemory = ⊥
-
 -- the schema, unless something is wrong
 abbrev pub unless_refused : SchemaModel → Option SchemaError → Result SchemaModel SchemaError
 unless_refused s None = Ok s

@@ -8,7 +8,7 @@ ghost use Rattle.std.specs.List.{list_all};
 ghost use Rattle.ldap_schema.specs.Lines.{rank_in};
 ghost use Rattle.schema_meaning.specs.Faults.{first_of_types};
 ghost use Rattle.schema_reader.specs.Reading as reading;
-ghost use Rattle.schema_reader.specs.Falling.{IsFalling};
+ghost use Rattle.schema_reader.specs.private.Falling.{IsFalling};
 
 use crate::ranking::ranks_of;
 use ldap_schema::{

@@ -4,6 +4,7 @@
 ghost use Rattle.std.specs.Prelude.{◌≡◌, None, Some, IfOk, IfErr};
 ghost use Rattle.schema_meaning.specs.Faults as faults;
 ghost use Rattle.schema_reader.specs.Reading as reading;
+ghost use Rattle.schema_reader.specs.private.Reading as private_reading;
 
 use crate::class_loops::class_loop;
 use crate::error::SchemaError;
@@ -45,7 +46,7 @@ fn without_loops(
     classes: &[ObjectClass],
 ) -> Result<(), SchemaError>
     ensures fine { IfOk result (λ u. reading.loop_fault text.now (record { types = types.now; classes = classes.now }) ≡ None) }
-    ensures refused { IfErr result (λ e. reading.IsFaultOf (reading.loop_fault text.now (record { types = types.now; classes = classes.now })) e) }
+    ensures refused { IfErr result (λ e. private_reading.IsFaultOf (reading.loop_fault text.now (record { types = types.now; classes = classes.now })) e) }
 {
     match loop_line(alloc, text, types, classes)? {
         Some(line) => return Err(SchemaError::LoopInSup { line }),
@@ -64,7 +65,7 @@ fn without_unknown(
     classes: &[ObjectClass],
 ) -> Result<TypeId, SchemaError>
     ensures fine { IfOk result (λ t. (reading.unknown_of text.now (record { types = types.now; classes = classes.now }) ≡ None) × (reading.required_in (record { types = types.now; classes = classes.now }) ≡ Some t)) }
-    ensures refused { IfErr result (λ e. reading.IsUnknown (reading.unknown_of text.now (record { types = types.now; classes = classes.now })) e) }
+    ensures refused { IfErr result (λ e. private_reading.IsUnknown (reading.unknown_of text.now (record { types = types.now; classes = classes.now })) e) }
 {
     let unknown = unknown_line(text);
     let Some(object_class) = required(types, classes) else {
@@ -85,7 +86,7 @@ pub fn judged(
     classes: &[ObjectClass],
 ) -> Result<TypeId, SchemaError>
     ensures fine { IfOk result (λ t. (reading.fault_of text.now (record { types = types.now; classes = classes.now }) ≡ None) × (reading.required_in (record { types = types.now; classes = classes.now }) ≡ Some t)) }
-    ensures refused { IfErr result (λ e. reading.IsFaultOf (reading.fault_of text.now (record { types = types.now; classes = classes.now })) e) }
+    ensures refused { IfErr result (λ e. private_reading.IsFaultOf (reading.fault_of text.now (record { types = types.now; classes = classes.now })) e) }
 {
     match bad_line(alloc, text)? {
         Some(line) => return Err(SchemaError::BadDescription { line }),

@@ -5,8 +5,8 @@
 ghost use Rattle.std.specs.Prelude.{◌≡◌, ℕ, IfOk, length, map, replicate, false};
 ghost use Rattle.schema_meaning.specs.Faults.{first_of_types};
 ghost use Rattle.schema_reader.specs.Reading as reading;
-ghost use Rattle.schema_reader.specs.Looping as looping;
-ghost use Rattle.schema_reader.specs.Looping.{IsUpBut};
+ghost use Rattle.schema_reader.specs.private.Looping as looping;
+ghost use Rattle.schema_reader.specs.private.Looping.{IsUpBut};
 
 use ldap_schema::{AttributeType, TypeId};
 use schema_meaning::Description;

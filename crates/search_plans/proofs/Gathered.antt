@@ -2,7 +2,7 @@
 use Rattle.std.proofs.Common.{◌≡◌, Result, Ok, Err, OnOk, ℕ, zero, suc, arith, ◌<◌, Bool, true, false, ◌&&◌, List, [], ◌∷◌, length, get_or, sym, ◌∙◌}
 use Rattle.std.specs.List.{list_all}
 use Rattle.dir_index.specs.Postings.{has_number}
-use Rattle.search_plans.specs.Streams.{Gathers, GathersAll}
+use Rattle.search_plans.specs.private.Streams.{Gathers, GathersAll}
 pub use Rattle.search_plans.proofs.Rising.{any_map}
 use Rattle.search_plans.proofs.Started.{and_left}
 

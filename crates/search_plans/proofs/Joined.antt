@@ -10,7 +10,7 @@ use Rattle.dir_index.specs.Postings.{is_of, has_type, has_several, some_key, is_
 use Rattle.dir_index.specs.declared.posting.Posting.TheVariants as posting
 use Rattle.dir_index.specs.declared.posting.Range.{Range}
 use Rattle.search_plans.specs.Sets.{holds}
-use Rattle.search_plans.specs.Sides.{IsImplied, range_between, is_between}
+use Rattle.search_plans.specs.private.Sides.{IsImplied, range_between, is_between}
 use Rattle.search_plans.specs.declared.plan.Plan.{Plan}
 use Rattle.search_plans.specs.declared.plan.Plan.TheVariants as plan
 use Rattle.search_plans.proofs.PlanEquations.{in_plan-Posting, in_plan-Range, in_plan-Union}

@@ -7,7 +7,8 @@ use Rattle.std.proofs.lemmas.Bool.Decides.{nat_tests}
 use Rattle.dir_index.specs.ldap_match.declared.truth.Truth.{Truth}
 use Rattle.dir_index.specs.Postings.{has_number, IsRising}
 use Rattle.search_plans.specs.Sets.{Guides}
-use Rattle.search_plans.specs.Runs.{is_true, is_open, is_asked, is_wanted, AreInside, AreSure, IsUnderWay}
+use Rattle.search_plans.specs.Runs.{is_true, is_open, is_wanted}
+use Rattle.search_plans.specs.private.Runs.{is_asked, AreInside, AreSure, IsUnderWay}
 use Rattle.search_plans.proofs.Rising.{has_head}
 use Rattle.search_plans.proofs.Searching.{or_late}
 

@@ -19,7 +19,7 @@ use Rattle.search_plans.specs.Decided.{is_decided}
 use Rattle.search_plans.specs.Held.{has_runs}
 use Rattle.search_plans.specs.Bounds.{DecidedAreTrue}
 use Rattle.search_plans.specs.Planned.{is_true, is_match, DecidedMatch, DecidedPartsMatch, ArePlansFor}
-use Rattle.search_plans.specs.Sides.{IsSide}
+use Rattle.search_plans.specs.private.Sides.{IsSide}
 use Rattle.search_plans.proofs.HeldRuns.{TestsAreItems}
 use Rattle.search_plans.proofs.Decided.{decided_same, runs_same}
 

@@ -14,7 +14,7 @@ use Rattle.ldap_eval.specs.Bound.{bound_value}
 use Rattle.ldap_eval.specs.declared.bound.BoundFilter.{BoundFilter}
 use Rattle.search_plans.specs.Bounds.{is_decided, IsBetween, DecidedAreTrue}
 use Rattle.search_plans.specs.OctetRuns.{has_runs_for}
-use Rattle.search_plans.specs.Sides.{IsSide, EachSide, none, one_more}
+use Rattle.search_plans.specs.private.Sides.{IsSide, EachSide, none, one_more}
 pub use Rattle.search_plans.proofs.Standing.{and_parts}
 pub use Rattle.search_plans.proofs.Standing.{and_from}
 pub use Rattle.search_plans.proofs.Standing.{or_parts}

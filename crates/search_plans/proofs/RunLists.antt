@@ -20,7 +20,8 @@ use Rattle.search_plans.proofs.PlanEquations.{in_plan-Posting, in_plan-Inter, in
 use Rattle.ldap_eval.specs.Bound.{leaf_value}
 use Rattle.ldap_eval.specs.declared.bound.Leaf.{Leaf}
 use Rattle.search_plans.specs.Bounds.{Bounds, is_test_decided}
-use Rattle.search_plans.specs.OctetRuns.{runs_of, runs_of_all, run_plans, parts_of, has_runs, has_runs_of_test}
+use Rattle.search_plans.specs.OctetRuns.{runs_of, runs_of_all, parts_of, has_runs, has_runs_of_test}
+use Rattle.search_plans.specs.private.OctetRuns.{run_plans}
 use Rattle.search_plans.proofs.LeafValues.{leaf_as, of_true, leaf_unknown, leaf_two_valued, test_holds, bounds_flip}
 use Rattle.search_plans.proofs.LeafPlans.{and_kept, unknown_not_true}
 use Rattle.search_plans.proofs.PartRuns.{parts_entry}

@@ -6,7 +6,8 @@ use Rattle.dir_index.specs.ldap_match.declared.truth.Truth.TheVariants.{True, Fa
 use Rattle.dir_index.specs.Postings.{IsRising}
 use Rattle.search_plans.specs.Streams.{Draws}
 use Rattle.search_plans.specs.Sets.{Guides}
-use Rattle.search_plans.specs.Runs.{is_true, true_set, is_open, is_wanted, IsUnderWay}
+use Rattle.search_plans.specs.Runs.{is_true, true_set, is_open, is_wanted}
+use Rattle.search_plans.specs.private.Runs.{IsUnderWay}
 
 filter_short : (p : ℕ → Bool) (xs : List ℕ) → length (filter p xs) ≤ length xs
 filter_short p [] = omega arith

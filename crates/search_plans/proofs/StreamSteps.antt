@@ -2,7 +2,7 @@
 use Rattle.std.proofs.Common.{◌≡◌, ℕ, ◌+◌, ◌<◌, List, [], ◌∷◌, ◌++◌, length, map, take, drop, get_or, set, sym, ap, subst, ◌∙◌, Option}
 use Rattle.std.proofs.lemmas.List.{take_more}
 use Rattle.std.proofs.lemmas.List.Edits.{map_over_more}
-use Rattle.search_plans.specs.Streams.{behind, IsLeastHead, lesser}
+use Rattle.search_plans.specs.private.Streams.{behind, IsLeastHead, lesser}
 use Rattle.search_plans.proofs.Together.{least_push}
 
 pub least_step : (ls : List (List ℕ)) (i : ℕ) (x : List ℕ) (best best' : Option ℕ) → i < length ls → x ≡ get_or ls i x → best' ≡ lesser best x

@@ -3,8 +3,10 @@ use Rattle.std.proofs.Common.{◌≡◌, ℕ, ◌<◌, ◌≤◌, Bool, true, fa
 use Rattle.std.specs.Prelude.{nat_lt}
 use Rattle.std.proofs.lemmas.Bool.{ltb-true, ltb-false, eqb-true, eqb-false, eq-eqb}
 use Rattle.std.specs.List.{list_any, AllByRecursion}
-use Rattle.dir_index.specs.Postings.{has_number, IsRising, AreRising}
-use Rattle.search_plans.specs.Streams.{put, put_all, together, behind, begins_with, BeginsFrom, IsLeastHead, lesser}
+use Rattle.dir_index.specs.Postings.{has_number, IsRising}
+use Rattle.dir_index.specs.private.Postings.{AreRising}
+use Rattle.search_plans.specs.Streams.{put, put_all, together}
+use Rattle.search_plans.specs.private.Streams.{behind, begins_with, BeginsFrom, IsLeastHead, lesser}
 use Rattle.search_plans.proofs.Rising.{all_above, rising_same}
 use Rattle.search_plans.proofs.Searching.{or_late}
 

@@ -17,7 +17,7 @@ use Rattle.ldap_eval.specs.declared.bound.BoundFilter.TheVariants.{rolls-And}
 use Rattle.ldap_eval.specs.declared.bound.BoundFilter.TheOpen.{BoundFilter-F}
 use Rattle.ldap_eval.specs.declared.bound.BoundFilter.TheVariants as bound
 use Rattle.search_plans.specs.Bounds.{Bounds, BoundsSets, DecidedAreTrue, GuidesRuns, IsBetween, is_decided}
-use Rattle.search_plans.specs.Sides.{IsSide, IsEvery, IsAny, EachSide}
+use Rattle.search_plans.specs.private.Sides.{IsSide, IsEvery, IsAny, EachSide}
 use Rattle.search_plans.proofs.FilterEquations.{value-And, value-Or, value-Not, decided-And, decided-Or, decided-Not, runs-And, runs-Or, runs-Not}
 use Rattle.search_plans.proofs.Rows.{all, and_of_true, and_of_false, or_of_true, or_of_false, runs_of_every, runs_of_some, negated, decided_parts}
 

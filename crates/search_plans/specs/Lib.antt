@@ -8,7 +8,7 @@ pub mod Decided
 pub mod Held
 pub mod Planned
 pub mod OctetRuns
-pub mod Sides
+pub mod private
 -- what layers above name of the crates below
 pub use Rattle.dir_index.specs.ldap_match as ldap_match
 pub use Rattle.dir_index.specs.index_choice as index_choice

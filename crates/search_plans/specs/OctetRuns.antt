@@ -1,6 +1,6 @@
 -- Runs of three octets. A substrings assertion's parts and an entry flow in; which runs the entry has to hold flows
 -- out. How the runs are found is not here.
-use Rattle.std.specs.Prelude.{ℕ, List, [], ◌∷◌, ◌++◌, map, Bool, true, false, not, ◌||◌}
+use Rattle.std.specs.Prelude.{ℕ, List, [], ◌∷◌, ◌++◌, Bool, true, false, not, ◌||◌}
 use Rattle.std.specs.List.{list_any, list_all}
 use Rattle.ldap_eval.specs.ldap_syntax.Parts.{part_or_nothing}
 use Rattle.ldap_eval.specs.ldap_match.Parts.{PartsModel}
@@ -10,9 +10,6 @@ use Rattle.ldap_eval.specs.dir_entry.Entry.{KeyedAttribute}
 use Rattle.dir_index.specs.index_choice.declared.kinds.Kinds.{Kinds}
 use Rattle.dir_index.specs.index_choice.Choice.{kinds_of}
 use Rattle.dir_index.specs.Postings.{some_key, stands_in}
-use Rattle.dir_index.specs.declared.posting.Posting.TheVariants as posting
-use Rattle.search_plans.specs.declared.plan.Plan.{Plan}
-use Rattle.search_plans.specs.declared.plan.Plan.TheVariants as plan
 use Rattle.ldap_eval.specs.declared.bound.BoundFilter.{BoundFilter, fold-BoundFilter}
 use Rattle.ldap_eval.specs.declared.bound.BoundFilter.TheOpen.{BoundFilter-F}
 
@@ -31,10 +28,6 @@ runs_of_all (x ∷ xs) = runs_of x ++ runs_of_all xs
 -- all parts of an assertion
 abbrev pub parts_of : PartsModel → List (List ℕ)
 parts_of p = part_or_nothing p.initial ∷ (p.any ++ part_or_nothing p.last ∷ [])
-
--- for each run the posting list of the entries that hold it
-abbrev pub run_plans : ℕ → List (List ℕ) → List Plan
-run_plans t gs = map (λ g. plan.Posting (posting.Run t g)) gs
 
 -- an entry has values of the type that hold each run of three octets of each part
 abbrev pub has_runs : ℕ → PartsModel → List KeyedAttribute → Bool

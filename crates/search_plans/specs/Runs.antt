@@ -1,10 +1,9 @@
 -- What a run of plans is given, and how far it has come. Numbers, tests of them and values flow in and out; what
 -- keeps the posting lists is not here.
-use Rattle.std.specs.Prelude.{◌≡◌, ℕ, ◌+◌, ◌^◌, ◌<◌, ◌≤◌, Bool, true, false, ◌&&◌, not, List, ◌++◌, filter, length, take}
-use Rattle.std.specs.Prelude.{drop}
+use Rattle.std.specs.Prelude.{ℕ, Bool, true, false, ◌&&◌, not, List, filter}
 use Rattle.dir_index.specs.ldap_match.declared.truth.Truth.{Truth}
 use Rattle.dir_index.specs.ldap_match.declared.truth.Truth.TheVariants.{True, False, Undefined}
-use Rattle.dir_index.specs.Postings.{Lists, has_number, IsRising}
+use Rattle.dir_index.specs.Postings.{Lists, has_number}
 use Rattle.search_plans.specs.Sets.{is_in, Guides}
 use Rattle.search_plans.specs.declared.plan.Sided.{Sided}
 
@@ -38,25 +37,9 @@ pub record Progress : Type 0 where
   pub tests : ℕ
   pub looks : ℕ
 
--- whether a number is in a scope and left open
-abbrev pub is_asked : (ℕ → Bool) → (ℕ → Bool) → List ℕ → ℕ → Bool
-is_asked must may scope n = has_number n scope && is_open must may n
-
--- the same by plans
-abbrev pub is_left_open : Lists → Sided → List ℕ → ℕ → Bool
-is_left_open kept s scope n = is_asked (is_in kept scope s.must) (is_in kept scope s.may) scope n
-
 -- whether a number is in a scope and its value is True
 abbrev pub is_wanted : (ℕ → Truth) → List ℕ → ℕ → Bool
 is_wanted value scope n = has_number n scope && is_true (value n)
-
--- where it is known of candidates, they all are in scope
-abbrev pub AreInside : Bool → List ℕ → List ℕ → Type 0
-AreInside is_known candidates scope = is_known ≡ true → (n : ℕ) → has_number n candidates ≡ true → has_number n scope ≡ true
-
--- where it is known of candidates, they all must be found
-abbrev pub AreSure : Bool → (ℕ → Bool) → List ℕ → Type 0
-AreSure is_known must candidates = is_known ≡ true → (n : ℕ) → has_number n candidates ≡ true → must n ≡ true
 
 -- The progress of a run that has these candidates left.
 abbrev pub progress_of : (ℕ → Bool) → (ℕ → Bool) → (ℕ → Truth) → List ℕ → List ℕ → ℕ → ℕ → Progress
@@ -66,15 +49,3 @@ progress_of must may value scope candidates tests looks = record {
   tests = tests;
   looks = looks;
 }
-
--- A run under way: the numbers that were asked for are the first of those left open, the others are among the
--- candidates that are left, all above what was passed, and there is room to count them.
-pub record IsUnderWay (must may : ℕ → Bool) (value : ℕ → Truth) (scope candidates : List ℕ) (tests looks : ℕ)
-    : Type 0 where
-  pub scope_rises : IsRising scope
-  pub guides : Guides must value may scope
-  pub left : drop tests (filter (is_open must may) scope) ≡ filter (is_asked must may scope) candidates
-  pub rises : IsRising (take tests (filter (is_open must may) scope) ++ candidates)
-  pub within : tests ≤ length (filter (is_open must may) scope)
-  pub fits : length (filter (is_open must may) scope) < 2 ^ 64
-  pub room : looks + length (filter (is_open must may) scope) < 2 ^ 64 + tests

@@ -1,6 +1,6 @@
 -- The sets that plans mean. A plan flows in, with what is kept and a scope, or with one entry; a set, or a yes or
 -- no, flows out. Filters are not here.
-use Rattle.std.specs.Prelude.{◌≡◌, ℕ, ◌<◌, Bool, true, false, ◌&&◌, not, List, [], ◌∷◌, filter}
+use Rattle.std.specs.Prelude.{◌≡◌, ℕ, ◌<◌, Bool, true, false, ◌&&◌, not, List, [], ◌∷◌}
 use Rattle.std.specs.List.{list_any, list_all, AllByRecursion}
 use Rattle.dir_index.specs.ldap_match.declared.truth.Truth.{Truth}
 use Rattle.dir_index.specs.ldap_match.declared.truth.Truth.TheVariants.{True}
@@ -37,14 +37,6 @@ holds ix e =
 abbrev pub is_in : Lists → List ℕ → Plan → ℕ → Bool
 is_in kept scope p n =
     in_plan (has_number n scope) (λ x. has_number n (kept.posting x)) (λ r. has_number n (kept.range r)) p
-
--- the same where it is known whether the number is in scope
-abbrev pub is_in_when : Lists → Bool → Plan → ℕ → Bool
-is_in_when kept in_scope p n = in_plan in_scope (λ x. has_number n (kept.posting x)) (λ r. has_number n (kept.range r)) p
-
--- the set of a plan within the scope, in order
-abbrev pub plan_set : Lists → List ℕ → Plan → List ℕ
-plan_set kept scope p = filter (is_in kept scope p) scope
 
 -- each entry's number is above those before it
 abbrev pub AreNumbered : List Indexed → Type 0

@@ -16,7 +16,7 @@ ghost use Rattle.ldap_eval.specs.Made.{IsMadeOf};
 ghost use Rattle.search_plans.specs.Bounds.{is_decided, Bounds, BoundsSets, DecidedAreTrue, GuidesRuns};
 ghost use Rattle.search_plans.specs.Planned.{ArePlansFor};
 ghost use Rattle.search_plans.specs.OctetRuns.{has_runs_for};
-ghost use Rattle.search_plans.specs.Sides.{IsSide, IsEvery, IsAny, EachSide};
+ghost use Rattle.search_plans.specs.private.Sides.{IsSide, IsEvery, IsAny, EachSide};
 
 use crate::agreeing::sets_are_of_entries;
 use crate::joining::join_bounds;

@@ -4,7 +4,8 @@
 ghost use Rattle.std.specs.Prelude.{◌≡◌, true};
 ghost use Rattle.std.specs.List.{list_any, list_all};
 ghost use Rattle.dir_index.specs.Postings.{has_number};
-ghost use Rattle.search_plans.specs.Sets.{is_in, is_in_when};
+ghost use Rattle.search_plans.specs.Sets.{is_in};
+ghost use Rattle.search_plans.specs.private.Sets.{is_in_when};
 
 use crate::plan::Plan;
 use crate::scope::Scope;

@@ -3,10 +3,12 @@
 
 ghost use Rattle.std.specs.Prelude.{◌≡◌, ℕ, false, IfOk, OnOk};
 ghost use Rattle.std.specs.List.{list_any, list_all};
-ghost use Rattle.dir_index.specs.Postings.{has_number, IsRising, AreRising};
+ghost use Rattle.dir_index.specs.Postings.{has_number, IsRising};
+ghost use Rattle.dir_index.specs.private.Postings.{AreRising};
 ghost use Rattle.search_plans.specs.Sets.{is_in};
-ghost use Rattle.search_plans.specs.Runs.{AreInside, AreSure};
-ghost use Rattle.search_plans.specs.Streams.{Covers, Draws, Gathers, GathersAll, together};
+ghost use Rattle.search_plans.specs.private.Runs.{AreInside, AreSure};
+ghost use Rattle.search_plans.specs.Streams.{Covers, Draws, together};
+ghost use Rattle.search_plans.specs.private.Streams.{Gathers, GathersAll};
 
 use crate::estimating::{is_cheap, is_cheap_listed, smallest};
 use crate::listing::push_listed;

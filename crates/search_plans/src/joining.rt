@@ -7,7 +7,7 @@ ghost use Rattle.std.specs.List.{list_all};
 ghost use Rattle.ldap_eval.specs.dir_entry.Entry.{KeyedAttribute};
 ghost use Rattle.dir_index.specs.index_choice.declared.kinds.Kinds.{Kinds};
 ghost use Rattle.search_plans.specs.Sets.{holds};
-ghost use Rattle.search_plans.specs.Sides.{IsImplied, is_between};
+ghost use Rattle.search_plans.specs.private.Sides.{IsImplied, is_between};
 
 use crate::plan::Plan;
 use dir_index::{Posting, Range};

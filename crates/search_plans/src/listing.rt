@@ -3,7 +3,8 @@
 
 ghost use Rattle.std.specs.Prelude.{◌≡◌, ◌||◌, ℕ, List, true, IfOk, IfSome, OnOk};
 ghost use Rattle.std.specs.List.{list_any};
-ghost use Rattle.dir_index.specs.Postings.{Lists, has_number, AreRising, IsRising};
+ghost use Rattle.dir_index.specs.Postings.{Lists, has_number, IsRising};
+ghost use Rattle.dir_index.specs.private.Postings.{AreRising};
 ghost use Rattle.search_plans.specs.Sets.{is_in};
 
 use crate::plan::Plan;

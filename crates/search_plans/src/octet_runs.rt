@@ -4,7 +4,8 @@
 ghost use Rattle.std.specs.Prelude.{◌≡◌, ◌++◌, OnOk, IfOk};
 ghost use Rattle.std.specs.Option.{option_copied};
 ghost use Rattle.ldap_eval.specs.ldap_syntax.Parts.{part_or_nothing};
-ghost use Rattle.search_plans.specs.OctetRuns.{parts_of, run_plans, runs_of, runs_of_all};
+ghost use Rattle.search_plans.specs.OctetRuns.{parts_of, runs_of, runs_of_all};
+ghost use Rattle.search_plans.specs.private.OctetRuns.{run_plans};
 
 use crate::plan::Plan;
 use dir_index::Posting;

@@ -29,7 +29,8 @@ pub struct Running<'a, K: Kept, V: Values> {
 
 impl<'a, K: Kept, V: Values> Model for Running<'a, K, V> {
     ghost use Rattle.search_plans.specs.Sets.{is_in};
-    ghost use Rattle.search_plans.specs.Runs.{Progress, progress_of, IsUnderWay, AreInside, AreSure};
+    ghost use Rattle.search_plans.specs.Runs.{Progress, progress_of};
+    ghost use Rattle.search_plans.specs.private.Runs.{IsUnderWay, AreInside, AreSure};
 
     ghost Value = { Progress };
 

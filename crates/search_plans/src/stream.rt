@@ -3,8 +3,9 @@
 // What must not be here: plans, entries.
 
 ghost use Rattle.std.specs.Prelude.{◌≡◌, ◌∷◌, [], map, MatchOption};
-ghost use Rattle.search_plans.specs.Streams.{behind as left_behind, lesser, together, IsLeastHead};
-ghost use Rattle.dir_index.specs.Postings.{AreRising};
+ghost use Rattle.search_plans.specs.Streams.{together};
+ghost use Rattle.search_plans.specs.private.Streams.{behind as left_behind, lesser, IsLeastHead};
+ghost use Rattle.dir_index.specs.private.Postings.{AreRising};
 
 use crate::walking::Walk;
 use std::marker::Model;
@@ -18,7 +19,7 @@ pub struct Stream<'a> {
 impl<'a> Model for Stream<'a> {
     ghost use Rattle.std.specs.Prelude.{ℕ, List};
     ghost use Rattle.search_plans.specs.Streams.{together};
-    ghost use Rattle.dir_index.specs.Postings.{AreRising};
+    ghost use Rattle.dir_index.specs.private.Postings.{AreRising};
 
     ghost Value = { List ℕ };
 

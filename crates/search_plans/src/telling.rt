@@ -4,7 +4,8 @@
 ghost use Rattle.std.specs.Prelude.{◌≡◌, ℕ, ◌+◌, ◌^◌, ◌<◌, true, cond};
 ghost use Rattle.dir_index.specs.Postings.{has_number};
 ghost use Rattle.search_plans.specs.Sets.{is_in};
-ghost use Rattle.search_plans.specs.Runs.{is_left_open, is_wanted, AreGuides};
+ghost use Rattle.search_plans.specs.Runs.{is_wanted, AreGuides};
+ghost use Rattle.search_plans.specs.private.Runs.{is_left_open};
 
 use crate::containing::contains_inside;
 use crate::gathering::Known;

@@ -3,7 +3,7 @@
 // What must not be here: walks through several lists at once, plans.
 
 ghost use Rattle.std.specs.Prelude.{◌≡◌, slice_get};
-ghost use Rattle.search_plans.specs.Streams.{behind as left_behind};
+ghost use Rattle.search_plans.specs.private.Streams.{behind as left_behind};
 
 use shared_map::{NumberSet, NumberWalk};
 use std::marker::Model;

@@ -10,8 +10,9 @@ use Rattle.directory_api.specs.log_entry.declared.words.Client.{Client}
 use Rattle.request_checks.specs.Requests.{answering_of}
 use Rattle.session_handler.specs.Responses.{search_messages, compare_messages}
 use Rattle.session_handler.specs.Session.{ConfigValue, Reaction, at_once, due, nothing, a_search, a_compare, an_update, asked, number_seen, reading_from, after_search, after_compare, after_update, asked_state}
-use Rattle.session_handler.specs.Heard.{IsPending}
-use Rattle.session_handler.specs.Taken.{AreSaid, IsDone, HasTaken, OutcomeOf}
+use Rattle.session_handler.specs.private.Heard.{IsPending}
+use Rattle.session_handler.specs.Taken.{AreSaid, IsDone, HasTaken}
+use Rattle.session_handler.specs.private.Taken.{OutcomeOf}
 use Rattle.session_handler.specs.Turns.{Outcome, reacts, searches, compares, updates, Inquiry, asks, Turn, answers, inquires}
 use Rattle.session_handler.specs.declared.answered.Answered.{Answered}
 use Rattle.session_handler.specs.declared.answered.Next.TheVariants.{GoesOn}

@@ -1,10 +1,10 @@
 pub mod Responses
 pub mod Session
-pub mod Heard
 pub mod Turns
 pub mod Rising
 pub mod Taken
 pub mod View
+pub mod private
 -- what layers above name of the crates below
 pub use Rattle.request_checks.specs.ldap_fields as ldap_fields
 pub use Rattle.request_checks.specs.ldap_msg as ldap_msg

@@ -5,10 +5,8 @@ use Rattle.request_checks.specs.ldap_msg.Messages.{MessageValue}
 use Rattle.request_checks.specs.ldap_msg.Written.{message_bytes}
 use Rattle.directory_api.specs.Talk.{Exchange, Along}
 use Rattle.request_checks.specs.Messages.{HasTooLong}
-use Rattle.session_handler.specs.Session.{Reaction, Asked}
-use Rattle.session_handler.specs.Turns.{Outcome}
+use Rattle.session_handler.specs.Session.{Reaction}
 use Rattle.request_checks.specs.declared.identity.Identity.TheVariants.{Anonymous}
-use Rattle.session_handler.specs.declared.pending.Pending.{Pending}
 use Rattle.session_handler.specs.declared.state.State.{State}
 use Rattle.session_handler.specs.declared.answered.Answered.{Answered}
 use Rattle.session_handler.specs.declared.answered.Next.{Next}
@@ -37,7 +35,3 @@ pub record HasTaken {D T : Type 0} (allows : D → Exchange T → D → Type 0) 
   pub turn : turns talk reaction
   pub along : Along allows d talk e
   pub done : IsDone reaction after result
-
--- what a request that waits for its answer comes to, along what is asked for it
-abbrev pub OutcomeOf : {T : Type 0} → State → Pending → Asked → List (Exchange T) → Reaction → Type 0
-OutcomeOf s p question = Outcome s p.id p.answering p.named question

@@ -3,7 +3,7 @@
 ghost use Rattle.std.specs.Prelude.{◌≡◌, None, map};
 ghost use Rattle.request_checks.specs.ldap_msg.Messages.{request as request_operation};
 ghost use Rattle.request_checks.specs.ldap_msg.View.{view, request_view, control_view};
-ghost use Rattle.session_handler.specs.Heard.{IsHeard};
+ghost use Rattle.session_handler.specs.private.Heard.{IsHeard};
 ghost use Rattle.session_handler.specs.Session.{silence_of};
 
 use crate::answered::Next;

@@ -7,7 +7,8 @@ ghost use Rattle.directory_api.specs.View.{role_view, reply_view, answer_view};
 ghost use Rattle.request_checks.specs.Binding.{bound};
 ghost use Rattle.request_checks.specs.Requests.{update_of, answering_of};
 ghost use Rattle.session_handler.specs.Session.{a_search, a_compare, asked, asked_of, bound_reaction, named_number, number_seen, is_recovering};
-ghost use Rattle.session_handler.specs.Taken.{IsDone, HasTaken, OutcomeOf};
+ghost use Rattle.session_handler.specs.Taken.{IsDone, HasTaken};
+ghost use Rattle.session_handler.specs.private.Taken.{OutcomeOf};
 ghost use Rattle.session_handler.specs.Turns.{Inquiry, Turn};
 ghost use Rattle.session_handler.specs.View.{config_view};
 

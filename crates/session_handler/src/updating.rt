@@ -6,7 +6,8 @@ ghost use Rattle.directory_api.specs.ldap_op.View.{update_view};
 ghost use Rattle.directory_api.specs.View.{role_view, ended_view};
 ghost use Rattle.session_handler.specs.Responses.{done_message};
 ghost use Rattle.session_handler.specs.Session.{an_update, after_update, requests_after, update_as, update_at, update_by};
-ghost use Rattle.session_handler.specs.Taken.{AreSaid, IsDone, HasTaken, OutcomeOf};
+ghost use Rattle.session_handler.specs.Taken.{AreSaid, IsDone, HasTaken};
+ghost use Rattle.session_handler.specs.private.Taken.{OutcomeOf};
 ghost use Rattle.session_handler.specs.View.{config_view};
 
 use crate::answered::{Answered, Next};

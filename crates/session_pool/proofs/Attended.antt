@@ -4,7 +4,8 @@ use Rattle.std.specs.Bool.{OnTrue, OnFalse}
 use Rattle.ldap_session.specs.directory_api.Talk.{Exchange}
 use Rattle.ldap_session.specs.session_handler.Session.{ConfigValue}
 use Rattle.ldap_session.specs.View.{ConversationValue}
-use Rattle.session_pool.specs.Attending.{talk, IsSame, HasSent, HasToWrite, AnswersNext, AnswersInTurn, AnswersSome}
+use Rattle.session_pool.specs.Attending.{talk, IsSame, HasSent, AnswersNext, AnswersInTurn, AnswersSome}
+use Rattle.session_pool.specs.private.Attending.{HasToWrite}
 use Rattle.session_pool.specs.Attending as turns
 use Rattle.session_pool.specs.declared.pooled.PooledSession.{PooledSession}
 

@@ -2,7 +2,7 @@
 use Rattle.std.proofs.Common.{◌≡◌, ℕ, List, [], ◌∷◌, ◌++◌, Option, None, Some, refl, sym, ap, ◌∙◌}
 use Rattle.std.specs.Prelude.{slice_set}
 use Rattle.session_table.specs.declared.spot.Spot.{Spot}
-use Rattle.session_pool.specs.Tabling.{Tabled, lined_up}
+use Rattle.session_pool.specs.private.Tabling.{Tabled, lined_up}
 use Rattle.session_pool.specs.declared.pooled.PooledSession.{PooledSession}
 use Rattle.session_pool.specs.declared.place_state.PlaceState.TheVariants.{Ready, Updates}
 use Rattle.session_pool.specs.declared.place_state.Turn.{Turn}

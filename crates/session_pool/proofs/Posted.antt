@@ -5,8 +5,8 @@ use Rattle.std.specs.declared.time.Duration.{Duration}
 use Rattle.std.specs.declared.time.Instant.{Instant}
 use Rattle.std.proofs.lemmas.Bool.Decides.{eqb_tells}
 use Rattle.std.proofs.lemmas.Option.{slice_get_within}
-use Rattle.session_pool.specs.Attending.{IsLate}
-use Rattle.session_pool.specs.Posting.{IsPast, IsClosedFor, HasPost, IsGone}
+use Rattle.session_pool.specs.private.Attending.{IsLate}
+use Rattle.session_pool.specs.private.Posting.{IsPast, IsClosedFor, HasPost, IsGone}
 use Rattle.session_pool.specs.declared.pooled.PooledSession.{PooledSession}
 use Rattle.session_pool.specs.declared.updaters.Updater.{Updater}
 

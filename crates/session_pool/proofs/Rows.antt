@@ -6,7 +6,8 @@ use Rattle.ldap_session.specs.View.{ConversationValue}
 use Rattle.ldap_session.specs.declared.due.Due.TheVariants.{Nothing as DueNothing}
 use Rattle.ldap_session.specs.declared.end.SessionEnd.{SessionEnd}
 use Rattle.client_link.specs.Served.{config_of}
-use Rattle.session_pool.specs.Attending.{talk, IsSame, IsAllSaid, IsHeardEnd, HasHeard, Becomes}
+use Rattle.session_pool.specs.Attending.{talk, IsSame, IsAllSaid, IsHeardEnd, Becomes}
+use Rattle.session_pool.specs.private.Attending.{HasHeard}
 use Rattle.session_pool.specs.Sittings.{Sitting, InARow, sits, sits_on, InARowUpTo, Attends}
 use Rattle.session_pool.specs.declared.pooled.PooledSession.{PooledSession}
 use Rattle.session_pool.specs.declared.pooled.Heard.TheVariants.{Octets, Nothing, Ends as HeardEnds}

@@ -6,7 +6,7 @@ use Rattle.std.proofs.lemmas.Bool.Decides.{eqb_tells, leb_tells}
 use Rattle.std.proofs.lemmas.Bool.{ltb-true, lt-ltb}
 use Rattle.std.proofs.lemmas.Option.{slice_get_within}
 use Rattle.std.proofs.lemmas.Map.Steps.{length-le_from_distinct_below}
-use Rattle.session_pool.specs.Stands.{times, once, is_free, is_ready, is_updates, is_waiting, is_in_queue, is_made, is_here, has_some}
+use Rattle.session_pool.specs.private.Stands.{times, once, is_free, is_ready, is_updates, is_waiting, is_in_queue, is_made, is_here, has_some}
 use Rattle.session_table.specs.declared.spot.Queue.{Queue}
 use Rattle.session_table.specs.declared.spot.Spot.{Spot}
 use Rattle.session_table.specs.declared.spot.Spot.TheVariants.{Away as SpotAway, In}

@@ -1,13 +1,10 @@
 -- What becomes of a session in the hands of a thread. The session before and after come in, with the directory that served it; what was heard,
 -- said and answered comes out. Sockets and clocks are not here.
-use Rattle.std.specs.Prelude.{◌≡◌, ◌⊎◌, ◌≤◌, ◌↔◌, ◌+◌, ◌*◌, ◌/◌, min, true, ℤ, ℕ, suc, List, [], take, length, false, Option, Some, None, unwrap_or}
-use Rattle.std.specs.Io.KnownBytes.{Appends, Consumes}
-use Rattle.std.specs.Duration.{as_nanos, max_nanos}
-use Rattle.std.specs.declared.time.Duration.{Duration}
-use Rattle.std.specs.declared.time.Instant.{Instant}
+use Rattle.std.specs.Prelude.{◌≡◌, ◌⊎◌, ◌≤◌, ℕ, suc, List, [], take, length, Option, Some, None}
+use Rattle.std.specs.Io.KnownBytes.{Consumes}
 use Rattle.ldap_session.specs.directory_api.Talk.{Exchange}
 use Rattle.ldap_session.specs.session_handler.Session.{ConfigValue}
-use Rattle.ldap_session.specs.View.{SessionValue, ConversationValue, conversation_view}
+use Rattle.ldap_session.specs.View.{ConversationValue, conversation_view}
 use Rattle.ldap_session.specs.Conversing.{Hears, Continues, sends}
 use Rattle.ldap_session.specs.Progress.{IsAtLast}
 use Rattle.ldap_session.specs.Waiting.{due}
@@ -16,14 +13,7 @@ use Rattle.ldap_session.specs.declared.due.Due.TheVariants.{Nothing as DueNothin
 use Rattle.ldap_session.specs.declared.due.Step.{Step}
 use Rattle.ldap_session.specs.declared.end.SessionEnd.{SessionEnd}
 use Rattle.ldap_session.specs.declared.end.SessionEnd.TheVariants.{ReadFailed, WriteFailed, NoMemory}
-use Rattle.session_table.specs.declared.spot.Queue.{Queue}
-use Rattle.session_table.specs.declared.spot.Queue.TheVariants.{Silent, Inside, Unsent}
-use Rattle.session_pool.specs.Posting.{IsPast}
-use Rattle.session_pool.specs.declared.place_state.Turn.{Turn}
-use Rattle.session_pool.specs.declared.place_state.Turn.TheVariants.{Update}
 use Rattle.session_pool.specs.declared.pooled.PooledSession.{PooledSession}
-use Rattle.session_pool.specs.declared.pooled.Heard.{Heard}
-use Rattle.session_pool.specs.declared.pooled.Heard.TheVariants.{Octets, Nothing, Ends as HeardEnds}
 use Rattle.session_pool.specs.declared.pooled.Then.{Then}
 use Rattle.session_pool.specs.declared.pooled.Then.TheVariants.{Listens, Updates, Queues, Waits, Ends as ThenEnds}
 
@@ -34,14 +24,6 @@ talk g = conversation_view g.conversation
 -- what stands next in it
 abbrev pub due_next : ConversationValue → Due
 due_next v = due v.end v.session.framed
-
--- it has something to write, or its socket is to wait again
-abbrev pub HasToWrite : PooledSession → Type 0
-HasToWrite g = (talk g).unsent ≡ [] → g.is_stuck ≡ true
-
--- its client has let octets wait for so long, and as long again for each MiB that it has taken of them
-abbrev pub IsSlow : PooledSession → Duration → Type 0
-IsSlow g limit = min (as_nanos limit * min (g.taken / 1048576 + 1) 4294967295) max_nanos ≤ as_nanos g.waited
 
 -- it is the same session, at the same place
 pub record IsSame (g h : PooledSession) : Type 0 where
@@ -58,18 +40,6 @@ pub record HearsSome (input left : Option (List ℕ)) (v : ConversationValue) (b
 -- why a session ends at a read: its stream ended between two messages or inside one, or the read failed, or there was no memory
 abbrev pub IsHeardEnd : ConversationValue → SessionEnd → Type 0
 IsHeardEnd v end = IsAtLast v.session end ⊎ ((end ≡ ReadFailed) ⊎ (end ≡ NoMemory))
-
--- What a read of an input gave: octets, nothing, or the end.
-abbrev pub HasHeard : Option (List ℕ) → Option (List ℕ) → ConversationValue → List ℕ → ConversationValue → Heard → Type 0
-HasHeard input left v buffer w Octets = HearsSome input left v buffer w
-HasHeard input left v buffer w Nothing = (w ≡ v) × Consumes input left []
-HasHeard input left v buffer w (HeardEnds end) = (w ≡ v) × IsHeardEnd v end
-
--- a front of what was unsent, so many octets, was given to a writer, and nothing else has changed
-pub record SendsTo (output grown : Option (List ℕ)) (v w : ConversationValue) (count : ℕ) : Type 0 where
-  pub within : count ≤ length v.unsent
-  pub appended : Appends output grown (take count v.unsent)
-  pub sent : w ≡ sends v count
 
 -- a front of what was unsent is sent, and nothing else has changed
 pub record HasSent (v w : ConversationValue) : Type 0 where
@@ -90,84 +60,6 @@ Becomes v Updates = IsAllSaid v DueUpdate
 Becomes v Queues = IsAllSaid v DueOther
 Becomes v Waits = v.unsent ≡ [] → ⊥
 Becomes v (ThenEnds end) = ((v.unsent ≡ []) × (v.end ≡ Some end)) ⊎ (end ≡ WriteFailed)
-
--- Why a session becomes this by a write: its client may take its time still; or a write has failed, which is tried only where there is something to
--- write, or an answer was too long.
-abbrev pub HasCause : PooledSession → PooledSession → Duration → Then → Type 0
-HasCause g h limit Listens = Unit {0}
-HasCause g h limit Updates = Unit {0}
-HasCause g h limit Queues = Unit {0}
-HasCause g h limit Waits = IsSlow h limit → ⊥
-HasCause g h limit (ThenEnds end) = end ≡ WriteFailed → HasToWrite g ⊎ ((talk h).end ≡ Some WriteFailed)
-
--- all its messages are answered, and the client has all answers; or its next message may be an update
-pub record IsNext (g : PooledSession) (next : Due) : Type 0 where
-  pub free : g.is_stuck ≡ false
-  pub next_is : due_next (talk g) ≡ next
-
--- whether no whole message is left over
-abbrev pub IsSilent : PooledSession → Type 0
-IsSilent g = IsNext g DueNothing
-
--- whether the next message is an update
-abbrev pub IsUpdateNext : PooledSession → Type 0
-IsUpdateNext g = IsNext g DueUpdate
-
--- Since when a session waits inside of one message: as before, while no message is whole; not at all, once one is.
-abbrev pub began_while : Due → Option Instant → Option Instant
-began_while DueNothing began = began
-began_while DueUpdate began = None
-began_while DueOther began = None
-
--- the same, where it waits in a queue from now on: what waits inside of a message does so since then, or since it first did
-abbrev pub began_in : Queue → Option Instant → Instant → Option Instant
-began_in Inside began now = Some (unwrap_or began now)
-began_in Silent began now = None
-began_in Unsent began now = None
-
--- it waits in a queue from now on, and nothing of what was heard and said has changed
-pub record HasPaused (g : PooledSession) (queue : Queue) (now : Instant) (h : PooledSession) : Type 0 where
-  pub same : IsSame g h
-  pub kept : talk h ≡ talk g
-  pub since : h.since ≡ now
-  pub began : h.began ≡ began_in queue g.began now
-
--- it has waited inside of one message for so long
-pub record IsLate (g : PooledSession) (limit : Duration) (now : Instant) : Type 0 where
-  pub since : Instant
-  pub began : g.began ≡ Some since
-  pub past : IsPast since limit now
-
--- it waits no more: nothing of it has changed but how long its client has let octets wait
-pub record HasWaited (g h : PooledSession) : Type 0 where
-  pub same : IsSame g h
-  pub began : h.began ≡ g.began
-  pub kept : talk h ≡ talk g
-  pub stuck : h.is_stuck ≡ g.is_stuck
-
--- and its next message is for whom it waits now
-pub record HasRoused (g h : PooledSession) (turn : Turn) : Type 0 where
-  pub waited : HasWaited g h
-  pub turn_is : (turn ≡ Update) ↔ IsUpdateNext h
-
--- the session at a place is roused, if one is there
-pub record RousesOne (g : PooledSession) (after : Option PooledSession) (told : Option (ℤ × Turn)) : Type 0 where
-  pub pooled : PooledSession
-  pub fd : ℤ
-  pub turn : Turn
-  pub after_is : after ≡ Some pooled
-  pub told_is : told ≡ Some (fd, turn)
-  pub roused : HasRoused g pooled turn
-
--- nothing where no session waits there, else what rousing that one does
-abbrev pub RousesAt : Option PooledSession → Option PooledSession → Option (ℤ × Turn) → Type 0
-RousesAt None after told = (after ≡ None) × (told ≡ None)
-RousesAt (Some g) after told = RousesOne g after told
-
--- what it waits for in a stream that is none but messages: the rest of a message only inside one
-abbrev pub WaitsFor : SessionValue → Queue → Type 0
-WaitsFor s queue = s.framed.fault ≡ None →
-    ((queue ≡ Silent) × (s.framed.rest ≡ [])) ⊎ ((queue ≡ Inside) × (s.framed.rest ≡ [] → ⊥))
 
 -- a message was answered by a directory, wherever the conversation stood
 pub record Answers {D T : Type 0} (allows : D → Exchange T → D → Type 0) (c : ConfigValue) (v w : ConversationValue) (d e : D) : Type 0 where

@@ -1,5 +1,3 @@
 pub mod Attending
-pub mod Posting
 pub mod Sittings
-pub mod Stands
-pub mod Tabling
+pub mod private

@@ -3,7 +3,8 @@ ghost use Rattle.std.specs.Prelude.{◌≡◌, None};
 ghost use Rattle.std.specs.Bool.{OnTrue, OnFalse};
 ghost use Rattle.ldap_session.specs.session_handler.View.{config_view};
 ghost use Rattle.client_link.specs.Served.{config_of};
-ghost use Rattle.session_pool.specs.Attending.{talk, IsSame, HasHeard, Becomes, AnswersNext, AnswersSome};
+ghost use Rattle.session_pool.specs.Attending.{talk, IsSame, Becomes, AnswersNext, AnswersSome};
+ghost use Rattle.session_pool.specs.private.Attending.{HasHeard};
 ghost use Rattle.session_pool.specs.Sittings.{Sitting, Attends, HasAttendedSome};
 
 use crate::pool::SessionPool;

@@ -4,8 +4,8 @@ ghost use Rattle.std.specs.Prelude.{◌≡◌, ◌≤◌, ◌<◌, ◌++◌, ◌
 ghost use Rattle.std.specs.VecDeque.{deque_capacity};
 ghost use Rattle.session_table.specs.Places.{IsIn, NoneIn};
 ghost use Rattle.session_table.specs.declared.spot.Queue.{Queue};
-ghost use Rattle.session_pool.specs.Stands.{times, once, is_made, is_free, is_ready, is_updates, is_waiting, is_in_queue, is_here, has_some};
-ghost use Rattle.session_pool.specs.Attending.{RousesAt};
+ghost use Rattle.session_pool.specs.private.Stands.{times, once, is_made, is_free, is_ready, is_updates, is_waiting, is_in_queue, is_here, has_some};
+ghost use Rattle.session_pool.specs.private.Attending.{RousesAt};
 ghost use Rattle.session_pool.specs.declared.pooled.PooledSession.{PooledSession};
 ghost use Rattle.session_pool.specs.declared.place_state.PlaceState.{PlaceState};
 
@@ -62,8 +62,8 @@ fn roused(pooled: &mut Option<PooledSession>, now: Instant) -> Option<(RawFd, Tu
 }
 
 impl Places {
-    ghost use Rattle.session_pool.specs.Tabling.{tabled, IsAt, IsFree, Claims, freed, Parks, LinesUp, Wakes, Sits, Works, WaitsLongest, Rouses, NoneOverdue, LeavesTime};
-    ghost use Rattle.session_pool.specs.Posting.{IsPast};
+    ghost use Rattle.session_pool.specs.private.Tabling.{tabled, IsAt, IsFree, Claims, freed, Parks, LinesUp, Wakes, Sits, Works, WaitsLongest, Rouses, NoneOverdue, LeavesTime};
+    ghost use Rattle.session_pool.specs.private.Posting.{IsPast};
 
     /// Places, all free. Room for sessions is made as they come.
     pub fn new(alloc: Global, size: usize) -> Result<Places, AllocError>

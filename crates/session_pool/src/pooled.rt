@@ -3,7 +3,8 @@ ghost use Rattle.std.specs.Prelude.{◌≡◌, ◌↔◌, [], length, true, IsTr
 ghost use Rattle.ldap_session.specs.Conversing.{IsFresh};
 ghost use Rattle.ldap_session.specs.View.{conversation_view};
 ghost use Rattle.session_pool.specs.declared.place_state.Turn.{Turn};
-ghost use Rattle.session_pool.specs.Attending.{talk, due_next, IsSame, HasHeard, began_while, began_in, HasPaused, IsLate, HasSent, SendsTo, HasToWrite, IsSlow, HasCause, Becomes, WaitsFor, HasWaited, IsSilent, IsUpdateNext};
+ghost use Rattle.session_pool.specs.Attending.{talk, due_next, IsSame, HasSent, Becomes};
+ghost use Rattle.session_pool.specs.private.Attending.{HasHeard, began_while, began_in, HasPaused, IsLate, SendsTo, HasToWrite, IsSlow, HasCause, WaitsFor, HasWaited, IsSilent, IsUpdateNext};
 
 use crate::place_state::Turn;
 use crate::updaters::is_past;

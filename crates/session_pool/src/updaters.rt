@@ -2,7 +2,7 @@
 ghost use Rattle.std.specs.Prelude.{◌≡◌, ◌≤◌, ◌-◌, ◌↔◌, ℕ, IsTrue, IfOk, IfSome, IfNone, None, Some, length, replicate, slice_get, slice_set};
 ghost use Rattle.std.specs.Duration.{as_nanos};
 ghost use Rattle.std.specs.Time.{instant_nanos};
-ghost use Rattle.session_pool.specs.Posting.{posted, post_of, closed_post, IsPast, IsClosedFor, HasPost, IsOpen, IsGone};
+ghost use Rattle.session_pool.specs.private.Posting.{posted, post_of, closed_post, IsPast, IsClosedFor, HasPost, IsOpen, IsGone};
 
 use std::alloc::{AllocError, Global};
 use std::time::{Duration, Instant};

@@ -4,7 +4,7 @@ use Rattle.std.specs.Prelude.{slice_get, slice_set, nat_eq, IfSome, IfNone}
 use Rattle.std.proofs.lemmas.Bool.Decides.{eqb_tells}
 use Rattle.std.proofs.lemmas.Option.{slice_get_within}
 use Rattle.session_table.specs.Places.{IsAway, IsIn, IsLongest, NoneIn, HasPut}
-use Rattle.session_table.specs.Listed.{is_queue, IsFirstAt, Tells, AllTell}
+use Rattle.session_table.specs.private.Listed.{is_queue, IsFirstAt, Tells, AllTell}
 use Rattle.session_table.specs.declared.spot.Queue.{Queue}
 use Rattle.session_table.specs.declared.spot.Queue.TheVariants.{Silent, Inside, Unsent}
 use Rattle.session_table.specs.declared.spot.Spot.{Spot}

@@ -2,7 +2,7 @@
 ghost use Rattle.std.specs.Prelude.{◌≡◌, ◌&&◌, ℕ, cond, nat_eq, Some, None, IfSome, IfNone, IfOk, OnOk, OnErr};
 ghost use Rattle.std.specs.BTreeMap.{get};
 ghost use Rattle.std.specs.Ordering.{nat_cmp};
-ghost use Rattle.session_table.specs.Listed.{place_at, is_queue, IsFirstAt};
+ghost use Rattle.session_table.specs.private.Listed.{place_at, is_queue, IsFirstAt};
 ghost use Rattle.session_table.specs.declared.spot.Queue.{Queue};
 
 use crate::spot::Queue;

@@ -9,7 +9,8 @@ use Rattle.std.specs.Map.{keys_of}
 use Rattle.std.proofs.lemmas.Bool.{ltb-true, lt-ltb, le-leb, leb-true, leb-false}
 use Rattle.shared_map.specs.Entries.{IsAhead, Rises}
 use Rattle.shared_map.specs.Sets.{has_number, IsRising}
-use Rattle.shared_map.specs.Ahead.{ahead, IsHead, IsAmid}
+use Rattle.shared_map.specs.Ahead.{ahead}
+use Rattle.shared_map.specs.private.Ahead.{IsHead, IsAmid}
 use Rattle.shared_map.proofs.Order.{by_bool, rest_is}
 use Rattle.shared_map.proofs.Running.{cond-true, cond-false}
 

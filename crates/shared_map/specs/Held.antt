@@ -1,5 +1,5 @@
 -- What an octet string is seen as.
-use Rattle.std.specs.Prelude.{ℕ, ◌≤◌, List, take}
+use Rattle.std.specs.Prelude.{ℕ, List, take}
 use Rattle.shared_map.specs.declared.octets.Held.{Held}
 use Rattle.shared_map.specs.declared.octets.Held.TheVariants.{Short, Long}
 
@@ -7,8 +7,3 @@ use Rattle.shared_map.specs.declared.octets.Held.TheVariants.{Short, Long}
 abbrev pub octets_in : Held → List ℕ
 octets_in (Short n room) = take n room
 octets_in (Long all) = all.value.items
-
--- no more octets count than there is room for
-abbrev pub IsWithinRoom : Held → Type 0
-IsWithinRoom (Short n room) = n ≤ 22
-IsWithinRoom (Long all) = Unit {0}

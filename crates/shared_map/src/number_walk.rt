@@ -27,7 +27,8 @@ impl<'a> Drop for NumberWalk<'a> {
 
 impl<'a> Model for NumberWalk<'a> {
     ghost use Rattle.std.specs.Prelude.{ℕ, List};
-    ghost use Rattle.shared_map.specs.Ahead.{ahead, IsAmid};
+    ghost use Rattle.shared_map.specs.Ahead.{ahead};
+    ghost use Rattle.shared_map.specs.private.Ahead.{IsAmid};
 
     ghost Value = { List ℕ };
 

@@ -38,7 +38,8 @@ impl Drop for Octets {
 
 impl Model for Octets {
     ghost use Rattle.std.specs.Prelude.{ℕ, List};
-    ghost use Rattle.shared_map.specs.Held.{octets_in, IsWithinRoom};
+    ghost use Rattle.shared_map.specs.Held.{octets_in};
+    ghost use Rattle.shared_map.specs.private.Held.{IsWithinRoom};
 
     ghost Value = { List ℕ };
 

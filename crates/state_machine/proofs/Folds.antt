@@ -12,7 +12,8 @@ use Rattle.dir_store.specs.Updates.{updated, with_entries, applied, reply_to, di
 use Rattle.dir_store.specs.directory_api.View.{reply_view}
 use Rattle.dir_store.specs.directory_api.declared.reply.Reply.{Reply}
 use Rattle.dir_store.proofs.Joins.{after_join, replies_join}
-use Rattle.state_machine.specs.Executing.{IsFold, ops_of, replies_view}
+use Rattle.state_machine.specs.Executing.{ops_of}
+use Rattle.state_machine.specs.private.Executing.{IsFold, replies_view}
 
 -- an update leaves the schema and the suffix
 with_schema : (d : Directory) (r : Result (List NamedEntry) ReplyModel) → (with_entries d r).schema ≡ d.schema

@@ -1,4 +1,5 @@
 pub mod Executing
+pub mod private
 -- what layers above name of the crates below
 pub use Rattle.dir_store.specs as dir_store
 pub use Rattle.dir_store.specs.indexed_tree as indexed_tree

@@ -30,7 +30,8 @@ impl Drop for Executed {
 }
 
 impl Model for Executed {
-    ghost use Rattle.state_machine.specs.Executing.{ExecutedValue, IsFold, replies_view};
+    ghost use Rattle.state_machine.specs.Executing.{ExecutedValue};
+    ghost use Rattle.state_machine.specs.private.Executing.{IsFold, replies_view};
 
     ghost Value = { ExecutedValue };
 

@@ -38,7 +38,7 @@ impl<D: Device> Model for ViewStore<D> {
     ghost Value = { Stored D };
 
     ghost use Rattle.view_store.specs.Status.{status_of};
-    ghost use Rattle.view_store.specs.Store.{IsInMind};
+    ghost use Rattle.view_store.specs.private.Store.{IsInMind};
 
     ghost view = { λ s. record { device = s.device; cluster = s.cluster; status = status_of s.state } };
 

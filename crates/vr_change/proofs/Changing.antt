@@ -10,7 +10,7 @@ use Rattle.vr_state.specs.declared.words.Reply.{Reply}
 use Rattle.vr_state.specs.Outcome.{Outcome, after_sends, count, idle, indices, is_noted, sending, to_all}
 use Rattle.vr_state.specs.State.{State, greatest_view, primary, is_recovering}
 use Rattle.vr_state.specs.ViewChange.{beat_changing, begin_view, best, declare, enter, is_changing_in, note_change, note_start, on_do_view_change, on_start_view_change, on_suspect, send_change, try_begin}
-use Rattle.vr_change.specs.Rules.{note_change_in}
+use Rattle.vr_change.specs.private.Rules.{note_change_in}
 
 -- What was to be sent before, and nothing else.
 pub only_before : {P : Type 0} (r : State P) (before sends : List (Send P)) (replies : List Reply) → sends ≡ before → replies ≡ [] → ◌≡◌ {A = Outcome P} (record { state = r; sends = sends; replies = replies }) (after_sends before (idle r))

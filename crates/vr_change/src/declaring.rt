@@ -2,7 +2,7 @@
 // In: a replica that changes. Out: the replica's step by VRR 4.2, step 2, after what is sent before.
 // Nothing of when it is time for it is here.
 ghost use Rattle.std.specs.Prelude.{◌≡◌, IfOk, OnErr};
-ghost use Rattle.vr_change.specs.Rules.{declare_at, send_change_at};
+ghost use Rattle.vr_change.specs.private.Rules.{declare_at, send_change_at};
 ghost use Rattle.vr_state.specs.Outcome.{after_sends};
 ghost use Rattle.vr_state.specs.ViewChange.{own_change};
 ghost use Rattle.vr_state.specs.Views.{state, outcome};

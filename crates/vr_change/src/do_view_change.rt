@@ -2,7 +2,8 @@
 // In: the sender, its view and what it tells. Out: the replica's step by VRR 4.2, steps 1 and 3.
 // How the view begins stands in `beginning`.
 ghost use Rattle.std.specs.Prelude.{◌≡◌, IfOk, OnErr};
-ghost use Rattle.vr_change.specs.Rules.{do_entering_at, do_in_view_at, do_view_change_at, note_change_in_at};
+ghost use Rattle.vr_change.specs.Rules.{do_view_change_at};
+ghost use Rattle.vr_change.specs.private.Rules.{do_entering_at, do_in_view_at, note_change_in_at};
 ghost use Rattle.vr_state.specs.Outcome.{after_sends};
 ghost use Rattle.vr_state.specs.Views.{state, outcome, view_to_store};
 

@@ -2,7 +2,7 @@
 // In: a replica and a view. Out: the replica in that view, and what it left, to put it back where a sequel is refused memory.
 // What is sent then is a STARTVIEWCHANGE; no other message is here.
 ghost use Rattle.std.specs.Prelude.{◌≡◌, length, IfOk, OnOk, OnErr};
-ghost use Rattle.vr_change.specs.Rules.{put_back};
+ghost use Rattle.vr_change.specs.private.Rules.{put_back};
 ghost use Rattle.vr_state.specs.Outcome.{to_all};
 ghost use Rattle.vr_state.specs.ViewChange.{enter, is_changing_in};
 ghost use Rattle.vr_state.specs.declared.message.PeerMessage.TheVariants.{StartViewChange};

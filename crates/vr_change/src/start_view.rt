@@ -2,7 +2,8 @@
 // In: the view, its log and how much of it is committed. Out: the replica's step by VRR 4.2, step 5.
 // No reply is here: only a primary answers clients.
 ghost use Rattle.std.specs.Prelude.{◌≡◌, IfOk, OnErr};
-ghost use Rattle.vr_change.specs.Rules.{start_view_at, take_over_at};
+ghost use Rattle.vr_change.specs.Rules.{start_view_at};
+ghost use Rattle.vr_change.specs.private.Rules.{take_over_at};
 ghost use Rattle.vr_state.specs.Views.{state, outcome, view_to_store};
 
 use std::alloc::{AllocError, Global};

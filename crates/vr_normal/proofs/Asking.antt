@@ -3,7 +3,7 @@
 use Rattle.std.proofs.Common.{◌≡◌, ◌≢◌, ℕ, ◌<◌, ◌≤◌, ◌==◌, nat_lt, nat_le, Bool, true, false, cond, ◌&&◌, ◌-◌, List, [], length, slice_get, Option, Some, Result, Ok, Err, refl, sym, ap, ap₂, ◌∙◌, eq-eqb, ne_eqb, le-ltb, lt-ltb}
 use Rattle.std.proofs.lemmas.Bool.{le-leb, lt-leb}
 use Rattle.std.specs.Result.{IfOk}
-use Rattle.vr_normal.specs.Rules.{reply_again}
+use Rattle.vr_normal.specs.private.Rules.{reply_again}
 use Rattle.vr_state.specs.declared.message.PeerMessage.TheVariants.{Commit}
 use Rattle.vr_state.specs.declared.message.Send.{Send}
 use Rattle.vr_state.specs.Words.{LogEntry}

@@ -2,7 +2,8 @@
 // In: the sender, its view and its commit-number. Out: the replica's step by VRR 4.1, steps 6 and 7.
 // No reply is here: only a primary answers clients.
 ghost use Rattle.std.specs.Prelude.{◌≡◌, IfOk, OnErr};
-ghost use Rattle.vr_normal.specs.Rules.{ask_if_short_at, on_commit_at};
+ghost use Rattle.vr_normal.specs.Rules.{on_commit_at};
+ghost use Rattle.vr_normal.specs.private.Rules.{ask_if_short_at};
 ghost use Rattle.vr_state.specs.Views.{state, outcome, view_to_store};
 
 use std::alloc::{AllocError, Global};

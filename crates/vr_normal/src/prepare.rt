@@ -2,7 +2,8 @@
 // In: the sender, its view, a record, its place and a commit-number. Out: the replica's step by VRR 4.1, steps 4 and 7.
 // No reply is here: only a primary answers clients.
 ghost use Rattle.std.specs.Prelude.{◌≡◌, ◌+◌, ◌==◌, cond, length, IfOk, OnOk, OnErr};
-ghost use Rattle.vr_normal.specs.Rules.{acknowledge_or_ask, on_prepare_at, taken_in_at};
+ghost use Rattle.vr_normal.specs.Rules.{on_prepare_at};
+ghost use Rattle.vr_normal.specs.private.Rules.{acknowledge_or_ask, taken_in_at};
 ghost use Rattle.vr_state.specs.NormalCase.{take_in};
 ghost use Rattle.vr_state.specs.Views.{state, outcome, view_to_store};
 

@@ -2,7 +2,8 @@
 // In: the sender, its view and how many records it has. Out: the replica's step by VRR 4.1, step 5.
 // No message to another replica is here.
 ghost use Rattle.std.specs.Prelude.{◌≡◌, IfOk, OnErr};
-ghost use Rattle.vr_normal.specs.Rules.{acknowledged_at, on_prepare_ok_at};
+ghost use Rattle.vr_normal.specs.Rules.{on_prepare_ok_at};
+ghost use Rattle.vr_normal.specs.private.Rules.{acknowledged_at};
 ghost use Rattle.vr_state.specs.Views.{state, outcome, view_to_store};
 
 use crate::acknowledgements::{reached, with_acknowledgement};

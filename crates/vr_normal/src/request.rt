@@ -2,7 +2,8 @@
 // In: a request. Out: the replica's step by VRR 4.1, steps 1 to 3.
 // Nothing new is answered here: a reply waits until its record is committed.
 ghost use Rattle.std.specs.Prelude.{◌≡◌, [], IfOk, OnErr};
-ghost use Rattle.vr_normal.specs.Rules.{prepare_at, reply_again, request_at};
+ghost use Rattle.vr_normal.specs.Rules.{request_at};
+ghost use Rattle.vr_normal.specs.private.Rules.{prepare_at, reply_again};
 ghost use Rattle.vr_state.specs.Views.{state, outcome, view_to_store};
 
 use std::alloc::{AllocError, Global};

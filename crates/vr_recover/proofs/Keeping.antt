@@ -5,7 +5,7 @@ use Rattle.std.proofs.Math.Seq.{take-append_seam}
 use Rattle.std.proofs.lemmas.List.{length-append}
 use Rattle.vr_state.specs.declared.message.Response.{Response}
 use Rattle.vr_state.specs.Recovery.{keep}
-use Rattle.vr_recover.specs.Responses.{place_of}
+use Rattle.vr_recover.specs.private.Responses.{place_of}
 
 -- what is kept where the sender has a response at place p
 kept_at : {P : Type 0} (j : ℕ) (a : Response P) (xs : List (ℕ × Response P)) (d : ℕ × Response P) → place_of j xs < length xs → keep j a xs ≡ cond (nat_lt (get_or xs (place_of j xs) d).1.view_number a.view_number) (set xs (place_of j xs) (j, a)) xs

@@ -2,7 +2,8 @@
 // In: its index, the count, the stored view and a nonce, later a beat or a suspicion. Out: the replica and what it sends, by VRR 4.3, step 1.
 // Where the view and the nonce come from isn't said here.
 ghost use Rattle.std.specs.Prelude.{◌≡◌, ◌<◌, IfOk, None};
-ghost use Rattle.vr_recover.specs.Rules.{beat_recovering_at, is_ahead_at, recovers, remind_at};
+ghost use Rattle.vr_recover.specs.Rules.{beat_recovering_at, recovers, remind_at};
+ghost use Rattle.vr_recover.specs.private.Rules.{is_ahead_at};
 ghost use Rattle.vr_state.specs.Outcome.{to_all};
 ghost use Rattle.vr_state.specs.declared.message.PeerMessage.TheVariants.{Recovery};
 ghost use Rattle.vr_state.specs.Views.{state, outcome, view_to_store};

@@ -2,7 +2,7 @@
 // In: a response. Out: the list with it, and the list before it where the sequel is refused memory.
 // When a recovery ends isn't said here.
 ghost use Rattle.std.specs.Prelude.{◌≡◌, ◌<◌, length, IfOk, OnErr};
-ghost use Rattle.vr_recover.specs.Responses.{place_of, taken_back};
+ghost use Rattle.vr_recover.specs.private.Responses.{place_of, taken_back};
 ghost use Rattle.vr_state.specs.Outcome.{indices};
 ghost use Rattle.vr_state.specs.Recovery.{keep, latest_view};
 

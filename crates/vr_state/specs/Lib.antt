@@ -11,3 +11,4 @@ pub mod Step
 pub mod StepLaw
 pub mod Views
 pub mod Journaled
+pub mod private

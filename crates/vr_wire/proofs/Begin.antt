@@ -9,7 +9,8 @@ use Rattle.vr_state.specs.declared.message.PeerMessage.{PeerMessage}
 use Rattle.vr_state.specs.declared.message.PeerMessage.TheVariants.{Prepare, PrepareOk, Commit, StartViewChange, DoViewChange, StartView, GetState}
 use Rattle.vr_state.specs.declared.message.PeerMessage.TheVariants.{NewState, Recovery, RecoveryResponse}
 use Rattle.vr_wire.specs.Frames.{kind_of}
-use Rattle.vr_wire.specs.Heading.{is_kind, Tells, heading_of, heading_by, Begins, IsAnyFrame}
+use Rattle.vr_wire.specs.Heading.{is_kind, Begins, IsAnyFrame}
+use Rattle.vr_wire.specs.private.Heading.{Tells, heading_of, heading_by}
 use Rattle.vr_wire.proofs.Fields.{IsBytes, IsBytes-drop, IsBytes-take, guard_some, some_is, read_cluster, written_six}
 use Rattle.vr_wire.proofs.Messages.{both_hold, not_some}
 

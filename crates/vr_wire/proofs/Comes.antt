@@ -4,8 +4,10 @@ use Rattle.vr_wire.specs.declared.error.WireError.{WireError}
 use Rattle.vr_wire.specs.declared.error.WireError.TheVariants as error
 use Rattle.vr_wire.specs.declared.labels.Portion.{Portion}
 use Rattle.vr_wire.specs.declared.gathering.Came.{Came}
-use Rattle.vr_wire.specs.Heap.{Heap, PartTaken}
-use Rattle.vr_wire.specs.Parts.{IsPart, cut_part}
+use Rattle.vr_wire.specs.Heap.{Heap}
+use Rattle.vr_wire.specs.private.Heap.{PartTaken}
+use Rattle.vr_wire.specs.Parts.{IsPart}
+use Rattle.vr_wire.specs.private.Parts.{cut_part}
 use Rattle.vr_wire.specs.Gathering.{gathered, ComesOfPart, ComesOfFrame, Takes}
 use Rattle.vr_wire.proofs.PartFrames.{no_part}
 

@@ -7,7 +7,7 @@ use Rattle.std.proofs.lemmas.List.{take_at, drop_at, take-append-drop, length-ap
 use Rattle.std.proofs.lemmas.Nat.{be_bytes_4, be_bytes_8, from_be_bytes-to_be_bytes_4, from_be_bytes-to_be_bytes_8}
 use Rattle.vr_wire.specs.Frames.{number, short}
 use Rattle.view_store.specs.Cluster.{IsCluster, cluster_octets}
-use Rattle.vr_wire.specs.Cutting.{then, cut_octet, cut_octets, small_number, cut_number, cut_short, known_cluster, cut_cluster}
+use Rattle.vr_wire.specs.private.Cutting.{then, cut_octet, cut_octets, small_number, cut_number, cut_short, known_cluster, cut_cluster}
 
 abbrev pub IsBytes : List ℕ → Type 0
 IsBytes bytes = (i : ℕ) → get_or bytes i 0 < 256

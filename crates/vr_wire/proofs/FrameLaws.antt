@@ -4,9 +4,10 @@ use Rattle.ldap_op.specs.Values.{OpValue}
 use Rattle.vr_state.specs.declared.message.PeerMessage.{PeerMessage}
 use Rattle.vr_wire.specs.declared.error.WireError.{WireError}
 use Rattle.vr_wire.specs.declared.error.WireError.TheVariants as error
-use Rattle.vr_wire.specs.Cutting.{Fails, cut_frame}
+use Rattle.vr_wire.specs.private.Cutting.{Fails, cut_frame}
 use Rattle.vr_wire.specs.Frames.{limit}
-use Rattle.vr_wire.specs.Payloads.{Refuses, RefusesFrame, IsMessageOf, IsFrame, IsFrameOf}
+use Rattle.vr_wire.specs.Payloads.{Refuses, RefusesFrame, IsMessageOf, IsFrame}
+use Rattle.vr_wire.specs.private.Payloads.{IsFrameOf}
 use Rattle.vr_wire.proofs.Fields.{IsBytes, some_is}
 use Rattle.vr_wire.proofs.Messages.{frame_takes, frame_again, not_some as nothing_is}
 

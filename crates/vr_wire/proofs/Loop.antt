@@ -4,7 +4,7 @@ use Rattle.std.proofs.Common.{append-nil}
 use Rattle.vr_state.specs.Words.{LogEntry}
 use Rattle.vr_wire.specs.declared.error.WireError.{WireError}
 use Rattle.vr_wire.specs.declared.error.WireError.TheVariants as errors
-use Rattle.vr_wire.specs.Cutting.{then, Fails, cut_entry, cut_entries}
+use Rattle.vr_wire.specs.private.Cutting.{then, Fails, cut_entry, cut_entries}
 
 -- what was cut before, and what is still cut
 abbrev pub with_front : List (LogEntry (List ℕ)) → Option (List (LogEntry (List ℕ)) × List ℕ) → Option (List (LogEntry (List ℕ)) × List ℕ)

@@ -14,10 +14,10 @@ use Rattle.vr_state.specs.declared.message.PeerMessage.TheVariants.{Prepare, Pre
 use Rattle.vr_state.specs.declared.message.PeerMessage.TheVariants.{NewState, Recovery, RecoveryResponse}
 use Rattle.vr_wire.specs.Frames.{number, short, entry_octets, log_octets, held_octets, perhaps_octets, body_octets, kind_of, rest_octets}
 use Rattle.vr_wire.specs.Frames.{frame_octets, limit, IsInRange, IsHeldInRange, IsPerhapsInRange}
-use Rattle.vr_wire.specs.Cutting.{then, whole, cut_octet, cut_number, cut_short, cut_two, cut_three, cut_entry, cut_log, cut_held, perhaps_by}
-use Rattle.vr_wire.specs.Cutting.{cut_perhaps, only_number, only_two, only_state, cut_prepare, cut_prepare_ok, cut_commit, cut_start_view_change}
-use Rattle.vr_wire.specs.Cutting.{cut_do_view_change, cut_start_view, cut_get_state, cut_new_state, cut_recovery, cut_recovery_response, cut_body}
-use Rattle.vr_wire.specs.Cutting.{cut_cluster, cut_head, cut_said, cut_rest, sized, cut_frame}
+use Rattle.vr_wire.specs.private.Cutting.{then, whole, cut_octet, cut_number, cut_short, cut_two, cut_three, cut_entry, cut_log, cut_held, perhaps_by}
+use Rattle.vr_wire.specs.private.Cutting.{cut_perhaps, only_number, only_two, only_state, cut_prepare, cut_prepare_ok, cut_commit, cut_start_view_change}
+use Rattle.vr_wire.specs.private.Cutting.{cut_do_view_change, cut_start_view, cut_get_state, cut_new_state, cut_recovery, cut_recovery_response, cut_body}
+use Rattle.vr_wire.specs.private.Cutting.{cut_cluster, cut_head, cut_said, cut_rest, sized, cut_frame}
 use Rattle.vr_wire.proofs.Fields.{IsBytes, then_some, guard_some, some_is, Takes, Takes-then, octet_takes, octet_again, number_takes, number_again}
 use Rattle.vr_wire.proofs.Fields.{short_takes, short_again, cluster_takes, cluster_again}
 use Rattle.vr_wire.proofs.Records.{entry_takes, entry_again, log_takes, log_again, held_takes, held_again}

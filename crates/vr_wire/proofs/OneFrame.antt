@@ -14,7 +14,7 @@ use Rattle.vr_state.specs.declared.message.PeerMessage.{PeerMessage}
 use Rattle.vr_state.specs.declared.message.PeerMessage.TheVariants.{Prepare, PrepareOk, Commit, StartViewChange, DoViewChange, StartView, GetState}
 use Rattle.vr_state.specs.declared.message.PeerMessage.TheVariants.{NewState, Recovery, RecoveryResponse}
 use Rattle.vr_wire.specs.Frames.{short, rest_octets, limit, IsInRange, IsEntryInRange, AreEntriesInRange, IsPerhapsInRange}
-use Rattle.vr_wire.specs.Cutting.{cut_short}
+use Rattle.vr_wire.specs.private.Cutting.{cut_short}
 use Rattle.vr_wire.specs.Payloads.{IsEntryOf, AreEntriesOf, IsHeldOf, IsChangeOf, IsPerhapsOf, IsResponseOf, IsMessageOf, written_entry}
 use Rattle.vr_wire.specs.Payloads.{written_log, written_perhaps, written}
 use Rattle.vr_wire.specs.Laws.{FramesHaveOneMessage, NoFrameBeginsAnother, WrittenIsFrame, perhaps_records, records_of, AreUpdatesInRange}

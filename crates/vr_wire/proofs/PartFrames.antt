@@ -12,10 +12,12 @@ use Rattle.vr_wire.specs.declared.error.WireError.{WireError}
 use Rattle.vr_wire.specs.declared.error.WireError.TheVariants as error
 use Rattle.vr_wire.specs.declared.labels.Portion.{Portion}
 use Rattle.vr_wire.specs.Frames.{limit, number, short, kind_of, body_octets}
-use Rattle.vr_wire.specs.Cutting.{then, Fails, cut_octet, cut_octets, cut_short, cut_head, cut_body, sized}
+use Rattle.vr_wire.specs.private.Cutting.{then, Fails, cut_octet, cut_octets, cut_short, cut_head, cut_body, sized}
 use Rattle.vr_wire.specs.Payloads.{Refuses, IsMessageOf}
-use Rattle.vr_wire.specs.Parts.{portion_octets, part_rest, cut_long, cut_place, portion_of, cut_portion, cut_part_said, cut_part_rest}
-use Rattle.vr_wire.specs.Parts.{cut_part, IsPart, IsSaying, cut_saying}
+use Rattle.vr_wire.specs.Parts.{portion_octets, part_rest}
+use Rattle.vr_wire.specs.private.Parts.{cut_long, cut_place, portion_of, cut_portion, cut_part_said, cut_part_rest}
+use Rattle.vr_wire.specs.Parts.{IsPart, IsSaying}
+use Rattle.vr_wire.specs.private.Parts.{cut_part, cut_saying}
 use Rattle.vr_wire.proofs.Fields.{IsBytes, then_some, guard_some, some_is, Takes, Takes-then, octet_takes, octet_again, octets_take, octets_again}
 use Rattle.vr_wire.proofs.Fields.{short_takes, short_again}
 use Rattle.vr_wire.proofs.Messages.{chosen, both_hold, all_hold, head_takes, head_again, body_takes, body_again, not_some}

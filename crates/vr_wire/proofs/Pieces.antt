@@ -10,7 +10,8 @@ use Rattle.vr_wire.specs.declared.error.WireError.{WireError}
 use Rattle.vr_wire.specs.declared.error.WireError.TheVariants as error
 use Rattle.vr_wire.specs.Frames.{limit, short, rest_octets, frame_octets}
 use Rattle.vr_wire.specs.Putting.{IsLonger}
-use Rattle.vr_wire.specs.Parts.{part_head, part_octets, parts_from, pieces_of, saying_octets, ArePartsOf, ArePartsWithin, IsNotSent, MakesFrames, MakesParts}
+use Rattle.vr_wire.specs.Parts.{part_head, part_octets, parts_from, pieces_of, saying_octets, ArePartsOf, IsNotSent, MakesFrames}
+use Rattle.vr_wire.specs.private.Parts.{ArePartsWithin, MakesParts}
 
 pieces_joined : (size n : ℕ) (o : List ℕ) → length o ≤ n * size → concat (pieces_of size n o) ≡ o
 pieces_joined size zero o le = sym (nil_from_length o (omega (arith, zero-mul size, le)))

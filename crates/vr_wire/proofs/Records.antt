@@ -7,8 +7,8 @@ use Rattle.vr_state.specs.Words.{LogEntry}
 use Rattle.vr_state.specs.declared.message.Snapshot.{Snapshot}
 use Rattle.vr_wire.specs.Frames.{number, short, client_octets, payload_octets, entry_octets, entries_octets, log_octets, held_octets}
 use Rattle.vr_wire.specs.Frames.{IsClientInRange, IsEntryInRange, AreEntriesInRange, IsLogInRange, IsHeldInRange}
-use Rattle.vr_wire.specs.Cutting.{then, cut_octet, cut_octets, cut_number, cut_short, known_client, cut_client, cut_payload, cut_entry, cut_entries}
-use Rattle.vr_wire.specs.Cutting.{cut_log, cut_held}
+use Rattle.vr_wire.specs.private.Cutting.{then, cut_octet, cut_octets, cut_number, cut_short, known_client, cut_client, cut_payload, cut_entry, cut_entries}
+use Rattle.vr_wire.specs.private.Cutting.{cut_log, cut_held}
 use Rattle.vr_wire.proofs.Fields.{IsBytes, then_some, guard_none, some_is, Takes, Takes-then, octet_takes, octet_again, octets_take}
 use Rattle.vr_wire.proofs.Fields.{octets_again, number_takes, number_again, short_takes, short_again}
 

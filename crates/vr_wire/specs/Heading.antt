@@ -1,7 +1,6 @@
 -- Frames: the first octets behind a frame's length.
 -- In: nine octets. Out: the kind and the sender, or why no frame of a cluster begins so. Not here: what follows them.
-use Rattle.std.specs.Prelude.{◌≡◌, ◌⊎◌, ◌||◌, ◌&&◌, ◌==◌, nat_le, nat_lt, cond, slice_index, Bool, true, Option, Some, None, ℕ, List, [], ◌∷◌, ◌++◌, take, drop, Result, Ok, Err}
-use Rattle.std.specs.Int.{w64, from_be_bytes}
+use Rattle.std.specs.Prelude.{◌≡◌, ◌⊎◌, ◌||◌, ◌&&◌, nat_le, Bool, true, ℕ, List, [], ◌∷◌, ◌++◌, take, drop, Result, Ok, Err}
 use Rattle.ldap_op.specs.Values.{OpValue}
 use Rattle.view_store.specs.Cluster.{cluster_octets}
 use Rattle.vr_state.specs.declared.message.PeerMessage.{PeerMessage}
@@ -23,20 +22,6 @@ Begins first octets = take 9 (drop 4 octets) ≡ first
 -- the octet of a kind of message, or of a part
 abbrev pub is_kind : ℕ → Bool
 is_kind k = (nat_le 1 k && nat_le k 6) || (nat_le 9 k && nat_le k 13)
-
--- the cluster, the kind and the sender that nine octets tell, if their version, cluster and kind can be a frame's
-abbrev pub heading_by : ℕ → List ℕ → Option (ℕ × (ℕ × ℕ))
-heading_by cluster o =
-    cond (slice_index o 0 == 2 && nat_lt 0 cluster && is_kind (slice_index o 7)) (Some (cluster, (slice_index o 7, slice_index o 8))) None
-
--- the same, with the cluster that octets 1 to 6 tell
-abbrev pub heading_of : List ℕ → Option (ℕ × (ℕ × ℕ))
-heading_of o = heading_by (from_be_bytes w64 (0 ∷ 0 ∷ take 6 (drop 1 o))) o
-
--- the octets are those of what they tell
-abbrev pub Tells : Option (ℕ × (ℕ × ℕ)) → List ℕ → Type 0
-Tells None first = Unit {0}
-Tells (Some p) first = (first ≡ 2 ∷ (cluster_octets p.0 ++ p.1.0 ∷ p.1.1 ∷ [])) × (is_kind p.1.0 ≡ true)
 
 -- what the first octets say: the kind and the sender, in this cluster; or no frame begins so, or none of this cluster
 abbrev pub Heads : ℕ → List ℕ → Result (ℕ × ℕ) WireError → Type 0

@@ -1,10 +1,9 @@
 -- Frames: the parts of a message that are still to come.
 -- In: a message's octets, and how many of its parts were handed out. Out: the frames of the others. Not here: how a message is spelled.
-use Rattle.std.specs.Prelude.{◌≤◌, ◌+◌, ◌-◌, ℕ, List, [], ◌∷◌, length, drop, Option, Some, None}
+use Rattle.std.specs.Prelude.{◌-◌, ℕ, List, [], ◌∷◌, drop, Option, Some, None}
 use Rattle.std.specs.Prelude.{Vec}
 use Rattle.std.specs.declared.alloc.Global.{Global}
-use Rattle.vr_wire.specs.Frames.{limit}
-use Rattle.vr_wire.specs.Parts.{part_head, parts_from, pieces_of}
+use Rattle.vr_wire.specs.Parts.{parts_from, pieces_of}
 use Rattle.vr_wire.specs.declared.parts.Parts.{Parts}
 
 -- a frame that isn't handed out yet
@@ -12,18 +11,7 @@ abbrev pub plain_left : Option (Vec ℕ Global) → List (List ℕ)
 plain_left None = []
 plain_left (Some v) = v.items ∷ []
 
--- such a frame is within the limit
-abbrev pub IsPlainLeft : Option (Vec ℕ Global) → Type 0
-IsPlainLeft None = Unit {0}
-IsPlainLeft (Some v) = length v.items ≤ limit
-
 -- the frames of the parts from the next one on
 abbrev pub parts_left : Parts → List (List ℕ)
 parts_left p =
     parts_from p.cluster p.sender p.number p.count p.place (pieces_of p.size (p.count - p.place) (drop p.start p.octets.items))
-
--- a part of this size is within the limit, and the next part is one of those that there are
-pub record AreLeft (p : Parts) : Type 0 where
-  pub small : part_head + p.size ≤ limit
-  pub place_is : p.place ≤ p.count
-  pub start_is : p.start ≤ length p.octets.items

@@ -3,10 +3,10 @@ pub mod Cutting
 pub mod Payloads
 pub mod Putting
 pub mod Laws
-pub mod Rows
 pub mod Parts
 pub mod Heap
 pub mod Gathering
 pub mod PartLaws
 pub mod Heading
 pub mod Left
+pub mod private

@@ -1,10 +1,9 @@
 -- Frames: a message that one frame can't hold, in parts.
 -- In: a message whose payloads are octets, or octets. Out: the frames of its parts, and the part that a frame is. Not here: what is gathered.
-use Rattle.std.specs.Prelude.{◌≡◌, ◌<◌, ◌≤◌, ◌+◌, ◌^◌, ◌==◌, ◌&&◌, cond, nat_lt, ℕ, zero, suc, List, [], ◌∷◌, ◌++◌, length}
+use Rattle.std.specs.Prelude.{◌≡◌, ◌<◌, ◌≤◌, ◌+◌, ◌^◌, ℕ, zero, suc, List, [], ◌∷◌, ◌++◌, length}
 use Rattle.std.specs.Prelude.{take, drop, Option, Some, None, Result, Ok, Err}
 use Rattle.std.specs.Prelude.{Vec}
 use Rattle.std.specs.declared.alloc.Global.{Global}
-use Rattle.std.specs.Int.{w64, from_be_bytes}
 use Rattle.std.specs.List.{concat, AllByRecursion}
 use Rattle.ldap_op.specs.Values.{OpValue}
 use Rattle.view_store.specs.Cluster.{IsCluster, cluster_octets}
@@ -13,7 +12,6 @@ use Rattle.vr_wire.specs.declared.error.WireError.{WireError}
 use Rattle.vr_wire.specs.declared.error.WireError.TheVariants as error
 use Rattle.vr_wire.specs.declared.labels.Portion.{Portion}
 use Rattle.vr_wire.specs.Frames.{limit, number, short, kind_of, body_octets, frame_octets, IsInRange}
-use Rattle.vr_wire.specs.Cutting.{then, cut_octet, cut_octets, cut_short, cut_head, cut_body, sized}
 use Rattle.vr_wire.specs.Payloads.{IsMessageOf}
 
 -- what a message says, without the length, the version, the cluster and the sender: its kind, and what follows the sender's octet
@@ -72,47 +70,7 @@ abbrev pub pieces_of : ℕ → ℕ → List ℕ → List (List ℕ)
 pieces_of size zero octets = []
 pieces_of size (suc n) octets = take size octets ∷ pieces_of size n (drop size octets)
 
--- a message, cut from what it says
-unfoldable pub cut_saying : List ℕ → Option (PeerMessage (List ℕ))
-cut_saying o = then (cut_octet o) (λ k. cut_body k.0 k.1)
-
 -- ---- a part, cut
-
--- a number of 64 bits
-unfoldable pub cut_long : List ℕ → Option (ℕ × List ℕ)
-cut_long o = then (cut_octets 8 o) (λ e. Some (from_be_bytes w64 e.0, e.1))
-
--- a place, and how many there are
-unfoldable pub cut_place : List ℕ → Option ((ℕ × ℕ) × List ℕ)
-cut_place o = then (cut_short o) (λ p. then (cut_short p.1) (λ c. Some ((p.0, c.0), c.1)))
-
--- a part's place is one of those that there are, and it has octets of the message
-abbrev pub portion_of : ℕ → ℕ → ℕ → ℕ → List ℕ → Option (Portion (List ℕ))
-portion_of sender message place count piece =
-    cond (nat_lt place count && nat_lt 0 (length piece))
-    (Some (record { label = record { sender = sender; number = message; count = count }; place = place; piece = piece })) None
-
--- what follows the kind of a part
-unfoldable pub cut_portion : List ℕ → Option (Portion (List ℕ))
-cut_portion o =
-    then (cut_octet o) (λ s. then (cut_long s.1) (λ n. then (cut_place n.1) (λ p. portion_of s.0 n.0 p.0.0 p.0.1 p.1)))
-
--- kind 13, and what follows it
-unfoldable pub cut_part_said : List ℕ → Option (Portion (List ℕ))
-cut_part_said o = then (cut_octet o) (λ k. cond (k.0 == 13) (cut_portion k.1) None)
-
--- what follows the length of a part: a cluster, and a part in it
-unfoldable pub cut_part_rest : List ℕ → Option (ℕ × Portion (List ℕ))
-cut_part_rest o = then (cut_head o) (λ c. then (cut_part_said c.1) (λ p. Some (c.0, p)))
-
--- a part: the length of the rest, which isn't over the limit, and the rest
-unfoldable pub cut_part : List ℕ → Option (ℕ × Portion (List ℕ))
-cut_part o = then (cut_short o) (λ n. then (sized n.0 n.1) cut_part_rest)
-
--- this is the part that is cut, if any, or memory ran out
-abbrev pub Finds : {X : Type 0} → Result (Option X) WireError → Option X → Type 0
-Finds (Ok found) cut = found ≡ cut
-Finds (Err e) cut = e ≡ error.NoMemory
 
 -- the frame is a part of this cluster
 pub record IsPart (cluster : ℕ) (p : Portion (List ℕ)) (frame : List ℕ) : Type 0 where
@@ -134,16 +92,6 @@ IsNotSent error.NoMemory octets = Unit {0}
 abbrev pub MakesFrames : ℕ → ℕ → ℕ → ℕ → ℕ → PeerMessage (List ℕ) → Result (List (List ℕ)) WireError → Type 0
 MakesFrames most size cluster sender number m (Ok frames) = AreFramesOf most size cluster sender number m frames
 MakesFrames most size cluster sender number m (Err e) = IsNotSent e (frame_octets cluster sender m)
-
--- the frames are the parts of these octets, of at most so many octets each
-pub record ArePartsWithin (size cluster sender number : ℕ) (saying : List ℕ) (frames : List (List ℕ)) : Type 0 where
-  pub parts : ArePartsOf cluster sender number saying frames
-  pub pieces : AllByRecursion (λ f. length f ≤ part_head + size) frames
-
--- the parts of these octets are made, of at most so many octets each; or a message of them isn't sent
-abbrev pub MakesParts : ℕ → ℕ → ℕ → ℕ → List ℕ → Result (List (List ℕ)) WireError → Type 0
-MakesParts size cluster sender number saying (Ok frames) = ArePartsWithin size cluster sender number saying frames
-MakesParts size cluster sender number saying (Err e) = IsNotSent e saying
 
 -- the next frame is handed out; or there is none; or memory ran out, and all are still to come
 abbrev pub HandsOut : Result (Option (List ℕ)) WireError → List (List ℕ) → List (List ℕ) → Type 0

@@ -23,16 +23,6 @@ Refuses {A} Is error.BadFrame b = (a : A) → Is a b → ⊥
 Refuses Is error.ForeignFrame b = ⊥
 Refuses Is error.NoMemory b = Unit {0}
 
--- what is read of something, seen by `view`, stands for it, or nothing is read
-abbrev pub ReadsAs : {X A B : Type 0} → (X → A) → (A → B → Type 0) → Result X WireError → B → Type 0
-ReadsAs view Is (Ok x) b = Is (view x) b
-ReadsAs view Is (Err e) b = Refuses Is e b
-
--- what is read of something stands for it, or nothing is read
-abbrev pub Reads : {A B : Type 0} → (A → B → Type 0) → Result A WireError → B → Type 0
-Reads Is (Ok a) b = Is a b
-Reads Is (Err e) b = Refuses Is e b
-
 -- the record's payload is the one that the octets spell, and all else is the same
 pub record IsEntryOf (e : LogEntry OpValue) (raw : LogEntry (List ℕ)) : Type 0 where
   pub client : e.client ≡ raw.client
@@ -89,10 +79,6 @@ pub record IsFrame (cluster sender : ℕ) (m : PeerMessage OpValue) (octets : Li
   pub range : IsInRange raw
   pub payloads : IsMessageOf m raw
   pub small : length octets ≤ limit
-
--- the octets are a frame of this cluster and what is said in it
-abbrev pub IsFrameOf : ℕ × (ℕ × PeerMessage OpValue) → List ℕ → Type 0
-IsFrameOf p octets = IsFrame p.0 p.1.0 p.1.1 octets
 
 -- the octets are a frame of another cluster than this one
 pub record IsForeign (cluster : ℕ) (octets : List ℕ) : Type 0 where

@@ -1,9 +1,9 @@
 //! Frames: their bodies, by kind. Octets flow in; messages whose payloads are not read yet flow out. Versions, clusters, senders and lengths
 //! are not here.
 ghost use Rattle.std.specs.Prelude.{◌≡◌};
-ghost use Rattle.vr_wire.specs.Cutting.{Gives, only_number, only_two, only_state, cut_body, cut_prepare, cut_prepare_ok, cut_commit};
-ghost use Rattle.vr_wire.specs.Cutting.{cut_start_view_change, cut_do_view_change, cut_start_view, cut_get_state, cut_new_state, cut_recovery};
-ghost use Rattle.vr_wire.specs.Cutting.{cut_recovery_response};
+ghost use Rattle.vr_wire.specs.private.Cutting.{Gives, only_number, only_two, only_state, cut_body, cut_prepare, cut_prepare_ok, cut_commit};
+ghost use Rattle.vr_wire.specs.private.Cutting.{cut_start_view_change, cut_do_view_change, cut_start_view, cut_get_state, cut_new_state, cut_recovery};
+ghost use Rattle.vr_wire.specs.private.Cutting.{cut_recovery_response};
 
 use crate::cutting::{cut_entry, cut_number, cut_three, cut_two};
 use crate::error::WireError;
@@ -12,7 +12,7 @@ use crate::octets::Octets;
 use std::alloc::Global;
 use vr_state::message::{Change, PeerMessage, Response, Snapshot};
 
-#[tactic(auto, unfolding(crate::specs::Cutting::only_number))]
+#[tactic(auto, unfolding(crate::specs::private::Cutting::only_number))]
 fn only_number(octets: &[u8]) -> Result<u64, WireError>
     ensures { Gives (λ n. n) result (only_number octets.now) }
 {
@@ -24,7 +24,7 @@ fn only_number(octets: &[u8]) -> Result<u64, WireError>
     }
 }
 
-#[tactic(auto, unfolding(crate::specs::Cutting::only_two))]
+#[tactic(auto, unfolding(crate::specs::private::Cutting::only_two))]
 fn only_two(octets: &[u8]) -> Result<(u64, u64), WireError>
     ensures { Gives (λ n. n) result (only_two octets.now) }
 {
@@ -36,7 +36,7 @@ fn only_two(octets: &[u8]) -> Result<(u64, u64), WireError>
     }
 }
 
-#[tactic(auto, unfolding(crate::specs::Cutting::only_state))]
+#[tactic(auto, unfolding(crate::specs::private::Cutting::only_state))]
 fn only_state(alloc: Global, octets: &[u8]) -> Result<(u64, Snapshot<Octets<'_>>), WireError>
     ensures { Gives (λ s. s) result (only_state octets.now) }
 {
@@ -49,7 +49,7 @@ fn only_state(alloc: Global, octets: &[u8]) -> Result<(u64, Snapshot<Octets<'_>>
     }
 }
 
-#[tactic(auto, unfolding(crate::specs::Cutting::cut_prepare))]
+#[tactic(auto, unfolding(crate::specs::private::Cutting::cut_prepare))]
 fn cut_prepare(octets: &[u8]) -> Result<PeerMessage<Octets<'_>>, WireError>
     ensures { Gives (λ m. m) result (cut_prepare octets.now) }
 {
@@ -67,7 +67,7 @@ fn cut_prepare(octets: &[u8]) -> Result<PeerMessage<Octets<'_>>, WireError>
     }
 }
 
-#[tactic(auto, unfolding(crate::specs::Cutting::cut_do_view_change))]
+#[tactic(auto, unfolding(crate::specs::private::Cutting::cut_do_view_change))]
 fn cut_do_view_change(alloc: Global, octets: &[u8]) -> Result<PeerMessage<Octets<'_>>, WireError>
     ensures { Gives (λ m. m) result (cut_do_view_change octets.now) }
 {
@@ -88,7 +88,7 @@ fn cut_do_view_change(alloc: Global, octets: &[u8]) -> Result<PeerMessage<Octets
     }
 }
 
-#[tactic(auto, unfolding(crate::specs::Cutting::cut_recovery_response))]
+#[tactic(auto, unfolding(crate::specs::private::Cutting::cut_recovery_response))]
 fn cut_recovery_response(alloc: Global, octets: &[u8]) -> Result<PeerMessage<Octets<'_>>, WireError>
     ensures { Gives (λ m. m) result (cut_recovery_response octets.now) }
 {
@@ -102,7 +102,7 @@ fn cut_recovery_response(alloc: Global, octets: &[u8]) -> Result<PeerMessage<Oct
     }
 }
 
-#[tactic(auto, unfolding(crate::specs::Cutting::cut_prepare_ok))]
+#[tactic(auto, unfolding(crate::specs::private::Cutting::cut_prepare_ok))]
 fn cut_prepare_ok(octets: &[u8]) -> Result<PeerMessage<Octets<'_>>, WireError>
     ensures { Gives (λ m. m) result (cut_prepare_ok octets.now) }
 {
@@ -113,7 +113,7 @@ fn cut_prepare_ok(octets: &[u8]) -> Result<PeerMessage<Octets<'_>>, WireError>
     })
 }
 
-#[tactic(auto, unfolding(crate::specs::Cutting::cut_commit))]
+#[tactic(auto, unfolding(crate::specs::private::Cutting::cut_commit))]
 fn cut_commit(octets: &[u8]) -> Result<PeerMessage<Octets<'_>>, WireError>
     ensures { Gives (λ m. m) result (cut_commit octets.now) }
 {
@@ -124,7 +124,7 @@ fn cut_commit(octets: &[u8]) -> Result<PeerMessage<Octets<'_>>, WireError>
     })
 }
 
-#[tactic(auto, unfolding(crate::specs::Cutting::cut_start_view_change))]
+#[tactic(auto, unfolding(crate::specs::private::Cutting::cut_start_view_change))]
 fn cut_start_view_change(octets: &[u8]) -> Result<PeerMessage<Octets<'_>>, WireError>
     ensures { Gives (λ m. m) result (cut_start_view_change octets.now) }
 {
@@ -132,7 +132,7 @@ fn cut_start_view_change(octets: &[u8]) -> Result<PeerMessage<Octets<'_>>, WireE
     Ok(PeerMessage::StartViewChange { view_number })
 }
 
-#[tactic(auto, unfolding(crate::specs::Cutting::cut_get_state))]
+#[tactic(auto, unfolding(crate::specs::private::Cutting::cut_get_state))]
 fn cut_get_state(octets: &[u8]) -> Result<PeerMessage<Octets<'_>>, WireError>
     ensures { Gives (λ m. m) result (cut_get_state octets.now) }
 {
@@ -143,7 +143,7 @@ fn cut_get_state(octets: &[u8]) -> Result<PeerMessage<Octets<'_>>, WireError>
     })
 }
 
-#[tactic(auto, unfolding(crate::specs::Cutting::cut_recovery))]
+#[tactic(auto, unfolding(crate::specs::private::Cutting::cut_recovery))]
 fn cut_recovery(octets: &[u8]) -> Result<PeerMessage<Octets<'_>>, WireError>
     ensures { Gives (λ m. m) result (cut_recovery octets.now) }
 {
@@ -151,7 +151,7 @@ fn cut_recovery(octets: &[u8]) -> Result<PeerMessage<Octets<'_>>, WireError>
     Ok(PeerMessage::Recovery { nonce })
 }
 
-#[tactic(auto, unfolding(crate::specs::Cutting::cut_start_view))]
+#[tactic(auto, unfolding(crate::specs::private::Cutting::cut_start_view))]
 fn cut_start_view(alloc: Global, octets: &[u8]) -> Result<PeerMessage<Octets<'_>>, WireError>
     ensures { Gives (λ m. m) result (cut_start_view octets.now) }
 {
@@ -159,7 +159,7 @@ fn cut_start_view(alloc: Global, octets: &[u8]) -> Result<PeerMessage<Octets<'_>
     Ok(PeerMessage::StartView { view_number, held })
 }
 
-#[tactic(auto, unfolding(crate::specs::Cutting::cut_new_state))]
+#[tactic(auto, unfolding(crate::specs::private::Cutting::cut_new_state))]
 fn cut_new_state(alloc: Global, octets: &[u8]) -> Result<PeerMessage<Octets<'_>>, WireError>
     ensures { Gives (λ m. m) result (cut_new_state octets.now) }
 {

@@ -2,8 +2,8 @@
 //! what follows it flow out. Messages are not here. No memory is taken.
 ghost use Rattle.std.specs.Prelude.{◌≡◌, ◌∷◌, length};
 ghost use Rattle.std.specs.Int.{w64, from_be_bytes};
-ghost use Rattle.vr_wire.specs.Cutting.{Gives, cut_octet, cut_octets, cut_number, cut_short, cut_cluster, known_cluster, cut_client, cut_payload};
-ghost use Rattle.vr_wire.specs.Cutting.{cut_entry, cut_two, cut_three, small_number, known_client};
+ghost use Rattle.vr_wire.specs.private.Cutting.{Gives, cut_octet, cut_octets, cut_number, cut_short, cut_cluster, known_cluster, cut_client, cut_payload};
+ghost use Rattle.vr_wire.specs.private.Cutting.{cut_entry, cut_two, cut_three, small_number, known_client};
 
 use crate::error::WireError;
 use crate::octets::Octets;
@@ -12,7 +12,7 @@ use vr_state::words::{Client, LogEntry};
 /// The end of the numbers that a frame holds.
 const NUMBER_END: u64 = 1 << 63;
 
-#[tactic(auto, unfolding(crate::specs::Cutting::cut_octet))]
+#[tactic(auto, unfolding(crate::specs::private::Cutting::cut_octet))]
 pub fn cut_octet(octets: &[u8]) -> Result<(u8, &[u8]), WireError>
     ensures { Gives (λ p. (p.0, p.1.now)) result (cut_octet octets.now) }
 {
@@ -22,7 +22,7 @@ pub fn cut_octet(octets: &[u8]) -> Result<(u8, &[u8]), WireError>
     }
 }
 
-#[tactic(auto, unfolding(crate::specs::Cutting::cut_octets))]
+#[tactic(auto, unfolding(crate::specs::private::Cutting::cut_octets))]
 pub fn cut_octets(count: usize, octets: &[u8]) -> Result<(&[u8], &[u8]), WireError>
     ensures { Gives (λ p. (p.0.now, p.1.now)) result (cut_octets count octets.now) }
 {
@@ -33,7 +33,7 @@ pub fn cut_octets(count: usize, octets: &[u8]) -> Result<(&[u8], &[u8]), WireErr
     }
 }
 
-#[tactic(auto, unfolding(crate::specs::Cutting::cut_octets, crate::specs::Cutting::cut_number))]
+#[tactic(auto, unfolding(crate::specs::private::Cutting::cut_octets, crate::specs::private::Cutting::cut_number))]
 pub fn cut_number(octets: &[u8]) -> Result<(u64, &[u8]), WireError>
     ensures { Gives (λ p. (p.0, p.1.now)) result (cut_number octets.now) }
 {
@@ -50,7 +50,7 @@ pub fn cut_number(octets: &[u8]) -> Result<(u64, &[u8]), WireError>
     }
 }
 
-#[tactic(auto, unfolding(crate::specs::Cutting::cut_octets, crate::specs::Cutting::cut_short))]
+#[tactic(auto, unfolding(crate::specs::private::Cutting::cut_octets, crate::specs::private::Cutting::cut_short))]
 pub fn cut_short(octets: &[u8]) -> Result<(u32, &[u8]), WireError>
     ensures { Gives (λ p. (p.0, p.1.now)) result (cut_short octets.now) }
 {
@@ -61,7 +61,7 @@ pub fn cut_short(octets: &[u8]) -> Result<(u32, &[u8]), WireError>
 }
 
 /// The number of a cluster, which isn't 0.
-#[tactic(auto, unfolding(crate::specs::Cutting::cut_octets, crate::specs::Cutting::cut_cluster))]
+#[tactic(auto, unfolding(crate::specs::private::Cutting::cut_octets, crate::specs::private::Cutting::cut_cluster))]
 pub fn cut_cluster(octets: &[u8]) -> Result<(u64, &[u8]), WireError>
     ensures { Gives (λ p. (p.0, p.1.now)) result (cut_cluster octets.now) }
 {
@@ -84,7 +84,7 @@ pub fn long_number(six: &[u8]) -> u64
     u64::from_be_bytes(word)
 }
 
-#[tactic(auto, unfolding(crate::specs::Cutting::cut_client))]
+#[tactic(auto, unfolding(crate::specs::private::Cutting::cut_client))]
 fn cut_client(octets: &[u8]) -> Result<(Client, &[u8]), WireError>
     ensures { Gives (λ p. (p.0, p.1.now)) result (cut_client octets.now) }
 {
@@ -98,7 +98,7 @@ fn cut_client(octets: &[u8]) -> Result<(Client, &[u8]), WireError>
     }
 }
 
-#[tactic(auto, unfolding(crate::specs::Cutting::cut_payload))]
+#[tactic(auto, unfolding(crate::specs::private::Cutting::cut_payload))]
 fn cut_payload(octets: &[u8]) -> Result<(&[u8], &[u8]), WireError>
     ensures { Gives (λ p. (p.0.now, p.1.now)) result (cut_payload octets.now) }
 {
@@ -107,7 +107,7 @@ fn cut_payload(octets: &[u8]) -> Result<(&[u8], &[u8]), WireError>
 }
 
 /// A record.
-#[tactic(auto, unfolding(crate::specs::Cutting::cut_entry))]
+#[tactic(auto, unfolding(crate::specs::private::Cutting::cut_entry))]
 pub fn cut_entry(octets: &[u8]) -> Result<(LogEntry<Octets<'_>>, &[u8]), WireError>
     ensures { Gives (λ p. (p.0, p.1.now)) result (cut_entry octets.now) }
 {
@@ -123,7 +123,7 @@ pub fn cut_entry(octets: &[u8]) -> Result<(LogEntry<Octets<'_>>, &[u8]), WireErr
 }
 
 /// Two numbers.
-#[tactic(auto, unfolding(crate::specs::Cutting::cut_two))]
+#[tactic(auto, unfolding(crate::specs::private::Cutting::cut_two))]
 pub fn cut_two(octets: &[u8]) -> Result<((u64, u64), &[u8]), WireError>
     ensures { Gives (λ p. (p.0, p.1.now)) result (cut_two octets.now) }
 {
@@ -133,7 +133,7 @@ pub fn cut_two(octets: &[u8]) -> Result<((u64, u64), &[u8]), WireError>
 }
 
 /// Three numbers.
-#[tactic(auto, unfolding(crate::specs::Cutting::cut_three))]
+#[tactic(auto, unfolding(crate::specs::private::Cutting::cut_three))]
 pub fn cut_three(octets: &[u8]) -> Result<((u64, (u64, u64)), &[u8]), WireError>
     ensures { Gives (λ p. (p.0, p.1.now)) result (cut_three octets.now) }
 {

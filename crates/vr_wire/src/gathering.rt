@@ -3,10 +3,12 @@
 ghost use Rattle.std.specs.Prelude.{◌≡◌, ◌<◌, ◌^◌, ◌+◌, None};
 ghost use Rattle.std.specs.Option.{option_map};
 ghost use Rattle.vr_wire.specs.Gathering.{is_next, begun, with_part, gathered, ComesOfPart, ComesOfFrame, Takes};
-ghost use Rattle.vr_wire.specs.Heap.{heap_of, Gathers, BeginsAs, AddsTo, PartTaken};
-ghost use Rattle.vr_wire.specs.Cutting.{Gives};
-ghost use Rattle.vr_wire.specs.Parts.{IsSaying, Finds, cut_saying, cut_part};
-ghost use Rattle.vr_wire.specs.Payloads.{Reads};
+ghost use Rattle.vr_wire.specs.Heap.{heap_of};
+ghost use Rattle.vr_wire.specs.private.Heap.{Gathers, BeginsAs, AddsTo, PartTaken};
+ghost use Rattle.vr_wire.specs.private.Cutting.{Gives};
+ghost use Rattle.vr_wire.specs.Parts.{IsSaying};
+ghost use Rattle.vr_wire.specs.private.Parts.{Finds, cut_saying, cut_part};
+ghost use Rattle.vr_wire.specs.private.Payloads.{Reads};
 
 use crate::bodies::cut_body;
 use crate::cutting::cut_octet;
@@ -119,7 +121,7 @@ fn gathered(
 }
 
 /// The message that these octets say, its payloads not read yet.
-#[tactic(auto, unfolding(crate::specs::Parts::cut_saying))]
+#[tactic(auto, unfolding(crate::specs::private::Parts::cut_saying))]
 fn cut_saying(alloc: Global, octets: &[u8]) -> Result<PeerMessage<Octets<'_>>, WireError>
     ensures { Gives (λ m. m) result (cut_saying octets.now) }
 {

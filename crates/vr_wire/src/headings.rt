@@ -1,7 +1,8 @@
 //! Frames: the first octets behind a frame's length. Takes nine octets and a cluster; gives the kind and the sender, before memory is taken for
 //! the rest. What follows them is not here.
 ghost use Rattle.std.specs.Prelude.{◌≡◌, length};
-ghost use Rattle.vr_wire.specs.Heading.{Heads, Tells, is_kind, heading_of};
+ghost use Rattle.vr_wire.specs.Heading.{Heads, is_kind};
+ghost use Rattle.vr_wire.specs.private.Heading.{Tells, heading_of};
 
 use crate::cutting::long_number;
 use crate::error::WireError;

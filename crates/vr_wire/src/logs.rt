@@ -1,6 +1,6 @@
 //! Frames: logs cut from the front of octets. Octets flow in; records whose payloads are not read yet flow out. Messages are not here.
 ghost use Rattle.std.specs.Prelude.{◌≡◌};
-ghost use Rattle.vr_wire.specs.Cutting.{Gives, cut_entries, cut_log, cut_held, cut_perhaps};
+ghost use Rattle.vr_wire.specs.private.Cutting.{Gives, cut_entries, cut_log, cut_held, cut_perhaps};
 
 use crate::cutting::{cut_entry, cut_number, cut_octet, cut_short};
 use crate::error::WireError;
@@ -30,7 +30,7 @@ fn cut_entries(
     Ok((entries, rest))
 }
 
-#[tactic(auto, unfolding(crate::specs::Cutting::cut_log))]
+#[tactic(auto, unfolding(crate::specs::private::Cutting::cut_log))]
 pub fn cut_log(alloc: Global, octets: &[u8]) -> Result<(Log<Octets<'_>>, &[u8]), WireError>
     ensures { Gives (λ p. (p.0, p.1.now)) result (cut_log octets.now) }
 {
@@ -39,7 +39,7 @@ pub fn cut_log(alloc: Global, octets: &[u8]) -> Result<(Log<Octets<'_>>, &[u8]),
     Ok((Log::from_vec(entries), rest))
 }
 
-#[tactic(auto, unfolding(crate::specs::Cutting::cut_held))]
+#[tactic(auto, unfolding(crate::specs::private::Cutting::cut_held))]
 pub fn cut_held(alloc: Global, octets: &[u8]) -> Result<(Snapshot<Octets<'_>>, &[u8]), WireError>
     ensures { Gives (λ p. (p.0, p.1.now)) result (cut_held octets.now) }
 {
@@ -49,7 +49,7 @@ pub fn cut_held(alloc: Global, octets: &[u8]) -> Result<(Snapshot<Octets<'_>>, &
 }
 
 /// A log that may be missing.
-#[tactic(auto, unfolding(crate::specs::Cutting::cut_perhaps))]
+#[tactic(auto, unfolding(crate::specs::private::Cutting::cut_perhaps))]
 pub fn cut_perhaps(
     alloc: Global,
     octets: &[u8],

@@ -3,9 +3,11 @@
 ghost use Rattle.std.specs.Prelude.{◌≡◌, ◌≤◌, ◌<◌, ◌+◌, ◌-◌, ◌*◌, ◌^◌, ◌∷◌, [], ◌++◌, length, take, drop, min, max, slice_index};
 ghost use Rattle.vr_wire.specs.Frames.{limit, number, short};
 ghost use Rattle.vr_wire.specs.Payloads.{written};
-ghost use Rattle.vr_wire.specs.Putting.{PutsAlways, WritesAlways};
-ghost use Rattle.vr_wire.specs.Parts.{part_head, part_rest, part_octets, MakesFrames, MakesParts, HandsFrame, IsFrameWithin};
-ghost use Rattle.vr_wire.specs.Left.{parts_left, AreLeft};
+ghost use Rattle.vr_wire.specs.private.Putting.{PutsAlways, WritesAlways};
+ghost use Rattle.vr_wire.specs.Parts.{part_head, part_rest, part_octets, MakesFrames, HandsFrame, IsFrameWithin};
+ghost use Rattle.vr_wire.specs.private.Parts.{MakesParts};
+ghost use Rattle.vr_wire.specs.Left.{parts_left};
+ghost use Rattle.vr_wire.specs.private.Left.{AreLeft};
 
 use crate::error::WireError;
 use crate::portions::PART;
@@ -56,7 +58,8 @@ struct Parts {
 
 impl Model for Frames {
     ghost use Rattle.std.specs.Prelude.{ℕ, List, ◌++◌};
-    ghost use Rattle.vr_wire.specs.Left.{plain_left, parts_left, AreLeft, IsPlainLeft};
+    ghost use Rattle.vr_wire.specs.Left.{plain_left, parts_left};
+    ghost use Rattle.vr_wire.specs.private.Left.{AreLeft, IsPlainLeft};
 
     ghost Value = { List (List ℕ) };
 

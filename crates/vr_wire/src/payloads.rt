@@ -1,6 +1,7 @@
 //! Frames: payloads become updates. Messages whose payloads are octets flow in; messages of updates flow out. How frames are cut is not here.
 ghost use Rattle.ldap_op.specs.Grammar.{IsOp};
-ghost use Rattle.vr_wire.specs.Payloads.{IsEntryOf, AreEntriesOf, IsHeldOf, IsChangeOf, IsResponseOf, IsMessageOf, Reads, ReadsAs};
+ghost use Rattle.vr_wire.specs.Payloads.{IsEntryOf, AreEntriesOf, IsHeldOf, IsChangeOf, IsResponseOf, IsMessageOf};
+ghost use Rattle.vr_wire.specs.private.Payloads.{Reads, ReadsAs};
 ghost use Rattle.vr_state.specs.declared.message.PeerMessage.TheVariants.{Prepare, DoViewChange, StartView, NewState, RecoveryResponse};
 
 use crate::error::WireError;

@@ -1,7 +1,7 @@
 //! Frames: parts of messages, cut from octets. Takes the octets of a frame; gives whose part it is and what of the message it holds. What is
 //! gathered is not here. No memory is taken.
-ghost use Rattle.vr_wire.specs.Cutting.{Gives};
-ghost use Rattle.vr_wire.specs.Parts.{cut_long, cut_place, portion_of, cut_portion, cut_part_said, cut_part_rest, cut_part};
+ghost use Rattle.vr_wire.specs.private.Cutting.{Gives};
+ghost use Rattle.vr_wire.specs.private.Parts.{cut_long, cut_place, portion_of, cut_portion, cut_part_said, cut_part_rest, cut_part};
 
 use crate::cutting::{cut_octet, cut_short};
 use crate::error::WireError;
@@ -13,7 +13,7 @@ use crate::reading::{REST_LIMIT, cut_head};
 pub const PART: u8 = 13;
 
 /// A number of 64 bits.
-#[tactic(auto, unfolding(crate::specs::Cutting::cut_octets, crate::specs::Parts::cut_long))]
+#[tactic(auto, unfolding(crate::specs::private::Cutting::cut_octets, crate::specs::private::Parts::cut_long))]
 fn cut_long(octets: &[u8]) -> Result<(u64, &[u8]), WireError>
     ensures { Gives (λ p. (p.0, p.1.now)) result (cut_long octets.now) }
 {
@@ -24,7 +24,7 @@ fn cut_long(octets: &[u8]) -> Result<(u64, &[u8]), WireError>
 }
 
 /// A part's place, and how many parts there are.
-#[tactic(auto, unfolding(crate::specs::Parts::cut_place))]
+#[tactic(auto, unfolding(crate::specs::private::Parts::cut_place))]
 fn cut_place(octets: &[u8]) -> Result<((u32, u32), &[u8]), WireError>
     ensures { Gives (λ p. (p.0, p.1.now)) result (cut_place octets.now) }
 {
@@ -59,7 +59,7 @@ fn portion_of(
 }
 
 /// What follows a part's kind.
-#[tactic(auto, unfolding(crate::specs::Parts::cut_portion))]
+#[tactic(auto, unfolding(crate::specs::private::Parts::cut_portion))]
 fn cut_portion(octets: &[u8]) -> Result<Portion<Octets<'_>>, WireError>
     ensures { Gives (λ p. p) result (cut_portion octets.now) }
 {
@@ -70,7 +70,7 @@ fn cut_portion(octets: &[u8]) -> Result<Portion<Octets<'_>>, WireError>
 }
 
 /// A part's kind, and what follows it.
-#[tactic(auto, unfolding(crate::specs::Parts::cut_part_said))]
+#[tactic(auto, unfolding(crate::specs::private::Parts::cut_part_said))]
 fn cut_part_said(octets: &[u8]) -> Result<Portion<Octets<'_>>, WireError>
     ensures { Gives (λ p. p) result (cut_part_said octets.now) }
 {
@@ -83,7 +83,7 @@ fn cut_part_said(octets: &[u8]) -> Result<Portion<Octets<'_>>, WireError>
 }
 
 /// The cluster's number, and a part in it.
-#[tactic(auto, unfolding(crate::specs::Parts::cut_part_rest))]
+#[tactic(auto, unfolding(crate::specs::private::Parts::cut_part_rest))]
 fn cut_part_rest(octets: &[u8]) -> Result<(u64, Portion<Octets<'_>>), WireError>
     ensures { Gives (λ p. p) result (cut_part_rest octets.now) }
 {
@@ -93,7 +93,7 @@ fn cut_part_rest(octets: &[u8]) -> Result<(u64, Portion<Octets<'_>>), WireError>
 }
 
 /// The part that a frame is, and its cluster's number.
-#[tactic(auto, unfolding(crate::specs::Parts::cut_part))]
+#[tactic(auto, unfolding(crate::specs::private::Parts::cut_part))]
 pub fn cut_part(frame: &[u8]) -> Result<(u64, Portion<Octets<'_>>), WireError>
     ensures { Gives (λ p. p) result (cut_part frame.now) }
 {

@@ -4,7 +4,8 @@ ghost use Rattle.view_store.specs.Cluster.{cluster_octets};
 ghost use Rattle.vr_wire.specs.Frames.{number, short, client_octets, payload_octets, entry_octets, entries_octets, log_octets, held_octets};
 ghost use Rattle.vr_wire.specs.Frames.{perhaps_octets};
 ghost use Rattle.vr_wire.specs.Payloads.{written_entry, written_log, written_held, written_perhaps};
-ghost use Rattle.vr_wire.specs.Putting.{PutsAlways, PutsWithin, WritesWithin, most_under};
+ghost use Rattle.vr_wire.specs.Putting.{WritesWithin};
+ghost use Rattle.vr_wire.specs.private.Putting.{PutsAlways, PutsWithin, most_under};
 ghost use Rattle.ldap_op.specs.Written.{op_bytes};
 
 use crate::error::WireError;

@@ -2,8 +2,10 @@
 //! not here.
 ghost use Rattle.std.specs.Prelude.{◌≡◌};
 ghost use Rattle.std.specs.Int.{w32, from_be_bytes};
-ghost use Rattle.vr_wire.specs.Cutting.{Gives, cut_head, cut_said, cut_rest, cut_frame, rest_by};
-ghost use Rattle.vr_wire.specs.Payloads.{IsFrameOf, Reads, ReadsFrame};
+ghost use Rattle.vr_wire.specs.Cutting.{rest_by};
+ghost use Rattle.vr_wire.specs.private.Cutting.{Gives, cut_head, cut_said, cut_rest, cut_frame};
+ghost use Rattle.vr_wire.specs.Payloads.{ReadsFrame};
+ghost use Rattle.vr_wire.specs.private.Payloads.{IsFrameOf, Reads};
 
 use crate::bodies::cut_body;
 use crate::cutting::{cut_cluster, cut_octet, cut_short};
@@ -32,7 +34,7 @@ pub fn rest(head: [u8; 4]) -> Result<u32, WireError>
 }
 
 /// The version, and the cluster's number.
-#[tactic(auto, unfolding(crate::specs::Cutting::cut_head))]
+#[tactic(auto, unfolding(crate::specs::private::Cutting::cut_head))]
 pub fn cut_head(octets: &[u8]) -> Result<(u64, &[u8]), WireError>
     ensures { Gives (λ p. (p.0, p.1.now)) result (cut_head octets.now) }
 {
@@ -45,7 +47,7 @@ pub fn cut_head(octets: &[u8]) -> Result<(u64, &[u8]), WireError>
 }
 
 /// The kind and the sender, and the message.
-#[tactic(auto, unfolding(crate::specs::Cutting::cut_said))]
+#[tactic(auto, unfolding(crate::specs::private::Cutting::cut_said))]
 fn cut_said(alloc: Global, octets: &[u8]) -> Result<(u8, PeerMessage<Octets<'_>>), WireError>
     ensures { Gives (λ p. p) result (cut_said octets.now) }
 {
@@ -56,7 +58,7 @@ fn cut_said(alloc: Global, octets: &[u8]) -> Result<(u8, PeerMessage<Octets<'_>>
 }
 
 /// The cluster's number, the sender and the message.
-#[tactic(auto, unfolding(crate::specs::Cutting::cut_rest))]
+#[tactic(auto, unfolding(crate::specs::private::Cutting::cut_rest))]
 fn cut_rest(alloc: Global, octets: &[u8]) -> Result<(u64, (u8, PeerMessage<Octets<'_>>)), WireError>
     ensures { Gives (λ p. p) result (cut_rest octets.now) }
 {
@@ -66,7 +68,7 @@ fn cut_rest(alloc: Global, octets: &[u8]) -> Result<(u64, (u8, PeerMessage<Octet
 }
 
 /// A frame with its payloads not read yet.
-#[tactic(auto, unfolding(crate::specs::Cutting::cut_frame))]
+#[tactic(auto, unfolding(crate::specs::private::Cutting::cut_frame))]
 fn cut_frame(alloc: Global, frame: &[u8]) -> Result<(u64, (u8, PeerMessage<Octets<'_>>)), WireError>
     ensures { Gives (λ p. p) result (cut_frame frame.now) }
 {

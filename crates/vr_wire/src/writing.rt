@@ -4,7 +4,8 @@ ghost use Rattle.view_store.specs.Cluster.{cluster_octets};
 ghost use Rattle.vr_state.specs.declared.message.PeerMessage.TheVariants as kind;
 ghost use Rattle.vr_wire.specs.Frames.{frame_octets, rest_octets, body_octets, held_octets, number, short, kind_of, limit};
 ghost use Rattle.vr_wire.specs.Payloads.{written, written_held};
-ghost use Rattle.vr_wire.specs.Putting.{PutsAlways, PutsWithin, WritesWithin, Writes, most_under};
+ghost use Rattle.vr_wire.specs.Putting.{WritesWithin, Writes};
+ghost use Rattle.vr_wire.specs.private.Putting.{PutsAlways, PutsWithin, most_under};
 
 use crate::error::WireError;
 use crate::putting::{LIMIT, put_cluster, put_entry, put_held, put_log, put_number, put_perhaps};

@@ -12,7 +12,7 @@ use Rattle.vr_state.specs.declared.words.Reply.{Reply}
 use Rattle.vr_state.specs.declared.event.Event.TheVariants as event
 use Rattle.vr_world.proofs.Moves.{put_same}
 use Rattle.vr_world.proofs.Telling.{answered_is}
-use Rattle.vr_world.specs.Acts.{given_by}
+use Rattle.vr_world.specs.private.Acts.{given_by}
 use Rattle.vr_world.specs.Law.{GivenSince, RepliesAreExecuted}
 use Rattle.vr_world.specs.World.{has_used, World, ReplyBy, Message, WorldEvent, made, stepped, delivered, recovered, crashed, resumed, sent_as, happens}
 use Rattle.vr_world.specs.declared.events.WorldEvent.TheVariants.{Request, Deliver, Suspect, Beat, Crash, Recover, Resume}

@@ -3,7 +3,7 @@
 // The order of events is not made here.
 ghost use Rattle.std.specs.Prelude.{◌≡◌, ◌<◌, reverse, IfOk, OnOk, slice_index, unwrap_or};
 ghost use Rattle.vr_state.specs.Views.{outcome};
-ghost use Rattle.vr_world.specs.Acts.{crashed_at, delivered_at, stepped_at, told};
+ghost use Rattle.vr_world.specs.private.Acts.{crashed_at, delivered_at, stepped_at, told};
 ghost use Rattle.vr_world.specs.Cluster.{world};
 ghost use Rattle.vr_world.specs.World.{made, sent_as};
 

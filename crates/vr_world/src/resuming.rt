@@ -3,7 +3,7 @@
 // How a journal is written isn't said here.
 ghost use Rattle.std.specs.Prelude.{◌≡◌, OnOk};
 ghost use Rattle.vr_state.specs.Views.{state};
-ghost use Rattle.vr_world.specs.Acts.{resumed_at};
+ghost use Rattle.vr_world.specs.private.Acts.{resumed_at};
 ghost use Rattle.vr_world.specs.Cluster.{world};
 ghost use Rattle.vr_world.specs.World.{kept_of};
 

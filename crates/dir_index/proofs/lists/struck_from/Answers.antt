@@ -4,8 +4,8 @@ use Rattle.std.specs.Map.Iter.{deref}
 use Rattle.std.proofs.lemmas.Map.Iter.{rest_more}
 use Rattle.dir_index.specs.declared.list_key.ListKey.{ListKey}
 use Rattle.dir_index.specs.ListKeys.{key_of, is_same_list}
-use Rattle.dir_index.specs.Marked.{is_marked, has_posting}
-use Rattle.dir_index.specs.Stored.{is_in}
+use Rattle.dir_index.specs.private.Marked.{is_marked, has_posting}
+use Rattle.dir_index.specs.private.Stored.{is_in}
 use Rattle.dir_index.proofs.Keys.{one_list}
 use Rattle.dir_index.proofs.Marking.{marked_at}
 use Rattle.dir_index.proofs.Numbers.{struck_has, strike_step, skip_step}

@@ -2,8 +2,8 @@ use Rattle.std.proofs.Common.{◌≡◌, ℕ, not, nat_eq}
 use Rattle.std.specs.Prelude.{◌&&◌}
 use Rattle.dir_index.specs.declared.posting.Posting.{Posting}
 use Rattle.dir_index.specs.ListKeys.{key_of}
-use Rattle.dir_index.specs.Marked.{has_posting}
-use Rattle.dir_index.specs.Stored.{is_in, AllRise}
+use Rattle.dir_index.specs.private.Marked.{has_posting}
+use Rattle.dir_index.specs.private.Stored.{is_in, AllRise}
 use Rattle.dir_index.proofs.lists.struck_from.Given as goal
 
 abbrev pub invariant-loop-key : goal.invariant-loop-key

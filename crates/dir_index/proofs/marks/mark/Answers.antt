@@ -1,7 +1,7 @@
 use Rattle.std.proofs.Common.{ap, ◌∙◌}
 use Rattle.std.specs.Prelude.{◌||◌}
 use Rattle.dir_index.specs.ListKeys.{key_of, is_same_list}
-use Rattle.dir_index.specs.Marked.{has_posting}
+use Rattle.dir_index.specs.private.Marked.{has_posting}
 use Rattle.dir_index.proofs.Marking.{marked_more}
 use Rattle.dir_index.proofs.marks.mark.Goals as goal
 

@@ -1,6 +1,6 @@
 use Rattle.std.proofs.Common.{ap, ◌∙◌}
 use Rattle.std.specs.Prelude.{◌||◌}
-use Rattle.dir_index.specs.Marked.{has_posting, is_from_key}
+use Rattle.dir_index.specs.private.Marked.{has_posting, is_from_key}
 use Rattle.dir_index.proofs.Marking.{any_more}
 use Rattle.dir_index.proofs.marks.mark_keys.Goals as goal
 

@@ -2,7 +2,7 @@ use Rattle.std.proofs.Common.{◌≡◌, take}
 use Rattle.std.specs.Prelude.{◌||◌}
 use Rattle.std.specs.List.{list_any}
 use Rattle.dir_index.specs.declared.posting.Posting.{Posting}
-use Rattle.dir_index.specs.Marked.{has_posting, is_from_key}
+use Rattle.dir_index.specs.private.Marked.{has_posting, is_from_key}
 use Rattle.dir_index.proofs.marks.mark_keys.Given as goal
 
 abbrev pub invariant-loop-key : goal.invariant-loop-key

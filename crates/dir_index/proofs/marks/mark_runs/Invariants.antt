@@ -1,7 +1,7 @@
 use Rattle.std.proofs.Common.{◌≡◌, length}
 use Rattle.std.specs.Prelude.{◌||◌}
 use Rattle.dir_index.specs.declared.posting.Posting.{Posting}
-use Rattle.dir_index.specs.Marked.{has_posting, is_run_of}
+use Rattle.dir_index.specs.private.Marked.{has_posting, is_run_of}
 use Rattle.dir_index.proofs.marks.mark_runs.Given as goal
 
 abbrev pub invariant-loop-behind : goal.invariant-loop-behind

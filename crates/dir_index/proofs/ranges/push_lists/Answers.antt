@@ -5,7 +5,8 @@ use Rattle.dir_index.specs.declared.list_key.ListKey.{ListKey}
 use Rattle.dir_index.specs.Postings.{has_number, in_range}
 use Rattle.dir_index.specs.ListKeys.{list_order}
 use Rattle.dir_index.specs.Places.{key_at}
-use Rattle.dir_index.specs.Stored.{list_at, has_in_lists}
+use Rattle.dir_index.specs.Stored.{list_at}
+use Rattle.dir_index.specs.private.Stored.{has_in_lists}
 use Rattle.dir_index.proofs.Marking.{or_assoc}
 use Rattle.dir_index.proofs.Ranged.{from_start}
 use Rattle.dir_index.proofs.ranges.push_lists.Goals as goal

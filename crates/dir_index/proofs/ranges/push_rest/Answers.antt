@@ -3,9 +3,11 @@ use Rattle.std.specs.Prelude.{◌||◌}
 use Rattle.shared_map.specs.Entries.{Rises, IsAhead}
 use Rattle.dir_index.specs.declared.list_key.ListKey.{ListKey}
 use Rattle.dir_index.specs.Postings.{has_number}
-use Rattle.dir_index.specs.ListKeys.{list_order, range_start}
+use Rattle.dir_index.specs.ListKeys.{list_order}
+use Rattle.dir_index.specs.private.ListKeys.{range_start}
 use Rattle.dir_index.specs.Places.{key_at}
-use Rattle.dir_index.specs.Stored.{ListRows, has_in_lists}
+use Rattle.dir_index.specs.Stored.{ListRows}
+use Rattle.dir_index.specs.private.Stored.{has_in_lists}
 use Rattle.dir_index.proofs.Marking.{or_off}
 use Rattle.dir_index.proofs.Ranged.{rises_after, ahead_after, no_more}
 use Rattle.dir_index.proofs.ranges.push_rest.Goals as goal

@@ -5,7 +5,7 @@ use Rattle.shared_map.specs.Runs.{entries_after}
 use Rattle.dir_index.specs.Postings.{has_number}
 use Rattle.dir_index.specs.ListKeys.{list_order}
 use Rattle.dir_index.specs.Places.{key_at}
-use Rattle.dir_index.specs.Stored.{has_in_lists}
+use Rattle.dir_index.specs.private.Stored.{has_in_lists}
 use Rattle.dir_index.proofs.ranges.push_rest.Given as goal
 
 abbrev pub invariant-loop-key : goal.invariant-loop-key

@@ -1,6 +1,6 @@
 use Rattle.std.specs.Arc.{arc_value}
 use Rattle.vr_world.specs.Cluster.{world}
-use Rattle.dir_lab.specs.Executions.{AreOver}
+use Rattle.dir_lab.specs.private.Executions.{AreOver}
 use Rattle.dir_lab.proofs.Kept.{UpTo}
 use Rattle.dir_lab.proofs.advancing.advance_all.Given as goal
 

@@ -5,7 +5,7 @@ use Rattle.vr_state.specs.Words.{LogEntry}
 use Rattle.vr_world.specs.Cluster.{world}
 use Rattle.state_machine.specs.dir_store.ldap_op.Values.{OpValue}
 use Rattle.dir_search.specs.ldap_msg.View.{search_view}
-use Rattle.dir_lab.specs.Executions.{records_by}
+use Rattle.dir_lab.specs.private.Executions.{records_by}
 use Rattle.dir_lab.specs.Schedule.{found}
 use Rattle.dir_lab.proofs.Kept.{records_here}
 use Rattle.dir_lab.proofs.Schedules.{shown_one}

@@ -1,6 +1,6 @@
 use Rattle.std.proofs.Common.{◌≡◌, ◌++◌, map, take}
 use Rattle.std.specs.Arc.{arc_value}
-use Rattle.dir_lab.specs.Executions.{records_by}
+use Rattle.dir_lab.specs.private.Executions.{records_by}
 use Rattle.dir_lab.specs.Schedule.{told}
 use Rattle.dir_lab.specs.Shown.{shown_view}
 use Rattle.dir_lab.proofs.telling.show_replies.Given as goal

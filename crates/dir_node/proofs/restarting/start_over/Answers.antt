@@ -7,7 +7,7 @@ use Rattle.dir_node.specs.Logged.{ReadsAsBefore}
 use Rattle.dir_node.specs.declared.error.NodeError.{NodeError}
 use Rattle.dir_node.specs.declared.error.NodeError.TheVariants.{Store}
 use Rattle.view_store.specs.Slots.{own, found, IsWellPlaced}
-use Rattle.dir_node.specs.Ways.{start_by}
+use Rattle.dir_node.specs.private.Ways.{start_by}
 use Rattle.dir_node.proofs.Restarts.{any_err, this_err, not_called, not_early, notes_left, only_read, read_alone, restart_left, restart_told, why_no_restart}
 use Rattle.dir_node.proofs.Starts.{put_first, way_is}
 use Rattle.dir_node.proofs.restarting.start_over.Goals as goal

@@ -1,7 +1,7 @@
 use Rattle.std.proofs.Common.{ℕ, ◌-◌, ◌<◌, length, ap, sym, ◌∙◌, subst, arith}
 use Rattle.std.specs.List.{list_any}
 use Rattle.indexed_tree.specs.ldap_schema.Schema.{superiors}
-use Rattle.dir_search.specs.Resolved.{is_held}
+use Rattle.dir_search.specs.private.Resolved.{is_held}
 use Rattle.dir_search.proofs.Resolved.{ends_above, found_above, passed_above, spent_above}
 use Rattle.dir_search.proofs.resolving.leads_to_some.Goals as goal
 

@@ -1,7 +1,7 @@
 use Rattle.std.proofs.Common.{◌≡◌, ◌-◌, length}
 use Rattle.std.specs.List.{list_any}
 use Rattle.indexed_tree.specs.ldap_schema.Schema.{superiors}
-use Rattle.dir_search.specs.Resolved.{is_held}
+use Rattle.dir_search.specs.private.Resolved.{is_held}
 use Rattle.dir_search.proofs.resolving.leads_to_some.Given as goal
 
 -- what is left of the chain answers as the whole

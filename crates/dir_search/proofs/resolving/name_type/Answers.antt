@@ -1,7 +1,7 @@
 use Rattle.std.proofs.Common.{◌||◌, ℕ, Option, sym, ap, ◌∙◌, length}
 use Rattle.indexed_tree.specs.ldap_schema.Schema.{superiors}
 use Rattle.dir_search.specs.Selection.{is_named_by}
-use Rattle.dir_search.specs.Resolved.{is_held, picks_named}
+use Rattle.dir_search.specs.private.Resolved.{is_held, picks_named}
 use Rattle.dir_search.proofs.Resolved.{named_more, set_more}
 use Rattle.dir_search.proofs.resolving.name_type.Goals as goal
 

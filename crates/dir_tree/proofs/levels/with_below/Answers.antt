@@ -1,6 +1,6 @@
 use Rattle.std.proofs.Common.{ℕ, List, ap, ◌∙◌}
 use Rattle.dir_tree.specs.declared.place.Below.{Below}
-use Rattle.dir_tree.specs.Superiors.{below_at}
+use Rattle.dir_tree.specs.private.Superiors.{below_at}
 use Rattle.dir_tree.proofs.LevelFacts.{if_ok, below_put}
 use Rattle.dir_tree.proofs.levels.with_below.Goals as goal
 

@@ -1,6 +1,6 @@
 use Rattle.std.proofs.Common.{ap}
 use Rattle.dir_tree.specs.declared.place.Below.{Below}
-use Rattle.dir_tree.specs.Superiors.{below_at}
+use Rattle.dir_tree.specs.private.Superiors.{below_at}
 use Rattle.dir_tree.proofs.LevelFacts.{if_ok, child_steps, child_more}
 use Rattle.dir_tree.proofs.levels.with_child.Goals as goal
 

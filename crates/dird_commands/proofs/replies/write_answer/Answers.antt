@@ -1,5 +1,5 @@
 use Rattle.dir_lab.specs.dir_search.directory_api.ldap_msg.View.{entry_view}
-use Rattle.dird_commands.specs.Replies.{entry_line}
+use Rattle.dird_commands.specs.private.Replies.{entry_line}
 use Rattle.dird_commands.proofs.Replying.{answer_done}
 use Rattle.dird_commands.proofs.replies.write_answer.Goals as goal
 

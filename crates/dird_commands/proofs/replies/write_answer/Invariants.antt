@@ -1,6 +1,6 @@
 use Rattle.std.proofs.Common.{◌++◌, flat_map, length, map, string_bytes, take}
 use Rattle.std.specs.Io.KnownBytes.{Appends}
-use Rattle.dird_commands.specs.Replies.{entry_line}
+use Rattle.dird_commands.specs.private.Replies.{entry_line}
 use Rattle.dird_commands.proofs.replies.write_answer.Given as goal
 
 abbrev pub invariant-loop-entry : goal.invariant-loop-entry

@@ -1,5 +1,5 @@
 use Rattle.dir_lab.specs.Shown.{shown_view}
-use Rattle.dird_commands.specs.Replies.{text_of}
+use Rattle.dird_commands.specs.private.Replies.{text_of}
 use Rattle.dird_commands.proofs.Replying.{one_more}
 use Rattle.dird_commands.proofs.replies.write_replies.Goals as goal
 

@@ -1,7 +1,7 @@
 use Rattle.std.proofs.Common.{flat_map, map, take}
 use Rattle.std.specs.Io.KnownBytes.{Appends}
 use Rattle.dir_lab.specs.Shown.{shown_view}
-use Rattle.dird_commands.specs.Replies.{text_of}
+use Rattle.dird_commands.specs.private.Replies.{text_of}
 use Rattle.dird_commands.proofs.replies.write_replies.Given as goal
 
 abbrev pub invariant-loop-reply : goal.invariant-loop-reply

@@ -1,5 +1,5 @@
 use Rattle.std.proofs.Common.{◌++◌, [], ◌∷◌, codes, decimal, ap, ◌∙◌}
-use Rattle.dird_commands.specs.Replies.{status_word}
+use Rattle.dird_commands.specs.private.Replies.{status_word}
 use Rattle.dird_commands.proofs.Replying.{text_as, ten_parts}
 use Rattle.dird_commands.proofs.replies.write_state.Goals as goal
 

@@ -1,7 +1,7 @@
 use Rattle.std.proofs.Common.{ℕ, List, false, length, Vec, Global, Ok, map, ap, sym, subst, ◌≡◌, ◌∙◌}
 use Rattle.dir_entry.specs.Entry.{AttributeModel, KeyedAttribute, attributes_of, IsKeyedBy}
 use Rattle.dir_entry.specs.Adding.{Refuses}
-use Rattle.entry_changes.specs.Compared.{values_held}
+use Rattle.entry_changes.specs.private.Compared.{values_held}
 use Rattle.entry_changes.specs.Editing.{is_empty, holds, with_added}
 use Rattle.std.specs.List.{list_any}
 use Rattle.std.specs.Bool.{◌==◌}

@@ -1,7 +1,7 @@
 use Rattle.std.proofs.Common.{ℕ, List, Vec, Global, Ok, Err, map, refl, ap, sym, subst, ◌≡◌, ◌∙◌}
 use Rattle.std.proofs.lemmas.Result.{IfOk-weaker}
 use Rattle.dir_entry.specs.Entry.{AttributeModel, KeyedAttribute, attributes_of, IsKeyedBy}
-use Rattle.entry_changes.specs.Compared.{values_held}
+use Rattle.entry_changes.specs.private.Compared.{values_held}
 use Rattle.entry_changes.specs.Editing.{without_values}
 use Rattle.entry_changes.proofs.Edited.{deleted, none_held, both_ok}
 use Rattle.entry_changes.proofs.changing.delete_given.Goals as goal

@@ -1,7 +1,7 @@
 use Rattle.std.proofs.Common.{Option, ap, ◌∙◌}
 use Rattle.std.specs.List.{list_any}
 use Rattle.dir_entry.specs.Entry.{KeyedAttribute}
-use Rattle.entry_changes.specs.Compared.{values_held}
+use Rattle.entry_changes.specs.private.Compared.{values_held}
 use Rattle.entry_changes.specs.Editing.{holds}
 use Rattle.entry_changes.proofs.Marked.{none_of}
 use Rattle.entry_changes.proofs.changing.join.Goals as goal

@@ -1,5 +1,6 @@
 use Rattle.std.proofs.Common.{ℕ, Vec, Global, Bool, length, ap, sym, subst, ◌∙◌}
-use Rattle.entry_changes.specs.Opening.{since, octets_by, held_in, Fits}
+use Rattle.entry_changes.specs.Opening.{since, octets_by, held_in}
+use Rattle.entry_changes.specs.private.Opening.{Fits}
 use Rattle.entry_changes.proofs.Indexing.{map_length, more_values, fits_more}
 use Rattle.entry_changes.proofs.opened.extended.Goals as goal
 

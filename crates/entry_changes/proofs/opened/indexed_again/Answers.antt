@@ -1,7 +1,8 @@
 use Rattle.std.proofs.Common.{length, ap, sym, subst, ◌∙◌}
 use Rattle.std.proofs.lemmas.Result.{IfOk-weaker}
 use Rattle.dir_entry.specs.Entry.{KeyedAttribute}
-use Rattle.entry_changes.specs.Opening.{octets_by, IsIndexed}
+use Rattle.entry_changes.specs.Opening.{octets_by}
+use Rattle.entry_changes.specs.private.Opening.{IsIndexed}
 use Rattle.entry_changes.proofs.opened.indexed_again.Goals as goal
 
 pub newly_indexed-requires : goal.newly_indexed-requires

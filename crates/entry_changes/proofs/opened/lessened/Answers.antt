@@ -1,5 +1,6 @@
 use Rattle.std.proofs.Common.{Bool, ap, sym, subst, ◌∙◌}
-use Rattle.entry_changes.specs.Opening.{since, octets_by, held_in, Fits}
+use Rattle.entry_changes.specs.Opening.{since, octets_by, held_in}
+use Rattle.entry_changes.specs.private.Opening.{Fits}
 use Rattle.entry_changes.proofs.Indexing.{less_values, fits_less}
 use Rattle.entry_changes.proofs.opened.lessened.Goals as goal
 

@@ -1,5 +1,5 @@
 use Rattle.std.proofs.Common.{◌≡◌, None, false, drop, map, option_map}
-use Rattle.explanations.specs.Forms.{form_model}
+use Rattle.explanations.specs.private.Forms.{form_model}
 use Rattle.explanations.specs.Descriptions.{order_fault_from}
 use Rattle.explanations.proofs.descriptions.order_fault.Given as goal
 

@@ -1,5 +1,6 @@
 use Rattle.std.proofs.Common.{◌≡◌, drop, map}
-use Rattle.explanations.specs.Forms.{form_model, form_among}
+use Rattle.explanations.specs.Forms.{form_among}
+use Rattle.explanations.specs.private.Forms.{form_model}
 use Rattle.explanations.proofs.forms.form_among.Given as goal
 
 abbrev pub invariant-loop-form : goal.invariant-loop-form

@@ -1,5 +1,5 @@
 use Rattle.std.proofs.Common.{◌≡◌, drop, map}
-use Rattle.explanations.specs.Reaching.{with_called}
+use Rattle.explanations.specs.private.Reaching.{with_called}
 use Rattle.explanations.proofs.loops.add_called.Given as goal
 
 abbrev pub invariant-loop-word : goal.invariant-loop-word

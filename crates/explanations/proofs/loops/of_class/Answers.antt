@@ -2,7 +2,7 @@ use Rattle.std.proofs.Common.{◌≡◌, ◌+◌, ◌<◌, ℕ, List, [], false,
 use Rattle.std.proofs.lemmas.Result.{IfOk-weaker}
 use Rattle.explanations.specs.declared.loops.Step.{Step}
 use Rattle.explanations.specs.Loops.{is_right_above, way_sentence, IsClassLoop}
-use Rattle.explanations.specs.Reaching.{ReachedModel, IsReached}
+use Rattle.explanations.specs.private.Reaching.{ReachedModel, IsReached}
 use Rattle.explanations.proofs.Reaching.{carried, unseen, found_at, none_at, stepped, no_way}
 use Rattle.explanations.proofs.loops.of_class.Goals as goal
 

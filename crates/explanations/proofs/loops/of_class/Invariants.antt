@@ -1,5 +1,5 @@
 use Rattle.std.proofs.Common.{◌+◌, ◌-◌, length}
-use Rattle.explanations.specs.Reaching.{IsReached}
+use Rattle.explanations.specs.private.Reaching.{IsReached}
 use Rattle.explanations.proofs.Reaching.{unseen}
 use Rattle.explanations.proofs.loops.of_class.Given as goal
 

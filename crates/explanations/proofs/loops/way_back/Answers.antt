@@ -1,7 +1,7 @@
 use Rattle.std.proofs.Common.{◌≡◌, ◌++◌, ◌∷◌, [], ℕ, List, ap, ◌∙◌, refl, reverse, get_or, string_bytes, arith}
 use Rattle.std.proofs.lemmas.Result.{IfOk-weaker}
 use Rattle.explanations.specs.Loops.{way_sentence, IsWayOf}
-use Rattle.explanations.specs.Reaching.{class_at, nowhere}
+use Rattle.explanations.specs.private.Reaching.{class_at, nowhere}
 use Rattle.explanations.proofs.Reaching.{way_first, way_more, from_within, way_done}
 use Rattle.explanations.proofs.loops.way_back.Goals as goal
 

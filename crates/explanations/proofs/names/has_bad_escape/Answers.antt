@@ -1,5 +1,5 @@
 use Rattle.std.proofs.Common.{◌+◌, ap, sym, ◌∙◌, drop}
-use Rattle.explanations.specs.Names.{scan_of}
+use Rattle.explanations.specs.private.Names.{scan_of}
 use Rattle.explanations.proofs.Escaping.{fails_by, fails_drop}
 use Rattle.explanations.proofs.names.has_bad_escape.Goals as goal
 

@@ -1,6 +1,6 @@
 use Rattle.std.proofs.Common.{◌≡◌, drop, is_none}
 use Rattle.ldap_match.specs.ldap_dn.Texts.{tokens_of}
-use Rattle.explanations.specs.Names.{scan_of}
+use Rattle.explanations.specs.private.Names.{scan_of}
 use Rattle.explanations.proofs.Escaping.{fails}
 use Rattle.explanations.proofs.names.has_bad_escape.Given as goal
 

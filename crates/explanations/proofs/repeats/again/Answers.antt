@@ -2,7 +2,7 @@ use Rattle.std.proofs.Common.{◌≡◌, ◌+◌, ℕ, Bool, true, false, List, 
 use Rattle.std.specs.Char.{to_ascii_lowercase}
 use Rattle.std.specs.Str.{bytes_eq}
 use Rattle.schema_meaning.specs.Naming.{is_name_among}
-use Rattle.schema_meaning.specs.Octets.{number_at, has_folded}
+use Rattle.schema_meaning.specs.private.Octets.{number_at, has_folded}
 use Rattle.explanations.specs.Repeats.{again}
 use Rattle.explanations.proofs.Again.{opened, one_more_seen, front_more, goes_past, comes_again}
 use Rattle.explanations.proofs.repeats.again.Goals as goal

@@ -1,5 +1,5 @@
 use Rattle.std.proofs.Common.{◌≡◌, ℕ, List, [], is_some, drop, map, take}
-use Rattle.schema_meaning.specs.Octets.{number_at, has_folded}
+use Rattle.schema_meaning.specs.private.Octets.{number_at, has_folded}
 use Rattle.explanations.specs.Repeats.{again}
 use Rattle.explanations.proofs.repeats.again.Given as goal
 

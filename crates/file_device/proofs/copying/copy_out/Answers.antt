@@ -1,5 +1,5 @@
 use Rattle.std.proofs.Common.{length, drop, eq-eqb, arith, length-drop}
-use Rattle.file_device.specs.Pieces.{octets_in}
+use Rattle.file_device.specs.private.Pieces.{octets_in}
 use Rattle.file_device.proofs.Copied.{full_then, done_then, whole_copied}
 use Rattle.file_device.proofs.copying.copy_out.Goals as goal
 

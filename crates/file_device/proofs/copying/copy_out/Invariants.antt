@@ -1,5 +1,5 @@
 use Rattle.std.proofs.Common.{drop, length}
-use Rattle.file_device.specs.Pieces.{octets_in}
+use Rattle.file_device.specs.private.Pieces.{octets_in}
 use Rattle.file_device.proofs.Copied.{IsCopied}
 use Rattle.file_device.proofs.copying.copy_out.Given as goal
 

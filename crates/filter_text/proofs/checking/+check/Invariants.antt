@@ -1,6 +1,6 @@
 -- Filter texts, checks: what the loop of `have_texts` keeps.
 use Rattle.std.proofs.Common.{◌≡◌, drop}
-use Rattle.ldap_filter.specs.View.{views}
+use Rattle.ldap_filter.specs.private.View.{views}
 use Rattle.filter_text.specs.Grammar.{have_texts}
 use Rattle.filter_text.proofs.checking.+check.Given as goal
 

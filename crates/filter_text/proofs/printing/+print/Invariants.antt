@@ -1,6 +1,6 @@
 -- Filter texts, printing: what the loop of `put_filters` keeps.
 use Rattle.std.proofs.Common.{◌≡◌, ◌++◌, drop, string_bytes, length}
-use Rattle.ldap_filter.specs.View.{views}
+use Rattle.ldap_filter.specs.private.View.{views}
 use Rattle.filter_text.specs.Grammar.{filter_texts}
 use Rattle.filter_text.proofs.printing.+print.Given as goal
 

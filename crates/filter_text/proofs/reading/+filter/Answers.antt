@@ -2,7 +2,8 @@
 use Rattle.std.proofs.Common.{◌≡◌, ◌∷◌, ◌++◌, [], sym, subst, ap, ◌∙◌, arith, rules}
 use Rattle.std.proofs.lemmas.Result.{err_from_is_err_and}
 use Rattle.ldap_filter.specs.Tree.{conj, disj, negation, Trees}
-use Rattle.ldap_filter.specs.View.{view, views}
+use Rattle.ldap_filter.specs.View.{view}
+use Rattle.ldap_filter.specs.private.View.{views}
 use Rattle.ldap_filter.specs.declared.tree.Filter.{And, Or, Not, the_lemmas}
 use Rattle.filter_text.proofs.Rows.{SoFar, views_push, goes_on, ends, never_ends, row_fails, conj_reads, disj_reads, negation_reads, conj_fails, disj_fails, negation_fails, negation_open, not_opened, some_depth, some_count}
 use Rattle.filter_text.proofs.reading.+filter.Goals as goal

@@ -1,6 +1,6 @@
 -- Filter texts, reading: what the loop of `row_of` keeps, and what grows less.
 use Rattle.std.proofs.Common.{◌+◌, ◌*◌, ◌≤◌}
-use Rattle.ldap_filter.specs.View.{views}
+use Rattle.ldap_filter.specs.private.View.{views}
 use Rattle.filter_text.proofs.Rows.{SoFar}
 use Rattle.filter_text.proofs.reading.+filter.Given as goal
 

@@ -1,8 +1,8 @@
 -- Filter texts, reading: the goals of `item_of` that no tactic closes, each by one lemma over plain lists.
 use Rattle.std.proofs.Common.{◌≡◌, List, ℕ, None, suc, sym, subst, ◌∙◌}
 use Rattle.std.proofs.lemmas.Result.{err_from_is_err_and}
-use Rattle.filter_text.specs.Cuts.{item_of}
-use Rattle.filter_text.specs.Reads.{PartFault, IsItemRead}
+use Rattle.filter_text.specs.private.Cuts.{item_of}
+use Rattle.filter_text.specs.private.Reads.{PartFault, IsItemRead}
 use Rattle.filter_text.proofs.Rows.{item_open, item_fails, item_reads}
 use Rattle.filter_text.proofs.reading.item_of.Goals as goal
 

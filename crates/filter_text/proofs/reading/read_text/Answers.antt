@@ -2,8 +2,8 @@
 use Rattle.std.proofs.Common.{◌≡◌, List, ℕ, None, subst}
 use Rattle.std.proofs.lemmas.Result.{err_from_is_err_and}
 use Rattle.ldap_filter.specs.View.{view}
-use Rattle.filter_text.specs.Scanning.{stop, IsScanFault}
-use Rattle.filter_text.specs.Reads.{IsFrontRead, IsFrontFault}
+use Rattle.filter_text.specs.private.Scanning.{stop, IsScanFault}
+use Rattle.filter_text.specs.private.Reads.{IsFrontRead, IsFrontFault}
 use Rattle.filter_text.proofs.Texts.{scan_only, scan_refused, filter_refused, filter_found}
 use Rattle.filter_text.proofs.reading.read_text.Goals as goal
 

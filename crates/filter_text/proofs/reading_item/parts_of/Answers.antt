@@ -3,7 +3,7 @@ use Rattle.std.proofs.Common.{map, ap, ◌∙◌}
 use Rattle.std.proofs.lemmas.List.{map_push}
 use Rattle.std.proofs.lemmas.Result.{err_from_is_err_and}
 use Rattle.std.specs.Option.{option_map}
-use Rattle.filter_text.specs.Cuts.{tail}
+use Rattle.filter_text.specs.private.Cuts.{tail}
 use Rattle.filter_text.proofs.Cuts.{part_fault, part_missing, part_found, last_found, last_missing}
 use Rattle.filter_text.proofs.reading_item.parts_of.Goals as goal
 

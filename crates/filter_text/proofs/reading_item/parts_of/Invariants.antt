@@ -1,7 +1,7 @@
 -- Filter texts, reading: what the loop of `parts_of` keeps, and what grows less.
 use Rattle.std.proofs.Common.{◌≡◌, map, length, nat_eq}
 use Rattle.std.specs.List.{slice_split}
-use Rattle.filter_text.specs.Cuts.{spread, parts_of}
+use Rattle.filter_text.specs.private.Cuts.{spread, parts_of}
 use Rattle.filter_text.proofs.reading_item.parts_of.Given as goal
 
 abbrev pub invariant-loop-rest : goal.invariant-loop-rest

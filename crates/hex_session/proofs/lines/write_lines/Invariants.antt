@@ -1,6 +1,6 @@
 use Rattle.std.proofs.Common.{take, map}
 use Rattle.std.specs.Io.KnownBytes.{Appends}
-use Rattle.hex_session.specs.Lines.{hex_lines}
+use Rattle.hex_session.specs.private.Lines.{hex_lines}
 use Rattle.hex_session.proofs.lines.write_lines.Given as goal
 
 abbrev pub invariant-loop-response : goal.invariant-loop-response

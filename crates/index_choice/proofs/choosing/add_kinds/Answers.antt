@@ -1,7 +1,7 @@
 use Rattle.std.proofs.Common.{◌≡◌, ℕ, ◌<◌, length, List, cond, nat_eq, sym, ap, ◌∙◌}
 use Rattle.index_choice.specs.declared.kinds.Kinds.{Kinds}
 use Rattle.index_choice.specs.Choice.{kinds_of}
-use Rattle.index_choice.specs.Texts.{joined}
+use Rattle.index_choice.specs.private.Texts.{joined}
 use Rattle.index_choice.proofs.Settings.{kinds_here, kinds_set, at_type}
 use Rattle.index_choice.proofs.choosing.add_kinds.Goals as goal
 

@@ -5,7 +5,8 @@ use Rattle.ldap_match.specs.ldap_schema.Schema.{SchemaModel}
 use Rattle.index_choice.specs.declared.line.IndexLine.{IndexLine}
 use Rattle.index_choice.specs.declared.error.IndexError.{IndexError}
 use Rattle.index_choice.specs.declared.error.IndexError.TheVariants.{BadDescription, UnknownName, IndexWithoutRule, NoMemory}
-use Rattle.index_choice.specs.Texts.{after, lines_from, line_said, IsBadLine}
+use Rattle.index_choice.specs.Texts.{after, lines_from, line_said}
+use Rattle.index_choice.specs.private.Texts.{IsBadLine}
 use Rattle.index_choice.proofs.reading.said_by_lines.Goals as goal
 
 bad_after : (front : List IndexLine) (r : Result (List IndexLine) ℕ) (e : IndexError) → IsBadLine r e → IsBadLine (after front r) e

@@ -1,7 +1,8 @@
 use Rattle.std.proofs.Common.{◌≡◌, ◌+◌, List, ℕ, take, refl, sym, subst, arith}
 use Rattle.journal.specs.Device.{Only}
 use Rattle.journal.specs.Frames.{recorded}
-use Rattle.journal.specs.Journal.{Cleared, IsImage}
+use Rattle.journal.specs.Journal.{IsImage}
+use Rattle.journal.specs.private.Journal.{Cleared}
 use Rattle.journal.proofs.Clearing.{all_cleared, behind_crash, behind_written, cleared_same, zeros_part}
 use Rattle.journal.proofs.Moments.{goes_on}
 use Rattle.journal.proofs.zeroing.clear_rest.Goals as goal

@@ -1,7 +1,7 @@
 use Rattle.std.proofs.Common.{◌≡◌, ◌≤◌, ◌-◌, List, ℕ}
 use Rattle.journal.specs.Device.{LeavesOnly}
 use Rattle.journal.specs.Frames.{recorded}
-use Rattle.journal.specs.Journal.{Cleared}
+use Rattle.journal.specs.private.Journal.{Cleared}
 use Rattle.journal.proofs.zeroing.clear_rest.Given as goal
 
 -- so many zeros are written, and behind the header each crash leaves whatever there may be

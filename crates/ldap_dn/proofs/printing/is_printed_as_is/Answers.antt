@@ -1,7 +1,7 @@
 use Rattle.std.proofs.Common.{ℕ, ◌-◌, List, length, slice_get, ap, sym, ◌∙◌, subst, ◌≡◌, true}
 use Rattle.std.specs.Option.{option_copied}
 use Rattle.std.specs.List.{list_all}
-use Rattle.ldap_dn.specs.Plain.{is_plain}
+use Rattle.ldap_dn.specs.private.Plain.{is_plain}
 use Rattle.ldap_dn.proofs.Plain.{printed_plain, printed_nothing}
 use Rattle.ldap_dn.proofs.printing.is_printed_as_is.Goals as goal
 

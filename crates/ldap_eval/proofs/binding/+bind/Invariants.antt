@@ -1,6 +1,6 @@
 use Rattle.std.proofs.Common.{take}
-use Rattle.ldap_filter.specs.View.{views}
-use Rattle.ldap_eval.specs.Bound.{AreBoundTo}
+use Rattle.ldap_filter.specs.private.View.{views}
+use Rattle.ldap_eval.specs.private.Bound.{AreBoundTo}
 use Rattle.ldap_eval.specs.Made.{AreMadeOf}
 use Rattle.ldap_eval.proofs.binding.+bind.Given as goal
 

@@ -1,6 +1,6 @@
 use Rattle.std.proofs.Common.{sym, ◌∙◌}
 use Rattle.std.proofs.lemmas.Result.{IfOk-weaker}
-use Rattle.ldap_eval.specs.Asked.{item_of}
+use Rattle.ldap_eval.specs.private.Asked.{item_of}
 use Rattle.ldap_eval.proofs.Items.{item_bound}
 use Rattle.ldap_eval.proofs.Made.{item_for}
 use Rattle.ldap_eval.proofs.binding.bind_item.Goals as goal

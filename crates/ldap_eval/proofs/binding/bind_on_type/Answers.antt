@@ -1,5 +1,5 @@
 use Rattle.std.proofs.Common.{sym, ◌∙◌}
-use Rattle.ldap_eval.specs.Asked.{item_of}
+use Rattle.ldap_eval.specs.private.Asked.{item_of}
 use Rattle.ldap_eval.proofs.Items.{leaves_item, unanswered_item}
 use Rattle.ldap_eval.proofs.Made.{leaves_on, unanswered_on}
 use Rattle.ldap_eval.proofs.binding.bind_on_type.Goals as goal

@@ -2,7 +2,7 @@ use Rattle.std.proofs.Common.{Vec, Global, ◌++◌, ap, ap₂, ◌∙◌, subst
 use Rattle.dir_entry.specs.ldap_schema.Schema.{is_under}
 use Rattle.dir_entry.specs.ldap_match.Keyed.{test_for}
 use Rattle.dir_entry.specs.ldap_match.declared.testing.Test.{Test}
-use Rattle.ldap_eval.specs.Asked.{item_of}
+use Rattle.ldap_eval.specs.private.Asked.{item_of}
 use Rattle.ldap_eval.specs.Bound.{leaves_from}
 use Rattle.ldap_eval.specs.declared.bound.BoundFilter.{BoundFilter}
 use Rattle.ldap_eval.specs.declared.bound.BoundFilter.TheVariants as bound

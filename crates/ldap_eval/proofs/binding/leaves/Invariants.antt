@@ -1,5 +1,5 @@
 use Rattle.std.proofs.Common.{◌≡◌, ◌++◌, drop}
-use Rattle.ldap_eval.specs.Asked.{item_of}
+use Rattle.ldap_eval.specs.private.Asked.{item_of}
 use Rattle.ldap_eval.specs.Bound.{leaves_from, leaves_for}
 use Rattle.ldap_eval.proofs.binding.leaves.Given as goal
 

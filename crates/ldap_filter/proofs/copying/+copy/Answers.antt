@@ -1,7 +1,8 @@
 -- Wire, filters: the goals of `+copy` that no tactic closes, each by one lemma over plain lists.
 use Rattle.std.proofs.Common.{ℕ, ◌+◌, ◌<◌, ◌≡◌, List, [], ◌∷◌, ◌++◌, length, get_or, take, ap, ap₂, sym, ◌∙◌}
 use Rattle.std.proofs.lemmas.List.{take_more}
-use Rattle.ldap_filter.specs.View.{view, views}
+use Rattle.ldap_filter.specs.View.{view}
+use Rattle.ldap_filter.specs.private.View.{views}
 use Rattle.ldap_filter.specs.declared.tree.Filter.{Filter}
 use Rattle.ldap_filter.proofs.Rows.{push, views_push}
 use Rattle.ldap_filter.proofs.copying.+copy.Goals as goal

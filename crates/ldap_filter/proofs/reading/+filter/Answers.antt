@@ -1,7 +1,8 @@
 -- Wire, filters: the goals of `+filter` that no tactic closes, each by one lemma over plain lists.
 use Rattle.std.proofs.Common.{◌≡◌, ℕ, [], ◌∷◌, ◌++◌, ap, subst, inl, inr, ◌∙◌, arith, rules}
 use Rattle.std.proofs.lemmas.Result.{err_from_is_err_and}
-use Rattle.ldap_filter.specs.View.{view, views}
+use Rattle.ldap_filter.specs.View.{view}
+use Rattle.ldap_filter.specs.private.View.{views}
 use Rattle.ldap_filter.specs.Tree.{negation}
 use Rattle.ldap_fields.specs.Fields.{HasField}
 use Rattle.ldap_filter.specs.Limits.{here}

@@ -1,6 +1,6 @@
 -- Wire, filters: what the loops of `+filter` keep, and what grows less.
 use Rattle.std.proofs.Common.{◌+◌, ◌*◌}
-use Rattle.ldap_filter.specs.View.{views}
+use Rattle.ldap_filter.specs.private.View.{views}
 use Rattle.ldap_filter.proofs.Rows.{SoFar}
 use Rattle.ldap_filter.proofs.reading.+filter.Given as goal
 

@@ -1,6 +1,6 @@
 -- Wire, filters: what the loops of `+write` keep, and what grows less.
 use Rattle.std.proofs.Common.{◌≡◌, ◌++◌, take}
-use Rattle.ldap_filter.specs.View.{views}
+use Rattle.ldap_filter.specs.private.View.{views}
 use Rattle.ldap_filter.specs.Grammar.{filters_bytes}
 use Rattle.ldap_filter.proofs.writing.+write.Given as goal
 

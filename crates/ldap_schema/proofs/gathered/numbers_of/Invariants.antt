@@ -1,5 +1,5 @@
 use Rattle.std.proofs.Common.{take}
-use Rattle.ldap_schema.specs.Marks.{AreNumbersOf}
+use Rattle.ldap_schema.specs.private.Marks.{AreNumbersOf}
 use Rattle.ldap_schema.proofs.gathered.numbers_of.Given as goal
 
 abbrev pub invariant-loop-class : goal.invariant-loop-class

@@ -1,7 +1,8 @@
 use Rattle.std.proofs.Common.{ℕ, List, sym, subst, ◌∙◌}
 use Rattle.std.specs.List.Sorted.{IsPermutation, IsNonDecreasingBy}
 use Rattle.std.proofs.lemmas.Result.{IfOk-weaker}
-use Rattle.ldap_schema.specs.Lines.{is_under_in, rank_in}
+use Rattle.ldap_schema.specs.Lines.{rank_in}
+use Rattle.ldap_schema.specs.private.Lines.{is_under_in}
 use Rattle.ldap_schema.proofs.Ordered.{in_line_by_rank}
 use Rattle.ldap_schema.proofs.Ranked.{ranked_order}
 use Rattle.ldap_schema.proofs.lines.are_ranked_in_line.Goals as goal

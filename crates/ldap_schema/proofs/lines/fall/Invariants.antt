@@ -1,5 +1,5 @@
 use Rattle.std.proofs.Common.{◌≡◌, drop}
-use Rattle.ldap_schema.specs.Lines.{falls, is_under_in}
+use Rattle.ldap_schema.specs.private.Lines.{falls, is_under_in}
 use Rattle.ldap_schema.proofs.lines.fall.Given as goal
 
 abbrev pub invariant-loop-class : goal.invariant-loop-class

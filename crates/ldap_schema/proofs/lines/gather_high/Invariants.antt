@@ -1,6 +1,6 @@
 use Rattle.std.proofs.Common.{◌≡◌, ◌+◌, ◌-◌, length}
 use Rattle.ldap_schema.specs.Superclasses.{filled, filled_from}
-use Rattle.ldap_schema.specs.Lines.{cut}
+use Rattle.ldap_schema.specs.private.Lines.{cut}
 use Rattle.ldap_schema.proofs.lines.gather_high.Given as goal
 
 abbrev pub invariant-loop-place : goal.invariant-loop-place

@@ -1,5 +1,5 @@
 use Rattle.std.proofs.Common.{◌≡◌, drop}
-use Rattle.ldap_schema.specs.Lines.{greatest}
+use Rattle.ldap_schema.specs.private.Lines.{greatest}
 use Rattle.ldap_schema.proofs.lines.greatest.Given as goal
 
 abbrev pub invariant-loop-class : goal.invariant-loop-class

@@ -1,6 +1,6 @@
 use Rattle.std.proofs.Common.{◌∙◌}
 use Rattle.std.proofs.lemmas.Result.{IfOk-weaker}
-use Rattle.ldap_schema.specs.Lines.{is_under_in}
+use Rattle.ldap_schema.specs.private.Lines.{is_under_in}
 use Rattle.ldap_schema.proofs.Ordered.{lowest_by_rank}
 use Rattle.ldap_schema.proofs.Ranked.{ranked_order}
 use Rattle.ldap_schema.proofs.lines.lowest_ranked.Goals as goal

@@ -3,7 +3,7 @@ use Rattle.std.proofs.Math.ListN.{drop_of_length-le}
 use Rattle.std.specs.Char.{to_ascii_lowercase}
 use Rattle.std.specs.Str.{bytes_eq}
 use Rattle.std.specs.String.{string_bytes}
-use Rattle.ldap_schema.specs.NameOrder.{number_at, kept_or}
+use Rattle.ldap_schema.specs.private.NameOrder.{number_at, kept_or}
 use Rattle.ldap_schema.proofs.Steps.{list_any-map}
 use Rattle.ldap_schema.proofs.Indexed.{names_done}
 use Rattle.ldap_schema.proofs.name_index.add_names.Goals as goal

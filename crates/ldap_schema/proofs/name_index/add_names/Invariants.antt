@@ -4,7 +4,7 @@ use Rattle.std.specs.Char.{to_ascii_lowercase}
 use Rattle.std.specs.Str.{bytes_eq}
 use Rattle.std.specs.String.{string_bytes}
 use Rattle.std.proofs.Common.{map}
-use Rattle.ldap_schema.specs.NameOrder.{number_at, kept_or}
+use Rattle.ldap_schema.specs.private.NameOrder.{number_at, kept_or}
 use Rattle.ldap_schema.proofs.name_index.add_names.Given as goal
 
 abbrev pub invariant-loop-name : goal.invariant-loop-name

@@ -1,6 +1,7 @@
 use Rattle.std.proofs.Common.{◌≡◌, drop}
 use Rattle.std.specs.List.{list_all}
-use Rattle.ldap_schema.specs.Lines.{is_either_under, is_under_in, are_all_in_line}
+use Rattle.ldap_schema.specs.Lines.{is_either_under, are_all_in_line}
+use Rattle.ldap_schema.specs.private.Lines.{is_under_in}
 use Rattle.ldap_schema.proofs.pairs.is_each_in_line.Given as goal
 
 abbrev pub invariant-loop-class : goal.invariant-loop-class

@@ -1,5 +1,6 @@
 use Rattle.std.proofs.Common.{◌≡◌, drop}
-use Rattle.ldap_schema.specs.Lines.{is_under_in, lowest_in}
+use Rattle.ldap_schema.specs.Lines.{lowest_in}
+use Rattle.ldap_schema.specs.private.Lines.{is_under_in}
 use Rattle.ldap_schema.proofs.pairs.lowest_among.Given as goal
 
 abbrev pub invariant-loop-class : goal.invariant-loop-class

@@ -2,7 +2,7 @@ use Rattle.std.proofs.Common.{Bool, sym, subst, ap, ◌∙◌}
 use Rattle.session_handler.specs.View.{config_view}
 use Rattle.ldap_session.specs.Octets.{HasWritten}
 use Rattle.ldap_session.specs.View.{SessionValue, ConversationValue, conversation_view}
-use Rattle.ldap_session.specs.Steps.{HasWorked}
+use Rattle.ldap_session.specs.private.Steps.{HasWorked}
 use Rattle.ldap_session.specs.declared.end.SessionEnd.TheVariants.{WriteFailed}
 use Rattle.ldap_session.specs.declared.serving.Flow.TheVariants.{Ends}
 use Rattle.ldap_session.proofs.Kept.{on_true}

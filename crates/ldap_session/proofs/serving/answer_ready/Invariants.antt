@@ -1,7 +1,7 @@
 use Rattle.std.proofs.Common.{length}
 use Rattle.session_handler.specs.View.{config_view}
 use Rattle.ldap_session.specs.View.{conversation_view}
-use Rattle.ldap_session.specs.Steps.{IsAllSent}
+use Rattle.ldap_session.specs.private.Steps.{IsAllSent}
 use Rattle.ldap_session.proofs.Worked.{SoFar}
 use Rattle.ldap_session.proofs.serving.answer_ready.Given as goal
 

@@ -2,7 +2,7 @@ use Rattle.std.proofs.Common.{subst}
 use Rattle.std.proofs.KnownBytes.{Consumes-nil}
 use Rattle.session_handler.specs.View.{config_view}
 use Rattle.ldap_session.specs.View.{conversation_view}
-use Rattle.ldap_session.specs.Steps.{HasGot}
+use Rattle.ldap_session.specs.private.Steps.{HasGot}
 use Rattle.ldap_session.specs.declared.serving.Got.{Got}
 use Rattle.ldap_session.specs.declared.serving.Got.TheVariants.{Octets, End}
 use Rattle.ldap_session.proofs.Served.{going_first, going_on, going_ends, served_last, served_failed}

@@ -1,6 +1,6 @@
 use Rattle.session_handler.specs.View.{config_view}
 use Rattle.ldap_session.specs.View.{conversation_view}
-use Rattle.ldap_session.specs.Steps.{IsAllSent}
+use Rattle.ldap_session.specs.private.Steps.{IsAllSent}
 use Rattle.ldap_session.proofs.Served.{Going}
 use Rattle.ldap_session.proofs.serving.serve.Given as goal
 

@@ -1,4 +1,4 @@
-use Rattle.ldap_session.specs.Octets.{WritesSome}
+use Rattle.ldap_session.specs.private.Octets.{WritesSome}
 use Rattle.ldap_session.proofs.writing.write_octets.Given as goal
 
 -- a front is taken, and this is left

@@ -1,5 +1,5 @@
 use Rattle.std.proofs.Common.{◌≡◌, drop, true}
-use Rattle.ldap_syntax.specs.Seen.{are_seen_behind}
+use Rattle.ldap_syntax.specs.private.Seen.{are_seen_behind}
 use Rattle.ldap_syntax.proofs.form.are_seen.Given as goal
 
 abbrev pub invariant-loop-octet : goal.invariant-loop-octet

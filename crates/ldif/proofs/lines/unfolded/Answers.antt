@@ -1,7 +1,7 @@
 -- LDIF, lines: the end of the loop of `unfolded`.
 use Rattle.std.proofs.Common.{◌+◌, map, ap, sym, ◌∙◌}
 use Rattle.ldif.specs.Lines.{without_return, unfolded}
-use Rattle.ldif.specs.Folding.{resumed}
+use Rattle.ldif.specs.private.Folding.{resumed}
 use Rattle.ldif.proofs.Unfolding.{drop_past, resumed_nil}
 use Rattle.ldif.proofs.lines.unfolded.Goals as goal
 

@@ -1,7 +1,7 @@
 -- LDIF, lines: what the loop of `unfolded` keeps.
 use Rattle.std.proofs.Common.{◌≡◌, ◌+◌, map, drop}
 use Rattle.ldif.specs.Lines.{without_return, unfolded}
-use Rattle.ldif.specs.Folding.{resumed}
+use Rattle.ldif.specs.private.Folding.{resumed}
 use Rattle.ldif.proofs.lines.unfolded.Given as goal
 
 abbrev pub invariant-loop-index : goal.invariant-loop-index

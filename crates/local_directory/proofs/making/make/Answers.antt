@@ -3,8 +3,8 @@ use Rattle.std.specs.Option.{option_map}
 use Rattle.std.specs.FinMap as map
 use Rattle.directory_api.specs.Answers.{ReplyModel}
 use Rattle.dir_store.specs.Updates.{reply_to}
-use Rattle.local_directory.specs.ClientOrder.{client_cmp}
-use Rattle.local_directory.specs.Changes.{with_kept}
+use Rattle.local_directory.specs.private.ClientOrder.{client_cmp}
+use Rattle.local_directory.specs.private.Changes.{with_kept}
 use Rattle.local_directory.specs.Latest.{KeptValue}
 use Rattle.local_directory.specs.View.{kept_view}
 use Rattle.local_directory.proofs.Tables.{put_there, has_put, put_twice, put_back_same}

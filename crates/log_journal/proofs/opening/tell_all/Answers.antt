@@ -1,7 +1,8 @@
 use Rattle.std.proofs.Common.{◌≡◌, List, ℕ, true, false, Err, length, drop, refl, sym, ap, ap₂, ◌∙◌, subst, arith}
 use Rattle.journal.specs.Device.{LeavesOnly}
 use Rattle.journal.specs.Frames.{is_whole, recorded}
-use Rattle.log_journal.specs.Found.{HasAnotherVersion, TellsNext}
+use Rattle.log_journal.specs.Found.{HasAnotherVersion}
+use Rattle.log_journal.specs.private.Found.{TellsNext}
 use Rattle.log_journal.specs.Refused.{HasDamage}
 use Rattle.log_journal.specs.Told.{Told, Tells, nothing_told}
 use Rattle.log_journal.specs.Views.{told_view}

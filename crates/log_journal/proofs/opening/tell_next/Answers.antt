@@ -1,6 +1,6 @@
 use Rattle.std.proofs.Common.{◌≡◌, List, ℕ, Err, refl, ap, subst}
 use Rattle.journal.specs.Reading.{Advances}
-use Rattle.log_journal.specs.Told.{TakesString}
+use Rattle.log_journal.specs.private.Told.{TakesString}
 use Rattle.log_journal.specs.Views.{told_view}
 use Rattle.log_journal.specs.declared.error.NoteError.{NoteError}
 use Rattle.log_journal.specs.declared.error.NoteError.TheVariants.{AnotherVersion, Damaged}

@@ -1,6 +1,6 @@
 use Rattle.std.proofs.Common.{◌≡◌, Option, Some, None, refl}
 use Rattle.dir_node.specs.NodeState.{nothing_executed}
-use Rattle.node_gate.specs.Identities.{IsReplicaOf}
+use Rattle.node_gate.specs.private.Identities.{IsReplicaOf}
 use Rattle.node_gate.proofs.opening.start_again.Goals as goal
 
 pub returns-in-Ok-clause-nothing : goal.returns-in-Ok-clause-nothing

@@ -2,7 +2,7 @@ use Rattle.std.proofs.Common.{ap, sym, ◌∙◌, map}
 use Rattle.std.proofs.Math.ListN.{drop_of_length-le}
 use Rattle.std.specs.Char.{to_ascii_lowercase}
 use Rattle.std.specs.Str.{bytes_eq}
-use Rattle.schema_meaning.specs.Octets.{number_at, kept_or}
+use Rattle.schema_meaning.specs.private.Octets.{number_at, kept_or}
 use Rattle.schema_meaning.proofs.Before.{any_map}
 use Rattle.schema_meaning.proofs.Kept.{names_done}
 use Rattle.schema_meaning.proofs.called.keep_names.Goals as goal

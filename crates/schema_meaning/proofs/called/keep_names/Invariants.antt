@@ -2,7 +2,7 @@ use Rattle.std.proofs.Common.{ℕ, List, ◌≡◌, drop, map}
 use Rattle.std.specs.List.{list_any}
 use Rattle.std.specs.Char.{to_ascii_lowercase}
 use Rattle.std.specs.Str.{bytes_eq}
-use Rattle.schema_meaning.specs.Octets.{number_at, kept_or}
+use Rattle.schema_meaning.specs.private.Octets.{number_at, kept_or}
 use Rattle.schema_meaning.proofs.called.keep_names.Given as goal
 
 abbrev pub invariant-loop-name : goal.invariant-loop-name

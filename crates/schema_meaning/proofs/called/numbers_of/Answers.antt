@@ -1,7 +1,7 @@
 use Rattle.std.proofs.Math.ListN.{drop_of_length-le}
 use Rattle.std.specs.Str.{bytes_eq}
 use Rattle.schema_text.specs.Descriptions.{DescriptionModel}
-use Rattle.schema_meaning.specs.Octets.{number_at, has_folded}
+use Rattle.schema_meaning.specs.private.Octets.{number_at, has_folded}
 use Rattle.schema_meaning.specs.Naming.{names_of}
 use Rattle.schema_meaning.proofs.Kept.{numbers_done, found_either}
 use Rattle.schema_meaning.proofs.called.numbers_of.Goals as goal

@@ -1,7 +1,7 @@
 use Rattle.std.proofs.Common.{ℕ, List, ◌≡◌, drop}
 use Rattle.std.specs.List.{position_from}
 use Rattle.std.specs.Str.{bytes_eq}
-use Rattle.schema_meaning.specs.Octets.{number_at, has_folded}
+use Rattle.schema_meaning.specs.private.Octets.{number_at, has_folded}
 use Rattle.schema_meaning.specs.Naming.{names_of}
 use Rattle.schema_meaning.proofs.Kept.{or_else}
 use Rattle.schema_meaning.proofs.called.numbers_of.Given as goal

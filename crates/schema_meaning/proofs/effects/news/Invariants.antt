@@ -1,5 +1,5 @@
 use Rattle.std.proofs.Common.{ℕ, ◌<◌, ◌≡◌, None}
-use Rattle.schema_meaning.specs.Settling.{new_effect}
+use Rattle.schema_meaning.specs.private.Settling.{new_effect}
 use Rattle.schema_meaning.proofs.effects.news.Given as goal
 
 abbrev pub invariant-loop-number : goal.invariant-loop-number

@@ -1,6 +1,6 @@
 use Rattle.std.proofs.Common.{List, Option, ap, ◌∙◌}
 use Rattle.schema_meaning.specs.declared.inheriting.Effect.{Effect}
-use Rattle.schema_meaning.specs.Settling.{effect_by}
+use Rattle.schema_meaning.specs.private.Settling.{effect_by}
 use Rattle.schema_meaning.proofs.Reaching.{knows_told}
 use Rattle.schema_meaning.proofs.effects.note.Goals as goal
 

@@ -1,6 +1,6 @@
 use Rattle.std.proofs.Common.{◌≡◌, ◌<◌, ℕ, List, Option, None, length, ap, sym, subst, ◌∙◌}
 use Rattle.schema_meaning.specs.declared.inheriting.Effect.{Effect}
-use Rattle.schema_meaning.specs.Settling.{new_effect}
+use Rattle.schema_meaning.specs.private.Settling.{new_effect}
 use Rattle.schema_meaning.proofs.Reaching.{knows_news, fewer, has_all}
 use Rattle.schema_meaning.proofs.effects.note_news.Goals as goal
 

@@ -1,4 +1,4 @@
-use Rattle.schema_meaning.specs.Settling.{Knows}
+use Rattle.schema_meaning.specs.private.Settling.{Knows}
 use Rattle.schema_meaning.proofs.effects.table_of.Given as goal
 
 abbrev pub invariant-loop-number : goal.invariant-loop-number

@@ -1,8 +1,8 @@
 use Rattle.std.proofs.Common.{◌≡◌, drop, map}
 use Rattle.std.specs.List.{list_any}
 use Rattle.std.specs.Char.{to_ascii_lowercase}
-use Rattle.schema_meaning.specs.Octets.{number_at}
-use Rattle.schema_meaning.specs.FirstLines.{is_less}
+use Rattle.schema_meaning.specs.private.Octets.{number_at}
+use Rattle.schema_meaning.specs.private.FirstLines.{is_less}
 use Rattle.schema_meaning.proofs.first_lines.has_earlier_name.Given as goal
 
 abbrev pub invariant-loop-name : goal.invariant-loop-name

@@ -1,6 +1,6 @@
 use Rattle.std.proofs.Common.{◌≡◌, ◌||◌, drop, map}
 use Rattle.schema_meaning.specs.Naming.{has_twice}
-use Rattle.schema_meaning.specs.Octets.{number_at}
+use Rattle.schema_meaning.specs.private.Octets.{number_at}
 use Rattle.schema_meaning.proofs.Before.{is_seen}
 use Rattle.schema_meaning.proofs.first_lines.has_twice.Given as goal
 

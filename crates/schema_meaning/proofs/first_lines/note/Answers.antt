@@ -1,6 +1,6 @@
 use Rattle.std.proofs.Common.{ℕ, Option, ap, ◌∙◌}
 use Rattle.schema_meaning.specs.Faults.{earlier_of}
-use Rattle.schema_meaning.specs.Octets.{number_at}
+use Rattle.schema_meaning.specs.private.Octets.{number_at}
 use Rattle.schema_meaning.proofs.Before.{noted_put}
 use Rattle.schema_meaning.proofs.first_lines.note.Goals as goal
 

@@ -1,8 +1,8 @@
 use Rattle.std.proofs.Common.{ℕ, List, ◌≡◌, drop}
 use Rattle.std.specs.Str.{bytes_eq}
 use Rattle.schema_meaning.specs.Naming.{names_of}
-use Rattle.schema_meaning.specs.Octets.{number_at, has_folded}
-use Rattle.schema_meaning.specs.FirstLines.{first_line}
+use Rattle.schema_meaning.specs.private.Octets.{number_at, has_folded}
+use Rattle.schema_meaning.specs.private.FirstLines.{first_line}
 use Rattle.schema_meaning.proofs.first_lines.note_all.Given as goal
 
 abbrev pub invariant-loop-description : goal.invariant-loop-description

@@ -2,8 +2,8 @@ use Rattle.std.proofs.Common.{ap, sym, ◌∙◌, map}
 use Rattle.std.proofs.Math.ListN.{drop_of_length-le}
 use Rattle.std.specs.Char.{to_ascii_lowercase}
 use Rattle.std.specs.Str.{bytes_eq}
-use Rattle.schema_meaning.specs.Octets.{number_at}
-use Rattle.schema_meaning.specs.FirstLines.{noted}
+use Rattle.schema_meaning.specs.private.Octets.{number_at}
+use Rattle.schema_meaning.specs.private.FirstLines.{noted}
 use Rattle.schema_meaning.proofs.Before.{any_map, names_noted}
 use Rattle.schema_meaning.proofs.first_lines.note_names.Goals as goal
 

@@ -2,8 +2,8 @@ use Rattle.std.proofs.Common.{ℕ, List, ◌≡◌, drop, map}
 use Rattle.std.specs.List.{list_any}
 use Rattle.std.specs.Char.{to_ascii_lowercase}
 use Rattle.std.specs.Str.{bytes_eq}
-use Rattle.schema_meaning.specs.Octets.{number_at}
-use Rattle.schema_meaning.specs.FirstLines.{noted}
+use Rattle.schema_meaning.specs.private.Octets.{number_at}
+use Rattle.schema_meaning.specs.private.FirstLines.{noted}
 use Rattle.schema_meaning.proofs.first_lines.note_names.Given as goal
 
 abbrev pub invariant-loop-name : goal.invariant-loop-name

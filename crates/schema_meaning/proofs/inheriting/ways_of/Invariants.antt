@@ -1,6 +1,7 @@
 use Rattle.std.proofs.Common.{◌≡◌, ◌++◌, drop, map}
 use Rattle.schema_meaning.specs.Naming.{superior_text}
-use Rattle.schema_meaning.specs.Inheriting.{way_by, ways_of}
+use Rattle.schema_meaning.specs.Inheriting.{way_by}
+use Rattle.schema_meaning.specs.private.Inheriting.{ways_of}
 use Rattle.schema_meaning.proofs.inheriting.ways_of.Given as goal
 
 -- what is looked up so far, and what is left

@@ -1,5 +1,5 @@
 use Rattle.std.proofs.Common.{ℕ, List, Vec, Global, ap, ◌∙◌}
-use Rattle.schema_meaning.specs.Octets.{number_at}
+use Rattle.schema_meaning.specs.private.Octets.{number_at}
 use Rattle.schema_meaning.proofs.Before.{line_put}
 use Rattle.schema_meaning.proofs.octets.put.Goals as goal
 

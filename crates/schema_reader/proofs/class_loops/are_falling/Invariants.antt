@@ -1,4 +1,4 @@
-use Rattle.schema_reader.specs.Falling.{IsFallingBelow}
+use Rattle.schema_reader.specs.private.Falling.{IsFallingBelow}
 use Rattle.schema_reader.proofs.class_loops.are_falling.Given as goal
 
 abbrev pub invariant-loop-number : goal.invariant-loop-number

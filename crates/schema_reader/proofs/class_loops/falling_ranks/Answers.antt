@@ -1,5 +1,5 @@
 use Rattle.std.proofs.Common.{ℕ, List, subst}
-use Rattle.schema_reader.specs.Falling.{IsFalling}
+use Rattle.schema_reader.specs.private.Falling.{IsFalling}
 use Rattle.schema_reader.proofs.class_loops.falling_ranks.Goals as goal
 
 pub returns-then-are_falling : goal.returns-then-are_falling

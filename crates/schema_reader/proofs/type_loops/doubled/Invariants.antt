@@ -1,5 +1,5 @@
 use Rattle.std.proofs.Common.{◌≡◌, ◌++◌, map, drop}
-use Rattle.schema_reader.specs.Looping.{then_up, step_at, doubled}
+use Rattle.schema_reader.specs.private.Looping.{then_up, step_at, doubled}
 use Rattle.schema_reader.proofs.type_loops.doubled.Given as goal
 
 abbrev pub invariant-loop-step : goal.invariant-loop-step

@@ -1,5 +1,5 @@
 use Rattle.std.proofs.Common.{ap, ◌∙◌}
-use Rattle.schema_reader.specs.Looping.{doubled}
+use Rattle.schema_reader.specs.private.Looping.{doubled}
 use Rattle.schema_reader.proofs.LoopingTypes.{twice_up}
 use Rattle.schema_reader.proofs.type_loops.far_up.Goals as goal
 

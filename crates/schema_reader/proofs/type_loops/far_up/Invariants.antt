@@ -1,4 +1,4 @@
-use Rattle.schema_reader.specs.Looping.{IsUpBut}
+use Rattle.schema_reader.specs.private.Looping.{IsUpBut}
 use Rattle.schema_reader.proofs.type_loops.far_up.Given as goal
 
 abbrev pub invariant-loop-left : goal.invariant-loop-left

@@ -1,5 +1,5 @@
 use Rattle.std.proofs.Common.{ℕ, List, Option, length, replicate, false, ap, ◌∙◌}
-use Rattle.schema_reader.specs.Looping.{all_marked}
+use Rattle.schema_reader.specs.private.Looping.{all_marked}
 use Rattle.schema_reader.proofs.LoopingTypes.{marks_are}
 use Rattle.schema_reader.proofs.type_loops.looping_types.Goals as goal
 

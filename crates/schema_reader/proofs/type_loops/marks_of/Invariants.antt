@@ -1,5 +1,5 @@
 use Rattle.std.proofs.Common.{◌≡◌, drop, length, replicate, false}
-use Rattle.schema_reader.specs.Looping.{all_marked}
+use Rattle.schema_reader.specs.private.Looping.{all_marked}
 use Rattle.schema_reader.proofs.type_loops.marks_of.Given as goal
 
 abbrev pub invariant-loop-step : goal.invariant-loop-step

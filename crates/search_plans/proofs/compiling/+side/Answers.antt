@@ -1,4 +1,4 @@
-use Rattle.search_plans.specs.Sides.{none}
+use Rattle.search_plans.specs.private.Sides.{none}
 use Rattle.search_plans.proofs.Rows.{if_ok_weaker, each_step}
 use Rattle.search_plans.proofs.Whole.{every_of, side_of_and_true, side_of_and_false, side_of_or_true, side_of_or_false, side_of_not}
 use Rattle.search_plans.proofs.compiling.+side.Goals as goal

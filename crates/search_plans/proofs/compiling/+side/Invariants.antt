@@ -1,5 +1,5 @@
 use Rattle.std.proofs.Common.{take}
-use Rattle.search_plans.specs.Sides.{EachSide}
+use Rattle.search_plans.specs.private.Sides.{EachSide}
 use Rattle.search_plans.proofs.compiling.+side.Given as goal
 
 abbrev pub invariant-sides-loop-filter : goal.invariant-sides-loop-filter

@@ -2,7 +2,7 @@ use Rattle.std.proofs.Common.{◌∙◌, sym, ap}
 use Rattle.search_plans.specs.declared.plan.Plan.{Plan}
 use Rattle.std.proofs.lemmas.List.Folds.{list_all-map}
 use Rattle.search_plans.proofs.Gathered.{any_map}
-use Rattle.search_plans.specs.Sets.{is_in_when}
+use Rattle.search_plans.specs.private.Sets.{is_in_when}
 use Rattle.search_plans.proofs.Equations.{in_plan-Union, in_plan-Inter}
 use Rattle.search_plans.proofs.containing.+contains.Goals as goal
 

@@ -1,6 +1,6 @@
 use Rattle.std.proofs.Common.{◌≡◌, drop}
 use Rattle.std.specs.List.{list_any, list_all}
-use Rattle.search_plans.specs.Sets.{is_in_when}
+use Rattle.search_plans.specs.private.Sets.{is_in_when}
 use Rattle.search_plans.proofs.containing.+contains.Given as goal
 
 abbrev pub invariant-in_all-loop-plan : goal.invariant-in_all-loop-plan

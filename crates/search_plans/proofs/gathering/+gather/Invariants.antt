@@ -1,8 +1,8 @@
 use Rattle.std.proofs.Common.{◌≡◌, take}
 use Rattle.std.specs.List.{list_any}
-use Rattle.dir_index.specs.Postings.{AreRising}
+use Rattle.dir_index.specs.private.Postings.{AreRising}
 use Rattle.search_plans.specs.Sets.{is_in}
-use Rattle.search_plans.specs.Streams.{Gathers}
+use Rattle.search_plans.specs.private.Streams.{Gathers}
 use Rattle.search_plans.proofs.gathering.+gather.Given as goal
 
 abbrev pub invariant-push_each-loop-plan : goal.invariant-push_each-loop-plan

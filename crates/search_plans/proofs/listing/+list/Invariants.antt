@@ -1,6 +1,7 @@
 use Rattle.std.proofs.Common.{◌≡◌, ◌||◌, ℕ, List, take}
 use Rattle.std.specs.List.{list_any}
-use Rattle.dir_index.specs.Postings.{has_number, AreRising}
+use Rattle.dir_index.specs.Postings.{has_number}
+use Rattle.dir_index.specs.private.Postings.{AreRising}
 use Rattle.search_plans.specs.Sets.{is_in}
 use Rattle.search_plans.proofs.listing.+list.Given as goal
 

@@ -1,5 +1,6 @@
 use Rattle.std.proofs.Common.{◌≡◌, ◌++◌, take}
-use Rattle.search_plans.specs.OctetRuns.{run_plans, runs_of_all}
+use Rattle.search_plans.specs.OctetRuns.{runs_of_all}
+use Rattle.search_plans.specs.private.OctetRuns.{run_plans}
 use Rattle.search_plans.proofs.octet_runs.push_all_runs.Given as goal
 
 abbrev pub invariant-loop-part : goal.invariant-loop-part

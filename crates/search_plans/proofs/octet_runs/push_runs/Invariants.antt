@@ -1,5 +1,6 @@
 use Rattle.std.proofs.Common.{◌≡◌, ◌++◌, length}
-use Rattle.search_plans.specs.OctetRuns.{runs_of, run_plans}
+use Rattle.search_plans.specs.OctetRuns.{runs_of}
+use Rattle.search_plans.specs.private.OctetRuns.{run_plans}
 use Rattle.search_plans.proofs.octet_runs.push_runs.Given as goal
 
 abbrev pub invariant-loop-rest : goal.invariant-loop-rest

@@ -1,5 +1,5 @@
 use Rattle.std.proofs.Common.{take}
-use Rattle.search_plans.specs.Streams.{IsLeastHead}
+use Rattle.search_plans.specs.private.Streams.{IsLeastHead}
 use Rattle.search_plans.proofs.stream.least_head.Given as goal
 
 abbrev pub invariant-loop-walk : goal.invariant-loop-walk

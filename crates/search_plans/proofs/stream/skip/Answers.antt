@@ -1,5 +1,5 @@
 use Rattle.std.proofs.Common.{ap, sym, ◌∙◌, length, List, ℕ, arith, ◌≡◌}
-use Rattle.search_plans.specs.Streams.{behind}
+use Rattle.search_plans.specs.private.Streams.{behind}
 use Rattle.search_plans.proofs.StreamSteps.{skip_step}
 use Rattle.search_plans.proofs.stream.skip.Goals as goal
 

@@ -1,5 +1,5 @@
 use Rattle.std.proofs.Common.{◌≡◌, ◌++◌, map, take, drop}
-use Rattle.search_plans.specs.Streams.{behind}
+use Rattle.search_plans.specs.private.Streams.{behind}
 use Rattle.search_plans.proofs.stream.skip.Given as goal
 
 abbrev pub invariant-loop-walk : goal.invariant-loop-walk

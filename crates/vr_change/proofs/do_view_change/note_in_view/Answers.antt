@@ -2,7 +2,7 @@ use Rattle.std.proofs.lemmas.Result.{IfOk-weaker}
 use Rattle.vr_state.specs.Outcome.{idle}
 use Rattle.vr_state.specs.Views.{state}
 use Rattle.vr_state.specs.ViewChange.{is_changing_in}
-use Rattle.vr_change.specs.Rules.{note_change_in_at}
+use Rattle.vr_change.specs.private.Rules.{note_change_in_at}
 use Rattle.vr_change.proofs.Changing.{when}
 use Rattle.vr_change.proofs.do_view_change.note_in_view.Goals as goal
 

@@ -1,5 +1,5 @@
 use Rattle.std.proofs.Common.{◌≡◌, ◌+◌, drop}
-use Rattle.vr_recover.specs.Responses.{place_of}
+use Rattle.vr_recover.specs.private.Responses.{place_of}
 use Rattle.vr_recover.proofs.responses.place_of.Given as goal
 
 -- so far none was there: the place is past these

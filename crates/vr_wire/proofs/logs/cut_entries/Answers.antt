@@ -1,5 +1,5 @@
 use Rattle.std.proofs.lemmas.Result.{err_from_is_err_and}
-use Rattle.vr_wire.specs.Cutting.{cut_entries}
+use Rattle.vr_wire.specs.private.Cutting.{cut_entries}
 use Rattle.vr_wire.proofs.Loop.{goes_on, ends}
 use Rattle.vr_wire.proofs.logs.cut_entries.Goals as goal
 

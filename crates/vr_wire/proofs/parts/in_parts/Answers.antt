@@ -1,7 +1,8 @@
 -- Frames: the pieces of a message are its parts.
 use Rattle.std.proofs.Common.{◌≡◌, ℕ, ◌-◌, ◌*◌, ◌<◌, ◌≤◌, length, drop, sym, subst, arith}
 use Rattle.std.proofs.lemmas.List.{length-drop}
-use Rattle.vr_wire.specs.Parts.{parts_from, pieces_of, ArePartsWithin}
+use Rattle.vr_wire.specs.Parts.{parts_from, pieces_of}
+use Rattle.vr_wire.specs.private.Parts.{ArePartsWithin}
 use Rattle.vr_wire.proofs.Pieces.{made}
 use Rattle.vr_wire.proofs.parts.in_parts.Goals as goal
 

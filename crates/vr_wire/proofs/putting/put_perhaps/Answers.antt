@@ -2,7 +2,7 @@
 use Rattle.std.proofs.Common.{◌∷◌, []}
 use Rattle.vr_wire.specs.Frames.{held_octets}
 use Rattle.vr_wire.specs.Payloads.{written_held}
-use Rattle.vr_wire.specs.Putting.{most_under}
+use Rattle.vr_wire.specs.private.Putting.{most_under}
 use Rattle.vr_wire.proofs.PutLaws.{puts_last}
 use Rattle.vr_wire.proofs.putting.put_perhaps.Goals as goal
 

@@ -5,7 +5,7 @@ use Rattle.vr_state.specs.Words.{LogEntry}
 use Rattle.vr_state.specs.declared.message.PeerMessage.TheVariants.{DoViewChange}
 use Rattle.vr_wire.specs.Frames.{number, log_octets, body_octets}
 use Rattle.vr_wire.specs.Payloads.{written, written_log}
-use Rattle.vr_wire.specs.Putting.{most_under, PutsWithin}
+use Rattle.vr_wire.specs.private.Putting.{most_under, PutsWithin}
 use Rattle.vr_wire.proofs.PutLaws.{three_parts}
 use Rattle.vr_wire.proofs.writing.put_do_view_change.Goals as goal
 

@@ -3,7 +3,7 @@ use Rattle.std.proofs.Common.{ℕ, List, ◌++◌, ap, append_assoc}
 use Rattle.vr_state.specs.declared.message.PeerMessage.TheVariants.{Prepare}
 use Rattle.vr_wire.specs.Frames.{number, entry_octets, body_octets}
 use Rattle.vr_wire.specs.Payloads.{written, written_entry}
-use Rattle.vr_wire.specs.Putting.{most_under}
+use Rattle.vr_wire.specs.private.Putting.{most_under}
 use Rattle.vr_wire.proofs.PutLaws.{three_parts}
 use Rattle.vr_wire.proofs.writing.put_prepare.Goals as goal
 

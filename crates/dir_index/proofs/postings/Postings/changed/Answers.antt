@@ -2,9 +2,10 @@ use Rattle.std.proofs.Common.{◌≡◌, Bool, cond, not, List, nat_eq, sym, ap,
 use Rattle.std.specs.Prelude.{◌&&◌}
 use Rattle.index_choice.specs.declared.kinds.Kinds.{Kinds}
 use Rattle.dir_index.specs.ListKeys.{key_of}
-use Rattle.dir_index.specs.Marked.{has_posting, lists_entry}
-use Rattle.dir_index.specs.Stored.{ListRows, is_in, AllRise}
-use Rattle.dir_index.specs.Whole.{moved}
+use Rattle.dir_index.specs.private.Marked.{has_posting, lists_entry}
+use Rattle.dir_index.specs.Stored.{ListRows}
+use Rattle.dir_index.specs.private.Stored.{is_in, AllRise}
+use Rattle.dir_index.specs.private.Whole.{moved}
 use Rattle.dir_index.proofs.Numbers.{both_steps}
 use Rattle.dir_index.proofs.postings.Postings.changed.Goals as goal
 

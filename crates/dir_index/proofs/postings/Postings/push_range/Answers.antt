@@ -5,7 +5,7 @@ use Rattle.index_choice.specs.declared.kinds.Kinds.{Kinds}
 use Rattle.index_choice.specs.Choice.{kinds_of}
 use Rattle.dir_index.specs.Postings.{has_number}
 use Rattle.dir_index.specs.ListKeys.{list_order}
-use Rattle.dir_index.specs.Stored.{has_in_lists}
+use Rattle.dir_index.specs.private.Stored.{has_in_lists}
 use Rattle.dir_index.proofs.Marking.{or_off}
 use Rattle.dir_index.proofs.Ranged.{range_numbers, no_range}
 use Rattle.dir_index.proofs.postings.Postings.push_range.Goals as goal

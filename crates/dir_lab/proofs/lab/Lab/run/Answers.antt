@@ -2,7 +2,7 @@ use Rattle.std.proofs.Common.{map, ◌∙◌, arith}
 use Rattle.std.proofs.lemmas.List.{nil_from_length}
 use Rattle.std.specs.Arc.{arc_value}
 use Rattle.vr_world.specs.Cluster.{world}
-use Rattle.dir_lab.specs.Executions.{records_by, played}
+use Rattle.dir_lab.specs.private.Executions.{records_by, played}
 use Rattle.dir_lab.specs.Shown.{shown_view}
 use Rattle.dir_lab.proofs.Committed.{committed_is_one}
 use Rattle.dir_lab.proofs.Replies.{replies_are_of_committed}

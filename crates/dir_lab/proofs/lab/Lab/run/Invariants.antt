@@ -1,7 +1,7 @@
 use Rattle.std.proofs.Common.{◌≡◌, ◌++◌, map}
 use Rattle.std.specs.Arc.{arc_value}
 use Rattle.vr_world.specs.Cluster.{world}
-use Rattle.dir_lab.specs.Executions.{IsRunning, records_by, played_from, played}
+use Rattle.dir_lab.specs.private.Executions.{IsRunning, records_by, played_from, played}
 use Rattle.dir_lab.specs.Shown.{shown_view}
 use Rattle.dir_lab.proofs.lab.Lab.run.Given as goal
 

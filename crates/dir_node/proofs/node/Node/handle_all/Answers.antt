@@ -4,7 +4,8 @@ use Rattle.view_store.specs.Device.{LeavesOnly}
 use Rattle.view_store.specs.Slots.{own, IsWellPlaced}
 use Rattle.view_store.specs.Store.{IsFormerOrNew}
 use Rattle.dir_node.specs.Logged.{LeavesOnlyIn, TellsSome, device_in, head_of}
-use Rattle.dir_node.specs.NodeState.{Holds, NodeValue, head, pair_of}
+use Rattle.dir_node.specs.NodeState.{NodeValue, head, pair_of}
+use Rattle.dir_node.specs.private.NodeState.{Holds}
 use Rattle.dir_node.proofs.Logging.{left_running, runs_on}
 use Rattle.dir_node.proofs.Views.{left_pair, untouched}
 use Rattle.dir_node.proofs.node.Node.handle_all.Goals as goal

@@ -5,8 +5,8 @@ use Rattle.indexed_tree.specs.directory_api.ldap_msg.View.{search_view}
 use Rattle.indexed_tree.specs.Listed.{lists_of}
 use Rattle.search_plans.specs.Sets.{is_in}
 use Rattle.search_plans.specs.Runs.{is_open}
-use Rattle.dir_search.specs.Looks.{AreHere}
-use Rattle.dir_search.specs.View.{FindsAmong}
+use Rattle.dir_search.specs.private.Looks.{AreHere}
+use Rattle.dir_search.specs.private.View.{FindsAmong}
 use Rattle.dir_search.proofs.Few.{among as found_among, true_here}
 use Rattle.dir_search.proofs.bound_search.BoundSearch.among.Goals as goal
 

@@ -3,7 +3,7 @@ use Rattle.std.specs.List.{list_any}
 use Rattle.std.specs.Ordering.{nat_cmp}
 use Rattle.std.specs.BTreeMap.{is_at}
 use Rattle.indexed_tree.specs.ldap_schema.Schema.{superiors}
-use Rattle.dir_search.specs.Resolved.{is_held, is_none}
+use Rattle.dir_search.specs.private.Resolved.{is_held, is_none}
 use Rattle.dir_search.proofs.Resolved.{nothing_yet}
 use Rattle.dir_search.proofs.resolving.Selection.of.Goals as goal
 

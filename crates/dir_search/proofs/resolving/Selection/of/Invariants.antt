@@ -1,7 +1,7 @@
 use Rattle.std.proofs.Common.{◌≡◌, ◌||◌, ℕ, map, take, string_bytes}
 use Rattle.std.specs.List.{list_any}
 use Rattle.dir_search.specs.Selection.{is_selected_by}
-use Rattle.dir_search.specs.Resolved.{is_none, picks}
+use Rattle.dir_search.specs.private.Resolved.{is_none, picks}
 use Rattle.dir_search.proofs.resolving.Selection.of.Given as goal
 
 -- what the selectors so far select; all, where there is none at all

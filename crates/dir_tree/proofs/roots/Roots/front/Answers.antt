@@ -2,7 +2,7 @@ use Rattle.std.proofs.Common.{Bool, ap, sym, ◌∙◌, ◌-◌, cond, length, d
 use Rattle.std.specs.Option.{option_map_or}
 use Rattle.dir_entry.specs.ldap_dn.Names.{rdns}
 use Rattle.dir_tree.specs.Directory.{NameKey}
-use Rattle.dir_tree.specs.Superiors.{unreached, step_at}
+use Rattle.dir_tree.specs.private.Superiors.{unreached, step_at}
 use Rattle.dir_tree.proofs.NameFacts.{behind_is}
 use Rattle.dir_tree.proofs.roots.Roots.front.Goals as goal
 

@@ -1,6 +1,7 @@
 use Rattle.std.proofs.Common.{List, ap, ℕ}
 use Rattle.dir_entry.specs.ldap_dn.Names.{RdnModel}
-use Rattle.dir_tree.specs.Superiors.{place_at, step_at, below_at, number_among}
+use Rattle.dir_tree.specs.Superiors.{place_at}
+use Rattle.dir_tree.specs.private.Superiors.{step_at, below_at, number_among}
 use Rattle.dir_tree.proofs.LevelFacts.{if_ok}
 use Rattle.dir_tree.proofs.WayChanges.{left_after}
 use Rattle.dir_tree.proofs.roots.Roots.left.Goals as goal

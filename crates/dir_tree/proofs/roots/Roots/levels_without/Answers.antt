@@ -1,6 +1,7 @@
 use Rattle.std.proofs.Common.{refl}
 use Rattle.dir_entry.specs.ldap_dn.Names.{rdns}
-use Rattle.dir_tree.specs.Superiors.{place_at, step_at, below_at}
+use Rattle.dir_tree.specs.Superiors.{place_at}
+use Rattle.dir_tree.specs.private.Superiors.{step_at, below_at}
 use Rattle.dir_tree.proofs.LevelFacts.{if_ok}
 use Rattle.dir_tree.proofs.TreeSteps.{gone_after}
 use Rattle.dir_tree.proofs.roots.Roots.levels_without.Goals as goal

@@ -2,7 +2,7 @@ use Rattle.std.proofs.Common.{Bool, ap, sym, ◌∙◌, cond, length, drop, None
 use Rattle.std.specs.Option.{option_and_then}
 use Rattle.dir_entry.specs.ldap_dn.Names.{rdns}
 use Rattle.dir_tree.specs.Directory.{NameKey}
-use Rattle.dir_tree.specs.Superiors.{down, step_at}
+use Rattle.dir_tree.specs.private.Superiors.{down, step_at}
 use Rattle.dir_tree.proofs.NameFacts.{behind_is}
 use Rattle.dir_tree.proofs.roots.Roots.number_of.Goals as goal
 

@@ -1,6 +1,7 @@
 use Rattle.std.proofs.Common.{◌≡◌, ℕ, suc, ◌+◌, ◌-◌, ◌||◌, ap, sym, ◌∙◌, arith, nat_eq, Option}
-use Rattle.dir_tree.specs.Superiors.{place_at, below_at}
-use Rattle.dir_tree.specs.Changes.{over_any}
+use Rattle.dir_tree.specs.Superiors.{place_at}
+use Rattle.dir_tree.specs.private.Superiors.{below_at}
+use Rattle.dir_tree.specs.private.Changes.{over_any}
 use Rattle.dir_tree.proofs.WayChanges.{parting-next, over-next}
 use Rattle.dir_tree.proofs.roots.Roots.parted_up.Goals as goal
 

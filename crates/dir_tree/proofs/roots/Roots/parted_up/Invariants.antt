@@ -1,6 +1,7 @@
 use Rattle.std.proofs.Common.{◌-◌}
-use Rattle.dir_tree.specs.Superiors.{place_at, below_at}
-use Rattle.dir_tree.specs.Changes.{over_any}
+use Rattle.dir_tree.specs.Superiors.{place_at}
+use Rattle.dir_tree.specs.private.Superiors.{below_at}
+use Rattle.dir_tree.specs.private.Changes.{over_any}
 use Rattle.dir_tree.proofs.WayChanges.{Parting}
 use Rattle.dir_tree.proofs.roots.Roots.parted_up.Given as goal
 

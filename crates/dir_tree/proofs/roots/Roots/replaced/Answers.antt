@@ -1,7 +1,8 @@
 use Rattle.std.proofs.Common.{ap, sym, ◌∙◌, subst}
 use Rattle.dir_tree.specs.declared.roots.Roots.{Roots}
 use Rattle.dir_tree.specs.Superiors.{place_at}
-use Rattle.dir_tree.specs.Kept.{IsTree, shown}
+use Rattle.dir_tree.specs.Kept.{shown}
+use Rattle.dir_tree.specs.private.Kept.{IsTree}
 use Rattle.dir_tree.proofs.LevelFacts.{if_ok}
 use Rattle.dir_tree.proofs.Shown.{replaced-none}
 use Rattle.dir_tree.proofs.TreeSteps.{replaced_tree, replaced_shown}

@@ -1,7 +1,8 @@
 use Rattle.std.proofs.Common.{Option, ap, sym, subst, ◌∙◌}
 use Rattle.dir_entry.specs.Entry.{KeyedAttribute}
 use Rattle.entry_changes.specs.Editing.{is_empty}
-use Rattle.entry_changes.specs.Opening.{seen, FitsIn}
+use Rattle.entry_changes.specs.Opening.{seen}
+use Rattle.entry_changes.specs.private.Opening.{FitsIn}
 use Rattle.entry_changes.specs.declared.index.Index.{Index}
 use Rattle.entry_changes.proofs.Indexing.{none_left}
 use Rattle.entry_changes.proofs.opened.Opened.is_empty.Goals as goal

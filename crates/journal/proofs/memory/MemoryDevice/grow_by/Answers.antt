@@ -1,5 +1,6 @@
 use Rattle.std.proofs.Common.{◌∷◌, sym, subst, map, reverse}
-use Rattle.journal.specs.Memory.{event, grow, IsReplayed}
+use Rattle.journal.specs.Memory.{event, grow}
+use Rattle.journal.specs.private.Memory.{IsReplayed}
 use Rattle.journal.proofs.Mixing.{replayed_ungrown, recorded_push}
 use Rattle.journal.proofs.memory.MemoryDevice.grow_by.Goals as goal
 

@@ -1,6 +1,6 @@
 use Rattle.std.proofs.Math.ListN.{drop_of_length-le}
 use Rattle.std.specs.Str.{bytes_eq}
-use Rattle.ldap_schema.specs.NameOrder.{has_name}
+use Rattle.ldap_schema.specs.private.NameOrder.{has_name}
 use Rattle.ldap_schema.specs.Schema.{ClassModel}
 use Rattle.ldap_schema.proofs.Indexed.{numbers_done, found_either}
 use Rattle.ldap_schema.proofs.name_index.NameIndex.of_classes.Goals as goal

@@ -1,7 +1,7 @@
 use Rattle.std.proofs.Common.{ℕ, List, ◌≡◌, drop}
 use Rattle.std.specs.List.{position_from}
 use Rattle.std.specs.Str.{bytes_eq}
-use Rattle.ldap_schema.specs.NameOrder.{number_at, has_name}
+use Rattle.ldap_schema.specs.private.NameOrder.{number_at, has_name}
 use Rattle.ldap_schema.proofs.Indexed.{or_else}
 use Rattle.ldap_schema.proofs.name_index.NameIndex.of_classes.Given as goal
 

@@ -1,7 +1,7 @@
 use Rattle.std.proofs.Common.{ℕ, List, rules, ap, sym, subst, ◌∙◌}
 use Rattle.std.proofs.lemmas.Fn.{always_returns_same}
 use Rattle.std.specs.Str.{bytes_eq}
-use Rattle.ldap_schema.specs.NameOrder.{order, number_at, kept_or, IsInOrder}
+use Rattle.ldap_schema.specs.private.NameOrder.{order, number_at, kept_or, IsInOrder}
 use Rattle.ldap_schema.proofs.Sought.{Entries, gap_of, number_found, put_there, kept_there, in_order_put}
 use Rattle.ldap_schema.proofs.name_table.NameTable.add.Goals as goal
 

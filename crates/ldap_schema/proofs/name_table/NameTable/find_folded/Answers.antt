@@ -1,7 +1,7 @@
 use Rattle.std.proofs.Common.{ℕ, List, Some, rules, ap, sym, ◌∙◌, map}
 use Rattle.std.proofs.lemmas.Fn.{always_returns_same}
 use Rattle.std.specs.Char.{to_ascii_lowercase}
-use Rattle.ldap_schema.specs.NameOrder.{order, number_at}
+use Rattle.ldap_schema.specs.private.NameOrder.{order, number_at}
 use Rattle.ldap_schema.proofs.Sought.{Entries, gap_of, number_found, number_missing}
 use Rattle.ldap_schema.proofs.name_table.NameTable.find_folded.Goals as goal
 

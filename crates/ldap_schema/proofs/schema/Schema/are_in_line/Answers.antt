@@ -2,7 +2,8 @@ use Rattle.std.proofs.Common.{List, ap, ◌∙◌}
 use Rattle.std.proofs.lemmas.Result.{IfOk-weaker}
 use Rattle.ldap_schema.specs.Schema.{SchemaModel, ClassModel}
 use Rattle.ldap_schema.specs.Superclasses.{is_subclass}
-use Rattle.ldap_schema.specs.Lines.{is_under_in, are_all_in_line}
+use Rattle.ldap_schema.specs.Lines.{are_all_in_line}
+use Rattle.ldap_schema.specs.private.Lines.{is_under_in}
 use Rattle.ldap_schema.proofs.schema.Schema.are_in_line.Goals as goal
 
 pub returns-then-self : goal.returns-then-self

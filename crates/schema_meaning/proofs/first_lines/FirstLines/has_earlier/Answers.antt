@@ -2,7 +2,7 @@ use Rattle.std.proofs.Common.{◌||◌, ap, ◌∙◌}
 use Rattle.std.specs.List.{list_any}
 use Rattle.schema_text.specs.Texts.{SchemaTextModel}
 use Rattle.schema_meaning.specs.Naming.{is_before}
-use Rattle.schema_meaning.specs.Octets.{number_at}
+use Rattle.schema_meaning.specs.private.Octets.{number_at}
 use Rattle.schema_meaning.proofs.Before.{earlier_found}
 use Rattle.schema_meaning.proofs.first_lines.FirstLines.has_earlier.Goals as goal
 

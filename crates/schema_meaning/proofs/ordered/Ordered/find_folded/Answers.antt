@@ -1,7 +1,7 @@
 use Rattle.std.proofs.Common.{ℕ, Some, Vec, Global, rules, ap, sym, ◌∙◌, map}
 use Rattle.std.proofs.lemmas.Fn.{always_returns_same}
 use Rattle.std.specs.Char.{to_ascii_lowercase}
-use Rattle.schema_meaning.specs.Octets.{number_at, order}
+use Rattle.schema_meaning.specs.private.Octets.{number_at, order}
 use Rattle.schema_meaning.proofs.Halved.{Entries, number_found, number_missing}
 use Rattle.schema_meaning.proofs.ordered.Ordered.find_folded.Goals as goal
 

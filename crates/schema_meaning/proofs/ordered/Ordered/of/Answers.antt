@@ -1,5 +1,5 @@
 use Rattle.std.proofs.Common.{◌≡◌, rules, sym, subst}
-use Rattle.schema_meaning.specs.Octets.{IsInOrder}
+use Rattle.schema_meaning.specs.private.Octets.{IsInOrder}
 use Rattle.schema_meaning.proofs.Halved.{in_order_of_keys}
 use Rattle.schema_meaning.proofs.ordered.Ordered.of.Goals as goal
 

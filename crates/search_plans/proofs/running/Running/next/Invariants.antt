@@ -1,7 +1,8 @@
 use Rattle.std.proofs.Common.{◌≡◌, ◌+◌, length}
 use Rattle.std.specs.Prelude.{filter}
 use Rattle.search_plans.specs.Sets.{is_in}
-use Rattle.search_plans.specs.Runs.{is_open, is_wanted, AreInside, AreSure, IsUnderWay}
+use Rattle.search_plans.specs.Runs.{is_open, is_wanted}
+use Rattle.search_plans.specs.private.Runs.{AreInside, AreSure, IsUnderWay}
 use Rattle.search_plans.proofs.running.Running.next.Given as goal
 
 abbrev pub invariant-loop-number : goal.invariant-loop-number

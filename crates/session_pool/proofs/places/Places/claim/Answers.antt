@@ -1,6 +1,6 @@
 use Rattle.std.proofs.Common.{◌≡◌, refl, sym, ap, ◌∙◌, Some, slice_get, nat_lt, inr, arith, length, rules}
 use Rattle.std.proofs.lemmas.Option.{slice_get_within}
-use Rattle.session_pool.specs.Stands.{times, is_free, is_ready, is_updates, is_waiting, is_in_queue, is_made, is_here, has_some}
+use Rattle.session_pool.specs.private.Stands.{times, is_free, is_ready, is_updates, is_waiting, is_in_queue, is_made, is_here, has_some}
 use Rattle.session_pool.specs.declared.place_state.PlaceState.TheVariants.{Free, Away}
 use Rattle.session_pool.proofs.Standing.{last_is_free, leaves_back, stays, same_of}
 use Rattle.session_pool.proofs.places.Places.claim.Goals as goal

@@ -1,6 +1,6 @@
 use Rattle.std.proofs.Common.{◌≡◌, ℕ, List, refl, sym, subst, Some, slice_get, nat_lt, arith, length, rules}
 use Rattle.std.specs.Prelude.{slice_set}
-use Rattle.session_pool.specs.Stands.{times, once, is_free, is_ready, is_updates, is_waiting, is_in_queue, is_made, is_here, has_some}
+use Rattle.session_pool.specs.private.Stands.{times, once, is_free, is_ready, is_updates, is_waiting, is_in_queue, is_made, is_here, has_some}
 use Rattle.session_pool.specs.declared.place_state.PlaceState.TheVariants.{Free, Away}
 use Rattle.session_pool.proofs.Standing.{joins, stays, same_of, has_room}
 use Rattle.session_pool.proofs.places.Places.free.Goals as goal

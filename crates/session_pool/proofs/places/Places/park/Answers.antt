@@ -3,7 +3,7 @@ use Rattle.std.specs.Prelude.{slice_set}
 use Rattle.std.proofs.lemmas.Option.{slice_get_within}
 use Rattle.session_table.specs.declared.spot.Spot.{Spot}
 use Rattle.session_table.specs.declared.spot.Spot.TheVariants.{Away as SpotAway, In}
-use Rattle.session_pool.specs.Stands.{is_free, is_ready, is_updates, is_waiting, is_in_queue, is_made, is_here, has_some}
+use Rattle.session_pool.specs.private.Stands.{is_free, is_ready, is_updates, is_waiting, is_in_queue, is_made, is_here, has_some}
 use Rattle.session_pool.specs.declared.pooled.PooledSession.{PooledSession}
 use Rattle.session_pool.specs.declared.place_state.PlaceState.TheVariants.{Away, Waits}
 use Rattle.session_pool.proofs.Standing.{stays, same_of, set_each, set_both, below_made, away_in_book, length_set, own_place}

@@ -3,13 +3,13 @@ use Rattle.std.specs.Prelude.{slice_set, Option}
 use Rattle.std.proofs.lemmas.Option.{slice_get_within, get_or_from_slice_get}
 use Rattle.session_table.specs.declared.spot.Spot.{Spot}
 use Rattle.session_table.specs.declared.spot.Spot.TheVariants.{Away as SpotAway, In}
-use Rattle.session_pool.specs.Stands.{times, once, is_free, is_ready, is_updates, is_waiting, is_in_queue, is_made, is_here, has_some}
-use Rattle.session_pool.specs.Attending.{HasRoused, RousesOne, RousesAt}
+use Rattle.session_pool.specs.private.Stands.{times, once, is_free, is_ready, is_updates, is_waiting, is_in_queue, is_made, is_here, has_some}
+use Rattle.session_pool.specs.private.Attending.{HasRoused, RousesOne, RousesAt}
 use Rattle.session_pool.specs.declared.place_state.Turn.{Turn}
 use Rattle.session_pool.specs.declared.place_state.Turn.TheVariants.{Seat, Update}
 use Rattle.session_pool.specs.declared.pooled.PooledSession.{PooledSession}
 use Rattle.session_pool.specs.declared.place_state.PlaceState.TheVariants.{Waits, Ready, Updates}
-use Rattle.session_pool.specs.Tabling.{tabled}
+use Rattle.session_pool.specs.private.Tabling.{tabled}
 use Rattle.session_pool.proofs.Lined.{lined_seat, lined_update, same_turn}
 use Rattle.session_pool.proofs.Standing.{joins, stays, same_of, set_each, set_both, below_made, has_room, length_set, own_after, waits_in_book, session_there}
 use Rattle.session_pool.proofs.places.Places.rouse.Goals as goal

@@ -1,5 +1,5 @@
 use Rattle.std.proofs.Common.{arith}
-use Rattle.session_pool.specs.Posting.{posted}
+use Rattle.session_pool.specs.private.Posting.{posted}
 use Rattle.session_pool.proofs.Posted.{gone_within}
 use Rattle.session_pool.proofs.updaters.Updaters.first_gone.Goals as goal
 

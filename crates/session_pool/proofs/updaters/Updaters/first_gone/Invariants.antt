@@ -1,5 +1,5 @@
 use Rattle.std.proofs.Common.{ℕ, ◌<◌}
-use Rattle.session_pool.specs.Posting.{posted, IsGone}
+use Rattle.session_pool.specs.private.Posting.{posted, IsGone}
 use Rattle.session_pool.proofs.updaters.Updaters.first_gone.Given as goal
 
 -- in no thread so far

@@ -1,4 +1,4 @@
-use Rattle.session_pool.specs.Posting.{posted}
+use Rattle.session_pool.specs.private.Posting.{posted}
 use Rattle.session_pool.proofs.Posted.{is_of}
 use Rattle.session_pool.proofs.updaters.Updaters.is_at.Goals as goal
 

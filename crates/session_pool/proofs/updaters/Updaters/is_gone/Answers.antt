@@ -1,4 +1,4 @@
-use Rattle.session_pool.specs.Posting.{posted}
+use Rattle.session_pool.specs.private.Posting.{posted}
 use Rattle.session_pool.proofs.Posted.{is_gone_there}
 use Rattle.session_pool.proofs.updaters.Updaters.is_gone.Goals as goal
 

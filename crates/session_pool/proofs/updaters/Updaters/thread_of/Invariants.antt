@@ -1,5 +1,5 @@
 use Rattle.std.proofs.Common.{ℕ, ◌<◌}
-use Rattle.session_pool.specs.Posting.{posted, HasPost}
+use Rattle.session_pool.specs.private.Posting.{posted, HasPost}
 use Rattle.session_pool.proofs.updaters.Updaters.thread_of.Given as goal
 
 -- in no thread so far

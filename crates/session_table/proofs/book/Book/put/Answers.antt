@@ -1,6 +1,6 @@
 use Rattle.std.proofs.Common.{rules}
 use Rattle.std.proofs.lemmas.Option.{slice_get_within}
-use Rattle.session_table.specs.Listed.{place_at}
+use Rattle.session_table.specs.private.Listed.{place_at}
 use Rattle.session_table.specs.Places.{IsAway}
 use Rattle.session_table.specs.declared.spot.Spot.TheVariants.{Away}
 use Rattle.session_table.proofs.Standing.{all_put, all_same, has_put}

@@ -1,4 +1,4 @@
-use Rattle.session_table.specs.Listed.{place_at}
+use Rattle.session_table.specs.private.Listed.{place_at}
 use Rattle.session_table.proofs.Standing.{all_taken}
 use Rattle.session_table.proofs.book.Book.take.Goals as goal
 

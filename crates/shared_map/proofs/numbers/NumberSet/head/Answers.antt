@@ -1,6 +1,6 @@
 use Rattle.std.proofs.Common.{sym, subst, ap, ◌∙◌}
 use Rattle.shared_map.specs.Sets.{numbers_in}
-use Rattle.shared_map.specs.Ahead.{IsHead}
+use Rattle.shared_map.specs.private.Ahead.{IsHead}
 use Rattle.shared_map.proofs.Keys.{head_of_run}
 use Rattle.shared_map.proofs.numbers.NumberSet.head.Goals as goal
 

@@ -1,7 +1,7 @@
 use Rattle.std.proofs.Common.{sym, subst, ap, ◌∙◌, nat_lt}
 use Rattle.std.specs.Prelude.{filter}
 use Rattle.shared_map.specs.Sets.{numbers_in}
-use Rattle.shared_map.specs.Ahead.{IsHead}
+use Rattle.shared_map.specs.private.Ahead.{IsHead}
 use Rattle.shared_map.proofs.Keys.{keys-after, head_of_run}
 use Rattle.shared_map.proofs.numbers.NumberSet.head_after.Goals as goal
 

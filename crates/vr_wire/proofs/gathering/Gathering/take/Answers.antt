@@ -1,6 +1,7 @@
 -- Frames: what comes of a frame, by whether it is a part, and whose.
 use Rattle.std.proofs.Common.{◌≡◌, ◌≢◌, ℕ, List, Some, None, sym, subst, ◌∙◌, arith}
-use Rattle.vr_wire.specs.Parts.{IsPart, cut_part}
+use Rattle.vr_wire.specs.Parts.{IsPart}
+use Rattle.vr_wire.specs.private.Parts.{cut_part}
 use Rattle.vr_wire.proofs.PartFrames.{part_takes}
 use Rattle.vr_wire.proofs.Comes.{taken_part, taken_frame, taken_foreign}
 use Rattle.vr_wire.proofs.gathering.Gathering.take.Goals as goal

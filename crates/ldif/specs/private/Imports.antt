@@ -1,0 +1,20 @@
+-- LDIF and messages: what contracts that aren't public say of it.
+-- What public contracts say is in specs/Imports.
+use Rattle.std.specs.Prelude.{◌≡◌, ◌≤◌, ◌^◌, ℕ, List, length, Err}
+use Rattle.ldif.specs.Reading.{records_of}
+use Rattle.ldif.specs.declared.refusals.ImportError.{ImportError}
+use Rattle.ldif.specs.declared.refusals.ImportError.TheVariants.{BadLdif, TooLong, TooManyRecords, NoMemory}
+
+-- why a message is not written: its content is too long, or memory ran out
+abbrev pub IsPutFault : ImportError → List ℕ → Type 0
+IsPutFault (BadLdif line) content = ⊥
+IsPutFault TooLong content = 2 ^ 32 ≤ length content
+IsPutFault TooManyRecords content = ⊥
+IsPutFault NoMemory content = Unit {0}
+
+-- why a text has no records: its first line that is no LDIF, or memory ran out
+abbrev pub IsReadFault : ImportError → List ℕ → Type 0
+IsReadFault (BadLdif line) text = records_of text ≡ Err line
+IsReadFault TooLong text = ⊥
+IsReadFault TooManyRecords text = ⊥
+IsReadFault NoMemory text = Unit {0}

@@ -1,0 +1,144 @@
+-- The sessions of a table. The table before and after a call comes in, with a session; what has become of it comes out. How places are kept is
+-- not here.
+use Rattle.std.specs.Prelude.{◌≡◌, ◌⊎◌, ◌-◌, ℕ, List, [], ◌∷◌, ◌++◌, slice_get, slice_set, Option, Some, None}
+use Rattle.std.specs.Duration.{as_nanos}
+use Rattle.std.specs.Time.{instant_nanos}
+use Rattle.std.specs.declared.time.Duration.{Duration}
+use Rattle.std.specs.declared.time.Instant.{Instant}
+use Rattle.session_table.specs.Places.{HasPut, HasTaken, IsLongest, NoneIn}
+use Rattle.session_table.specs.declared.spot.Queue.{Queue}
+use Rattle.session_table.specs.declared.spot.Spot.{Spot}
+use Rattle.session_pool.specs.private.Attending.{HasRoused}
+use Rattle.session_pool.specs.private.Posting.{IsPast}
+use Rattle.session_pool.specs.declared.pooled.PooledSession.{PooledSession}
+use Rattle.session_pool.specs.declared.places.Places.{Places}
+use Rattle.session_pool.specs.declared.place_state.PlaceState.{PlaceState}
+use Rattle.session_pool.specs.declared.place_state.PlaceState.TheVariants.{New, Free, Away, Waits, Ready, Updates}
+use Rattle.session_pool.specs.declared.place_state.Turn.{Turn}
+use Rattle.session_pool.specs.declared.place_state.Turn.TheVariants.{Seat, Update}
+
+-- A table: where the session of each place is, the sessions that are at their places, which of them wait for their clients in which queue, and
+-- the places of those that wait for a seat, or for a thread that updates, first in, first out.
+pub record Tabled : Type 0 where
+  pub stands : List PlaceState
+  pub sessions : List (Option PooledSession)
+  pub spots : List Spot
+  pub ready : List ℕ
+  pub updates : List ℕ
+
+-- the value that a table stands for
+abbrev pub tabled : Places → Tabled
+tabled t = record { stands = t.stands.items; sessions = t.sessions.items; spots = t.book; ready = t.ready.items; updates = t.updates.items }
+
+-- the session of a place stands so
+abbrev pub IsAt : Tabled → ℕ → PlaceState → Type 0
+IsAt t p s = slice_get t.stands p ≡ Some s
+
+-- a place may be given to a session that comes
+abbrev pub IsFree : Tabled → ℕ → Type 0
+IsFree t p = IsAt t p New ⊎ IsAt t p Free
+
+-- this session is at its own place
+pub record IsHome (t : Tabled) (g : PooledSession) (p : ℕ) : Type 0 where
+  pub here : slice_get t.sessions p ≡ Some (Some g)
+  pub own : g.place ≡ p
+
+-- the session of a place, if both are there
+abbrev pub flat : Option (Option PooledSession) → Option PooledSession
+flat None = None
+flat (Some g) = g
+
+-- the session at a place, if one is there
+abbrev pub session_at : Tabled → ℕ → Option PooledSession
+session_at t p = flat (slice_get t.sessions p)
+
+-- a free place is given to a session that comes, which a thread has; all else is as it was
+pub record Claims (t : Tabled) (p : ℕ) (u : Tabled) : Type 0 where
+  pub free : IsFree t p
+  pub stands : u.stands ≡ slice_set t.stands p Away
+  pub sessions : (q : ℕ) → session_at u q ≡ session_at t q
+  pub spots : u.spots ≡ t.spots
+  pub ready : u.ready ≡ t.ready
+  pub updates : u.updates ≡ t.updates
+
+-- a place is free again
+abbrev pub freed : Tabled → ℕ → Tabled
+freed t p = record t { stands = slice_set t.stands p Free }
+
+-- a session that a thread had is at its place, where it waits for its client behind all others of a queue
+pub record Parks (t : Tabled) (g : PooledSession) (queue : Queue) (u : Tabled) : Type 0 where
+  pub away : IsAt t g.place Away
+  pub put : HasPut t.spots g.place queue u.spots
+  pub after : u ≡ record t { stands = slice_set t.stands g.place Waits; sessions = slice_set t.sessions g.place (Some g); spots = u.spots }
+
+-- the session of a place is behind all others that wait for their turn
+abbrev pub lined_up : Tabled → ℕ → Turn → Tabled
+lined_up t p Seat = record t { stands = slice_set t.stands p Ready; ready = t.ready ++ p ∷ [] }
+lined_up t p Update = record t { stands = slice_set t.stands p Updates; updates = t.updates ++ p ∷ [] }
+
+-- a session that a thread had is at its place, where it waits for its turn behind all others
+pub record LinesUp (t : Tabled) (g : PooledSession) (turn : Turn) (u : Tabled) : Type 0 where
+  pub away : IsAt t g.place Away
+  pub after : u ≡ lined_up (record t { sessions = slice_set t.sessions g.place (Some g) }) g.place turn
+
+-- a thread has the session of a place
+abbrev pub without : Tabled → ℕ → Tabled
+without t p = record t { stands = slice_set t.stands p Away; sessions = slice_set t.sessions p None }
+
+-- a thread takes the session of a place that waited for its client
+pub record Wakes (t : Tabled) (p : ℕ) (g : PooledSession) (u : Tabled) : Type 0 where
+  pub queue : Queue
+  pub home : IsHome t g p
+  pub taken : HasTaken t.spots p queue u.spots
+  pub after : u ≡ record (without t p) { spots = u.spots }
+
+-- a seat takes the session that has waited longest for one
+pub record Sits (t : Tabled) (g : PooledSession) (u : Tabled) : Type 0 where
+  pub place : ℕ
+  pub home : IsHome t g place
+  pub first : t.ready ≡ place ∷ u.ready
+  pub after : u ≡ record (without t place) { ready = u.ready }
+
+-- a thread that updates takes the session that has waited longest for one
+pub record Works (t : Tabled) (g : PooledSession) (u : Tabled) : Type 0 where
+  pub place : ℕ
+  pub home : IsHome t g place
+  pub first : t.updates ≡ place ∷ u.updates
+  pub after : u ≡ record (without t place) { updates = u.updates }
+
+-- a session has waited for its client longest of a queue
+pub record WaitsLongest (t : Tabled) (queue : Queue) (g : PooledSession) : Type 0 where
+  pub place : ℕ
+  pub home : IsHome t g place
+  pub longest : IsLongest t.spots queue place
+
+-- the session of a place that waited for its client waits for its turn behind all others: for a thread that updates, where its next message may
+-- be an update
+pub record Rouses (t : Tabled) (p : ℕ) (turn : Turn) (u : Tabled) : Type 0 where
+  pub before : PooledSession
+  pub after : PooledSession
+  pub queue : Queue
+  pub home : IsHome t before p
+  pub taken : HasTaken t.spots p queue u.spots
+  pub roused : HasRoused before after turn
+  pub lined : u ≡ lined_up (record t { sessions = slice_set t.sessions p (Some after); spots = u.spots }) p turn
+
+-- none waits in a queue, or one that has waited longest has not waited for so long
+pub record IsPatient (t : Tabled) (queue : Queue) (limit : Duration) (now : Instant) : Type 0 where
+  pub pooled : PooledSession
+  pub longest : WaitsLongest t queue pooled
+  pub soon : IsPast pooled.since limit now → ⊥
+
+-- none waits in the queue, or none has waited for the whole limit
+abbrev pub NoneOverdue : Tabled → Queue → Duration → Instant → Type 0
+NoneOverdue t queue limit now = NoneIn t.spots queue ⊎ IsPatient t queue limit now
+
+-- a limit is left where none waits in a queue, and less by what one that has waited longest has waited
+pub record IsLess (t : Tabled) (queue : Queue) (limit : Duration) (now : Instant) (left : Duration) : Type 0 where
+  pub pooled : PooledSession
+  pub longest : WaitsLongest t queue pooled
+  pub less : as_nanos left ≡ as_nanos limit - (instant_nanos now - instant_nanos pooled.since)
+
+-- the time that is left: the limit where none waits, else what is left of it for the one that has waited longest
+abbrev pub LeavesTime : Tabled → Queue → Duration → Instant → Duration → Type 0
+LeavesTime t queue limit now left = (NoneIn t.spots queue × (left ≡ limit)) ⊎ IsLess t queue limit now left
