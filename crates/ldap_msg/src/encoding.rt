@@ -1,12 +1,12 @@
 //! Wire, messages: the one spelling of a message that is written, each octet of an entry once.
 //! In: a message. Out: its octets, or an error. Not here: the parts of each operation.
 
-ghost use Rattle.std.specs.Prelude.{◌≡◌, ◌%◌, ◌^◌, ◌<◌, ◌≤◌, ◌++◌, ◌∷◌, ◌⊎◌, [], ℕ, List, length, min, IfOk, IfErr, IsErrOf, OnOk};
+ghost use Rattle.std.specs.Prelude.{◌≡◌, ◌%◌, ◌^◌, ◌<◌, ◌≤◌, ◌++◌, ◌∷◌, ◌⊎◌, [], ℕ, List, length, map, min, IfOk, IfErr, IsErrOf, OnOk};
 ghost use Rattle.ldap_requests.specs.ldap_ber.Element.{length_octets, element_bytes};
 ghost use Rattle.ldap_requests.specs.ldap_fields.Written.{number_bytes};
 ghost use Rattle.ldap_responses.specs.Written.{entry_content};
-ghost use Rattle.ldap_msg.specs.Messages.{MessageValue};
-ghost use Rattle.ldap_msg.specs.View.{entry_view, operation_view, view};
+ghost use Rattle.ldap_msg.specs.Messages.{MessageValue, response, search_entry};
+ghost use Rattle.ldap_msg.specs.View.{operation_view, view};
 ghost use Rattle.ldap_msg.specs.Grammar.{operation_octet, IsMessage};
 ghost use Rattle.ldap_msg.specs.Written.{operation_content, operation_bytes, message_content, message_bytes, IsInRange};
 ghost use Rattle.ldap_msg.specs.private.Written.{enveloped};
@@ -16,8 +16,7 @@ use crate::encoding_response::{response_content, response_octet};
 use crate::message::{Message, ProtocolOp, Response};
 use ldap_requests::{WriteError, put_number};
 use ldap_responses::{
-    SearchResultEntry, add_lengths, element_length, entry_length, number_length, put_entry,
-    write_head,
+    AttributeParts, add_lengths, element_length, entry_length, number_length, put_entry, write_head,
 };
 use ldap_updates::put_controls;
 use std::alloc::Global;
@@ -109,27 +108,69 @@ fn put_octets(octets: &[u8], out: &mut Vec<u8>) -> Result<(), WriteError>
     }
 }
 
-/// A message that shows an entry, its controls spelled already: lengths first, then each octet to its
-/// place.
-fn encode_entry(
+/// A message that shows an entry of this name with these attributes, its controls spelled already:
+/// lengths first, then each octet to its place.
+fn encode_entry<A: AttributeParts>(
     alloc: Global,
     id: u32,
-    entry: &SearchResultEntry,
+    object_name: &str,
+    attributes: &[A],
     controls: &[u8],
 ) -> Result<Vec<u8>, WriteError>
     ensures ok { IfOk result (λ v. v.items ≡ element_bytes 48
-        (enveloped id (element_bytes 100 (entry_content (entry_view entry.now))) controls.now)) }
+        (enveloped id (element_bytes 100 (entry_content (record {
+          object_name = object_name.now;
+          attributes = map A.attribute attributes.now;
+        }))) controls.now)) }
     ensures fits { OnOk result (length
-        (enveloped id (element_bytes 100 (entry_content (entry_view entry.now))) controls.now) < 2 ^ 32) }
+        (enveloped id (element_bytes 100 (entry_content (record {
+          object_name = object_name.now;
+          attributes = map A.attribute attributes.now;
+        }))) controls.now) < 2 ^ 32) }
     ensures too_long { IsErrOf result WriteError.TooLong → 2 ^ 32 ≤ length
-        (enveloped id (element_bytes 100 (entry_content (entry_view entry.now))) controls.now) }
+        (enveloped id (element_bytes 100 (entry_content (record {
+          object_name = object_name.now;
+          attributes = map A.attribute attributes.now;
+        }))) controls.now) }
 {
-    let content = entry_length(entry);
+    let content = entry_length(object_name, attributes);
     let total = message_length(id, content, controls.len());
     let mut octets = begin(alloc, id, 0x64, content, total)?;
-    put_entry(alloc, entry, &mut octets)?;
+    put_entry(alloc, object_name, attributes, &mut octets)?;
     put_octets(controls, &mut octets)?;
     Ok(octets)
+}
+
+/// The octets of a message without controls that shows an entry of this name with these attributes,
+/// each octet of these copied once. E3 as `encode` has it.
+pub fn encode_search_entry<A: AttributeParts>(
+    alloc: Global,
+    id: u32,
+    object_name: &str,
+    attributes: &[A],
+) -> Result<Vec<u8>, WriteError>
+    ensures ok { IfOk result (λ v. v.items ≡ message_bytes (record {
+      id = id;
+      op = response
+          (search_entry (record { object_name = object_name.now; attributes = map A.attribute attributes.now }));
+      controls = [];
+    })) }
+    ensures fits { OnOk result (length (message_content (record {
+      id = id;
+      op = response
+          (search_entry (record { object_name = object_name.now; attributes = map A.attribute attributes.now }));
+      controls = [];
+    })) < 2 ^ 32) }
+    ensures too_long { IsErrOf result WriteError.TooLong → 2 ^ 32 ≤ length (message_content (record {
+      id = id;
+      op = response (search_entry (record {
+        object_name = object_name.now;
+        attributes = map A.attribute attributes.now;
+      }));
+      controls = [];
+    })) }
+{
+    encode_entry(alloc, id, object_name, attributes, &[])
 }
 
 /// A message whose operation's content and controls are spelled already.
@@ -171,7 +212,7 @@ fn encode_operation(
 {
     match op {
         ProtocolOp::Response(Response::SearchEntry(entry)) => {
-            encode_entry(alloc, id, entry, controls)
+            encode_entry(alloc, id, &entry.object_name, &entry.attributes, controls)
         }
         _ => {
             let content = operation_content(alloc, op)?;

@@ -7,24 +7,24 @@ ghost use Rattle.ldap_fields.specs.Rows.{row_bytes};
 ghost use Rattle.ldap_parts.specs.View.{attribute_view};
 ghost use Rattle.ldap_parts.specs.Written.{attribute_content, attribute_bytes};
 
-use crate::attribute::PartialAttribute;
+use crate::attribute::{AttributeParts, PartialAttribute};
 use ldap_fields::{
     WriteError, add_lengths, element_length, put_value_set, values_length, write, write_head,
 };
 use std::alloc::Global;
 
 /// How many octets the content of an attribute takes; 2^32 where there are more.
-fn content_length(attribute: &PartialAttribute) -> usize
-    ensures { result ≡ min (length (attribute_content (attribute_view attribute.now))) (2 ^ 32) }
+fn content_length<A: AttributeParts>(attribute: &A) -> usize
+    ensures { result ≡ min (length (attribute_content (A.attribute attribute.now))) (2 ^ 32) }
 {
-    let values = values_length(&attribute.values);
-    let description = attribute.description.as_bytes().len();
+    let values = values_length(attribute.values());
+    let description = attribute.description().as_bytes().len();
     add_lengths(element_length(description), element_length(values))
 }
 
 /// How many octets attributes take, one after the other; 2^32 where there are more.
-pub fn attributes_length(attributes: &[PartialAttribute]) -> usize
-    ensures { result ≡ min (length (row_bytes attribute_bytes (map attribute_view attributes.now)))
+pub fn attributes_length<A: AttributeParts>(attributes: &[A]) -> usize
+    ensures { result ≡ min (length (row_bytes attribute_bytes (map A.attribute attributes.now)))
         (2 ^ 32) }
 {
     let mut total = 0;
@@ -35,23 +35,23 @@ pub fn attributes_length(attributes: &[PartialAttribute]) -> usize
 }
 
 /// Writes the content of an attribute.
-fn put_content(attribute: &PartialAttribute, out: &mut Vec<u8>) -> Result<(), WriteError>
+fn put_content<A: AttributeParts>(attribute: &A, out: &mut Vec<u8>) -> Result<(), WriteError>
     ensures ok { OnOk result (out.new.items ≡ out.old.items ++ attribute_content
-        (attribute_view attribute.now)) }
+        (A.attribute attribute.now)) }
     ensures too_long { IsErrOf result WriteError.TooLong
-        → 2 ^ 32 ≤ length (attribute_content (attribute_view attribute.now)) }
+        → 2 ^ 32 ≤ length (attribute_content (A.attribute attribute.now)) }
     ensures kept { out.new.items ≡ out.old.items ++ drop (length out.old.items) out.new.items }
 {
-    write(0x04, attribute.description.as_bytes(), out)?;
-    put_value_set(&attribute.values, out)
+    write(0x04, attribute.description().as_bytes(), out)?;
+    put_value_set(attribute.values(), out)
 }
 
 /// Writes an attribute.
-fn put_attribute(attribute: &PartialAttribute, out: &mut Vec<u8>) -> Result<(), WriteError>
+fn put_attribute<A: AttributeParts>(attribute: &A, out: &mut Vec<u8>) -> Result<(), WriteError>
     ensures ok { OnOk result (out.new.items ≡ out.old.items ++ attribute_bytes
-        (attribute_view attribute.now)) }
+        (A.attribute attribute.now)) }
     ensures too_long { IsErrOf result WriteError.TooLong
-        → 2 ^ 32 ≤ length (attribute_bytes (attribute_view attribute.now)) }
+        → 2 ^ 32 ≤ length (attribute_bytes (A.attribute attribute.now)) }
     ensures kept { out.new.items ≡ out.old.items ++ drop (length out.old.items) out.new.items }
 {
     write_head(0x30, content_length(attribute), out)?;
@@ -70,15 +70,15 @@ pub fn attribute_content(alloc: Global, attribute: &PartialAttribute) -> Result<
 }
 
 /// Writes attributes, one after the other.
-pub fn put_attributes(
+pub fn put_attributes<A: AttributeParts>(
     _alloc: Global,
-    attributes: &[PartialAttribute],
+    attributes: &[A],
     out: &mut Vec<u8>,
 ) -> Result<(), WriteError>
     ensures ok { OnOk result (out.new.items ≡ out.old.items ++ row_bytes attribute_bytes
-        (map attribute_view attributes.now)) }
+        (map A.attribute attributes.now)) }
     ensures too_long { IsErrOf result WriteError.TooLong
-        → 2 ^ 32 ≤ length (row_bytes attribute_bytes (map attribute_view attributes.now)) }
+        → 2 ^ 32 ≤ length (row_bytes attribute_bytes (map A.attribute attributes.now)) }
     ensures kept { out.new.items ≡ out.old.items ++ drop (length out.old.items) out.new.items }
 {
     for attribute in attributes {
@@ -89,15 +89,15 @@ pub fn put_attributes(
 
 /// Writes attributes as a PartialAttributeList, of first octet 30 (RFC 4511 4.5.2). E3 only where it is
 /// longer than a length can say.
-pub fn put_attribute_list(
+pub fn put_attribute_list<A: AttributeParts>(
     alloc: Global,
-    attributes: &[PartialAttribute],
+    attributes: &[A],
     out: &mut Vec<u8>,
 ) -> Result<(), WriteError>
     ensures ok { OnOk result (out.new.items ≡ out.old.items ++ element_bytes 48 (row_bytes
-        attribute_bytes (map attribute_view attributes.now))) }
+        attribute_bytes (map A.attribute attributes.now))) }
     ensures too_long { IsErrOf result WriteError.TooLong
-        → 2 ^ 32 ≤ length (row_bytes attribute_bytes (map attribute_view attributes.now)) }
+        → 2 ^ 32 ≤ length (row_bytes attribute_bytes (map A.attribute attributes.now)) }
     ensures kept { out.new.items ≡ out.old.items ++ drop (length out.old.items) out.new.items }
 {
     write_head(0x30, attributes_length(attributes), out)?;

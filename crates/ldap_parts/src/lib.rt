@@ -1,7 +1,8 @@
 //! Reads and writes what several operations share: results, attributes, controls.
 //!
 //! Each part has its type with the RFC's field names, its value, its grammar and its written form; a reader and a writer of its content,
-//! and a lemma for each exit of the reader. The crates of requests, updates and responses are made the same way.
+//! and a lemma for each exit of the reader. The crates of requests, updates and responses are made the same way. Attributes are written from
+//! whoever keeps a description and its values (`AttributeParts`).
 //!
 //! Proved: results, attributes and controls are read exactly and written in their one form (`result_of`, `attribute_of`, `controls_of`,
 //! `result_content`, `attribute_content`, `put_attribute_list`, `put_controls`), and how long attributes are (`attributes_length`).
@@ -17,7 +18,7 @@ mod encoding_control;
 mod encoding_result;
 mod result;
 
-pub use attribute::{Attribute, PartialAttribute};
+pub use attribute::{Attribute, AttributeParts, PartialAttribute};
 pub use control::Control;
 pub use decoding_attribute::{attribute_field, attribute_of, attributes_field};
 pub use decoding_control::controls_of;

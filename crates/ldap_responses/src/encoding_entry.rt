@@ -1,38 +1,48 @@
 //! Wire, responses: writing an entry that a search found, each octet once.
-//! In: an entry. Out: the content of its element, or how long this is. Not here: the envelope.
+//! In: an entry, or its name and its attributes. Out: the content of its element, or how long this is. Not here: the envelope.
 
-ghost use Rattle.std.specs.Prelude.{◌≡◌, ◌^◌, ◌≤◌, ◌++◌, drop, length, min, IfOk, OnOk, IsErrOf};
+ghost use Rattle.std.specs.Prelude.{◌≡◌, ◌^◌, ◌≤◌, ◌++◌, drop, length, map, min, IfOk, OnOk, IsErrOf};
 ghost use Rattle.ldap_responses.specs.View.{entry_view};
 ghost use Rattle.ldap_responses.specs.Written.{entry_content};
 
 use crate::entry::SearchResultEntry;
 use ldap_parts::{
-    WriteError, add_lengths, attributes_length, element_length, put_attribute_list, write,
+    AttributeParts, WriteError, add_lengths, attributes_length, element_length, put_attribute_list,
+    write,
 };
 use std::alloc::Global;
 
-/// How many octets the content of an entry takes; 2^32 where there are more.
-pub fn entry_length(entry: &SearchResultEntry) -> usize
-    ensures { result ≡ min (length (entry_content (entry_view entry.now))) (2 ^ 32) }
+/// How many octets the content of an entry of this name with these attributes takes; 2^32 where there are more.
+pub fn entry_length<A: AttributeParts>(object_name: &str, attributes: &[A]) -> usize
+    ensures { result ≡ min (length (entry_content (record {
+      object_name = object_name.now;
+      attributes = map A.attribute attributes.now;
+    }))) (2 ^ 32) }
 {
-    let attributes = attributes_length(&entry.attributes);
-    let object_name = entry.object_name.as_bytes().len();
+    let attributes = attributes_length(attributes);
+    let object_name = object_name.as_bytes().len();
     add_lengths(element_length(object_name), element_length(attributes))
 }
 
-/// Writes the content of an entry.
-pub fn put_entry(
+/// Writes the content of an entry of this name with these attributes.
+pub fn put_entry<A: AttributeParts>(
     alloc: Global,
-    entry: &SearchResultEntry,
+    object_name: &str,
+    attributes: &[A],
     out: &mut Vec<u8>,
 ) -> Result<(), WriteError>
-    ensures ok { OnOk result (out.new.items ≡ out.old.items ++ entry_content (entry_view entry.now)) }
-    ensures too_long { IsErrOf result WriteError.TooLong
-        → 2 ^ 32 ≤ length (entry_content (entry_view entry.now)) }
+    ensures ok { OnOk result (out.new.items ≡ out.old.items ++ entry_content (record {
+      object_name = object_name.now;
+      attributes = map A.attribute attributes.now;
+    })) }
+    ensures too_long { IsErrOf result WriteError.TooLong → 2 ^ 32 ≤ length (entry_content (record {
+      object_name = object_name.now;
+      attributes = map A.attribute attributes.now;
+    })) }
     ensures kept { out.new.items ≡ out.old.items ++ drop (length out.old.items) out.new.items }
 {
-    write(0x04, entry.object_name.as_bytes(), out)?;
-    put_attribute_list(alloc, &entry.attributes, out)
+    write(0x04, object_name.as_bytes(), out)?;
+    put_attribute_list(alloc, attributes, out)
 }
 
 /// The content of an entry.
@@ -42,6 +52,6 @@ pub fn entry_content(alloc: Global, entry: &SearchResultEntry) -> Result<Vec<u8>
         → 2 ^ 32 ≤ length (entry_content (entry_view entry.now)) }
 {
     let mut content = Vec::new(alloc);
-    put_entry(alloc, entry, &mut content)?;
+    put_entry(alloc, &entry.object_name, &entry.attributes, &mut content)?;
     Ok(content)
 }

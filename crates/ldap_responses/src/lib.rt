@@ -3,7 +3,7 @@
 //! An entry that a search found, and extended; made as `ldap_parts` says.
 //!
 //! Proved: the content of each is read exactly and written in its one form (`entry_of`, `extended_of`, `put_entry`, `entry_content`,
-//! `extended_content`); `entry_length` says how long an entry is before it is written.
+//! `extended_content`); `entry_length` says how long an entry is before it is written. Its name and its attributes may be anybody's.
 #![tactic(auto)]
 
 mod decoding_entry;
@@ -19,4 +19,4 @@ pub use encoding_entry::{entry_content, entry_length, put_entry};
 pub use encoding_extended::extended_content;
 pub use entry::SearchResultEntry;
 pub use extended::ExtendedResponse;
-pub use ldap_parts::{add_lengths, element_length, number_length, write_head};
+pub use ldap_parts::{AttributeParts, add_lengths, element_length, number_length, write_head};

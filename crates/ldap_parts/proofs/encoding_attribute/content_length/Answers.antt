@@ -1,16 +1,15 @@
 -- Wire, parts of messages: the goals of `content_length` that no tactic closes, each by one lemma over plain lists.
-use Rattle.std.proofs.Common.{ℕ, List, length, min, map, ap}
-use Rattle.std.specs.Prelude.{string_bytes}
+use Rattle.std.proofs.Common.{ℕ, List, length, min, ap, ◌∙◌}
 use Rattle.ldap_fields.specs.ldap_ber.Element.{element_bytes}
 use Rattle.ldap_fields.specs.Rows.{row_bytes}
 use Rattle.ldap_fields.proofs.Measures.{two_measure, same_measure}
 use Rattle.ldap_parts.proofs.encoding_attribute.content_length.Goals as goal
 
 pub returns : goal.returns
-returns c =
-    let description = string_bytes c.args.attribute.now.description in
-    let row = row_bytes (element_bytes 4) (map (λ v. v.items) c.args.attribute.now.values.items) in
-    two_measure (element_bytes 4 description) (element_bytes 49 row) c.element_length.result c.element_length-2.result 4294967296 c.add_lengths.result
-    (c.element_length.ensures 4 description (ap (λ (bs : List ℕ). min (length bs) 4294967296) c.as_bytes-description.ensures.value))
-    (c.element_length-2.ensures 49 row (same_measure c.values_length-values.result row 4294967296 (rw c.deref.ensures.value at c.values_length-values.ensures)))
+returns g c =
+    let a = g.A.AttributeParts.attribute c.args.attribute.now in
+    let row = row_bytes (element_bytes 4) a.values in
+    two_measure (element_bytes 4 a.description) (element_bytes 49 row) c.element_length.result c.element_length-2.result 4294967296 c.add_lengths.result
+    (c.element_length.ensures 4 a.description (ap (λ (bs : List ℕ). min (length bs) 4294967296) (c.as_bytes-description.ensures.value ∙ c.description.ensures)))
+    (c.element_length-2.ensures 49 row (same_measure c.values_length-values.result row 4294967296 (c.values_length-values.ensures ∙ ap (λ (vs : List (List ℕ)). min (length (row_bytes (element_bytes 4) vs)) 4294967296) c.values.ensures)))
     c.add_lengths.ensures

@@ -1,9 +1,8 @@
 -- Wire, parts of messages: what the loops of `put_attributes` keep, and what grows less.
 use Rattle.std.proofs.Common.{◌≡◌, ◌++◌, take, map}
 use Rattle.ldap_fields.specs.Rows.{row_bytes}
-use Rattle.ldap_parts.specs.View.{attribute_view}
 use Rattle.ldap_parts.specs.Written.{attribute_bytes}
 use Rattle.ldap_parts.proofs.encoding_attribute.put_attributes.Given as goal
 
 abbrev pub invariant-loop-attribute : goal.invariant-loop-attribute
-invariant-loop-attribute l = l.out.items ≡ l.initial.out.items ++ row_bytes attribute_bytes (map attribute_view (take l.attribute-index l.attributes))
+invariant-loop-attribute g l = l.out.items ≡ l.initial.out.items ++ row_bytes attribute_bytes (map g.A.AttributeParts.attribute (take l.attribute-index l.attributes))

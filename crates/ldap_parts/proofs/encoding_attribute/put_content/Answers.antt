@@ -1,6 +1,4 @@
 -- Wire, parts of messages: the goals of `put_content` that no tactic closes, each by one lemma over plain lists.
-use Rattle.std.proofs.Common.{map}
-use Rattle.std.specs.Prelude.{string_bytes}
 use Rattle.std.proofs.lemmas.Result.{err_from_is_err_and}
 use Rattle.ldap_fields.specs.ldap_ber.Element.{element_bytes}
 use Rattle.ldap_fields.specs.Rows.{row_bytes}
@@ -10,27 +8,27 @@ use Rattle.ldap_fields.proofs.Measures.{first_long, second_long}
 use Rattle.ldap_parts.proofs.encoding_attribute.put_content.Goals as goal
 
 pub returns-in_err-write-clause-too_long : goal.returns-in_err-write-clause-too_long
-returns-in_err-write-clause-too_long c =
-    let description = string_bytes c.args.attribute.now.description in
-    let row = row_bytes (element_bytes 4) (map (λ v. v.items) c.args.attribute.now.values.items) in
+returns-in_err-write-clause-too_long g c =
+    let description = (g.A.AttributeParts.attribute c.args.attribute.now).description in
+    let row = row_bytes (element_bytes 4) (g.A.AttributeParts.attribute c.args.attribute.now).values in
     let p = err_from_is_err_and c.from_residual.result c.from_residual.ensures.1 in
-    rw (p.1, p.2) (λ h. first_long (element_bytes 4 description) (element_bytes 49 row) 4294967296 (element_long 4 description 4294967296 (rw c.as_bytes.ensures.value at (c.in_err-write.ensures.too_long.0 h))))
+    rw (p.1, p.2) (λ h. first_long (element_bytes 4 description) (element_bytes 49 row) 4294967296 (element_long 4 description 4294967296 (rw (c.as_bytes.ensures.value, c.description.ensures) at (c.in_err-write.ensures.too_long.0 h))))
 
 pub returns-in_err-write-clause-kept : goal.returns-in_err-write-clause-kept
-returns-in_err-write-clause-kept c = kept_same _ _ c.in_err-write.ensures.err
+returns-in_err-write-clause-kept g c = kept_same _ _ c.in_err-write.ensures.err
 
 pub returns-clause-ok : goal.returns-clause-ok
-returns-clause-ok c =
-    let description = string_bytes c.args.attribute.now.description in
-    let row = row_bytes (element_bytes 4) (map (λ v. v.items) c.args.attribute.now.values.items) in
+returns-clause-ok g c =
+    let description = (g.A.AttributeParts.attribute c.args.attribute.now).description in
+    let row = row_bytes (element_bytes 4) (g.A.AttributeParts.attribute c.args.attribute.now).values in
     two c.put_value_set.result c.args.out.now.items (element_bytes 4 description) (element_bytes 49 row) c.write.new.out.items c.put_value_set.new.out.items
-    (rw c.as_bytes.ensures.value at c.in_ok-write.ensures.ok) (rw c.deref.ensures.value at c.put_value_set.ensures.ok)
+    (rw (c.as_bytes.ensures.value, c.description.ensures) at c.in_ok-write.ensures.ok) (rw c.values.ensures at c.put_value_set.ensures.ok)
 
 pub returns-clause-too_long : goal.returns-clause-too_long
-returns-clause-too_long c = λ h.
-    let description = string_bytes c.args.attribute.now.description in
-    let row = row_bytes (element_bytes 4) (map (λ v. v.items) c.args.attribute.now.values.items) in
-    second_long (element_bytes 4 description) (element_bytes 49 row) 4294967296 (element_long 49 row 4294967296 (rw c.deref.ensures.value at (c.put_value_set.ensures.too_long h)))
+returns-clause-too_long g c = λ h.
+    let description = (g.A.AttributeParts.attribute c.args.attribute.now).description in
+    let row = row_bytes (element_bytes 4) (g.A.AttributeParts.attribute c.args.attribute.now).values in
+    second_long (element_bytes 4 description) (element_bytes 49 row) 4294967296 (element_long 49 row 4294967296 (rw c.values.ensures at (c.put_value_set.ensures.too_long h)))
 
 pub returns-clause-kept : goal.returns-clause-kept
-returns-clause-kept c = kept_more _ c.write.new.out.items _ (element_bytes 4 (string_bytes c.args.attribute.now.description)) (rw c.as_bytes.ensures.value at c.in_ok-write.ensures.ok) c.put_value_set.ensures.kept
+returns-clause-kept g c = kept_more _ c.write.new.out.items _ (element_bytes 4 (g.A.AttributeParts.attribute c.args.attribute.now).description) (rw (c.as_bytes.ensures.value, c.description.ensures) at c.in_ok-write.ensures.ok) c.put_value_set.ensures.kept
