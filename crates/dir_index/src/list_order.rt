@@ -68,6 +68,10 @@ impl Shared for ListKey {
             octets,
         })
     }
+
+    fn most_in_leaf() -> usize {
+        16
+    }
 }
 
 impl<'a> Sought<ListKey> for Place<'a> {

@@ -33,6 +33,10 @@ impl Shared for Place {
             Place::Under(above, rdn) => Ok(Place::Under(*above, rdn.share()?)),
         }
     }
+
+    fn most_in_leaf() -> usize {
+        16
+    }
 }
 
 /// An entry, and where it stands.
@@ -61,6 +65,10 @@ impl Shared for Standing {
             own: self.own.share()?,
             entry: self.entry.share()?,
         })
+    }
+
+    fn most_in_leaf() -> usize {
+        6
     }
 }
 
@@ -95,6 +103,10 @@ impl Shared for Below {
             children: self.children.share()?,
             within: self.within.share()?,
         })
+    }
+
+    fn most_in_leaf() -> usize {
+        6
     }
 }
 

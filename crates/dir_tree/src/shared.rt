@@ -56,6 +56,10 @@ impl Shared for SharedEntry {
         let entry = Arc::try_clone(&self.entry)?;
         Ok(SharedEntry { entry })
     }
+
+    fn most_in_leaf() -> usize {
+        16
+    }
 }
 
 impl Deref for SharedEntry {

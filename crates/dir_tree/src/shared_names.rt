@@ -57,6 +57,10 @@ impl Shared for SharedRdn {
         let rdn = Arc::try_clone(&self.rdn)?;
         Ok(SharedRdn { rdn })
     }
+
+    fn most_in_leaf() -> usize {
+        16
+    }
 }
 
 impl PartialEq for SharedRdn {
@@ -164,5 +168,9 @@ impl Shared for SharedName {
     fn share(&self) -> Result<SharedName, AllocError> {
         let name = Arc::try_clone(&self.name)?;
         Ok(SharedName { name })
+    }
+
+    fn most_in_leaf() -> usize {
+        16
     }
 }

@@ -98,6 +98,10 @@ impl Shared for Octets {
             }),
         }
     }
+
+    fn most_in_leaf() -> usize {
+        16
+    }
 }
 
 impl PartialEq for Octets {
