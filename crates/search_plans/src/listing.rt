@@ -35,7 +35,8 @@ fn push_list<'a>(set: &'a NumberSet, into: &mut Vec<Walk<'a>>) -> Result<(), All
 }
 
 /// Where two plans are the same `or` of posting lists, puts a walk through each of these behind those that are there: how many numbers the lists
-/// have. None where they aren't; some walks may have come then.
+/// have. Empty plans may stand among the lists, as of a subtype in whose syntax the assertion isn't. None where they aren't the same; some walks
+/// may have come then.
 #[cycle(list)]
 pub fn push_listed<'a, K: Kept>(
     one: &Plan,
@@ -50,6 +51,7 @@ pub fn push_listed<'a, K: Kept>(
     ensures rising { OnOk result (AreRising into.old.items → AreRising into.new.items) }
 {
     match (one, other) {
+        (Plan::Empty, Plan::Empty) => Ok(Some(0)),
         (Plan::Posting(posting), Plan::Posting(other_posting)) => {
             if !is_same_posting(posting, other_posting) {
                 return Ok(None);
