@@ -28,7 +28,7 @@ use Rattle.dir_search.specs.Looks.{value_on, value_in}
 use Rattle.dir_search.specs.private.Looks.{IsBoundOn, true_numbers, has_runs_on, leaves_open_on, up_to, AreNumbersOf, AreHere, IsFew, LeavesFew}
 use Rattle.dir_search.specs.private.Numbered.{put_some, entries_of}
 use Rattle.dir_search.specs.Selection.{selected}
-use Rattle.dir_search.specs.private.View.{Shows, FindsAmong}
+use Rattle.dir_search.specs.private.View.{ShowsFound, FindsAmong}
 use Rattle.indexed_tree.specs.directory_api.declared.search_answer.SearchAnswer.{SearchAnswer}
 use Rattle.dir_search.proofs.Limits.{keyed_at}
 
@@ -195,7 +195,7 @@ past_is limit ks m pos past =
 module _ (a : SearchAnswer) (s : SchemaModel) (q : SearchRequestValue) (ix : List Kinds) (b : BoundFilter) (d : List Entered) (ks : List ℕ) (open_at : ℕ → Bool) (must may : Plan) where
   pub among : IsBoundOn s q.filter b d → LeavesFew open_at ix b d ks → ((m : SchemaModel) (t : Tree) → IsBoundTo m t b → IsMadeOf m t b → ArePlansFor m ix t must may)
       → ((n : ℕ) → has_number n ks ≡ true → open_at n ≡ leaves_open_on ix must may (entry_at n d))
-      → Shows a (selected s q.attributes q.types_only) q.size_limit d (true_numbers b d ks) (filter open_at ks) → FindsAmong a s q ix b d ks
+      → ShowsFound a (selected s q.attributes q.types_only) q.size_limit d (true_numbers b d ks) (filter open_at ks) → FindsAmong a s q ix b d ks
   among bound leaves plans told shows =
       let o : Option ℕ = first_past q.size_limit (true_numbers b d ks) in
       let short : length (up_to o (filter open_at ks)) ≤ length (filter open_at ks) = up_to_short o (filter open_at ks) in

@@ -1,7 +1,6 @@
 pub mod Limits
 pub mod Shown
 pub mod Selectors
-pub mod Resolved
 pub mod Numbers
 pub mod Guided
 pub mod Few

@@ -8,7 +8,7 @@ use Rattle.indexed_tree.specs.dir_tree.Directory.{Entered}
 use Rattle.indexed_tree.specs.Directory.{NamedEntry}
 use Rattle.dir_search.specs.Counted.{first_past}
 use Rattle.dir_search.specs.private.Looks.{up_to}
-use Rattle.dir_search.specs.private.View.{Shows}
+use Rattle.dir_search.specs.private.View.{ShowsFound}
 use Rattle.indexed_tree.specs.directory_api.View.{answer_view}
 use Rattle.indexed_tree.specs.directory_api.declared.search_answer.SearchAnswer.{SearchAnswer}
 use Rattle.dir_search.proofs.Limits.{SoFar, stops, stops_at, ends, ends_before}
@@ -26,7 +26,7 @@ past_none (suc n) all h = past_some (suc n) all (omega arith) ∙ h (omega arith
 module _ (a : SearchAnswer) (show : NamedEntry → SearchResultEntryValue) (limit : ℕ) (d : List Entered) (all : List ℕ) (shown : List SearchResultEntryValue) (tests : ℕ) (open_numbers still_open : List ℕ) where
   -- one entry past the limit was found
   pub cut_short : (n : ℕ) (left : List ℕ) → SoFar show d limit all (n ∷ left) shown → 0 < limit → length shown ≡ limit → answer_view a ≡ record { code = 4; matched = []; entries = shown }
-      → a.tests ≡ tests → still_open ≡ open_numbers → tests ≡ length (filter (λ x. nat_le x n) still_open) → Shows a show limit d all open_numbers
+      → a.tests ≡ tests → still_open ≡ open_numbers → tests ≡ length (filter (λ x. nat_le x n) still_open) → ShowsFound a show limit d all open_numbers
   cut_short n left so_far pos size is told same asked = record {
     shown = is ∙ sym (stops show d limit all left shown n so_far pos size);
     counted =
@@ -36,7 +36,7 @@ module _ (a : SearchAnswer) (show : NamedEntry → SearchResultEntryValue) (limi
 
   -- all that was found is shown
   pub all_shown : SoFar show d limit all [] shown → answer_view a ≡ record { code = 0; matched = []; entries = shown }
-      → a.tests ≡ tests → still_open ≡ open_numbers → tests ≡ length still_open → Shows a show limit d all open_numbers
+      → a.tests ≡ tests → still_open ≡ open_numbers → tests ≡ length still_open → ShowsFound a show limit d all open_numbers
   all_shown so_far is told same asked = record {
     shown = is ∙ sym (ends show d limit all shown so_far);
     counted =

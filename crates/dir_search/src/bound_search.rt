@@ -18,14 +18,19 @@ ghost use Rattle.dir_search.specs.Answer.{stands};
 ghost use Rattle.dir_search.specs.Looks.{value_in};
 ghost use Rattle.dir_search.specs.private.Looks.{AreNumbersOf, IsBoundOn, LeavesFew, leaves_open_on};
 ghost use Rattle.dir_search.specs.Scopes.{is_right_under, is_in_scope};
+ghost use Rattle.dir_search.specs.private.View.{shows_of};
+ghost use Rattle.std.specs.Arc.{arc_value};
 
 use crate::scoping::{is_unnamed, numbers_right_under, numbers_within};
 use crate::showing::show_found;
 use crate::values::Evaluated;
-use indexed_tree::{IndexedTree, NumberSet, Rdn, Schema, Scope, SearchAnswer, SearchRequest};
+use indexed_tree::{
+    IndexedTree, NumberSet, Rdn, Schema, Scope, SearchAnswer, SearchRequest, Shows,
+};
 use ldap_eval::BoundFilter;
 use search_plans::{Scope as NumberScope, Sided, compile, sets_are_of_entries, start};
 use std::alloc::{AllocError, Global};
+use std::sync::Arc;
 
 /// The plans that bound where a filter is True, over the posting lists of a tree's entries.
 fn guide(alloc: Global, indexed: &IndexedTree, bound: &BoundFilter) -> Result<Sided, AllocError>
@@ -55,8 +60,10 @@ pub struct BoundSearch<'a> {
     pub bound: &'a BoundFilter,
     pub base: &'a [Rdn],
     pub request: &'a SearchRequest,
+    pub shows: &'a Arc<Shows>,
     ghost bound_on: { IsBoundOn schema.now (filter_view request.now.filter) bound.now indexed.now.tree.entries },
     ghost base_stands: { stands (directory schema.now indexed.now.tree) base.now ≡ true },
+    ghost shown_as: { arc_value shows.now ≡ shows_of schema.now request.now },
 }
 
 // Not derived: see "What the gate takes" in docs/ARCHITECTURE.md.
@@ -69,6 +76,7 @@ impl<'a> Drop for BoundSearch<'a> {
             bound: _,
             base: _,
             request: _,
+            shows: _,
         } = self;
     }
 }
@@ -94,7 +102,14 @@ impl BoundSearch<'_> {
         // prover: the looks to come are counted in 64 bits
         let _ = scope.len();
         let running = start(self.alloc, &sided, self.indexed, &scope, values)?;
-        show_found(self.alloc, self.schema, tree, self.request, running)
+        show_found(
+            self.alloc,
+            self.schema,
+            tree,
+            self.request,
+            self.shows,
+            running,
+        )
     }
 
     /// The search of one name's entry; of none, where the name has none.

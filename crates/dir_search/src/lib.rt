@@ -2,9 +2,9 @@
 //!
 //! Answers a search of what it is lent (`searching`); `reading` answers one that names an update, over a directory at a number. A bound
 //! search (`bound_search`) takes its scope from the tree (`scoping`), compiles the filter, and runs the plans. `values` gives and counts
-//! the filter's values that plans leave open; `names_at` reads entries' names off the tree. `showing` shows what is selected (`selecting`),
-//! up to the first entry past the size limit, copying each octet once. Selectors are looked up once a search (`resolving`); an attribute
-//! costs its type's chain of SUPs. `root_dse` has what the empty name alone shows, `comparing` a compare.
+//! the filter's values that plans leave open; `names_at` reads entries' names off the tree. `showing` takes what is found, up to the first
+//! entry past the size limit: each entry's printed name and a second owner of its attributes (`selecting`). `root_dse` has what the empty
+//! name alone shows, `comparing` a compare.
 //!
 //! Proved: a search gives exactly the entries in scope whose filter value is True, in order of number, each once, with the selected
 //! attributes, up to the size limit. Else it gives the root DSE, or the code of the definition (`search` `answer`). It evaluates on the
@@ -17,7 +17,6 @@ mod comparing;
 mod names_at;
 mod reading;
 mod refusing;
-mod resolving;
 mod root_dse;
 mod scoping;
 mod searching;

@@ -1,24 +1,22 @@
 //! The root DSE: what a search of the empty name alone finds. A directory and a request flow in; at most one entry that is shown flows out. It is no
 //! entry of the directory.
-ghost use Rattle.std.specs.Prelude.{◌≡◌, ◌++◌, ◌∷◌, [], Some, map, codes, IfOk, OnOk, string_bytes};
-ghost use Rattle.std.specs.List.{list_any};
-ghost use Rattle.std.specs.Str.{str_eq_ignore_ascii_case};
+ghost use Rattle.std.specs.Prelude.{◌≡◌, ◌++◌, ◌∷◌, [], Some, map, codes, IfOk, OnOk};
 ghost use Rattle.ldap_filter.specs.View.{view as filter_view};
 ghost use Rattle.ldap_eval.specs.Value.{filter_value};
 ghost use Rattle.search_plans.specs.Runs.{is_true};
-ghost use Rattle.indexed_tree.specs.directory_api.ldap_msg.View.{attribute_view, entry_view, search_view};
+ghost use Rattle.indexed_tree.specs.directory_api.ldap_msg.View.{attribute_view, search_view};
+ghost use Rattle.indexed_tree.specs.directory_api.found_entry.View.{found_view};
 ghost use Rattle.indexed_tree.specs.dir_entry.Entry.{attributes_of, IsKeyedBy};
 ghost use Rattle.dir_search.specs.Answer.{dse_matching};
-ghost use Rattle.dir_search.specs.private.Resolved.{selectors_of};
+ghost use Rattle.dir_search.specs.private.View.{selectors_of};
 ghost use Rattle.dir_search.specs.RootDse.{class_top, dse_attributes, dse_selected, where_named, without_values};
 ghost use Rattle.dir_search.specs.private.View.{Finds};
 
-use crate::resolving::Selection;
 use crate::searching::matches;
-use crate::selecting::Showing;
+use crate::selecting::{Showing, shows_for};
 use indexed_tree::{
-    Entry, EntryError, Name, PartialAttribute, Reading, ResultCode, Schema, SearchAnswer,
-    SearchRequest, SearchResultEntry, TypeId,
+    Entry, EntryError, FoundEntry, Name, PartialAttribute, Reading, ResultCode, Schema,
+    SearchAnswer, SearchRequest, TypeId,
 };
 use ldap_eval::bind;
 use ldap_filter::Filter;
@@ -56,26 +54,6 @@ fn root_entry(alloc: Global, schema: &Schema) -> Result<Entry, AllocError>
         Some(object_class) => entry_of_top(alloc, schema, object_class),
         None => Ok(Entry::new(alloc)),
     }
-}
-
-/// Whether two descriptions are one, whatever their case.
-#[tactic(auto, using(crate::proofs::Selectors::same_test))]
-fn is_same_description(a: &str, b: &str) -> bool
-    ensures { result ≡ str_eq_ignore_ascii_case a.now b.now }
-{
-    a.eq_ignore_ascii_case(b)
-}
-
-/// Whether one of the selectors is a name, whatever its case.
-fn is_asked(selectors: &[String], description: &str) -> bool
-    ensures { result ≡ list_any (str_eq_ignore_ascii_case description.now) (map string_bytes selectors.now) }
-{
-    for selector in selectors {
-        if is_same_description(description, selector) {
-            return true;
-        }
-    }
-    false
 }
 
 /// The octets of texts.
@@ -116,7 +94,7 @@ impl Showing<'_> {
         ensures { OnOk result (map attribute_view shown.new.items ≡ map attribute_view shown.old.items
             ++ where_named (selectors_of self.now.request.now) self.now.request.now.types_only (record { description = name.now; values = map (λ t. t.now) values.now })) }
     {
-        if is_asked(&self.request.attributes, name) {
+        if self.shows.asks_for(name) {
             shown.push(self.operational(name, values)?)?;
         }
         Ok(())
@@ -129,29 +107,25 @@ fn shown_root(
     store: &Reading<'_>,
     entry: &Entry,
     request: &SearchRequest,
-) -> Result<SearchResultEntry, AllocError>
+) -> Result<FoundEntry, AllocError>
     requires attributes { attributes_of entry.now ≡ dse_attributes store.now.directory.schema }
-    ensures { IfOk result (λ e. entry_view e ≡ dse_selected store.now.directory (selectors_of request.now) request.now.types_only) }
+    ensures { IfOk result (λ e. found_view e ≡ dse_selected store.now.directory (selectors_of request.now) request.now.types_only) }
 {
-    let schema = store.schema();
-    let selection = Selection::of(alloc, schema, &request.attributes)?;
+    let shows = shows_for(alloc, store, request)?;
     let showing = Showing {
         alloc,
-        schema,
+        schema: store.schema(),
         request,
-        selection,
+        shows: &shows,
     };
-    let mut attributes = showing.show_all(entry.attributes())?;
+    let mut attributes = shows.copy_shown(alloc, entry.attributes())?;
     let suffix = store.printed_suffix(alloc)?;
     let controls = ["2.25.20120101", "2.25.20120102"];
     showing.add_asked(&mut attributes, "namingContexts", &[&suffix])?;
     showing.add_asked(&mut attributes, "supportedControl", &controls)?;
     showing.add_asked(&mut attributes, "supportedExtension", &["2.25.20120103"])?;
     showing.add_asked(&mut attributes, "supportedLDAPVersion", &["3"])?;
-    Ok(SearchResultEntry {
-        object_name: String::new(alloc),
-        attributes,
-    })
+    Ok(FoundEntry::made(String::new(alloc), attributes))
 }
 
 /// Whether a filter's value on the root DSE is True.

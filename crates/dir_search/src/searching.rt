@@ -14,20 +14,23 @@ ghost use Rattle.dir_search.specs.Answer.{answer, answer_of, answer_at, found_at
 ghost use Rattle.indexed_tree.specs.directory_api.Answers.{refused as refused_answer};
 ghost use Rattle.dir_search.specs.Counted.{IsCountAtBase, IsCountFrom, IsCountOf};
 ghost use Rattle.dir_search.specs.Evaluated.{IsFewAtBase, LooksAtFew, goes_over};
-ghost use Rattle.dir_search.specs.private.View.{Finds};
+ghost use Rattle.dir_search.specs.private.View.{Finds, shows_of};
+ghost use Rattle.std.specs.Arc.{arc_value};
 ghost use Rattle.indexed_tree.specs.directory_api.View.{answer_view};
 
 use crate::bound_search::BoundSearch;
 use crate::refusing::refused;
 use crate::root_dse::show_root;
 use crate::scoping::is_unnamed;
+use crate::selecting::shows_for;
 use indexed_tree::{
     Entry, IndexedTree, Name, NameError, Rdn, Reading, Reply, ResultCode, Schema, Scope,
-    SearchAnswer, SearchRequest, Truth,
+    SearchAnswer, SearchRequest, Shows, Truth,
 };
 use ldap_eval::{BoundFilter, bind, value};
 use search_plans::tests_are_items;
 use std::alloc::{AllocError, Global};
+use std::sync::Arc;
 
 /// Whether a filter is True on an entry of a name.
 pub fn matches(bound: &BoundFilter, entry: &Entry, name: &Name) -> bool
@@ -47,9 +50,11 @@ fn search_scope(
     indexed: &IndexedTree,
     base: &[Rdn],
     request: &SearchRequest,
+    shows: &Arc<Shows>,
 ) -> Result<SearchAnswer, AllocError>
     requires keyed { AreKeyedBy schema.now indexed.now.tree.entries }
     requires stands { stands (directory schema.now indexed.now.tree) base.now ≡ true }
+    requires shown_as { arc_value shows.now ≡ shows_of schema.now request.now }
     ensures found { IfOk result (λ a. Finds a (found_at (directory schema.now indexed.now.tree) (search_view request.now) base.now)
         (length (in_scope (directory schema.now indexed.now.tree) request.now.scope base.now))) }
     ensures few { IfOk result (λ a. IsFewAtBase indexed.now.indexes (directory schema.now indexed.now.tree) (search_view request.now) base.now a.tests) }
@@ -65,6 +70,7 @@ fn search_scope(
         bound: &bound,
         base,
         request,
+        shows,
     };
     bound_search.in_scope()
 }
@@ -103,7 +109,15 @@ fn search_at(
         return show_root(alloc, store, request);
     }
     if is_standing(store, base) {
-        return search_scope(alloc, store.schema(), store.indexed(), base, request);
+        let shows = shows_for(alloc, store, request)?;
+        return search_scope(
+            alloc,
+            store.schema(),
+            store.indexed(),
+            base,
+            request,
+            &shows,
+        );
     }
     let reply = store.not_found(alloc, base)?;
     Ok(refused(alloc, reply))

@@ -2,23 +2,23 @@
 //! out. Which numbers are found is not told here.
 ghost use Rattle.std.specs.Prelude.{◌≡◌, ◌<◌, ◌++◌, ◌∷◌, [], map, IfOk, OnOk};
 ghost use Rattle.std.specs.Bool.{OnTrue, OnFalse};
-ghost use Rattle.indexed_tree.specs.directory_api.ldap_msg.View.{entry_view};
+ghost use Rattle.std.specs.Arc.{arc_value};
+ghost use Rattle.indexed_tree.specs.directory_api.found_entry.View.{found_view};
 ghost use Rattle.indexed_tree.specs.Stored.{named};
 ghost use Rattle.dir_search.specs.private.Looks.{AreHere};
 ghost use Rattle.dir_search.specs.private.Numbered.{entries_of};
-ghost use Rattle.dir_search.specs.private.Resolved.{selectors_of};
 ghost use Rattle.dir_search.specs.Selection.{selected};
-ghost use Rattle.dir_search.specs.private.View.{Shows};
+ghost use Rattle.dir_search.specs.private.View.{selectors_of, shows_of, ShowsFound};
 ghost use Rattle.indexed_tree.specs.directory_api.View.{answer_view};
 
-use crate::resolving::Selection;
 use crate::selecting::Showing;
 use crate::values::Evaluated;
 use indexed_tree::{
-    IndexedTree, ResultCode, Schema, SearchAnswer, SearchRequest, SearchResultEntry, Tree,
+    FoundEntry, IndexedTree, ResultCode, Schema, SearchAnswer, SearchRequest, Shows, Tree,
 };
 use search_plans::Running;
 use std::alloc::{AllocError, Global};
+use std::sync::Arc;
 
 /// Whether so many entries are all that the limit lets through; 0 is no limit.
 fn is_full(limit: usize, count: usize) -> bool
@@ -29,13 +29,8 @@ fn is_full(limit: usize, count: usize) -> bool
 }
 
 /// The answer with these entries.
-fn ended(
-    alloc: Global,
-    code: ResultCode,
-    entries: Vec<SearchResultEntry>,
-    tests: u64,
-) -> SearchAnswer
-    ensures shown { answer_view result ≡ record { code = code; matched = []; entries = map entry_view entries.items } }
+fn ended(alloc: Global, code: ResultCode, entries: Vec<FoundEntry>, tests: u64) -> SearchAnswer
+    ensures shown { answer_view result ≡ record { code = code; matched = []; entries = map found_view entries.items } }
     ensures tests { result.tests ≡ tests }
 {
     SearchAnswer {
@@ -53,9 +48,9 @@ impl Showing<'_> {
         &self,
         tree: &Tree,
         number: u64,
-        entries: &mut Vec<SearchResultEntry>,
+        entries: &mut Vec<FoundEntry>,
     ) -> Result<(), AllocError>
-        ensures { OnOk result (map entry_view entries.new.items ≡ map entry_view entries.old.items
+        ensures { OnOk result (map found_view entries.new.items ≡ map found_view entries.old.items
             ++ map (selected self.now.schema.now (selectors_of self.now.request.now) self.now.request.now.types_only)
             (map named (entries_of (number ∷ []) tree.now.entries))) }
     {
@@ -76,7 +71,7 @@ impl Showing<'_> {
         mut running: Running<'_, IndexedTree, Evaluated<'_>>,
     ) -> Result<SearchAnswer, AllocError>
         requires { AreHere tree.now.entries running.to_come }
-        ensures { IfOk result (λ a. Shows a
+        ensures { IfOk result (λ a. ShowsFound a
             (selected self.now.schema.now (selectors_of self.now.request.now) self.now.request.now.types_only)
             self.now.request.now.size_limit tree.now.entries running.entry.to_come running.entry.open_numbers) }
     {
@@ -100,18 +95,19 @@ pub fn show_found(
     schema: &Schema,
     tree: &Tree,
     request: &SearchRequest,
+    shows: &Arc<Shows>,
     running: Running<'_, IndexedTree, Evaluated<'_>>,
 ) -> Result<SearchAnswer, AllocError>
-    requires { AreHere tree.now.entries running.to_come }
-    ensures { IfOk result (λ a. Shows a (selected schema.now (selectors_of request.now) request.now.types_only)
+    requires here { AreHere tree.now.entries running.to_come }
+    requires shown_as { arc_value shows.now ≡ shows_of schema.now request.now }
+    ensures { IfOk result (λ a. ShowsFound a (selected schema.now (selectors_of request.now) request.now.types_only)
         request.now.size_limit tree.now.entries running.entry.to_come running.entry.open_numbers) }
 {
-    let selection = Selection::of(alloc, schema, &request.attributes)?;
     let showing = Showing {
         alloc,
         schema,
         request,
-        selection,
+        shows,
     };
     showing.show_found(tree, running)
 }

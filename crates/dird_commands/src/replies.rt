@@ -109,7 +109,7 @@ fn write_answer<W: Write>(at: u64, answer: &SearchAnswer, output: &mut W) -> std
     let entries = answer.entries.as_slice();
     write_answered(at, answer.code.number(), entries.len(), output)?;
     for entry in entries {
-        write_entry(entry.object_name.as_str(), output)?;
+        write_entry(entry.object_name(), output)?;
     }
     Ok(())
 }

@@ -1,6 +1,6 @@
 -- What replies, answers, roles and ends of updates in memory stand for.
 use Rattle.std.specs.Prelude.{map, string_bytes}
-use Rattle.ldap_msg.specs.View.{entry_view}
+use Rattle.found_entry.specs.View.{found_view}
 use Rattle.directory_api.specs.Answers.{ReplyModel, Answer}
 use Rattle.directory_api.specs.declared.reply.Reply.{Reply}
 use Rattle.directory_api.specs.declared.search_answer.SearchAnswer.{SearchAnswer}
@@ -16,7 +16,7 @@ reply_view r = record { code = r.code; matched = string_bytes r.matched }
 
 -- the answer of a search
 abbrev pub answer_view : SearchAnswer → Answer
-answer_view a = record { code = a.code; matched = string_bytes a.matched; entries = map entry_view a.entries.items }
+answer_view a = record { code = a.code; matched = string_bytes a.matched; entries = map found_view a.entries.items }
 
 -- what a replica is, and the URI of the primary where it isn't
 abbrev pub role_view : Role → RoleValue

@@ -20,6 +20,7 @@ mod search_answer;
 
 pub use client::{named_client, session_client};
 pub use directory::Directory;
+pub use found_entry::{FoundEntry, Shows};
 pub use gate::{Ended, Gate, Role};
 pub use ldap_msg::{
     AddRequest, Attribute, AttributeValueAssertion, CompareRequest, DerefAliases, PartialAttribute,

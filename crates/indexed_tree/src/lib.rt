@@ -23,8 +23,9 @@ pub use dir_tree::{
     Truth, TypeAndValue, TypeId, are_same, copy_values, is_of_syntax, print_from_leaf,
 };
 pub use directory_api::{
-    AddRequest, AttributeValueAssertion, CompareRequest, DerefAliases, Found, LookError,
-    PartialAttribute, Reply, ResultCode, Scope, SearchAnswer, SearchRequest, SearchResultEntry,
+    AddRequest, AttributeValueAssertion, CompareRequest, DerefAliases, Found, FoundEntry,
+    LookError, PartialAttribute, Reply, ResultCode, Scope, SearchAnswer, SearchRequest,
+    SearchResultEntry, Shows,
 };
 pub use finding::{entry_of, is_front, is_same, is_taken, not_found, standing};
 pub use held::Standing;

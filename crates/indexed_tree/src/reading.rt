@@ -1,6 +1,7 @@
 //! The directory as searches read it: its schema, and its entries in a tree with their posting lists, whose keys are those of the schema. Names flow
 //! in; entries, or the reply that there is none, flow out. Nothing is changed here.
 ghost use Rattle.std.specs.Prelude.{◌≡◌, IfOk, IfSome, string_bytes};
+ghost use Rattle.std.specs.Arc.{arc_value};
 ghost use Rattle.std.specs.Option.{option_map};
 ghost use Rattle.dir_tree.specs.ldap_dn.Names.{rdns};
 ghost use Rattle.dir_tree.specs.ldap_dn.Printed.{printed_name};
@@ -16,11 +17,12 @@ use dir_tree::{Rdn, Schema, SharedEntry};
 use directory_api::Reply;
 use std::alloc::{AllocError, Global};
 use std::marker::Model;
+use std::sync::Arc;
 
 /// A directory that is lent to searches: entries at and below one name, under one schema, and the index choice under which they are listed.
 #[derive(Drop)]
 pub struct Reading<'a> {
-    schema: &'a Schema,
+    schema: &'a Arc<Schema>,
     held: &'a IndexedTree,
 }
 
@@ -30,16 +32,18 @@ impl<'a> Model for Reading<'a> {
 
     ghost Value = { StoreModel };
 
-    ghost view = { λ r. record { directory = directory r.schema.now r.held.now.tree; indexes = r.held.now.indexes } };
+    ghost use Rattle.std.specs.Arc.{arc_value};
 
-    ghost invariant = { λ r. AreKeyedBy r.schema.now r.held.now.tree.entries };
+    ghost view = { λ r. record { directory = directory (arc_value r.schema.now) r.held.now.tree; indexes = r.held.now.indexes } };
+
+    ghost invariant = { λ r. AreKeyedBy (arc_value r.schema.now) r.held.now.tree.entries };
 }
 
 impl<'a> Reading<'a> {
     /// A schema, and a tree whose entries have the keys that it gives them.
-    pub fn new(schema: &'a Schema, held: &'a IndexedTree) -> Reading<'a>
-        requires keyed { AreKeyedBy schema.now held.now.tree.entries }
-        ensures { result ≡ record { directory = directory schema.now held.now.tree; indexes = held.now.indexes } }
+    pub fn new(schema: &'a Arc<Schema>, held: &'a IndexedTree) -> Reading<'a>
+        requires keyed { AreKeyedBy (arc_value schema.now) held.now.tree.entries }
+        ensures { result ≡ record { directory = directory (arc_value schema.now) held.now.tree; indexes = held.now.indexes } }
     {
         Reading { schema, held }
     }
@@ -49,6 +53,13 @@ impl<'a> Reading<'a> {
         ensures { result.now ≡ self.now.directory.schema }
     {
         self.schema
+    }
+
+    /// A second owner of the schema; it takes no memory, and fails only where there are too many.
+    pub fn shared_schema(&self) -> Result<Arc<Schema>, AllocError>
+        ensures { IfOk result (λ s. arc_value s ≡ self.now.directory.schema) }
+    {
+        Arc::try_clone(self.schema)
     }
 
     /// The entries as the tree has them, and their posting lists under an index choice.

@@ -1,9 +1,10 @@
 //! LDIF and the directory: a search, whole.
 //! In: a directory, a text of LDIF, a search request. Out: a text of LDIF, or why there is none. Not here: where the text comes from.
 
-ghost use Rattle.std.specs.Prelude.{◌≡◌, Ok, IfOk, IfErr, OnOk, length};
+ghost use Rattle.std.specs.Prelude.{◌≡◌, Ok, IfOk, IfErr, OnOk, length, map};
 ghost use Rattle.ldif.specs.Reading.{records_of as records_of_text};
-ghost use Rattle.directory_api.specs.ldap_msg.View.{search_view};
+ghost use Rattle.directory_api.specs.ldap_msg.View.{entry_view, search_view};
+ghost use Rattle.directory_api.specs.found_entry.View.{found_view};
 ghost use Rattle.dir_store.specs.indexed_tree.Stored.{NumbersBelow};
 ghost use Rattle.dir_search.specs.Answer.{answer as answer_of};
 ghost use Rattle.dir_search.specs.Counted.{IsCountOf};
@@ -15,9 +16,9 @@ use crate::adding::add_records;
 use crate::fault::SearchError;
 use dir_search::search;
 use dir_store::Store;
-use directory_api::SearchRequest;
+use directory_api::{FoundEntry, SearchRequest, SearchResultEntry};
 use ldif::{LdifError, Record, read, records_of, write};
-use std::alloc::Global;
+use std::alloc::{AllocError, Global};
 
 /// The records of a text.
 pub fn read_records(alloc: Global, text: &[u8]) -> Result<Vec<Record>, SearchError>
@@ -29,6 +30,17 @@ pub fn read_records(alloc: Global, text: &[u8]) -> Result<Vec<Record>, SearchErr
         Err(LdifError::BadLdif { line }) => Err(SearchError::BadLdif { line }),
         Err(LdifError::NoMemory) => Err(SearchError::NoMemory),
     }
+}
+
+/// Copies of entries that were found.
+fn copied(alloc: Global, entries: &[FoundEntry]) -> Result<Vec<SearchResultEntry>, AllocError>
+    ensures { IfOk result (λ v. map entry_view v.items ≡ map found_view entries.now) }
+{
+    let mut copies = Vec::with_capacity(alloc, entries.len())?;
+    for entry in entries {
+        copies.push(entry.copied(alloc)?)?;
+    }
+    Ok(copies)
 }
 
 /// The text of what a search shows.
@@ -45,7 +57,8 @@ fn text_of_answer(
     if number != 0 {
         return Err(SearchError::Code { number });
     }
-    let records = records_of(alloc, &answer.entries)?;
+    let entries = copied(alloc, &answer.entries)?;
+    let records = records_of(alloc, &entries)?;
     Ok(write(alloc, &records)?)
 }
 

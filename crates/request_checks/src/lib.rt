@@ -22,7 +22,7 @@ pub use fault::AnswerError;
 pub use identity::Identity;
 pub use ldap_msg::{
     BindRequest, CompareRequest, Control, ExtendedResponse, LdapResult, Message, ProtocolOp,
-    Request, Response, ResultCode, SearchRequest, SearchResultEntry,
+    Request, Response, ResultCode, SearchRequest,
 };
 pub use numbers::{GREATEST, number_of, pair_of};
 pub use requests::{Answering, answering_of, kind_of, update_in};

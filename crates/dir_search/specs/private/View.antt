@@ -1,9 +1,11 @@
 -- What an answer in memory stands for, and how many entries it tells of.
-use Rattle.std.specs.Prelude.{◌≡◌, ℕ, ◌<◌, ◌≤◌, List, length, map, filter, nat_le, Some}
+use Rattle.std.specs.Prelude.{◌≡◌, ℕ, ◌<◌, ◌≤◌, List, length, map, filter, nat_le, string_bytes, Some}
 use Rattle.std.specs.List.{slice_get}
 use Rattle.indexed_tree.specs.ldap_schema.Schema.{SchemaModel}
 use Rattle.ldap_eval.specs.declared.bound.BoundFilter.{BoundFilter}
 use Rattle.indexed_tree.specs.directory_api.ldap_msg.Messages.{SearchRequestValue, SearchResultEntryValue}
+use Rattle.indexed_tree.specs.directory_api.ldap_msg.ldap_requests.declared.search.SearchRequest.{SearchRequest}
+use Rattle.indexed_tree.specs.directory_api.found_entry.Selection.{ShowsModel}
 use Rattle.indexed_tree.specs.index_choice.declared.kinds.Kinds.{Kinds}
 use Rattle.indexed_tree.specs.dir_tree.Directory.{Entered}
 use Rattle.indexed_tree.specs.Directory.{NamedEntry}
@@ -16,6 +18,14 @@ use Rattle.dir_search.specs.private.Looks.{true_numbers, up_to, IsFew, IsCountAm
 use Rattle.dir_search.specs.private.Numbered.{entries_of, found_of}
 use Rattle.indexed_tree.specs.directory_api.declared.search_answer.SearchAnswer.{SearchAnswer}
 
+-- the selectors of a request in memory
+abbrev pub selectors_of : SearchRequest → List (List ℕ)
+selectors_of q = map string_bytes q.attributes.items
+
+-- what a request in memory has shown of each entry
+abbrev pub shows_of : SchemaModel → SearchRequest → ShowsModel
+shows_of s q = record { schema = s; selectors = selectors_of q; types_only = q.types_only }
+
 -- An answer in memory stands for this one, and tells of no more evaluations of the filter than so many.
 pub record Finds (a : SearchAnswer) (x : Answer) (most : ℕ) : Type 0 where
   pub shown : answer_view a ≡ x
@@ -23,7 +33,7 @@ pub record Finds (a : SearchAnswer) (x : Answer) (most : ℕ) : Type 0 where
 
 -- An answer in memory shows the entries of the numbers that were found, up to a limit. It tells of as many evaluations as there were numbers left
 -- open; where there are more entries than the limit, up to the first past it.
-pub record Shows (a : SearchAnswer) (show : NamedEntry → SearchResultEntryValue) (limit : ℕ) (d : List Entered) (found left_open : List ℕ) : Type 0 where
+pub record ShowsFound (a : SearchAnswer) (show : NamedEntry → SearchResultEntryValue) (limit : ℕ) (d : List Entered) (found left_open : List ℕ) : Type 0 where
   pub shown : answer_view a ≡ limited limit (map show (map named (entries_of found d)))
   pub counted : a.tests ≡ length (up_to (first_past limit found) left_open)
 

@@ -59,7 +59,8 @@ fn find(
         answer.tests
     );
     rt.print(shown)?;
-    for entry in &answer.entries {
+    for found in &answer.entries {
+        let entry = again!(found.copied(alloc));
         let shown = format_args!("{} has {}\n", entry.object_name, entry.attributes.len());
         rt.print(shown)?;
     }

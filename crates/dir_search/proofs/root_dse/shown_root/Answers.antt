@@ -5,6 +5,7 @@ use Rattle.dir_search.proofs.root_dse.shown_root.Goals as goal
 pub returns : goal.returns
 returns c =
     rw (
+      c.made.ensures,
       c.new.ensures.bytes,
       c.in_ok-add_asked-4.ensures,
       c.in_ok-add_asked-3.ensures,
@@ -13,7 +14,8 @@ returns c =
       c.deref-2.ensures,
       c.in_ok-suffix.ensures,
       c.in_ok-attributes.ensures,
-      c.schema-schema.ensures,
+      c.deref.ensures,
+      c.in_ok-shows.ensures,
       c.attributes.ensures,
       c.requires.attributes,
     ) refl

@@ -12,6 +12,7 @@ pub invariant_of-bound_search : goal.invariant_of-bound_search
 invariant_of-bound_search c = record {
   bound_on = bound_on c.args.schema.now (filter_view c.args.request.now.filter) c.in_ok-bound.bound c.args.indexed.now.tree.entries c.requires.keyed c.in_ok-bound.ensures.value;
   base_stands = c.requires.stands;
+  shown_as = c.requires.shown_as;
 }
 
 -- what is found of the numbers is what the directory's scope has

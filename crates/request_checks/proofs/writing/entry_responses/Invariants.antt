@@ -1,5 +1,5 @@
 use Rattle.std.proofs.Common.{◌≡◌, ◌++◌, map}
-use Rattle.ldap_msg.specs.View.{entry_view}
+use Rattle.found_entry.specs.View.{found_view}
 use Rattle.ldap_msg.specs.Written.{message_bytes}
 use Rattle.request_checks.specs.Messages.{entry_messages, HasTooLong}
 use Rattle.request_checks.proofs.writing.entry_responses.Given as goal
@@ -7,6 +7,6 @@ use Rattle.request_checks.proofs.writing.entry_responses.Given as goal
 -- the responses so far, and those of the entries that are left, are those of all entries
 abbrev pub invariant-loop-entry : goal.invariant-loop-entry
 invariant-loop-entry l =
-    (map (λ v. v.items) l.responses.items ++ map message_bytes (entry_messages l.fn.id (map entry_view l.entry-iterator.rest.items))
-    ≡ map message_bytes (entry_messages l.fn.id (map entry_view l.fn.entries.items)))
-    × (HasTooLong (entry_messages l.fn.id (map entry_view l.entry-iterator.rest.items)) → HasTooLong (entry_messages l.fn.id (map entry_view l.fn.entries.items)))
+    (map (λ v. v.items) l.responses.items ++ map message_bytes (entry_messages l.fn.id (map found_view l.entry-iterator.rest.items))
+    ≡ map message_bytes (entry_messages l.fn.id (map found_view l.fn.entries.items)))
+    × (HasTooLong (entry_messages l.fn.id (map found_view l.entry-iterator.rest.items)) → HasTooLong (entry_messages l.fn.id (map found_view l.fn.entries.items)))

@@ -1,7 +1,8 @@
 use Rattle.std.proofs.Common.{ap, map, Err, Vec, Global, ℕ, List}
 use Rattle.std.proofs.lemmas.Result.{err_from_is_err_and}
 use Rattle.request_checks.specs.ldap_msg.Messages.{ResponseValue}
-use Rattle.request_checks.specs.ldap_msg.View.{entry_view, response_view}
+use Rattle.request_checks.specs.ldap_msg.View.{response_view}
+use Rattle.directory_api.specs.found_entry.View.{found_view}
 use Rattle.request_checks.specs.Messages.{message, number_told, entry_messages}
 use Rattle.session_handler.specs.declared.answered.Next.TheVariants.{GoesOn}
 use Rattle.session_handler.proofs.EntryLists.{said_error, too_long_front, said_last}
@@ -18,7 +19,7 @@ returns-in_err-responses c =
 
 pub returns : goal.returns
 returns c =
-    said_last (entry_messages c.args.id (map entry_view c.args.found.answer.entries.items))
+    said_last (entry_messages c.args.id (map found_view c.args.found.answer.entries.items))
     (message c.args.id (response_view c.reply_to-done.result) (number_told c.args.asked c.args.found.at)) _ (map items_of c.in_ok-responses.responses.items) GoesOn c.with_last.result
     c.in_ok-responses.ensures.ok (ap (λ (r : ResponseValue). message c.args.id r (number_told c.args.asked c.args.found.at)) c.reply_to-done.ensures)
     c.with_last.ensures.written c.with_last.ensures.next c.with_last.ensures.too_long

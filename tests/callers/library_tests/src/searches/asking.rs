@@ -41,7 +41,7 @@ fn written(alloc: Global, filter: &str, answer: &SearchAnswer) -> Result<String,
     let mut lines = String::from_str(alloc, filter)?;
     for entry in &answer.entries {
         lines.push('\n')?;
-        lines.push_str(&entry.object_name)?;
+        lines.push_str(entry.object_name())?;
     }
     Ok(lines)
 }

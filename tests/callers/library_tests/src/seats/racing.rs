@@ -2,7 +2,7 @@
 use crate::seats::asking::asked;
 use crate::seats::sample::{Given, Node, Played, SUFFIX, add, node_with, rank};
 use dir_seats::{Found, SearchAnswer, SearchRequest, Seat};
-use ldap_msg::SearchResultEntry;
+use directory_api::FoundEntry;
 use std::alloc::{AllocError, Global};
 use std::sync::Wait;
 use std::sync::atomic::{AtomicU64, Ordering};
@@ -30,20 +30,21 @@ fn number_of(digits: &[u8]) -> u64 {
 }
 
 /// The rank that an entry shows.
-fn rank_of(entry: &SearchResultEntry) -> Option<u64> {
-    let value = entry.attributes.first()?.values.first()?;
+fn rank_of(alloc: Global, entry: &FoundEntry) -> Option<u64> {
+    let shown = entry.copied(alloc).ok()?;
+    let value = shown.attributes.first()?.values.first()?;
     Some(number_of(value))
 }
 
 /// Whether this is the answer of its number.
-fn is_right(found: &Found<SearchAnswer>) -> bool {
+fn is_right(alloc: Global, found: &Found<SearchAnswer>) -> bool {
     match found.answer.entries.first() {
         None => found.at < 2 && found.answer.code.number() == 32,
         Some(entry) => {
             found.answer.entries.len() == 1
                 && found.answer.code.number() == 0
                 && found.at >= 2
-                && rank_of(entry) == Some(found.at)
+                && rank_of(alloc, entry) == Some(found.at)
         }
     }
 }
@@ -55,7 +56,7 @@ fn read(alloc: Global, mut seat: Seat<Node>, request: &SearchRequest, ready: &At
     for _ in 0..50_000_000u64 {
         match seat.search(alloc, last, request) {
             Ok(found) => {
-                let bad = found.at < last || !is_right(&found);
+                let bad = found.at < last || !is_right(alloc, &found);
                 wrong = wrong.wrapping_add(bad as u64);
                 last = found.at;
                 if last == UPDATES {

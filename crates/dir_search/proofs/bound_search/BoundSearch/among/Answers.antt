@@ -14,8 +14,12 @@ pub start-requires-clause-guides : goal.start-requires-clause-guides
 start-requires-clause-guides c = rw (c.tree-tree.ensures, c.of_set-scope.ensures) (c.in_ok-sided.ensures.guides c.args.numbers.now c.requires)
 
 pub show_found-requires : goal.show_found-requires
-show_found-requires c =
-    subst (λ (l : List ℕ). AreHere c.tree-tree.result.now.entries l) (sym c.in_ok-running.ensures.numbers) (true_here c.args.self.now.bound.now c.tree-tree.result.now.entries c.of_set-scope.result)
+show_found-requires c = record {
+  here =
+      subst (λ (l : List ℕ). AreHere c.tree-tree.result.now.entries l) (sym c.in_ok-running.ensures.numbers)
+      (true_here c.args.self.now.bound.now c.tree-tree.result.now.entries c.of_set-scope.result);
+  shown_as = c.args.self.now.shown_as;
+}
 
 -- what is shown of the numbers that a run of the plans gives
 pub returns : goal.returns

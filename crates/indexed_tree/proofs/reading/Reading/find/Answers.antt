@@ -1,4 +1,5 @@
 use Rattle.std.proofs.Common.{ap, sym, subst, ◌∙◌}
+use Rattle.std.specs.Arc.{arc_value}
 use Rattle.std.specs.Option.{option_map}
 use Rattle.dir_tree.specs.ldap_dn.Names.{rdns}
 use Rattle.dir_tree.specs.dir_entry.Entry.{IsKeyedBy}
@@ -26,7 +27,7 @@ pub returns-in-Some-clause-keyed : goal.returns-in-Some-clause-keyed
 returns-in-Some-clause-keyed c =
     let q = rdns c.args.name.now in
     subst (λ (s : StoreModel). IsKeyedBy s.directory.schema c.in-Some.entry.now) c.self.view_is
-    (found_keys c.self.inside.schema.now q c.self.inside.held.now.tree.entries c.in-Some.entry.now c.self.invariant (c.in-Some.ensures.entry ∙ ap (λ (t : TreeModel). option_map (λ (e : Entered). e.entry) (find q t.entries)) c.tree.ensures))
+    (found_keys (arc_value c.self.inside.schema.now) q c.self.inside.held.now.tree.entries c.in-Some.entry.now c.self.invariant (c.in-Some.ensures.entry ∙ ap (λ (t : TreeModel). option_map (λ (e : Entered). e.entry) (find q t.entries)) c.tree.ensures))
 
 pub returns-in-None-clause-number : goal.returns-in-None-clause-number
 returns-in-None-clause-number c =

@@ -1,0 +1,134 @@
+//! An entry that a search found, as it is shown. A name and a stored entry, or attributes that were made, flow in; copies and octets of the
+//! message that shows it flow out. What is found is not told here.
+ghost use Rattle.std.specs.Prelude.{◌≡◌, ◌≤◌, ◌^◌, [], map, length, string_bytes, IfOk, IsErrOf};
+ghost use Rattle.std.specs.Arc.{arc_value};
+ghost use Rattle.dir_tree.specs.dir_entry.Entry.{attributes_of};
+ghost use Rattle.ldap_msg.specs.Messages.{response, search_entry};
+ghost use Rattle.ldap_msg.specs.View.{entry_view};
+ghost use Rattle.ldap_msg.specs.Written.{message_bytes, message_content};
+ghost use Rattle.ldap_msg.specs.ldap_parts.View.{attribute_view};
+ghost use Rattle.found_entry.specs.Lent.{lent_view};
+ghost use Rattle.found_entry.specs.Selection.{shown_of};
+ghost use Rattle.found_entry.specs.View.{found_view, found_attributes};
+
+use crate::shown_attribute::{ShownAttribute, copy_all};
+use crate::shows::Shows;
+use dir_tree::SharedEntry;
+use ldap_msg::{EncodeError, PartialAttribute, SearchResultEntry, encode_search_entry};
+use std::alloc::{AllocError, Global};
+use std::sync::Arc;
+
+/// Where the attributes are that are shown.
+enum Found {
+    /// With an entry of a directory.
+    Stored(SharedEntry, Arc<Shows>),
+    /// Here.
+    Made(Vec<PartialAttribute>),
+}
+
+// Not derived: see "What the gate takes" in docs/ARCHITECTURE.md.
+impl Drop for Found {
+    fn drop(self) {
+        match self {
+            Found::Stored(_, _) => {}
+            Found::Made(_) => {}
+        }
+    }
+}
+
+/// An entry that a search found: its printed name, and what is shown of its attributes.
+pub struct FoundEntry {
+    object_name: String,
+    found: Found,
+}
+
+// Not derived: see "What the gate takes" in docs/ARCHITECTURE.md.
+impl Drop for FoundEntry {
+    fn drop(self) {
+        let FoundEntry {
+            object_name: _,
+            found: _,
+        } = self;
+    }
+}
+
+/// Attributes, lent.
+fn lend(
+    alloc: Global,
+    attributes: &[PartialAttribute],
+) -> Result<Vec<ShownAttribute<'_>>, AllocError>
+    ensures { IfOk result (λ v. map lent_view v.items ≡ map attribute_view attributes.now) }
+{
+    let mut all = Vec::with_capacity(alloc, attributes.len())?;
+    for attribute in attributes {
+        all.push(ShownAttribute {
+            description: &attribute.description,
+            values: &attribute.values,
+        })?;
+    }
+    Ok(all)
+}
+
+impl FoundEntry {
+    /// What is shown of a stored entry, by this name.
+    pub fn stored(object_name: String, entry: SharedEntry, shows: Arc<Shows>) -> FoundEntry
+        ensures { found_view result ≡ record { object_name = string_bytes object_name; attributes = shown_of (arc_value shows) (attributes_of entry) } }
+    {
+        FoundEntry {
+            object_name,
+            found: Found::Stored(entry, shows),
+        }
+    }
+
+    /// An entry of this name with these attributes, which stand nowhere else.
+    pub fn made(object_name: String, attributes: Vec<PartialAttribute>) -> FoundEntry
+        ensures { found_view result ≡ record { object_name = string_bytes object_name; attributes = map attribute_view attributes.items } }
+    {
+        FoundEntry {
+            object_name,
+            found: Found::Made(attributes),
+        }
+    }
+
+    /// Its name, printed.
+    pub fn object_name(&self) -> &str
+        ensures { result.now ≡ (found_view self.now).object_name }
+    {
+        &self.object_name
+    }
+
+    /// The attributes that are shown, lent.
+    fn attributes(&self, alloc: Global) -> Result<Vec<ShownAttribute<'_>>, AllocError>
+        ensures { IfOk result (λ v. map lent_view v.items ≡ found_attributes self.now.found) }
+    {
+        match &self.found {
+            Found::Stored(entry, shows) => shows.show_all(alloc, entry.attributes()),
+            Found::Made(attributes) => lend(alloc, attributes),
+        }
+    }
+
+    /// A copy of what is shown, by itself.
+    pub fn copied(&self, alloc: Global) -> Result<SearchResultEntry, AllocError>
+        ensures { IfOk result (λ e. entry_view e ≡ found_view self.now) }
+    {
+        let object_name = String::from_str(alloc, &self.object_name)?;
+        let attributes = self.attributes(alloc)?;
+        let attributes = copy_all(alloc, &attributes)?;
+        Ok(SearchResultEntry {
+            object_name,
+            attributes,
+        })
+    }
+
+    /// The octets of the message without controls that shows it. TooLong only where its content is over 4294967295 octets.
+    pub fn encode(&self, alloc: Global, id: u32) -> Result<Vec<u8>, EncodeError>
+        ensures ok { IfOk result (λ v. v.items ≡ message_bytes (record { id = id; op = response (search_entry (found_view self.now)); controls = [] })) }
+        ensures too_long { IsErrOf result EncodeError.TooLong
+            → 2 ^ 32 ≤ length (message_content (record { id = id; op = response (search_entry (found_view self.now)); controls = [] })) }
+    {
+        match self.attributes(alloc) {
+            Ok(attributes) => encode_search_entry(alloc, id, &self.object_name, &attributes),
+            Err(_) => Err(EncodeError::NoMemory),
+        }
+    }
+}

@@ -1,0 +1,17 @@
+//! What a search shows of an entry that it found: an owner of the stored entry, from which the response is written.
+//!
+//! `selection` has what the selectors of a search select, looked up once; an attribute costs its type's chain of SUPs. `shows` holds that with
+//! the schema, once for all that a search finds, and lends the attributes that are shown (`shown_attribute`). A `FoundEntry` (`found`) is an entry's printed name and
+//! a second owner of its attributes, or attributes that were made (the root DSE has such). It is written from these, each octet copied once.
+//!
+//! Proved: the attributes that the selectors select are shown, in their order, each by its type's first name (`Shows`). A found entry is
+//! copied, and written as the message that shows it (`FoundEntry::copied`, `encode`).
+#![tactic(auto)]
+
+mod found;
+mod selection;
+mod shown_attribute;
+mod shows;
+
+pub use found::FoundEntry;
+pub use shows::Shows;

@@ -1,0 +1,54 @@
+//! An attribute as it is shown: a description and values, lent by who keeps them. Lent attributes flow in; copies flow out. What is selected is
+//! not told here.
+ghost use Rattle.std.specs.Prelude.{◌≡◌, map, IfOk};
+ghost use Rattle.ldap_msg.specs.ldap_parts.View.{attribute_view};
+ghost use Rattle.found_entry.specs.Lent.{lent_view};
+
+use dir_tree::copy_values;
+use ldap_msg::{AttributeParts, PartialAttribute};
+use std::alloc::{AllocError, Global};
+
+/// An attribute as it is shown, lent by who keeps it.
+#[derive(Clone, Copy)]
+pub struct ShownAttribute<'a> {
+    pub description: &'a str,
+    pub values: &'a [Vec<u8>],
+}
+
+impl AttributeParts for ShownAttribute<'_> {
+    ghost attribute = { lent_view };
+
+    fn description(&self) -> &str {
+        self.description
+    }
+
+    fn values(&self) -> &[Vec<u8>] {
+        self.values
+    }
+}
+
+/// A copy of what is lent.
+fn copy_shown(alloc: Global, attribute: &ShownAttribute<'_>) -> Result<PartialAttribute, AllocError>
+    ensures { IfOk result (λ a. attribute_view a ≡ lent_view attribute.now) }
+{
+    let description = String::from_str(alloc, attribute.description)?;
+    let values = copy_values(alloc, attribute.values)?;
+    Ok(PartialAttribute {
+        description,
+        values,
+    })
+}
+
+/// Copies of attributes that are lent.
+pub fn copy_all(
+    alloc: Global,
+    attributes: &[ShownAttribute<'_>],
+) -> Result<Vec<PartialAttribute>, AllocError>
+    ensures { IfOk result (λ v. map attribute_view v.items ≡ map lent_view attributes.now) }
+{
+    let mut copies = Vec::with_capacity(alloc, attributes.len())?;
+    for attribute in attributes {
+        copies.push(copy_shown(alloc, attribute)?)?;
+    }
+    Ok(copies)
+}
