@@ -7,9 +7,9 @@ use Rattle.hex.specs.Hex.{decode_of}
 use Rattle.ldif.specs.Records.{ValueModel, RecordModel}
 use Rattle.ldif.specs.Adds.{add_of}
 use Rattle.ldif.specs.Exports.{IsWhole}
-use Rattle.ldif.specs.ldap_msg.Messages.{RequestValue, OperationValue, request, response, MessageValue}
-use Rattle.ldif.specs.ldap_msg.Messages as messages
-use Rattle.ldap_op.specs.Values.{OpValue, add, delete, modify, modify_dn, noop}
+use Rattle.ldif.specs.ldap_msg.Messages.{OperationValue, request, response, MessageValue}
+use Rattle.ldap_op.specs.Values.{OpValue, add, delete, noop}
+use Rattle.request_checks.specs.Requests.{update_of}
 use Rattle.lab_script.specs.Cuts.{Cut, behind_spaces, cut, cut_pair}
 use Rattle.lab_script.specs.Each.{all_of}
 
@@ -57,24 +57,7 @@ delete_in name = cond (is_utf8 name) (Some (delete name)) None
 
 -- ---- `hex MESSAGE`
 
--- the extended request for an update that changes nothing (RFC 4511 4.12); its value isn't looked at
-abbrev pub noop_of : List ℕ → Option OpValue
-noop_of name = cond (bytes_eq name (codes "2.25.20120103")) (Some noop) None
-
--- the update that a request is, if it is one (RFC 4511 4.6 to 4.9, 4.12)
-abbrev pub update_of : RequestValue → Option OpValue
-update_of (messages.bind b) = None
-update_of messages.unbind = None
-update_of (messages.search q) = None
-update_of (messages.modify m) = Some (modify m)
-update_of (messages.add a) = Some (add a)
-update_of (messages.delete name) = Some (delete name)
-update_of (messages.modify_dn m) = Some (modify_dn m)
-update_of (messages.compare k) = None
-update_of (messages.abandon id) = None
-update_of (messages.extended_request x) = noop_of x.request_name
-
--- the update that an operation is, if it is one
+-- the update that an operation is, if it is one (RFC 4511 4.6 to 4.9, 4.12)
 abbrev pub update_by : OperationValue → Option OpValue
 update_by (request r) = update_of r
 update_by (response r) = None

@@ -4,7 +4,7 @@
 ghost use Rattle.std.specs.Prelude.{◌≡◌, ℕ, List, Ok, Some, IfOk, IsErrOf, MatchOption};
 ghost use Rattle.hex.specs.Hex.{decode_of};
 ghost use Rattle.ldif.specs.ldap_msg.Messages.{MessageValue};
-ghost use Rattle.ldif.specs.ldap_msg.View.{view, operation_view, request_view};
+ghost use Rattle.ldif.specs.ldap_msg.View.{view, operation_view};
 ghost use Rattle.ldap_op.specs.Values.{OpValue};
 ghost use Rattle.ldap_op.specs.View.{update_view};
 ghost use Rattle.ldif.specs.Exports.{IsWhole};
@@ -12,11 +12,8 @@ ghost use Rattle.lab_script.specs.Updates as updates;
 
 use crate::text_fault::TextError;
 use ldap_op::Update;
-use ldif::{Message, MsgFault, ProtocolOp, Request, decode};
+use ldif::{Message, MsgFault, ProtocolOp, decode};
 use std::alloc::Global;
-
-/// The name of the extended request for an update that changes nothing.
-const NOOP_REQUEST: &str = "2.25.20120103";
 
 /// The octets that digits spell, two an octet.
 fn octets_of(alloc: Global, digits: &[u8]) -> Result<Vec<u8>, TextError>
@@ -46,41 +43,15 @@ fn message_of(alloc: Global, octets: &[u8]) -> Result<Message, TextError>
     }
 }
 
-/// The update that an extended request of this name is: the one for an update that changes nothing.
-fn noop_of(name: &str) -> Option<Update>
-    ensures { MatchOption result (updates.noop_of name.now ≡ None) (λ u. updates.noop_of name.now ≡ Some (update_view u)) }
-{
-    if name == NOOP_REQUEST {
-        Some(Update::Noop)
-    } else {
-        None
-    }
-}
-
-/// The update that a request is.
-fn update_of(request: Request) -> Option<Update>
-    ensures { MatchOption result (updates.update_of (request_view request) ≡ None) (λ u. updates.update_of (request_view request) ≡ Some (update_view u)) }
-{
-    match request {
-        Request::Add(add) => Some(Update::Add(add)),
-        Request::Modify(modify) => Some(Update::Modify(modify)),
-        Request::Delete(name) => Some(Update::Delete(name)),
-        Request::ModifyDn(modify_dn) => Some(Update::ModifyDn(modify_dn)),
-        Request::Bind(_) => None,
-        Request::Unbind => None,
-        Request::Search(_) => None,
-        Request::Compare(_) => None,
-        Request::Abandon(_) => None,
-        Request::Extended(extended) => noop_of(extended.request_name.as_str()),
-    }
-}
-
 /// The update that an operation is.
 fn update_by(op: ProtocolOp) -> Option<Update>
     ensures { MatchOption result (updates.update_by (operation_view op) ≡ None) (λ u. updates.update_by (operation_view op) ≡ Some (update_view u)) }
 {
     match op {
-        ProtocolOp::Request(request) => update_of(request),
+        ProtocolOp::Request(request) => match request_checks::update_in(request) {
+            Ok(update) => Some(update),
+            Err(_) => None,
+        },
         ProtocolOp::Response(_) => None,
     }
 }
