@@ -4,6 +4,7 @@ pub mod Joined
 pub mod Sorted
 pub mod Numbers
 pub mod Passing
+pub mod ResolvedPlans
 pub mod Rising
 pub mod Searching
 pub mod Started

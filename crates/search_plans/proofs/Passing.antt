@@ -1,5 +1,5 @@
 -- One candidate of a run is passed.
-use Rattle.std.proofs.Common.{◌≡◌, ℕ, zero, suc, ◌+◌, ◌^◌, ◌<◌, ◌≤◌, Bool, true, false, ◌&&◌, List, [], ◌∷◌, ◌++◌, length, take, drop, cond, nat_eq, refl, sym, ap, subst, ◌∙◌, arith, append_assoc, add-one}
+use Rattle.std.proofs.Common.{◌≡◌, ℕ, zero, suc, ◌+◌, ◌^◌, ◌<◌, ◌≤◌, Bool, true, false, ◌&&◌, not, List, [], ◌∷◌, ◌++◌, length, take, drop, cond, nat_eq, refl, sym, ap, ap₂, subst, ◌∙◌, arith, append_assoc, add-one}
 use Rattle.std.specs.Prelude.{filter, nat_le}
 use Rattle.std.specs.List.{AllByRecursion}
 use Rattle.std.proofs.lemmas.Bool.{le-leb}
@@ -8,7 +8,7 @@ use Rattle.dir_index.specs.ldap_match.declared.truth.Truth.{Truth}
 use Rattle.dir_index.specs.Postings.{has_number, IsRising}
 use Rattle.search_plans.specs.Sets.{Guides}
 use Rattle.search_plans.specs.Runs.{is_true, is_open, is_wanted}
-use Rattle.search_plans.specs.private.Runs.{is_asked, AreInside, AreSure, IsUnderWay}
+use Rattle.search_plans.specs.private.Runs.{is_asked, AreInside, AreSameWithin, IsGuided, IsUnderWay}
 use Rattle.search_plans.proofs.Rising.{has_head}
 use Rattle.search_plans.proofs.Searching.{or_late}
 
@@ -190,9 +190,46 @@ inside_first is_known n rest scope candidates is h known = h known n (subst (λ 
 pub inside_rest : (is_known : Bool) (n : ℕ) (rest scope candidates : List ℕ) → candidates ≡ n ∷ rest → AreInside is_known candidates scope → AreInside is_known rest scope
 inside_rest is_known n rest scope candidates is h known m there = h known m (subst (λ (c : List ℕ). has_number m c ≡ true) (sym is) (or_late (nat_eq m n) _ there))
 
--- candidates that are known to be among what must be found: the first, and the others
-pub sure_first : (is_known : Bool) (n : ℕ) (rest : List ℕ) (must : ℕ → Bool) (candidates : List ℕ) → candidates ≡ n ∷ rest → AreSure is_known must candidates → is_known ≡ true → must n ≡ true
-sure_first is_known n rest must candidates is h known = h known n (subst (λ (c : List ℕ). has_number n c ≡ true) (sym is) (has_head n rest))
+-- what holds of each candidate that is in scope: of the first, and of the others
+pub same_first : (one other : ℕ → Bool) (n : ℕ) (rest scope candidates : List ℕ) → candidates ≡ n ∷ rest → AreSameWithin one other scope candidates → has_number n scope ≡ true → one n ≡ other n
+same_first one other n rest scope candidates is same = same n (subst (λ (c : List ℕ). has_number n c ≡ true) (sym is) (has_head n rest))
 
-pub sure_rest : (is_known : Bool) (n : ℕ) (rest : List ℕ) (must : ℕ → Bool) (candidates : List ℕ) → candidates ≡ n ∷ rest → AreSure is_known must candidates → AreSure is_known must rest
-sure_rest is_known n rest must candidates is h known m there = h known m (subst (λ (c : List ℕ). has_number m c ≡ true) (sym is) (or_late (nat_eq m n) _ there))
+pub same_rest : (one other : ℕ → Bool) (n : ℕ) (rest scope candidates : List ℕ) → candidates ≡ n ∷ rest → AreSameWithin one other scope candidates → AreSameWithin one other scope rest
+same_rest one other n rest scope candidates is same m there = same m (subst (λ (c : List ℕ). has_number m c ≡ true) (sym is) (or_late (nat_eq m n) _ there))
+
+-- a number is asked for where resolved plans leave it open just where the plans do
+pub asked_same : (must may must' may' : ℕ → Bool) (scope : List ℕ) (n : ℕ) → (has_number n scope ≡ true → must' n ≡ must n) → (has_number n scope ≡ true → may' n ≡ may n)
+    → is_asked must' may' scope n ≡ is_asked must may scope n
+asked_same must may must' may' scope n m y =
+    (elim (has_number n scope) as (λ v. has_number n scope ≡ v → (v && (may' n && not (must' n))) ≡ (v && (may n && not (must n)))) [
+      | true ↦ λ inside. ap₂ (λ (a b : Bool). a && not b) (y inside) (m inside)
+      | false ↦ λ outside. refl
+    ]) refl
+
+pub guided : (must may must' may' : ℕ → Bool) (value : ℕ → Truth) (scope : List ℕ) (n : ℕ) → Guides must value may scope → (has_number n scope ≡ true → must' n ≡ must n) → (has_number n scope ≡ true → may' n ≡ may n)
+    → has_number n scope ≡ true → IsGuided (must' n) (value n) (may' n)
+guided must may must' may' value scope n g m y inside = record {
+  sound = λ h. g.sound n inside (sym (m inside) ∙ h);
+  complete = λ h. y inside ∙ g.complete n inside h;
+}
+
+-- a candidate is passed, by what resolved plans say of it
+pub passed_by : (must may must' may' : ℕ → Bool) (value value' : ℕ → Truth) (scope candidates rest : List ℕ) (h t l t' l' : ℕ) → candidates ≡ h ∷ rest → IsUnderWay must may value scope candidates t l
+    → AreSameWithin must' must scope candidates → AreSameWithin may' may scope candidates → ((n : ℕ) → value' n ≡ value n)
+    → t' ≡ t + cond (is_asked must' may' scope h) 1 0 → l' ≡ l + cond (is_asked must' may' scope h) 1 0 → IsStep must may value' scope rest h t' l'
+passed_by must may must' may' value value' scope candidates rest h t l t' l' is w m y same et el =
+    let asks : is_asked must' may' scope h ≡ is_asked must may scope h = asked_same must may must' may' scope h (same_first must' must h rest scope candidates is m) (same_first may' may h rest scope candidates is y) in
+    passed must may value value' scope rest h t l t' l' (subst (λ (c : List ℕ). IsUnderWay must may value scope c t l) is w) same
+    (et ∙ ap (λ (b : Bool). t + cond b 1 0) asks) (el ∙ ap (λ (b : Bool). l + cond b 1 0) asks)
+
+-- there is room to ask for one that is left open
+pub room_for : (must may must' may' : ℕ → Bool) (value : ℕ → Truth) (scope candidates rest : List ℕ) (h t l : ℕ) → candidates ≡ h ∷ rest → IsUnderWay must may value scope candidates t l
+    → AreSameWithin must' must scope candidates → AreSameWithin may' may scope candidates → is_asked must' may' scope h ≡ true → (l + 1 < 2 ^ 64) × (t + 1 < 2 ^ 64)
+room_for must may must' may' value scope candidates rest h t l is w m y asks =
+    let u = filter (is_open must may) scope in
+    let holds : is_asked must may scope h ≡ true = sym (asked_same must may must' may' scope h (same_first must' must h rest scope candidates is m) (same_first may' may h rest scope candidates is y)) ∙ asks in
+    let c : IsCut u t h (filter (is_asked must may scope) rest) = cut u t h (filter (is_asked must may scope) rest) (w.left ∙ ap (filter (is_asked must may scope)) is ∙ filter_yes (is_asked must may scope) h rest holds) in
+    let within : suc t ≤ length u = c.within in
+    let fits : length u < 2 ^ 64 = w.fits in
+    let room : l + length u < 2 ^ 64 + t = w.room in
+    (omega arith, omega arith)

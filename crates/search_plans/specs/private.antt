@@ -2,5 +2,6 @@
 pub mod Sets
 pub mod Streams
 pub mod Runs
+pub mod Resolved
 pub mod OctetRuns
 pub mod Sides

@@ -1,9 +1,8 @@
 // Membership in plans. A plan, what is kept and a number go in, a yes or no comes out, without memory.
 // What must not be here: lists that are made of a plan's set.
 
-ghost use Rattle.std.specs.Prelude.{◌≡◌, true};
+ghost use Rattle.std.specs.Prelude.{◌≡◌};
 ghost use Rattle.std.specs.List.{list_any, list_all};
-ghost use Rattle.dir_index.specs.Postings.{has_number};
 ghost use Rattle.search_plans.specs.Sets.{is_in};
 ghost use Rattle.search_plans.specs.private.Sets.{is_in_when};
 
@@ -62,13 +61,4 @@ pub fn contains<K: Kept>(plan: &Plan, kept: &K, scope: &Scope, number: u64) -> b
     ensures { result ≡ is_in (K.lists kept.now) scope.now plan.now number }
 {
     is_member(plan, kept, scope.has(number), number)
-}
-
-/// Whether a number of the scope is in the set of a plan. The scope isn't asked.
-pub(crate) fn contains_inside<K: Kept>(plan: &Plan, kept: &K, scope: &Scope, number: u64) -> bool
-    requires { has_number number scope.now ≡ true }
-    ensures { result ≡ is_in (K.lists kept.now) scope.now plan.now number }
-{
-    let _ = scope;
-    is_member(plan, kept, true, number)
 }

@@ -10,8 +10,10 @@
 //!
 //! `contains` asks about one number by look-ups. `candidates` draws numbers from walks (`gathering`, `walking`), which `Stream` makes into
 //! one rising list. A range that is drawn from is gathered once and sorted; no other set becomes a list. What is drawn from is a matter of
-//! cost alone (`estimating`): the cheapest part of an intersection, or the scope (`scope`). A run (`running`) leaves out what isn't in
-//! scope, gives what must be, and asks `Values` about the rest (`telling`).
+//! cost alone (`estimating`): the cheapest part of an intersection, or the scope (`scope`).
+//!
+//! A run (`running`) looks up the posting lists of both plans when it starts, and not again for each candidate (`resolved`). It leaves
+//! out what isn't in scope, gives what must be, and asks `Values` about the rest (`telling`).
 //! Where both plans are one `or` of posting lists, each list is looked up once and nothing is asked (`listing`).
 //!
 //! Proved: the plans bound where the filter is True, over any entries and scope, and are its true set where schema and index choice decide
@@ -31,6 +33,7 @@ mod leaves;
 mod listing;
 mod octet_runs;
 mod plan;
+mod resolved;
 mod running;
 mod scope;
 mod stream;

@@ -4,8 +4,9 @@
 ghost use Rattle.std.specs.Prelude.{◌≡◌, ◌+◌, ◌^◌, ◌<◌, ◌≤◌, [], ◌∷◌, filter, length, nat_le, IfOk, MatchOption};
 ghost use Rattle.search_plans.specs.Runs.{AreGuides, left_open, true_set};
 
-use crate::gathering::{Drawn, Known, draw_sided};
+use crate::gathering::{Drawn, draw_sided};
 use crate::plan::Sided;
+use crate::resolved::{ResolvedSides, resolve_sided};
 use crate::scope::Scope;
 use crate::stream::Stream;
 use crate::telling::is_found;
@@ -17,12 +18,15 @@ use std::marker::Model;
 /// A run under way: the numbers that it still has to give, and how many values it has asked for.
 #[derive(Drop)]
 pub struct Running<'a, K: Kept, V: Values> {
+    // prover: contracts speak of the plans that the run was started with
     sided: &'a Sided,
+    /// The same plans, resolved: what is asked about each candidate.
+    sides: ResolvedSides<'a>,
     kept: &'a K,
     scope: &'a Scope<'a>,
     stream: Stream<'a>,
-    /// What is known of the candidates.
-    known: Known,
+    /// Whether all candidates are known to be in scope.
+    is_inside: bool,
     values: V,
     tests: u64,
 }
@@ -30,7 +34,8 @@ pub struct Running<'a, K: Kept, V: Values> {
 impl<'a, K: Kept, V: Values> Model for Running<'a, K, V> {
     ghost use Rattle.search_plans.specs.Sets.{is_in};
     ghost use Rattle.search_plans.specs.Runs.{Progress, progress_of};
-    ghost use Rattle.search_plans.specs.private.Runs.{IsUnderWay, AreInside, AreSure};
+    ghost use Rattle.search_plans.specs.private.Resolved.{is_in_resolved};
+    ghost use Rattle.search_plans.specs.private.Runs.{IsUnderWay, AreInside, AreSameWithin};
 
     ghost Value = { Progress };
 
@@ -40,12 +45,15 @@ impl<'a, K: Kept, V: Values> Model for Running<'a, K, V> {
 
     ghost invariant = { λ r. IsUnderWay (is_in (K.lists r.kept.now) r.scope.now r.sided.now.must)
         (is_in (K.lists r.kept.now) r.scope.now r.sided.now.may) (V.value_at r.values) r.scope.now r.stream
-        r.tests (V.looks r.values) × AreInside r.known.is_inside r.stream r.scope.now
-        × AreSure r.known.is_sure (is_in (K.lists r.kept.now) r.scope.now r.sided.now.must) r.stream };
+        r.tests (V.looks r.values) × AreInside r.is_inside r.stream r.scope.now
+        × AreSameWithin (is_in_resolved (K.lists r.kept.now) r.sides.must)
+        (is_in (K.lists r.kept.now) r.scope.now r.sided.now.must) r.scope.now r.stream
+        × AreSameWithin (is_in_resolved (K.lists r.kept.now) r.sides.may)
+        (is_in (K.lists r.kept.now) r.scope.now r.sided.now.may) r.scope.now r.stream };
 }
 
-/// Starts a run of two plans that bound the entries whose value is True, within a scope. It takes the memory for the
-/// candidates; the run takes none.
+/// Starts a run of two plans that bound the entries whose value is True, within a scope. It looks up the posting lists that the
+/// plans name, and takes the memory for the candidates and for the resolved plans; the run takes none.
 pub fn start<'a, K: Kept, V: Values + Drop>(
     alloc: Global,
     sided: &'a Sided,
@@ -63,12 +71,14 @@ pub fn start<'a, K: Kept, V: Values + Drop>(
     scope.rises();
     let drawn = draw_sided(alloc, sided, kept, scope)?;
     let Drawn { stream, known } = drawn;
+    let sides = resolve_sided(alloc, sided, kept, known.is_sure)?;
     Ok(Running {
         sided,
+        sides,
         kept,
         scope,
         stream,
-        known,
+        is_inside: known.is_inside,
         values,
         tests: 0,
     })
@@ -88,10 +98,10 @@ impl<'a, K: Kept, V: Values> Running<'a, K, V> {
     {
         while let Some(number) = self.stream.next() {
             if is_found(
-                self.sided,
+                &self.sides,
                 self.kept,
                 self.scope,
-                self.known,
+                self.is_inside,
                 &mut self.values,
                 &mut self.tests,
                 number,
@@ -115,10 +125,11 @@ impl<'a, K: Kept, V: Values> Running<'a, K, V> {
     {
         let Running {
             sided: _,
+            sides: _,
             kept: _,
             scope: _,
             stream: _,
-            known: _,
+            is_inside: _,
             values,
             tests: _,
         } = self;

@@ -1,0 +1,27 @@
+use Rattle.search_plans.proofs.ResolvedPlans.{resolved_union, resolved_inter, resolved_minus, resolved_more, resolved_all}
+use Rattle.search_plans.proofs.resolved.+resolve.Goals as goal
+
+pub resolve-returns-in_ok-resolve_each-in-Union : goal.resolve-returns-in_ok-resolve_each-in-Union
+resolve-returns-in_ok-resolve_each-in-Union g t c =
+    let each = rw c.deref.ensures.value at c.in_ok-resolve_each-in-Union.ensures in
+    resolved_union (g.K.Kept.lists c.args.kept.now) c.args.plan.now c.in-Union.plans c.in_ok-resolve_each-in-Union.field-0 c.in-Union.is each
+
+pub resolve-returns-in_ok-resolve_each-in-Inter : goal.resolve-returns-in_ok-resolve_each-in-Inter
+resolve-returns-in_ok-resolve_each-in-Inter g t c =
+    let each = rw c.deref-in-Inter.ensures.value at c.in_ok-resolve_each-in-Inter.ensures in
+    resolved_inter (g.K.Kept.lists c.args.kept.now) c.args.plan.now c.in-Inter.plans c.in_ok-resolve_each-in-Inter.field-0 c.in-Inter.is each
+
+pub resolve-returns-in_ok-new-in-Minus-2 : goal.resolve-returns-in_ok-new-in-Minus-2
+resolve-returns-in_ok-new-in-Minus-2 g t c =
+    let first = rw (c.deref-in-Minus.ensures, ← c.in_ok-new-in-Minus.ensures.ok) at c.in_ok-first-in-Minus.ensures in
+    let second = rw (c.deref-in-Minus-2.ensures, ← c.in_ok-new-in-Minus-2.ensures.ok) at c.in_ok-second-in-Minus.ensures in
+    resolved_minus (g.K.Kept.lists c.args.kept.now) c.args.plan.now c.in-Minus.plan c.in-Minus.without c.in_ok-new-in-Minus.field-0 c.in_ok-new-in-Minus-2.field-0 c.in-Minus.is first second
+
+pub resolve_each-loop-plan-preserved : goal.resolve_each-loop-plan-preserved
+resolve_each-loop-plan-preserved g t c =
+    resolved_more (g.K.Kept.lists c.args.kept.now) c.args.plans.now c.loop-plan.plan-index c.plan-item.result c.loop-plan.resolved.items c.push.new.self.items c.in_ok-resolve.field-0
+    c.loop-plan.invariant c.loop-plan-test.true c.plan-item.is c.in_ok-resolve.ensures c.in_ok-push.ensures.items
+
+pub resolve_each-returns : goal.resolve_each-returns
+resolve_each-returns g t c =
+    resolved_all (g.K.Kept.lists c.args.kept.now) c.args.plans.now c.loop-plan.plan-index c.loop-plan.resolved.items c.loop-plan.invariant c.loop-plan-test.false
