@@ -16,9 +16,10 @@ pub use entry::{Entry, has_type, valid_attribute};
 pub use fault::EntryError;
 pub use ldap_match::{
     ClassId, ClassKind, Family, Form, Key, Name, NameError, PartKeys, Rdn, Rule, Schema, Syntax,
-    Test, Truth, TypeAndValue, TypeId, ValueError, at_least_test, at_most_test, equality_family,
-    equality_rule, equality_test, has_ordering, has_parts_of, is_comparable, is_front,
-    is_meaningful, is_of_syntax, is_ordered, is_used_on, item_on_attribute, key, key_or_none,
-    keys_compare, meets, name_keys_are_of_names, number_of_digits, ordering_family, ordering_rule,
-    parts_compare, print_from_leaf, substrings_rule, substrings_test, tests_are_items, texts_tell,
+    Test, Truth, TypeAndValue, TypeId, ValueError, are_same, at_least_test, at_most_test,
+    equality_family, equality_rule, equality_test, has_ordering, has_parts_of, is_comparable,
+    is_front, is_meaningful, is_of_syntax, is_ordered, is_used_on, item_on_attribute, key,
+    key_or_none, keys_compare, meets, name_keys_are_of_names, number_of_digits, ordering_family,
+    ordering_rule, parts_compare, print_from_leaf, substrings_rule, substrings_test,
+    tests_are_items, texts_tell,
 };

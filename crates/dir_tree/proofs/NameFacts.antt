@@ -131,13 +131,6 @@ or_else false b h e = h
 pub above_rdns : (n : List RdnModel) (i : ℕ) → i ≡ length n - 1 → rdns (take i n) ≡ above (rdns n)
 above_rdns n i h = ap (λ (k : ℕ). rdns (take k n)) h ∙ sym (take-map (λ (r : RdnModel). r.keys) (length n - 1) n) ∙ ap (λ (k : ℕ). take (k - 1) (rdns n)) (sym (length-map n (λ (r : RdnModel). r.keys)))
 
--- names are one where their relative names are
-pub same_rdns : (a b : List RdnModel) → pointwise (λ (x y : RdnModel). are_same_keys x.keys y.keys) a b ≡ name_eq (rdns a) (rdns b)
-same_rdns [] [] = refl
-same_rdns [] (y ∷ ys) = refl
-same_rdns (x ∷ xs) [] = refl
-same_rdns (x ∷ xs) (y ∷ ys) = ap (λ (v : Bool). are_same_keys x.keys y.keys && v) (same_rdns xs ys)
-
 -- what a name begins is the name and what stands behind it
 pub split : (o q : NameKey) → begins o q ≡ true → q ≡ o ++ drop (length o) q
 split [] q h = refl

@@ -2,9 +2,9 @@
 -- are kept, and what an update checks, are not here.
 use Rattle.std.specs.Prelude.{◌≡◌, ℕ, zero, suc, ◌+◌, ◌-◌, ◌<◌, Bool, true, false, cond, ◌&&◌, ◌||◌, List, [], ◌∷◌, ◌++◌, length, take, drop, map, nat_eq, nat_lt, Option, None, Some, is_some}
 use Rattle.std.specs.List.{list_any}
-use Rattle.std.specs.Cmp.Lexicographic.{pointwise}
 use Rattle.dir_entry.specs.ldap_dn.Names.{TypeAndKey, RdnModel, rdns, are_same_keys}
 use Rattle.dir_entry.specs.Entry.{KeyedAttribute}
+pub use Rattle.dir_entry.specs.ldap_dn.Names.{name_eq}
 
 -- a name whatever its spelling, root first: what `rdns` gives (RFC 4512 2.3.2)
 abbrev pub NameKey : Type 0
@@ -20,10 +20,6 @@ pub record Entered : Type 0 where
 pub record TreeModel : Type 0 where
   pub suffix : List RdnModel
   pub entries : List Entered
-
--- whether two names are one (RFC 4517 4.2.15)
-abbrev pub name_eq : NameKey → NameKey → Bool
-name_eq = pointwise are_same_keys
 
 -- whether the first name is the front of the second, its own whole included
 abbrev pub begins : NameKey → NameKey → Bool

@@ -3,17 +3,9 @@
 
 ghost use Rattle.std.specs.Prelude.{◌≡◌};
 ghost use Rattle.dir_entry.specs.ldap_dn.Names.{rdns};
-ghost use Rattle.dir_tree.specs.Directory.{above, begins, name_eq};
+ghost use Rattle.dir_tree.specs.Directory.{above, begins};
 
 use dir_entry::{Rdn, is_front};
-
-/// Whether two names are one, whatever their spellings.
-#[tactic(auto, using(crate::proofs::NameFacts::same_rdns))]
-pub fn are_same(a: &[Rdn], b: &[Rdn]) -> bool
-    ensures { result ≡ name_eq (rdns a.now) (rdns b.now) }
-{
-    a == b
-}
 
 /// Whether the name right above a name is another one or stands below it.
 #[tactic(auto, using(crate::proofs::NameFacts::above_rdns, crate::proofs::NameFacts::front_begins))]

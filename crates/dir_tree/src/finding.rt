@@ -7,11 +7,10 @@ ghost use Rattle.dir_entry.specs.ldap_dn.Names.{rdns};
 ghost use Rattle.dir_tree.specs.Directory.{above, begins, name_eq};
 ghost use Rattle.dir_tree.specs.private.Superiors.{down as down_from, number_at, step_at, unreached as not_reached};
 
-use crate::comparing::are_same;
 use crate::levels::number_under;
 use crate::place::Levels;
 use crate::roots::Roots;
-use dir_entry::{Rdn, is_front};
+use dir_entry::{Rdn, are_same, is_front};
 
 /// What comes behind a front of a name; none, where it is no front.
 fn behind<'a>(front: &[Rdn], name: &'a [Rdn]) -> Option<&'a [Rdn]>

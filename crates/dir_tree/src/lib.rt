@@ -30,10 +30,10 @@ mod suffix;
 mod tree;
 mod updating;
 
-pub use comparing::{are_same, is_over_parent};
+pub use comparing::is_over_parent;
 pub use dir_entry::{
     Attribute, Entry, EntryError, Name, NameError, Rdn, Schema, Truth, TypeAndValue, TypeId,
-    copy_values, is_of_syntax, number_of_digits, print_from_leaf,
+    are_same, copy_values, is_of_syntax, number_of_digits, print_from_leaf,
 };
 pub use shared::SharedEntry;
 pub use shared_map::{NumberSet, NumberWalk, Shared};

@@ -7,12 +7,11 @@ ghost use Rattle.dir_entry.specs.ldap_dn.Names.{rdns};
 ghost use Rattle.dir_tree.specs.Directory.{NameKey, Entered, AllBelow, IsDirectory, number_found, name_eq, begins, above, moved, is_right_under, is_at_or_below, find, entry_at, front, has_below, has_footing, numbers, unnumbered, replaced};
 ghost use Rattle.dir_tree.specs.Placed.{name_placed, IsSpelled, IsPlacedAsSpelled};
 
-use crate::comparing::are_same;
 use crate::reach::Reach;
 use crate::roots::Roots;
 use crate::shared::SharedEntry;
 use crate::suffix::Suffix;
-use dir_entry::{Name, Rdn};
+use dir_entry::{Name, Rdn, are_same};
 use shared_map::{NumberSet, SharedMap};
 use std::alloc::{AllocError, Global};
 use std::marker::Model;

@@ -1,9 +1,10 @@
 -- Names that are the same, and names below others, by the comparison of their relative names in turn.
 use Rattle.std.proofs.Common.{ℕ, suc, List, [], ◌∷◌, ◌++◌, Bool, true, ◌&&◌, nat_eq, length, ◌<◌, ◌≡◌, refl, sym, ap, ◌∙◌, arith, IsTrue, ◌↔◌}
+use Rattle.std.specs.Cmp.Lexicographic.{pointwise}
 use Rattle.std.specs.Str.{bytes_eq}
 use Rattle.std.proofs.lemmas.Bool.{eqb-true, eq-eqb}
 use Rattle.std.proofs.lemmas.Slice.Eq.{bytes_eq-Decides}
-use Rattle.ldap_dn.specs.Names.{TypeAndKey, RdnModel, rdns, IsSameName, IsBelow, are_same_keys, is_front}
+use Rattle.ldap_dn.specs.Names.{TypeAndKey, RdnModel, rdns, IsSameName, IsBelow, are_same_keys, is_front, name_eq}
 use Rattle.ldap_dn.proofs.Rising.{both}
 
 and_true : (a b : Bool) → a ≡ true → b ≡ true → (a && b) ≡ true
@@ -97,3 +98,10 @@ pub below_answer : (a b x y : List RdnModel) (r : Bool) (m n : ℕ) → m ≡ le
 below_answer a b x y r m n l k e p q h =
     let f : r ≡ is_front b a = h ∙ ap (λ z. is_front y z) p ∙ ap (λ z. is_front z a) q in
     (λ t. below_from a b (omega (arith, l, k, e)) (sym f ∙ t), λ s. f ∙ below_front a b s)
+
+-- names are one by their relative names in turn
+pub same_rdns : (a b : List RdnModel) → pointwise (λ (x y : RdnModel). are_same_keys x.keys y.keys) a b ≡ name_eq (rdns a) (rdns b)
+same_rdns [] [] = refl
+same_rdns [] (y ∷ ys) = refl
+same_rdns (x ∷ xs) [] = refl
+same_rdns (x ∷ xs) (y ∷ ys) = ap (λ (v : Bool). are_same_keys x.keys y.keys && v) (same_rdns xs ys)

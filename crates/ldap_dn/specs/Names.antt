@@ -1,6 +1,7 @@
 -- Names: lists of relative names, each a set of types with keys. RFC 4512 2.3. Keys and spellings flow in, comparisons flow
 -- out; texts are not here.
 use Rattle.std.specs.Prelude.{ℕ, List, [], ◌∷◌, ◌++◌, map, Bool, true, false, ◌&&◌, nat_eq, ◌≡◌}
+use Rattle.std.specs.Cmp.Lexicographic.{pointwise}
 use Rattle.std.specs.Str.{bytes_eq}
 
 -- a type and the octets of a value of it, as they were written
@@ -37,6 +38,10 @@ are_same_keys [] [] = true
 are_same_keys [] (y ∷ ys) = false
 are_same_keys (x ∷ xs) [] = false
 are_same_keys (x ∷ xs) (y ∷ ys) = nat_eq x.kind y.kind && bytes_eq x.key y.key && are_same_keys xs ys
+
+-- whether two names are one, by what `rdns` gives of them (RFC 4517 4.2.15)
+abbrev pub name_eq : List (List TypeAndKey) → List (List TypeAndKey) → Bool
+name_eq = pointwise are_same_keys
 
 -- whether a name is the front of another, its own whole included
 abbrev pub is_front : List RdnModel → List RdnModel → Bool

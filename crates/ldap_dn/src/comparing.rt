@@ -3,7 +3,7 @@
 
 ghost use Rattle.std.specs.Prelude.{◌≡◌, ◌&&◌, nat_eq};
 ghost use Rattle.std.specs.Str.{bytes_eq};
-ghost use Rattle.ldap_dn.specs.Names.{are_same_keys as are_same_types_and_keys, is_front as is_front_of};
+ghost use Rattle.ldap_dn.specs.Names.{are_same_keys as are_same_types_and_keys, is_front as is_front_of, name_eq, rdns};
 
 use crate::rdn::{Rdn, TypeAndKey};
 
@@ -31,6 +31,14 @@ pub fn are_same_keys(a: &[TypeAndKey], b: &[TypeAndKey]) -> bool
         }
     }
     rest.is_empty()
+}
+
+/// Whether two names are one, whatever their spellings.
+#[tactic(auto, using(crate::proofs::Fronts::same_rdns))]
+pub fn are_same(a: &[Rdn], b: &[Rdn]) -> bool
+    ensures { result ≡ name_eq (rdns a.now) (rdns b.now) }
+{
+    a == b
 }
 
 /// Whether the first list of relative names is the front of the second.

@@ -25,7 +25,7 @@ mod scanning;
 mod token;
 mod value_keys;
 
-pub use comparing::is_front;
+pub use comparing::{are_same, is_front};
 pub use cutting::pieces_are_parted;
 pub use fault::NameError;
 pub use keying::name_keys_are_of_names;

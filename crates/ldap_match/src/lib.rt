@@ -19,9 +19,9 @@ mod truth;
 pub use keying::{is_comparable, is_meaningful, is_of_syntax, is_ordered, key};
 pub use ldap_dn::{
     ClassId, ClassKind, Family, Form, Key, Name, NameError, Rdn, Rule, Schema, Syntax,
-    TypeAndValue, TypeId, ValueError, equality_family, equality_rule, has_ordering, is_front,
-    is_used_on, keys_compare, meets, name_keys_are_of_names, number_of_digits, ordering_family,
-    parts_compare, print_from_leaf, texts_tell,
+    TypeAndValue, TypeId, ValueError, are_same, equality_family, equality_rule, has_ordering,
+    is_front, is_used_on, keys_compare, meets, name_keys_are_of_names, number_of_digits,
+    ordering_family, parts_compare, print_from_leaf, texts_tell,
 };
 pub use naming::equal_values_are_one_name;
 pub use parts::{PartKeys, part_keys};

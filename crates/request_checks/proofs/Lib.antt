@@ -1,3 +1,2 @@
 pub mod Colons
 pub mod Given
-pub mod EntryLists

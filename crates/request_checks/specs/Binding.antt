@@ -3,14 +3,14 @@ use Rattle.std.specs.Prelude.{ℕ, pos, List, Bool, false, ◌&&◌, cond, Optio
 use Rattle.std.specs.Str.{bytes_eq}
 use Rattle.std.specs.Ordering.{int_eq}
 use Rattle.ldap_msg.specs.ldap_requests.Values.{AuthenticationValue, simple, sasl}
-use Rattle.dir_tree.specs.ldap_schema.Schema.{SchemaModel}
-use Rattle.dir_tree.specs.ldap_dn.Names.{RdnModel, rdns}
-use Rattle.dir_tree.specs.ldap_dn.Texts.{name_of_text}
+use Rattle.dir_entry.specs.ldap_schema.Schema.{SchemaModel}
+use Rattle.dir_entry.specs.ldap_dn.Names.{RdnModel, rdns}
+use Rattle.dir_entry.specs.ldap_dn.Texts.{name_of_text}
 use Rattle.ldap_msg.specs.Messages.{BindRequestValue}
-use Rattle.dir_tree.specs.Directory.{name_eq}
+use Rattle.dir_entry.specs.ldap_dn.Names.{name_eq}
 use Rattle.request_checks.specs.declared.identity.Identity.TheVariants.{Anonymous, Manager}
 use Rattle.request_checks.specs.declared.bound.Bound.{Bound}
-pub use Rattle.dir_tree.specs.dir_entry.ldap_words.Octets.{is_empty}
+pub use Rattle.dir_entry.specs.ldap_words.Octets.{is_empty}
 
 -- without a password: anonymous with success (0) without a name, else unwillingToPerform (53) (RFC 4513 5.1.1, 5.1.2)
 abbrev pub bound_without_password : List ℕ → Bound

@@ -1,7 +1,7 @@
 -- Numbers as text: decimal digits without a leading zero. Octets flow in; numbers flow out.
 use Rattle.std.specs.Prelude.{ℕ, List, [], ◌∷◌, Bool, false, cond, nat_eq, Option, None, Some}
 use Rattle.std.specs.Option.{option_and_then}
-pub use Rattle.dir_tree.specs.dir_entry.ldap_words.Numbers.{greatest, with_digit, number_after, number_of_digits}
+pub use Rattle.dir_entry.specs.ldap_words.Numbers.{greatest, with_digit, number_after, number_of_digits}
 
 -- a zero that other digits follow
 abbrev pub is_padded : List ℕ → Bool

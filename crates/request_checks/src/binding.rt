@@ -1,14 +1,14 @@
 //! Binds judged. The manager's name and password and a bind flow in; who is bound and a result code flow out.
 //! Messages are not here.
 ghost use Rattle.std.specs.Prelude.{◌≡◌, IfOk};
-ghost use Rattle.dir_tree.specs.ldap_dn.Texts.{name_of_text};
+ghost use Rattle.dir_entry.specs.ldap_dn.Texts.{name_of_text};
 ghost use Rattle.ldap_msg.specs.View.{bind_view};
 ghost use Rattle.ldap_msg.specs.ldap_requests.View.{authentication_view};
 ghost use Rattle.request_checks.specs.Binding.{is_name_of, bound_without_password, bound_with_password, bound_by, bound};
 
 use crate::bound::Bound;
 use crate::identity::Identity;
-use dir_tree::{Name, NameError, Schema, are_same};
+use dir_entry::{Name, NameError, Schema, are_same};
 use ldap_msg::{AuthenticationChoice, BindRequest, ResultCode};
 use std::alloc::{AllocError, Global};
 

@@ -17,15 +17,13 @@ mod writing;
 pub use binding::bind;
 pub use bound::Bound;
 pub use controls::{Kind, Named, judge};
-pub use dir_tree::{Name, Schema};
+pub use dir_entry::{Name, Schema};
 pub use fault::AnswerError;
 pub use identity::Identity;
 pub use ldap_msg::{
-    BindRequest, CompareRequest, Control, ExtendedResponse, LdapResult, Message, ProtocolOp,
-    Request, Response, ResultCode, SearchRequest,
+    BindRequest, CompareRequest, Control, EncodeError, ExtendedResponse, LdapResult, Message,
+    ProtocolOp, Request, Response, ResultCode, SearchRequest,
 };
 pub use numbers::{GREATEST, number_of, pair_of};
 pub use requests::{Answering, answering_of, kind_of, update_in};
-pub use writing::{
-    entry_responses, referral_to, response_to, value_for, write_numbered, write_plain,
-};
+pub use writing::{referral_to, response_to, value_for, write_numbered, write_plain};

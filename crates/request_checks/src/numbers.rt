@@ -2,7 +2,7 @@
 ghost use Rattle.std.specs.Prelude.{◌≡◌, ◌+◌, ◌≤◌, length, take, drop};
 ghost use Rattle.request_checks.specs.Numbers.{is_padded, number_of, positive_of, before_colon, behind_colon, pair_of};
 
-use dir_tree::number_of_digits;
+use dir_entry::number_of_digits;
 
 /// The greatest number that is named.
 pub const GREATEST: u64 = 9223372036854775807;

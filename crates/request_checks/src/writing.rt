@@ -2,17 +2,14 @@
 //! here.
 ghost use Rattle.std.specs.Prelude.{◌≡◌, ◌≤◌, ◌^◌, ◌∷◌, [], map, length, decimal, string_bytes, Some, IfOk, IsErrOf};
 ghost use Rattle.std.specs.Option.{option_map};
-ghost use Rattle.found_entry.specs.View.{found_view};
-ghost use Rattle.ldap_msg.specs.Messages.{search_entry};
 ghost use Rattle.ldap_msg.specs.View.{response_view, result_view, control_view};
 ghost use Rattle.ldap_msg.specs.Written.{message_bytes, message_content};
-ghost use Rattle.request_checks.specs.Messages.{message, referral_to, number_told, value_for, entry_messages, HasTooLong};
+ghost use Rattle.request_checks.specs.Messages.{message, referral_to, number_told, value_for};
 ghost use Rattle.request_checks.specs.Requests.{response_to};
 
 use crate::controls::NUMBER_CONTROL;
 use crate::fault::AnswerError;
 use crate::requests::Answering;
-use found_entry::FoundEntry;
 use ldap_msg::{
     Control, EncodeError, ExtendedResponse, LdapResult, Message, ProtocolOp, Response, ResultCode,
     encode,
@@ -149,31 +146,4 @@ pub fn write_numbered(
 {
     let controls = number_told(alloc, asked, number)?;
     write_message(alloc, id, response, controls)
-}
-
-/// The response that shows an entry, written from the entry itself.
-fn write_found(alloc: Global, id: u32, entry: &FoundEntry) -> Result<Vec<u8>, AnswerError>
-    ensures ok { IfOk result (λ octets. octets.items ≡ message_bytes (message id (search_entry (found_view entry.now)) [])) }
-    ensures too_long { IsErrOf result AnswerError.TooLong → 2 ^ 32 ≤ length (message_content (message id (search_entry (found_view entry.now)) [])) }
-{
-    entry.encode(alloc, id).map_err(|error| match error {
-        EncodeError::TooLong => AnswerError::TooLong,
-        EncodeError::NoMemory => AnswerError::NoMemory,
-    })
-}
-
-/// The response of each entry, written, in order.
-pub fn entry_responses(
-    alloc: Global,
-    id: u32,
-    entries: Vec<FoundEntry>,
-) -> Result<Vec<Vec<u8>>, AnswerError>
-    ensures ok { IfOk result (λ r. map (λ v. v.items) r.items ≡ map message_bytes (entry_messages id (map found_view entries.items))) }
-    ensures too_long { IsErrOf result AnswerError.TooLong → HasTooLong (entry_messages id (map found_view entries.items)) }
-{
-    let mut responses = Vec::with_capacity(alloc, entries.len().saturating_add(1))?;
-    for entry in entries {
-        responses.push(write_found(alloc, id, &entry)?)?;
-    }
-    Ok(responses)
 }

@@ -5,7 +5,10 @@ use Rattle.std.specs.Prelude.{IfOk, IsErrOf}
 use Rattle.request_checks.specs.ldap_msg.Messages.{MessageValue}
 use Rattle.request_checks.specs.ldap_msg.Written.{message_bytes, message_content}
 use Rattle.std.proofs.lemmas.List.{map-append}
-use Rattle.request_checks.specs.Messages.{HasTooLong}
+use Rattle.request_checks.specs.ldap_msg.Messages.{search_entry}
+use Rattle.directory_api.specs.found_entry.View.{found_view}
+use Rattle.directory_api.specs.found_entry.declared.found.FoundEntry.{FoundEntry}
+use Rattle.request_checks.specs.Messages.{message, entry_messages, HasTooLong}
 use Rattle.session_handler.specs.Taken.{AreSaid}
 use Rattle.session_handler.specs.declared.answered.Answered.{Answered}
 use Rattle.session_handler.specs.declared.answered.Next.{Next}
@@ -45,3 +48,12 @@ said_last ms m n front next (Err e) front_is same written next_is long = record 
   next_is = tt;
   too_long = λ is. too_long_last ms n (subst (λ (x : MessageValue). 2 ^ 32 ≤ length (message_content x)) same (long is));
 }
+
+-- the response of the first entry is too long
+pub first_too_long : (id : ℕ) (entries : List FoundEntry) (e : FoundEntry) (rest : List FoundEntry) → entries ≡ e ∷ rest → 2 ^ 32 ≤ length (message_content (message id (search_entry (found_view e)) []))
+    → HasTooLong (entry_messages id (map found_view entries))
+first_too_long id entries e rest is long = subst (λ (l : List FoundEntry). HasTooLong (entry_messages id (map found_view l))) (sym is) (inl long)
+
+-- an error is the same in another result
+pub same_error : {S T E : Type 0} (e f : E) → ◌≡◌ {A = Result T E} (Err e) (Err f) → ◌≡◌ {A = Result S E} (Err e) (Err f)
+same_error e f h = let is : e ≡ f = cc in ap Err is

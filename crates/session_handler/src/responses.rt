@@ -3,7 +3,9 @@
 ghost use Rattle.std.specs.Prelude.{◌≡◌, ◌≤◌, ◌^◌, ◌++◌, ◌∷◌, [], map, length, None, Ok, IfOk, IsErrOf};
 ghost use Rattle.request_checks.specs.ldap_msg.View.{response_view, result_view};
 ghost use Rattle.request_checks.specs.ldap_msg.Written.{message_bytes, message_content};
-ghost use Rattle.request_checks.specs.Messages.{message, number_told};
+ghost use Rattle.request_checks.specs.ldap_msg.Messages.{search_entry};
+ghost use Rattle.request_checks.specs.Messages.{message, number_told, entry_messages, HasTooLong};
+ghost use Rattle.directory_api.specs.found_entry.View.{found_view};
 ghost use Rattle.request_checks.specs.Requests.{response_to};
 ghost use Rattle.directory_api.specs.View.{reply_view, answer_view};
 ghost use Rattle.directory_api.specs.Talk.{looked};
@@ -11,9 +13,9 @@ ghost use Rattle.session_handler.specs.Responses.{result_of, code_message, reply
 ghost use Rattle.session_handler.specs.Taken.{AreSaid};
 
 use crate::answered::{Answered, Next};
-use directory_api::{Found, LookError, Reply, SearchAnswer};
+use directory_api::{Found, FoundEntry, LookError, Reply, SearchAnswer};
 use request_checks::{
-    AnswerError, Answering, ExtendedResponse, LdapResult, Response, ResultCode, entry_responses,
+    AnswerError, Answering, EncodeError, ExtendedResponse, LdapResult, Response, ResultCode,
     response_to, write_numbered, write_plain,
 };
 use std::alloc::{AllocError, Global};
@@ -154,6 +156,33 @@ fn with_last(
         responses,
         next: Next::GoesOn,
     })
+}
+
+/// The response that shows an entry, written from the entry itself.
+fn write_found(alloc: Global, id: u32, entry: &FoundEntry) -> Result<Vec<u8>, AnswerError>
+    ensures ok { IfOk result (λ octets. octets.items ≡ message_bytes (message id (search_entry (found_view entry.now)) [])) }
+    ensures too_long { IsErrOf result AnswerError.TooLong → 2 ^ 32 ≤ length (message_content (message id (search_entry (found_view entry.now)) [])) }
+{
+    entry.encode(alloc, id).map_err(|error| match error {
+        EncodeError::TooLong => AnswerError::TooLong,
+        EncodeError::NoMemory => AnswerError::NoMemory,
+    })
+}
+
+/// The response of each entry, written, in order.
+fn entry_responses(
+    alloc: Global,
+    id: u32,
+    entries: Vec<FoundEntry>,
+) -> Result<Vec<Vec<u8>>, AnswerError>
+    ensures ok { IfOk result (λ r. map (λ v. v.items) r.items ≡ map message_bytes (entry_messages id (map found_view entries.items))) }
+    ensures too_long { IsErrOf result AnswerError.TooLong → HasTooLong (entry_messages id (map found_view entries.items)) }
+{
+    let mut responses = Vec::with_capacity(alloc, entries.len().saturating_add(1))?;
+    for entry in entries {
+        responses.push(write_found(alloc, id, &entry)?)?;
+    }
+    Ok(responses)
 }
 
 /// What a search found: its entries, and then the done message.

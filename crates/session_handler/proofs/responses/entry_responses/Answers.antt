@@ -1,7 +1,7 @@
 use Rattle.std.proofs.lemmas.Result.{err_from_is_err_and}
-use Rattle.request_checks.proofs.EntryLists.{first_too_long, same_error}
+use Rattle.session_handler.proofs.EntryLists.{first_too_long, same_error}
 use Rattle.request_checks.specs.declared.fault.AnswerError.TheVariants as AnswerError
-use Rattle.request_checks.proofs.writing.entry_responses.Goals as goal
+use Rattle.session_handler.proofs.responses.entry_responses.Goals as goal
 
 pub returns-in_err-write_found-clause-too_long : goal.returns-in_err-write_found-clause-too_long
 returns-in_err-write_found-clause-too_long c =

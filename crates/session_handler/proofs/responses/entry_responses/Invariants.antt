@@ -1,8 +1,8 @@
 use Rattle.std.proofs.Common.{◌≡◌, ◌++◌, map}
-use Rattle.found_entry.specs.View.{found_view}
-use Rattle.ldap_msg.specs.Written.{message_bytes}
+use Rattle.directory_api.specs.found_entry.View.{found_view}
+use Rattle.request_checks.specs.ldap_msg.Written.{message_bytes}
 use Rattle.request_checks.specs.Messages.{entry_messages, HasTooLong}
-use Rattle.request_checks.proofs.writing.entry_responses.Given as goal
+use Rattle.session_handler.proofs.responses.entry_responses.Given as goal
 
 -- the responses so far, and those of the entries that are left, are those of all entries
 abbrev pub invariant-loop-entry : goal.invariant-loop-entry
