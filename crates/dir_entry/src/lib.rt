@@ -20,6 +20,6 @@ pub use ldap_match::{
     equality_family, equality_rule, equality_test, has_ordering, has_parts_of, is_comparable,
     is_front, is_meaningful, is_of_syntax, is_ordered, is_used_on, item_on_attribute, key,
     key_or_none, keys_compare, meets, name_keys_are_of_names, number_of_digits, ordering_family,
-    ordering_rule, parts_compare, print_from_leaf, substrings_rule, substrings_test,
-    tests_are_items, texts_tell,
+    ordering_rule, parts_compare, print_before, print_behind, print_from_leaf, substrings_rule,
+    substrings_test, tests_are_items, texts_tell,
 };

@@ -1,13 +1,13 @@
 -- Names read relative name by relative name, from their ends. Facts on lists flow in and out; no value of the program is here.
 use Rattle.std.proofs.Common.{◌≡◌, ◌<◌, ◌≤◌, ◌-◌, ℕ, zero, suc, List, [], ◌∷◌, ◌++◌, length, reverse, Option, None, Some, refl, sym, ap, ◌∙◌, arith}
-use Rattle.std.specs.Prelude.{option_copied, get_or}
+use Rattle.std.specs.Prelude.{option_copied, get_or, is_some, map, true}
 use Rattle.std.specs.Option.{option_map, option_and_then}
 use Rattle.std.specs.List.{slice_get}
-use Rattle.std.proofs.lemmas.List.{get_or-reverse, length-reverse, reverse-reverse}
+use Rattle.std.proofs.lemmas.List.{get_or-reverse, length-reverse, reverse-append, reverse-reverse}
 use Rattle.std.proofs.lemmas.Option.{slice_get-get_or}
 use denote.Bor.{Bor}
 use Rattle.indexed_tree.specs.ldap_dn.Names.{RdnModel}
-use Rattle.indexed_tree.specs.ldap_dn.Printed.{printed_name}
+use Rattle.indexed_tree.specs.ldap_dn.Printed.{printed_behind, printed_name, printed_rdn, separated}
 use Rattle.indexed_tree.specs.ldap_schema.Schema.{SchemaModel}
 use Rattle.indexed_tree.specs.ldap_match.declared.truth.Truth.{Truth}
 use Rattle.indexed_tree.specs.ldap_match.declared.truth.Truth.TheVariants.{Undefined}
@@ -58,6 +58,25 @@ value_some b (Some e) a h = let same : a ≡ e.entry = cc h in ap (λ (x : List 
 pub value_none : (b : BoundFilter) (o : Option Entered) → ◌≡◌ {A = Option (List KeyedAttribute)} None (option_map (λ (e : Entered). e.entry) o) → Undefined ≡ value_on b o
 value_none b None h = refl
 value_none b (Some e) h = absurd (cc h)
+
+-- what is printed behind the names right below one, from its relative names, the last first
+pub behind_some : (s : SchemaModel) (o : Option Entered) (l : List RdnModel) → Some l ≡ option_map (λ (e : Entered). reverse e.name) o → printed_behind s l ≡ printed_behind s (reverse (name_of o))
+behind_some s None l h = absurd (cc h)
+behind_some s (Some e) l h = let same : l ≡ reverse e.name = cc h in ap (printed_behind s) same
+
+pub behind_none : (s : SchemaModel) (o : Option Entered) → ◌≡◌ {A = Option (List RdnModel)} None (option_map (λ (e : Entered). reverse e.name) o) → [] ≡ printed_behind s (reverse (name_of o))
+behind_none s None h = refl
+behind_none s (Some e) h = absurd (cc h)
+
+-- a relative name printed before what stands behind it is the name
+pub printed_below : (s : SchemaModel) (o above : Option Entered) (r : RdnModel) → option_map (λ (e : Entered). e.name) o ≡ option_map (λ (e : Entered). e.name ++ r ∷ []) above → is_some o ≡ true
+    → printed_rdn s r.spelling ++ printed_behind s (reverse (name_of above)) ≡ printed_name s (name_of o)
+printed_below s None above r h n = absurd (cc n)
+printed_below s (Some e) None r h n = absurd (cc h)
+printed_below s (Some e) (Some a) r h n =
+    let name : e.name ≡ a.name ++ r ∷ [] = cc h in
+    let turned : reverse (a.name ++ r ∷ []) ≡ r ∷ reverse a.name = reverse-append a.name (r ∷ []) in
+    sym (ap (λ (l : List RdnModel). separated 44 (map (λ (x : RdnModel). printed_rdn s x.spelling) l)) turned) ∙ ap (printed_name s) (sym name)
 
 -- a name printed from its relative names, the last first
 pub printed_some : (s : SchemaModel) (o : Option Entered) (l : List RdnModel) → Some l ≡ option_map (λ (e : Entered). reverse e.name) o → printed_name s (reverse l) ≡ printed_name s (name_of o)

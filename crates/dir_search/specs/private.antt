@@ -3,3 +3,4 @@ pub mod Numbered
 pub mod Looks
 pub mod View
 pub mod Among
+pub mod Named

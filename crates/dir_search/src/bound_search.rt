@@ -94,7 +94,7 @@ impl BoundSearch<'_> {
         tree.is_directory();
         let sided = guide(self.alloc, self.indexed, self.bound)?;
         let values = Evaluated {
-            tree,
+            visit: tree.visit(),
             bound: self.bound,
             looks: 0,
         };

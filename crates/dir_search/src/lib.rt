@@ -14,6 +14,7 @@
 
 mod bound_search;
 mod comparing;
+mod entry_reader;
 mod names_at;
 mod reading;
 mod refusing;

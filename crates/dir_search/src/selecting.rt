@@ -10,9 +10,8 @@ ghost use Rattle.dir_search.specs.Numbered.{name_of};
 ghost use Rattle.dir_search.specs.Selection.{attributes_selected};
 ghost use Rattle.dir_search.specs.private.View.{selectors_of, shows_of};
 
-use indexed_tree::{
-    FoundEntry, Reading, Schema, SearchRequest, SharedEntry, Shows, Tree, print_from_leaf,
-};
+use crate::entry_reader::EntryReader;
+use indexed_tree::{FoundEntry, Reading, Schema, SearchRequest, SharedEntry, Shows};
 use std::alloc::{AllocError, Global};
 use std::sync::Arc;
 
@@ -52,30 +51,21 @@ impl<'a> Drop for Showing<'a> {
 }
 
 impl Showing<'_> {
-    /// The printed name of a number's entry; the empty text, where there is none. No relative name is copied.
-    #[tactic(auto, using(crate::proofs::NamesAt::printed_some, crate::proofs::NamesAt::printed_none))]
-    fn print_name(&self, tree: &Tree, number: u64) -> Result<String, AllocError>
-        ensures { IfOk result (λ t. string_bytes t ≡ printed_name self.now.schema.now (name_of (entry_at number tree.now.entries))) }
-    {
-        match tree.rdns_from_leaf(self.alloc, number)? {
-            Some(rdns) => print_from_leaf(self.alloc, self.schema, rdns.as_slice()),
-            None => Ok(String::new(self.alloc)),
-        }
-    }
-
     /// What is shown of the entry of a number, whose attributes are these.
     pub fn show_entry(
         &self,
-        tree: &Tree,
+        reader: &mut EntryReader<'_>,
         number: u64,
         entry: &SharedEntry,
     ) -> Result<FoundEntry, AllocError>
-        ensures { IfOk result (λ e. found_view e ≡ record {
-          object_name = printed_name self.now.schema.now (name_of (entry_at number tree.now.entries));
+        requires { reader.old.schema ≡ self.now.schema.now }
+        ensures same { reader.new ≡ reader.old }
+        ensures shown { IfOk result (λ e. found_view e ≡ record {
+          object_name = printed_name self.now.schema.now (name_of (entry_at number reader.old.entries));
           attributes = attributes_selected self.now.schema.now (selectors_of self.now.request.now) self.now.request.now.types_only (attributes_of entry.now);
         }) }
     {
-        let object_name = self.print_name(tree, number)?;
+        let object_name = reader.print_name(number)?;
         let entry = entry.share()?;
         let shows = Arc::try_clone(self.shows)?;
         Ok(FoundEntry::stored(object_name, entry, shows))

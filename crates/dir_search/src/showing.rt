@@ -11,6 +11,7 @@ ghost use Rattle.dir_search.specs.Selection.{selected};
 ghost use Rattle.dir_search.specs.private.View.{selectors_of, shows_of, ShowsFound};
 ghost use Rattle.indexed_tree.specs.directory_api.View.{answer_view};
 
+use crate::entry_reader::EntryReader;
 use crate::selecting::Showing;
 use crate::values::Evaluated;
 use indexed_tree::{
@@ -46,17 +47,19 @@ impl Showing<'_> {
     #[tactic(auto, using(crate::proofs::Numbers::shown_one, crate::proofs::Numbers::shown_none))]
     fn show_next(
         &self,
-        tree: &Tree,
+        reader: &mut EntryReader<'_>,
         number: u64,
         entries: &mut Vec<FoundEntry>,
     ) -> Result<(), AllocError>
-        ensures { OnOk result (map found_view entries.new.items ≡ map found_view entries.old.items
+        requires { reader.old.schema ≡ self.now.schema.now }
+        ensures same { reader.new ≡ reader.old }
+        ensures shown { OnOk result (map found_view entries.new.items ≡ map found_view entries.old.items
             ++ map (selected self.now.schema.now (selectors_of self.now.request.now) self.now.request.now.types_only)
-            (map named (entries_of (number ∷ []) tree.now.entries))) }
+            (map named (entries_of (number ∷ []) reader.old.entries))) }
     {
-        match tree.entry(number) {
+        match reader.entry(number) {
             Some(entry) => {
-                let shown = self.show_entry(tree, number, entry)?;
+                let shown = self.show_entry(reader, number, entry)?;
                 entries.push(shown)?;
                 Ok(())
             }
@@ -76,13 +79,14 @@ impl Showing<'_> {
             self.now.request.now.size_limit tree.now.entries running.entry.to_come running.entry.open_numbers) }
     {
         let limit = self.request.size_limit as usize;
+        let mut reader = EntryReader::new(self.alloc, self.schema, tree);
         let mut entries = Vec::new(self.alloc);
         while let Some(number) = running.next() {
             if is_full(limit, entries.as_slice().len()) {
                 let code = ResultCode::SIZE_LIMIT_EXCEEDED;
                 return Ok(ended(self.alloc, code, entries, running.tests()));
             }
-            self.show_next(tree, number, &mut entries)?;
+            self.show_next(&mut reader, number, &mut entries)?;
         }
         let code = ResultCode::SUCCESS;
         Ok(ended(self.alloc, code, entries, running.tests()))

@@ -1,13 +1,13 @@
 //! The values of a filter on the entries of a tree, each asked for by its number. A tree and a bound filter flow in; values flow
 //! out, and each look is counted. Plans are not here.
 use crate::names_at::NameAt;
-use indexed_tree::{Tree, Truth};
+use indexed_tree::{Truth, Visit};
 use ldap_eval::{BoundFilter, value};
 use search_plans::Values;
 
 /// The values of a bound filter on the entries of a tree.
 pub struct Evaluated<'a> {
-    pub tree: &'a Tree,
+    pub visit: Visit<'a>,
     pub bound: &'a BoundFilter,
     /// How many values were asked for.
     pub looks: u64,
@@ -17,7 +17,7 @@ pub struct Evaluated<'a> {
 impl<'a> Drop for Evaluated<'a> {
     fn drop(self) {
         let Evaluated {
-            tree: _,
+            visit: _,
             bound: _,
             looks: _,
         } = self;
@@ -27,17 +27,17 @@ impl<'a> Drop for Evaluated<'a> {
 impl Values for Evaluated<'_> {
     ghost use Rattle.dir_search.specs.Looks.{value_in};
 
-    ghost value_at = { λ v n. value_in v.bound.now v.tree.now.entries n };
+    ghost value_at = { λ v n. value_in v.bound.now v.visit.entries n };
 
     ghost looks = { λ v. v.looks };
 
     #[tactic(auto, using(crate::proofs::NamesAt::value_some, crate::proofs::NamesAt::value_none))]
     fn value(&mut self, number: u64) -> Truth {
         self.looks += 1;
-        match self.tree.entry(number) {
+        match self.visit.entry(number) {
             Some(entry) => {
                 let name = NameAt {
-                    tree: self.tree,
+                    tree: self.visit.tree(),
                     number,
                 };
                 value(self.bound, entry, &name)

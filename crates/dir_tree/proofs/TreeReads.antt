@@ -398,6 +398,20 @@ module _ (r : Roots) (t : IsTree r) where
   name-of : (q : NameKey) (e : Entered) → find q (shown r) ≡ Some e → e.name ≡ name_up r.reach (place_at r.entries) e.number
   name-of q e h = let f = found r t q e.number (number-of q e h) in let one : f.entry ≡ e = cc (f.is, h) in ap (λ (x : Entered). x.name) (sym one) ∙ f.name
 
+  -- an entry's name is that of the number above its place, and the relative name of its place behind it
+  pub under_read : (k a : ℕ) (x : RdnModel) → place_at r.entries k ≡ Some (Under a x)
+      → (is_some (entry_at k (shown r)) ≡ true) × (option_map (λ (e : Entered). e.name) (entry_at k (shown r)) ≡ option_map (λ (e : Entered). e.name ++ x ∷ []) (entry_at a (shown r)))
+  under_read k a x h =
+      let here : is_some (place_at r.entries k) ≡ true = ap (λ (o : Option Place). is_some o) h in
+      let there : is_some (place_at r.entries a) ≡ true = t.hung.over k a (ap (λ (o : Option Place). above_in o) h) in (
+        stands (entry_at k (shown r)) (name_read k here),
+        sym (name_read k here) ∙ ap (λ (n : List RdnModel). Some n) (name-under r.reach (place_at r.entries) t.hung.ends k a x h) ∙ name_read_as (λ (n : List RdnModel). n ++ x ∷ []) a there,
+      )
+    where
+      stands : (o : Option Entered) → Some (name_up r.reach (place_at r.entries) k) ≡ option_map (λ (e : Entered). e.name) o → is_some o ≡ true
+      stands None g = absurd (cc g)
+      stands (Some e) g = refl
+
   -- each name is its superior's with one relative name behind it
   pub spelled_read : IsSpelled (rdns r.suffix) (shown r)
   spelled_read q e h off = by (place_at r.entries e.number) refl

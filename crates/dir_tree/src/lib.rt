@@ -7,7 +7,7 @@
 //! `roots`) makes new maps in locals and assigns them last; out of memory nothing has changed.
 //!
 //! A look-up by name takes two look-ups a relative name, from the root down (`finding`). A name is read off by going up, without memory, or
-//! made where it is shown (`reading`). A scope is a set that lies ready. An add or a delete changes the sets of each entry above by one number.
+//! made where it is shown (`reading`). A `visit` reads many entries in turn, with one look-up for those of a leaf. A scope is a set that lies ready. An add or a delete changes the sets of each entry above by one number.
 //! A rename changes one place, two relative names, and the sets of the entries above one of the two places alone. `reach` bounds every way up.
 //! Ways up end at the root, ways down are those up, and the sets are those of the entries: that is the type's invariant (`Superiors`, `Kept`).
 //!
@@ -29,12 +29,15 @@ mod shared_names;
 mod suffix;
 mod tree;
 mod updating;
+mod visit;
 
 pub use comparing::is_over_parent;
 pub use dir_entry::{
     Attribute, Entry, EntryError, Name, NameError, Rdn, Schema, Truth, TypeAndValue, TypeId,
-    are_same, copy_values, is_of_syntax, number_of_digits, print_from_leaf,
+    are_same, copy_values, is_of_syntax, number_of_digits, print_before, print_behind,
+    print_from_leaf,
 };
 pub use shared::SharedEntry;
 pub use shared_map::{NumberSet, NumberWalk, Shared};
 pub use tree::Tree;
+pub use visit::Visit;

@@ -11,6 +11,7 @@ use crate::reach::Reach;
 use crate::roots::Roots;
 use crate::shared::SharedEntry;
 use crate::suffix::Suffix;
+use crate::visit::Visit;
 use dir_entry::{Name, Rdn, are_same};
 use shared_map::{NumberSet, SharedMap};
 use std::alloc::{AllocError, Global};
@@ -121,6 +122,13 @@ impl Tree {
         ensures { IsTrue result ↔ AllBelow number self.now.entries }
     {
         self.roots.is_above_all(number)
+    }
+
+    /// The tree, to be asked about many numbers.
+    pub fn visit(&self) -> Visit<'_>
+        ensures { result ≡ self.now }
+    {
+        Visit::of(self, &self.roots.entries)
     }
 
     /// The attributes of a number's entry.

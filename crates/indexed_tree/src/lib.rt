@@ -20,7 +20,8 @@ mod reading;
 pub use dir_index::{IndexError, Indexes, Postings};
 pub use dir_tree::{
     Attribute, Entry, EntryError, Name, NameError, NumberSet, Rdn, Schema, SharedEntry, Tree,
-    Truth, TypeAndValue, TypeId, are_same, copy_values, is_of_syntax, print_from_leaf,
+    Truth, TypeAndValue, TypeId, Visit, are_same, copy_values, is_of_syntax, print_before,
+    print_behind, print_from_leaf,
 };
 pub use directory_api::{
     AddRequest, AttributeValueAssertion, CompareRequest, DerefAliases, Found, FoundEntry,

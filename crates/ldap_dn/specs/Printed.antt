@@ -50,3 +50,7 @@ printed_rdn s vs = separated 43 (map (printed_type_and_value s) vs)
 -- The printed form: relative names with `,` between them, the root's last (RFC 4514 2.1).
 abbrev pub printed_name : SchemaModel → List RdnModel → List ℕ
 printed_name s name = separated 44 (map (λ r. printed_rdn s r.spelling) (reverse name))
+
+-- relative names, each behind a `,`: what is printed behind a relative name right below the last of them
+abbrev pub printed_behind : SchemaModel → List RdnModel → List ℕ
+printed_behind s rdns = flat_map (λ y. 44 ∷ y) (map (λ r. printed_rdn s r.spelling) rdns)

@@ -39,7 +39,7 @@ pub use ldap_syntax::{
 };
 pub use name::{Name, names_are_of_texts};
 pub use ordering::equal_is_same;
-pub use printing::print_from_leaf;
+pub use printing::{print_before, print_behind, print_from_leaf};
 pub use rdn::{Rdn, TypeAndKey, TypeAndValue, keys_are_rising};
 pub use scanning::tokens_are_spelled;
 pub use token::Token;

@@ -254,6 +254,31 @@ pub fn print_from_leaf(alloc: Global, schema: &Schema, rdns: &[&Rdn]) -> Result<
     Ok(out)
 }
 
+/// The printed form of relative names that are given the last one first, each behind a `,`: so they stand behind each name right below them.
+pub fn print_behind(alloc: Global, schema: &Schema, rdns: &[&Rdn]) -> Result<String, AllocError>
+    ensures { IfOk result (λ t. string_bytes t ≡ printed.printed_behind schema.now (map (λ r. r.now) rdns.now)) }
+{
+    let mut out = text_for(alloc, schema, rdns)?;
+    put_more_rdns(alloc, &mut out, schema, rdns)?;
+    Ok(out)
+}
+
+/// The printed form of a name, whose last relative name is this one, and behind which this text stands.
+pub fn print_before(
+    alloc: Global,
+    schema: &Schema,
+    rdn: &Rdn,
+    behind: &str,
+) -> Result<String, AllocError>
+    ensures { IfOk result (λ t. string_bytes t ≡ printed.printed_rdn schema.now rdn.now.spelling ++ behind.now) }
+{
+    let room = room_for(schema, rdn).saturating_add(behind.len());
+    let mut out = String::with_capacity(alloc, room)?;
+    put_rdn(alloc, &mut out, schema, rdn.types_and_values())?;
+    out.push_str(behind)?;
+    Ok(out)
+}
+
 /// The printed form of relative names, the root's first.
 pub fn print(alloc: Global, schema: &Schema, rdns: &[Rdn]) -> Result<String, AllocError>
     ensures { IfOk result (λ t. string_bytes t ≡ printed.printed_name schema.now rdns.now) }

@@ -21,7 +21,7 @@ pub use ldap_dn::{
     ClassId, ClassKind, Family, Form, Key, Name, NameError, Rdn, Rule, Schema, Syntax,
     TypeAndValue, TypeId, ValueError, are_same, equality_family, equality_rule, has_ordering,
     is_front, is_used_on, keys_compare, meets, name_keys_are_of_names, number_of_digits,
-    ordering_family, parts_compare, print_from_leaf, texts_tell,
+    ordering_family, parts_compare, print_before, print_behind, print_from_leaf, texts_tell,
 };
 pub use naming::equal_values_are_one_name;
 pub use parts::{PartKeys, part_keys};

@@ -9,6 +9,7 @@ abbrev pub invariant-loop-number : goal.invariant-loop-number
 invariant-loop-number l = record {
   so_far : SoFar (selected l.self.schema.now (map string_bytes l.self.request.now.attributes.items) l.self.request.now.types_only) l.tree.entries l.limit l.fn.running.to_come l.running.to_come (map found_view l.entries.items);
   same : l.running.open_numbers ≡ l.fn.running.open_numbers;
+  read : l.reader ≡ record { schema = l.self.schema.now; entries = l.tree.entries };
 }
 
 abbrev pub decreases-loop-number : goal.decreases-loop-number
