@@ -34,7 +34,10 @@ pub use door::Door;
 pub use gauge::{Gauge, Heading, Rest};
 pub use headings::FrameHeading;
 pub use laws::served_along;
-pub use ldap_session::{Config, Directory, SessionEnd};
+pub use ldap_session::{
+    Client, CompareRequest, Config, Conversation, Directory, Due, Ended, Found, Look, LookError,
+    Reply, Role, SearchAnswer, SearchRequest, SessionEnd, Step, Update,
+};
 pub use limits::Limits;
 pub use patience::stretch;
 pub use peer::Peer;

@@ -8,8 +8,8 @@ use Rattle.std.specs.Str.{bytes_eq}
 use Rattle.std.proofs.lemmas.Cmp.{ranked, upto as le_trans}
 use Rattle.std.proofs.lemmas.Bool.{cases_order, eqb-true, eq-eqb, ne_eqb, lt-ltb, le-ltb, and_parts, and_from}
 use Rattle.std.proofs.lemmas.Slice.Eq.{bytes_eq-Decides}
-use Rattle.dir_entry.specs.ldap_syntax.Meaning.{is_before}
-use Rattle.dir_entry.specs.ldap_match.Keyed.{is_key_at_least, is_key_at_most}
+use Rattle.index_choice.specs.dir_entry.ldap_syntax.Meaning.{is_before}
+use Rattle.index_choice.specs.dir_entry.ldap_match.Keyed.{is_key_at_least, is_key_at_most}
 use Rattle.dir_index.specs.declared.list_key.ListKey.{ListKey}
 use Rattle.dir_index.specs.declared.posting.Range.{Range}
 use Rattle.dir_index.specs.ListKeys.{list_order, is_same_list}

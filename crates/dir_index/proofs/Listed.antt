@@ -4,7 +4,7 @@ use Rattle.std.specs.Prelude.{◌&&◌, ◌||◌, ◌⊎◌}
 use Rattle.std.specs.List.{list_any, AllByRecursion, filter}
 use Rattle.std.proofs.lemmas.Bool.{cases_order, cases_eq, eqb-true, eq-eqb, ne_eqb, or_right}
 use Rattle.std.proofs.lemmas.List.Folds.{list_any-append}
-use Rattle.dir_entry.specs.Entry.{KeyedAttribute}
+use Rattle.index_choice.specs.dir_entry.Entry.{KeyedAttribute}
 use Rattle.index_choice.specs.declared.kinds.Kinds.{Kinds}
 use Rattle.dir_index.specs.declared.posting.Posting.{Posting}
 use Rattle.dir_index.specs.Postings.{Indexed, has_number, IsRising, numbers_where, is_kept, is_listed}

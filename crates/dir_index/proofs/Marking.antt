@@ -9,8 +9,8 @@ use Rattle.std.proofs.lemmas.Bool.{eqb-true, eq-eqb}
 use Rattle.std.proofs.lemmas.List.Folds.{list_any_more}
 use Rattle.std.proofs.lemmas.Slice.Eq.{bytes_eq-Decides}
 use Rattle.std.proofs.lemmas.List.{length-take-le}
-use Rattle.dir_entry.specs.ldap_match.Keyed.{is_same_key}
-use Rattle.dir_entry.specs.Entry.{KeyedAttribute}
+use Rattle.index_choice.specs.dir_entry.ldap_match.Keyed.{is_same_key}
+use Rattle.index_choice.specs.dir_entry.Entry.{KeyedAttribute}
 use Rattle.index_choice.specs.declared.kinds.Kinds.{Kinds}
 use Rattle.index_choice.specs.Choice.{kinds_of}
 use Rattle.dir_index.specs.declared.posting.Posting.{Posting}

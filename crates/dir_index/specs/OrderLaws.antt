@@ -9,7 +9,7 @@ use Rattle.dir_index.specs.declared.posting.Posting.{Posting}
 use Rattle.dir_index.specs.declared.list_key.ListKey.{ListKey}
 use Rattle.dir_index.specs.ListKeys.{list_order, is_same_list}
 use Rattle.dir_index.specs.Ordered.{type_of, rank_of, octets_of, posting_order, is_same_posting}
-use Rattle.dir_entry.specs.ldap_dn.OrderLaws.{is_eq-then, tied}
+use Rattle.index_choice.specs.dir_entry.ldap_dn.OrderLaws.{is_eq-then, tied}
 
 -- postings are in a total order
 pub posting_total : IsTotalOrder posting_order

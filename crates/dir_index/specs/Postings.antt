@@ -2,9 +2,9 @@
 -- entries. How lists are kept and changed is not here.
 use Rattle.std.specs.Prelude.{ℕ, List, [], ◌∷◌, Bool, true, ◌&&◌, ◌||◌, map, filter, length, nat_eq, nat_lt, false, Option, None, Some}
 use Rattle.std.specs.List.{list_any}
-use Rattle.dir_entry.specs.ldap_match.Keyed.{is_same_key, is_key_at_least, is_key_at_most}
-use Rattle.dir_entry.specs.ldap_match.Parts.{is_at_start, tails}
-use Rattle.dir_entry.specs.Entry.{KeyedAttribute}
+use Rattle.index_choice.specs.dir_entry.ldap_match.Keyed.{is_same_key, is_key_at_least, is_key_at_most}
+use Rattle.index_choice.specs.dir_entry.ldap_match.Parts.{is_at_start, tails}
+use Rattle.index_choice.specs.dir_entry.Entry.{KeyedAttribute}
 use Rattle.index_choice.specs.declared.kinds.Kinds.{Kinds}
 use Rattle.index_choice.specs.Choice.{kinds_of}
 use Rattle.dir_index.specs.declared.posting.Posting.{Posting}

@@ -1,7 +1,7 @@
 -- What is kept as a whole, and which entries it is of. How it is changed is not here.
 use Rattle.std.specs.Prelude.{◌≡◌, ℕ, ◌<◌, List, [], ◌∷◌, cond, map, filter, not, nat_eq, ◌⊎◌}
 use Rattle.std.specs.List.{AllByRecursion}
-use Rattle.dir_entry.specs.Entry.{KeyedAttribute}
+use Rattle.index_choice.specs.dir_entry.Entry.{KeyedAttribute}
 use Rattle.index_choice.specs.declared.kinds.Kinds.{Kinds}
 use Rattle.dir_index.specs.declared.posting.Posting.{Posting}
 use Rattle.dir_index.specs.Postings.{Indexed, IsRising, postings_of}

@@ -24,11 +24,14 @@ mod posting;
 mod postings;
 mod ranges;
 
-pub use dir_entry::Truth;
-pub use index_choice::{IndexError, Indexes};
+pub use index_choice::{
+    Attribute, Entry, EntryError, IndexError, Indexes, Name, NameError, Rdn, Schema, Truth,
+    TypeAndValue, TypeId, are_same, copy_values, is_of_syntax, print_before, print_behind,
+    print_from_leaf,
+};
 pub use kept::Kept;
 pub use laws::may_cross;
 pub use posting::{Posting, Range};
 pub use postings::Postings;
 pub use ranges::has_in_range;
-pub use shared_map::NumberSet;
+pub use shared_map::{NumberSet, NumberWalk};

@@ -1,7 +1,7 @@
 // What posting lists are kept by. Plain data.
 // What must not be here: its order, the lists.
 
-use dir_entry::TypeId;
+use index_choice::TypeId;
 use shared_map::Octets;
 
 // The kinds of index in the order of the lists: what is asked of a type alone, its values in order,

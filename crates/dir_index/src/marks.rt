@@ -9,8 +9,7 @@ ghost use Rattle.dir_index.specs.ListKeys.{key_of, is_same_list};
 ghost use Rattle.dir_index.specs.private.Marked.{has_posting, lists_entry, is_of_key, is_first_run, is_run_of, is_from_key, is_from_presence, makes_several, is_from_several, is_from_attribute};
 
 use crate::list_key::{ListKey, PRESENCE, RUN, SEVERAL, VALUE};
-use dir_entry::{Attribute, Key, TypeId};
-use index_choice::{Indexes, Kinds};
+use index_choice::{Attribute, Indexes, Key, Kinds, TypeId};
 use shared_map::Octets;
 use std::alloc::{AllocError, Global};
 use std::collections::BTreeSet;

@@ -1,7 +1,7 @@
 // What posting lists are asked by. Plain data, made by plans.
 // What must not be here: the lists.
 
-use dir_entry::{Key, TypeId};
+use index_choice::{Key, TypeId};
 
 /// A list of numbers that an index keeps.
 pub enum Posting {

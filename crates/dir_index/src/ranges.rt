@@ -3,7 +3,7 @@
 
 ghost use Rattle.std.specs.Prelude.{◌≡◌, ◌≤◌, ◌||◌, ◌&&◌, ◌++◌, ℕ, OnOk};
 ghost use Rattle.std.specs.List.{list_any};
-ghost use Rattle.dir_entry.specs.ldap_syntax.Meaning.{is_before};
+ghost use Rattle.index_choice.specs.dir_entry.ldap_syntax.Meaning.{is_before};
 ghost use Rattle.index_choice.specs.Choice.{kinds_of};
 ghost use Rattle.dir_index.specs.Postings.{has_number, in_range, is_from as is_from_start, is_upto as is_upto_end, has_in_range as entry_has_in_range};
 ghost use Rattle.dir_index.specs.private.ListKeys.{is_list_in as is_list_in_range, range_start};
@@ -16,8 +16,7 @@ ghost use Rattle.dir_index.specs.ListKeys.{list_order};
 use crate::list_key::{ListKey, Place, RUN, VALUE};
 use crate::lists::Lists;
 use crate::posting::Range;
-use dir_entry::{Attribute, Entry, Key};
-use index_choice::Indexes;
+use index_choice::{Attribute, Entry, Indexes, Key};
 use shared_map::{NumberSet, Walk};
 use std::alloc::AllocError;
 

@@ -7,3 +7,5 @@ pub mod private
 pub use Rattle.vr_world.specs as vr_world
 pub use Rattle.dir_search.specs as dir_search
 pub use Rattle.state_machine.specs as state_machine
+pub use Rattle.state_machine.specs.dir_store.ldap_op as ldap_op
+pub use Rattle.vr_state.specs as vr_state

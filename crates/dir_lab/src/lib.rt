@@ -27,6 +27,6 @@ pub use dir_search::{Indexes, Name, Schema, SearchAnswer, SearchRequest};
 pub use events::{LabEvent, LabReply};
 pub use lab::Lab;
 pub use laws::success_is_exact;
-pub use state_machine::{Executed, Op, Store};
+pub use state_machine::{Executed, Op, Store, Update};
 pub use vr_state::words::{Client, LogEntry, Status};
 pub use vr_world::{ReplyBy, WorldEvent};

@@ -10,5 +10,5 @@ pub use Rattle.state_machine.specs as state_machine
 pub use Rattle.state_machine.specs.dir_store as dir_store
 pub use Rattle.log_journal.specs as log_journal
 pub use Rattle.view_store.specs as view_store
-pub use Rattle.vr_recover.specs as vr_recover
+pub use Rattle.log_journal.specs.vr_recover as vr_recover
 pub use Rattle.vr_state.specs as vr_state

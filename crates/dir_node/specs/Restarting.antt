@@ -7,7 +7,7 @@ use Rattle.log_journal.specs.Told.{Told, Tells, nothing_told}
 use Rattle.view_store.specs.declared.slot.Pair.{Pair}
 use Rattle.view_store.specs.Slots.{Finding, nothing, own, found, taken_from, sequence_of}
 use Rattle.view_store.specs.Store.{IsFormerOrNew}
-use Rattle.vr_recover.specs.Rules.{recovers}
+use Rattle.log_journal.specs.vr_recover.Rules.{recovers}
 use Rattle.vr_state.specs.Journaled.{Kept}
 use Rattle.vr_state.specs.Outcome.{Outcome, idle}
 use Rattle.vr_state.specs.State.{resuming}

@@ -14,7 +14,7 @@ ghost use Rattle.log_journal.specs.journal.Frames.{recorded};
 ghost use Rattle.view_store.specs.Device.{HasRisen, LeavesOnly};
 ghost use Rattle.view_store.specs.Slots.{found, foreign, IsWellPlaced};
 ghost use Rattle.view_store.specs.declared.fault.ViewStoreError.TheVariants as view_error;
-ghost use Rattle.vr_recover.specs.Rules.{recovers};
+ghost use Rattle.log_journal.specs.vr_recover.Rules.{recovers};
 ghost use Rattle.vr_state.specs.Outcome.{idle};
 ghost use Rattle.vr_state.specs.State.{first, recovering};
 ghost use Rattle.vr_state.specs.Views.{state};

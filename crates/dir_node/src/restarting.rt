@@ -30,12 +30,11 @@ use crate::owner::Owner;
 use crate::way::Way;
 use log_journal::{
     Batch, Device as JournalDevice, Journal, JournalError, NoteError, Told, open, put_begin,
-    put_start, settle,
+    put_start, recover, settle,
 };
 use state_machine::Op;
 use std::alloc::{AllocError, Global};
 use view_store::{Device, MAX_NUMBER, Pair, ViewStore, ViewStoreError};
-use vr_recover::recover;
 use vr_state::message::Change;
 use vr_state::replica::Replica;
 use vr_state::sending::sending;

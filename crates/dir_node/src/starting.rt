@@ -6,15 +6,14 @@ ghost use Rattle.dir_node.specs.private.NodeState.{Holds};
 ghost use Rattle.view_store.specs.Device.{HasRisen, LeavesOnly};
 ghost use Rattle.view_store.specs.Slots.{found, foreign, IsWellPlaced};
 ghost use Rattle.view_store.specs.declared.state.Status.TheVariants as status;
-ghost use Rattle.vr_recover.specs.Rules.{recovers};
+ghost use Rattle.log_journal.specs.vr_recover.Rules.{recovers};
 ghost use Rattle.vr_state.specs.Views.{outcome};
 
 use crate::error::NodeError;
-use log_journal::NoteError;
+use log_journal::{NoteError, recover};
 use state_machine::Op;
 use std::alloc::Global;
 use view_store::{Device, MAX_NUMBER, Pair, ViewStore, ViewStoreError};
-use vr_recover::recover;
 use vr_state::message::Outputs;
 use vr_state::replica::Replica;
 

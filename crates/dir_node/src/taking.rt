@@ -11,10 +11,9 @@ ghost use Rattle.vr_state.specs.Step.{step as step_of};
 ghost use Rattle.vr_state.specs.Views.{state};
 
 use crate::fault::Untaken;
-use log_journal::{Device as JournalDevice, Journal, NoteError, keep_events};
+use log_journal::{Device as JournalDevice, Journal, NoteError, keep_events, step};
 use state_machine::Op;
 use std::alloc::{AllocError, Global};
-use vr_recover::step;
 use vr_state::event::Event;
 use vr_state::message::Outputs;
 use vr_state::replica::Replica;

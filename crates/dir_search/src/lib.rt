@@ -27,8 +27,9 @@ mod values;
 
 pub use comparing::compare;
 pub use indexed_tree::{
-    AddRequest, CompareRequest, DerefAliases, IndexError, Indexes, Name, NameError, Reading, Reply,
-    ResultCode, Schema, Scope, SearchAnswer, SearchRequest, are_same,
+    AddRequest, Client, CompareRequest, DerefAliases, Directory, Ended, Found, FoundEntry, Gate,
+    IndexError, Indexes, Look, LookError, Name, NameError, Op, Reading, Reply, ResultCode, Role,
+    Schema, Scope, SearchAnswer, SearchRequest, SearchResultEntry, Update, are_same,
 };
 pub use reading::{compare_at, search_at};
 pub use searching::search;

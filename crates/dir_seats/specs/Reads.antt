@@ -3,8 +3,8 @@
 use Rattle.std.specs.Prelude.{◌≡◌, ℕ, length, Option, Some, None}
 use Rattle.dir_search.specs.Answer.{answer}
 use Rattle.dir_search.specs.Compared.{compared as compared_reply}
-use Rattle.directory_api.specs.Reading.{IsReadAt}
-use Rattle.directory_api.specs.Talk.{Looked, found, not_yet, gone, no_memory, Exchange, asked_role, learned, searched, compared, updated}
+use Rattle.dir_search.specs.directory_api.Reading.{IsReadAt}
+use Rattle.dir_search.specs.directory_api.Talk.{Looked, found, not_yet, gone, no_memory, Exchange, asked_role, learned, searched, compared, updated}
 use Rattle.state_machine.specs.Executing.{ExecutedValue, directory_at}
 use Rattle.dir_seats.specs.Lists.{IsBeginning, longer}
 

@@ -23,7 +23,7 @@ pub mod shown;
 mod steps;
 mod teller;
 
-pub use directory_api::{
+pub use dir_search::{
     CompareRequest, Ended, Found, Gate, Look, LookError, Reply, Role, SearchAnswer, SearchRequest,
     Update,
 };

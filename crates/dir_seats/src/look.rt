@@ -1,14 +1,14 @@
 //! Looks: the one step of a reader, which shares what is published then, and what is read of it afterwards: a look holds up no publication, whatever
 //! it costs. Floors are kept above.
 ghost use Rattle.std.specs.Prelude.{◌≡◌, ◌<◌, ◌≤◌, length, IfSome, IfNone};
-ghost use Rattle.directory_api.specs.ldap_msg.View.{search_view, compare_view};
-ghost use Rattle.directory_api.specs.View.{reply_view};
+ghost use Rattle.dir_search.specs.directory_api.ldap_msg.View.{search_view, compare_view};
+ghost use Rattle.dir_search.specs.directory_api.View.{reply_view};
 ghost use Rattle.dir_search.specs.Answer.{answer};
 ghost use Rattle.dir_search.specs.Compared.{compared};
-ghost use Rattle.directory_api.specs.View.{answer_view};
-ghost use Rattle.directory_api.specs.Reading.{IsReadAt};
-ghost use Rattle.directory_api.specs.Talk.{looked};
-ghost use Rattle.directory_api.specs.declared.outcomes.LookError.TheVariants as look_error;
+ghost use Rattle.dir_search.specs.directory_api.View.{answer_view};
+ghost use Rattle.dir_search.specs.directory_api.Reading.{IsReadAt};
+ghost use Rattle.dir_search.specs.directory_api.Talk.{looked};
+ghost use Rattle.dir_search.specs.directory_api.declared.outcomes.LookError.TheVariants as look_error;
 ghost use Rattle.state_machine.specs.Executing.{directory_at};
 ghost use Rattle.left_right.specs.Sides.{view};
 ghost use Rattle.dir_seats.specs.Rule.{Reaches};
@@ -16,8 +16,9 @@ ghost use Rattle.std.specs.Prelude.{true};
 
 use crate::rule::{ShownReader, Sight};
 use crate::shown::Shown;
-use dir_search::{compare_at, search_at};
-use directory_api::{CompareRequest, Found, LookError, Reply, SearchAnswer, SearchRequest};
+use dir_search::{
+    CompareRequest, Found, LookError, Reply, SearchAnswer, SearchRequest, compare_at, search_at,
+};
 use std::alloc::Global;
 
 /// What was read of a published list, and how many records the list has.

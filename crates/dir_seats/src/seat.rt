@@ -2,12 +2,12 @@
 //! of a seat takes a lock or waits. Who publishes is not here.
 ghost use Rattle.std.specs.Prelude.{◌≡◌, true, length};
 ghost use Rattle.left_right.specs.Sides.{view as known};
-ghost use Rattle.directory_api.specs.ldap_msg.View.{search_view, compare_view};
-ghost use Rattle.directory_api.specs.View.{reply_view};
+ghost use Rattle.dir_search.specs.directory_api.ldap_msg.View.{search_view, compare_view};
+ghost use Rattle.dir_search.specs.directory_api.View.{reply_view};
 ghost use Rattle.dir_search.specs.Answer.{answer};
 ghost use Rattle.dir_search.specs.Compared.{compared};
-ghost use Rattle.directory_api.specs.View.{answer_view};
-ghost use Rattle.directory_api.specs.Talk.{looked};
+ghost use Rattle.dir_search.specs.directory_api.View.{answer_view};
+ghost use Rattle.dir_search.specs.directory_api.Talk.{looked};
 ghost use Rattle.state_machine.specs.Executing.{directory_at};
 ghost use Rattle.dir_seats.specs.Lists.{longer};
 ghost use Rattle.dir_seats.specs.Reads.{IsReadFrom};
@@ -15,7 +15,7 @@ ghost use Rattle.dir_seats.specs.Reads.{IsReadFrom};
 use crate::look::{look_compare, look_search};
 use crate::rule::ShownReader;
 use core::mem::replace_with;
-use directory_api::{CompareRequest, Found, Look, LookError, Reply, SearchAnswer, SearchRequest};
+use dir_search::{CompareRequest, Found, Look, LookError, Reply, SearchAnswer, SearchRequest};
 use std::alloc::Global;
 use std::marker::{Model, PhantomData};
 

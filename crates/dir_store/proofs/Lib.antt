@@ -6,3 +6,5 @@ pub mod Placed
 pub mod Rises
 pub mod Spelled
 pub mod Crossing
+-- what layers above name of the crates below
+pub use Rattle.indexed_tree.proofs.log_entry as log_entry

@@ -15,3 +15,4 @@ pub use Rattle.indexed_tree.specs.dir_index as dir_index
 pub use Rattle.indexed_tree.specs.dir_tree as dir_tree
 pub use Rattle.indexed_tree.specs as indexed_tree
 pub use Rattle.indexed_tree.specs.directory_api as directory_api
+pub use Rattle.entry_updates.specs as entry_updates

@@ -22,7 +22,7 @@ mod renaming;
 mod sharing;
 mod store;
 
-pub use entry_updates::{Op, Update};
+pub use entry_updates::{LogEntry, Op, Update};
 pub use indexed_tree::{Indexes, Name, Reading, Reply, Schema, SharedEntry, Tree};
 pub use laws::{entries_rise, replies_are_placed, updates_join};
 pub use sharing::Beside;

@@ -1,7 +1,7 @@
 -- What a script's lines show, and what is written of it. Facts come in and go out; no value of the program is here.
 use Rattle.std.proofs.Common.{◌≡◌, ℕ, List, Option, None, Some, IfSome, codes, flat_map, refl, subst}
 use Rattle.std.specs.Io.KnownBytes.{Appends}
-use Rattle.dir_lab.specs.Shown.{Shown}
+use Rattle.lab_script.specs.dir_lab.Shown.{Shown}
 use Rattle.lab_script.specs.Played.{IsPlayed}
 use Rattle.local_directory.specs.ldap_schema.Schema.{SchemaModel}
 use Rattle.local_directory.specs.ldap_dn.Names.{RdnModel}

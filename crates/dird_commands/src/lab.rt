@@ -2,7 +2,7 @@
 //! meaning: those stand in the crates below.
 ghost use Rattle.std.specs.Prelude.{map, IfOk, IfErr, IfSome, OnOk};
 ghost use Rattle.std.specs.Arc.{arc_value};
-ghost use Rattle.dir_lab.specs.Shown.{shown_view};
+ghost use Rattle.lab_script.specs.dir_lab.Shown.{shown_view};
 ghost use Rattle.dird_commands.specs.private.Texts.{Turns};
 ghost use Rattle.dird_commands.specs.private.Undone.{IsUnread};
 ghost use Rattle.dird_commands.specs.private.Played.{AreLines, IsScriptCause, IsUnplayed, IsShownOf, IsPlayedText};

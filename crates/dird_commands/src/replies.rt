@@ -1,8 +1,8 @@
 //! Writes what a lab shows, a line for each thing and one more for each entry of an answer.
 ghost use Rattle.std.specs.Prelude.{◌≡◌, ◌++◌, map, codes, decimal, flat_map, OnOk};
 ghost use Rattle.std.specs.Io.KnownBytes.{Appends};
-ghost use Rattle.dir_lab.specs.Shown.{shown_view};
-ghost use Rattle.dir_lab.specs.dir_search.directory_api.View.{answer_view};
+ghost use Rattle.lab_script.specs.dir_lab.Shown.{shown_view};
+ghost use Rattle.lab_script.specs.dir_lab.dir_search.directory_api.View.{answer_view};
 ghost use Rattle.dird_commands.specs.private.Replies.{line_of, reply_line, entry_line, answer_line, answer_text, status_word, state_line, text_of};
 
 use lab_script::{LabReply, ReplyBy, SearchAnswer, Status};

@@ -1,6 +1,6 @@
 -- Who asks for an update. Numbers flow in; a client flows out.
 use Rattle.std.specs.Prelude.{ℕ, ◌+◌, min}
-use Rattle.log_entry.specs.declared.words.Client.{Client}
+use Rattle.ldap_op.specs.log_entry.declared.words.Client.{Client}
 
 -- the client that a request names
 abbrev pub named_client : ℕ → Client

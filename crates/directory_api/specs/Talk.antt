@@ -1,10 +1,10 @@
 -- What is asked of a directory and what it answers, in turn. A session's questions and the answers to them flow in; which of them a
 -- directory allows is its own.
 use Rattle.std.specs.Prelude.{ℕ, List, [], ◌∷◌, Result, Ok, Err}
-use Rattle.ldap_msg.specs.Messages.{SearchRequestValue, CompareRequestValue}
+use Rattle.found_entry.specs.ldap_msg.Messages.{SearchRequestValue, CompareRequestValue}
 use Rattle.ldap_op.specs.Values.{OpValue}
 use Rattle.directory_api.specs.Answers.{ReplyModel, Answer}
-use Rattle.log_entry.specs.declared.words.Client.{Client}
+use Rattle.ldap_op.specs.log_entry.declared.words.Client.{Client}
 use Rattle.directory_api.specs.declared.outcomes.Found.{Found}
 use Rattle.directory_api.specs.declared.outcomes.LookError.{LookError}
 use Rattle.directory_api.specs.declared.outcomes.LookError.TheVariants.{NotYet, Gone, NoMemory}

@@ -2,7 +2,7 @@
 ghost use Rattle.std.specs.Prelude.{◌≡◌};
 ghost use Rattle.directory_api.specs.Clients.{named_client as client_named, session_client as client_of_session};
 
-use log_entry::words::Client;
+use ldap_op::Client;
 
 /// The client that a request names.
 pub fn named_client(number: u64) -> Client

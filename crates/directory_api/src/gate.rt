@@ -7,8 +7,7 @@ ghost use Rattle.directory_api.specs.Talk.{Exchange, asked_role, updated};
 ghost use Rattle.directory_api.specs.View.{role_view, ended_view};
 
 use crate::reply::Reply;
-use ldap_op::Update;
-use log_entry::words::Client;
+use ldap_op::{Client, Update};
 use std::alloc::Global;
 
 /// What a replica is to an update.

@@ -20,14 +20,13 @@ mod search_answer;
 
 pub use client::{named_client, session_client};
 pub use directory::Directory;
-pub use found_entry::{FoundEntry, Shows};
-pub use gate::{Ended, Gate, Role};
-pub use ldap_msg::{
-    AddRequest, Attribute, AttributeValueAssertion, CompareRequest, DerefAliases, PartialAttribute,
-    ResultCode, Scope, SearchRequest, SearchResultEntry,
+pub use found_entry::{
+    AddRequest, Attribute, AttributeValueAssertion, CompareRequest, DerefAliases, FoundEntry,
+    PartialAttribute, ResultCode, Scope, SearchRequest, SearchResultEntry, SharedEntry, Shows,
+    Tree, Visit,
 };
-pub use ldap_op::{Op, Update};
-pub use log_entry::words::Client;
+pub use gate::{Ended, Gate, Role};
+pub use ldap_op::{Client, Op, Update};
 pub use look::Look;
 pub use outcomes::{Found, LookError};
 pub use pair::{pair_counts, pair_goes_along};

@@ -8,9 +8,8 @@ use crate::look::Look;
 use crate::outcomes::{Found, LookError};
 use crate::reply::Reply;
 use crate::search_answer::SearchAnswer;
-use ldap_msg::{CompareRequest, SearchRequest};
-use ldap_op::Update;
-use log_entry::words::Client;
+use found_entry::{CompareRequest, SearchRequest};
+use ldap_op::{Client, Update};
 use std::alloc::Global;
 
 impl<L: Look, G: Gate<L::Told>> Directory for (L, G) {

@@ -1,6 +1,5 @@
 //! What a search finds. Nothing flows in; plain data flows out. How it is found is not here.
-use found_entry::FoundEntry;
-use ldap_msg::ResultCode;
+use found_entry::{FoundEntry, ResultCode};
 
 /// What a search finds.
 #[derive(Drop)]

@@ -17,7 +17,8 @@ mod renaming;
 pub use adding::entry_asked;
 pub use fault::{UpdateError, code_of_refusal};
 pub use ldap_op::{
-    AddRequest, Change, ModifyDnRequest, ModifyRequest, Op, PartialAttribute, ResultCode, Update,
+    AddRequest, Change, LogEntry, ModifyDnRequest, ModifyRequest, Op, PartialAttribute, ResultCode,
+    Update,
 };
 pub use modifying::entry_changed;
 pub use renaming::entry_renamed;

@@ -1,2 +1,4 @@
 pub mod Resolved
 pub mod Selectors
+-- what layers above name of the crates below
+pub use Rattle.dir_tree.proofs as dir_tree

@@ -13,5 +13,10 @@ mod selection;
 mod shown_attribute;
 mod shows;
 
+pub use dir_tree::{SharedEntry, Tree, Visit};
 pub use found::FoundEntry;
+pub use ldap_msg::{
+    AddRequest, Attribute, AttributeValueAssertion, CompareRequest, DerefAliases, PartialAttribute,
+    ResultCode, Scope, SearchRequest, SearchResultEntry,
+};
 pub use shows::Shows;

@@ -6,9 +6,9 @@ use Rattle.std.specs.Option.{option_map}
 use Rattle.std.specs.Str.{bytes_eq}
 use Rattle.schema_text.specs.Words.{is_oid, ends_with}
 use Rattle.schema_text.specs.Texts.{lines_of, is_skipped}
-use Rattle.ldap_match.specs.ldap_schema.Schema.{SchemaModel, find}
-use Rattle.ldap_match.specs.ldap_schema.Rules.{equality_of}
-use Rattle.ldap_match.specs.Item.{ordering_of, substrings_of}
+use Rattle.dir_entry.specs.ldap_schema.Schema.{SchemaModel, find}
+use Rattle.dir_entry.specs.ldap_schema.Rules.{equality_of}
+use Rattle.dir_entry.specs.ldap_match.Item.{ordering_of, substrings_of}
 use Rattle.index_choice.specs.declared.kinds.Kinds.{Kinds}
 use Rattle.index_choice.specs.declared.line.IndexLine.{IndexLine}
 use Rattle.index_choice.specs.declared.line.Named.{Named}

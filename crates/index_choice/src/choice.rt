@@ -9,7 +9,7 @@ use crate::choosing::kinds_of_lines;
 use crate::error::IndexError;
 use crate::kinds::Kinds;
 use crate::reading::{check, index_lines};
-use ldap_match::{Schema, TypeId};
+use dir_entry::{Schema, TypeId};
 use std::alloc::{AllocError, Global};
 use std::marker::Model;
 

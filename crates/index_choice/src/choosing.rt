@@ -8,7 +8,7 @@ ghost use Rattle.index_choice.specs.private.Texts.{joined as joined_kinds, one_m
 
 use crate::kinds::Kinds;
 use crate::line::{IndexLine, Named};
-use ldap_match::TypeId;
+use dir_entry::TypeId;
 use std::alloc::{AllocError, Global};
 
 /// The kinds of both.

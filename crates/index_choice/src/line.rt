@@ -2,7 +2,7 @@
 // What must not be here: other lines, and whether the type may have such indexes.
 
 use crate::kinds::Kinds;
-use ldap_match::TypeId;
+use dir_entry::TypeId;
 
 /// What a line's name stands for.
 #[derive(Clone, Copy)]

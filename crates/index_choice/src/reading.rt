@@ -4,7 +4,7 @@
 ghost use Rattle.std.specs.Prelude.{◌≡◌, ℕ, List, Result, map, Ok, Err, None, Some, IfOk, IfErr, OnOk, OnErr};
 ghost use Rattle.index_choice.specs.declared.line.IndexLine.{IndexLine};
 ghost use Rattle.index_choice.specs.declared.error.IndexError.TheVariants.{BadDescription, NoMemory};
-ghost use Rattle.ldap_match.specs.ldap_schema.Schema.{find};
+ghost use Rattle.dir_entry.specs.ldap_schema.Schema.{find};
 ghost use Rattle.index_choice.specs.Texts.{named_by, line_of_words as said_by_words, index_line as said, index_lines as lines_said, line_said, lines_from, after, is_unknown as is_unknown_line, lacks_rules as lacks_rules_for, has_rules as has_rules_for, implies as is_implied, first_line, fault_in, IsFaultOf};
 ghost use Rattle.index_choice.specs.private.Texts.{IsBadLine};
 
@@ -12,7 +12,7 @@ use crate::error::IndexError;
 use crate::kinds::Kinds;
 use crate::line::{IndexLine, Named};
 use crate::words::{are_kinds, but_last, is_head, kinds_of_words, parts};
-use ldap_match::{Schema, TypeId, equality_rule, ordering_rule, substrings_rule};
+use dir_entry::{Schema, TypeId, equality_rule, ordering_rule, substrings_rule};
 use schema_text::{is_skipped, lines};
 use std::alloc::{AllocError, Global};
 

@@ -2,7 +2,7 @@
 use denote.Param.Send.{IsSend, IsSync, sendable}
 use Rattle.std.proofs.Crossing.{crosses}
 use Rattle.dir_index.proofs.Crossing.{postings_cross}
-use Rattle.dir_tree.proofs.TreeCrossing.{tree_crosses}
+use Rattle.directory_api.proofs.dir_tree.TreeCrossing.{tree_crosses}
 use Rattle.indexed_tree.specs.contracts.indexed.IndexedTree as Held
 
 pub indexed_send : IsSend Held.the_field.row

@@ -3,12 +3,12 @@
 use Rattle.std.proofs.Common.{◌≡◌, ◌<◌, ℕ, List, [], ◌∷◌, ◌++◌, refl, sym, ap, ◌∙◌, subst, arith, Bool, true, false, cond, not, Option, None, Some, nat_eq, inl, inr, Result, Ok, Err, OnOk, OnErr, IfOk}
 use Rattle.std.specs.Option.{option_map}
 use Rattle.std.proofs.lemmas.Bool.{eqb-true, eq-eqb, ne_eqb}
-use Rattle.dir_tree.specs.ldap_dn.Names.{RdnModel, rdns}
-use Rattle.dir_tree.specs.dir_entry.Entry.{KeyedAttribute}
+use Rattle.dir_index.specs.ldap_dn.Names.{RdnModel, rdns}
+use Rattle.dir_index.specs.dir_entry.Entry.{KeyedAttribute}
 use Rattle.dir_index.specs.Postings.{Indexed}
 use Rattle.dir_index.specs.Whole as index
 use Rattle.dir_index.specs.Whole.{PostingsModel, AreOf, HasEntry, without, with_attributes}
-use Rattle.dir_tree.specs.Directory.{NameKey, Entered, name_eq, find, entry_at, unnumbered, replaced, moved, AllBelow, AllAbove, NumbersRise, NamesDiffer}
+use Rattle.directory_api.specs.dir_tree.Directory.{NameKey, Entered, name_eq, find, entry_at, unnumbered, replaced, moved, AllBelow, AllAbove, NumbersRise, NamesDiffer}
 use Rattle.indexed_tree.proofs.Lookups.{names_same}
 use Rattle.indexed_tree.specs.Listed.{listed, listed_of}
 

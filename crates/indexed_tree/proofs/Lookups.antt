@@ -6,10 +6,10 @@ use Rattle.std.specs.Cmp.Lexicographic.{pointwise}
 use Rattle.std.specs.Cmp.Derive.Mapped.{pointwise-map}
 use Rattle.std.proofs.lemmas.Bool.{eqb-true, eq-eqb}
 use Rattle.std.proofs.lemmas.Slice.Eq.{bytes_eq-Decides}
-use Rattle.dir_tree.specs.ldap_schema.Schema.{SchemaModel}
-use Rattle.dir_tree.specs.ldap_dn.Names.{TypeAndKey, RdnModel, rdns, are_same_keys}
-use Rattle.dir_tree.specs.dir_entry.Entry.{KeyedAttribute, IsKeyedBy}
-use Rattle.dir_tree.specs.Directory.{NameKey, Entered, name_eq, begins, find, front, front_from, entry_at, AllAbove, NumbersRise}
+use Rattle.dir_index.specs.ldap_schema.Schema.{SchemaModel}
+use Rattle.dir_index.specs.ldap_dn.Names.{TypeAndKey, RdnModel, rdns, are_same_keys}
+use Rattle.dir_index.specs.dir_entry.Entry.{KeyedAttribute, IsKeyedBy}
+use Rattle.directory_api.specs.dir_tree.Directory.{NameKey, Entered, name_eq, begins, find, front, front_from, entry_at, AllAbove, NumbersRise}
 use Rattle.indexed_tree.specs.Stored.{AreKeyedBy}
 
 -- its number is above any that is below all

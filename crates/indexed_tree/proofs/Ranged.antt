@@ -3,9 +3,9 @@ use Rattle.std.proofs.Common.{◌≡◌, ◌<◌, ℕ, List, [], ◌∷◌, refl
 use Rattle.std.specs.Prelude.{◌||◌, cond}
 use Rattle.std.specs.Option.{option_map}
 use Rattle.std.proofs.lemmas.Bool.{eqb-true, ne_eqb}
-use Rattle.dir_tree.specs.dir_entry.Entry.{KeyedAttribute}
+use Rattle.dir_index.specs.dir_entry.Entry.{KeyedAttribute}
 use Rattle.dir_index.specs.Postings.{Indexed, has_number, numbers_where}
-use Rattle.dir_tree.specs.Directory.{Entered, entry_at, AllAbove, NumbersRise}
+use Rattle.directory_api.specs.dir_tree.Directory.{Entered, entry_at, AllAbove, NumbersRise}
 use Rattle.indexed_tree.specs.Listed.{listed, listed_of}
 
 -- what a test says of an entry; no, where there is none

@@ -2,11 +2,11 @@
 -- no value of the program is here.
 use Rattle.std.proofs.Common.{◌≡◌, ℕ, zero, suc, List, [], ◌∷◌, ◌++◌, map, length, take, refl, sym, ap, ap₂, ◌∙◌, Bool, true, false, cond, not, ◌||◌, Ok, Err, Option, None, Some, nat_eq, is_some}
 use Rattle.std.specs.Option.{option_map}
-use Rattle.dir_tree.specs.ldap_schema.Schema.{SchemaModel}
-use Rattle.dir_tree.specs.ldap_dn.Names.{RdnModel, rdns}
-use Rattle.dir_tree.specs.dir_entry.Entry.{AttributeModel, KeyedAttribute, attributes_of, IsKeyedBy}
-use Rattle.dir_tree.specs.Directory as tree
-use Rattle.dir_tree.specs.Directory.{NameKey, Entered, TreeModel, name_eq, find, AllBelow}
+use Rattle.dir_index.specs.ldap_schema.Schema.{SchemaModel}
+use Rattle.dir_index.specs.ldap_dn.Names.{RdnModel, rdns}
+use Rattle.dir_index.specs.dir_entry.Entry.{AttributeModel, KeyedAttribute, attributes_of, IsKeyedBy}
+use Rattle.directory_api.specs.dir_tree.Directory as tree
+use Rattle.directory_api.specs.dir_tree.Directory.{NameKey, Entered, TreeModel, name_eq, find, AllBelow}
 use Rattle.indexed_tree.proofs.Lookups.{rdns_take}
 use Rattle.indexed_tree.specs.Replies.{not_found, or_refused, entry_asked}
 use Rattle.indexed_tree.specs.Directory.{NamedEntry}

@@ -1,9 +1,9 @@
 -- The directory as everything above sees it: its schema, the name of its root, and its entries in order of number, each with its name and
 -- its attributes. RFC 4512 2. How entries are kept is not here.
 use Rattle.std.specs.Prelude.{ℕ, List}
-use Rattle.dir_tree.specs.ldap_schema.Schema.{SchemaModel}
-use Rattle.dir_tree.specs.ldap_dn.Names.{RdnModel}
-use Rattle.dir_tree.specs.dir_entry.Entry.{AttributeModel}
+use Rattle.dir_index.specs.ldap_schema.Schema.{SchemaModel}
+use Rattle.dir_index.specs.ldap_dn.Names.{RdnModel}
+use Rattle.dir_index.specs.dir_entry.Entry.{AttributeModel}
 
 -- an entry: the number of the update that added it, its name as it is spelled, root first, and its attributes
 pub record NamedEntry : Type 0 where

@@ -3,7 +3,7 @@ use Rattle.std.specs.Prelude.{List, map}
 use Rattle.dir_index.specs.index_choice.declared.kinds.Kinds.{Kinds}
 use Rattle.dir_index.specs.Postings.{Indexed, Lists, postings_of}
 use Rattle.indexed_tree.specs.Directory.{Directory}
-use Rattle.dir_tree.specs.Directory.{Entered, TreeModel}
+use Rattle.directory_api.specs.dir_tree.Directory.{Entered, TreeModel}
 
 -- an entry as indexes see it
 abbrev pub listed : Entered → Indexed

@@ -2,11 +2,11 @@
 -- update checks is not here.
 use Rattle.std.specs.Prelude.{ℕ, zero, suc, ◌-◌, List, [], ◌∷◌, length, take, drop, map, Bool, cond, ◌&&◌, nat_eq, nat_lt, Option, None, Some, is_some}
 use Rattle.std.specs.List.{list_any}
-use Rattle.dir_tree.specs.ldap_dn.Names.{TypeAndValue, RdnModel, rdns}
-use Rattle.dir_tree.specs.dir_entry.Entry.{AttributeModel}
-use Rattle.dir_tree.specs.Directory.{NameKey, name_eq, begins}
+use Rattle.dir_index.specs.ldap_dn.Names.{TypeAndValue, RdnModel, rdns}
+use Rattle.dir_index.specs.dir_entry.Entry.{AttributeModel}
+use Rattle.directory_api.specs.dir_tree.Directory.{NameKey, name_eq, begins}
 use Rattle.indexed_tree.specs.Directory.{NamedEntry}
-pub use Rattle.dir_tree.specs.Directory.{name_after}
+pub use Rattle.directory_api.specs.dir_tree.Directory.{name_after}
 
 -- the entry of a name
 abbrev pub entry_named : NameKey → List NamedEntry → Option NamedEntry

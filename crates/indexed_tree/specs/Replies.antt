@@ -1,9 +1,9 @@
 -- Replies of updates and compares: RFC 4511 4.1.9. Checks flow in; what passes them, or the reply to the first that fails, flows out.
 use Rattle.std.specs.Prelude.{ℕ, List, [], Bool, cond, Option, None, Some, Result, Ok, Err}
-use Rattle.dir_tree.specs.ldap_dn.Names.{RdnModel, rdns}
-use Rattle.dir_tree.specs.ldap_dn.Printed.{printed_name}
-use Rattle.dir_tree.specs.ldap_dn.Texts.{name_of_text}
-use Rattle.dir_tree.specs.ldap_schema.Schema.{SchemaModel}
+use Rattle.dir_index.specs.ldap_dn.Names.{RdnModel, rdns}
+use Rattle.dir_index.specs.ldap_dn.Printed.{printed_name}
+use Rattle.dir_index.specs.ldap_dn.Texts.{name_of_text}
+use Rattle.dir_index.specs.ldap_schema.Schema.{SchemaModel}
 use Rattle.directory_api.specs.Answers.{ReplyModel, only}
 use Rattle.indexed_tree.specs.Directory.{Directory, NamedEntry}
 use Rattle.indexed_tree.specs.Places.{entry_named, nearest}

@@ -1,8 +1,8 @@
 -- What is kept stands for: entries with keys, as the tree has them, for entries without. Checks of updates are not here.
 use Rattle.std.specs.Prelude.{◌<◌, ℕ, List, [], ◌∷◌, map}
-use Rattle.dir_tree.specs.ldap_schema.Schema.{SchemaModel}
-use Rattle.dir_tree.specs.dir_entry.Entry.{attributes_of, IsKeyedBy}
-use Rattle.dir_tree.specs.Directory.{Entered, TreeModel}
+use Rattle.dir_index.specs.ldap_schema.Schema.{SchemaModel}
+use Rattle.dir_index.specs.dir_entry.Entry.{attributes_of, IsKeyedBy}
+use Rattle.directory_api.specs.dir_tree.Directory.{Entered, TreeModel}
 use Rattle.indexed_tree.specs.Directory.{Directory, NamedEntry}
 use Rattle.indexed_tree.specs.declared.held.Standing.{Standing}
 

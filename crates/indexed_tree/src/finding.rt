@@ -1,16 +1,16 @@
 //! Entries by name. A tree and names flow in; entries, or the reply that there is none, flow out. Texts are not here.
 ghost use Rattle.std.specs.Prelude.{◌≡◌, ◌≤◌, length, IfOk, is_some, take, string_bytes};
 ghost use Rattle.std.specs.Option.{option_map};
-ghost use Rattle.dir_tree.specs.ldap_dn.Names.{rdns};
-ghost use Rattle.dir_tree.specs.Directory.{name_eq, begins, find, front};
+ghost use Rattle.dir_index.specs.ldap_dn.Names.{rdns};
+ghost use Rattle.directory_api.specs.dir_tree.Directory.{name_eq, begins, find, front};
 ghost use Rattle.indexed_tree.specs.Places.{nearest as nearest_entry};
 ghost use Rattle.indexed_tree.specs.Replies.{not_found as not_found_reply, printed_in};
 ghost use Rattle.indexed_tree.specs.Stored.{directory, entered_of};
 ghost use Rattle.directory_api.specs.View.{reply_view};
 
 use crate::held::Standing;
-use dir_tree::{Rdn, Schema, SharedEntry, Tree};
-use directory_api::{Reply, ResultCode};
+use dir_index::{Rdn, Schema};
+use directory_api::{Reply, ResultCode, SharedEntry, Tree};
 use std::alloc::{AllocError, Global};
 
 /// The number of a name's entry, and its attributes. It takes no memory.

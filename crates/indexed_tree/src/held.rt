@@ -1,7 +1,8 @@
 // An entry where it is. It is made for whoever asks: the tree keeps relative names alone.
 // How it is found is not here.
 
-use dir_tree::{Name, SharedEntry};
+use dir_index::Name;
+use directory_api::SharedEntry;
 
 /// An entry with its name, as it is spelled.
 #[derive(Drop)]

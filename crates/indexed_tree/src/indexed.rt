@@ -2,16 +2,16 @@
 //! index lists, flow out. What an update checks is not here.
 ghost use Rattle.std.specs.Prelude.{◌≡◌, ◌++◌, ◌∷◌, [], false, true, Some, IfOk, OnOk, OnErr, is_some};
 ghost use Rattle.std.specs.Option.{option_map};
-ghost use Rattle.dir_tree.specs.ldap_dn.Names.{rdns};
-ghost use Rattle.dir_tree.specs.Directory.{AllBelow, name_eq, begins, find, above, has_below, has_footing, unnumbered, replaced, moved};
-ghost use Rattle.dir_tree.specs.Placed.{name_placed};
+ghost use Rattle.dir_index.specs.ldap_dn.Names.{rdns};
+ghost use Rattle.directory_api.specs.dir_tree.Directory.{AllBelow, name_eq, begins, find, above, has_below, has_footing, unnumbered, replaced, moved};
+ghost use Rattle.directory_api.specs.dir_tree.Placed.{name_placed};
 ghost use Rattle.dir_index.specs.Postings.{postings_of};
 ghost use Rattle.dir_index.specs.Whole.{AreOf};
 ghost use Rattle.indexed_tree.specs.Listed.{listed_of};
 
 use crate::listing::{listed_more, relisted, unlisted};
-use dir_index::{Indexes, Kept, NumberSet, Posting, Postings, Range, has_in_range};
-use dir_tree::{Name, Rdn, SharedEntry, Tree};
+use dir_index::{Indexes, Kept, Name, NumberSet, Posting, Postings, Range, Rdn, has_in_range};
+use directory_api::{SharedEntry, Tree};
 use std::alloc::{AllocError, Global};
 use std::marker::Model;
 

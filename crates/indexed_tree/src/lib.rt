@@ -17,16 +17,15 @@ mod indexed;
 mod listing;
 mod reading;
 
-pub use dir_index::{IndexError, Indexes, Postings};
-pub use dir_tree::{
-    Attribute, Entry, EntryError, Name, NameError, NumberSet, Rdn, Schema, SharedEntry, Tree,
-    Truth, TypeAndValue, TypeId, Visit, are_same, copy_values, is_of_syntax, print_before,
+pub use dir_index::{
+    Attribute, Entry, EntryError, IndexError, Indexes, Name, NameError, NumberSet, Postings, Rdn,
+    Schema, Truth, TypeAndValue, TypeId, are_same, copy_values, is_of_syntax, print_before,
     print_behind, print_from_leaf,
 };
 pub use directory_api::{
-    AddRequest, AttributeValueAssertion, CompareRequest, DerefAliases, Found, FoundEntry,
-    LookError, PartialAttribute, Reply, ResultCode, Scope, SearchAnswer, SearchRequest,
-    SearchResultEntry, Shows,
+    AddRequest, AttributeValueAssertion, Client, CompareRequest, DerefAliases, Directory, Ended,
+    Found, FoundEntry, Gate, Look, LookError, Op, PartialAttribute, Reply, ResultCode, Role, Scope,
+    SearchAnswer, SearchRequest, SearchResultEntry, SharedEntry, Shows, Tree, Update, Visit,
 };
 pub use finding::{entry_of, is_front, is_same, is_taken, not_found, standing};
 pub use held::Standing;

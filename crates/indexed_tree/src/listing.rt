@@ -1,12 +1,12 @@
 //! Posting lists kept with a tree, one function a step. A tree and its entries' lists flow in; the lists of the entries after an update flow out,
 //! and those before it stay as they were. What an update checks is not here.
 ghost use Rattle.std.specs.Prelude.{◌≡◌, ◌++◌, ◌∷◌, [], IfOk};
-ghost use Rattle.dir_tree.specs.Directory.{AllBelow, unnumbered, replaced};
+ghost use Rattle.directory_api.specs.dir_tree.Directory.{AllBelow, unnumbered, replaced};
 ghost use Rattle.dir_index.specs.Whole.{AreOf};
 ghost use Rattle.indexed_tree.specs.Listed.{listed_of};
 
-use dir_index::Postings;
-use dir_tree::{Entry, Tree};
+use dir_index::{Entry, Postings};
+use directory_api::Tree;
 use std::alloc::AllocError;
 
 /// The lists with an entry of a number above all.

@@ -3,9 +3,9 @@
 ghost use Rattle.std.specs.Prelude.{◌≡◌, IfOk, IfSome, string_bytes};
 ghost use Rattle.std.specs.Arc.{arc_value};
 ghost use Rattle.std.specs.Option.{option_map};
-ghost use Rattle.dir_tree.specs.ldap_dn.Names.{rdns};
-ghost use Rattle.dir_tree.specs.ldap_dn.Printed.{printed_name};
-ghost use Rattle.dir_tree.specs.dir_entry.Entry.{IsKeyedBy, attributes_of};
+ghost use Rattle.dir_index.specs.ldap_dn.Names.{rdns};
+ghost use Rattle.dir_index.specs.ldap_dn.Printed.{printed_name};
+ghost use Rattle.dir_index.specs.dir_entry.Entry.{IsKeyedBy, attributes_of};
 ghost use Rattle.indexed_tree.specs.Places.{entry_named};
 ghost use Rattle.indexed_tree.specs.Replies.{not_found as not_found_reply};
 ghost use Rattle.indexed_tree.specs.Stored.{directory, AreKeyedBy};
@@ -13,8 +13,8 @@ ghost use Rattle.directory_api.specs.View.{reply_view};
 
 use crate::finding::{entry_of, not_found};
 use crate::indexed::IndexedTree;
-use dir_tree::{Rdn, Schema, SharedEntry};
-use directory_api::Reply;
+use dir_index::{Rdn, Schema};
+use directory_api::{Reply, SharedEntry};
 use std::alloc::{AllocError, Global};
 use std::marker::Model;
 use std::sync::Arc;

@@ -2,7 +2,7 @@
 use Rattle.std.proofs.Common.{◌≡◌, ℕ, List, Some, None, Ok, ap, ◌∙◌, subst}
 use Rattle.hex.specs.Hex.{decode_of}
 use Rattle.ldif.specs.ldap_msg.Messages.{MessageValue, SearchRequestValue}
-use Rattle.ldap_op.specs.Values.{OpValue}
+use Rattle.dir_lab.specs.ldap_op.Values.{OpValue}
 use Rattle.ldif.specs.Exports.{IsWhole}
 use Rattle.lab_script.specs.Updates.{update_by, IsUpdateIn, IsHexText}
 use Rattle.lab_script.specs.Searches.{Parts, parts_of, IsSearchOf, IsSearchText}

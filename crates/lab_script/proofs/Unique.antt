@@ -5,7 +5,7 @@ use Rattle.ldap_filter.specs.Tree.{Tree}
 use Rattle.filter_text.specs.Grammar.{IsFilterText}
 use Rattle.ldif.specs.ldap_msg.Grammar.{IsMessage}
 use Rattle.ldif.specs.ldap_msg.Messages.{MessageValue, SearchRequestValue}
-use Rattle.ldap_op.specs.Values.{OpValue}
+use Rattle.dir_lab.specs.ldap_op.Values.{OpValue}
 use Rattle.lab_script.specs.Updates.{update_by, IsUpdateIn, IsHexText, Kind, noop_kind, add_kind, delete_kind, hex_kind, no_kind, IsUpdateOf}
 use Rattle.lab_script.specs.Searches.{Parts, parts_of, search_of, IsSearchOf, IsSearchText}
 

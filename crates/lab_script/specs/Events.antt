@@ -1,6 +1,6 @@
 -- Lab scripts: events without where they lie in memory. What is in memory flows in; plain values flow out. Lines are not here.
 use Rattle.std.specs.Prelude.{ℕ}
-use Rattle.ldap_op.specs.Values.{OpValue}
+use Rattle.dir_lab.specs.ldap_op.Values.{OpValue}
 use Rattle.dir_lab.specs.dir_search.ldap_msg.Messages.{SearchRequestValue}
 use Rattle.dir_lab.specs.dir_search.ldap_msg.View.{search_view}
 use Rattle.dir_lab.specs.vr_world.declared.events.WorldEvent.{WorldEvent}

@@ -8,7 +8,7 @@ use Rattle.ldif.specs.Records.{ValueModel, RecordModel}
 use Rattle.ldif.specs.Adds.{add_of}
 use Rattle.ldif.specs.Exports.{IsWhole}
 use Rattle.ldif.specs.ldap_msg.Messages.{OperationValue, request, response, MessageValue}
-use Rattle.ldap_op.specs.Values.{OpValue, add, delete, noop}
+use Rattle.dir_lab.specs.ldap_op.Values.{OpValue, add, delete, noop}
 use Rattle.request_checks.specs.Requests.{update_of}
 use Rattle.lab_script.specs.Cuts.{Cut, behind_spaces, cut, cut_pair}
 use Rattle.lab_script.specs.Each.{all_of}

@@ -3,7 +3,7 @@
 
 ghost use Rattle.std.specs.Prelude.{◌≡◌, ℕ, List};
 ghost use Rattle.ldif.specs.ldap_msg.Messages.{SearchRequestValue};
-ghost use Rattle.ldap_op.specs.Values.{OpValue};
+ghost use Rattle.dir_lab.specs.ldap_op.Values.{OpValue};
 ghost use Rattle.lab_script.specs.Searches.{IsSearchText};
 ghost use Rattle.lab_script.specs.Updates.{IsUpdateText};
 

@@ -5,13 +5,13 @@ ghost use Rattle.std.specs.Prelude.{◌≡◌, ℕ, List, Ok, Some, IfOk, IsErrO
 ghost use Rattle.hex.specs.Hex.{decode_of};
 ghost use Rattle.ldif.specs.ldap_msg.Messages.{MessageValue};
 ghost use Rattle.ldif.specs.ldap_msg.View.{view, operation_view};
-ghost use Rattle.ldap_op.specs.Values.{OpValue};
-ghost use Rattle.ldap_op.specs.View.{update_view};
+ghost use Rattle.dir_lab.specs.ldap_op.Values.{OpValue};
+ghost use Rattle.dir_lab.specs.ldap_op.View.{update_view};
 ghost use Rattle.ldif.specs.Exports.{IsWhole};
 ghost use Rattle.lab_script.specs.Updates as updates;
 
 use crate::text_fault::TextError;
-use ldap_op::Update;
+use dir_lab::Update;
 use ldif::{Message, MsgFault, ProtocolOp, decode};
 use std::alloc::Global;
 

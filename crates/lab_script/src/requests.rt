@@ -3,7 +3,7 @@
 // How an update is written isn't here.
 
 ghost use Rattle.std.specs.Prelude.{◌≡◌, IfOk, IsErrOf};
-ghost use Rattle.ldap_op.specs.Values.{OpValue};
+ghost use Rattle.dir_lab.specs.ldap_op.Values.{OpValue};
 ghost use Rattle.lab_script.specs.Events.{EventValue, event_view};
 ghost use Rattle.lab_script.specs.Lines.{IsRequest, IsRequestOf, requested};
 ghost use Rattle.lab_script.specs.Updates.{IsUpdateText};

@@ -2,8 +2,8 @@
 //! In: a text. Out: the update. Not here: what an update does.
 
 ghost use Rattle.std.specs.Prelude.{◌≡◌, IfOk, IsErrOf};
-ghost use Rattle.ldap_op.specs.Values.{OpValue};
-ghost use Rattle.ldap_op.specs.View.{update_view};
+ghost use Rattle.dir_lab.specs.ldap_op.Values.{OpValue};
+ghost use Rattle.dir_lab.specs.ldap_op.View.{update_view};
 ghost use Rattle.lab_script.specs.Updates as updates;
 ghost use Rattle.lab_script.specs.Updates.{IsUpdateText};
 
@@ -11,7 +11,7 @@ use crate::adds::{name_of, record_in};
 use crate::kinds::{Kind, kind_of};
 use crate::messages::hex_update;
 use crate::text_fault::TextError;
-use ldap_op::{Op, Update};
+use dir_lab::{Op, Update};
 use ldif::add_of;
 use std::alloc::Global;
 

@@ -21,6 +21,7 @@ pub use ldap_updates::{
     AddRequest, Change, ModifyDnRequest, ModifyOperation, ModifyRequest, MsgFault,
     PartialAttribute, ResultCode, WriteError,
 };
+pub use log_entry::words::{Client, LogEntry};
 pub use looked::Looked;
 pub use op::Op;
 pub use reading::read_op;

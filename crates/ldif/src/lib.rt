@@ -41,7 +41,8 @@ pub use exporting::export_text;
 pub use fault::LdifError;
 pub use importing::import_text;
 pub use ldap_msg::{
-    DerefAliases, Message, MsgFault, ProtocolOp, Request, Scope, SearchRequest, decode, one_message,
+    Attribute, DerefAliases, Message, MsgFault, ProtocolOp, Request, Scope, SearchRequest, decode,
+    one_message,
 };
 pub use lines::{line_parts, without_return};
 pub use reading::{read, records_are_of_text, written_is_read_back};

@@ -7,8 +7,8 @@ use Rattle.std.specs.FinMap.{FinMap, from_entries, get, insert, remove, get-from
 use Rattle.std.specs.FinMap.Entries.{find}
 use Rattle.std.specs.BTreeMap.{is_at}
 use Rattle.std.specs.Map.{lookup}
-pub use Rattle.directory_api.proofs.log_entry.Clients.{exact_clients, clients_total}
-use Rattle.directory_api.specs.log_entry.declared.words.Client.{Client}
+pub use Rattle.dir_store.proofs.log_entry.Clients.{exact_clients, clients_total}
+use Rattle.dir_store.specs.directory_api.log_entry.declared.words.Client.{Client}
 use Rattle.local_directory.specs.declared.kept.Kept.{Kept}
 use Rattle.local_directory.specs.private.ClientOrder.{client_cmp}
 use Rattle.local_directory.specs.Latest.{KeptValue}

@@ -1,7 +1,7 @@
 -- Ends of updates, told apart. Facts on definitions flow in and out; no value of the program is here.
 use Rattle.std.proofs.Common.{◌≡◌, ℕ, Bool, true, false, ap, true≢false}
-use Rattle.directory_api.specs.Answers.{ReplyModel}
-use Rattle.directory_api.specs.Talk.{EndedValue, done, stale, lost, refused_memory}
+use Rattle.dir_store.specs.directory_api.Answers.{ReplyModel}
+use Rattle.dir_store.specs.directory_api.Talk.{EndedValue, done, stale, lost, refused_memory}
 
 -- an end's number, and its reply
 number_in : EndedValue → ℕ

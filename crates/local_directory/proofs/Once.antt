@@ -3,11 +3,11 @@ use Rattle.std.proofs.Common.{◌≡◌, ℕ, ◌+◌, ◌≤◌, ◌<◌, Bool,
 use Rattle.std.specs.FinMap as fin
 use Rattle.std.specs.Ordering.{eq_by_cmp}
 use Rattle.std.proofs.lemmas.Bool.Decides.{nat_tests}
-use Rattle.directory_api.specs.ldap_op.Values.{OpValue}
-use Rattle.directory_api.specs.Answers.{ReplyModel}
+use Rattle.dir_store.specs.directory_api.ldap_op.Values.{OpValue}
+use Rattle.dir_store.specs.directory_api.Answers.{ReplyModel}
 use Rattle.dir_store.specs.Updates.{reply_to}
-use Rattle.directory_api.specs.log_entry.declared.words.Client.{Client}
-use Rattle.directory_api.specs.Talk.{EndedValue, done, stale, lost, refused_memory, Exchange, asked_role, learned, searched, compared, updated, Along, ends, goes}
+use Rattle.dir_store.specs.directory_api.log_entry.declared.words.Client.{Client}
+use Rattle.dir_store.specs.directory_api.Talk.{EndedValue, done, stale, lost, refused_memory, Exchange, asked_role, learned, searched, compared, updated, Along, ends, goes}
 use Rattle.local_directory.specs.private.ClientOrder.{client_cmp}
 use Rattle.local_directory.specs.Latest.{KeptValue, Standing, older, repeated, newer, standing}
 use Rattle.local_directory.specs.Local.{LocalValue}

@@ -5,7 +5,7 @@ use Rattle.std.specs.declared.cmp.Ordering.TheVariants.{Less, Equal, Greater}
 use Rattle.std.specs.Ordering.{is_eq, eq_by_cmp}
 use Rattle.std.specs.Cmp.{eq_by_cmp_equiv}
 use Rattle.std.specs.FinMap.{FinMap, get, insert, get-insert, get-remove, get_tied, same_map}
-use Rattle.directory_api.specs.log_entry.declared.words.Client.{Client}
+use Rattle.dir_store.specs.directory_api.log_entry.declared.words.Client.{Client}
 use Rattle.local_directory.specs.private.ClientOrder.{client_cmp}
 use Rattle.local_directory.specs.private.Changes.{with_kept}
 use Rattle.local_directory.specs.Latest.{KeptValue}

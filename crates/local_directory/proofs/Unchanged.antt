@@ -1,8 +1,8 @@
 -- An update that is refused changes nothing. Facts on definitions flow in and out; no value of the program is here.
 use Rattle.std.proofs.Common.{◌≡◌, ℕ, List, Result, Ok, Err, refl}
-use Rattle.directory_api.specs.ldap_op.Values.{OpValue}
+use Rattle.dir_store.specs.directory_api.ldap_op.Values.{OpValue}
 use Rattle.dir_store.specs.indexed_tree.Directory.{Directory, NamedEntry}
-use Rattle.directory_api.specs.Answers.{ReplyModel, only}
+use Rattle.dir_store.specs.directory_api.Answers.{ReplyModel, only}
 use Rattle.dir_store.specs.Updates.{updated, with_entries, reply_of, applied, reply_to}
 
 by_entries : (d : Directory) (r : Result (List NamedEntry) ReplyModel) → (reply_of r ≡ only 0 → ⊥) → with_entries d r ≡ d

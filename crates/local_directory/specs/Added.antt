@@ -3,7 +3,7 @@
 use Rattle.std.specs.Prelude.{ℕ, ◌+◌, List, [], ◌∷◌, cond, nat_eq, Option, None, Some}
 use Rattle.ldif.specs.Records.{RecordModel}
 use Rattle.ldif.specs.Adds.{add_of}
-use Rattle.directory_api.specs.ldap_op.Values.{OpValue, add}
+use Rattle.dir_store.specs.directory_api.ldap_op.Values.{OpValue, add}
 use Rattle.dir_store.specs.indexed_tree.Directory.{Directory}
 use Rattle.dir_store.specs.Updates.{applied, reply_to}
 

@@ -3,15 +3,15 @@
 -- directory is kept is not here.
 use Rattle.std.specs.Prelude.{◌≡◌, ℕ, ◌+◌, cond, nat_lt}
 use Rattle.std.specs.FinMap as map
-use Rattle.directory_api.specs.ldap_op.Values.{OpValue}
+use Rattle.dir_store.specs.directory_api.ldap_op.Values.{OpValue}
 use Rattle.dir_store.specs.Updates.{applied, reply_to}
 use Rattle.dir_search.specs.Answer.{answer}
 use Rattle.dir_search.specs.Compared.{compared as compared_reply}
-use Rattle.directory_api.specs.log_entry.declared.words.Client.{Client}
-use Rattle.directory_api.specs.Reading.{IsReadAt}
-use Rattle.directory_api.specs.Talk.{primary}
-use Rattle.directory_api.specs.Talk.{EndedValue, done, stale, lost, refused_memory}
-use Rattle.directory_api.specs.Talk.{Exchange, asked_role, learned, searched, compared, updated}
+use Rattle.dir_store.specs.directory_api.log_entry.declared.words.Client.{Client}
+use Rattle.dir_store.specs.directory_api.Reading.{IsReadAt}
+use Rattle.dir_store.specs.directory_api.Talk.{primary}
+use Rattle.dir_store.specs.directory_api.Talk.{EndedValue, done, stale, lost, refused_memory}
+use Rattle.dir_store.specs.directory_api.Talk.{Exchange, asked_role, learned, searched, compared, updated}
 use Rattle.local_directory.specs.Latest.{kept_as, Standing, older, repeated, newer, standing}
 use Rattle.local_directory.specs.Local.{LocalValue}
 pub use Rattle.ldif.specs.ldap_words.Numbers.{greatest}

@@ -2,7 +2,7 @@
 use Rattle.std.specs.Prelude.{◌≡◌, ℕ, ◌+◌, List, [], ◌∷◌, length, cond, nat_eq, Ok}
 use Rattle.ldif.specs.Records.{RecordModel}
 use Rattle.ldif.specs.Reading.{records_of}
-use Rattle.directory_api.specs.ldap_op.Values.{OpValue}
+use Rattle.dir_store.specs.directory_api.ldap_op.Values.{OpValue}
 use Rattle.dir_store.specs.indexed_tree.Directory.{Directory}
 use Rattle.dir_store.specs.Updates.{applied, reply_to}
 use Rattle.local_directory.specs.Added.{adds}

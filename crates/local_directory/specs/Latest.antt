@@ -1,7 +1,7 @@
 -- What is kept of each client's latest request, and how a further request stands to it. Numbers of requests flow in;
 -- what was answered, and how a request stands to it, flows out.
 use Rattle.std.specs.Prelude.{ℕ, cond, nat_lt, Option, Some, None}
-use Rattle.directory_api.specs.Answers.{ReplyModel}
+use Rattle.dir_store.specs.directory_api.Answers.{ReplyModel}
 
 -- what a client's latest request was answered with: the request's number, the number of its update, and the reply
 pub record KeptValue : Type 0 where

@@ -3,13 +3,13 @@
 use Rattle.std.specs.Prelude.{◌≡◌, ℕ, ◌+◌, ◌≤◌, List, [], ◌∷◌, ◌++◌, map, length, cond, nat_eq, Some}
 use Rattle.std.specs.List.{slice_get}
 use Rattle.std.specs.FinMap as fin
-use Rattle.directory_api.specs.ldap_op.Values.{OpValue}
-use Rattle.directory_api.specs.Answers.{ReplyModel}
+use Rattle.dir_store.specs.directory_api.ldap_op.Values.{OpValue}
+use Rattle.dir_store.specs.directory_api.Answers.{ReplyModel}
 use Rattle.dir_store.specs.Updates.{directory_after, replies_after}
 use Rattle.dir_store.specs.Placed.{reply_at}
-use Rattle.directory_api.specs.log_entry.declared.words.Client.{Client}
-use Rattle.directory_api.specs.Talk.{EndedValue, done, stale, lost, refused_memory}
-use Rattle.directory_api.specs.Talk.{Exchange, asked_role, learned, searched, compared, updated, Along}
+use Rattle.dir_store.specs.directory_api.log_entry.declared.words.Client.{Client}
+use Rattle.dir_store.specs.directory_api.Talk.{EndedValue, done, stale, lost, refused_memory}
+use Rattle.dir_store.specs.directory_api.Talk.{Exchange, asked_role, learned, searched, compared, updated, Along}
 use Rattle.local_directory.specs.Latest.{KeptValue}
 use Rattle.local_directory.specs.Local.{LocalValue}
 use Rattle.local_directory.specs.Allows.{allows}

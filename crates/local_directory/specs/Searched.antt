@@ -5,11 +5,11 @@ use Rattle.ldif.specs.Records.{RecordModel}
 use Rattle.ldif.specs.Reading.{records_of}
 use Rattle.ldif.specs.Written.{ldif_text}
 use Rattle.ldif.specs.Entries.{record_of}
-use Rattle.directory_api.specs.ldap_msg.Messages.{SearchRequestValue}
+use Rattle.dir_store.specs.directory_api.ldap_msg.Messages.{SearchRequestValue}
 use Rattle.dir_store.specs.indexed_tree.Directory.{Directory}
 use Rattle.dir_store.specs.Updates.{directory_after}
 use Rattle.dir_search.specs.Answer.{answer}
-use Rattle.directory_api.specs.Answers.{Answer}
+use Rattle.dir_store.specs.directory_api.Answers.{Answer}
 use Rattle.local_directory.specs.Added.{adds, first_refused}
 use Rattle.local_directory.specs.declared.fault.SearchError.{SearchError}
 use Rattle.local_directory.specs.declared.fault.SearchError.TheVariants.{BadLdif, Refused, Code, NoMemory}

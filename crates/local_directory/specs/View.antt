@@ -1,7 +1,7 @@
 -- What is kept in memory stands for.
 use Rattle.std.specs.Prelude.{List, map}
-use Rattle.directory_api.specs.View.{reply_view}
-use Rattle.directory_api.specs.log_entry.declared.words.Client.{Client}
+use Rattle.dir_store.specs.directory_api.View.{reply_view}
+use Rattle.dir_store.specs.directory_api.log_entry.declared.words.Client.{Client}
 use Rattle.local_directory.specs.Latest.{KeptValue}
 use Rattle.local_directory.specs.declared.kept.Kept.{Kept}
 

@@ -2,7 +2,7 @@
 //! In: a directory and records. Out: the directory with their entries, or the first that is refused. Not here: how an add is judged.
 
 ghost use Rattle.std.specs.Prelude.{◌≡◌, ◌+◌, None, IfOk, IfErr, OnOk};
-ghost use Rattle.directory_api.specs.ldap_op.Values.{add as add_op};
+ghost use Rattle.dir_store.specs.directory_api.ldap_op.Values.{add as add_op};
 ghost use Rattle.dir_store.specs.indexed_tree.Stored.{NumbersBelow};
 ghost use Rattle.dir_store.specs.Updates.{applied, reply_to, directory_after};
 ghost use Rattle.ldif.specs.Adds.{add_of as add_value};
@@ -10,8 +10,7 @@ ghost use Rattle.local_directory.specs.Added.{adds, first_refused};
 ghost use Rattle.local_directory.specs.private.Added.{IsPutFault, IsAddFault};
 
 use crate::fault::SearchError;
-use dir_store::Store;
-use directory_api::{Op, Update};
+use dir_store::{Op, Store, Update};
 use ldif::{Record, add_of};
 use std::alloc::{AllocError, Global};
 

@@ -7,7 +7,7 @@ ghost use Rattle.local_directory.specs.View.{kept_view};
 ghost use Rattle.local_directory.specs.private.Changes.{with_kept};
 
 use crate::kept::Kept;
-use directory_api::Client;
+use dir_search::Client;
 use std::alloc::{AllocError, Global};
 use std::collections::BTreeMap;
 use std::marker::Model;

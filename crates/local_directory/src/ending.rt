@@ -2,10 +2,10 @@
 // flows out, or that it is stale. What must not be here: updates that are made.
 ghost use Rattle.std.specs.Prelude.{◌≡◌, IfSome, IfNone};
 ghost use Rattle.std.specs.FinMap as map;
-ghost use Rattle.directory_api.specs.ldap_op.Values.{OpValue};
-ghost use Rattle.directory_api.specs.View.{reply_view};
-ghost use Rattle.directory_api.specs.Talk.{done};
-ghost use Rattle.directory_api.specs.View.{ended_view};
+ghost use Rattle.dir_store.specs.directory_api.ldap_op.Values.{OpValue};
+ghost use Rattle.dir_store.specs.directory_api.View.{reply_view};
+ghost use Rattle.dir_store.specs.directory_api.Talk.{done};
+ghost use Rattle.dir_store.specs.directory_api.View.{ended_view};
 ghost use Rattle.local_directory.specs.Allows.{Ends, unchanged, outcome_by};
 ghost use Rattle.local_directory.specs.Latest.{newer, standing, standing_to};
 ghost use Rattle.local_directory.specs.Local.{LocalValue};
@@ -13,7 +13,7 @@ ghost use Rattle.local_directory.specs.View.{kept_view};
 
 use crate::client_table::ClientTable;
 use crate::kept::Kept;
-use directory_api::{Client, Ended};
+use dir_search::{Client, Ended};
 use std::alloc::Global;
 
 /// The end that is kept, again.

@@ -1,10 +1,10 @@
 // What is kept of a client's latest request. Replies flow in and out.
 // What must not be here: which client it is, what makes an update.
 ghost use Rattle.std.specs.Prelude.{◌≡◌, ◌↔◌, IsTrue};
-ghost use Rattle.directory_api.specs.Answers.{only as only_code};
-ghost use Rattle.directory_api.specs.View.{reply_view};
+ghost use Rattle.dir_store.specs.directory_api.Answers.{only as only_code};
+ghost use Rattle.dir_store.specs.directory_api.View.{reply_view};
 
-use directory_api::{Reply, ResultCode};
+use dir_search::{Reply, ResultCode};
 
 /// What a client's latest request was answered with.
 #[derive(Drop)]

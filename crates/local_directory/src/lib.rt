@@ -23,15 +23,14 @@ mod refused_record;
 mod searching;
 
 pub use checking::{Checked, check_text};
-pub use dir_search::{IndexError, Indexes, Name, NameError, Schema};
-pub use dir_store::Store;
-pub use directory_api::{
-    AddRequest, Attribute, CompareRequest, DerefAliases, Op, Reply, Scope, SearchAnswer,
-    SearchRequest, Update,
+pub use dir_search::{
+    AddRequest, CompareRequest, DerefAliases, IndexError, Indexes, Name, NameError, Op, Reply,
+    Schema, Scope, SearchAnswer, SearchRequest, Update,
 };
+pub use dir_store::Store;
 pub use fault::SearchError;
 pub use laws::{directory_is_fold, requests_are_made_once};
-pub use ldif::{ExportError, ImportError, export_text, import_text};
+pub use ldif::{Attribute, ExportError, ImportError, export_text, import_text};
 pub use local::LocalDirectory;
 pub use refused_record::RefusedRecord;
 pub use searching::{Cost, fill, search_cost, search_text};

@@ -3,19 +3,18 @@
 ghost use Rattle.std.specs.Prelude.{◌≡◌, ◌+◌};
 ghost use Rattle.std.specs.FinMap as map;
 ghost use Rattle.dir_store.specs.indexed_tree.Stored.{NumbersBelow};
-ghost use Rattle.directory_api.specs.View.{ended_view};
-ghost use Rattle.directory_api.specs.ldap_op.View.{update_view};
+ghost use Rattle.dir_store.specs.directory_api.View.{ended_view};
+ghost use Rattle.dir_store.specs.directory_api.ldap_op.View.{update_view};
 ghost use Rattle.local_directory.specs.Allows.{Ends, made_next};
 
 use crate::client_table::ClientTable;
 use crate::ending::ended_before;
 use crate::making::make;
-use dir_search::{compare_at, search_at};
-use dir_store::Store;
-use directory_api::{
+use dir_search::{
     Client, CompareRequest, Directory, Ended, Found, LookError, Op, Reply, Role, SearchAnswer,
-    SearchRequest, Update,
+    SearchRequest, Update, compare_at, search_at,
 };
+use dir_store::Store;
 use std::alloc::Global;
 use std::marker::Model;
 

@@ -2,16 +2,16 @@
 // directory after the update and the table that keeps the reply stay. What must not be here: which requests are new.
 ghost use Rattle.std.specs.Prelude.{◌≡◌, ◌+◌, Some, IfOk, OnOk, OnErr};
 ghost use Rattle.std.specs.FinMap as map;
-ghost use Rattle.directory_api.specs.Answers.{only as only_code};
+ghost use Rattle.dir_store.specs.directory_api.Answers.{only as only_code};
 ghost use Rattle.dir_store.specs.indexed_tree.Stored.{NumbersBelow};
 ghost use Rattle.dir_store.specs.Updates.{applied, reply_to};
-ghost use Rattle.directory_api.specs.View.{reply_view};
+ghost use Rattle.dir_store.specs.directory_api.View.{reply_view};
 ghost use Rattle.local_directory.specs.Latest.{kept_as};
 
 use crate::client_table::ClientTable;
 use crate::kept::{Kept, is_success};
+use dir_search::{Client, Op, Reply, ResultCode};
 use dir_store::Store;
-use directory_api::{Client, Op, Reply, ResultCode};
 use std::alloc::{AllocError, Global};
 
 /// Keeps a reply as that of a client's latest request, which the table has as a success, and gives it back. Success

@@ -3,8 +3,8 @@
 
 ghost use Rattle.std.specs.Prelude.{◌≡◌, Ok, IfOk, IfErr, OnOk, length, map};
 ghost use Rattle.ldif.specs.Reading.{records_of as records_of_text};
-ghost use Rattle.directory_api.specs.ldap_msg.View.{entry_view, search_view};
-ghost use Rattle.directory_api.specs.found_entry.View.{found_view};
+ghost use Rattle.dir_store.specs.directory_api.ldap_msg.View.{entry_view, search_view};
+ghost use Rattle.dir_store.specs.directory_api.found_entry.View.{found_view};
 ghost use Rattle.dir_store.specs.indexed_tree.Stored.{NumbersBelow};
 ghost use Rattle.dir_search.specs.Answer.{answer as answer_of};
 ghost use Rattle.dir_search.specs.Counted.{IsCountOf};
@@ -14,9 +14,8 @@ ghost use Rattle.local_directory.specs.private.Searched.{IsShown};
 
 use crate::adding::add_records;
 use crate::fault::SearchError;
-use dir_search::search;
+use dir_search::{FoundEntry, SearchRequest, SearchResultEntry, search};
 use dir_store::Store;
-use directory_api::{FoundEntry, SearchRequest, SearchResultEntry};
 use ldif::{LdifError, Record, read, records_of, write};
 use std::alloc::{AllocError, Global};
 

@@ -14,3 +14,4 @@ pub mod private
 -- what layers above name of the crates below
 pub use Rattle.journal.specs as journal
 pub use Rattle.vr_state.specs as vr_state
+pub use Rattle.vr_recover.specs as vr_recover

@@ -37,3 +37,4 @@ pub use steps::{Before, put_step};
 pub use taking::take_events;
 pub use telling::tell;
 pub use told::Told;
+pub use vr_recover::{recover, step};

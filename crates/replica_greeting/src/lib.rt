@@ -13,4 +13,5 @@ mod writing;
 
 pub use meeting::{HEADING, Met, greeting_sender, meet};
 pub use terms::{Term, Terms};
+pub use vr_wire::{Came, Cluster, Frames, Gathering, Op, PeerMessage, WireError, heading, rest};
 pub use writing::{GREETING, greeting};

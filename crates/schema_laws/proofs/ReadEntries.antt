@@ -5,10 +5,10 @@ use Rattle.ldap_match.specs.ldap_schema.Schema.{SchemaModel}
 use Rattle.ldap_dn.specs.Names.{TypeAndValue, RdnModel, rdns}
 use Rattle.ldap_dn.specs.Texts.{name_of_text}
 use Rattle.dir_store.specs.ldap_op.Values.{OpValue, add, delete, modify, modify_dn, noop}
-use Rattle.entry_updates.specs.Adding.{attributes_asked}
-use Rattle.entry_updates.specs.Finishing.{renamed}
-use Rattle.entry_updates.specs.ldap_op.ldap_parts.Values.{PartialAttributeValue}
-use Rattle.entry_updates.specs.ldap_updates.Values.{AddRequestValue, ModifyDnRequestValue}
+use Rattle.dir_store.specs.entry_updates.Adding.{attributes_asked}
+use Rattle.dir_store.specs.entry_updates.Finishing.{renamed}
+use Rattle.dir_store.specs.ldap_op.ldap_parts.Values.{PartialAttributeValue}
+use Rattle.dir_store.specs.entry_updates.ldap_updates.Values.{AddRequestValue, ModifyDnRequestValue}
 use Rattle.dir_store.specs.dir_entry.Entry.{AttributeModel}
 use Rattle.dir_store.specs.dir_tree.Directory.{NameKey, name_eq, begins, name_after}
 use Rattle.dir_store.specs.indexed_tree.Directory.{Directory, NamedEntry}

@@ -16,8 +16,7 @@ use crate::plan::{Plan, Sided};
 use crate::scope::Scope;
 use crate::stream::Stream;
 use crate::walking::Walk;
-use dir_index::{Kept, Range};
-use shared_map::NumberSet;
+use dir_index::{Kept, NumberSet, Range};
 use std::alloc::{AllocError, Global};
 
 /// Puts one walk behind those that are there.

@@ -9,8 +9,7 @@ ghost use Rattle.search_plans.specs.Sets.{is_in};
 
 use crate::plan::Plan;
 use crate::walking::Walk;
-use dir_index::{Kept, Posting};
-use shared_map::NumberSet;
+use dir_index::{Kept, NumberSet, Posting};
 use std::alloc::AllocError;
 
 /// Whether two postings are the same.

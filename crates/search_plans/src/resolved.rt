@@ -7,8 +7,7 @@ ghost use Rattle.std.specs.List.{list_any, list_all};
 ghost use Rattle.search_plans.specs.private.Resolved.{is_in_resolved, IsResolved, AreResolved, IsResolvedFor};
 
 use crate::plan::{Plan, Sided};
-use dir_index::{Kept, Range};
-use shared_map::NumberSet;
+use dir_index::{Kept, NumberSet, Range};
 use std::alloc::{AllocError, Global};
 
 /// A plan whose posting lists were looked up. It is asked about numbers in scope.

@@ -7,7 +7,7 @@ ghost use Rattle.dir_index.specs.Postings.{has_number, IsRising};
 
 use crate::having::has;
 use crate::walking::Walk;
-use shared_map::NumberSet;
+use dir_index::NumberSet;
 use std::marker::Model;
 
 #[derive(Drop)]

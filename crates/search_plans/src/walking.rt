@@ -5,7 +5,7 @@
 ghost use Rattle.std.specs.Prelude.{◌≡◌, slice_get};
 ghost use Rattle.search_plans.specs.private.Streams.{behind as left_behind};
 
-use shared_map::{NumberSet, NumberWalk};
+use dir_index::{NumberSet, NumberWalk};
 use std::marker::Model;
 
 #[derive(Drop)]

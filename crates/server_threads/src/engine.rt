@@ -1,7 +1,7 @@
 //! What the threads of a server ask of its node. Messages of other replicas flow in; what the node makes of them is not here, nor what a node is.
 use crate::fault::ServerError;
+use replica_greeting::{Op, PeerMessage};
 use status_page::Figures;
-use vr_wire::{Op, PeerMessage};
 
 /// The node behind a server's threads.
 pub trait Engine {

@@ -3,10 +3,9 @@ use crate::counters::Counters;
 use crate::reporter::Reporter;
 use crate::telling::tell_lost;
 use peer_link::{Bytes, Framing};
-use replica_greeting::{Terms, greeting};
+use replica_greeting::{Cluster, Frames, Op, PeerMessage, Terms, WireError, greeting};
 use std::alloc::Global;
 use std::sync::Wait;
-use vr_wire::{Cluster, Frames, Op, PeerMessage, WireError};
 
 /// How many octets of a long message a part has: few enough that both ends hold little beside the message, and that each part is a sign of life in time.
 const PART: usize = 16_777_216;

@@ -1,6 +1,8 @@
 //! The first octets of a frame: whether it may be one that another replica of this cluster sends. What a frame says is not here.
-use replica_greeting::{HEADING as GREETING_HEADING, greeting_sender};
-use vr_wire::{Cluster, WireError, heading as kind_and_sender, rest};
+use replica_greeting::{
+    Cluster, HEADING as GREETING_HEADING, WireError, greeting_sender, heading as kind_and_sender,
+    rest,
+};
 
 /// How many octets of a frame are looked at before more of it is read: its length, and what tells its version, cluster, kind and sender.
 pub const HEADING: usize = 13;

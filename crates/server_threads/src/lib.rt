@@ -39,7 +39,6 @@ mod shared_parts;
 mod showing;
 mod telling;
 
-pub use client_link::{Config, Limits};
 pub use counters::Counters;
 pub use engine::Engine;
 pub use fault::ServerError;
@@ -56,6 +55,6 @@ pub use replica_greeting::Terms;
 pub use reporter::{NoteWriter, Reporter, StandardError};
 pub use resident::PROCESS_STATUS;
 pub use serving::Server;
-pub use session_pool::NoReads;
+pub use session_pool::{Config, Limits, NoReads};
 pub use shared_parts::{Choices, SharedParts, make_shared_parts};
 pub use status_page::{Figures, Role};

@@ -6,10 +6,9 @@ use crate::counters::Counters;
 use crate::logging::{tell_slow, tell_update, text_of_update};
 use crate::logs::Logs;
 use crate::reporter::Reporter;
-use client_link::Directory;
 use session_pool::{
-    Client, CompareRequest, Ended, Found, LookError, Reply, Role, SearchAnswer, SearchRequest,
-    Update,
+    Client, CompareRequest, Directory, Ended, Found, LookError, Reply, Role, SearchAnswer,
+    SearchRequest, Update,
 };
 use std::alloc::{AllocError, Global};
 use std::marker::Model;

@@ -3,8 +3,8 @@
 use crate::heading::{HEADING, Senders};
 use crate::reporter::Reporter;
 use crate::telling::tell_peer_went;
-use client_link::{Door, Peer};
 use crossbeam_channel::{Receiver, RecvTimeoutError, Sender, TrySendError};
+use session_pool::{Door, Peer};
 use std::alloc::{AllocError, Global};
 use std::collections::VecDeque;
 use std::io::ErrorKind;

@@ -1,7 +1,7 @@
 //! Messages on their way to other replicas: each waits in the queue of its receiver. Frames and streams are not here.
 use crate::shared_parts::SharedParts;
+use replica_greeting::{Op, PeerMessage};
 use std::sync::Wait;
-use vr_wire::{Op, PeerMessage};
 
 /// What a message weighs without its records: about the memory that it takes.
 const MESSAGE: usize = 64;

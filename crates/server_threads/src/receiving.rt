@@ -6,15 +6,14 @@ use crate::reporter::Reporter;
 use crate::telling::{
     tell_parts_lost, tell_peer_came, tell_peer_refused, tell_peer_twice, tell_peer_went,
 };
-use client_link::Peer;
 use crossbeam_channel::Receiver;
 use peer_link::{FrameEnd, read_head, read_more, read_rest};
-use replica_greeting::{Met, Term, Terms, meet};
+use replica_greeting::{Came, Gathering, Met, Term, Terms, WireError, meet, rest};
+use session_pool::Peer;
 use std::alloc::Global;
 use std::io::Read;
 use std::sync::Wait;
 use std::time::Clock;
-use vr_wire::{Came, Gathering, WireError, rest};
 
 /// How many octets of a greeting follow its first ones.
 const GREETING_REST: u32 = 96;

@@ -16,17 +16,19 @@ use crate::reporter::StandardError;
 use crate::session_events::Teller;
 use crate::shared_parts::{SharedParts, listen};
 use crate::telling::tell_room;
-use client_link::{Config, Directory, Door, Peer, accept_all, close};
 use crossbeam_channel::{Receiver, Sender, bounded};
 use peer_link::{SocketDialer, send_all};
-use session_pool::{SessionPool, Terms, descriptors, serve_sessions};
+use replica_greeting::Cluster;
+use session_pool::{
+    Config, Directory, Door, Peer, SessionPool, Terms, accept_all, close, descriptors,
+    serve_sessions,
+};
 use std::alloc::{AllocError, Global};
 use std::io::Eprint;
 use std::net::{Net, SocketAddr, TcpListener, TcpStream};
 use std::sync::Wait;
 use std::thread::{self, Threads};
 use std::time::{Clock, Duration};
-use vr_wire::Cluster;
 
 /// How often it is looked whether the node has a state, in milliseconds.
 const LOOK: u64 = 10;

@@ -7,15 +7,14 @@ use crate::logs::Logs;
 use crate::needed_threads::NeededThreads;
 use crate::places::{Place, own};
 use crate::reporter::Reporter;
-use client_link::{Door, HasDoor, Limits};
 use peer_link::Outbox;
-use replica_greeting::Terms;
+use replica_greeting::{Op, PeerMessage, Terms};
+use session_pool::{Door, HasDoor, Limits};
 use std::alloc::{AllocError, Global};
 use std::fs::File;
 use std::net::{Net, SocketAddr, TcpListener, TcpStream};
 use std::sync::Mutex;
 use std::sync::atomic::{AtomicBool, AtomicU64, Ordering};
-use vr_wire::{Op, PeerMessage};
 
 /// How many messages wait for a replica, at most.
 const MESSAGES: usize = 1024;

@@ -1,13 +1,11 @@
 //! What a server says of its connections, a line an event.
 use crate::reporter::Reporter;
 use crate::showing::shown;
-use client_link::SessionEnd;
-use replica_greeting::Term;
-use session_pool::Away;
+use replica_greeting::{Term, WireError};
+use session_pool::{Away, SessionEnd};
 use std::alloc::{AllocError, Global};
 use std::net::SocketAddr;
 use std::sync::Wait;
-use vr_wire::WireError;
 
 /// A peer that was heard on a connection for the first time.
 pub fn tell_peer_came<R: Wait>(rt: &R, alloc: Global, reporter: &Reporter, sender: u64) {

@@ -1,9 +1,9 @@
 -- Messages of one session that one directory answers, one after the other. What was answered so far comes in, with one more.
 use Rattle.std.proofs.Common.{◌≡◌, ℕ, zero, suc, ◌+◌, ◌≤◌, [], drop, Bool, true, false, refl, sym, ap, subst, ◌∙◌, arith}
 use Rattle.std.specs.Bool.{OnTrue, OnFalse}
-use Rattle.ldap_session.specs.directory_api.Talk.{Exchange}
-use Rattle.ldap_session.specs.session_handler.Session.{ConfigValue}
-use Rattle.ldap_session.specs.View.{ConversationValue}
+use Rattle.client_link.specs.directory_api.Talk.{Exchange}
+use Rattle.client_link.specs.session_handler.Session.{ConfigValue}
+use Rattle.client_link.specs.ldap_session.View.{ConversationValue}
 use Rattle.session_pool.specs.Attending.{talk, IsSame, HasSent, AnswersNext, AnswersInTurn, AnswersSome}
 use Rattle.session_pool.specs.private.Attending.{HasToWrite}
 use Rattle.session_pool.specs.Attending as turns

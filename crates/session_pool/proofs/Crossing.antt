@@ -13,9 +13,9 @@ use Rattle.std.proofs.time.Duration.TheSendSync as duration
 use Rattle.std.proofs.time.Instant.TheSendSync as instant
 use Rattle.mio.proofs.poll.Registry.TheSendSync as registry
 use Rattle.mio.proofs.waker.Waker.TheSendSync as waker
-use Rattle.ldap_session.below.bytes.proofs.unique.BytesMut.TheSendSync as octets
-use Rattle.ldap_session.below.ldap_filter.proofs.tree.Filter.TheLaws.TheKnot as filter
-use Rattle.ldap_session.below.ldap_framer.specs.contracts.framer.Framer as Framer
+use Rattle.client_link.below.bytes.proofs.unique.BytesMut.TheSendSync as octets
+use Rattle.client_link.below.ldap_filter.proofs.tree.Filter.TheLaws.TheKnot as filter
+use Rattle.client_link.below.ldap_framer.specs.contracts.framer.Framer as Framer
 use Rattle.client_link.proofs.Config.TheSendSync as config
 use Rattle.client_link.proofs.Door.TheSendSync as door
 use Rattle.session_table.proofs.Book.TheSendSync as book

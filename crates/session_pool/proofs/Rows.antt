@@ -1,10 +1,10 @@
 -- Sittings of one session in a row. A row comes in, with what was heard behind it; a longer row, or what becomes of the session, comes out.
 use Rattle.std.proofs.Common.{◌≡◌, ℕ, suc, ◌+◌, ◌≤◌, List, None, inl, inr, sym, subst, ◌∙◌, arith}
-use Rattle.ldap_session.specs.directory_api.Talk.{Exchange}
-use Rattle.ldap_session.specs.session_handler.Session.{ConfigValue}
-use Rattle.ldap_session.specs.View.{ConversationValue}
-use Rattle.ldap_session.specs.declared.due.Due.TheVariants.{Nothing as DueNothing}
-use Rattle.ldap_session.specs.declared.end.SessionEnd.{SessionEnd}
+use Rattle.client_link.specs.directory_api.Talk.{Exchange}
+use Rattle.client_link.specs.session_handler.Session.{ConfigValue}
+use Rattle.client_link.specs.ldap_session.View.{ConversationValue}
+use Rattle.client_link.specs.ldap_session.declared.due.Due.TheVariants.{Nothing as DueNothing}
+use Rattle.client_link.specs.ldap_session.declared.end.SessionEnd.{SessionEnd}
 use Rattle.client_link.specs.Served.{config_of}
 use Rattle.session_pool.specs.Attending.{talk, IsSame, IsAllSaid, IsHeardEnd, Becomes}
 use Rattle.session_pool.specs.private.Attending.{HasHeard}

@@ -2,17 +2,17 @@
 -- said and answered comes out. Sockets and clocks are not here.
 use Rattle.std.specs.Prelude.{◌≡◌, ◌⊎◌, ◌≤◌, ℕ, suc, List, [], take, length, Option, Some, None}
 use Rattle.std.specs.Io.KnownBytes.{Consumes}
-use Rattle.ldap_session.specs.directory_api.Talk.{Exchange}
-use Rattle.ldap_session.specs.session_handler.Session.{ConfigValue}
-use Rattle.ldap_session.specs.View.{ConversationValue, conversation_view}
-use Rattle.ldap_session.specs.Conversing.{Hears, Continues, sends}
-use Rattle.ldap_session.specs.Progress.{IsAtLast}
-use Rattle.ldap_session.specs.Waiting.{due}
-use Rattle.ldap_session.specs.declared.due.Due.{Due}
-use Rattle.ldap_session.specs.declared.due.Due.TheVariants.{Nothing as DueNothing, Update as DueUpdate, Other as DueOther}
-use Rattle.ldap_session.specs.declared.due.Step.{Step}
-use Rattle.ldap_session.specs.declared.end.SessionEnd.{SessionEnd}
-use Rattle.ldap_session.specs.declared.end.SessionEnd.TheVariants.{ReadFailed, WriteFailed, NoMemory}
+use Rattle.client_link.specs.directory_api.Talk.{Exchange}
+use Rattle.client_link.specs.session_handler.Session.{ConfigValue}
+use Rattle.client_link.specs.ldap_session.View.{ConversationValue, conversation_view}
+use Rattle.client_link.specs.ldap_session.Conversing.{Hears, Continues, sends}
+use Rattle.client_link.specs.ldap_session.Progress.{IsAtLast}
+use Rattle.client_link.specs.ldap_session.Waiting.{due}
+use Rattle.client_link.specs.ldap_session.declared.due.Due.{Due}
+use Rattle.client_link.specs.ldap_session.declared.due.Due.TheVariants.{Nothing as DueNothing, Update as DueUpdate, Other as DueOther}
+use Rattle.client_link.specs.ldap_session.declared.due.Step.{Step}
+use Rattle.client_link.specs.ldap_session.declared.end.SessionEnd.{SessionEnd}
+use Rattle.client_link.specs.ldap_session.declared.end.SessionEnd.TheVariants.{ReadFailed, WriteFailed, NoMemory}
 use Rattle.session_pool.specs.declared.pooled.PooledSession.{PooledSession}
 use Rattle.session_pool.specs.declared.pooled.Then.{Then}
 use Rattle.session_pool.specs.declared.pooled.Then.TheVariants.{Listens, Updates, Queues, Waits, Ends as ThenEnds}

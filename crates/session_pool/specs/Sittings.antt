@@ -1,10 +1,10 @@
 -- Sessions in the hands of a thread, sitting after sitting. A session and a directory before and after come in; what the thread may do with them
 -- before another session has its turn comes out. Sockets, clocks and queues are not here.
 use Rattle.std.specs.Prelude.{◌⊎◌, ◌≤◌, ℕ, suc, List, None}
-use Rattle.ldap_session.specs.directory_api.Talk.{Exchange}
-use Rattle.ldap_session.specs.session_handler.Session.{ConfigValue}
-use Rattle.ldap_session.specs.View.{ConversationValue}
-use Rattle.ldap_session.specs.declared.due.Due.TheVariants.{Nothing as DueNothing}
+use Rattle.client_link.specs.directory_api.Talk.{Exchange}
+use Rattle.client_link.specs.session_handler.Session.{ConfigValue}
+use Rattle.client_link.specs.ldap_session.View.{ConversationValue}
+use Rattle.client_link.specs.ldap_session.declared.due.Due.TheVariants.{Nothing as DueNothing}
 use Rattle.client_link.specs.Served.{config_of}
 use Rattle.session_pool.specs.Attending.{HearsSome, IsHeardEnd, HasSent, IsAllSaid, Becomes, Answers, AnswersSome}
 use Rattle.session_pool.specs.declared.pooled.Then.{Then}

@@ -1,7 +1,7 @@
 //! A session at a seat: its messages are answered, and it is parked, queued or ended. Which session comes next is not here.
 ghost use Rattle.std.specs.Prelude.{◌≡◌, None};
 ghost use Rattle.std.specs.Bool.{OnTrue, OnFalse};
-ghost use Rattle.ldap_session.specs.session_handler.View.{config_view};
+ghost use Rattle.client_link.specs.session_handler.View.{config_view};
 ghost use Rattle.client_link.specs.Served.{config_of};
 ghost use Rattle.session_pool.specs.Attending.{talk, IsSame, Becomes, AnswersNext, AnswersSome};
 ghost use Rattle.session_pool.specs.private.Attending.{HasHeard};
@@ -10,8 +10,7 @@ ghost use Rattle.session_pool.specs.Sittings.{Sitting, Attends, HasAttendedSome}
 use crate::pool::SessionPool;
 use crate::pooled::{Heard, PooledSession, Then};
 use crate::tells::Tells;
-use client_link::{Config, Directory};
-use ldap_session::Due;
+use client_link::{Config, Directory, Due};
 use session_table::Queue;
 use std::sync::Wait;
 use std::sync::atomic::Ordering;

@@ -1,13 +1,12 @@
 //! Binds that are refused, so that they can be told. Who is bound is decided below; where it is written is above.
 ghost use Rattle.std.specs.Prelude.{◌≡◌, ◌-◌, ◌<◌, length, Some, IfSome, IfNone, slice_get};
-ghost use Rattle.ldap_session.specs.session_handler.View.{config_view};
+ghost use Rattle.client_link.specs.session_handler.View.{config_view};
 ghost use Rattle.session_pool.specs.Attending.{talk, IsSame, Answers};
 
 use crate::pool::SessionPool;
 use crate::pooled::PooledSession;
 use crate::tells::Tells;
-use client_link::{Config, Directory};
-use ldap_session::Step;
+use client_link::{Config, Directory, Step};
 use std::alloc::{AllocError, Global};
 use std::sync::Wait;
 use std::time::Clock;

@@ -43,9 +43,9 @@ mod tells;
 mod updaters;
 mod updating;
 
-pub use ldap_session::{
-    Client, CompareRequest, Ended, Found, LookError, Reply, Role, SearchAnswer, SearchRequest,
-    Update,
+pub use client_link::{
+    Client, CompareRequest, Config, Directory, Door, Ended, Found, HasDoor, Limits, LookError,
+    Peer, Reply, Role, SearchAnswer, SearchRequest, SessionEnd, Update, accept_all, close,
 };
 pub use limit::descriptors;
 pub use no_reads::NoReads;

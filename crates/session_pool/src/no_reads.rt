@@ -1,8 +1,8 @@
 //! A look that finds nothing: the reads of a directory that only updates.
 ghost use Rattle.std.specs.Prelude.{◌≡◌};
-ghost use Rattle.ldap_session.specs.directory_api.Talk.{Exchange};
+ghost use Rattle.client_link.specs.directory_api.Talk.{Exchange};
 
-use ldap_session::{CompareRequest, Found, Look, LookError, Reply, SearchAnswer, SearchRequest};
+use client_link::{CompareRequest, Found, Look, LookError, Reply, SearchAnswer, SearchRequest};
 use std::alloc::Global;
 use std::marker::PhantomData;
 

@@ -1,15 +1,14 @@
 //! A session with its socket. Octets come from the socket into its conversation, and go back. Whose turn it is is not here.
 ghost use Rattle.std.specs.Prelude.{◌≡◌, ◌↔◌, [], length, true, IsTrue, None, IfOk, OnOk, OnErr};
-ghost use Rattle.ldap_session.specs.Conversing.{IsFresh};
-ghost use Rattle.ldap_session.specs.View.{conversation_view};
+ghost use Rattle.client_link.specs.ldap_session.Conversing.{IsFresh};
+ghost use Rattle.client_link.specs.ldap_session.View.{conversation_view};
 ghost use Rattle.session_pool.specs.declared.place_state.Turn.{Turn};
 ghost use Rattle.session_pool.specs.Attending.{talk, due_next, IsSame, HasSent, Becomes};
 ghost use Rattle.session_pool.specs.private.Attending.{HasHeard, began_while, began_in, HasPaused, IsLate, SendsTo, HasToWrite, IsSlow, HasCause, WaitsFor, HasWaited, IsSilent, IsUpdateNext};
 
 use crate::place_state::Turn;
 use crate::updaters::is_past;
-use client_link::{SessionEnd, stretch};
-use ldap_session::{Conversation, Due};
+use client_link::{Conversation, Due, SessionEnd, stretch};
 use session_table::Queue;
 use std::alloc::Global;
 use std::io;

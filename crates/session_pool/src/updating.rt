@@ -1,5 +1,5 @@
 //! Updates, in threads of their own, so that one that waits for other replicas holds up no read. What an update asks for is below.
-ghost use Rattle.ldap_session.specs.session_handler.View.{config_view};
+ghost use Rattle.client_link.specs.session_handler.View.{config_view};
 ghost use Rattle.client_link.specs.Served.{config_of};
 ghost use Rattle.session_pool.specs.Attending.{talk, IsSame, Answers};
 ghost use Rattle.session_pool.specs.Sittings.{HasUpdatedSome};

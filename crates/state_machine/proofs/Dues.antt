@@ -3,7 +3,7 @@ use Rattle.std.proofs.Common.{◌≡◌, ◌≢◌, ℕ, ◌<◌, ◌≤◌, min
 use Rattle.std.specs.Prelude.{OnErr}
 use Rattle.std.proofs.lemmas.List.{length-take, length-drop, take_all}
 use Rattle.std.proofs.Math.ListN.{drop_of_length-le}
-use Rattle.log_entry.specs.declared.words.LogEntry.{LogEntry}
+use Rattle.dir_store.specs.directory_api.log_entry.declared.words.LogEntry.{LogEntry}
 use Rattle.dir_store.specs.ldap_op.Values.{OpValue}
 use Rattle.state_machine.specs.Executing.{IsFront}
 

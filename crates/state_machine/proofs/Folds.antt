@@ -1,7 +1,7 @@
 -- One more record: the directory and the replies go on as those of the records with it. Definitions flow in; the fold's step flows out.
 use Rattle.std.proofs.Common.{◌≡◌, ℕ, suc, ◌+◌, List, [], ◌∷◌, ◌++◌, length, Result, Ok, Err, refl, sym, ap, ◌∙◌, subst, arith}
 use Rattle.std.proofs.lemmas.List.{map-append}
-use Rattle.log_entry.specs.declared.words.LogEntry.{LogEntry}
+use Rattle.dir_store.specs.directory_api.log_entry.declared.words.LogEntry.{LogEntry}
 use Rattle.dir_store.specs.ldap_schema.Schema.{SchemaModel}
 use Rattle.dir_store.specs.ldap_dn.Names.{RdnModel}
 use Rattle.dir_store.specs.ldap_op.Values.{OpValue}

@@ -1,7 +1,7 @@
 -- What was executed. Records in their order and a directory flow in; what the directory and the replies then are, and which records come next,
 -- flows out. How records come to be committed is not here.
 use Rattle.std.specs.Prelude.{◌≡◌, ◌≢◌, ℕ, List, [], ◌++◌, map, take, drop}
-use Rattle.log_entry.specs.declared.words.LogEntry.{LogEntry}
+use Rattle.dir_store.specs.directory_api.log_entry.declared.words.LogEntry.{LogEntry}
 use Rattle.dir_store.specs.ldap_schema.Schema.{SchemaModel}
 use Rattle.dir_store.specs.ldap_dn.Names.{RdnModel}
 use Rattle.dir_store.specs.index_choice.declared.kinds.Kinds.{Kinds}

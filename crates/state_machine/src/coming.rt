@@ -2,8 +2,7 @@
 ghost use Rattle.std.specs.Prelude.{◌≡◌};
 ghost use Rattle.state_machine.specs.Executing.{due_after};
 
-use dir_store::Op;
-use log_entry::words::LogEntry;
+use dir_store::{LogEntry, Op};
 
 /// The committed records of a log that come next after so many. The log isn't walked, and nothing is copied.
 #[tactic(auto, using(std::proofs::lemmas::List::take_min, crate::proofs::Dues::none_due))]

@@ -6,8 +6,7 @@ ghost use Rattle.state_machine.specs.Executing.{IsFront, directory_at, replies_a
 ghost use Rattle.dir_store.specs.directory_api.View.{reply_view};
 
 use crate::coming::due;
-use dir_store::{Op, Reply, Store};
-use log_entry::words::LogEntry;
+use dir_store::{LogEntry, Op, Reply, Store};
 use std::alloc::{AllocError, Global};
 use std::marker::Model;
 

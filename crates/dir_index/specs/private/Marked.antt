@@ -1,9 +1,9 @@
 -- The postings that list an entry, as a set of keys. Lists of numbers are not here.
 use Rattle.std.specs.Prelude.{ℕ, List, Bool, false, ◌&&◌, ◌||◌, nat_eq, nat_lt, length}
 use Rattle.std.specs.List.{list_any}
-use Rattle.dir_entry.specs.ldap_match.Keyed.{is_same_key}
-use Rattle.dir_entry.specs.ldap_match.Parts.{is_at_start}
-use Rattle.dir_entry.specs.Entry.{KeyedAttribute}
+use Rattle.index_choice.specs.dir_entry.ldap_match.Keyed.{is_same_key}
+use Rattle.index_choice.specs.dir_entry.ldap_match.Parts.{is_at_start}
+use Rattle.index_choice.specs.dir_entry.Entry.{KeyedAttribute}
 use Rattle.index_choice.specs.declared.kinds.Kinds.{Kinds}
 use Rattle.index_choice.specs.Choice.{kinds_of}
 use Rattle.dir_index.specs.declared.posting.Posting.{Posting}

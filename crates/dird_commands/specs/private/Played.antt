@@ -1,7 +1,7 @@
 -- What playing a script writes, and why a script isn't played: what contracts that aren't public say of it.
 -- What public contracts say is in specs/Played.
 use Rattle.std.specs.Prelude.{◌≡◌, ◌⊎◌, ℕ, List, [], ◌∷◌, false, Option, None, IfSome, codes, flat_map}
-use Rattle.dir_lab.specs.Shown.{Shown}
+use Rattle.lab_script.specs.dir_lab.Shown.{Shown}
 use Rattle.hex_session.specs.Lines.{is_empty, first_line, after_line}
 use Rattle.lab_script.specs.Script.{IsBadLine}
 use Rattle.lab_script.specs.Played.{IsPlayed}

@@ -1,10 +1,10 @@
 -- The lines that a lab writes: what it shows comes in, text goes out.
 use Rattle.std.specs.Prelude.{◌++◌, ℕ, List, [], ◌∷◌, codes, decimal, flat_map, length}
-use Rattle.dir_lab.specs.Shown.{Shown, Replied, Unavailable, NotYet, Answered, Standing, Down}
-use Rattle.dir_lab.specs.vr_world.declared.words.ReplyBy.{ReplyBy}
-use Rattle.dir_lab.specs.dir_search.directory_api.Answers.{Answer}
-use Rattle.vr_state.specs.declared.words.Status.{Status}
-use Rattle.vr_state.specs.declared.words.Status.TheVariants.{Normal, ViewChange, Recovering}
+use Rattle.lab_script.specs.dir_lab.Shown.{Shown, Replied, Unavailable, NotYet, Answered, Standing, Down}
+use Rattle.lab_script.specs.dir_lab.vr_world.declared.words.ReplyBy.{ReplyBy}
+use Rattle.lab_script.specs.dir_lab.dir_search.directory_api.Answers.{Answer}
+use Rattle.lab_script.specs.dir_lab.vr_state.declared.words.Status.{Status}
+use Rattle.lab_script.specs.dir_lab.vr_state.declared.words.Status.TheVariants.{Normal, ViewChange, Recovering}
 
 -- a line of output
 abbrev pub line_of : List ℕ → List ℕ

@@ -2,7 +2,7 @@
 -- flows out.
 use Rattle.std.specs.Prelude.{Option, Some, None}
 use Rattle.std.specs.FinMap as map
-use Rattle.directory_api.specs.log_entry.declared.words.Client.{Client}
+use Rattle.dir_store.specs.directory_api.log_entry.declared.words.Client.{Client}
 use Rattle.local_directory.specs.private.ClientOrder.{client_cmp}
 use Rattle.local_directory.specs.Latest.{KeptValue}
 

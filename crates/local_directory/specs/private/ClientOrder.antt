@@ -3,8 +3,8 @@ use Rattle.std.specs.Prelude.{ℕ, List, refl}
 use Rattle.std.specs.FinMap as map
 use Rattle.std.specs.Coded.{Coded, code_by, coded×, coded_list, coded_ℕ}
 use Rattle.local_directory.specs.Latest.{KeptValue}
-pub use Rattle.directory_api.specs.log_entry.ClientOrder.{client_cmp}
-pub use Rattle.directory_api.specs.log_entry.private.ClientOrder.{coded_client}
+pub use Rattle.dir_store.specs.directory_api.log_entry.ClientOrder.{client_cmp}
+pub use Rattle.dir_store.specs.directory_api.log_entry.private.ClientOrder.{coded_client}
 
 -- what is kept, as its numbers and the octets of its name
 abbrev pub coded_kept : Coded KeptValue

@@ -1,7 +1,7 @@
 -- LDIF and the directory: what contracts that aren't public say of it.
 -- What public contracts say is in specs/Searched.
 use Rattle.std.specs.Prelude.{◌≡◌, ℕ, List}
-use Rattle.directory_api.specs.Answers.{Answer}
+use Rattle.dir_store.specs.directory_api.Answers.{Answer}
 use Rattle.local_directory.specs.Searched.{answer_text}
 
 -- an answer with success, and its text

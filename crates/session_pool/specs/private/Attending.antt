@@ -5,11 +5,11 @@ use Rattle.std.specs.Io.KnownBytes.{Appends, Consumes}
 use Rattle.std.specs.Duration.{as_nanos, max_nanos}
 use Rattle.std.specs.declared.time.Duration.{Duration}
 use Rattle.std.specs.declared.time.Instant.{Instant}
-use Rattle.ldap_session.specs.View.{SessionValue, ConversationValue}
-use Rattle.ldap_session.specs.Conversing.{sends}
-use Rattle.ldap_session.specs.declared.due.Due.{Due}
-use Rattle.ldap_session.specs.declared.due.Due.TheVariants.{Nothing as DueNothing, Update as DueUpdate, Other as DueOther}
-use Rattle.ldap_session.specs.declared.end.SessionEnd.TheVariants.{WriteFailed}
+use Rattle.client_link.specs.ldap_session.View.{SessionValue, ConversationValue}
+use Rattle.client_link.specs.ldap_session.Conversing.{sends}
+use Rattle.client_link.specs.ldap_session.declared.due.Due.{Due}
+use Rattle.client_link.specs.ldap_session.declared.due.Due.TheVariants.{Nothing as DueNothing, Update as DueUpdate, Other as DueOther}
+use Rattle.client_link.specs.ldap_session.declared.end.SessionEnd.TheVariants.{WriteFailed}
 use Rattle.session_table.specs.declared.spot.Queue.{Queue}
 use Rattle.session_table.specs.declared.spot.Queue.TheVariants.{Silent, Inside, Unsent}
 use Rattle.session_pool.specs.private.Posting.{IsPast}

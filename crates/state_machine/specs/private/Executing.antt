@@ -1,7 +1,7 @@
 -- What was executed: what contracts that aren't public say of it.
 -- What public contracts say is in specs/Executing.
 use Rattle.std.specs.Prelude.{◌≡◌, ◌+◌, List, map, length}
-use Rattle.log_entry.specs.declared.words.LogEntry.{LogEntry}
+use Rattle.dir_store.specs.directory_api.log_entry.declared.words.LogEntry.{LogEntry}
 use Rattle.dir_store.specs.ldap_schema.Schema.{SchemaModel}
 use Rattle.dir_store.specs.ldap_dn.Names.{RdnModel}
 use Rattle.dir_store.specs.ldap_op.Values.{OpValue}

@@ -1,6 +1,6 @@
 use Rattle.std.proofs.Common.{List, sym, ap, ◌∙◌}
 use Rattle.std.specs.Prelude.{◌||◌}
-use Rattle.dir_entry.specs.Entry.{KeyedAttribute}
+use Rattle.index_choice.specs.dir_entry.Entry.{KeyedAttribute}
 use Rattle.dir_index.specs.private.Marked.{has_posting, lists_entry}
 use Rattle.dir_index.proofs.Marking.{entry_step}
 use Rattle.dir_index.proofs.marks.marks_of.Goals as goal

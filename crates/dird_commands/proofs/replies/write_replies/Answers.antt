@@ -1,4 +1,4 @@
-use Rattle.dir_lab.specs.Shown.{shown_view}
+use Rattle.lab_script.specs.dir_lab.Shown.{shown_view}
 use Rattle.dird_commands.specs.private.Replies.{text_of}
 use Rattle.dird_commands.proofs.Replying.{one_more}
 use Rattle.dird_commands.proofs.replies.write_replies.Goals as goal

@@ -1,6 +1,6 @@
 use Rattle.std.proofs.Common.{flat_map, map, take}
 use Rattle.std.specs.Io.KnownBytes.{Appends}
-use Rattle.dir_lab.specs.Shown.{shown_view}
+use Rattle.lab_script.specs.dir_lab.Shown.{shown_view}
 use Rattle.dird_commands.specs.private.Replies.{text_of}
 use Rattle.dird_commands.proofs.replies.write_replies.Given as goal
 

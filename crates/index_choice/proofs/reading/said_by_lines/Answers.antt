@@ -1,7 +1,7 @@
 use Rattle.std.proofs.Common.{◌≡◌, ℕ, ◌+◌, ◌<◌, Bor, length, get_or, List, [], Result, map, drop, sym, ap, ◌∙◌, subst}
 use Rattle.std.proofs.lemmas.Result.{err_from_is_err_and}
 use Rattle.std.proofs.lemmas.List.{at_drop_more}
-use Rattle.ldap_match.specs.ldap_schema.Schema.{SchemaModel}
+use Rattle.dir_entry.specs.ldap_schema.Schema.{SchemaModel}
 use Rattle.index_choice.specs.declared.line.IndexLine.{IndexLine}
 use Rattle.index_choice.specs.declared.error.IndexError.{IndexError}
 use Rattle.index_choice.specs.declared.error.IndexError.TheVariants.{BadDescription, UnknownName, IndexWithoutRule, NoMemory}

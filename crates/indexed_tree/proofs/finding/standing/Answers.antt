@@ -1,6 +1,6 @@
 use Rattle.std.proofs.Common.{sym, ◌∙◌}
-use Rattle.dir_tree.specs.ldap_dn.Names.{rdns}
-use Rattle.dir_tree.specs.Directory.{Entered}
+use Rattle.dir_index.specs.ldap_dn.Names.{rdns}
+use Rattle.directory_api.specs.dir_tree.Directory.{Entered}
 use Rattle.indexed_tree.proofs.Lookups.{found_standing, found_somewhere}
 use Rattle.indexed_tree.proofs.finding.standing.Goals as goal
 

@@ -1,7 +1,7 @@
 use Rattle.std.proofs.Common.{refl, sym, ap, subst, List}
-use Rattle.dir_tree.specs.dir_entry.Entry.{KeyedAttribute}
+use Rattle.dir_index.specs.dir_entry.Entry.{KeyedAttribute}
 use Rattle.dir_index.specs.Whole.{HasEntry, with_attributes}
-use Rattle.dir_tree.specs.Directory.{replaced}
+use Rattle.directory_api.specs.dir_tree.Directory.{replaced}
 use Rattle.indexed_tree.specs.Listed.{listed_of}
 use Rattle.indexed_tree.proofs.Listed.{of_same, held_at, none_at, listed_replaced, none_replaced}
 use Rattle.indexed_tree.proofs.listing.relisted.Goals as goal

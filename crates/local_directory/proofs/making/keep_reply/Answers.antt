@@ -1,5 +1,5 @@
 use Rattle.std.proofs.Common.{sym, ap, ◌∙◌, Some}
-use Rattle.directory_api.specs.Answers.{ReplyModel}
+use Rattle.dir_store.specs.directory_api.Answers.{ReplyModel}
 use Rattle.local_directory.proofs.Tables.{put_same}
 use Rattle.local_directory.proofs.making.keep_reply.Goals as goal
 

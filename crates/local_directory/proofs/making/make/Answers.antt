@@ -1,7 +1,7 @@
 use Rattle.std.proofs.Common.{Some, is_some, ap, ◌∙◌}
 use Rattle.std.specs.Option.{option_map}
 use Rattle.std.specs.FinMap as map
-use Rattle.directory_api.specs.Answers.{ReplyModel}
+use Rattle.dir_store.specs.directory_api.Answers.{ReplyModel}
 use Rattle.dir_store.specs.Updates.{reply_to}
 use Rattle.local_directory.specs.private.ClientOrder.{client_cmp}
 use Rattle.local_directory.specs.private.Changes.{with_kept}

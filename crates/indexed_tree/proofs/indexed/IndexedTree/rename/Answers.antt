@@ -1,9 +1,9 @@
 use Rattle.std.proofs.Common.{refl, ap, subst, ◌∙◌, List}
-use Rattle.dir_tree.specs.dir_entry.Entry.{KeyedAttribute}
-use Rattle.dir_tree.specs.ldap_dn.Names.{rdns}
+use Rattle.dir_index.specs.dir_entry.Entry.{KeyedAttribute}
+use Rattle.dir_index.specs.ldap_dn.Names.{rdns}
 use Rattle.dir_index.specs.Whole.{AreOf}
-use Rattle.dir_tree.specs.Directory.{TreeModel, replaced}
-use Rattle.dir_tree.specs.Placed.{name_placed}
+use Rattle.directory_api.specs.dir_tree.Directory.{TreeModel, replaced}
+use Rattle.directory_api.specs.dir_tree.Placed.{name_placed}
 use Rattle.indexed_tree.specs.Listed.{listed_of}
 use Rattle.indexed_tree.proofs.Listed.{of_same, moved_replaced}
 use Rattle.indexed_tree.proofs.indexed.IndexedTree.rename.Goals as goal

@@ -1,6 +1,6 @@
 use Rattle.std.proofs.Common.{sym, ◌∙◌, Bool, List}
 use Rattle.std.specs.Prelude.{◌&&◌}
-use Rattle.dir_tree.specs.dir_entry.Entry.{KeyedAttribute}
+use Rattle.dir_index.specs.dir_entry.Entry.{KeyedAttribute}
 use Rattle.dir_index.specs.index_choice.Choice.{kinds_of}
 use Rattle.dir_index.specs.Postings.{has_in_range}
 use Rattle.indexed_tree.proofs.Ranged.{told_by_held, told_by_none}

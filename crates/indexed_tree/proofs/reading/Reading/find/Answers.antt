@@ -1,9 +1,9 @@
 use Rattle.std.proofs.Common.{ap, sym, subst, ◌∙◌}
 use Rattle.std.specs.Arc.{arc_value}
 use Rattle.std.specs.Option.{option_map}
-use Rattle.dir_tree.specs.ldap_dn.Names.{rdns}
-use Rattle.dir_tree.specs.dir_entry.Entry.{IsKeyedBy}
-use Rattle.dir_tree.specs.Directory.{TreeModel, Entered, find}
+use Rattle.dir_index.specs.ldap_dn.Names.{rdns}
+use Rattle.dir_index.specs.dir_entry.Entry.{IsKeyedBy}
+use Rattle.directory_api.specs.dir_tree.Directory.{TreeModel, Entered, find}
 use Rattle.indexed_tree.specs.Directory.{NamedEntry}
 use Rattle.indexed_tree.specs.Listed.{StoreModel}
 use Rattle.indexed_tree.specs.Places.{entry_named}

@@ -1,4 +1,4 @@
-use Rattle.ldap_session.specs.session_handler.View.{config_view}
+use Rattle.client_link.specs.session_handler.View.{config_view}
 use Rattle.session_pool.proofs.Attended.{same_then}
 use Rattle.session_pool.proofs.Rows.{one_sitting, one_more_sitting}
 use Rattle.session_pool.proofs.pool.SessionPool.attend.Goals as goal

@@ -1,4 +1,4 @@
-use Rattle.ldap_session.specs.session_handler.View.{config_view}
+use Rattle.client_link.specs.session_handler.View.{config_view}
 use Rattle.client_link.specs.Served.{config_of}
 use Rattle.session_pool.specs.Attending.{talk, IsSame, Becomes}
 use Rattle.session_pool.specs.Sittings.{InARowUpTo}

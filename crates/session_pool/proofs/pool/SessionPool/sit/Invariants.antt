@@ -1,4 +1,4 @@
-use Rattle.ldap_session.specs.session_handler.View.{config_view}
+use Rattle.client_link.specs.session_handler.View.{config_view}
 use Rattle.session_pool.specs.Sittings.{HasAttendedSome}
 use Rattle.session_pool.proofs.pool.SessionPool.sit.Given as goal
 
