@@ -49,6 +49,9 @@ fn all<N: NamePairs>(parts: &[BoundFilter], entry: &Entry, name: &N) -> Truth
     let mut truth = Truth::True;
     for part in parts {
         truth = truth.and(bound_truth(part, entry, name));
+        if truth == Truth::False {
+            return truth;
+        }
     }
     truth
 }
@@ -60,6 +63,9 @@ fn any<N: NamePairs>(parts: &[BoundFilter], entry: &Entry, name: &N) -> Truth
     let mut truth = Truth::False;
     for part in parts {
         truth = truth.or(bound_truth(part, entry, name));
+        if truth == Truth::True {
+            return truth;
+        }
     }
     truth
 }

@@ -1,5 +1,5 @@
 -- Keys that stand within a part of a list in order.
-use Rattle.std.proofs.Common.{◌≡◌, ℕ, zero, suc, ◌<◌, false, List, [], ◌∷◌, ◌++◌, length, get_or, ap, ◌∙◌, arith, append_assoc}
+use Rattle.std.proofs.Common.{◌≡◌, ℕ, zero, suc, ◌<◌, false, List, [], ◌∷◌, ◌++◌, length, get_or, ap, subst, ◌∙◌, arith, append_assoc}
 use Rattle.std.specs.declared.cmp.Ordering.{Ordering}
 use Rattle.std.specs.declared.cmp.Ordering.TheVariants.{Less, Greater}
 use Rattle.std.specs.Ordering.{is_lt}
@@ -8,7 +8,11 @@ use Rattle.std.specs.Map.{lookup}
 use Rattle.std.specs.BTreeMap.{is_at}
 use Rattle.shared_map.specs.Entries.{IsUnder, IsAhead, Rises}
 use Rattle.shared_map.specs.private.Runs.{IsPart}
-use Rattle.shared_map.proofs.Order.{by_ordering, all_map, all_back, past_from_under, rises_back, lookup_past, lookup_ahead}
+use Rattle.shared_map.proofs.Order.{by_ordering, all_map, all_back, past_from_under, rises_front, rises_back, lookup_past, lookup_ahead}
+
+-- a part of a list in order is in order
+pub part_rises : {K X : Type 0} (R : K → K → Ordering) (es run : List (K × X)) → Rises R es → IsPart run es → Rises R run
+part_rises R es run s p = rises_front R run p.after (rises_back R p.before (run ++ p.after) (subst (Rises R) p.is s))
 
 -- a part of the back of a list is one of the list
 pub part_back : {A : Type 0} (front back whole xs : List A) → whole ≡ front ++ back → IsPart xs back → IsPart xs whole

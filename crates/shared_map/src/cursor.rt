@@ -5,6 +5,7 @@ ghost use Rattle.std.specs.Prelude.{◌≡◌, ◌<◌, List, ◌++◌, length, 
 ghost use Rattle.std.specs.Map.{lookup};
 ghost use Rattle.std.specs.BTreeMap.{is_at};
 ghost use Rattle.shared_map.specs.Entries.{Rises};
+ghost use Rattle.shared_map.specs.private.Runs.{IsAt};
 
 use crate::map::SharedMap;
 use crate::shared::Shared;
@@ -48,6 +49,24 @@ fn reaches<K: Ord, V>(run: &[(K, V)], key: &K) -> bool
     }
 }
 
+// The part of a map that a key is looked up in: a run, where it reaches the key, else the key's leaf.
+fn run_for<'a, K: Ord + Shared, V: Shared>(
+    map: &'a SharedMap<K, V>,
+    run: &'a [(K, V)],
+    key: &K,
+) -> &'a [(K, V)]
+    requires { IsAt K.cmp map.now run.now }
+    ensures at { IsAt K.cmp map.now result.now }
+    ensures rises { Rises K.cmp result.now }
+    ensures value { lookup (is_at (K.cmp key.now)) map.now ≡ lookup (is_at (K.cmp key.now)) result.now }
+{
+    if reaches(run, key) {
+        run
+    } else {
+        map.leaf_at(key)
+    }
+}
+
 impl<'a, K: Ord + Shared, V: Shared> Cursor<'a, K, V> {
     /// Over a map.
     pub fn new(map: &'a SharedMap<K, V>) -> Cursor<'a, K, V>
@@ -63,9 +82,8 @@ impl<'a, K: Ord + Shared, V: Shared> Cursor<'a, K, V> {
         ensures same { self.new ≡ self.old }
         ensures value { option_copied result ≡ lookup (is_at (K.cmp key.now)) self.old }
     {
-        if !reaches(self.run, key) {
-            self.run = self.map.leaf_at(key);
-        }
-        found(self.run, key)
+        let run = run_for(self.map, self.run, key);
+        self.run = run;
+        found(run, key)
     }
 }
