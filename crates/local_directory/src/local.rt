@@ -9,7 +9,7 @@ ghost use Rattle.local_directory.specs.Allows.{Ends, made_next};
 
 use crate::client_table::ClientTable;
 use crate::ending::ended_before;
-use crate::making::make;
+use crate::making::{ClientRequest, make};
 use dir_search::{compare_at, search_at};
 use dir_store::Store;
 use directory_api::{
@@ -93,11 +93,14 @@ impl LocalDirectory {
             return Ended::Lost;
         }
         let number = self.number + 1;
+        let request = ClientRequest {
+            client,
+            number: request,
+        };
         match make(
             alloc,
             &mut self.store,
             &mut self.clients,
-            client,
             request,
             number,
             op,
