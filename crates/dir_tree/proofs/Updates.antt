@@ -602,19 +602,20 @@ module _ (r : Roots) (t : IsTree r) where
 
 -- ---- as the code has them
 
-pub added_as : (r r' : Roots) (t : IsTree r) (k : ℕ) (name : List RdnModel) (place : Place) (entry : List KeyedAttribute) (up root : Option ℕ) (reach : ℕ) → AllBelow k (shown r) → is_some (find (rdns name) (shown r)) ≡ false
-    → has_footing (rdns r.suffix) (rdns name) (shown r) ≡ true → up ≡ superior r t name → root ≡ root_after r t k up → reach ≡ r.reach + 1 → place ≡ place_of up name → IsPlaced r k (record { place = place; own = k ∷ []; entry = entry }) root reach r'
+pub added_as : (r r' : Roots) (t : IsTree r) (k : ℕ) (name : List RdnModel) (place : Place) (entry : List KeyedAttribute) (v : Standing) (up root : Option ℕ) (reach : ℕ) → AllBelow k (shown r) → is_some (find (rdns name) (shown r)) ≡ false
+    → has_footing (rdns r.suffix) (rdns name) (shown r) ≡ true → up ≡ superior r t name → root ≡ root_after r t k up → reach ≡ r.reach + 1 → place ≡ place_of up name → v ≡ record { place = place; own = k ∷ []; entry = entry } → IsPlaced r k v root reach r'
     → IsTree r' × (shown r' ≡ shown r ++ record { number = k; name = name_placed (rdns r.suffix) name (shown r); entry = entry } ∷ [])
-added_as r r' t k name place entry up root reach b gone foot e g h at d =
+added_as r r' t k name place entry v up root reach b gone foot e g h at is d =
     added r t r' k name entry up root b gone foot e g
     (subst (λ (x : Place). IsPlaced r k (record { place = x; own = k ∷ []; entry = entry }) root (r.reach + 1) r') at
-    (subst (λ (m : ℕ). IsPlaced r k (record { place = place; own = k ∷ []; entry = entry }) root m r') h d))
+    (subst (λ (m : ℕ). IsPlaced r k (record { place = place; own = k ∷ []; entry = entry }) root m r') h
+    (subst (λ (y : Standing). IsPlaced r k y root reach r') is d)))
 
-pub renamed_as : (r r' : Roots) (t : IsTree r) (k : ℕ) (q : NameKey) (name : List RdnModel) (place : Place) (entry : List KeyedAttribute) (up : Option ℕ) (first reach : ℕ) → option_map (λ (e : Entered). e.number) (find q (shown r)) ≡ Some k
+pub renamed_as : (r r' : Roots) (t : IsTree r) (k : ℕ) (q : NameKey) (name : List RdnModel) (place : Place) (entry : List KeyedAttribute) (v : Standing) (up : Option ℕ) (first reach : ℕ) → option_map (λ (e : Entered). e.number) (find q (shown r)) ≡ Some k
     → name_eq q (rdns r.suffix) ≡ false → is_some (find (above (rdns name)) (shown r)) ≡ true → begins q (above (rdns name)) ≡ false → (is_some (find (rdns name) (shown r)) ≡ true → name_eq q (rdns name) ≡ true)
-    → up ≡ number_at (step_at r.levels) (rdns r.suffix) r.root (above (rdns name)) → first ≡ r.reach + 1 → reach ≡ first + length name → place ≡ place_of up name → IsPlaced r k (record { place = place; own = k ∷ []; entry = entry }) r.root reach r'
+    → up ≡ number_at (step_at r.levels) (rdns r.suffix) r.root (above (rdns name)) → first ≡ r.reach + 1 → reach ≡ first + length name → place ≡ place_of up name → v ≡ record { place = place; own = k ∷ []; entry = entry } → IsPlaced r k v r.root reach r'
     → IsTree r' × (shown r' ≡ moved q (name_placed (rdns r.suffix) name (shown r)) entry (shown r))
-renamed_as r r' t k q name place entry up first reach here root parent apart free e g h at d = by up refl (under k r.entries) refl
+renamed_as r r' t k q name place entry v up first reach here root parent apart free e g h at is d = by up refl (under k r.entries) refl
   where
     number : number_at (step_at r.levels) (rdns r.suffix) r.root q ≡ Some k
     number = sym (find-is (rdns r.suffix) r.root r.reach r.entries (step_at r.levels) t.hung q) ∙ here
@@ -632,7 +633,8 @@ renamed_as r r' t k q name place entry up first reach here root parent apart fre
         renamed r t k q name a (record { here = number; root = root; parent = sym e ∙ f; apart = apart; free = free }) r' entry w u
         (subst (λ (o : Option ℕ). IsPlaced r k (record { place = place_of o name; own = k ∷ []; entry = entry }) r.root (r.reach + 1 + length name) r') f
         (subst (λ (x : Place). IsPlaced r k (record { place = x; own = k ∷ []; entry = entry }) r.root (r.reach + 1 + length name) r') at
-        (subst (λ (m : ℕ). IsPlaced r k (record { place = place; own = k ∷ []; entry = entry }) r.root m r') (h ∙ ap (λ (m : ℕ). m + length name) g) d)))
+        (subst (λ (m : ℕ). IsPlaced r k (record { place = place; own = k ∷ []; entry = entry }) r.root m r') (h ∙ ap (λ (m : ℕ). m + length name) g)
+        (subst (λ (y : Standing). IsPlaced r k y r.root reach r') is d))))
 
 pub deleted_as : (r r' : Roots) (t : IsTree r) (q : NameKey) (k : ℕ) → option_map (λ (e : Entered). e.number) (find q (shown r)) ≡ Some k → has_below q (shown r) ≡ false → IsRemoved r k r' → IsTree r' × (shown r' ≡ unnumbered k (shown r))
 deleted_as r r' t q k here none d = deleted r t r' q k (sym (find-is (rdns r.suffix) r.root r.reach r.entries (step_at r.levels) t.hung q) ∙ here) none d

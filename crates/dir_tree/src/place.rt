@@ -58,6 +58,19 @@ impl Drop for Standing {
     }
 }
 
+impl Standing {
+    /// An entry of this number at a place, as long as nothing stands below it.
+    pub fn new(number: u64, place: Place, entry: SharedEntry) -> Standing
+        ensures { result ≡ record { place = place; own = number ∷ []; entry = entry } }
+    {
+        Standing {
+            place,
+            own: NumberSet::of_one(number),
+            entry,
+        }
+    }
+}
+
 impl Shared for Standing {
     fn share(&self) -> Result<Standing, AllocError> {
         Ok(Standing {

@@ -286,21 +286,14 @@ impl Roots {
         &self,
         alloc: Global,
         number: u64,
-        place: Place,
-        entry: SharedEntry,
+        standing: Standing,
         root: Option<u64>,
         reach: Reach,
     ) -> Result<Roots, AllocError>
         requires { IsListed self.now.reach (place_at self.now.entries) (below_at self.now.levels) }
-        ensures { IfOk result (λ r. IsPlaced self.now number
-            (record { place = place; own = number ∷ []; entry = entry }) root reach r) }
+        ensures { IfOk result (λ r. IsPlaced self.now number standing root reach r) }
     {
-        let levels = self.moved(alloc, number, &place)?;
-        let standing = Standing {
-            place,
-            own: NumberSet::of_one(number),
-            entry,
-        };
+        let levels = self.moved(alloc, number, &standing.place)?;
         let entries = self.entries.with(alloc, number, standing)?;
         entries.rises();
         Ok(Roots {

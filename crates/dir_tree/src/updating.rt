@@ -9,6 +9,7 @@ ghost use Rattle.dir_tree.specs.Kept.{shown};
 ghost use Rattle.dir_tree.specs.private.Kept.{IsTree};
 ghost use Rattle.dir_tree.specs.Placed.{name_placed};
 
+use crate::place::Standing;
 use crate::roots::{Roots, place_in, root_after};
 use crate::shared::SharedEntry;
 use dir_entry::{Name, Rdn};
@@ -39,7 +40,8 @@ impl Roots {
         let root = root_after(self.root, above, number);
         let reach = self.reach.longer(1)?;
         let place = place_in(alloc, above, name)?;
-        self.placed(alloc, number, place, entry, root, reach)
+        let standing = Standing::new(number, place, entry);
+        self.placed(alloc, number, standing, root, reach)
     }
 
     /// The maps without the entry of a name that nothing stands below.
@@ -78,6 +80,7 @@ impl Roots {
         let above = self.number_over(new_name.rdns());
         let reach = self.reach.longer(1)?.longer(new_name.len() as u64)?;
         let place = place_in(alloc, above, new_name)?;
-        self.placed(alloc, number, place, new_entry, self.root, reach)
+        let standing = Standing::new(number, place, new_entry);
+        self.placed(alloc, number, standing, self.root, reach)
     }
 }

@@ -1,6 +1,8 @@
 // What an item asks. Plain data.
 // What must not be here: descriptions, entries.
 
+use crate::naming_rules::How;
+use dir_entry::TypeId;
 use ldap_filter::SubstringFilter;
 
 /// What an item asks of the attributes of its type and of the subtypes (RFC 4511 4.5.1.7).
@@ -11,4 +13,12 @@ pub enum Asked<'a> {
     AtLeast(&'a [u8]),
     AtMost(&'a [u8]),
     Substrings(&'a SubstringFilter),
+}
+
+/// An extensible item whose rule and type are known (RFC 4511 4.5.1.7.7).
+#[derive(Clone, Copy)]
+pub struct KnownItem<'a> {
+    pub how: How,
+    pub asked_type: &'a Option<TypeId>,
+    pub assertion: &'a [u8],
 }

@@ -19,7 +19,7 @@ ghost use Rattle.std.specs.Option.{option_map};
 ghost use Rattle.dir_entry.specs.ldap_dn.Names.{RdnModel};
 ghost use Rattle.dir_entry.specs.Entry.{KeyedAttribute, IsKeyedBy, attributes_of};
 
-use crate::asking::Asked;
+use crate::asking::{Asked, KnownItem};
 use crate::bound::{BoundFilter, Leaf, Match};
 use crate::matching::{is_matchable, match_test, matches_are_items};
 use crate::naming_rules::{How, NamedRule, named_rule, rule_for};
@@ -348,18 +348,16 @@ fn is_looked_at(schema: &Schema, how: How, asked_type: &Option<TypeId>, type_id:
 fn push_matches(
     alloc: Global,
     schema: &Schema,
-    how: How,
-    asked_type: &Option<TypeId>,
-    assertion: &[u8],
+    item: &KnownItem,
     in_name: bool,
     matches: &mut Vec<BoundFilter>,
 ) -> Result<(), AllocError>
-    ensures { OnOk result (matches.new.items ≡ matches.old.items ++ matches_for schema.now how asked_type.now assertion.now in_name) }
+    ensures { OnOk result (matches.new.items ≡ matches.old.items ++ matches_for schema.now item.now.how item.now.asked_type.now item.now.assertion.now in_name) }
 {
     for number in 0..schema.count_of_types() {
         let type_id = TypeId::new(number);
-        if is_looked_at(schema, how, asked_type, type_id) {
-            let test = match_test(alloc, schema, how, type_id, assertion)?;
+        if is_looked_at(schema, item.how, item.asked_type, type_id) {
+            let test = match_test(alloc, schema, item.how, type_id, item.assertion)?;
             matches.push(BoundFilter::Match(Match {
                 type_id,
                 test,
@@ -374,33 +372,15 @@ fn push_matches(
 fn matches(
     alloc: Global,
     schema: &Schema,
-    how: How,
-    asked_type: &Option<TypeId>,
-    assertion: &[u8],
+    item: &KnownItem,
     dn_attributes: bool,
 ) -> Result<Vec<BoundFilter>, AllocError>
-    ensures { IfOk result (λ v. v.items ≡ matches_with schema.now how asked_type.now assertion.now dn_attributes) }
+    ensures { IfOk result (λ v. v.items ≡ matches_with schema.now item.now.how item.now.asked_type.now item.now.assertion.now dn_attributes) }
 {
     let mut matches = Vec::new(alloc);
-    push_matches(
-        alloc,
-        schema,
-        how,
-        asked_type,
-        assertion,
-        false,
-        &mut matches,
-    )?;
+    push_matches(alloc, schema, item, false, &mut matches)?;
     if dn_attributes {
-        push_matches(
-            alloc,
-            schema,
-            how,
-            asked_type,
-            assertion,
-            true,
-            &mut matches,
-        )?;
+        push_matches(alloc, schema, item, true, &mut matches)?;
     }
     Ok(matches)
 }
@@ -409,20 +389,19 @@ fn matches(
 fn bind_match(
     alloc: Global,
     schema: &Schema,
-    how: How,
-    asked_type: &Option<TypeId>,
-    assertion: &[u8],
+    item: &KnownItem,
     dn_attributes: bool,
 ) -> Result<BoundFilter, AllocError>
-    ensures value { IfOk result (λ b. ((t : ℕ) → asked_type.now ≡ Some t → t < length schema.now.types) → (n : List RdnModel) (e : List KeyedAttribute)
-        → IsKeyedBy schema.now e → bound_value n e b ≡ match_with schema.now how asked_type.now assertion.now dn_attributes n (attributes_of e)) }
-    ensures parts { IfOk result (λ b. IsMatchOn schema.now how asked_type.now assertion.now dn_attributes b) }
+    ensures value { IfOk result (λ b. ((t : ℕ) → item.now.asked_type.now ≡ Some t → t < length schema.now.types)
+        → (n : List RdnModel) (e : List KeyedAttribute) → IsKeyedBy schema.now e → bound_value n e b
+        ≡ match_with schema.now item.now.how item.now.asked_type.now item.now.assertion.now dn_attributes n (attributes_of e)) }
+    ensures parts { IfOk result (λ b. IsMatchOn schema.now item.now.how item.now.asked_type.now item.now.assertion.now dn_attributes b) }
 {
     matches_are_items();
-    if !is_matched(alloc, schema, how, asked_type, assertion)? {
+    if !is_matched(alloc, schema, item.how, item.asked_type, item.assertion)? {
         return Ok(BoundFilter::Undefined);
     }
-    Ok(BoundFilter::Or(matches(alloc, schema, how, asked_type, assertion, dn_attributes)?))
+    Ok(BoundFilter::Or(matches(alloc, schema, item, dn_attributes)?))
 }
 
 /// An extensible item whose rule and type are known.
@@ -444,14 +423,14 @@ fn bind_known(
             Asked::Equality(asked.match_value.as_slice()),
             above,
         ),
-        None => bind_match(
-            alloc,
-            schema,
-            how,
-            asked_type,
-            asked.match_value.as_slice(),
-            asked.dn_attributes,
-        ),
+        None => {
+            let item = KnownItem {
+                how,
+                asked_type,
+                assertion: asked.match_value.as_slice(),
+            };
+            bind_match(alloc, schema, &item, asked.dn_attributes)
+        }
     }
 }
 

@@ -14,20 +14,27 @@ use dir_search::{Client, Op, Reply, ResultCode};
 use dir_store::Store;
 use std::alloc::{AllocError, Global};
 
+/// A client's request for an update.
+#[derive(Clone, Copy)]
+pub struct ClientRequest {
+    pub client: Client,
+    /// The client's number for it.
+    pub number: u64,
+}
+
 /// Keeps a reply as that of a client's latest request, which the table has as a success, and gives it back. Success
 /// takes no memory.
 fn keep_reply(
     alloc: Global,
     clients: &mut ClientTable,
-    client: Client,
-    request: u64,
+    request: ClientRequest,
     number: u64,
     reply: Reply,
 ) -> Result<Reply, AllocError>
-    requires room { map.get clients.old client ≡ Some (kept_as request number (only_code 0)) }
+    requires room { map.get clients.old request.client ≡ Some (kept_as request.number number (only_code 0)) }
     ensures same { IfOk result (λ r. reply_view r ≡ reply_view reply) }
     ensures kept { OnOk result (clients.new
-        ≡ map.insert clients.old client (kept_as request number (reply_view reply))) }
+        ≡ map.insert clients.old request.client (kept_as request.number number (reply_view reply))) }
     ensures err { OnErr result (clients.new ≡ clients.old) }
 
     // What was made is kept without memory.
@@ -38,11 +45,11 @@ fn keep_reply(
     }
     let copied = reply.copy(alloc)?;
     let kept = Kept {
-        request,
+        request: request.number,
         number,
         reply: copied,
     };
-    clients.replace(client, kept);
+    clients.replace(request.client, kept);
     Ok(reply)
 }
 
@@ -52,23 +59,22 @@ fn make_with_room(
     alloc: Global,
     store: &mut Store,
     clients: &mut ClientTable,
-    client: Client,
-    request: u64,
+    request: ClientRequest,
     number: u64,
     op: &Op,
 ) -> Result<Reply, AllocError>
     requires above { NumbersBelow number store.old.directory.entries }
-    requires room { map.get clients.old client ≡ Some (kept_as request number (only_code 0)) }
+    requires room { map.get clients.old request.client ≡ Some (kept_as request.number number (only_code 0)) }
     ensures reply { IfOk result (λ r. reply_view r ≡ reply_to store.old.directory number op.now) }
     ensures directory { OnOk result (store.new.directory ≡ applied store.old.directory number op.now) }
     ensures kept { OnOk result (clients.new
-        ≡ map.insert clients.old client (kept_as request number (reply_to store.old.directory number op.now))) }
+        ≡ map.insert clients.old request.client (kept_as request.number number (reply_to store.old.directory number op.now))) }
     ensures below { OnOk result (NumbersBelow (number + 1) store.new.directory.entries) }
     ensures err { OnErr result (store.new ≡ store.old) }
     ensures err_clients { OnErr result (clients.new ≡ clients.old) }
 {
     let reply = store.apply(alloc, number, op)?;
-    keep_reply(alloc, clients, client, request, number, reply)
+    keep_reply(alloc, clients, request, number, reply)
 }
 
 /// Makes an update under a number above those of all entries, and keeps its reply as that of the client's latest
@@ -77,8 +83,7 @@ pub fn make(
     alloc: Global,
     store: &mut Store,
     clients: &mut ClientTable,
-    client: Client,
-    request: u64,
+    request: ClientRequest,
     number: u64,
     op: &Op,
 ) -> Result<Reply, AllocError>
@@ -86,21 +91,21 @@ pub fn make(
     ensures reply { IfOk result (λ r. reply_view r ≡ reply_to store.old.directory number op.now) }
     ensures directory { OnOk result (store.new.directory ≡ applied store.old.directory number op.now) }
     ensures kept { OnOk result (clients.new
-        ≡ map.insert clients.old client (kept_as request number (reply_to store.old.directory number op.now))) }
+        ≡ map.insert clients.old request.client (kept_as request.number number (reply_to store.old.directory number op.now))) }
     ensures below { OnOk result (NumbersBelow (number + 1) store.new.directory.entries) }
     ensures err { OnErr result (store.new ≡ store.old) }
     ensures err_clients { OnErr result (clients.new ≡ clients.old) }
 {
     let success = Kept {
-        request,
+        request: request.number,
         number,
         reply: Reply::only(alloc, ResultCode::SUCCESS),
     };
-    let before = clients.keep(client, success)?;
-    match make_with_room(alloc, store, clients, client, request, number, op) {
+    let before = clients.keep(request.client, success)?;
+    match make_with_room(alloc, store, clients, request, number, op) {
         Ok(reply) => Ok(reply),
         Err(error) => {
-            clients.put_back(client, before);
+            clients.put_back(request.client, before);
             Err(error)
         }
     }

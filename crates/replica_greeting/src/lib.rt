@@ -13,5 +13,7 @@ mod writing;
 
 pub use meeting::{HEADING, Met, greeting_sender, meet};
 pub use terms::{Term, Terms};
-pub use vr_wire::{Came, Cluster, Frames, Gathering, Op, PeerMessage, WireError, heading, rest};
+pub use vr_wire::{
+    Came, Cluster, FrameSizes, Frames, Gathering, Op, PeerMessage, WireError, heading, rest,
+};
 pub use writing::{GREETING, greeting};

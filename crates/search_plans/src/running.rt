@@ -6,10 +6,10 @@ ghost use Rattle.search_plans.specs.Runs.{AreGuides, left_open, true_set};
 
 use crate::gathering::{Drawn, draw_sided};
 use crate::plan::Sided;
-use crate::resolved::{ResolvedSides, resolve_sided};
+use crate::resolved::resolve_sided;
 use crate::scope::Scope;
 use crate::stream::Stream;
-use crate::telling::is_found;
+use crate::telling::{Criteria, is_found};
 use crate::values::Values;
 use dir_index::Kept;
 use std::alloc::{AllocError, Global};
@@ -20,13 +20,9 @@ use std::marker::Model;
 pub struct Running<'a, K: Kept, V: Values> {
     // prover: contracts speak of the plans that the run was started with
     sided: &'a Sided,
-    /// The same plans, resolved: what is asked about each candidate.
-    sides: ResolvedSides<'a>,
-    kept: &'a K,
-    scope: &'a Scope<'a>,
+    /// The same plans, resolved, and the scope: they decide about each candidate.
+    criteria: Criteria<'a, K>,
     stream: Stream<'a>,
-    /// Whether all candidates are known to be in scope.
-    is_inside: bool,
     values: V,
     tests: u64,
 }
@@ -39,17 +35,17 @@ impl<'a, K: Kept, V: Values> Model for Running<'a, K, V> {
 
     ghost Value = { Progress };
 
-    ghost view = { λ r. progress_of (is_in (K.lists r.kept.now) r.scope.now r.sided.now.must)
-        (is_in (K.lists r.kept.now) r.scope.now r.sided.now.may) (V.value_at r.values) r.scope.now r.stream
+    ghost view = { λ r. progress_of (is_in (K.lists r.criteria.kept.now) r.criteria.scope.now r.sided.now.must)
+        (is_in (K.lists r.criteria.kept.now) r.criteria.scope.now r.sided.now.may) (V.value_at r.values) r.criteria.scope.now r.stream
         r.tests (V.looks r.values) };
 
-    ghost invariant = { λ r. IsUnderWay (is_in (K.lists r.kept.now) r.scope.now r.sided.now.must)
-        (is_in (K.lists r.kept.now) r.scope.now r.sided.now.may) (V.value_at r.values) r.scope.now r.stream
-        r.tests (V.looks r.values) × AreInside r.is_inside r.stream r.scope.now
-        × AreSameWithin (is_in_resolved (K.lists r.kept.now) r.sides.must)
-        (is_in (K.lists r.kept.now) r.scope.now r.sided.now.must) r.scope.now r.stream
-        × AreSameWithin (is_in_resolved (K.lists r.kept.now) r.sides.may)
-        (is_in (K.lists r.kept.now) r.scope.now r.sided.now.may) r.scope.now r.stream };
+    ghost invariant = { λ r. IsUnderWay (is_in (K.lists r.criteria.kept.now) r.criteria.scope.now r.sided.now.must)
+        (is_in (K.lists r.criteria.kept.now) r.criteria.scope.now r.sided.now.may) (V.value_at r.values) r.criteria.scope.now r.stream
+        r.tests (V.looks r.values) × AreInside r.criteria.is_inside r.stream r.criteria.scope.now
+        × AreSameWithin (is_in_resolved (K.lists r.criteria.kept.now) r.criteria.sides.must)
+        (is_in (K.lists r.criteria.kept.now) r.criteria.scope.now r.sided.now.must) r.criteria.scope.now r.stream
+        × AreSameWithin (is_in_resolved (K.lists r.criteria.kept.now) r.criteria.sides.may)
+        (is_in (K.lists r.criteria.kept.now) r.criteria.scope.now r.sided.now.may) r.criteria.scope.now r.stream };
 }
 
 /// Starts a run of two plans that bound the entries whose value is True, within a scope. It looks up the posting lists that the
@@ -74,11 +70,13 @@ pub fn start<'a, K: Kept, V: Values + Drop>(
     let sides = resolve_sided(alloc, sided, kept, known.is_sure)?;
     Ok(Running {
         sided,
-        sides,
-        kept,
-        scope,
+        criteria: Criteria {
+            sides,
+            kept,
+            scope,
+            is_inside: known.is_inside,
+        },
         stream,
-        is_inside: known.is_inside,
         values,
         tests: 0,
     })
@@ -97,15 +95,7 @@ impl<'a, K: Kept, V: Values> Running<'a, K, V> {
         ensures counted { self.new.looks + self.old.tests ≡ self.old.looks + self.new.tests }
     {
         while let Some(number) = self.stream.next() {
-            if is_found(
-                &self.sides,
-                self.kept,
-                self.scope,
-                self.is_inside,
-                &mut self.values,
-                &mut self.tests,
-                number,
-            ) {
+            if is_found(&self.criteria, &mut self.values, &mut self.tests, number) {
                 return Some(number);
             }
         }
@@ -125,11 +115,8 @@ impl<'a, K: Kept, V: Values> Running<'a, K, V> {
     {
         let Running {
             sided: _,
-            sides: _,
-            kept: _,
-            scope: _,
+            criteria: _,
             stream: _,
-            is_inside: _,
             values,
             tests: _,
         } = self;

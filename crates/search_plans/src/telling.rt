@@ -12,34 +12,55 @@ use crate::scope::Scope;
 use crate::values::Values;
 use dir_index::{Kept, Truth};
 
+/// What decides about the candidates of a run: the resolved plans, and the scope.
+pub struct Criteria<'a, K: Kept> {
+    /// The plans of the run, resolved: what is asked about each candidate.
+    pub sides: ResolvedSides<'a>,
+    pub kept: &'a K,
+    pub scope: &'a Scope<'a>,
+    /// Whether all candidates are known to be in scope.
+    pub is_inside: bool,
+}
+
+// Not derived: see "What the gate takes" in docs/ARCHITECTURE.md.
+impl<'a, K: Kept> Drop for Criteria<'a, K> {
+    fn drop(self) {
+        let Criteria {
+            sides: _,
+            kept: _,
+            scope: _,
+            is_inside: _,
+        } = self;
+    }
+}
+
 /// Whether the entry of a candidate is to be given: it is in scope, and its value is True. The plans are asked first, since most candidates of an
 /// intersection fail there, and the scope is the largest set. The value is asked for only where the plans leave it open. Whether it must be
 /// True is asked before whether it may: a filter that the indexes decide then is asked about once, and one that they don't has little that must be.
 pub fn is_found<K: Kept, V: Values>(
-    sides: &ResolvedSides,
-    kept: &K,
-    scope: &Scope,
-    is_inside: bool,
+    criteria: &Criteria<K>,
     values: &mut V,
     tests: &mut u64,
     number: u64,
 ) -> bool
-    requires inside { is_inside ≡ true → has_number number scope.now ≡ true }
-    requires guides { has_number number scope.now ≡ true → IsGuided (is_in_resolved (K.lists kept.now) sides.now.must number)
-        (V.value_at values.old number) (is_in_resolved (K.lists kept.now) sides.now.may number) }
-    requires room { is_left_open (K.lists kept.now) sides.now scope.now number ≡ true
+    requires inside { criteria.now.is_inside ≡ true → has_number number criteria.now.scope.now ≡ true }
+    requires guides { has_number number criteria.now.scope.now ≡ true
+        → IsGuided (is_in_resolved (K.lists criteria.now.kept.now) criteria.now.sides.must number)
+        (V.value_at values.old number) (is_in_resolved (K.lists criteria.now.kept.now) criteria.now.sides.may number) }
+    requires room { is_left_open (K.lists criteria.now.kept.now) criteria.now.sides criteria.now.scope.now number ≡ true
         → (V.looks values.old + 1 < 2 ^ 64) × (tests.old + 1 < 2 ^ 64) }
-    ensures found { result ≡ is_wanted (V.value_at values.old) scope.now number }
-    ensures tests { tests.new ≡ tests.old + cond (is_left_open (K.lists kept.now) sides.now scope.now number) 1 0 }
+    ensures found { result ≡ is_wanted (V.value_at values.old) criteria.now.scope.now number }
+    ensures tests { tests.new ≡ tests.old
+        + cond (is_left_open (K.lists criteria.now.kept.now) criteria.now.sides criteria.now.scope.now number) 1 0 }
     ensures counted { V.looks values.new ≡ V.looks values.old
-        + cond (is_left_open (K.lists kept.now) sides.now scope.now number) 1 0 }
+        + cond (is_left_open (K.lists criteria.now.kept.now) criteria.now.sides criteria.now.scope.now number) 1 0 }
     ensures same { (n : ℕ) → V.value_at values.new n ≡ V.value_at values.old n }
 {
-    let must = has_inside(&sides.must, kept, number);
-    if !must && !has_inside(&sides.may, kept, number) {
+    let must = has_inside(&criteria.sides.must, criteria.kept, number);
+    if !must && !has_inside(&criteria.sides.may, criteria.kept, number) {
         return false;
     }
-    if !is_inside && !scope.has(number) {
+    if !criteria.is_inside && !criteria.scope.has(number) {
         return false;
     }
     if must {

@@ -85,12 +85,14 @@ fn ways<'a, 'r, R: Wait, I: Identity>(
     Ok(ways)
 }
 
-/// What the sessions of a server share.
+/// The settings of a server's threads.
 #[derive(Clone, Copy)]
 struct Terms<'a> {
     config: Config<'a>,
     sessions: usize,
     times: Times,
+    /// Where each replica is found.
+    places: &'a [Place<'a>],
 }
 
 /// Runs all threads over what they share.
@@ -99,9 +101,8 @@ fn run_in<'a, 'r, R, N, I>(
     seats: Vec<Seat<Here>>,
     running: &'a Running<'r, R, FileDevice, JournalFile, I>,
     peer_queues: &'a PeerQueues<'a, R>,
-    places: &'a [Place<'a>],
     guard: &'a ViewGuard,
-    terms: Terms<'_>,
+    terms: Terms<'a>,
 ) -> Result<(), ServerError>
 where
     R: Net<Listener = TcpListener, Stream = TcpStream>
@@ -140,7 +141,7 @@ where
         shared_parts,
         engine: &clock,
         cluster: peer_queues.cluster,
-        places,
+        places: terms.places,
     };
     let gates = gates(&clock)?;
     server.run(ways, gates, terms.sessions, &terms.config)
@@ -151,7 +152,6 @@ fn serve_opened<R, N, I>(
     alloc: Global,
     opened: Opened<'_, R, FileDevice, JournalFile>,
     peer_queues: PeerQueues<'_, R>,
-    places: &[Place<'_>],
     guard: &ViewGuard,
     terms: Terms<'_>,
 ) -> Result<(), ServerError>
@@ -176,7 +176,7 @@ where
     } = opened;
     let running = node.share::<I>();
     peer_queues.post_all(outputs.sends);
-    run_in(alloc, seats, &running, &peer_queues, places, guard, terms)
+    run_in(alloc, seats, &running, &peer_queues, guard, terms)
 }
 
 /// Opens the node, and serves by it.
@@ -231,6 +231,7 @@ where
         config,
         sessions: sessions.max(1),
         times,
+        places,
     };
     let peer_queues = PeerQueues {
         rt,
@@ -239,7 +240,7 @@ where
         asking: Mutex::new(Pace::new(clock_times(&times))),
     };
     // prover: the proof of this call picks the identity of the node that was opened.
-    serve_opened::<R, N, Brand>(alloc, opened, peer_queues, places, &guard, terms)
+    serve_opened::<R, N, Brand>(alloc, opened, peer_queues, &guard, terms)
 }
 
 /// Serves as a replica: listens to the others, opens its node, and serves them, and clients once the node has a state, until the node has stopped

@@ -1,9 +1,10 @@
 //! Messages become frames, in the thread that sends them and outside every lock. Queues and streams are not here.
 use crate::counters::Counters;
 use crate::reporter::Reporter;
+use crate::shared_parts::SharedParts;
 use crate::telling::tell_lost;
 use peer_link::{Bytes, Framing};
-use replica_greeting::{Cluster, Frames, Op, PeerMessage, Terms, WireError, greeting};
+use replica_greeting::{Cluster, FrameSizes, Frames, Op, PeerMessage, Terms, WireError, greeting};
 use std::alloc::Global;
 use std::sync::Wait;
 
@@ -44,25 +45,22 @@ impl<'a, R> Drop for MessageFrames<'a, R> {
 }
 
 impl<'a, R> MessageFrames<'a, R> {
-    /// Frames of this sender in this cluster, which has these terms, to the replica of this index.
+    /// Frames of the server that has these parts, in this cluster, to the replica of this index.
     pub fn new(
         rt: &'a R,
         alloc: Global,
-        reporter: &'a Reporter,
-        counters: &'a Counters,
+        shared_parts: &'a SharedParts,
         cluster: Cluster,
-        sender: u8,
-        terms: Terms,
         to: usize,
     ) -> MessageFrames<'a, R> {
         MessageFrames {
             rt,
             alloc,
-            reporter,
-            counters,
+            reporter: &shared_parts.reporter,
+            counters: &shared_parts.counters,
             cluster,
-            sender,
-            terms,
+            sender: shared_parts.sender,
+            terms: shared_parts.terms,
             to,
             number: 0,
             frames: None,
@@ -80,15 +78,11 @@ impl<'a, R: Wait> MessageFrames<'a, R> {
     /// The frames of the next message.
     fn frames_of(&self, message: &PeerMessage<Op>) -> Result<Frames, WireError> {
         let (alloc, cluster, sender) = (self.alloc, self.cluster, self.sender);
-        Frames::of(
-            alloc,
-            cluster,
-            sender,
-            self.number,
-            usize::MAX,
-            PART,
-            message,
-        )
+        let sizes = FrameSizes {
+            most: usize::MAX,
+            part_size: PART,
+        };
+        Frames::of(alloc, cluster, sender, self.number, sizes, message)
     }
 
     /// The octets of the next frame, where there is one.

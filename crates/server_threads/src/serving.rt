@@ -66,14 +66,8 @@ where
         ) {
             let limit = Duration::from_millis(DIAL_LIMIT);
             let mut dialer = SocketDialer::new(self.rt, place.peer_address, limit);
-            let sender = self.shared_parts.sender;
-            let reporter = &self.shared_parts.reporter;
-            let counters = &self.shared_parts.counters;
             let (rt, alloc, cluster) = (self.rt, self.alloc, self.cluster);
-            let terms = self.shared_parts.terms;
-            let mut frames = MessageFrames::new(
-                rt, alloc, reporter, counters, cluster, sender, terms, to,
-            );
+            let mut frames = MessageFrames::new(rt, alloc, self.shared_parts, cluster, to);
             send_all(self.rt, outbox, &mut frames, &mut dialer);
         }
     }

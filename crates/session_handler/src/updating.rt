@@ -18,6 +18,14 @@ use crate::task::Task;
 use directory_api::{Client, Directory, Ended, Reply, Role, Update, named_client};
 use request_checks::{AnswerError, GREATEST, Identity, ResultCode, response_to, value_for};
 
+/// A client's request for an update.
+#[derive(Clone, Copy)]
+struct ClientRequest {
+    client: Client,
+    /// The client's number for it.
+    number: u64,
+}
+
 impl Task<'_> {
     /// The response to the update, which was made or refused under this number.
     fn say_done(&self, number: u64, reply: Reply) -> Result<Answered, AnswerError>
@@ -50,23 +58,22 @@ impl Task<'_> {
         }
     }
 
-    /// Asks for the update as a client's request of this number, after which the session's own client has made so many requests.
+    /// Asks for the update as a client's request, after which the session's own client has made so many requests.
     #[tactic(auto, using(crate::proofs::Turning::one_update))]
     fn ask_gate<D: Directory>(
         &self,
         state: &mut State,
         directory: &mut D,
-        client: Client,
-        number: u64,
+        request: ClientRequest,
         requests: u64,
         update: Update,
     ) -> Result<Answered, AnswerError>
         requires requests { requests ≡ requests_after state.old.requests self.now.pending.named.request }
         ensures { HasTaken D.allows directory.old directory.new
-            (OutcomeOf state.old self.now.pending (an_update client number (update_view update))) state.new result }
+            (OutcomeOf state.old self.now.pending (an_update request.client request.number (update_view update))) state.new result }
     {
         state.requests = requests;
-        let ended = directory.update(self.alloc, client, number, update);
+        let ended = directory.update(self.alloc, request.client, request.number, update);
         self.end(state, ended)
     }
 
@@ -84,14 +91,11 @@ impl Task<'_> {
     {
         if state.requests < GREATEST {
             let number = state.requests + 1;
-            self.ask_gate(
-                state,
-                directory,
-                self.config.client(),
+            let request = ClientRequest {
+                client: self.config.client(),
                 number,
-                number,
-                update,
-            )
+            };
+            self.ask_gate(state, directory, request, number, update)
         } else {
             self.refuse(state, ResultCode::OTHER)
         }
@@ -110,14 +114,11 @@ impl Task<'_> {
         match self.pending.named.request {
             Some((client, number)) => {
                 let requests = state.requests;
-                self.ask_gate(
-                    state,
-                    directory,
-                    named_client(client),
+                let request = ClientRequest {
+                    client: named_client(client),
                     number,
-                    requests,
-                    update,
-                )
+                };
+                self.ask_gate(state, directory, request, requests, update)
             }
             None => self.ask_as_own(state, directory, update),
         }

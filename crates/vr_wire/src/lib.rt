@@ -38,7 +38,7 @@ pub use headings::heading;
 pub use laws::{is_frame, no_beginning, one_frame};
 pub use ldap_op::Op;
 pub use part_laws::{is_saying, only_parts_give_message, parts_give_message};
-pub use parts::Frames;
+pub use parts::{FrameSizes, Frames};
 pub use reading::{read, rest};
 pub use view_store::Cluster;
 pub use vr_state::message::PeerMessage;

@@ -28,6 +28,15 @@ const MAX_PIECE: usize = LIMIT - PART_HEAD;
 /// Where a message begins in its plain frame: the kind stands at the sender's place, and the rest follows.
 const SAYING: usize = 12;
 
+/// How large the frames of a message may be.
+#[derive(Clone, Copy)]
+pub struct FrameSizes {
+    /// The most octets of a message's one frame; a message of more is cut in parts.
+    pub most: usize,
+    /// The most octets of the message that a part holds.
+    pub part_size: usize,
+}
+
 /// The frames of one message, of which each is handed out once, in their order: the one that the message has where it fits, and else its parts.
 /// The message is spelled once, and a part is copied from there when it is handed out.
 #[derive(Drop)]
@@ -218,23 +227,21 @@ fn put_kind(octets: &mut Vec<u8>)
 }
 
 impl Frames {
-    /// The frames of a message of this sender in this cluster: the one that `write` gives where it has at most `most` octets, and no more than
-    /// 268,435,456, and else its parts, of at most `part_size` octets of the message each. The sender gives another `number` to each message.
-    /// A `part_size` of 0 is taken as 1. E20 only where one frame of it would have 2 ^ 32 octets
-    /// or more.
+    /// The frames of a message of this sender in this cluster: the one that `write` gives where it has at most `sizes.most` octets, and no more
+    /// than 268,435,456, and else its parts, of at most `sizes.part_size` octets of the message each. The sender gives another `number` to each
+    /// message. A `part_size` of 0 is taken as 1. E20 only where one frame of it would have 2 ^ 32 octets or more.
     pub fn of(
         alloc: Global,
         cluster: Cluster,
         sender: u8,
         number: u64,
-        most: usize,
-        part_size: usize,
+        sizes: FrameSizes,
         message: &PeerMessage<Op>,
     ) -> Result<Frames, WireError>
-        ensures { MakesFrames (min most limit) (max part_size 1) cluster sender number (written message.now) result }
+        ensures { MakesFrames (min sizes.most limit) (max sizes.part_size 1) cluster sender number (written message.now) result }
     {
         let mut octets = open_frame::<NO_LIMIT>(alloc, cluster, sender, message)?;
-        if octets.len() <= most.min(LIMIT) {
+        if octets.len() <= sizes.most.min(LIMIT) {
             put_length(&mut octets);
             return Ok(plain(alloc, cluster, octets));
         }
@@ -243,7 +250,7 @@ impl Frames {
             cluster,
             sender,
             number,
-            part_size.max(1).min(MAX_PIECE),
+            sizes.part_size.max(1).min(MAX_PIECE),
             octets,
         )
     }

@@ -12,9 +12,9 @@ use Rattle.ldap_eval.proofs.binding.push_matches.Goals.{then-is_looked_at+in_ok-
 pub loop-number-preserved : goal.loop-number-preserved
 loop-number-preserved c =
     let s = c.args.schema.now in
-    let h = c.args.how in
-    let asked = c.args.asked_type.now in
-    let a = c.args.assertion.now in
+    let h = c.args.item.now.how in
+    let asked = c.args.item.now.asked_type.now in
+    let a = c.args.item.now.assertion.now in
     let dn = c.args.in_name in
     let all = c.args.matches.now.items ++ matches_for s h asked a dn in
     let lt : c.loop-number.number < length s.types = subst (λ (n : ℕ). c.loop-number.number < n) c.count_of_types-number-end.ensures c.loop-number-test.true in
