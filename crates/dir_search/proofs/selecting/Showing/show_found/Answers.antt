@@ -17,6 +17,7 @@ loop-number-init c =
       so_far = subst (λ (l : List FoundEntry). SoFar show c.args.tree.now.entries c.args.self.now.request.now.size_limit all all (map found_view l)) (sym c.new-entries.ensures.items)
           (begins show c.args.tree.now.entries c.args.self.now.request.now.size_limit all c.requires);
       same = refl;
+      read = c.new-reader.ensures;
     }
 
 pub loop-number-preserved : goal.loop-number-preserved
@@ -25,10 +26,12 @@ loop-number-preserved c =
     let all = c.args.running.to_come in
     let shown = map found_view c.loop-number.entries.items in
     let here = subst (λ (l : List ℕ). SoFar show c.args.tree.now.entries c.args.self.now.request.now.size_limit all l shown) c.in-Some.ensures.gives c.loop-number.invariant.so_far in
+    let next = rw c.loop-number.invariant.read at c.in_ok-show_next.ensures in
     record {
-      so_far = shows show c.args.tree.now.entries c.args.self.now.request.now.size_limit all c.next.new.self.to_come shown c.in-Some.number here (map found_view c.show_next.new.entries.items) c.in_ok-show_next.ensures
+      so_far = shows show c.args.tree.now.entries c.args.self.now.request.now.size_limit all c.next.new.self.to_come shown c.in-Some.number here (map found_view c.show_next.new.entries.items) next
           (λ pos e. c.if-is_full.ensures.more pos (ap length c.as_slice.ensures.value ∙ sym (length-map c.loop-number.entries.items found_view) ∙ e));
       same = c.next.ensures.same ∙ c.loop-number.invariant.same;
+      read = c.show_next.ensures.same ∙ c.loop-number.invariant.read;
     }
 
 pub returns-then-is_full : goal.returns-then-is_full
