@@ -9,15 +9,8 @@ ghost use Rattle.local_directory.specs.Allows.{Ends, made_next};
 
 use crate::client_table::ClientTable;
 use crate::ending::ended_before;
-<<<<<<< HEAD
-use crate::making::make;
-use dir_search::{
-=======
 use crate::making::{ClientRequest, make};
-use dir_search::{compare_at, search_at};
-use dir_store::Store;
-use directory_api::{
->>>>>>> e02917957c40a0a4a03324d5ac5e0bd8075cc0ec
+use dir_search::{
     Client, CompareRequest, Directory, Ended, Found, LookError, Op, Reply, Role, SearchAnswer,
     SearchRequest, Update, compare_at, search_at,
 };
