@@ -12,3 +12,4 @@ pub mod Updates
 pub mod UpFacts
 pub mod TreeReads
 pub mod TreeCrossing
+pub mod Visits

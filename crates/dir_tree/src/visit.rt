@@ -2,7 +2,7 @@
 // that stand near each other cost one look-up for each leaf.
 // Which numbers are asked about is not here.
 
-ghost use Rattle.std.specs.Prelude.{◌≡◌, ◌++◌, ◌∷◌, [], IfSome, is_some, true};
+ghost use Rattle.std.specs.Prelude.{◌≡◌, ◌++◌, ◌∷◌, [], IfSome, Some, is_some, option_copied, true};
 ghost use Rattle.std.specs.Option.{option_map};
 ghost use Rattle.dir_tree.specs.Directory.{entry_at};
 ghost use Rattle.dir_tree.specs.private.Visits.{IsVisit};
@@ -52,6 +52,16 @@ fn under(place: &Place) -> Option<(u64, &Rdn)>
     }
 }
 
+/// The same of an entry, if there is one.
+fn superior_of(standing: Option<&Standing>) -> Option<(u64, &Rdn)>
+    ensures { IfSome result (λ p. option_map (λ s. s.place) (option_copied standing.entry) ≡ Some (Under p.0 p.1.now)) }
+{
+    match standing {
+        Some(standing) => under(&standing.place),
+        None => None,
+    }
+}
+
 impl<'a> Visit<'a> {
     /// Over a tree and its entries.
     pub(crate) fn of(tree: &'a Tree, entries: &'a Entries) -> Visit<'a>
@@ -89,9 +99,7 @@ impl<'a> Visit<'a> {
         ensures name { IfSome result (λ p. option_map (λ e. e.name) (entry_at number self.old.entries)
             ≡ option_map (λ e. e.name ++ p.1.now ∷ []) (entry_at p.0 self.old.entries)) }
     {
-        match self.entries.get(&number) {
-            Some(standing) => under(&standing.place),
-            None => None,
-        }
+        let standing = self.entries.get(&number);
+        superior_of(standing)
     }
 }
