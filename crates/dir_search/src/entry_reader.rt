@@ -35,13 +35,14 @@ impl<'a> Drop for EntryReader<'a> {
 }
 
 impl<'a> Model for EntryReader<'a> {
+    ghost use Rattle.std.specs.Prelude.{string_bytes};
     ghost use Rattle.dir_search.specs.private.Named.{ReaderModel, IsBehind};
 
     ghost Value = { ReaderModel };
 
     ghost view = { λ r. record { schema = r.schema.now; entries = r.visit.entries } };
 
-    ghost invariant = { λ r. IsBehind r.schema.now r.visit.entries r.superior r.behind };
+    ghost invariant = { λ r. IsBehind r.schema.now r.visit.entries r.superior (string_bytes r.behind) };
 }
 
 /// Whether a number is this one.

@@ -26,7 +26,7 @@ loop-number-preserved c =
     let all = c.args.running.to_come in
     let shown = map found_view c.loop-number.entries.items in
     let here = subst (λ (l : List ℕ). SoFar show c.args.tree.now.entries c.args.self.now.request.now.size_limit all l shown) c.in-Some.ensures.gives c.loop-number.invariant.so_far in
-    let next = rw c.loop-number.invariant.read at c.in_ok-show_next.ensures in
+    let next = rw c.loop-number.invariant.read at c.in_ok-show_next.ensures.shown in
     record {
       so_far = shows show c.args.tree.now.entries c.args.self.now.request.now.size_limit all c.next.new.self.to_come shown c.in-Some.number here (map found_view c.show_next.new.entries.items) next
           (λ pos e. c.if-is_full.ensures.more pos (ap length c.as_slice.ensures.value ∙ sym (length-map c.loop-number.entries.items found_view) ∙ e));
