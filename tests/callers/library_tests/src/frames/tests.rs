@@ -5,7 +5,7 @@ use std::alloc::Global;
 use std::process::Abort;
 use std::test::*;
 use vr_state::message::PeerMessage;
-use vr_wire::{Came, Cluster, Frames, Gathering, WireError, read, rest, write};
+use vr_wire::{Came, Cluster, FrameSizes, Frames, Gathering, WireError, read, rest, write};
 
 /// Replica 0 of cluster 9 says in view 0 that four records are committed.
 const COMMIT: &str = "0000001902000000000009030000000000000000000000000000000004";
@@ -227,7 +227,11 @@ fn parts_of(
     text: &str,
 ) -> Result<Vec<Vec<u8>>, Fail> {
     let (sender, message) = read(alloc, &decode(alloc, text)?, cluster(rt, 9))?;
-    let mut frames = Frames::of(alloc, cluster(rt, 9), sender, number, 10, size, &message)?;
+    let sizes = FrameSizes {
+        most: 10,
+        part_size: size,
+    };
+    let mut frames = Frames::of(alloc, cluster(rt, 9), sender, number, sizes, &message)?;
     let mut parts = Vec::new(alloc);
     for _ in 0..1000 {
         match frames.next(alloc)? {

@@ -4,8 +4,12 @@ use crate::threads::signal::Signal;
 use ldap_op::Update;
 use peer_link::Framing;
 use replica_greeting::{Met, Term, Terms, meet};
-use server_threads::{Counters, MessageFrames, Note, NoteWriter, Reporter};
+use server_threads::{
+    Address, Choices, Limits, Logs, MessageFrames, Note, NoteWriter, Place, Reporter,
+    ServerError, SharedParts, make_shared_parts,
+};
 use std::alloc::{AllocError, Global};
+use std::net::SocketAddr;
 use std::process::Abort;
 use std::sync::{Mutex, Wait};
 use std::test::*;
@@ -123,22 +127,34 @@ fn terms_under(suffix: &str) -> Terms {
     Terms::of(None, suffix, "127.0.0.1:389\n")
 }
 
+/// What the threads of a replica share that listens where the system lets it.
+fn parts_under(rt: &HostRuntime, terms: Terms) -> Result<SharedParts, ServerError> {
+    let anywhere = Address::Numbers(SocketAddr::from(([127, 0, 0, 1], 0)));
+    let place = Place {
+        peer_address: anywhere,
+        ldap_address: anywhere,
+        uri: None,
+    };
+    let choices = Choices {
+        limits: Limits::usual(),
+        terms,
+        updates: 1,
+        metrics: None,
+        logs: Logs {
+            connections: false,
+            updates: false,
+            slow: 10_000,
+        },
+    };
+    make_shared_parts(rt, rt.alloc(), &[place, place, place], 0, choices, None)
+}
+
 #[test]
 fn a_greeting_tells_the_terms(rt: HostRuntime) -> Result<(), Fail> {
     let cluster = Cluster::new(9).expect(&rt, "9 is the number of a cluster");
-    let reporter = Reporter::new(rt.alloc(), 128)?;
     let terms = terms_under("dc=example,dc=com");
-    let counters = Counters::new(rt.alloc(), 3)?;
-    let mut frames = MessageFrames::new(
-        &rt,
-        rt.alloc(),
-        &reporter,
-        &counters,
-        cluster,
-        0,
-        terms,
-        1,
-    );
+    let shared_parts = parts_under(&rt, terms).expect(&rt, "there are ports");
+    let mut frames = MessageFrames::new(&rt, rt.alloc(), &shared_parts, cluster, 1);
     let greeting = frames.greeting().expect(&rt, "there is memory");
     let alike = meet(greeting.as_slice(), cluster, &terms);
     assert!(rt; alike == Ok(Met::Alike { sender: 0 }));
