@@ -76,6 +76,19 @@ impl Octets {
         })
     }
 
+    /// The octets of a vector. Short ones are copied into the value and the vector is dropped; a longer one is kept without its spare room.
+    pub fn from_vec(alloc: Global, mut octets: Vec<u8>) -> Result<Octets, AllocError>
+        ensures { IfOk result (λ o. o ≡ octets.items) }
+    {
+        if octets.len() <= ROOM {
+            return Ok(short(&octets));
+        }
+        octets.shrink_to_fit();
+        Ok(Octets {
+            held: Held::Long(Arc::new(alloc, octets)?),
+        })
+    }
+
     /// The octets.
     pub fn as_slice(&self) -> &[u8]
         ensures { result.now ≡ self.now }
@@ -101,6 +114,10 @@ impl Shared for Octets {
 
     fn most_in_leaf() -> usize {
         16
+    }
+
+    fn mostly_rises() -> bool {
+        false
     }
 }
 
