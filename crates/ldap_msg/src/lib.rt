@@ -21,9 +21,11 @@ pub use encoding::{encode, encode_search_entry, is_message};
 pub use ldap_requests::{
     AttributeValueAssertion, AuthenticationChoice, BerFault, BindRequest, CompareRequest,
     DerefAliases, ExtendedRequest, Filter, MsgFault, SaslCredentials, Scope, SearchRequest,
-    WriteError as EncodeError, header,
+    WriteError as EncodeError, header, write,
 };
-pub use ldap_responses::{AttributeParts, ExtendedResponse, SearchResultEntry};
+pub use ldap_responses::{
+    AttributeParts, ExtendedResponse, SearchResultEntry, add_lengths, element_length, write_head,
+};
 pub use ldap_updates::{
     AddRequest, Attribute, Change, Control, LdapResult, ModifyDnRequest, ModifyOperation,
     ModifyRequest, PartialAttribute, ResultCode,

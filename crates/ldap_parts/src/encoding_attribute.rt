@@ -8,16 +8,14 @@ ghost use Rattle.ldap_parts.specs.View.{attribute_view};
 ghost use Rattle.ldap_parts.specs.Written.{attribute_content, attribute_bytes};
 
 use crate::attribute::{AttributeParts, PartialAttribute};
-use ldap_fields::{
-    WriteError, add_lengths, element_length, put_value_set, values_length, write, write_head,
-};
+use ldap_fields::{WriteError, add_lengths, element_length, write, write_head};
 use std::alloc::Global;
 
 /// How many octets the content of an attribute takes; 2^32 where there are more.
 fn content_length<A: AttributeParts>(attribute: &A) -> usize
     ensures { result ≡ min (length (attribute_content (A.attribute attribute.now))) (2 ^ 32) }
 {
-    let values = values_length(attribute.values());
+    let values = attribute.values_length();
     let description = attribute.description().as_bytes().len();
     add_lengths(element_length(description), element_length(values))
 }
@@ -43,7 +41,7 @@ fn put_content<A: AttributeParts>(attribute: &A, out: &mut Vec<u8>) -> Result<()
     ensures kept { out.new.items ≡ out.old.items ++ drop (length out.old.items) out.new.items }
 {
     write(0x04, attribute.description().as_bytes(), out)?;
-    put_value_set(attribute.values(), out)
+    attribute.put_values(out)
 }
 
 /// Writes an attribute.

@@ -11,5 +11,5 @@ returns g c =
     let row = row_bytes (element_bytes 4) a.values in
     two_measure (element_bytes 4 a.description) (element_bytes 49 row) c.element_length.result c.element_length-2.result 4294967296 c.add_lengths.result
     (c.element_length.ensures 4 a.description (ap (λ (bs : List ℕ). min (length bs) 4294967296) (c.as_bytes-description.ensures.value ∙ c.description.ensures)))
-    (c.element_length-2.ensures 49 row (same_measure c.values_length-values.result row 4294967296 (c.values_length-values.ensures ∙ ap (λ (vs : List (List ℕ)). min (length (row_bytes (element_bytes 4) vs)) 4294967296) c.values.ensures)))
+    (c.element_length-2.ensures 49 row (same_measure c.values_length-values.result row 4294967296 c.values_length-values.ensures))
     c.add_lengths.ensures

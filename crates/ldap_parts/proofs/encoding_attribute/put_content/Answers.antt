@@ -21,14 +21,14 @@ pub returns-clause-ok : goal.returns-clause-ok
 returns-clause-ok g c =
     let description = (g.A.AttributeParts.attribute c.args.attribute.now).description in
     let row = row_bytes (element_bytes 4) (g.A.AttributeParts.attribute c.args.attribute.now).values in
-    two c.put_value_set.result c.args.out.now.items (element_bytes 4 description) (element_bytes 49 row) c.write.new.out.items c.put_value_set.new.out.items
-    (rw (c.as_bytes.ensures.value, c.description.ensures) at c.in_ok-write.ensures.ok) (rw c.values.ensures at c.put_value_set.ensures.ok)
+    two c.put_values.result c.args.out.now.items (element_bytes 4 description) (element_bytes 49 row) c.write.new.out.items c.put_values.new.out.items
+    (rw (c.as_bytes.ensures.value, c.description.ensures) at c.in_ok-write.ensures.ok) c.put_values.ensures.ok
 
 pub returns-clause-too_long : goal.returns-clause-too_long
 returns-clause-too_long g c = λ h.
     let description = (g.A.AttributeParts.attribute c.args.attribute.now).description in
     let row = row_bytes (element_bytes 4) (g.A.AttributeParts.attribute c.args.attribute.now).values in
-    second_long (element_bytes 4 description) (element_bytes 49 row) 4294967296 (element_long 49 row 4294967296 (rw c.values.ensures at (c.put_value_set.ensures.too_long h)))
+    second_long (element_bytes 4 description) (element_bytes 49 row) 4294967296 (element_long 49 row 4294967296 (c.put_values.ensures.too_long h))
 
 pub returns-clause-kept : goal.returns-clause-kept
-returns-clause-kept g c = kept_more _ c.write.new.out.items _ (element_bytes 4 (g.A.AttributeParts.attribute c.args.attribute.now).description) (rw (c.as_bytes.ensures.value, c.description.ensures) at c.in_ok-write.ensures.ok) c.put_value_set.ensures.kept
+returns-clause-kept g c = kept_more _ c.write.new.out.items _ (element_bytes 4 (g.A.AttributeParts.attribute c.args.attribute.now).description) (rw (c.as_bytes.ensures.value, c.description.ensures) at c.in_ok-write.ensures.ok) c.put_values.ensures.kept
