@@ -6,3 +6,4 @@ pub mod Equivalents
 pub mod Picked
 pub use Rattle.ldap_match.proofs.ldap_words as ldap_words
 pub use Rattle.ldap_match.proofs as ldap_match
+pub use Rattle.shared_map.proofs as shared_map

@@ -1,4 +1,6 @@
 pub mod Entry
+pub mod Kept
+pub mod private
 pub mod Values
 pub mod Adding
 pub mod Picked
@@ -8,3 +10,4 @@ pub use Rattle.ldap_match.specs.ldap_syntax as ldap_syntax
 pub use Rattle.ldap_match.specs.ldap_schema as ldap_schema
 pub use Rattle.ldap_match.specs.ldap_dn as ldap_dn
 pub use Rattle.ldap_match.specs as ldap_match
+pub use Rattle.shared_map.specs as shared_map

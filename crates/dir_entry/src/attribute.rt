@@ -12,22 +12,20 @@ ghost use Rattle.dir_entry.specs.Picked.{picked};
 ghost use Rattle.dir_entry.specs.Entry.{are_in_syntax};
 ghost use Rattle.dir_entry.specs.Values.{has_repeats, has_twice as has_some_twice};
 
+use crate::kept::{Held, Lists};
 use crate::repeats::has_twice;
 use ldap_match::{
     Form, Key, Rule, Schema, TypeId, ValueError, equality_rule, is_of_syntax, key, tests_are_items,
 };
-use smallvec::SmallVec;
+use shared_map::Octets;
 use std::alloc::{AllocError, Global};
 use std::marker::Model;
 
-/// An attribute of an entry: a type and its values (RFC 4512 2.2). Most have one value, which stands in place.
+/// An attribute of an entry: a type and its values (RFC 4512 2.2), with the key of each value under the type's EQUALITY rule, and the texts of
+/// each. Most have one value, which stands in place.
 pub struct Attribute {
     type_id: TypeId,
-    values: SmallVec<Vec<u8>, 1>,
-    /// Of each value its key under the type's EQUALITY rule; none, where the type lacks the rule.
-    keys: SmallVec<Key, 1>,
-    /// Of each value its texts.
-    forms: SmallVec<Form, 1>,
+    held: Held,
 }
 
 // Not derived: see "What the gate takes" in docs/ARCHITECTURE.md.
@@ -35,25 +33,24 @@ impl Drop for Attribute {
     fn drop(self) {
         let Attribute {
             type_id: _,
-            values: _,
-            keys: _,
-            forms: _,
+            held: _,
         } = self;
     }
 }
 
 impl Model for Attribute {
-    ghost use Rattle.std.specs.Prelude.{map};
     ghost use Rattle.dir_entry.specs.Entry.{KeyedAttribute};
+    ghost use Rattle.dir_entry.specs.Kept.{values_in, keys_in};
 
     ghost Value = { KeyedAttribute };
 
-    ghost view = { λ a. record { kind = a.type_id; values = map (λ v. v.items) a.values.items; keys = a.keys.items } };
+    ghost view = { λ a. record { kind = a.type_id; values = values_in a.held; keys = keys_in a.held } };
 
-    ghost use Rattle.std.specs.Prelude.{◌≡◌};
+    ghost use Rattle.std.specs.Prelude.{◌≡◌, map};
     ghost use Rattle.ldap_match.specs.ldap_syntax.Forms.{form_of};
+    ghost use Rattle.dir_entry.specs.private.Kept.{forms_in};
 
-    ghost invariant = { λ a. a.forms.items ≡ map (λ v. form_of v.items) a.values.items };
+    ghost invariant = { λ a. forms_in a.held ≡ map form_of (values_in a.held) };
 }
 
 impl Attribute {
@@ -76,13 +73,10 @@ impl Attribute {
         if !are_of_syntax(alloc, schema, type_id, values.as_slice())? {
             return Err(ValueError::NotInSyntax);
         }
-        let keys = keys_of(alloc, schema, type_id, values.as_slice())?;
-        let forms = forms_of(alloc, values.as_slice())?;
+        let lists = lists_of(alloc, schema, type_id, values)?;
         Ok(Attribute {
             type_id,
-            values: SmallVec::from_vec(values),
-            keys: SmallVec::from_vec(keys),
-            forms: SmallVec::from_vec(forms),
+            held: lists.held(),
         })
     }
 
@@ -100,54 +94,31 @@ impl Attribute {
         // E11 only where one of the values is not in the type's syntax.
         ensures refused { IsErrOf result ValueError.NotInSyntax → are_in_syntax schema.now self.kind (map (λ v. v.items) more.items) ≡ false }
     {
-        let Attribute {
-            type_id,
-            mut values,
-            mut keys,
-            mut forms,
-        } = self;
-        let more_keys = keys_of(alloc, schema, type_id, more.as_slice())?;
-        let more_forms = forms_of(alloc, more.as_slice())?;
-        let mut more: SmallVec<Vec<u8>, 1> = SmallVec::from_vec(more);
-        let mut more_keys: SmallVec<Key, 1> = SmallVec::from_vec(more_keys);
-        let mut more_forms: SmallVec<Form, 1> = SmallVec::from_vec(more_forms);
-        values.append(&mut more)?;
-        keys.append(&mut more_keys)?;
-        forms.append(&mut more_forms)?;
+        let Attribute { type_id, held } = self;
+        let more = lists_of(alloc, schema, type_id, more)?;
+        let lists = held.into_lists(alloc)?.joined(more)?;
         Ok(Attribute {
             type_id,
-            values,
-            keys,
-            forms,
+            held: lists.held(),
         })
     }
 
     /// The attribute with the other's values after its own; their types are the same.
-    pub fn joined(self, other: Attribute) -> Result<Attribute, AllocError>
+    pub fn joined(self, alloc: Global, other: Attribute) -> Result<Attribute, AllocError>
         ensures kind { IfOk result (λ a. a.kind ≡ self.kind) }
         ensures values { IfOk result (λ a. a.values ≡ self.values ++ other.values) }
         ensures keys { IfOk result (λ a. a.keys ≡ self.keys ++ other.keys) }
     {
-        let Attribute {
-            type_id,
-            mut values,
-            mut keys,
-            mut forms,
-        } = self;
+        let Attribute { type_id, held } = self;
         let Attribute {
             type_id: _,
-            values: mut more,
-            keys: mut more_keys,
-            forms: mut more_forms,
+            held: more,
         } = other;
-        values.append(&mut more)?;
-        keys.append(&mut more_keys)?;
-        forms.append(&mut more_forms)?;
+        let more = more.into_lists(alloc)?;
+        let lists = held.into_lists(alloc)?.joined(more)?;
         Ok(Attribute {
             type_id,
-            values,
-            keys,
-            forms,
+            held: lists.held(),
         })
     }
 
@@ -157,20 +128,11 @@ impl Attribute {
         ensures values { IfOk result (λ a. a.values ≡ picked marks.now self.values) }
         ensures keys { IfOk result (λ a. a.keys ≡ picked marks.now self.keys) }
     {
-        let Attribute {
-            type_id,
-            values,
-            keys,
-            forms,
-        } = self;
-        let values = pick(alloc, marks, values.into_vec()?)?;
-        let keys = pick(alloc, marks, keys.into_vec()?)?;
-        let forms = pick(alloc, marks, forms.into_vec()?)?;
+        let Attribute { type_id, held } = self;
+        let lists = held.into_lists(alloc)?.picked(alloc, marks)?;
         Ok(Attribute {
             type_id,
-            values: SmallVec::from_vec(values),
-            keys: SmallVec::from_vec(keys),
-            forms: SmallVec::from_vec(forms),
+            held: lists.held(),
         })
     }
 
@@ -178,14 +140,9 @@ impl Attribute {
     pub fn copy(&self, alloc: Global) -> Result<Attribute, AllocError>
         ensures { IfOk result (λ a. a ≡ self.now) }
     {
-        let values = copy_values(alloc, self.values.as_slice())?;
-        let keys = copy_keys(alloc, self.keys.as_slice())?;
-        let forms = copy_forms(alloc, self.forms.as_slice())?;
         Ok(Attribute {
             type_id: self.type_id,
-            values: SmallVec::from_vec(values),
-            keys: SmallVec::from_vec(keys),
-            forms: SmallVec::from_vec(forms),
+            held: self.held.copy(alloc)?,
         })
     }
 
@@ -197,8 +154,8 @@ impl Attribute {
     {
         tests_are_items();
         match equality_rule(schema, self.type_id) {
-            Some(_) => has_repeated_key(alloc, self.keys.as_slice()),
-            None => has_repeated_value(alloc, self.values.as_slice()),
+            Some(_) => has_repeated_key(alloc, self.keys()),
+            None => has_repeated_value(alloc, self.values()),
         }
     }
 
@@ -210,45 +167,59 @@ impl Attribute {
     }
 
     /// The values in order.
-    pub fn values(&self) -> &[Vec<u8>]
-        ensures { map (λ v. v.items) result.now ≡ self.now.values }
+    pub fn values(&self) -> &[Octets]
+        ensures { result.now ≡ self.now.values }
     {
-        self.values.as_slice()
+        self.held.values()
     }
 
     /// The keys of the values, for the evaluation of filters.
     pub fn keys(&self) -> &[Key]
         ensures { result.now ≡ self.now.keys }
     {
-        self.keys.as_slice()
+        self.held.keys()
     }
 
     /// The texts of the values, for the evaluation of filters.
     pub fn forms(&self) -> &[Form]
         ensures { result.now ≡ map form_of self.now.values }
     {
-        self.forms.as_slice()
+        self.held.forms()
     }
 }
 
-/// The items that are marked.
-fn pick<T: Drop>(alloc: Global, marks: &[bool], items: Vec<T>) -> Result<Vec<T>, AllocError>
-    ensures { IfOk result (λ v. v.items ≡ picked marks.now items.items) }
+/// Values as they are kept.
+fn octets_of(alloc: Global, values: Vec<Vec<u8>>) -> Result<Vec<Octets>, AllocError>
+    ensures { IfOk result (λ r. r.items ≡ map (λ v. v.items) values.items) }
 {
-    let mut picked = Vec::new(alloc);
-    let mut rest = marks;
-    for item in items {
-        match rest.split_first() {
-            Some((mark, behind)) => {
-                if *mark {
-                    picked.push(item)?;
-                }
-                rest = behind;
-            }
-            None => return Ok(picked),
-        }
+    let mut list = Vec::with_capacity(alloc, values.len())?;
+    for value in values {
+        list.push(Octets::from_vec(alloc, value)?)?;
     }
-    Ok(picked)
+    Ok(list)
+}
+
+/// Values with their keys and texts.
+fn lists_of(
+    alloc: Global,
+    schema: &Schema,
+    type_id: TypeId,
+    values: Vec<Vec<u8>>,
+) -> Result<Lists, ValueError>
+    ensures values { IfOk result (λ l. l.values.items ≡ map (λ v. v.items) values.items) }
+    ensures keyed { IfOk result (λ l. AreKeysOf schema.now type_id l.values.items l.keys.items) }
+    ensures forms { IfOk result (λ l. l.forms.items ≡ map form_of l.values.items) }
+    ensures refused { IsErrOf result ValueError.NotInSyntax
+        → are_in_syntax schema.now type_id (map (λ v. v.items) values.items) ≡ false }
+{
+    let keys = keys_of(alloc, schema, type_id, values.as_slice())?;
+    let forms = forms_of(alloc, values.as_slice())?;
+    let values = octets_of(alloc, values)?;
+    Ok(Lists {
+        values,
+        keys,
+        forms,
+    })
 }
 
 /// A copy of a list of values. Fails only for want of memory.
@@ -258,28 +229,6 @@ pub fn copy_values(alloc: Global, values: &[Vec<u8>]) -> Result<Vec<Vec<u8>>, Al
     let mut copy = Vec::with_capacity(alloc, values.len())?;
     for value in values {
         copy.push(value.to_vec(alloc)?)?;
-    }
-    Ok(copy)
-}
-
-/// A copy of a list of keys.
-fn copy_keys(alloc: Global, keys: &[Key]) -> Result<Vec<Key>, AllocError>
-    ensures { IfOk result (λ r. r.items ≡ keys.now) }
-{
-    let mut copy = Vec::with_capacity(alloc, keys.len())?;
-    for key in keys {
-        copy.push(key.copy(alloc)?)?;
-    }
-    Ok(copy)
-}
-
-/// A copy of a list of texts.
-fn copy_forms(alloc: Global, forms: &[Form]) -> Result<Vec<Form>, AllocError>
-    ensures { IfOk result (λ r. r.items ≡ forms.now) }
-{
-    let mut copy = Vec::with_capacity(alloc, forms.len())?;
-    for form in forms {
-        copy.push(form.copy(alloc)?)?;
     }
     Ok(copy)
 }
@@ -304,8 +253,8 @@ fn has_repeated_key(alloc: Global, keys: &[Key]) -> Result<bool, AllocError>
 }
 
 /// Whether two of the values are the same octets.
-fn has_repeated_value(alloc: Global, values: &[Vec<u8>]) -> Result<bool, AllocError>
-    ensures { IfOk result (λ b. b ≡ has_some_twice bytes_eq (map (λ v. v.items) values.now)) }
+fn has_repeated_value(alloc: Global, values: &[Octets]) -> Result<bool, AllocError>
+    ensures { IfOk result (λ b. b ≡ has_some_twice bytes_eq values.now) }
 {
     let octets = octets_of_values(alloc, values)?;
     has_twice(alloc, octets.as_slice())
@@ -323,8 +272,8 @@ pub fn octets_of_keys(alloc: Global, keys: &[Key]) -> Result<Vec<&[u8]>, AllocEr
 }
 
 /// The octets of each value.
-pub fn octets_of_values(alloc: Global, values: &[Vec<u8>]) -> Result<Vec<&[u8]>, AllocError>
-    ensures { IfOk result (λ v. map (λ octets. octets.now) v.items ≡ map (λ v. v.items) values.now) }
+pub fn octets_of_values(alloc: Global, values: &[Octets]) -> Result<Vec<&[u8]>, AllocError>
+    ensures { IfOk result (λ v. map (λ octets. octets.now) v.items ≡ values.now) }
 {
     let mut list = Vec::new(alloc);
     for value in values {

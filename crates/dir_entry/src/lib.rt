@@ -9,6 +9,7 @@
 mod attribute;
 mod entry;
 mod fault;
+mod kept;
 mod repeats;
 
 pub use attribute::{Attribute, copy_values, octets_of_keys, octets_of_values};
@@ -23,3 +24,4 @@ pub use ldap_match::{
     ordering_rule, parts_compare, print_before, print_behind, print_from_leaf, substrings_rule,
     substrings_test, tests_are_items, texts_tell,
 };
+pub use shared_map::{Cursor, NumberSet, NumberWalk, Octets, Shared, SharedMap, Sought, Walk};

@@ -5,7 +5,7 @@ use Rattle.std.specs.Cmp.{IsTotalOrder, eq_by_cmp_equiv}
 use Rattle.std.specs.Map.{lookup, remove_entry}
 use Rattle.std.specs.BTreeMap.{is_at, insert_entry}
 use Rattle.std.specs.Option.{unwrap_or}
-use Rattle.shared_map.specs.Entries.{IsAhead, Rises}
+use Rattle.index_choice.specs.dir_entry.shared_map.Entries.{IsAhead, Rises}
 use Rattle.dir_index.specs.declared.list_key.ListKey.{ListKey}
 use Rattle.dir_index.specs.ListKeys.{list_order, is_same_list}
 use Rattle.dir_index.specs.OrderLaws.{list_total, list_ties}

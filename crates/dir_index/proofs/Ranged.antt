@@ -10,8 +10,8 @@ use Rattle.std.specs.Option.{unwrap_or}
 use Rattle.std.proofs.lemmas.Bool.{and_parts, and_from, or_cases, or_left, or_right}
 use Rattle.std.proofs.lemmas.List.Folds.{list_any-append}
 use Rattle.std.proofs.lemmas.Slice.Eq.{bytes_eq-Decides}
-use Rattle.shared_map.specs.Entries.{Rises, IsAhead}
-use Rattle.shared_map.specs.Runs.{entries_after}
+use Rattle.index_choice.specs.dir_entry.shared_map.Entries.{Rises, IsAhead}
+use Rattle.index_choice.specs.dir_entry.shared_map.Runs.{entries_after}
 use Rattle.index_choice.specs.dir_entry.ldap_match.Keyed.{is_same_key}
 use Rattle.index_choice.specs.dir_entry.Entry.{KeyedAttribute}
 use Rattle.index_choice.specs.Choice.{kinds_of}

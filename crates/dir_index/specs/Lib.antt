@@ -13,4 +13,4 @@ pub use Rattle.index_choice.specs.dir_entry.ldap_dn as ldap_dn
 pub use Rattle.index_choice.specs.dir_entry.ldap_match as ldap_match
 pub use Rattle.index_choice.specs.dir_entry as dir_entry
 pub use Rattle.index_choice.specs as index_choice
-pub use Rattle.shared_map.specs as shared_map
+pub use Rattle.index_choice.specs.dir_entry.shared_map as shared_map

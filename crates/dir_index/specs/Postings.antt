@@ -10,7 +10,7 @@ use Rattle.index_choice.specs.Choice.{kinds_of}
 use Rattle.dir_index.specs.declared.posting.Posting.{Posting}
 use Rattle.dir_index.specs.declared.posting.Posting.TheVariants.{Present, Several, Equal, Run}
 use Rattle.dir_index.specs.declared.posting.Range.{Range}
-pub use Rattle.shared_map.specs.Sets.{has_number, IsRising}
+pub use Rattle.index_choice.specs.dir_entry.shared_map.Sets.{has_number, IsRising}
 
 -- an entry as indexes see it: its number, and its attributes with their keys
 pub record Indexed : Type 0 where

@@ -5,7 +5,7 @@ ghost use Rattle.std.specs.Prelude.{◌≡◌, ◌||◌, ℕ, OnOk};
 ghost use Rattle.dir_index.specs.Postings.{Lists, has_number};
 
 use crate::posting::{Posting, Range};
-use shared_map::NumberSet;
+use index_choice::NumberSet;
 use std::alloc::AllocError;
 
 /// What keeps posting lists.

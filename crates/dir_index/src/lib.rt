@@ -25,13 +25,12 @@ mod postings;
 mod ranges;
 
 pub use index_choice::{
-    Attribute, Entry, EntryError, IndexError, Indexes, Name, NameError, Rdn, Schema, Truth,
-    TypeAndValue, TypeId, are_same, copy_values, is_of_syntax, print_before, print_behind,
-    print_from_leaf,
+    Attribute, Entry, EntryError, IndexError, Indexes, Name, NameError, NumberSet, NumberWalk, Rdn,
+    Schema, Truth, TypeAndValue, TypeId, are_same, copy_values, is_of_syntax, print_before,
+    print_behind, print_from_leaf,
 };
 pub use kept::Kept;
 pub use laws::may_cross;
 pub use posting::{Posting, Range};
 pub use postings::Postings;
 pub use ranges::has_in_range;
-pub use shared_map::{NumberSet, NumberWalk};

@@ -10,7 +10,7 @@ ghost use Rattle.dir_index.specs.Places.{key_at};
 use crate::list_key::{ListKey, Place};
 use crate::ordering::{octets, rank, type_number};
 use crate::posting::Posting;
-use shared_map::{Shared, Sought};
+use index_choice::{Shared, Sought};
 use std::alloc::AllocError;
 use std::cmp::Ordering;
 
@@ -20,8 +20,7 @@ impl PartialEq for ListKey {
     ghost laws = { partial_equiv_from_equiv list_equiv };
 
     fn eq(&self, other: &ListKey) -> bool {
-        self.type_id.number() == other.type_id.number()
-            && (self.rank == other.rank && self.octets == other.octets)
+        self.type_id == other.type_id && (self.rank == other.rank && self.octets == other.octets)
     }
 }
 
@@ -49,7 +48,7 @@ impl Ord for ListKey {
     ghost matches_eq = { list_ties };
 
     fn cmp(&self, other: &ListKey) -> Ordering {
-        match self.type_id.number().cmp(&other.type_id.number()) {
+        match self.type_id.cmp(&other.type_id) {
             Ordering::Equal => match self.rank.cmp(&other.rank) {
                 Ordering::Equal => self.octets.cmp(&other.octets),
                 order => order,
@@ -72,13 +71,17 @@ impl Shared for ListKey {
     fn most_in_leaf() -> usize {
         16
     }
+
+    fn mostly_rises() -> bool {
+        false
+    }
 }
 
 impl<'a> Sought<ListKey> for Place<'a> {
     ghost key = { key_at };
 
     fn compare(&self, other: &ListKey) -> Ordering {
-        match self.type_id.number().cmp(&other.type_id.number()) {
+        match self.type_id.number().cmp(&(other.type_id as usize)) {
             Ordering::Equal => match self.rank.cmp(&other.rank) {
                 Ordering::Equal => self.octets.cmp(other.octets.as_slice()),
                 order => order,
@@ -92,7 +95,7 @@ impl Sought<ListKey> for Posting {
     ghost key = { key_of };
 
     fn compare(&self, other: &ListKey) -> Ordering {
-        match type_number(self).cmp(&other.type_id.number()) {
+        match type_number(self).cmp(&(other.type_id as usize)) {
             Ordering::Equal => match rank(self).cmp(&other.rank) {
                 Ordering::Equal => octets(self).cmp(other.octets.as_slice()),
                 order => order,

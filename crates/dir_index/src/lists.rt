@@ -16,7 +16,7 @@ ghost use Rattle.dir_index.specs.private.Stored.{is_in, AllRise};
 
 use crate::list_key::ListKey;
 use crate::marks::Marks;
-use shared_map::{NumberSet, Shared, SharedMap};
+use index_choice::{NumberSet, Shared, SharedMap};
 use std::alloc::{AllocError, Global};
 
 /// The lists by their keys; none is kept empty.

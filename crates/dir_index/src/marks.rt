@@ -9,13 +9,23 @@ ghost use Rattle.dir_index.specs.ListKeys.{key_of, is_same_list};
 ghost use Rattle.dir_index.specs.private.Marked.{has_posting, lists_entry, is_of_key, is_first_run, is_run_of, is_from_key, is_from_presence, makes_several, is_from_several, is_from_attribute};
 
 use crate::list_key::{ListKey, PRESENCE, RUN, SEVERAL, VALUE};
-use index_choice::{Attribute, Indexes, Key, Kinds, TypeId};
-use shared_map::Octets;
+use index_choice::{Attribute, Indexes, Key, Kinds, Octets, TypeId};
 use std::alloc::{AllocError, Global};
 use std::collections::BTreeSet;
 
 /// The keys of the postings that list an entry.
 pub type Marks = BTreeSet<ListKey>;
+
+/// The number of a type in half a word; want of memory, where there are types beyond it.
+fn short_number(type_id: TypeId) -> Result<u32, AllocError>
+    ensures { IfOk result (λ n. n ≡ type_id) }
+{
+    let number = type_id.number();
+    if number > u32::MAX as usize {
+        return Err(AllocError);
+    }
+    Ok(number as u32)
+}
 
 /// Puts a key to the others.
 fn mark(
@@ -27,9 +37,10 @@ fn mark(
 ) -> Result<(), AllocError>
     ensures { OnOk result ((p : Posting) → has_posting marks.new.keys p ≡ (is_same_list (record { type_id = type_id; rank = rank; octets = octets.now }) (key_of p) || has_posting marks.old.keys p)) }
 {
+    let number = short_number(type_id)?;
     let octets = Octets::new(alloc, octets)?;
     marks.insert(ListKey {
-        type_id,
+        type_id: number,
         rank,
         octets,
     })?;

@@ -15,8 +15,7 @@ use crate::lists::{Lists, enlisted_in, struck_from};
 use crate::marks::marks_of;
 use crate::posting::{Posting, Range};
 use crate::ranges::{about_lists, push_lists};
-use index_choice::{Attribute, Entry, Indexes};
-use shared_map::{NumberSet, SharedMap};
+use index_choice::{Attribute, Entry, Indexes, NumberSet, SharedMap};
 use std::alloc::{AllocError, Global};
 use std::marker::Model;
 

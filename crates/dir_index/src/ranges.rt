@@ -10,14 +10,13 @@ ghost use Rattle.dir_index.specs.private.ListKeys.{is_list_in as is_list_in_rang
 ghost use Rattle.dir_index.specs.Places.{key_at};
 ghost use Rattle.dir_index.specs.Stored.{list_at};
 ghost use Rattle.dir_index.specs.private.Stored.{has_in_lists};
-ghost use Rattle.shared_map.specs.Runs.{entries_after};
+ghost use Rattle.index_choice.specs.dir_entry.shared_map.Runs.{entries_after};
 ghost use Rattle.dir_index.specs.ListKeys.{list_order};
 
 use crate::list_key::{ListKey, Place, RUN, VALUE};
 use crate::lists::Lists;
 use crate::posting::Range;
-use index_choice::{Attribute, Entry, Indexes, Key};
-use shared_map::{NumberSet, Walk};
+use index_choice::{Attribute, Entry, Indexes, Key, NumberSet, Walk};
 use std::alloc::AllocError;
 
 /// As many lists of a range are counted by their numbers. Each costs a step of a walk, and a plan asks
@@ -63,7 +62,8 @@ fn is_within(range: &Range, octets: &[u8]) -> bool
 fn is_list_in(range: &Range, key: &ListKey) -> bool
     ensures { result ≡ is_list_in_range range.now key.now }
 {
-    key.type_id == range.type_id && (key.rank == VALUE && is_within(range, key.octets.as_slice()))
+    key.type_id as usize == range.type_id.number()
+        && (key.rank == VALUE && is_within(range, key.octets.as_slice()))
 }
 
 /// The least key that a list of the range may have.

@@ -5,13 +5,13 @@ use Rattle.std.specs.Option.{option_map, option_and_then}
 use Rattle.std.specs.List.{AllByRecursion}
 use Rattle.std.specs.Ordering.{nat_cmp}
 use Rattle.std.specs.Map.{keys_of}
-use Rattle.shared_map.specs.Entries.{Rises, IsAhead}
+use Rattle.dir_entry.specs.shared_map.Entries.{Rises, IsAhead}
 use Rattle.dir_entry.specs.ldap_dn.Names.{rdns}
 use Rattle.dir_tree.specs.Directory.{NameKey, Entered, AllAbove, NumbersRise, NamesDiffer, IsDirectory, name_eq, begins, above, find, entry_at, numbers, is_child, is_at_or_below, is_right_under}
 use Rattle.dir_tree.specs.declared.place.Place.{Place}
 use Rattle.dir_tree.specs.declared.place.Standing.{Standing}
 use Rattle.dir_tree.specs.declared.place.Below.{Below}
-use Rattle.shared_map.specs.Sets.{IsRising}
+use Rattle.dir_entry.specs.shared_map.Sets.{IsRising}
 use Rattle.dir_tree.specs.Superiors.{Places, name_up, place_at, has_number, entered, directory_of}
 use Rattle.dir_tree.specs.private.Superiors.{Steps, above_in, stands_under, down, number_at, IsHung, IsListed}
 use Rattle.dir_tree.proofs.Kept.{own_eq, same_number, apart_eq, under, under-cons, same_set}

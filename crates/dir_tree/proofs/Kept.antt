@@ -8,8 +8,8 @@ use Rattle.std.specs.Map.{lookup, remove_entry}
 use Rattle.std.specs.Set.{remove_key}
 use Rattle.std.specs.BTreeMap.{insert_entry, is_at}
 use Rattle.std.specs.BTreeSet.{insert_key}
-use Rattle.shared_map.specs.Entries.{Rises, IsAhead}
-use Rattle.shared_map.specs.Sets.{IsRising}
+use Rattle.dir_entry.specs.shared_map.Entries.{Rises, IsAhead}
+use Rattle.dir_entry.specs.shared_map.Sets.{IsRising}
 use Rattle.dir_tree.specs.Superiors.{has_number}
 
 pub extended : {A B : Type 0} {f g : A → B} → ((x : A) → f x ≡ g x) → f ≡ g

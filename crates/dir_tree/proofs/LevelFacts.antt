@@ -7,14 +7,14 @@ use Rattle.std.specs.Map.{lookup, remove_entry}
 use Rattle.std.specs.BTreeMap.{insert_entry, is_at}
 use Rattle.std.specs.Set.{remove_key}
 use Rattle.std.specs.BTreeSet.{insert_key}
-use Rattle.shared_map.specs.Entries.{Rises, IsAhead}
+use Rattle.dir_entry.specs.shared_map.Entries.{Rises, IsAhead}
 use Rattle.dir_entry.specs.ldap_dn.Names.{RdnModel, TypeAndKey, are_same_keys}
 use Rattle.dir_entry.specs.ldap_dn.Ordered.{rdn_order}
 use Rattle.dir_entry.specs.ldap_dn.OrderLaws.{rdn_ties}
 use Rattle.dir_tree.specs.declared.place.Below.{Below}
 use Rattle.dir_tree.specs.Superiors.{has_number}
 use Rattle.dir_tree.specs.private.Superiors.{alone, below_at, number_among}
-use Rattle.shared_map.specs.Sets.{IsRising}
+use Rattle.dir_entry.specs.shared_map.Sets.{IsRising}
 use Rattle.dir_tree.proofs.Kept.{under, under-put, under-out, same_number, has-put, has-out}
 use Rattle.dir_tree.proofs.NameFacts.{part_decides}
 

@@ -6,7 +6,7 @@ use Rattle.std.specs.Cmp.{nat_cmp_is}
 use Rattle.std.specs.Map.{remove_entry}
 use Rattle.std.specs.BTreeMap.{insert_entry, is_at}
 use Rattle.std.proofs.lemmas.List.{map-append}
-use Rattle.shared_map.specs.Entries.{Rises, IsAhead}
+use Rattle.dir_entry.specs.shared_map.Entries.{Rises, IsAhead}
 use Rattle.dir_entry.specs.ldap_dn.Names.{RdnModel}
 use Rattle.dir_entry.specs.Entry.{KeyedAttribute}
 use Rattle.dir_tree.specs.Directory.{Entered, AllBelow, replaced, unnumbered}

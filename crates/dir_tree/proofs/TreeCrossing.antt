@@ -1,7 +1,7 @@
 -- A tree may cross threads, as a set for `search`. A crate that sends trees, or shares them, names it.
 use denote.Param.Send.{IsSend, IsSync, sendable}
 use Rattle.std.proofs.Crossing.{crosses}
-use Rattle.shared_map.proofs.Crossing.{map_crosses}
+use Rattle.dir_entry.proofs.shared_map.Crossing.{map_crosses}
 use Rattle.dir_entry.proofs.Crossing.{entry_crosses}
 use Rattle.dir_tree.specs.contracts.shared_names.SharedRdn as SharedRdn
 use Rattle.dir_tree.specs.contracts.shared_names.SharedName as SharedName

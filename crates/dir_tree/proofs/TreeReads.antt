@@ -5,8 +5,8 @@ use Rattle.std.specs.Option.{option_map, option_map_or, option_and_then}
 use Rattle.std.specs.Ordering.{nat_cmp, is_lt}
 use denote.Bor.{Bor}
 use Rattle.std.proofs.lemmas.List.{length-map, map-append}
-use Rattle.shared_map.specs.Runs.{IsBeginning, entries_after}
-use Rattle.shared_map.specs.Sets.{IsRising}
+use Rattle.dir_entry.specs.shared_map.Runs.{IsBeginning, entries_after}
+use Rattle.dir_entry.specs.shared_map.Sets.{IsRising}
 use Rattle.dir_entry.specs.ldap_dn.Names.{RdnModel, rdns}
 use Rattle.dir_tree.specs.Directory.{NameKey, Entered, AllBelow, NamesDiffer, IsDirectory, name_eq, begins, above, find, entry_at, numbers, number_found, is_at_or_below, is_right_under, has_below, front, front_from}
 use Rattle.dir_tree.specs.Placed.{name_placed, name_under, IsSpelled, IsPlacedAsSpelled}

@@ -4,8 +4,8 @@ use Rattle.std.specs.Prelude.{◌&&◌, not}
 use Rattle.std.specs.Option.{option_map, option_map_or}
 use Rattle.std.specs.Ordering.{nat_cmp}
 use Rattle.std.specs.BTreeMap.{insert_entry}
-use Rattle.shared_map.specs.Entries.{Rises}
-use Rattle.shared_map.specs.Sets.{has_number}
+use Rattle.dir_entry.specs.shared_map.Entries.{Rises}
+use Rattle.dir_entry.specs.shared_map.Sets.{has_number}
 use Rattle.dir_entry.specs.ldap_dn.Names.{RdnModel, rdns, TypeAndKey}
 use Rattle.dir_tree.specs.Directory.{NameKey, Entered, replaced}
 use Rattle.dir_tree.specs.declared.place.Place.{Place}

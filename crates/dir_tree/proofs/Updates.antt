@@ -5,7 +5,7 @@ use Rattle.std.specs.Option.{option_map, option_map_or, option_and_then}
 use Rattle.std.specs.List.{list_any}
 use Rattle.std.specs.Map.{keys_of}
 use Rattle.std.proofs.lemmas.List.{length-map, map-append}
-use Rattle.shared_map.specs.Sets.{has_number}
+use Rattle.dir_entry.specs.shared_map.Sets.{has_number}
 use Rattle.dir_entry.specs.ldap_dn.Names.{RdnModel, rdns, TypeAndKey, are_same_keys}
 use Rattle.dir_entry.specs.Entry.{KeyedAttribute}
 use Rattle.dir_tree.specs.Directory.{NameKey, Entered, AllBelow, name_eq, begins, above, find, has_below, has_footing, unnumbered, moved, name_after}

@@ -1,7 +1,7 @@
 -- Sets of numbers along a way up, as they change one by one.
 use Rattle.std.proofs.Common.{◌≡◌, ℕ, suc, Bool, true, false, cond, List, ◌||◌, refl, sym, ap, ◌∙◌, nat_eq, Option, Some, None}
 use Rattle.std.specs.Prelude.{◌&&◌, not}
-use Rattle.shared_map.specs.Sets.{has_number}
+use Rattle.dir_entry.specs.shared_map.Sets.{has_number}
 use Rattle.dir_tree.specs.declared.place.Below.{Below}
 use Rattle.dir_entry.specs.ldap_dn.Names.{TypeAndKey}
 use Rattle.dir_tree.specs.declared.place.Place.{Place}

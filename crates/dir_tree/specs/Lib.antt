@@ -9,4 +9,4 @@ pub use Rattle.dir_entry.specs.ldap_schema as ldap_schema
 pub use Rattle.dir_entry.specs.ldap_dn as ldap_dn
 pub use Rattle.dir_entry.specs.ldap_match as ldap_match
 pub use Rattle.dir_entry.specs as dir_entry
-pub use Rattle.shared_map.specs as shared_map
+pub use Rattle.dir_entry.specs.shared_map as shared_map

@@ -5,7 +5,7 @@ use Rattle.std.specs.Option.{option_map}
 use Rattle.std.specs.Ordering.{nat_cmp}
 use Rattle.std.specs.Map.{lookup}
 use Rattle.std.specs.BTreeMap.{is_at}
-pub use Rattle.shared_map.specs.Sets.{has_number}
+pub use Rattle.dir_entry.specs.shared_map.Sets.{has_number}
 use Rattle.dir_entry.specs.ldap_dn.Names.{RdnModel}
 use Rattle.dir_tree.specs.Directory.{Entered}
 use Rattle.dir_tree.specs.declared.place.Place.{Place}

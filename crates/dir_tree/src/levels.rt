@@ -5,14 +5,13 @@
 ghost use Rattle.std.specs.Prelude.{◌≡◌, ◌&&◌, ◌||◌, ◌∷◌, ℕ, List, [], IfOk, IfSome, Some, None, cond, false, nat_eq, not};
 ghost use Rattle.std.specs.Option.{option_map, option_map_or};
 ghost use Rattle.dir_entry.specs.ldap_dn.Names.{TypeAndKey, are_same_keys};
-ghost use Rattle.shared_map.specs.Sets.{has_number};
+ghost use Rattle.dir_entry.specs.shared_map.Sets.{has_number};
 ghost use Rattle.dir_tree.specs.private.Superiors.{alone, below_at, step_at, number_among};
 
 use crate::number_sets::{joined, parted};
 use crate::place::{Below, Levels};
 use crate::shared_names::SharedRdn;
-use dir_entry::Rdn;
-use shared_map::{NumberSet, Shared, SharedMap};
+use dir_entry::{NumberSet, Rdn, Shared, SharedMap};
 use std::alloc::{AllocError, Global};
 
 /// The number of a relative name.

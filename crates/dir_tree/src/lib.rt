@@ -33,11 +33,10 @@ mod visit;
 
 pub use comparing::is_over_parent;
 pub use dir_entry::{
-    Attribute, Entry, EntryError, Name, NameError, Rdn, Schema, Truth, TypeAndValue, TypeId,
-    are_same, copy_values, is_of_syntax, number_of_digits, print_before, print_behind,
-    print_from_leaf,
+    Attribute, Entry, EntryError, Name, NameError, NumberSet, NumberWalk, Octets, Rdn, Schema,
+    Shared, Truth, TypeAndValue, TypeId, are_same, copy_values, is_of_syntax, number_of_digits,
+    print_before, print_behind, print_from_leaf,
 };
 pub use shared::SharedEntry;
-pub use shared_map::{NumberSet, NumberWalk, Shared};
 pub use tree::Tree;
 pub use visit::Visit;

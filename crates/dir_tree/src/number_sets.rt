@@ -2,9 +2,9 @@
 // What the numbers stand for is not here.
 
 ghost use Rattle.std.specs.Prelude.{◌≡◌, ◌&&◌, ◌||◌, ℕ, IfOk, not};
-ghost use Rattle.shared_map.specs.Sets.{has_number};
+ghost use Rattle.dir_entry.specs.shared_map.Sets.{has_number};
 
-use shared_map::{NumberSet, Shared};
+use dir_entry::{NumberSet, Shared};
 use std::alloc::{AllocError, Global};
 
 /// A set with the numbers of another one: one insert for each of these.

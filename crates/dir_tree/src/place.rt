@@ -5,7 +5,7 @@ ghost use Rattle.std.specs.Prelude.{◌≡◌, ◌∷◌, []};
 
 use crate::shared::SharedEntry;
 use crate::shared_names::{SharedName, SharedRdn};
-use shared_map::{NumberSet, Shared, SharedMap};
+use dir_entry::{NumberSet, Shared, SharedMap};
 use std::alloc::AllocError;
 
 /// Where an entry stands.
@@ -36,6 +36,10 @@ impl Shared for Place {
 
     fn most_in_leaf() -> usize {
         16
+    }
+
+    fn mostly_rises() -> bool {
+        false
     }
 }
 
@@ -83,6 +87,10 @@ impl Shared for Standing {
     fn most_in_leaf() -> usize {
         6
     }
+
+    fn mostly_rises() -> bool {
+        false
+    }
 }
 
 /// The entries by number.
@@ -120,6 +128,10 @@ impl Shared for Below {
 
     fn most_in_leaf() -> usize {
         6
+    }
+
+    fn mostly_rises() -> bool {
+        false
     }
 }
 

@@ -6,7 +6,7 @@ ghost use Rattle.std.specs.Option.{option_map};
 ghost use Rattle.std.specs.Map.{lookup};
 ghost use Rattle.std.specs.BTreeMap.{is_at};
 ghost use Rattle.std.specs.Ordering.{nat_cmp};
-ghost use Rattle.shared_map.specs.Sets.{IsRising};
+ghost use Rattle.dir_entry.specs.shared_map.Sets.{IsRising};
 ghost use Rattle.dir_tree.specs.Directory.{AllBelow};
 ghost use Rattle.dir_tree.specs.Kept.{shown};
 ghost use Rattle.dir_tree.specs.Superiors.{name_up, place_at};
@@ -15,8 +15,7 @@ ghost use Rattle.dir_tree.specs.private.Superiors.{AreOwn, below_at};
 use crate::place::{Entries, Place};
 use crate::roots::Roots;
 use crate::shared::SharedEntry;
-use dir_entry::{Name, Rdn};
-use shared_map::NumberSet;
+use dir_entry::{Name, NumberSet, Rdn};
 use std::alloc::{AllocError, Global};
 
 /// The place of a number.

@@ -20,8 +20,7 @@ use crate::reach::Reach;
 use crate::shared::SharedEntry;
 use crate::shared_names::{SharedName, SharedRdn};
 use crate::suffix::Suffix;
-use dir_entry::Name;
-use shared_map::{NumberSet, Shared};
+use dir_entry::{Name, NumberSet, Shared};
 use std::alloc::{AllocError, Global};
 
 /// What a tree is made of. A second owner of all of it is a few second owners, whatever the size.

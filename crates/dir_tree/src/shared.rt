@@ -3,8 +3,7 @@
 
 ghost use Rattle.std.specs.Prelude.{◌≡◌, IfOk};
 
-use dir_entry::Entry;
-use shared_map::Shared;
+use dir_entry::{Entry, Shared};
 use std::alloc::{AllocError, Global};
 use std::marker::Model;
 use std::ops::Deref;
@@ -59,6 +58,10 @@ impl Shared for SharedEntry {
 
     fn most_in_leaf() -> usize {
         16
+    }
+
+    fn mostly_rises() -> bool {
+        false
     }
 }
 

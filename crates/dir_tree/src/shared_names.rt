@@ -7,8 +7,7 @@ ghost use Rattle.dir_entry.specs.ldap_dn.Names.{are_same_keys};
 ghost use Rattle.dir_entry.specs.ldap_dn.Ordered.{rdn_order};
 ghost use Rattle.dir_entry.specs.ldap_dn.OrderLaws.{rdn_equiv, rdn_total, rdn_ties};
 
-use dir_entry::{Name, Rdn};
-use shared_map::{Shared, Sought};
+use dir_entry::{Name, Rdn, Shared, Sought};
 use std::alloc::{AllocError, Global};
 use std::cmp::Ordering;
 use std::marker::Model;
@@ -60,6 +59,10 @@ impl Shared for SharedRdn {
 
     fn most_in_leaf() -> usize {
         16
+    }
+
+    fn mostly_rises() -> bool {
+        false
     }
 }
 
@@ -172,5 +175,9 @@ impl Shared for SharedName {
 
     fn most_in_leaf() -> usize {
         16
+    }
+
+    fn mostly_rises() -> bool {
+        false
     }
 }

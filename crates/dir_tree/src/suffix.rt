@@ -4,8 +4,7 @@
 ghost use Rattle.std.specs.Prelude.{◌≡◌, IfOk};
 
 use crate::shared_names::SharedName;
-use dir_entry::Name;
-use shared_map::Shared;
+use dir_entry::{Name, Shared};
 use std::alloc::{AllocError, Global};
 use std::marker::Model;
 

@@ -12,8 +12,7 @@ use crate::roots::Roots;
 use crate::shared::SharedEntry;
 use crate::suffix::Suffix;
 use crate::visit::Visit;
-use dir_entry::{Name, Rdn, are_same};
-use shared_map::{NumberSet, SharedMap};
+use dir_entry::{Name, NumberSet, Rdn, SharedMap, are_same};
 use std::alloc::{AllocError, Global};
 use std::marker::Model;
 

@@ -11,8 +11,7 @@ ghost use Rattle.dir_tree.specs.declared.place.Place.TheVariants.{Under};
 use crate::place::{Entries, Place, Standing};
 use crate::shared::SharedEntry;
 use crate::tree::Tree;
-use dir_entry::Rdn;
-use shared_map::Cursor;
+use dir_entry::{Cursor, Rdn};
 use std::marker::Model;
 
 /// A tree that is asked about many numbers. Contracts see the tree.

@@ -72,6 +72,13 @@ deleted s t i values e others new kind held left given valid all is_held is_left
     ∙ ap Ok (sym (put_in t i e others new kind left (values_left s t values (values_of t e)) pi oi ni is_kind
     (is_left ∙ ap₂ (λ (k : ℕ) (h : List (List ℕ)). values_left s k given h) is_kind is_held ∙ ap (λ (g : List (List ℕ)). values_left s t g (values_of t e)) is_given)))
 
+pub not_deleted : (s : SchemaModel) (t : ℕ) (values : List (List ℕ)) (e : List AttributeModel) (kind : ℕ) (held given : List (List ℕ)) (error : EntryError) → are_in_syntax s t values ≡ true
+    → held ≡ values_of t e → given ≡ values → kind ≡ t → RefusesFor 16 (not (list_all (holds s kind held) given)) error → Refuses error (without_values s t values e)
+not_deleted s t values e kind held given error valid is_held is_given is_kind h =
+    refused_for 16 (not (list_all (holds s kind held) given)) error (without_values s t values e)
+    (λ k. passes _ _ _ (ap not valid)
+    ∙ fails _ _ _ (sym (ap₂ (λ (k : ℕ) (w : List (List ℕ)). not (list_all (holds s k w) given)) is_kind is_held ∙ ap (λ (g : List (List ℕ)). not (list_all (holds s t (values_of t e)) g)) is_given) ∙ k)) h
+
 -- nothing is held of a type that is not there
 pub none_held : (s : SchemaModel) (t : ℕ) (values : List (List ℕ)) (e : List AttributeModel) (o : Option KeyedAttribute) → are_in_syntax s t values ≡ true → is_empty values ≡ false → o ≡ None → values_held o ≡ values_of t e
     → without_values s t values e ≡ Err 16

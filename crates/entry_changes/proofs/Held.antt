@@ -53,8 +53,8 @@ held_by_none s t r v vs e h =
     ap (λ (o : Option Rule). list_any (is_equivalent_by s o v) vs) e ∙ ap (λ (m : Option Meaning). list_any (λ w. is_same_meaning m (meaning s r w)) vs) h ∙ none_of vs
 
 -- a value by its octets
-pub held_by_octets : {A : Type 0} (s : SchemaModel) (t : ℕ) (v : List ℕ) (items : A → List ℕ) (vs : List A) → equality_of s t ≡ None → list_any (λ w. bytes_eq v (items w)) vs ≡ holds s t (map items vs) v
-held_by_octets s t v items vs e = sym (any_of_map (bytes_eq v) items vs) ∙ ap (λ (o : Option Rule). list_any (is_equivalent_by s o v) (map items vs)) (sym e)
+pub held_by_octets : (s : SchemaModel) (t : ℕ) (v : List ℕ) (vs : List (List ℕ)) → equality_of s t ≡ None → list_any (bytes_eq v) vs ≡ holds s t vs v
+held_by_octets s t v vs e = ap (λ (o : Option Rule). list_any (is_equivalent_by s o v) vs) (sym e)
 
 pub equivalent_keys : TestsAreItems → (s : SchemaModel) (t : ℕ) (r : Rule) (v w k l : List ℕ) → equality_of s t ≡ Some r → key_at s r v ≡ Some k → key_at s r w ≡ Some l → bytes_eq k l ≡ is_equivalent s t v w
 equivalent_keys law s t r v w k l e h o = alike law s t r v w k l e h o

@@ -18,7 +18,7 @@ ghost use Rattle.entry_changes.specs.Naming.{has_value, with_value, with_rdn, ha
 use crate::changing::{add_values, delete_values};
 use crate::working::Working;
 use dir_entry::{
-    Attribute, Entry, EntryError, Key, Rule, Schema, TypeAndValue, TypeId, ValueError,
+    Attribute, Entry, EntryError, Key, Octets, Rule, Schema, TypeAndValue, TypeId, ValueError,
     equality_rule, key, tests_are_items,
 };
 use std::alloc::{AllocError, Global};
@@ -85,8 +85,8 @@ fn has_key(keys: &[Key], key: &Key) -> bool
 }
 
 /// Whether one of the values has these octets.
-fn has_octets(values: &[Vec<u8>], octets: &[u8]) -> bool
-    ensures { result ≡ list_any (λ v. bytes_eq octets.now v.items) values.now }
+fn has_octets(values: &[Octets], octets: &[u8]) -> bool
+    ensures { result ≡ list_any (bytes_eq octets.now) values.now }
 {
     values.iter().any(|value| octets == value.as_slice())
 }

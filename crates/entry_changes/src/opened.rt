@@ -118,7 +118,7 @@ fn extended(
 {
     let mut index = index;
     hold(alloc, &mut index, &given, attribute.values().len())?;
-    let attribute = attribute.joined(given)?;
+    let attribute = attribute.joined(alloc, given)?;
     Ok(Opened {
         attribute,
         index: Some(index),

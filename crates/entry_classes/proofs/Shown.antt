@@ -23,6 +23,3 @@ classed_by o t e h = ap (λ (x : Option ℕ). list_any (λ (a : AttributeModel).
 
 pub classed_shown : (s : SchemaModel) (t : ℕ) (e : List KeyedAttribute) → object_class_type s ≡ Some t → list_any (λ a. is_object_class s a.kind) (attributes_of e) ≡ has_type t (attributes_of e)
 classed_shown s t e h = classed_by (object_class_type s) t e h
-
-pub classes_shown : {A : Type 0} (s : SchemaModel) (items : A → List ℕ) (vs : List A) → are_classes s (map items vs) ≡ list_all (λ v. is_some (class_named s (items v))) vs
-classes_shown s items vs = all_of_map (λ (v : List ℕ). is_some (class_named s v)) items vs

@@ -6,16 +6,16 @@ ghost use Rattle.std.specs.List.{list_all};
 ghost use Rattle.dir_entry.specs.ldap_schema.Schema.{class_named};
 ghost use Rattle.entry_classes.specs.Classes.{classes_named as classes_that_values_name, names_of as names_of_classes, missing_names as names_that_are_missing};
 
-use dir_entry::{ClassId, Schema};
+use dir_entry::{ClassId, Octets, Schema};
 use std::alloc::{AllocError, Global};
 
 /// The classes that the values name; a value that names none is passed over.
 pub fn classes_named(
     alloc: Global,
     schema: &Schema,
-    values: &[Vec<u8>],
+    values: &[Octets],
 ) -> Result<Vec<ClassId>, AllocError>
-    ensures { IfOk result (λ v. v.items ≡ classes_that_values_name schema.now (map (λ v. v.items) values.now)) }
+    ensures { IfOk result (λ v. v.items ≡ classes_that_values_name schema.now values.now) }
 {
     let mut classes = Vec::new(alloc);
     for value in values {
@@ -44,9 +44,9 @@ fn names_of(alloc: Global, schema: &Schema, classes: &[ClassId]) -> Result<Vec<V
 pub fn missing_names(
     alloc: Global,
     schema: &Schema,
-    values: &[Vec<u8>],
+    values: &[Octets],
 ) -> Result<Vec<Vec<u8>>, AllocError>
-    ensures names { IfOk result (λ v. map (λ v. v.items) v.items ≡ names_that_are_missing schema.now (map (λ v. v.items) values.now)) }
+    ensures names { IfOk result (λ v. map (λ v. v.items) v.items ≡ names_that_are_missing schema.now values.now) }
     ensures named { IfOk result (λ v. list_all (λ v. is_some (class_named schema.now v.items)) v.items ≡ true) }
 {
     let classes = classes_named(alloc, schema, values)?;

@@ -9,7 +9,7 @@ ghost use Rattle.dir_entry.specs.ldap_schema.Superclasses.{is_among};
 ghost use Rattle.std.specs.List.{list_all, list_any};
 
 use crate::classes::classes_named;
-use dir_entry::{Attribute, ClassId, ClassKind, Schema, TypeId, has_type};
+use dir_entry::{Attribute, ClassId, ClassKind, Octets, Schema, TypeId, has_type};
 use std::alloc::{AllocError, Global};
 
 /// Whether the attribute has at most one value, where its type is of one.
@@ -183,15 +183,8 @@ fn is_class(schema: &Schema, value: &[u8]) -> bool
 }
 
 /// Whether each value names a class.
-fn are_classes(schema: &Schema, values: &[Vec<u8>]) -> bool
-    ensures { result ≡ are_names_of_classes schema.now (map (λ v. v.items) values.now) }
-{
-    name_classes(schema, values)
-}
-
-/// Whether each of the values names a class.
-fn name_classes(schema: &Schema, values: &[Vec<u8>]) -> bool
-    ensures { result ≡ list_all (λ v. is_some (class_named schema.now v.items)) values.now }
+fn are_classes(schema: &Schema, values: &[Octets]) -> bool
+    ensures { result ≡ are_names_of_classes schema.now values.now }
 {
     values
         .iter()
@@ -199,8 +192,8 @@ fn name_classes(schema: &Schema, values: &[Vec<u8>]) -> bool
 }
 
 /// The values of objectClass; none, where it isn't there.
-pub fn class_values<'a>(schema: &Schema, attributes: &'a [Attribute]) -> &'a [Vec<u8>]
-    ensures { map (λ v. v.items) result.now ≡ values_of_object_class schema.now (attributes_of attributes.now) }
+pub fn class_values<'a>(schema: &Schema, attributes: &'a [Attribute]) -> &'a [Octets]
+    ensures { result.now ≡ values_of_object_class schema.now (attributes_of attributes.now) }
 {
     let object_class = schema.object_class_type();
     for attribute in attributes {

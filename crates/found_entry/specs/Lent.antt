@@ -1,8 +1,7 @@
 -- What an attribute that is lent stands for. A value in memory flows in; the attribute flows out.
-use Rattle.std.specs.Prelude.{map}
 use Rattle.ldap_msg.specs.ldap_parts.Values.{PartialAttributeValue}
 use Rattle.found_entry.specs.declared.shown_attribute.ShownAttribute.{ShownAttribute}
 
 -- an attribute that is lent
 abbrev pub lent_view : ShownAttribute → PartialAttributeValue
-lent_view a = record { description = a.description.now; values = map (λ v. v.items) a.values.now }
+lent_view a = record { description = a.description.now; values = a.values.now }

@@ -7,13 +7,12 @@ ghost use Rattle.ldap_msg.specs.Messages.{response, search_entry};
 ghost use Rattle.ldap_msg.specs.View.{entry_view};
 ghost use Rattle.ldap_msg.specs.Written.{message_bytes, message_content};
 ghost use Rattle.ldap_msg.specs.ldap_parts.View.{attribute_view};
-ghost use Rattle.found_entry.specs.Lent.{lent_view};
 ghost use Rattle.found_entry.specs.Selection.{shown_of};
 ghost use Rattle.found_entry.specs.View.{found_view, found_attributes};
 
-use crate::shown_attribute::{ShownAttribute, copy_all};
+use crate::made_attribute::copy_all_made;
 use crate::shows::Shows;
-use dir_tree::SharedEntry;
+use dir_tree::{Attribute, SharedEntry};
 use ldap_msg::{EncodeError, PartialAttribute, SearchResultEntry, encode_search_entry};
 use std::alloc::{AllocError, Global};
 use std::sync::Arc;
@@ -52,21 +51,34 @@ impl Drop for FoundEntry {
     }
 }
 
-/// Attributes, lent.
-fn lend(
-    alloc: Global,
-    attributes: &[PartialAttribute],
-) -> Result<Vec<ShownAttribute<'_>>, AllocError>
-    ensures { IfOk result (λ v. map lent_view v.items ≡ map attribute_view attributes.now) }
-{
-    let mut all = Vec::with_capacity(alloc, attributes.len())?;
-    for attribute in attributes {
-        all.push(ShownAttribute {
-            description: &attribute.description,
-            values: &attribute.values,
-        })?;
+impl Found {
+    /// Copies of the attributes that are shown.
+    fn copy_attributes(&self, alloc: Global) -> Result<Vec<PartialAttribute>, AllocError>
+        ensures { IfOk result (λ v. map attribute_view v.items ≡ found_attributes self.now) }
+    {
+        match self {
+            Found::Stored(entry, shows) => shows.copy_shown(alloc, entry.attributes()),
+            Found::Made(attributes) => copy_all_made(alloc, attributes),
+        }
     }
-    Ok(all)
+}
+
+/// The octets of the message without controls that shows stored attributes by this name.
+fn encode_stored(
+    alloc: Global,
+    id: u32,
+    object_name: &str,
+    shows: &Shows,
+    attributes: &[Attribute],
+) -> Result<Vec<u8>, EncodeError>
+    ensures ok { IfOk result (λ v. v.items ≡ message_bytes (record { id = id; op = response (search_entry (record { object_name = object_name.now; attributes = shown_of shows.now (attributes_of attributes.now) })); controls = [] })) }
+    ensures too_long { IsErrOf result EncodeError.TooLong
+        → 2 ^ 32 ≤ length (message_content (record { id = id; op = response (search_entry (record { object_name = object_name.now; attributes = shown_of shows.now (attributes_of attributes.now) })); controls = [] })) }
+{
+    match shows.show_all(alloc, attributes) {
+        Ok(shown) => encode_search_entry(alloc, id, object_name, &shown),
+        Err(_) => Err(EncodeError::NoMemory),
+    }
 }
 
 impl FoundEntry {
@@ -97,23 +109,12 @@ impl FoundEntry {
         &self.object_name
     }
 
-    /// The attributes that are shown, lent.
-    fn attributes(&self, alloc: Global) -> Result<Vec<ShownAttribute<'_>>, AllocError>
-        ensures { IfOk result (λ v. map lent_view v.items ≡ found_attributes self.now.found) }
-    {
-        match &self.found {
-            Found::Stored(entry, shows) => shows.show_all(alloc, entry.attributes()),
-            Found::Made(attributes) => lend(alloc, attributes),
-        }
-    }
-
     /// A copy of what is shown, by itself.
     pub fn copied(&self, alloc: Global) -> Result<SearchResultEntry, AllocError>
         ensures { IfOk result (λ e. entry_view e ≡ found_view self.now) }
     {
         let object_name = String::from_str(alloc, &self.object_name)?;
-        let attributes = self.attributes(alloc)?;
-        let attributes = copy_all(alloc, &attributes)?;
+        let attributes = self.found.copy_attributes(alloc)?;
         Ok(SearchResultEntry {
             object_name,
             attributes,
@@ -126,9 +127,13 @@ impl FoundEntry {
         ensures too_long { IsErrOf result EncodeError.TooLong
             → 2 ^ 32 ≤ length (message_content (record { id = id; op = response (search_entry (found_view self.now)); controls = [] })) }
     {
-        match self.attributes(alloc) {
-            Ok(attributes) => encode_search_entry(alloc, id, &self.object_name, &attributes),
-            Err(_) => Err(EncodeError::NoMemory),
+        match &self.found {
+            Found::Stored(entry, shows) => {
+                encode_stored(alloc, id, &self.object_name, shows, entry.attributes())
+            }
+            Found::Made(attributes) => {
+                encode_search_entry(alloc, id, &self.object_name, attributes)
+            }
         }
     }
 }

@@ -3,14 +3,17 @@
 //! `selection` has what the selectors of a search select, looked up once; an attribute costs its type's chain of SUPs. `shows` holds that with
 //! the schema, once for all that a search finds, and lends the attributes that are shown (`shown_attribute`). A `FoundEntry` (`found`) is an entry's printed name and
 //! a second owner of its attributes, or attributes that were made (the root DSE has such). It is written from these, each octet copied once.
+//! `shown_values` measures, writes and copies values where an entry keeps them; `made_attribute` copies attributes that were made.
 //!
 //! Proved: the attributes that the selectors select are shown, in their order, each by its type's first name (`Shows`). A found entry is
 //! copied, and written as the message that shows it (`FoundEntry::copied`, `encode`).
 #![tactic(auto)]
 
 mod found;
+mod made_attribute;
 mod selection;
 mod shown_attribute;
+mod shown_values;
 mod shows;
 
 pub use dir_tree::{SharedEntry, Tree, Visit};

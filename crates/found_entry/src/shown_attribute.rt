@@ -4,15 +4,16 @@ ghost use Rattle.std.specs.Prelude.{◌≡◌, map, IfOk};
 ghost use Rattle.ldap_msg.specs.ldap_parts.View.{attribute_view};
 ghost use Rattle.found_entry.specs.Lent.{lent_view};
 
-use dir_tree::copy_values;
-use ldap_msg::{AttributeParts, PartialAttribute};
+use crate::shown_values::{copy_octets, put_value_set, values_length};
+use dir_tree::Octets;
+use ldap_msg::{AttributeParts, EncodeError, PartialAttribute};
 use std::alloc::{AllocError, Global};
 
 /// An attribute as it is shown, lent by who keeps it.
 #[derive(Clone, Copy)]
 pub struct ShownAttribute<'a> {
     pub description: &'a str,
-    pub values: &'a [Vec<u8>],
+    pub values: &'a [Octets],
 }
 
 impl AttributeParts for ShownAttribute<'_> {
@@ -22,8 +23,12 @@ impl AttributeParts for ShownAttribute<'_> {
         self.description
     }
 
-    fn values(&self) -> &[Vec<u8>] {
-        self.values
+    fn values_length(&self) -> usize {
+        values_length(self.values)
+    }
+
+    fn put_values(&self, out: &mut Vec<u8>) -> Result<(), EncodeError> {
+        put_value_set(self.values, out)
     }
 }
 
@@ -32,7 +37,7 @@ fn copy_shown(alloc: Global, attribute: &ShownAttribute<'_>) -> Result<PartialAt
     ensures { IfOk result (λ a. attribute_view a ≡ lent_view attribute.now) }
 {
     let description = String::from_str(alloc, attribute.description)?;
-    let values = copy_values(alloc, attribute.values)?;
+    let values = copy_octets(alloc, attribute.values)?;
     Ok(PartialAttribute {
         description,
         values,

@@ -1,1 +1,2 @@
 pub mod Settings
+pub use Rattle.dir_entry.proofs as dir_entry

@@ -88,6 +88,9 @@ fn any_match(matching: &Match, attributes: &[Attribute]) -> Truth
     let mut truth = Truth::False;
     for attribute in attributes {
         truth = truth.or(match_on(matching, attribute));
+        if truth == Truth::True {
+            return truth;
+        }
     }
     truth
 }
@@ -170,6 +173,9 @@ fn any_of(leaf: &Leaf, attributes: &[Attribute]) -> Truth
     let mut truth = Truth::False;
     for attribute in attributes {
         truth = truth.or(leaf_on(leaf, attribute));
+        if truth == Truth::True {
+            return truth;
+        }
     }
     truth
 }

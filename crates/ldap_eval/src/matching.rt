@@ -16,8 +16,8 @@ ghost use Rattle.ldap_eval.specs.declared.naming_rules.How.{How};
 
 use crate::naming_rules::{How, asks_less, goes_by_key, rule_for};
 use dir_entry::{
-    Form, Key, Rule, Schema, Truth, TypeAndValue, TypeId, is_meaningful, key_or_none, keys_compare,
-    meets, name_keys_are_of_names, parts_compare, texts_tell,
+    Form, Key, Octets, Rule, Schema, Truth, TypeAndValue, TypeId, is_meaningful, key_or_none,
+    keys_compare, meets, name_keys_are_of_names, parts_compare, texts_tell,
 };
 use std::alloc::{AllocError, Global};
 
@@ -116,9 +116,9 @@ fn has_kept(keys: &[Key], asserted: &Asserted) -> bool
 }
 
 /// Whether one of the values has a text that meets the asserted key.
-fn has_text(values: &[Vec<u8>], forms: &[Form], rule: Rule, asserted: &Asserted) -> bool
-    requires forms { forms.now ≡ map (λ v. form_of v.items) values.now }
-    ensures { result ≡ list_any (λ v. is_text_met rule asserted.now.less asserted.now.key v.items) values.now }
+fn has_text(values: &[Octets], forms: &[Form], rule: Rule, asserted: &Asserted) -> bool
+    requires forms { forms.now ≡ map form_of values.now }
+    ensures { result ≡ list_any (is_text_met rule asserted.now.less asserted.now.key) values.now }
 {
     let mut rest = forms;
     for value in values {
@@ -136,9 +136,9 @@ fn has_text(values: &[Vec<u8>], forms: &[Form], rule: Rule, asserted: &Asserted)
 }
 
 /// A test on the values of an attribute, with their texts and their keys.
-pub fn match_on_values(test: &MatchTest, values: &[Vec<u8>], forms: &[Form], keys: &[Key]) -> Truth
-    requires forms { forms.now ≡ map (λ v. form_of v.items) values.now }
-    ensures { result ≡ match_value test.now (map (λ v. v.items) values.now) keys.now }
+pub fn match_on_values(test: &MatchTest, values: &[Octets], forms: &[Form], keys: &[Key]) -> Truth
+    requires forms { forms.now ≡ map form_of values.now }
+    ensures { result ≡ match_value test.now values.now keys.now }
 {
     match test {
         MatchTest::Unknown => Truth::Undefined,

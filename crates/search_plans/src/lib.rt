@@ -47,7 +47,9 @@ pub use containing::contains;
 pub use dir_index::{Indexes, Kept, NumberSet, Posting, Range, Truth};
 pub use gathering::candidates;
 pub use having::has;
-pub use ldap_eval::{BoundFilter, Filter, Key, Leaf, Test, TypeId, bind, tests_are_items, value};
+pub use ldap_eval::{
+    BoundFilter, Filter, Key, Leaf, NamePairs, Test, TypeId, bind, tests_are_items, value,
+};
 pub use plan::{Plan, Sided};
 pub use running::{Ran, Running, run, start};
 pub use scope::Scope;

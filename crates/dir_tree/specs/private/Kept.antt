@@ -4,7 +4,7 @@ use Rattle.std.specs.Prelude.{◌≡◌, ℕ, cond, [], Option, Some, None, nat_
 use Rattle.std.specs.Map.{remove_entry}
 use Rattle.std.specs.BTreeMap.{insert_entry, is_at}
 use Rattle.std.specs.Ordering.{nat_cmp}
-use Rattle.shared_map.specs.Entries.{Rises}
+use Rattle.dir_entry.specs.shared_map.Entries.{Rises}
 use Rattle.dir_entry.specs.ldap_dn.Names.{rdns}
 use Rattle.dir_tree.specs.Superiors.{place_at}
 use Rattle.dir_tree.specs.private.Superiors.{step_at, below_at, IsHung, IsListed, AreOwn}

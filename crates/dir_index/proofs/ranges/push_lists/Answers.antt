@@ -1,6 +1,6 @@
 use Rattle.std.proofs.Common.{◌≡◌, ap, ◌∙◌, subst, sym}
 use Rattle.std.specs.Prelude.{◌||◌, ◌&&◌}
-use Rattle.shared_map.specs.Runs.{entries_after}
+use Rattle.index_choice.specs.dir_entry.shared_map.Runs.{entries_after}
 use Rattle.dir_index.specs.declared.list_key.ListKey.{ListKey}
 use Rattle.dir_index.specs.Postings.{has_number, in_range}
 use Rattle.dir_index.specs.ListKeys.{list_order}

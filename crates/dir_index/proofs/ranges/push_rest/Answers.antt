@@ -1,6 +1,6 @@
 use Rattle.std.proofs.Common.{◌≡◌, false, sym, ap, ◌∙◌, subst}
 use Rattle.std.specs.Prelude.{◌||◌}
-use Rattle.shared_map.specs.Entries.{Rises, IsAhead}
+use Rattle.index_choice.specs.dir_entry.shared_map.Entries.{Rises, IsAhead}
 use Rattle.dir_index.specs.declared.list_key.ListKey.{ListKey}
 use Rattle.dir_index.specs.Postings.{has_number}
 use Rattle.dir_index.specs.ListKeys.{list_order}

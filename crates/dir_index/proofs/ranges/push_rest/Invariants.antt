@@ -1,7 +1,7 @@
 use Rattle.std.proofs.Common.{◌≡◌, ℕ, length}
 use Rattle.std.specs.Prelude.{◌||◌}
-use Rattle.shared_map.specs.Entries.{Rises, IsAhead}
-use Rattle.shared_map.specs.Runs.{entries_after}
+use Rattle.index_choice.specs.dir_entry.shared_map.Entries.{Rises, IsAhead}
+use Rattle.index_choice.specs.dir_entry.shared_map.Runs.{entries_after}
 use Rattle.dir_index.specs.Postings.{has_number}
 use Rattle.dir_index.specs.ListKeys.{list_order}
 use Rattle.dir_index.specs.Places.{key_at}

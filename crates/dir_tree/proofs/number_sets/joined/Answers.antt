@@ -1,5 +1,5 @@
 use Rattle.std.proofs.Common.{ap, ◌∙◌}
-use Rattle.shared_map.specs.Sets.{has_number}
+use Rattle.dir_entry.specs.shared_map.Sets.{has_number}
 use Rattle.dir_tree.proofs.Kept.{has-put}
 use Rattle.dir_tree.proofs.LevelFacts.{joined_step}
 use Rattle.dir_tree.proofs.number_sets.joined.Goals as goal

@@ -1,5 +1,5 @@
 use Rattle.std.proofs.Common.{ℕ, ◌≡◌, ◌||◌, length}
-use Rattle.shared_map.specs.Sets.{has_number}
+use Rattle.dir_entry.specs.shared_map.Sets.{has_number}
 use Rattle.dir_tree.proofs.number_sets.joined.Given as goal
 
 abbrev pub invariant-loop-number : goal.invariant-loop-number

@@ -1,6 +1,6 @@
 use Rattle.std.proofs.Common.{ℕ, ◌≡◌, length}
 use Rattle.std.specs.Prelude.{◌&&◌, not}
-use Rattle.shared_map.specs.Sets.{has_number}
+use Rattle.dir_entry.specs.shared_map.Sets.{has_number}
 use Rattle.dir_tree.proofs.number_sets.parted.Given as goal
 
 abbrev pub invariant-loop-number : goal.invariant-loop-number

@@ -1,9 +1,10 @@
 use Rattle.std.proofs.Common.{ℕ, List, Vec, Global, Ok, Err, map, refl, ap, sym, subst, ◌≡◌, ◌∙◌}
-use Rattle.std.proofs.lemmas.Result.{IfOk-weaker}
+use Rattle.std.proofs.lemmas.Result.{IfErr-weaker, IfOk-weaker}
 use Rattle.dir_entry.specs.Entry.{AttributeModel, KeyedAttribute, attributes_of, IsKeyedBy}
 use Rattle.entry_changes.specs.private.Compared.{values_held}
 use Rattle.entry_changes.specs.Editing.{without_values}
-use Rattle.entry_changes.proofs.Edited.{deleted, none_held, both_ok}
+use Rattle.dir_entry.specs.Adding.{Refuses}
+use Rattle.entry_changes.proofs.Edited.{deleted, not_deleted, none_held, both_ok}
 use Rattle.entry_changes.proofs.changing.delete_given.Goals as goal
 
 pub returns-in-None-clause-refused : goal.returns-in-None-clause-refused
@@ -25,3 +26,13 @@ returns-clause-ok c =
 pub returns-clause-keyed : goal.returns-clause-keyed
 returns-clause-keyed c = IfOk-weaker c.put_left.result _ _
     (λ e h. h (c.take_attribute-place.ensures.keyed c.args.schema.now (subst (λ (x : List KeyedAttribute). IsKeyedBy c.args.schema.now x) (sym c.into_attributes.ensures) c.requires.keyed))) c.put_left.ensures.keyed
+
+pub returns-clause-refused : goal.returns-clause-refused
+returns-clause-refused c =
+    IfErr-weaker c.put_left.result _ _
+    (λ e h.
+    subst (λ (x : List KeyedAttribute). Refuses e (without_values c.args.schema.now c.args.type_id (map (λ (v : Vec ℕ Global). v.items) c.args.values.items) (attributes_of x))) c.into_attributes.ensures
+    (not_deleted c.args.schema.now c.args.type_id (map (λ (v : Vec ℕ Global). v.items) c.args.values.items) (attributes_of c.into_attributes.result.items) c.in-Some.held.kind c.in-Some.held.values c.in_ok-given.given.values e
+    c.in_ok-given.ensures.valid (sym (ap values_held c.in-Some.is) ∙ c.take_attribute-place.ensures.values) (ap (λ (a : AttributeModel). a.values) c.in_ok-given.ensures.shown)
+    (c.take_attribute-place.ensures.kind c.in-Some.held c.in-Some.is) h))
+    c.put_left.ensures.refused

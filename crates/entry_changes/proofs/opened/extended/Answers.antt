@@ -1,23 +1,23 @@
-use Rattle.std.proofs.Common.{ℕ, Vec, Global, Bool, length, ap, sym, subst, ◌∙◌}
+use Rattle.std.proofs.Common.{Bool, length, ap, sym, subst, ◌∙◌}
 use Rattle.entry_changes.specs.Opening.{since, octets_by, held_in}
 use Rattle.entry_changes.specs.private.Opening.{Fits}
-use Rattle.entry_changes.proofs.Indexing.{map_length, more_values, fits_more}
+use Rattle.entry_changes.proofs.Indexing.{more_values, fits_more}
 use Rattle.entry_changes.proofs.opened.extended.Goals as goal
 
 pub invariant_of-result : goal.invariant_of-result
 invariant_of-result c =
     subst (λ (b : Bool). Fits b (since c.hold.new.index.held.entries) c.in_ok-attribute.attribute) (sym c.in_ok-hold.ensures.by_keys)
     (fits_more c.args.index.by_keys (since c.args.index.held.entries) (since c.hold.new.index.held.entries) c.args.attribute c.in_ok-attribute.attribute c.args.given (length c.values.result.now) c.requires.fits c.requires.long
-    (sym (map_length (λ (v : Vec ℕ Global). v.items) c.values.result.now) ∙ ap length c.values.ensures) c.in_ok-hold.ensures.held c.requires.fresh c.in_ok-attribute.ensures.values c.in_ok-attribute.ensures.keys)
+    (ap length c.values.ensures) c.in_ok-hold.ensures.held c.requires.fresh c.in_ok-attribute.ensures.values c.in_ok-attribute.ensures.keys)
 
 pub returns-clause-values : goal.returns-clause-values
 returns-clause-values c =
     ap (λ (b : Bool). (held_in b (since c.hold.new.index.held.entries) c.in_ok-attribute.attribute).values) c.in_ok-hold.ensures.by_keys
     ∙ (more_values c.args.index.by_keys (since c.args.index.held.entries) (since c.hold.new.index.held.entries) c.args.attribute c.in_ok-attribute.attribute c.args.given (length c.values.result.now) c.requires.fits c.requires.long
-    (sym (map_length (λ (v : Vec ℕ Global). v.items) c.values.result.now) ∙ ap length c.values.ensures) c.in_ok-hold.ensures.held c.requires.fresh c.in_ok-attribute.ensures.values c.in_ok-attribute.ensures.keys).0
+    (ap length c.values.ensures) c.in_ok-hold.ensures.held c.requires.fresh c.in_ok-attribute.ensures.values c.in_ok-attribute.ensures.keys).0
 
 pub returns-clause-octets : goal.returns-clause-octets
 returns-clause-octets c =
     ap (λ (b : Bool). octets_by c.args.index.by_keys (held_in b (since c.hold.new.index.held.entries) c.in_ok-attribute.attribute)) c.in_ok-hold.ensures.by_keys
     ∙ (more_values c.args.index.by_keys (since c.args.index.held.entries) (since c.hold.new.index.held.entries) c.args.attribute c.in_ok-attribute.attribute c.args.given (length c.values.result.now) c.requires.fits c.requires.long
-    (sym (map_length (λ (v : Vec ℕ Global). v.items) c.values.result.now) ∙ ap length c.values.ensures) c.in_ok-hold.ensures.held c.requires.fresh c.in_ok-attribute.ensures.values c.in_ok-attribute.ensures.keys).1
+    (ap length c.values.ensures) c.in_ok-hold.ensures.held c.requires.fresh c.in_ok-attribute.ensures.values c.in_ok-attribute.ensures.keys).1

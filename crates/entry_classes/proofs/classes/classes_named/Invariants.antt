@@ -1,6 +1,6 @@
-use Rattle.std.proofs.Common.{◌≡◌, ◌++◌, drop, map}
+use Rattle.std.proofs.Common.{◌≡◌, ◌++◌, drop}
 use Rattle.entry_classes.specs.Classes.{classes_named}
 use Rattle.entry_classes.proofs.classes.classes_named.Given as goal
 
 abbrev pub invariant-loop-value : goal.invariant-loop-value
-invariant-loop-value l = l.classes.items ++ classes_named l.schema (map (λ v. v.items) (drop l.value-index l.values)) ≡ classes_named l.schema (map (λ v. v.items) l.values)
+invariant-loop-value l = l.classes.items ++ classes_named l.schema (drop l.value-index l.values) ≡ classes_named l.schema l.values

@@ -1,12 +1,8 @@
-use Rattle.std.proofs.Common.{ℕ, Vec, Global, map, ap, sym, ◌∙◌}
+use Rattle.std.proofs.Common.{map, ap, sym, ◌∙◌}
 use Rattle.dir_entry.specs.ldap_syntax.Forms.{form_of}
-use Rattle.dir_entry.proofs.Keyed.{map-map}
 use Rattle.ldap_eval.proofs.evaluating.match_on.Goals as goal
 
 pub match_on_values-requires : goal.match_on_values-requires
 match_on_values-requires c = record {
-  forms =
-      c.forms.ensures
-      ∙ ap (map form_of) (sym c.values.ensures)
-      ∙ map-map form_of (λ (v : Vec ℕ Global). v.items) c.values.result.now;
+  forms = c.forms.ensures ∙ ap (map form_of) (sym c.values.ensures);
 }

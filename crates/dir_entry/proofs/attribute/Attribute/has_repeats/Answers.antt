@@ -1,4 +1,4 @@
-use Rattle.std.proofs.Common.{ℕ, Option, Vec, Global, map, ◌≡◌, ap, sym, ◌∙◌}
+use Rattle.std.proofs.Common.{Option, ◌≡◌, ap, sym, ◌∙◌}
 use Rattle.ldap_match.specs.ldap_words.declared.rule.Rule.{Rule}
 use Rattle.ldap_match.specs.ldap_schema.Schema.{SchemaModel}
 use Rattle.ldap_match.specs.ldap_schema.Rules.{equality_of}
@@ -14,12 +14,12 @@ rule_of s e h = sym (h ∙ ap (λ (x : KeyedAttribute). equality_of s x.kind) e)
 
 pub returns-in-Some : goal.returns-in-Some
 returns-in-Some c = λ h. IfOk-weaker c.has_repeated_key.result _ _
-    (λ b e. e ∙ ap (has_twice bytes_eq) (c.as_slice.ensures ∙ ap (λ (a : KeyedAttribute). a.keys) c.self.view_is)
+    (λ b e. e ∙ ap (has_twice bytes_eq) c.keys.ensures
     ∙ by_keys c.tests_are_items.ensures c.args.schema.now c.args.self.now.kind c.in-Some.field-0 c.args.self.now.values c.args.self.now.keys (rule_of c.args.schema.now c.self.view_is c.equality_rule.ensures ∙ c.in-Some.is) h)
     c.has_repeated_key.ensures
 
 pub returns-in-None : goal.returns-in-None
 returns-in-None c = λ h. IfOk-weaker c.has_repeated_value.result _ _
-    (λ b e. e ∙ ap (has_twice bytes_eq) (ap (map (λ (v : Vec ℕ Global). v.items)) c.as_slice-in-None.ensures ∙ ap (λ (a : KeyedAttribute). a.values) c.self.view_is)
+    (λ b e. e ∙ ap (has_twice bytes_eq) c.values.ensures
     ∙ by_octets c.args.schema.now c.args.self.now.kind c.args.self.now.values (rule_of c.args.schema.now c.self.view_is c.equality_rule.ensures ∙ c.in-None.is))
     c.has_repeated_value.ensures

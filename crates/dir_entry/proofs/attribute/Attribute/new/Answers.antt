@@ -15,12 +15,10 @@ returns-then-not-branch-clause-refused c = λ _.
     ∙ sym c.in_ok-are_of_syntax.ensures
     ∙ c.if-not-branch.true
 
-pub returns-in_err-keys-clause-refused : goal.returns-in_err-keys-clause-refused
-returns-in_err-keys-clause-refused c = λ e.
-    let p = err_from_is_err_and c.from_residual-in_err-keys.result c.from_residual-in_err-keys.ensures.1 in
-    list_all-map (is_of_syntax c.args.schema.now c.args.type_id) (λ (v : Vec ℕ Global). v.items) c.args.values.items
-    ∙ ap (list_all (λ (v : Vec ℕ Global). is_of_syntax c.args.schema.now c.args.type_id v.items)) (sym c.as_slice-2.ensures.value)
-    ∙ c.in_err-keys.ensures.refused (ap Err (sym p.2 ∙ same_error c.from_residual-in_err-keys.result p.0 _ p.1 e))
+pub returns-in_err-lists-clause-refused : goal.returns-in_err-lists-clause-refused
+returns-in_err-lists-clause-refused c = λ e.
+    let p = err_from_is_err_and c.from_residual-in_err-lists.result c.from_residual-in_err-lists.ensures.1 in
+    c.in_err-lists.ensures.refused (ap Err (sym p.2 ∙ same_error c.from_residual-in_err-lists.result p.0 _ p.1 e))
 
 pub returns-clause-in_syntax : goal.returns-clause-in_syntax
 returns-clause-in_syntax c =

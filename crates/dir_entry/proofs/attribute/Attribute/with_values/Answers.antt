@@ -1,18 +1,20 @@
-use Rattle.std.proofs.Common.{ℕ, Result, Err, Vec, Global, ◌≡◌, ap, sym, ◌∙◌}
-use Rattle.std.proofs.lemmas.Result.{err_from_is_err_and}
-use Rattle.std.specs.List.{list_all}
-use Rattle.ldap_match.specs.Item.{is_of_syntax}
+use Rattle.std.proofs.Common.{ℕ, List, ◌≡◌, ◌++◌, ap, sym, subst, ◌∙◌}
+use Rattle.ldap_match.specs.Keyed.{AreKeysOf}
 use Rattle.dir_entry.specs.Entry.{KeyedAttribute}
-use Rattle.dir_entry.proofs.Keyed.{list_all-map}
+use Rattle.dir_entry.specs.Kept.{values_in, keys_in}
+use Rattle.dir_entry.proofs.Keyed.{keyed_join}
 use Rattle.dir_entry.proofs.attribute.Attribute.with_values.Goals as goal
 
-same_error : {A B : Type 0} (r : Result A B) (x y : B) → r ≡ Err x → r ≡ Err y → x ≡ y
-same_error r x y p q = cc
-
-pub returns-in_err-more_keys-clause-refused : goal.returns-in_err-more_keys-clause-refused
-returns-in_err-more_keys-clause-refused c = λ e.
-    let p = err_from_is_err_and c.from_residual.result c.from_residual.ensures.1 in
-    list_all-map (is_of_syntax c.args.schema.now c.args.self.kind) (λ (v : Vec ℕ Global). v.items) c.args.more.items
-    ∙ ap (λ (a : KeyedAttribute). list_all (λ (v : Vec ℕ Global). is_of_syntax c.args.schema.now a.kind v.items) c.args.more.items) (sym c.self.view_is)
-    ∙ ap (list_all (λ (v : Vec ℕ Global). is_of_syntax c.args.schema.now c.self.inside.type_id v.items)) (sym c.as_slice.ensures.value)
-    ∙ c.in_err-more_keys.ensures.refused (ap Err (sym p.2 ∙ same_error c.from_residual.result p.0 _ p.1 e))
+pub returns-clause-keyed : goal.returns-clause-keyed
+returns-clause-keyed c = λ k.
+    let s = c.args.schema.now in
+    let t = c.self.inside.type_id in
+    let more = c.in_ok-more.more in
+    let own = subst (λ (a : KeyedAttribute). AreKeysOf s a.kind a.values a.keys) (sym c.self.view_is) k in
+    let values : values_in c.held.result ≡ values_in c.self.inside.held ++ more.values.items =
+    c.held.ensures.values ∙ c.in_ok-lists.ensures.values ∙ ap (λ (x : List (List ℕ)). x ++ more.values.items) c.in_ok-into_lists.ensures.values in
+    let keys : keys_in c.held.result ≡ keys_in c.self.inside.held ++ more.keys.items =
+    c.held.ensures.keys ∙ c.in_ok-lists.ensures.keys ∙ ap (λ (x : List (List ℕ)). x ++ more.keys.items) c.in_ok-into_lists.ensures.keys in
+    subst (λ (v : List (List ℕ)). AreKeysOf s t v (keys_in c.held.result)) (sym values)
+    (subst (λ (l : List (List ℕ)). AreKeysOf s t (values_in c.self.inside.held ++ more.values.items) l) (sym keys)
+    (keyed_join s t (values_in c.self.inside.held) (keys_in c.self.inside.held) more.values.items more.keys.items own c.in_ok-more.ensures.keyed))

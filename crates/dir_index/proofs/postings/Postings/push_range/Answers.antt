@@ -1,6 +1,6 @@
 use Rattle.std.proofs.Common.{◌≡◌, Bool, true, false, not, List, sym, ap, ◌∙◌, subst}
 use Rattle.std.specs.Prelude.{◌||◌}
-use Rattle.shared_map.specs.Entries.{Rises}
+use Rattle.index_choice.specs.dir_entry.shared_map.Entries.{Rises}
 use Rattle.index_choice.specs.declared.kinds.Kinds.{Kinds}
 use Rattle.index_choice.specs.Choice.{kinds_of}
 use Rattle.dir_index.specs.Postings.{has_number}

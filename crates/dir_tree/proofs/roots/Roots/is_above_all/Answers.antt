@@ -1,6 +1,6 @@
 use Rattle.std.proofs.Common.{sym, ◌∙◌}
 use Rattle.std.specs.Ordering.{nat_cmp}
-use Rattle.shared_map.specs.Runs.{entries_after}
+use Rattle.dir_entry.specs.shared_map.Runs.{entries_after}
 use Rattle.dir_tree.proofs.TreeReads.{all_below, none_after, no_run, no_rest, empty_test}
 use Rattle.dir_tree.specs.Superiors.{place_at}
 use Rattle.dir_tree.proofs.Shown.{below-none}

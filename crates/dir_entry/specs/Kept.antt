@@ -1,0 +1,14 @@
+-- What is kept of an attribute's values. How it is laid out flows in; the values and their keys, as lists, flow out.
+use Rattle.std.specs.Prelude.{ℕ, List, [], ◌∷◌}
+use Rattle.dir_entry.specs.declared.kept.Held.{Held}
+use Rattle.dir_entry.specs.declared.kept.Held.TheVariants.{One, Many}
+
+-- the values
+abbrev pub values_in : Held → List (List ℕ)
+values_in (One value key form) = value ∷ []
+values_in (Many lists) = lists.values.items
+
+-- their keys
+abbrev pub keys_in : Held → List (List ℕ)
+keys_in (One value key form) = key ∷ []
+keys_in (Many lists) = lists.keys.items
