@@ -16,7 +16,8 @@ from replicas import Cluster
 from serving import HOST
 
 NUMBER = 9
-PATIENCE = 10
+# How long it may be silent, in seconds, before that counts as a hang.
+PATIENCE = 60
 RECOVERS = re.compile(r"\S+Z view \d+: recovering\n")
 REFUSALS = r"(?:no stored view|foreign cluster|cannot open the stored view|E25)\n--store: .+"
 

@@ -4,12 +4,12 @@ from __future__ import annotations
 import functools
 import hashlib
 import os
+import random
 import re
 import signal
 import socket
 import subprocess
 import threading
-import time
 
 TOP = os.path.dirname(os.path.dirname(os.path.abspath(__file__)))
 SUFFIX = "dc=example,dc=com"
@@ -31,12 +31,18 @@ def program() -> str:
 
 
 def free_ports(count: int) -> list[int]:
-    """Ports of the loopback interface that nobody has now."""
-    held = []
-    for _ in range(count):
+    """Ports of the loopback interface that nobody has now. Where there is room, they are below those that the system itself gives away: so no other process is
+    given one between here and the replica's start, or while the replica is down."""
+    with open("/proc/sys/net/ipv4/ip_local_port_range", encoding="ascii") as file:
+        lowest = int(file.read().split()[0])
+    held: list[socket.socket] = []
+    while len(held) < count:
         one = socket.socket()
-        one.bind(("127.0.0.1", 0))
-        held.append(one)
+        try:
+            one.bind(("127.0.0.1", random.randrange(10_000, lowest) if lowest >= 20_000 else 0))
+            held.append(one)
+        except OSError:
+            one.close()
     ports = [one.getsockname()[1] for one in held]
     for one in held:
         one.close()
@@ -51,6 +57,8 @@ class Replica:
         self.index = index
         self.process: subprocess.Popen | None = None
         self.lines: list[str] = []
+        # Keeps its lines, until it ends.
+        self.keeper = threading.Thread()
         # Whether it serves clients.
         self.listens = threading.Event()
         # Further words for how the process is made.
@@ -90,11 +98,12 @@ class Replica:
         # In a session of its own, so that Ctrl-C ends only who started it.
         self.process = subprocess.Popen(self.command(fresh), stdin=subprocess.DEVNULL, stdout=subprocess.PIPE, stderr=subprocess.PIPE, text=True,
                                         start_new_session=True, **self.options)
-        threading.Thread(target=self._keep, args=(self.process.stderr,), daemon=True).start()
+        self.keeper = threading.Thread(target=self._keep, args=(self.process.stderr,), daemon=True)
+        self.keeper.start()
         threading.Thread(target=self._listen, args=(self.process.stdout,), daemon=True).start()
         while not self.listens.wait(0.005) and not any(WAITS.search(line) for line in self.lines[before:]):
             if self.process.poll() is not None:
-                time.sleep(0.2)
+                self.keeper.join()
                 raise RuntimeError(f"replica {self.index} doesn't start: {self.lines[before:]}")
 
     def _listen(self, stream) -> None:

@@ -11,7 +11,13 @@ import ldap_client as ldap
 from replicas import MANAGER, PASSWORD, SUFFIX, Cluster
 
 HOST = "127.0.0.1"
-WORDS = ["--beat", "100", "--suspect", "600"]
+# How replicas of most tests wait for their primary, in milliseconds: for longer than a starved machine keeps one from its beats.
+WORDS = ["--beat", "100", "--suspect", "10000"]
+# How those wait whose primary ends or pauses.
+QUICK = ["--beat", "100", "--suspect", "2000"]
+SUSPECT = int(QUICK[QUICK.index("--suspect") + 1]) / 1000
+# How long what has to come is waited for, in seconds, where only a hang is to be noticed.
+PATIENCE = 60.0
 
 
 def item(number: int) -> tuple[str, list[tuple[str, list[str]]]]:
@@ -27,10 +33,10 @@ def manager(cluster: Cluster, index: int, timeout: float = 20.0) -> ldap.Client:
     return client
 
 
-def is_primary(cluster: Cluster, index: int) -> bool:
-    """Whether a replica takes updates now."""
+def is_primary(cluster: Cluster, index: int, seconds: float) -> bool:
+    """Whether a replica takes updates now, and says so within this time."""
     try:
-        client = manager(cluster, index, 2.0)
+        client = manager(cluster, index, seconds)
         code, _, _, _ = client.ask(ldap.noop())
         client.close()
         return code == 0
@@ -38,18 +44,20 @@ def is_primary(cluster: Cluster, index: int) -> bool:
         return False
 
 
-def primary(cluster: Cluster, seconds: float = 30.0) -> int:
-    """The index of the replica that takes updates, once there is one."""
+def primary(cluster: Cluster, seconds: float = PATIENCE) -> int:
+    """The index of the replica that takes updates, once there is one. The longer that takes, the longer each is asked."""
     end = time.time() + seconds
+    asks = 2.0
     while time.time() < end:
         for replica in cluster.replicas:
-            if replica.process is not None and is_primary(cluster, replica.index):
+            if replica.process is not None and is_primary(cluster, replica.index, asks):
                 return replica.index
         time.sleep(0.1)
+        asks = min(1.2 * asks, seconds / 4)
     raise AssertionError("no primary")
 
 
-def names_at(cluster: Cluster, index: int, number: int, seconds: float = 20.0) -> set[str]:
+def names_at(cluster: Cluster, index: int, number: int, seconds: float = PATIENCE) -> set[str]:
     """The names of all entries at a replica, from a state no older than the update of this number."""
     end = time.time() + seconds
     cluster.replicas[index].listens.wait(seconds)
@@ -91,7 +99,7 @@ def play_one(tests: list[Callable[[Cluster], None]], words: list[str]) -> tuple[
     """Plays the tests one after the other with one cluster, tells of each, and gives how many passed and how many failed."""
     passed = failed = 0
     with tempfile.TemporaryDirectory() as folder:
-        cluster = Cluster(folder, 9, 3, WORDS + words)
+        cluster = Cluster(folder, 9, 3, words)
         try:
             cluster.start()
             for test in tests:

