@@ -133,6 +133,7 @@ where
         last_update: AtomicU64::new(0),
         guard,
         restarts: terms.config.restarts,
+        resumed: running.resumed(rt),
     };
     let ways = ways(&clock, seats)?;
     let server = Server {

@@ -53,6 +53,9 @@ pub struct TimedNode<'a, 'r, R: Wait, I: Identity> {
     /// What looks at the file of the stored view, and which start of the replica stored it, counted from 1.
     pub guard: &'a ViewGuard,
     pub restarts: u64,
+    /// How many records the journal told of the log, where the node is still to catch up with them; asked before any thread begins, since it may
+    /// catch up at once.
+    pub resumed: Option<u64>,
 }
 
 impl<'a, 'r, R: Wait + Clock, I: Identity> TimedNode<'a, 'r, R, I> {
@@ -211,7 +214,7 @@ where
     fn run(&self) -> Result<(), ServerError> {
         let pulse = self.running.pulse(self.rt);
         tell_pulse(self.rt, self.alloc, &self.shared_parts.reporter, &pulse);
-        if let Some(records) = self.running.resumed(self.rt) {
+        if let Some(records) = self.resumed {
             tell_resumed(
                 self.rt,
                 self.alloc,
@@ -246,7 +249,7 @@ where
     }
 
     fn drive(&self) -> Result<(), ServerError> {
-        let mut was_caught_up = self.running.is_caught_up(self.rt);
+        let mut was_caught_up = self.resumed.is_none();
         for _ in self.rt.forever() {
             let Some(batch) = self.running.next_batch(self.rt, self.alloc) else {
                 break;
