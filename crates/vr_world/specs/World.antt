@@ -41,11 +41,9 @@ answered i (r ∷ rs) ts = answered i rs (record { replica = i; reply = r } ∷ 
 
 -- Replica i has made a step: its view is stored before anything is sent.
 abbrev pub made : {P : Type 0} → ℕ → Outcome P → World P → World P
-made i d w = record {
+made i d w = record w {
   replicas = put i (Some d.state) w.replicas;
   stored = put i d.state.view_number w.stored;
-  kept = w.kept;
-  nonces = w.nonces;
   messages = posted i d.sends w.messages;
   replies = answered i d.replies w.replies;
 }
@@ -71,9 +69,8 @@ crashed i (Some r) w = record w { replicas = put i None w.replicas; kept = put i
 
 -- A replica that is down goes on from its journal, in its stored view; nothing where its journal isn't whole.
 abbrev pub resumed : {P : Type 0} → ℕ → ℕ → ℕ → Option (State P) → Option (Change P) → World P → World P
-resumed n i k (Some r) c w = w
-resumed n i k None None w = w
 resumed n i k None (Some c) w = made i (idle (resuming n (w.stored i) k c)) (record w { kept = put i None w.kept })
+resumed n i k r c w = w
 
 -- The nonce is one of those that were used.
 abbrev pub has_used : ℕ → List ℕ → Bool
