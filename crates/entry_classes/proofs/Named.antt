@@ -1,11 +1,12 @@
 -- Names of classes as values of objectClass. Facts on lists flow in and out; no value of the program is here.
-use Rattle.std.proofs.Common.{ℕ, ◌+◌, suc, List, [], ◌∷◌, Bool, true, false, cond, ◌&&◌, Option, None, Some, is_some, ◌≡◌, refl, ap, sym, ◌∙◌, map, arith}
+use Rattle.std.proofs.Common.{ℕ, ◌+◌, suc, List, [], ◌∷◌, Bool, true, false, cond, ◌&&◌, Option, None, Some, is_some, option_map, ◌≡◌, refl, ap, sym, ◌∙◌, map, arith}
 use Rattle.std.specs.List.{list_all, position_from, slice_get}
+use Rattle.std.specs.Option.{option_and_then}
 use Rattle.dir_entry.specs.ldap_words.Identifiers.{is_numericoid}
 use Rattle.dir_entry.specs.ldap_words.declared.rule.Rule.{Rule}
 use Rattle.dir_entry.specs.ldap_schema.Schema.{SchemaModel, TypeModel, ClassModel, find, class_named}
 use Rattle.dir_entry.specs.ldap_schema.ObjectClassType.{IsObjectClassType}
-use Rattle.dir_entry.specs.ldap_dn.Meaning.{oid_of_type, oid_of_class, class_oid, type_or_class_oid, named_oid, dotted, identified}
+use Rattle.dir_entry.specs.ldap_dn.Meaning.{type_or_class_oid, named_oid, dotted, identified}
 use Rattle.dir_entry.specs.ldap_match.Item.{is_of_rule, is_of_type, is_of_syntax}
 use Rattle.dir_entry.specs.Entry.{are_in_syntax}
 
@@ -33,15 +34,15 @@ found_there p j xs h =
     let number : j ≡ 0 + f.0 = f.1 in
     let same : j ≡ f.0 = omega arith in ap (λ (n : ℕ). is_some (slice_get xs n)) same ∙ f.2
 
-type_there : (o : Option TypeModel) → is_some o ≡ true → is_some (oid_of_type o) ≡ true
+type_there : (o : Option TypeModel) → is_some o ≡ true → is_some (option_map (λ (t : TypeModel). t.oid) o) ≡ true
 type_there None h = h
 type_there (Some t) h = refl
 
-class_there : (o : Option ClassModel) → is_some o ≡ true → is_some (oid_of_class o) ≡ true
+class_there : (o : Option ClassModel) → is_some o ≡ true → is_some (option_map (λ (c : ClassModel). c.oid) o) ≡ true
 class_there None h = h
 class_there (Some c) h = refl
 
-class_of : (s : SchemaModel) (o : Option ℕ) (v : List ℕ) → class_named s v ≡ o → is_some o ≡ true → is_some (class_oid s o) ≡ true
+class_of : (s : SchemaModel) (o : Option ℕ) (v : List ℕ) → class_named s v ≡ o → is_some o ≡ true → is_some (option_and_then (λ (c : ℕ). option_map (λ (d : ClassModel). d.oid) (slice_get s.classes c)) o) ≡ true
 class_of s None v e h = h
 class_of s (Some c) v e h = class_there (slice_get s.classes c) (found_there _ c s.classes e)
 

@@ -1,9 +1,9 @@
 -- Filter texts: what is printed of a value spells it, and only octets are spelled.
-use Rattle.std.proofs.Common.{◌≡◌, ℕ, zero, suc, ◌+◌, ◌-◌, ◌*◌, ◌/◌, ◌%◌, ◌<◌, ◌≤◌, List, [], ◌∷◌, ◌++◌, take, drop, Bool, true, false, cond, ◌&&◌, ◌||◌, Option, None, Some, nat_le, nat_lt, refl, sym, ap, ◌∙◌, append_assoc, length, arith}
+use Rattle.std.proofs.Common.{◌≡◌, ℕ, zero, suc, ◌+◌, ◌-◌, ◌*◌, ◌/◌, ◌%◌, ◌<◌, ◌≤◌, List, [], ◌∷◌, ◌++◌, take, drop, Bool, true, false, cond, ◌&&◌, ◌||◌, Option, None, Some, nat_le, nat_lt, refl, sym, ap, ◌∙◌, append_assoc, length, arith, option_map}
 use Rattle.std.specs.List.{list_all}
 use Rattle.std.specs.Str.{is_utf8}
 use Rattle.std.proofs.lemmas.Bool.{leb-true, le-leb, lt-ltb, ltb-true}
-use Rattle.filter_text.specs.Values.{is_normal, hex_digit, with_low, with_high, hex_octet, IsValue, nothing, normal, escaped, are_octets, digit, escape, put_octet, is_high, is_character, character_len, put_first, printed_from}
+use Rattle.filter_text.specs.Values.{is_normal, hex_digit, with_high, hex_octet, IsValue, nothing, normal, escaped, are_octets, digit, escape, put_octet, is_high, is_character, character_len, put_first, printed_from}
 use Rattle.filter_text.proofs.Booleans.{left, right, both, either}
 
 digit_read : (n : ℕ) → n < 16 → hex_digit (digit n) ≡ Some n
@@ -28,7 +28,7 @@ digit_read (suc (suc (suc (suc (suc (suc (suc (suc (suc (suc (suc (suc (suc (suc
 escape_read : (c : ℕ) → c < 256 → hex_octet (digit (c / 16)) (digit (c % 16)) ≡ Some c
 escape_read c h =
     ap (λ o. with_high o (hex_digit (digit (c % 16)))) (digit_read (c / 16) (omega (arith, h)))
-    ∙ ap (λ o. with_low (c / 16) o) (digit_read (c % 16) (omega arith))
+    ∙ ap (λ o. option_map (λ l. c / 16 * 16 + l) o) (digit_read (c % 16) (omega arith))
     ∙ ap Some (omega arith)
 
 escape_spells : (c : ℕ) (v text : List ℕ) → c < 256 → IsValue v text → IsValue (c ∷ v) (escape c ++ text)

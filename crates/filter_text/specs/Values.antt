@@ -4,7 +4,7 @@ use Rattle.std.specs.Prelude.{ℕ, zero, suc, ◌+◌, ◌-◌, ◌/◌, ◌%◌
 use Rattle.std.specs.List.{list_all}
 use Rattle.std.specs.Str.{is_utf8}
 pub use Rattle.ldap_words.specs.Octets.{are_octets}
-pub use Rattle.ldap_words.specs.Hexadecimal.{hex_digit, with_low, with_high, hex_octet}
+pub use Rattle.ldap_words.specs.Hexadecimal.{hex_digit, with_high, hex_octet}
 
 -- normal: each octet but NUL, `(`, `)`, `*` and backslash (RFC 4515 3)
 abbrev pub is_normal : ℕ → Bool

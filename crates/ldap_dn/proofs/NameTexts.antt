@@ -1,11 +1,12 @@
 -- The reading of names, step by step, and the grammar of names: each is the other.
 use Rattle.std.proofs.Common.{ℕ, List, [], ◌∷◌, ◌++◌, Bool, true, false, cond, Option, None, Some, ◌≡◌, refl, sym, ap, ◌∙◌, append-nil, subst}
+use Rattle.std.specs.Option.{option_and_then}
 use Rattle.std.specs.List.{list_all, slice_split}
 use Rattle.ldap_schema.specs.Schema.{SchemaModel}
 use Rattle.ldap_dn.specs.Names.{TypeAndValue, TypeAndKey, RdnModel}
 use Rattle.ldap_dn.specs.Tokens.{is_plain, is_space}
 use Rattle.ldap_dn.specs.Grammar.{IsSpelled}
-use Rattle.ldap_dn.specs.Texts.{tokens_of, type_and_value_of, next_written, written_from, written_of, keys_from, rdn_by, rdn_spelled, rdn_of, next_rdn, rdns_from, root_first, name_if}
+use Rattle.ldap_dn.specs.Texts.{tokens_of, type_and_value_of, written_from, written_of, keys_from, rdn_by, rdn_spelled, rdn_of, rdns_from, root_first, name_if}
 use Rattle.ldap_dn.specs.NameTexts.{AreWritten, no_part, a_part, IsRdn, AreRdns, no_rdn, an_rdn, IsNameText, is_empty, has_rdns, NamesAreOfTexts}
 use Rattle.ldap_dn.specs.declared.token.Token.{Token}
 use Rattle.ldap_dn.proofs.Spelled.{tokens_spelled, push_onto, none_some, some_same}
@@ -14,7 +15,7 @@ use Rattle.ldap_dn.proofs.Parted.{parted_split, split_parted}
 written_here : (s : SchemaModel) (acc : List TypeAndValue) {parts : List (List Token)} {vs : List TypeAndValue} → AreWritten s parts vs → written_from s acc parts ≡ Some (acc ++ vs)
 written_here s acc no_part = ap Some (sym (append-nil acc))
 written_here s acc (a_part {parts} {vs} p v e q) =
-    ap (λ o. next_written s acc o (λ us. written_from s us parts)) e
+    ap (λ o. option_and_then (λ w. written_from s (acc ++ w ∷ []) parts) o) e
     ∙ written_here s (acc ++ v ∷ []) q
     ∙ ap Some (push_onto acc v vs)
 
@@ -23,7 +24,7 @@ record HasWritten (s : SchemaModel) (acc : List TypeAndValue) (parts : List (Lis
   is_all : us ≡ acc ++ vs
   are_written : AreWritten s parts vs
 
-at_written : (o : Option TypeAndValue) (s : SchemaModel) (acc : List TypeAndValue) (p : List Token) (parts : List (List Token)) (us : List TypeAndValue) → type_and_value_of s p ≡ o → ((a : List TypeAndValue) → written_from s a parts ≡ Some us → HasWritten s a parts us) → next_written s acc o (λ vs. written_from s vs parts) ≡ Some us → HasWritten s acc (p ∷ parts) us
+at_written : (o : Option TypeAndValue) (s : SchemaModel) (acc : List TypeAndValue) (p : List Token) (parts : List (List Token)) (us : List TypeAndValue) → type_and_value_of s p ≡ o → ((a : List TypeAndValue) → written_from s a parts ≡ Some us → HasWritten s a parts us) → option_and_then (λ w. written_from s (acc ++ w ∷ []) parts) o ≡ Some us → HasWritten s acc (p ∷ parts) us
 at_written None s acc p parts us t more e = absurd (none_some e)
 at_written (Some v) s acc p parts us t more e =
     let f = more (acc ++ v ∷ []) e in
@@ -55,7 +56,7 @@ rdn_is s ts r i =
 rdns_here : (s : SchemaModel) (acc : List RdnModel) {parts : List (List Token)} {rs : List RdnModel} → AreRdns s parts rs → rdns_from s acc parts ≡ Some (acc ++ rs)
 rdns_here s acc no_rdn = ap Some (sym (append-nil acc))
 rdns_here s acc (an_rdn {parts} {rs} p r i q) =
-    ap (λ o. next_rdn acc o (λ us. rdns_from s us parts)) (rdn_is s p r i)
+    ap (λ o. option_and_then (λ q. rdns_from s (acc ++ q ∷ []) parts) o) (rdn_is s p r i)
     ∙ rdns_here s (acc ++ r ∷ []) q
     ∙ ap Some (push_onto acc r rs)
 
@@ -64,7 +65,7 @@ record HasRdns (s : SchemaModel) (acc : List RdnModel) (parts : List (List Token
   is_all : us ≡ acc ++ rs
   are_rdns : AreRdns s parts rs
 
-at_rdn : (o : Option RdnModel) (s : SchemaModel) (acc : List RdnModel) (p : List Token) (parts : List (List Token)) (us : List RdnModel) → rdn_of s p ≡ o → ((a : List RdnModel) → rdns_from s a parts ≡ Some us → HasRdns s a parts us) → next_rdn acc o (λ vs. rdns_from s vs parts) ≡ Some us → HasRdns s acc (p ∷ parts) us
+at_rdn : (o : Option RdnModel) (s : SchemaModel) (acc : List RdnModel) (p : List Token) (parts : List (List Token)) (us : List RdnModel) → rdn_of s p ≡ o → ((a : List RdnModel) → rdns_from s a parts ≡ Some us → HasRdns s a parts us) → option_and_then (λ r. rdns_from s (acc ++ r ∷ []) parts) o ≡ Some us → HasRdns s acc (p ∷ parts) us
 at_rdn None s acc p parts us t more e = absurd (none_some e)
 at_rdn (Some r) s acc p parts us t more e =
     let f = more (acc ++ r ∷ []) e in

@@ -1,10 +1,11 @@
 -- Types put in their places stand in rising order.
 use Rattle.std.proofs.Common.{ℕ, suc, ◌+◌, List, [], ◌∷◌, Bool, true, false, cond, ◌&&◌, Option, None, Some, nat_lt, nat_eq, slice_get, insert, ◌≡◌, refl, sym, ap, ◌∙◌, subst, arith}
+use Rattle.std.specs.Option.{option_and_then}
 use Rattle.std.specs.List.{list_all}
 use Rattle.std.proofs.lemmas.Bool.{ltb-true, ltb-false, eqb-false, lt-ltb}
 use Rattle.ldap_schema.specs.Schema.{SchemaModel}
 use Rattle.ldap_dn.specs.Names.{TypeAndValue, TypeAndKey, RdnModel}
-use Rattle.ldap_dn.specs.Texts.{count_below, is_of_type, placed_if, type_and_key_of, next_keys, keys_from, rdn_by, rdn_spelled, written_of}
+use Rattle.ldap_dn.specs.Texts.{count_below, is_of_type, placed_if, type_and_key_of, keys_from, rdn_by, rdn_spelled, written_of}
 use Rattle.ldap_dn.specs.Rising.{is_rising, KeysAreRising}
 use Rattle.ldap_dn.proofs.Spelled.{none_some, some_same}
 
@@ -109,7 +110,7 @@ rising_keys : (s : SchemaModel) (ks : List TypeAndKey) (vs : List TypeAndValue) 
 rising_keys s ks [] js e r = subst (λ l. is_rising l ≡ true) (some_same e) r
 rising_keys s ks (v ∷ vs) js e r = by (placed_if (type_and_key_of s v) ks) refl (λ ls f. rising_keys s ls vs js f) e
   where
-    by : (o : Option (List TypeAndKey)) → placed_if (type_and_key_of s v) ks ≡ o → ((ls : List TypeAndKey) → keys_from s ls vs ≡ Some js → is_rising ls ≡ true → is_rising js ≡ true) → next_keys o (λ ls. keys_from s ls vs) ≡ Some js → is_rising js ≡ true
+    by : (o : Option (List TypeAndKey)) → placed_if (type_and_key_of s v) ks ≡ o → ((ls : List TypeAndKey) → keys_from s ls vs ≡ Some js → is_rising ls ≡ true → is_rising js ≡ true) → option_and_then (λ ls. keys_from s ls vs) o ≡ Some js → is_rising js ≡ true
     by None h more f = absurd (none_some f)
     by (Some ls) h more f = more ls f (rising_placed (type_and_key_of s v) ks ls h r)
 

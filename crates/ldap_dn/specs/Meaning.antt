@@ -1,34 +1,20 @@
 -- What a value that is no name means where a schema is known: an object identifier may be the name of a type or of a
 -- class. RFC 4517 3.3.26 and 4.2.26. Values flow in, meanings flow out; names (RFC 4514), entries and filters are not
 -- here.
-use Rattle.std.specs.Prelude.{ℕ, List, cond, Option, None, Some, slice_get}
+use Rattle.std.specs.Prelude.{ℕ, List, cond, Option, None, Some, option_map, slice_get}
+use Rattle.std.specs.Option.{option_and_then}
 use Rattle.ldap_schema.specs.ldap_words.Identifiers.{is_numericoid}
 use Rattle.ldap_syntax.specs.Meaning as syntax
 use Rattle.ldap_syntax.specs.Meaning.{Meaning, identifier}
 use Rattle.ldap_schema.specs.ldap_words.declared.rule.Family.{Family}
 use Rattle.ldap_schema.specs.ldap_words.declared.rule.Family.TheVariants as family
 use Rattle.ldap_schema.specs.ldap_words.declared.rule.Rule.{Rule}
-use Rattle.ldap_schema.specs.Schema.{SchemaModel, TypeModel, ClassModel, find, class_named}
-
--- the object identifier of a type; none, where there is no type
-abbrev pub oid_of_type : Option TypeModel → Option (List ℕ)
-oid_of_type None = None
-oid_of_type (Some t) = Some t.oid
-
--- the object identifier of a class; none, where there is no class
-abbrev pub oid_of_class : Option ClassModel → Option (List ℕ)
-oid_of_class None = None
-oid_of_class (Some c) = Some c.oid
-
--- the object identifier of the class of a number
-abbrev pub class_oid : SchemaModel → Option ℕ → Option (List ℕ)
-class_oid s None = None
-class_oid s (Some c) = oid_of_class (slice_get s.classes c)
+use Rattle.ldap_schema.specs.Schema.{SchemaModel, find, class_named}
 
 -- the object identifier of the type of a number, or else of the class of a name
 abbrev pub type_or_class_oid : SchemaModel → List ℕ → Option ℕ → Option (List ℕ)
-type_or_class_oid s name None = class_oid s (class_named s name)
-type_or_class_oid s name (Some t) = oid_of_type (slice_get s.types t)
+type_or_class_oid s name None = option_and_then (λ c. option_map (λ d. d.oid) (slice_get s.classes c)) (class_named s name)
+type_or_class_oid s name (Some t) = option_map (λ d. d.oid) (slice_get s.types t)
 
 -- the object identifier that a name of a type, or else of a class, stands for
 abbrev pub named_oid : SchemaModel → List ℕ → Option (List ℕ)

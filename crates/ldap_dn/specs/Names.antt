@@ -35,9 +35,8 @@ IsBelow a b = (first : List TypeAndKey) × (rest : List (List TypeAndKey)) × (r
 -- whether lists of types and keys are the same
 abbrev pub are_same_keys : List TypeAndKey → List TypeAndKey → Bool
 are_same_keys [] [] = true
-are_same_keys [] (y ∷ ys) = false
-are_same_keys (x ∷ xs) [] = false
 are_same_keys (x ∷ xs) (y ∷ ys) = nat_eq x.kind y.kind && bytes_eq x.key y.key && are_same_keys xs ys
+are_same_keys xs ys = false
 
 -- whether two names are one, by what `rdns` gives of them (RFC 4517 4.2.15)
 abbrev pub name_eq : List (List TypeAndKey) → List (List TypeAndKey) → Bool

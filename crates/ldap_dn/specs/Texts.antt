@@ -2,6 +2,7 @@
 -- name flows out; comparing is not here.
 use Rattle.std.specs.Prelude.{ℕ, ◌+◌, take, drop, insert, slice_get, position, List, [], ◌∷◌, ◌++◌, map, reverse, Bool, false, not, cond, ◌||◌, Option, None, Some, nat_eq, nat_lt}
 use Rattle.std.specs.List.{list_all, slice_split, prefix_len}
+use Rattle.std.specs.Option.{option_and_then}
 use Rattle.std.specs.Str.{is_utf8}
 use Rattle.ldap_syntax.specs.Meaning.{Meaning}
 use Rattle.ldap_schema.specs.ldap_words.declared.rule.Family.{Family}
@@ -34,8 +35,7 @@ step (Half h) c = spelled (hex_octet h c)
 -- a text ends between tokens
 abbrev pub ended : List Token → Scan → Option (List Token)
 ended ts Between = Some ts
-ended ts Escape = None
-ended ts (Half h) = None
+ended ts s = None
 
 -- on from an octet: with one more token where it gave one; no tokens at all, where it is refused
 abbrev pub stepped : List Token → Step → (List Token → Scan → Option (List Token)) → Option (List Token)
@@ -76,9 +76,8 @@ value_of ts = cond (not (list_all is_value_octet ts) || begins_with_hash ts) Non
 
 -- a type with its value; none, where one of them is missing
 abbrev pub paired : Option ℕ → Option (List ℕ) → Option TypeAndValue
-paired None v = None
-paired (Some t) None = None
 paired (Some t) (Some v) = Some (record { kind = t; value = v })
+paired t v = None
 
 -- what stands before the first `=` as the type, and what stands behind it as the value; none, where there is no `=`
 abbrev pub type_and_value_at : SchemaModel → List Token → Option ℕ → Option TypeAndValue
@@ -89,15 +88,10 @@ type_and_value_at s ts (Some i) = paired (type_of s (trimmed (take i ts))) (valu
 abbrev pub type_and_value_of : SchemaModel → List Token → Option TypeAndValue
 type_and_value_of s ts = type_and_value_at s ts (position (is_plain 61) ts)
 
--- one more type and value behind those so far, and then those that follow; none, where a text gave none
-abbrev pub next_written : SchemaModel → List TypeAndValue → Option TypeAndValue → (List TypeAndValue → Option (List TypeAndValue)) → Option (List TypeAndValue)
-next_written s vs None f = None
-next_written s vs (Some v) f = f (vs ++ v ∷ [])
-
--- the types and values so far, and those of the texts that follow
+-- the types and values so far, and those of the texts that follow; none, where a text gave none
 abbrev pub written_from : SchemaModel → List TypeAndValue → List (List Token) → Option (List TypeAndValue)
 written_from s vs [] = Some vs
-written_from s vs (p ∷ ps) = next_written s vs (type_and_value_of s p) (λ us. written_from s us ps)
+written_from s vs (p ∷ ps) = option_and_then (λ v. written_from s (vs ++ v ∷ []) ps) (type_and_value_of s p)
 
 -- the types and values of a relative name, which `+` parts, in the order written
 abbrev pub written_of : SchemaModel → List Token → Option (List TypeAndValue)
@@ -117,11 +111,6 @@ abbrev pub family_key : SchemaModel → Rule → Family → List ℕ → Option 
 family_key s r family.Name v = None
 family_key s r f v = meant_key s r v
 
--- the key of a value under a rule; none, where there is no rule
-abbrev pub rule_key : SchemaModel → Option Rule → List ℕ → Option (List ℕ)
-rule_key s None v = None
-rule_key s (Some r) v = family_key s r r.family v
-
 -- a type with a key; none, where there is no key
 abbrev pub keyed : ℕ → Option (List ℕ) → Option TypeAndKey
 keyed t None = None
@@ -129,7 +118,7 @@ keyed t (Some k) = Some (record { kind = t; key = k })
 
 -- a type with the key of its value: the type has an EQUALITY rule, under which the value means something (RFC 4512 2.5.1)
 abbrev pub type_and_key_of : SchemaModel → TypeAndValue → Option TypeAndKey
-type_and_key_of s v = keyed v.kind (rule_key s (equality_of s v.kind) v.value)
+type_and_key_of s v = keyed v.kind (option_and_then (λ r. family_key s r r.family v.value) (equality_of s v.kind))
 
 -- how many types of a rising list stand below a type
 abbrev pub count_below : ℕ → List TypeAndKey → ℕ
@@ -151,15 +140,10 @@ abbrev pub placed_if : Option TypeAndKey → List TypeAndKey → Option (List Ty
 placed_if None ks = None
 placed_if (Some k) ks = placed k ks
 
--- on to the types and values that follow, with the keys so far; none, where a key had no place
-abbrev pub next_keys : Option (List TypeAndKey) → (List TypeAndKey → Option (List TypeAndKey)) → Option (List TypeAndKey)
-next_keys None f = None
-next_keys (Some ks) f = f ks
-
--- the keys so far, and those of the types and values that follow
+-- the keys so far, and those of the types and values that follow; none, where a key had no place
 abbrev pub keys_from : SchemaModel → List TypeAndKey → List TypeAndValue → Option (List TypeAndKey)
 keys_from s ks [] = Some ks
-keys_from s ks (v ∷ vs) = next_keys (placed_if (type_and_key_of s v) ks) (λ js. keys_from s js vs)
+keys_from s ks (v ∷ vs) = option_and_then (λ js. keys_from s js vs) (placed_if (type_and_key_of s v) ks)
 
 -- a relative name of these types and values with their keys; none, where the keys can't be set in order
 abbrev pub rdn_by : List TypeAndValue → Option (List TypeAndKey) → Option RdnModel
@@ -175,15 +159,10 @@ rdn_spelled s (Some vs) = rdn_by vs (keys_from s [] vs)
 abbrev pub rdn_of : SchemaModel → List Token → Option RdnModel
 rdn_of s ts = rdn_spelled s (written_of s ts)
 
--- one more relative name behind those so far, and then those that follow; none, where a text gave none
-abbrev pub next_rdn : List RdnModel → Option RdnModel → (List RdnModel → Option (List RdnModel)) → Option (List RdnModel)
-next_rdn rs None f = None
-next_rdn rs (Some r) f = f (rs ++ r ∷ [])
-
--- the relative names so far, and those of the texts that follow
+-- the relative names so far, and those of the texts that follow; none, where a text gave none
 abbrev pub rdns_from : SchemaModel → List RdnModel → List (List Token) → Option (List RdnModel)
 rdns_from s rs [] = Some rs
-rdns_from s rs (p ∷ ps) = next_rdn rs (rdn_of s p) (λ qs. rdns_from s qs ps)
+rdns_from s rs (p ∷ ps) = option_and_then (λ r. rdns_from s (rs ++ r ∷ []) ps) (rdn_of s p)
 
 -- relative names in the order of the tree: in the text the root's stands last (RFC 4514 2.1)
 abbrev pub root_first : Option (List RdnModel) → Option (List RdnModel)

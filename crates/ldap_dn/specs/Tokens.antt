@@ -4,7 +4,7 @@ use Rattle.std.specs.Prelude.{ℕ, ◌-◌, List, length, take, drop, Bool, true
 use Rattle.std.specs.List.{prefix_len, suffix_len}
 use Rattle.ldap_dn.specs.declared.token.Token.{Token}
 use Rattle.ldap_dn.specs.declared.token.Token.TheVariants.{Plain, Escaped}
-pub use Rattle.ldap_schema.specs.ldap_words.Hexadecimal.{hex_digit, with_low, with_high, hex_octet}
+pub use Rattle.ldap_schema.specs.ldap_words.Hexadecimal.{hex_digit, with_high, hex_octet}
 
 -- the octets that a backslash may stand before: `"`, `+`, `,`, `;`, `<`, `>`, backslash and NUL, and SPACE, `#` and `=`
 abbrev pub is_escapable : ℕ → Bool

@@ -1,6 +1,6 @@
 -- A schema: types and classes by number, and what a name stands for. RFC 4512 2.4, 2.5, 4.1. Plain data and questions
 -- to it; where it comes from and what values mean is not here.
-use Rattle.std.specs.Prelude.{ℕ, zero, suc, ◌+◌, List, [], ◌∷◌, Bool, true, false, ◌&&◌, ◌||◌, Option, None, Some, ◌≡◌, nat_eq, length, slice_get}
+use Rattle.std.specs.Prelude.{ℕ, zero, suc, ◌+◌, List, [], ◌∷◌, Bool, true, false, ◌&&◌, ◌||◌, Option, None, Some, ◌≡◌, nat_eq, length, slice_get, option_map}
 use Rattle.std.specs.List.{list_any, position_from}
 use Rattle.std.specs.Str.{bytes_eq}
 use Rattle.ldap_words.specs.declared.rule.Rule.{Rule}
@@ -51,14 +51,9 @@ abbrev pub first_name_of : List ℕ → List (List ℕ) → List ℕ
 first_name_of oid [] = oid
 first_name_of oid (name ∷ names) = name
 
--- what a class goes by, where there is one
-abbrev pub class_name_in : Option ClassModel → Option (List ℕ)
-class_name_in None = None
-class_name_in (Some c) = Some (first_name_of c.oid c.names)
-
 -- the first name of a class that the schema has
 abbrev pub class_name : SchemaModel → ℕ → Option (List ℕ)
-class_name s c = class_name_in (slice_get s.classes c)
+class_name s c = option_map (λ d. first_name_of d.oid d.names) (slice_get s.classes c)
 
 -- what a type has that the schema has
 abbrev pub type_at : SchemaModel → ℕ → Option TypeModel

@@ -36,16 +36,11 @@ as_text (Some t) = Some (text t)
 abbrev pub meaning_in : Family → List ℕ → Option Meaning
 meaning_in family.Identifier v = cond (is_numericoid v) (Some (identifier v)) None
 meaning_in family.Name v = None
-meaning_in family.Ignore v = as_text (spelled family.Ignore Whole v)
-meaning_in family.Exact v = as_text (spelled family.Exact Whole v)
-meaning_in family.Numeric v = as_text (spelled family.Numeric Whole v)
 meaning_in family.Boolean v = cond (is_boolean v) (Some (truth (bytes_eq v true_octets))) None
 meaning_in family.Integer v = cond (is_integer v) (Some (number (number_of v))) None
 meaning_in family.Octet v = Some (octets v)
-meaning_in family.Telephone v = as_text (spelled family.Telephone Whole v)
 meaning_in family.Time v = cond (is_time v) (Some (text v)) None
-meaning_in family.Ia5 v = as_text (spelled family.Ia5 Whole v)
-meaning_in family.Ia5Exact v = as_text (spelled family.Ia5Exact Whole v)
+meaning_in f v = as_text (spelled f Whole v)
 
 -- What a value means under a rule; nothing, where it isn't in the rule's syntax.
 abbrev pub meaning : Rule → List ℕ → Option Meaning

@@ -53,12 +53,7 @@ has_characters_of syntax.DirectoryString v = is_utf8 v
 has_characters_of syntax.Ia5String v = is_all_ascii v
 has_characters_of syntax.NumericString v = are_digits_or_spaces v
 has_characters_of syntax.TelephoneNumber v = are_printable v
-has_characters_of syntax.Boolean v = false
-has_characters_of syntax.DistinguishedName v = false
-has_characters_of syntax.GeneralizedTime v = false
-has_characters_of syntax.Integer v = false
-has_characters_of syntax.ObjectIdentifier v = false
-has_characters_of syntax.OctetString v = false
+has_characters_of s v = false
 
 -- The values of a syntax (RFC 4517 3.3.3, 3.3.6, 3.3.13, 3.3.15, 3.3.16, 3.3.23, 3.3.25, 3.3.26, 3.3.31). Names need a
 -- schema: here no value is a distinguished name, and an object identifier is a dotted one.

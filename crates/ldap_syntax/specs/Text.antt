@@ -4,7 +4,7 @@ use Rattle.std.specs.Prelude.{ℕ, List, [], ◌∷◌, ◌++◌, Bool, true, fa
 use Rattle.unicode_normalization.specs.Forms.{nfkc}
 use Rattle.caseless.specs.Caseless.{default_case_fold}
 use Rattle.ldap_words.specs.declared.rule.Family.{Family}
-use Rattle.ldap_words.specs.declared.rule.Family.TheVariants.{Identifier, Name, Ignore, Exact, Numeric, Boolean, Integer, Octet, Telephone, Time, Ia5, Ia5Exact}
+use Rattle.ldap_words.specs.declared.rule.Family.TheVariants.{Ignore, Exact, Numeric, Telephone, Ia5, Ia5Exact}
 use Rattle.ldap_syntax.specs.declared.preparing.Part.{Part}
 use Rattle.ldap_syntax.specs.declared.preparing.Part.TheVariants.{Whole, Initial, Any, Final}
 
@@ -68,17 +68,15 @@ ends_with_space (c ∷ d ∷ cs) = ends_with_space (d ∷ cs)
 
 -- whether a SPACE stands before the first word: at a closed edge always, at an open one where the text has some there
 abbrev pub is_led : Part → List ℕ → Bool
-is_led Whole text = true
-is_led Initial text = true
 is_led Any text = begins_with_space text
 is_led Final text = begins_with_space text
+is_led part text = true
 
 -- whether a SPACE stands behind the last word: at a closed edge always, at an open one where the text has some there
 abbrev pub is_closed : Part → List ℕ → Bool
-is_closed Whole text = true
 is_closed Initial text = ends_with_space text
 is_closed Any text = ends_with_space text
-is_closed Final text = true
+is_closed part text = true
 
 -- one SPACE, or none
 abbrev pub space_if : Bool → List ℕ
@@ -88,9 +86,7 @@ space_if false = []
 -- what stands for a text of SPACEs alone: two SPACEs for a whole value, one for a part
 abbrev pub blank : Part → List ℕ
 blank Whole = 0x20 ∷ 0x20 ∷ []
-blank Initial = 0x20 ∷ []
-blank Any = 0x20 ∷ []
-blank Final = 0x20 ∷ []
+blank part = 0x20 ∷ []
 
 -- the words of a text with SPACEs at its edges and between them, or SPACEs alone where it has no word
 abbrev pub spaced_words : Part → List ℕ → List (List ℕ) → List ℕ
@@ -117,9 +113,4 @@ prepared Exact part text = spaced part (normal text)
 prepared Ia5Exact part text = spaced part (normal text)
 prepared Numeric part text = without_spaces (normal text)
 prepared Telephone part text = without_separators (folded text)
-prepared Identifier part text = text
-prepared Name part text = text
-prepared Boolean part text = text
-prepared Integer part text = text
-prepared Octet part text = text
-prepared Time part text = text
+prepared f part text = text

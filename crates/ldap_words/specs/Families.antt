@@ -12,13 +12,7 @@ is_ordering family.Exact = true
 is_ordering family.Numeric = true
 is_ordering family.Integer = true
 is_ordering family.Time = true
-is_ordering family.Identifier = false
-is_ordering family.Name = false
-is_ordering family.Boolean = false
-is_ordering family.Octet = false
-is_ordering family.Telephone = false
-is_ordering family.Ia5 = false
-is_ordering family.Ia5Exact = false
+is_ordering f = false
 
 -- the families that have a substrings rule
 abbrev pub has_substrings : Family → Bool
@@ -27,13 +21,7 @@ has_substrings family.Exact = true
 has_substrings family.Numeric = true
 has_substrings family.Telephone = true
 has_substrings family.Ia5 = true
-has_substrings family.Identifier = false
-has_substrings family.Name = false
-has_substrings family.Boolean = false
-has_substrings family.Integer = false
-has_substrings family.Octet = false
-has_substrings family.Time = false
-has_substrings family.Ia5Exact = false
+has_substrings f = false
 
 -- the syntaxes of text
 abbrev pub is_textual : Syntax → Bool
@@ -41,12 +29,7 @@ is_textual syntax.DirectoryString = true
 is_textual syntax.Ia5String = true
 is_textual syntax.NumericString = true
 is_textual syntax.TelephoneNumber = true
-is_textual syntax.Boolean = false
-is_textual syntax.DistinguishedName = false
-is_textual syntax.GeneralizedTime = false
-is_textual syntax.Integer = false
-is_textual syntax.ObjectIdentifier = false
-is_textual syntax.OctetString = false
+is_textual s = false
 
 -- the syntaxes that a family's rules are used on: ignore and exact on each syntax of text, the others on one
 abbrev pub is_used_on : Family → Syntax → Bool

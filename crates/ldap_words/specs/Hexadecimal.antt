@@ -1,5 +1,5 @@
 -- Octets in hexadecimal digits: RFC 4512 1.4, HEX. Digits flow in, an octet flows out; what stands before them is not here.
-use Rattle.std.specs.Prelude.{ℕ, ◌+◌, ◌-◌, ◌*◌, cond, ◌&&◌, nat_le, Option, None, Some}
+use Rattle.std.specs.Prelude.{ℕ, ◌+◌, ◌-◌, ◌*◌, cond, ◌&&◌, nat_le, Option, None, Some, option_map}
 
 -- the value of a hexadecimal digit in either case (RFC 4512 1.4, HEX)
 abbrev pub hex_digit : ℕ → Option ℕ
@@ -8,15 +8,10 @@ hex_digit c =
     (cond (nat_le 65 c && nat_le c 70) (Some (c - 55))
     (cond (nat_le 97 c && nat_le c 102) (Some (c - 87)) None))
 
--- the octet of a high and a low digit; none, where the low one is no digit
-abbrev pub with_low : ℕ → Option ℕ → Option ℕ
-with_low h None = None
-with_low h (Some l) = Some (h * 16 + l)
-
 -- the octet of two digits; none, where one of them is no digit
 abbrev pub with_high : Option ℕ → Option ℕ → Option ℕ
 with_high None low = None
-with_high (Some h) low = with_low h low
+with_high (Some h) low = option_map (λ l. h * 16 + l) low
 
 -- the octet that two hexadecimal digits spell
 abbrev pub hex_octet : ℕ → ℕ → Option ℕ

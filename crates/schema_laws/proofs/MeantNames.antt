@@ -1,5 +1,6 @@
 -- The keys of a relative name, and what its types and values mean. Names flow in and out; octets of texts are not here.
 use Rattle.std.proofs.Common.{ℕ, ◌<◌, List, [], ◌∷◌, ◌++◌, Bool, true, false, cond, Option, None, Some, ◌≡◌, ◌⊎◌, inl, inr, refl, sym, ap, ap₂, ◌∙◌, subst, take, drop, insert, slice_get, nat_lt, append-nil, arith}
+use Rattle.std.specs.Option.{option_and_then}
 use Rattle.std.proofs.lemmas.Bool.{ltb-true}
 use Rattle.std.proofs.lemmas.List.{take-append-drop}
 use Rattle.std.specs.List.{AllByRecursion, list_all}
@@ -16,7 +17,7 @@ use Rattle.ldap_match.specs.Keyed.{key_at}
 use Rattle.ldap_match.proofs.Items.{KeyLaws, KeysMean, keys_mean}
 use Rattle.ldap_match.proofs.Plain.{plain_meaning, plain_key}
 use Rattle.ldap_dn.specs.Names.{TypeAndValue, TypeAndKey, RdnModel, rdns}
-use Rattle.ldap_dn.specs.Texts.{meant, meant_key, family_key, rule_key, keyed, type_and_key_of, count_below, is_of_type, placed_if, next_keys, keys_from, next_written, written_from, rdn_by, rdn_spelled, rdn_of}
+use Rattle.ldap_dn.specs.Texts.{meant, meant_key, family_key, keyed, type_and_key_of, count_below, is_of_type, placed_if, keys_from, written_from, rdn_by, rdn_spelled, rdn_of}
 use Rattle.ldap_dn.specs.NameTexts.{AreWritten, no_part, a_part, IsRdn, AreRdns, no_rdn, an_rdn, IsNameText, is_empty, has_rdns}
 use Rattle.ldap_dn.specs.Rising.{is_rising}
 use Rattle.ldap_dn.specs.declared.token.Token.{Token}
@@ -147,7 +148,7 @@ keyed_is : (t : ℕ) (o : Option (List ℕ)) (k : TypeAndKey) → keyed t o ≡ 
 keyed_is t None k h = absurd (none_some h)
 keyed_is t (Some x) k h = (sym (ap (λ (z : TypeAndKey). z.kind) (some_same h)), ap (λ (z : TypeAndKey). Some z.key) (some_same h))
 
-keyed_by : (s : SchemaModel) (v : TypeAndValue) (k : TypeAndKey) (o : Option Rule) → equality_of s v.kind ≡ o → keyed v.kind (rule_key s o v.value) ≡ Some k → IsKeyed s v k
+keyed_by : (s : SchemaModel) (v : TypeAndValue) (k : TypeAndKey) (o : Option Rule) → equality_of s v.kind ≡ o → keyed v.kind (option_and_then (λ (r : Rule). family_key s r r.family v.value) o) ≡ Some k → IsKeyed s v k
 keyed_by s v k None e h = absurd (none_some h)
 keyed_by s v k (Some r) e h =
     let parts = keyed_is v.kind (family_key s r r.family v.value) k h in
@@ -188,7 +189,7 @@ pub record Begins (s : SchemaModel) (ks : List TypeAndKey) (v : TypeAndValue) (v
   pub place : IsPlaced (type_and_key_of s v) ks ls
   pub rest : keys_from s ls vs ≡ Some js
 
-begins_by : (s : SchemaModel) (ks : List TypeAndKey) (v : TypeAndValue) (vs : List TypeAndValue) (js : List TypeAndKey) (o : Option (List TypeAndKey)) → placed_if (type_and_key_of s v) ks ≡ o → next_keys o (λ ls. keys_from s ls vs) ≡ Some js → Begins s ks v vs js
+begins_by : (s : SchemaModel) (ks : List TypeAndKey) (v : TypeAndValue) (vs : List TypeAndValue) (js : List TypeAndKey) (o : Option (List TypeAndKey)) → placed_if (type_and_key_of s v) ks ≡ o → option_and_then (λ ls. keys_from s ls vs) o ≡ Some js → Begins s ks v vs js
 begins_by s ks v vs js None e h = absurd (none_some h)
 begins_by s ks v vs js (Some ls) e h = record { ls = ls; place = place_is (type_and_key_of s v) ks ls e; rest = h }
 
@@ -332,7 +333,7 @@ one_by_keys s laws (and_the_same {a} {b} x y same more) p q =
 written_here : (s : SchemaModel) (so_far : List TypeAndValue) {parts : List (List Token)} {vs : List TypeAndValue} → AreWritten s parts vs → written_from s so_far parts ≡ Some (so_far ++ vs)
 written_here s so_far no_part = ap Some (sym (append-nil so_far))
 written_here s so_far (a_part {parts} {vs} p v e q) =
-    ap (λ o. next_written s so_far o (λ us. written_from s us parts)) e
+    ap (λ o. option_and_then (λ w. written_from s (so_far ++ w ∷ []) parts) o) e
     ∙ written_here s (so_far ++ v ∷ []) q
     ∙ ap Some (push_onto so_far v vs)
 
