@@ -1,5 +1,6 @@
 -- The rules that a type supports, against its EQUALITY rule. Facts on types flow in and out; no value of the program is here.
 use Rattle.std.proofs.Common.{ℕ, List, Bool, true, false, cond, ◌&&◌, ◌||◌, not, Option, None, Some, slice_get, ◌≡◌, refl, ap, ap₂, sym, ◌∙◌}
+use Rattle.std.specs.Option.{option_map_or}
 use Rattle.dir_entry.specs.ldap_words.Families.{is_used_on, is_textual, is_ordering}
 use Rattle.dir_entry.specs.ldap_syntax.Keys as syntax_keys
 use Rattle.dir_entry.specs.ldap_words.declared.rule.Family.{Family}
@@ -11,7 +12,7 @@ use Rattle.dir_entry.specs.ldap_schema.Schema.{SchemaModel, TypeModel}
 use Rattle.dir_entry.specs.ldap_schema.Rules.{equality_in, equality_of}
 use Rattle.dir_entry.specs.ldap_match.Keyed.{key_at}
 use Rattle.dir_entry.proofs.ldap_match.Decided.{and_left, and_right}
-use Rattle.ldap_eval.specs.Matching.{is_rule_of, is_own_or_text, supported_in, rule_for, asks_less, is_text_in, is_text_type, goes_by_key}
+use Rattle.ldap_eval.specs.Matching.{is_rule_of, is_own_or_text, supported_in, rule_for, asks_less, is_text_type, goes_by_key}
 use Rattle.ldap_eval.specs.declared.naming_rules.NamedRule.{NamedRule}
 use Rattle.ldap_eval.specs.declared.naming_rules.How.{How}
 use Rattle.ldap_eval.specs.declared.naming_rules.How.TheVariants as how
@@ -313,7 +314,7 @@ named_fits : (s : SchemaModel) (q : NamedRule) (t : ℕ) (r : Rule) (o : Option 
 named_fits s q t r None e h = absurd (cc)
 named_fits s q t r (Some d) e h =
     let f : Fits d q.family r = fits_by d q.family r (is_used_on q.family d.syntax && is_own_or_text d.syntax d.equality q.family) refl h in
-    let text_is : is_text_type s t ≡ is_textual d.syntax = ap is_text_in e in
+    let text_is : is_text_type s t ≡ is_textual d.syntax = ap (λ (o : Option TypeModel). option_map_or (λ (x : TypeModel). is_textual x.syntax) o false) e in
     record {
       kept = λ g. ap equality_in e ∙ f.kept (sym text_is ∙ not_true (is_text_type s t) g);
       used = λ g. ap₂ is_used_on (ap (λ (x : Rule). x.family) f.is) (ap (λ (x : Rule). x.syntax) f.is) ∙ f.used;

@@ -1,6 +1,7 @@
 -- Tests made of items that name a rule, against the items. Facts on lists flow in and out; no value of the program is here.
 use Rattle.std.proofs.Common.{ℕ, List, [], ◌∷◌, Bool, true, false, cond, ◌||◌, Option, None, Some, is_some, ◌≡◌, refl, ap, ap₂, sym, subst, ◌∙◌, map}
 use Rattle.std.specs.List.{list_any}
+use Rattle.std.specs.Option.{option_map_or}
 use Rattle.dir_entry.specs.ldap_words.Families.{is_used_on, is_textual, is_ordering}
 use Rattle.dir_entry.specs.ldap_syntax.Meaning.{Meaning}
 use Rattle.dir_entry.specs.ldap_words.declared.rule.Rule.{Rule}
@@ -9,9 +10,10 @@ use Rattle.dir_entry.specs.ldap_schema.Schema.{SchemaModel}
 use Rattle.dir_entry.specs.ldap_dn.Pairs.{PairModel}
 use Rattle.dir_entry.specs.ldap_match.Meaning.{meaning}
 use Rattle.dir_entry.specs.ldap_match.Truth.{truth_of}
+use Rattle.dir_entry.specs.ldap_match.declared.truth.Truth.TheVariants.{Undefined}
 use Rattle.dir_entry.specs.ldap_match.Item.{answered, by_rule}
 use Rattle.dir_entry.specs.ldap_match.Keyed.{key_at, AreKeysBy, AreKeysOf}
-use Rattle.ldap_eval.specs.Matching.{rule_for, asks_less, satisfies, goes_by_key, key_meets, match_on_values, pair_answered, pair_by, match_on_pair}
+use Rattle.ldap_eval.specs.Matching.{rule_for, asks_less, satisfies, goes_by_key, key_meets, match_on_values, pair_answered, match_on_pair}
 use Rattle.ldap_eval.specs.Matched.{match_made, match_of_key, match_of_rule, match_for, match_value, match_pair}
 use Rattle.ldap_eval.specs.declared.naming_rules.How.{How}
 use Rattle.dir_entry.proofs.ldap_match.Items.{KeysMean, same_test, same_order}
@@ -88,7 +90,7 @@ module _ (s : SchemaModel) (h : How) (a : List ℕ) (laws : (r : Rule) → KeysM
   pair_key p r (Some k) None f ka ma e = absurd (cc)
   pair_key p r (Some k) (Some m) f ka ma e = pair_way s r (asks_less h) a k m (laws r) f.orders ma ka tell (goes_by_key s h p.kind) p f.used f.text
 
-  pair_rule : (p : PairModel) (o : Option Rule) → rule_for s h p.kind ≡ o → match_pair (match_of_rule s h a p.kind o) p ≡ pair_by s h a o p
+  pair_rule : (p : PairModel) (o : Option Rule) → rule_for s h p.kind ≡ o → match_pair (match_of_rule s h a p.kind o) p ≡ option_map_or (λ (r : Rule). pair_answered s h r a (meaning s r a) p) o Undefined
   pair_rule p None e = refl
   pair_rule p (Some r) e = pair_key p r (key_at s r a) (meaning s r a) (rule_fits s h p.kind r e) refl refl ((laws r).is_present a)
 

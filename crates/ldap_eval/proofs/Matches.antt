@@ -1,8 +1,9 @@
 -- Extensible items: matches type by type against the item on attributes and on pairs of a name. Facts on lists flow in and out; no value of the
 -- program is here.
-use Rattle.std.proofs.Common.{ℕ, ◌+◌, ◌<◌, ◌≤◌, suc, zero, List, [], ◌∷◌, ◌++◌, Bool, true, false, cond, not, ◌&&◌, ◌||◌, Option, None, Some, is_some, Vec, Global, ◌≡◌, refl, ap, ap₂, sym, ◌∙◌, map, filter, length, drop, slice_get, arith, add-one, append_assoc}
+use Rattle.std.proofs.Common.{ℕ, ◌+◌, ◌<◌, ◌≤◌, suc, zero, List, [], ◌∷◌, ◌++◌, Bool, true, false, cond, not, ◌&&◌, ◌||◌, Option, None, Some, is_some, Vec, Global, ◌≡◌, refl, ap, ap₂, sym, ◌∙◌, map, filter, length, drop, slice_get, arith, add-one, append_assoc, option_map}
 use Rattle.std.proofs.lemmas.Option.{slice_get_past}
 use Rattle.std.specs.List.{list_any}
+use Rattle.std.specs.Option.{option_map_or}
 use Rattle.dir_entry.specs.ldap_schema.Schema.{TypeModel, SchemaModel, find}
 use Rattle.dir_entry.specs.ldap_schema.Rules.{equality_in, equality_of}
 use Rattle.dir_entry.specs.ldap_words.declared.rule.Rule.{Rule}
@@ -19,7 +20,7 @@ use Rattle.ldap_eval.specs.declared.naming_rules.How.TheVariants as how
 use Rattle.dir_entry.specs.ldap_dn.Names.{RdnModel}
 use Rattle.dir_entry.specs.ldap_dn.Pairs.{PairModel, pairs_of}
 use Rattle.dir_entry.specs.Entry.{AttributeModel, KeyedAttribute, shown, attributes_of, IsKeyedBy}
-use Rattle.ldap_eval.specs.Value.{item_on, how_of, some_type, type_of, is_matched, is_looked_at, match_on_entry, match_on_name, match_with, match_of_type, match_by, extensible_value}
+use Rattle.ldap_eval.specs.Value.{item_on, how_of, type_of, is_matched, is_looked_at, match_on_entry, match_on_name, match_with, match_by, extensible_value}
 use Rattle.ldap_eval.specs.Made.{is_equality_item, type_with_equality}
 use Rattle.ldap_eval.specs.Bound.{match_of_entry, value_step, bound_value, leaf_if, matches_from, matches_for, matches_with}
 use Rattle.ldap_eval.specs.private.Bound.{IsBoundMatch}
@@ -148,7 +149,7 @@ module _ (s : SchemaModel) (h : How) (asked : Option ℕ) (a : List ℕ) where
       ∙ sym (ap (λ (x : List BoundFilter). old ++ x) (match_front dn s.types i i lt ∙ ap (λ (b : Bool). leaf_if b (bound.Match (match_at i dn)) (matches_from s h asked a dn (drop (suc i) s.types) (i + 1))) (sym looked)))
       ∙ so_far
 
-some_type_is : (o : Option ℕ) (t : ℕ) → some_type o ≡ Some (Some t) → o ≡ Some t
+some_type_is : (o : Option ℕ) (t : ℕ) → option_map (λ (x : ℕ). Some x) o ≡ Some (Some t) → o ≡ Some t
 some_type_is None t e = absurd (cc)
 some_type_is (Some u) t e = cc
 
@@ -168,7 +169,7 @@ some_type_step p (x ∷ xs) (suc i) lt = some_type_step p xs i (omega (arith, lt
 pub known_value : (s : SchemaModel) (x : ExtensibleValue) (h : How) (t : Option ℕ) → how_of x.matching_rule ≡ Some h → type_of s x.description ≡ Some t → (n : List RdnModel) (e : List AttributeModel)
     → match_with s h t x.match_value x.dn_attributes n e ≡ extensible_value s x n e
 known_value s x h t is_how is_type n e =
-    sym (ap (λ (o : Option How). match_by s o x n e) is_how ∙ ap (λ (o : Option (Option ℕ)). match_of_type s h o x n e) is_type)
+    sym (ap (λ (o : Option How). match_by s o x n e) is_how ∙ ap (λ (o : Option (Option ℕ)). option_map_or (λ (u : Option ℕ). match_with s h u x.match_value x.dn_attributes n e) o Undefined) is_type)
 
 -- bound as its matches
 pub bound_match : (s : SchemaModel) (x : ExtensibleValue) (h : How) (t : Option ℕ) (b : BoundFilter) → how_of x.matching_rule ≡ Some h → type_of s x.description ≡ Some t
@@ -230,4 +231,4 @@ no_how s x e = λ n es k. value-Undefined n es ∙ sym (ap (λ (o : Option How).
 
 pub no_type : (s : SchemaModel) (x : ExtensibleValue) (h : How) → how_of x.matching_rule ≡ Some h → type_of s x.description ≡ None → IsBoundMatch s x bound.Undefined
 no_type s x h e f = λ n es k.
-    value-Undefined n es ∙ sym (ap (λ (o : Option How). match_by s o x n (attributes_of es)) e ∙ ap (λ (o : Option (Option ℕ)). match_of_type s h o x n (attributes_of es)) f)
+    value-Undefined n es ∙ sym (ap (λ (o : Option How). match_by s o x n (attributes_of es)) e ∙ ap (λ (o : Option (Option ℕ)). option_map_or (λ (u : Option ℕ). match_with s h u x.match_value x.dn_attributes n (attributes_of es)) o Undefined) f)

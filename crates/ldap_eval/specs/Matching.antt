@@ -1,6 +1,7 @@
 -- An item that names a rule, on one attribute and on one pair of a name: RFC 4511 4.5.1.7.7. A rule, a type, an assertion and values flow in, a truth
 -- flows out; which attributes an item looks at is not here.
-use Rattle.std.specs.Prelude.{ℕ, List, Bool, true, false, not, cond, ◌&&◌, ◌||◌, Option, None, Some, slice_get}
+use Rattle.std.specs.Prelude.{ℕ, List, Bool, true, false, not, cond, ◌&&◌, ◌||◌, Option, None, Some, option_map, slice_get}
+use Rattle.std.specs.Option.{option_or, option_map_or}
 use Rattle.dir_entry.specs.ldap_words.Families.{is_ordering, is_textual, is_used_on}
 use Rattle.dir_entry.specs.ldap_syntax.Meaning.{Meaning}
 use Rattle.dir_entry.specs.ldap_words.declared.rule.Family.{Family}
@@ -21,19 +22,11 @@ use Rattle.ldap_eval.specs.declared.naming_rules.NamedRule.{NamedRule}
 use Rattle.ldap_eval.specs.declared.naming_rules.How.{How}
 use Rattle.ldap_eval.specs.declared.naming_rules.How.TheVariants as how
 
--- the rule of a family, as equality or as order
-abbrev pub named_as : Bool → Option Family → Option NamedRule
-named_as less None = None
-named_as less (Some f) = Some (record { family = f; less = less })
-
--- the first that there is
-abbrev pub or_named : Option NamedRule → Option NamedRule → Option NamedRule
-or_named None r = r
-or_named (Some q) r = Some q
-
 -- the equality or the ordering rule of a name in any case, or of an object identifier (RFC 4517 4.2)
 abbrev pub named_rule : List ℕ → Option NamedRule
-named_rule w = or_named (named_as false (equality_family w)) (named_as true (ordering_family w))
+named_rule w =
+    option_or (option_map (λ f. record { family = f; less = false }) (equality_family w))
+    (option_map (λ f. record { family = f; less = true }) (ordering_family w))
 
 -- whether a type's rule is used on the syntax, and the family on the rule's
 abbrev pub is_rule_of : Option Rule → Family → Syntax → Bool
@@ -65,14 +58,10 @@ abbrev pub asks_less : How → Bool
 asks_less how.Own = false
 asks_less (how.Named r) = r.less && is_ordering r.family
 
--- whether a value's meaning is less than this (RFC 4517 4.2.5 and its kin)
-abbrev pub is_less_than : Meaning → Option Meaning → Bool
-is_less_than m None = false
-is_less_than m (Some n) = is_less_meaning n m
-
--- whether a value's meaning satisfies a rule: by an equality rule it is this one, by an ordering rule less than it
+-- whether a value's meaning satisfies a rule: by an equality rule it is this one, by an ordering rule less than it (RFC
+-- 4517 4.2.5 and its kin)
 abbrev pub satisfies : Bool → Meaning → Option Meaning → Bool
-satisfies true m o = is_less_than m o
+satisfies true m o = option_map_or (λ n. is_less_meaning n m) o false
 satisfies false m o = is_meant m o
 
 -- The item on the values of one attribute: True if a value satisfies the rule; Undefined if the type doesn't support it, or the assertion is not in
@@ -80,14 +69,9 @@ satisfies false m o = is_meant m o
 abbrev pub match_on_values : SchemaModel → How → List ℕ → ℕ → List (List ℕ) → Truth
 match_on_values s h a t values = by_rule (satisfies (asks_less h)) (λ r. meaning s r a) s (rule_for s h t) values
 
--- whether a type is there and has text values
-abbrev pub is_text_in : Option TypeModel → Bool
-is_text_in None = false
-is_text_in (Some t) = is_textual t.syntax
-
 -- whether the values of a type are text
 abbrev pub is_text_type : SchemaModel → ℕ → Bool
-is_text_type s t = is_text_in (slice_get s.types t)
+is_text_type s t = option_map_or (λ d. is_textual d.syntax) (slice_get s.types t) false
 
 -- whether the rule is the type's own EQUALITY rule, which makes the keys in names: it always is where the values are no text
 abbrev pub goes_by_key : SchemaModel → How → ℕ → Bool
@@ -108,11 +92,6 @@ abbrev pub pair_answered : SchemaModel → How → Rule → List ℕ → Option 
 pair_answered s h r a None p = Undefined
 pair_answered s h r a (Some m) p = truth_of (pair_satisfies s h r a m p)
 
--- Undefined where there is no rule, else what the pair answers
-abbrev pub pair_by : SchemaModel → How → List ℕ → Option Rule → PairModel → Truth
-pair_by s h a None p = Undefined
-pair_by s h a (Some r) p = pair_answered s h r a (meaning s r a) p
-
--- The item on one pair of a name, which counts as an attribute with one value (RFC 4511 4.5.1.7.7, dnAttributes).
+-- The item on one pair of a name, which counts as an attribute with one value (RFC 4511 4.5.1.7.7, dnAttributes); Undefined where there is no rule.
 abbrev pub match_on_pair : SchemaModel → How → List ℕ → PairModel → Truth
-match_on_pair s h a p = pair_by s h a (rule_for s h p.kind) p
+match_on_pair s h a p = option_map_or (λ r. pair_answered s h r a (meaning s r a) p) (rule_for s h p.kind) Undefined

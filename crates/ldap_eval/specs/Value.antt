@@ -1,6 +1,7 @@
 -- The three-valued value of a filter on an entry: RFC 4511 4.5.1.7. A schema, a filter's tree, an entry's name and its
 -- attributes flow in, a truth flows out; indexes and memory are not here.
-use Rattle.std.specs.Prelude.{ℕ, List, Bool, false, cond, Option, None, Some, is_some, filter, map}
+use Rattle.std.specs.Prelude.{ℕ, List, Bool, false, cond, Option, None, Some, is_some, option_map, filter, map}
+use Rattle.std.specs.Option.{option_map_or}
 use Rattle.std.specs.List.{list_any}
 use Rattle.dir_entry.specs.ldap_schema.Schema.{SchemaModel, find, is_under}
 use Rattle.dir_entry.specs.ldap_match.Truth.{truth_and, truth_or, truth_not, disjunction}
@@ -9,7 +10,6 @@ use Rattle.dir_entry.specs.ldap_match.Item.{Item, present, equal, at_least, at_m
 use Rattle.ldap_eval.specs.Matching.{named_rule, supported_in, rule_for, match_on_values, match_on_pair}
 use Rattle.ldap_eval.specs.declared.naming_rules.How.{How}
 use Rattle.ldap_eval.specs.declared.naming_rules.How.TheVariants as how
-use Rattle.ldap_eval.specs.declared.naming_rules.NamedRule.{NamedRule}
 use Rattle.dir_entry.specs.ldap_dn.Names.{RdnModel}
 use Rattle.dir_entry.specs.ldap_dn.Pairs.{PairModel, pairs_of}
 use Rattle.dir_entry.specs.ldap_match.declared.truth.Truth.{Truth}
@@ -43,32 +43,21 @@ parts_of s = record { initial = s.initial; any = s.any; last = s.last }
 
 -- what a comparison asks; approximately equal is equal here (RFC 4511 4.5.1.7.6)
 abbrev pub asked_by : Comparison → List ℕ → Item
-asked_by filter_item.equal a = equal a
 asked_by filter_item.at_least a = at_least a
 asked_by filter_item.at_most a = at_most a
-asked_by filter_item.approximate a = equal a
+asked_by k a = equal a
 
 -- ---- extensible items (RFC 4511 4.5.1.7.7)
-
--- how a named rule compares
-abbrev pub named_how : Option NamedRule → Option How
-named_how None = None
-named_how (Some r) = Some (how.Named r)
 
 -- how an item compares values: by the type's own rule, where it names none; nothing, where what it names is no equality or ordering rule
 abbrev pub how_of : Option (List ℕ) → Option How
 how_of None = Some how.Own
-how_of (Some word) = named_how (named_rule word)
-
--- one type, where it is known; none at all where it isn't
-abbrev pub some_type : Option ℕ → Option (Option ℕ)
-some_type None = None
-some_type (Some t) = Some (Some t)
+how_of (Some word) = option_map how.Named (named_rule word)
 
 -- the type that an item names, or that it names none; nothing, where the description is not recognised
 abbrev pub type_of : SchemaModel → Option (List ℕ) → Option (Option ℕ)
 type_of s None = Some None
-type_of s (Some d) = some_type (find s d)
+type_of s (Some d) = option_map Some (find s d)
 
 -- Whether an item can be matched: with a type, the type supports the rule, and the assertion is in its syntax; with a rule alone, some type of the
 -- schema supports it that has the assertion in its syntax; with neither, it can not.
@@ -95,15 +84,10 @@ match_on_name s h t a n = disjunction (map (match_on_pair s h a) (filter (λ p. 
 abbrev pub match_with : SchemaModel → How → Option ℕ → List ℕ → Bool → List RdnModel → List AttributeModel → Truth
 match_with s h t a dn n e = cond (is_matched s h t a) (truth_or (match_on_entry s h t a e) (cond dn (match_on_name s h t a n) False)) Undefined
 
--- Undefined where the type is unknown
-abbrev pub match_of_type : SchemaModel → How → Option (Option ℕ) → ExtensibleValue → List RdnModel → List AttributeModel → Truth
-match_of_type s h None x n e = Undefined
-match_of_type s h (Some t) x n e = match_with s h t x.match_value x.dn_attributes n e
-
--- Undefined where the rule is unknown
+-- Undefined where the rule or the type is unknown
 abbrev pub match_by : SchemaModel → Option How → ExtensibleValue → List RdnModel → List AttributeModel → Truth
 match_by s None x n e = Undefined
-match_by s (Some h) x n e = match_of_type s h (type_of s x.description) x n e
+match_by s (Some h) x n e = option_map_or (λ t. match_with s h t x.match_value x.dn_attributes n e) (type_of s x.description) Undefined
 
 -- An extensible item on an entry: Undefined, where it can't be matched; else the `or` of the item on each attribute that it looks at and, if it asks
 -- for the name too, on each pair of the entry's name (RFC 4511 4.5.1.7.7).

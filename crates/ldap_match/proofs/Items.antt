@@ -1,5 +1,6 @@
 -- Tests on keys against items on values. Facts on lists flow in and out; the values of a program are not here.
 use Rattle.std.proofs.Common.{ℕ, ℤ, ◌<ℤ◌, ◌≤ℤ◌, T, List, [], ◌∷◌, Bool, true, false, cond, not, ◌||◌, Option, None, Some, is_some, ◌≡◌, ◌↔◌, refl, ap, ap₂, sym, subst, ◌∙◌, map, encode_utf8_all, slice_get, arith}
+use Rattle.std.specs.Option.{option_and_then}
 use Rattle.std.specs.Bool.{Decides}
 use Rattle.std.specs.Int.Signed.{lt_z, lt_z_yes, lt_z_no}
 use Rattle.std.specs.List.{list_any}
@@ -24,7 +25,7 @@ use Rattle.ldap_dn.specs.NameKeys.{NameKeysAreOfNames}
 use Rattle.ldap_match.specs.Meaning.{meaning, meaning_by, name_of}
 use Rattle.ldap_match.specs.Parts.{PartsModel, has_parts}
 use Rattle.ldap_match.specs.Truth.{truth_of}
-use Rattle.ldap_match.specs.Item.{Item, present, equal, at_least, at_most, substrings, is_equal_meaning, is_meant, is_less_meaning, is_at_least, is_at_most, has_prepared, of_family, beside, ordering_in, ordering_of, substrings_in, substrings_of, some_of, end_by, put_before, each_by, three_parts, prepared_parts, answered, by_rule, item_on_attribute, are_valid_by, is_answerable}
+use Rattle.ldap_match.specs.Item.{Item, present, equal, at_least, at_most, substrings, is_equal_meaning, is_meant, is_less_meaning, is_at_least, is_at_most, has_prepared, of_family, beside, ordering_of, substrings_of, some_of, end_by, put_before, each_by, three_parts, prepared_parts, answered, by_rule, item_on_attribute, are_valid_by, is_answerable}
 use Rattle.ldap_match.specs.declared.testing.Test.{Test}
 use Rattle.ldap_match.specs.declared.testing.Test.TheVariants as test
 use Rattle.ldap_match.specs.Keyed.{key_at, key_by, part_keys_at, test_of, test_by_rule, test_for, test_value, is_same_key, is_key_at_least, is_key_at_most, AreKeysBy, AreKeysOf}
@@ -313,11 +314,11 @@ beside_is : (x y : Option Rule) (r : Rule) → beside x y ≡ Some r → y ≡ S
 beside_is None y r e = absurd (cc)
 beside_is (Some o) y r e = e
 
-pub ordering_is : (o : Option TypeModel) (r : Rule) → ordering_in o ≡ Some r → (equality_in o ≡ Some r) × (is_ordering r.family ≡ true)
+pub ordering_is : (o : Option TypeModel) (r : Rule) → option_and_then (λ (d : TypeModel). beside d.ordering (of_family is_ordering d.equality)) o ≡ Some r → (equality_in o ≡ Some r) × (is_ordering r.family ≡ true)
 ordering_is None r e = absurd (cc)
 ordering_is (Some t) r e = of_family_is is_ordering t.equality r (beside_is t.ordering (of_family is_ordering t.equality) r e)
 
-substrings_is : (o : Option TypeModel) (r : Rule) → substrings_in o ≡ Some r → (equality_in o ≡ Some r) × (has_substrings r.family ≡ true)
+substrings_is : (o : Option TypeModel) (r : Rule) → option_and_then (λ (d : TypeModel). beside d.substrings (of_family has_substrings d.equality)) o ≡ Some r → (equality_in o ≡ Some r) × (has_substrings r.family ≡ true)
 substrings_is None r e = absurd (cc)
 substrings_is (Some t) r e = of_family_is has_substrings t.equality r (beside_is t.substrings (of_family has_substrings t.equality) r e)
 

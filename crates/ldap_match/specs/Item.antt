@@ -4,6 +4,7 @@ use Rattle.std.specs.Prelude.{ℕ, List, [], ◌∷◌, Bool, true, false, not, 
 use Rattle.std.specs.Int.Signed.{lt_z}
 use Rattle.std.specs.Cmp.Lexicographic.{pointwise}
 use Rattle.std.specs.List.{list_any}
+use Rattle.std.specs.Option.{option_and_then}
 use Rattle.std.specs.Str.{bytes_eq}
 use Rattle.std.specs.Ordering.{int_eq}
 use Rattle.ldap_dn.specs.ldap_syntax.Syntaxes as syntax
@@ -90,24 +91,14 @@ abbrev pub beside : Option Rule → Option Rule → Option Rule
 beside None r = None
 beside (Some o) r = r
 
--- the EQUALITY rule of a type that has an ORDERING rule, where values of its family have an order
-abbrev pub ordering_in : Option TypeModel → Option Rule
-ordering_in None = None
-ordering_in (Some t) = beside t.ordering (of_family is_ordering t.equality)
-
--- The ORDERING rule in effect for a type; none, where the type lacks it. The rules of one type are of one family, so
--- values mean under it what they mean under the EQUALITY rule.
+-- The ORDERING rule in effect for a type: its EQUALITY rule, where it has an ORDERING rule and values of the family have
+-- an order. The rules of one type are of one family, so values mean under both the same.
 abbrev pub ordering_of : SchemaModel → ℕ → Option Rule
-ordering_of s t = ordering_in (slice_get s.types t)
+ordering_of s t = option_and_then (λ d. beside d.ordering (of_family is_ordering d.equality)) (slice_get s.types t)
 
--- the EQUALITY rule of a type that has a SUBSTR rule, where its family has one of substrings
-abbrev pub substrings_in : Option TypeModel → Option Rule
-substrings_in None = None
-substrings_in (Some t) = beside t.substrings (of_family has_substrings t.equality)
-
--- the SUBSTR rule in effect for a type; none, where the type lacks it
+-- the SUBSTR rule in effect for a type: its EQUALITY rule, where it has a SUBSTR rule and the family has one of substrings
 abbrev pub substrings_of : SchemaModel → ℕ → Option Rule
-substrings_of s t = substrings_in (slice_get s.types t)
+substrings_of s t = option_and_then (λ d. beside d.substrings (of_family has_substrings d.equality)) (slice_get s.types t)
 
 -- ---- the parts of an assertion
 

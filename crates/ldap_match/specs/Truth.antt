@@ -7,17 +7,15 @@ use Rattle.ldap_match.specs.declared.truth.Truth.TheVariants.{True, False, Undef
 abbrev pub truth_and : Truth → Truth → Truth
 truth_and True b = b
 truth_and False b = False
-truth_and Undefined True = Undefined
 truth_and Undefined False = False
-truth_and Undefined Undefined = Undefined
+truth_and Undefined b = Undefined
 
 -- True if one is True, False if both are False, else Undefined (RFC 4511 4.5.1.7)
 abbrev pub truth_or : Truth → Truth → Truth
 truth_or True b = True
 truth_or False b = b
 truth_or Undefined True = True
-truth_or Undefined False = Undefined
-truth_or Undefined Undefined = Undefined
+truth_or Undefined b = Undefined
 
 -- swaps True and False (RFC 4511 4.5.1.7)
 abbrev pub truth_not : Truth → Truth

@@ -1,5 +1,6 @@
 -- What a test on keys asks for is what its item asks for of values. Facts on lists flow in and out; no value of the program is here.
 use Rattle.std.proofs.Common.{◌≡◌, ℕ, Bool, true, false, not, ◌&&◌, ◌||◌, List, [], ◌∷◌, cond, nat_eq, Option, None, Some, is_some, map, encode_utf8_all, refl, sym, ap, ap₂, subst, ◌∙◌, eqb-true, slice_get}
+use Rattle.std.specs.Option.{option_and_then}
 use Rattle.std.specs.List.{list_any, list_all}
 use mathlib.Core.Path.{fun_ext}
 use Rattle.ldap_eval.specs.ldap_words.Families.{has_substrings}
@@ -14,7 +15,7 @@ use Rattle.ldap_eval.specs.dir_entry.ldap_schema.Schema.{SchemaModel, TypeModel}
 use Rattle.ldap_eval.specs.dir_entry.ldap_schema.Rules.{equality_in, equality_of}
 use Rattle.ldap_eval.specs.ldap_match.Meaning.{meaning}
 use Rattle.ldap_eval.specs.ldap_match.Parts.{PartsModel}
-use Rattle.ldap_eval.specs.ldap_match.Item.{Item, present, equal, at_least, at_most, substrings, is_meant, is_at_least, is_at_most, has_prepared, of_family, beside, ordering_of, substrings_in, substrings_of, some_of, end_by, put_before, each_by, three_parts, prepared_parts, answered, by_rule, item_on_attribute, is_valid_by, are_valid_by, is_answerable}
+use Rattle.ldap_eval.specs.ldap_match.Item.{Item, present, equal, at_least, at_most, substrings, is_meant, is_at_least, is_at_most, has_prepared, of_family, beside, ordering_of, substrings_of, some_of, end_by, put_before, each_by, three_parts, prepared_parts, answered, by_rule, item_on_attribute, is_valid_by, are_valid_by, is_answerable}
 use Rattle.ldap_eval.specs.ldap_match.Keyed.{key_at, part_keys_at, test_of, test_by_rule, test_for, test_value, AreKeysBy, AreKeysOf}
 use Rattle.ldap_eval.specs.ldap_match.declared.truth.Truth.TheVariants.{False, Undefined}
 use Rattle.ldap_eval.specs.ldap_match.declared.testing.Test.{Test}
@@ -195,7 +196,7 @@ beside_is : (x y : Option Rule) (r : Rule) → beside x y ≡ Some r → y ≡ S
 beside_is None y r e = absurd (cc)
 beside_is (Some o) y r e = e
 
-substrings_is : (o : Option TypeModel) (r : Rule) → substrings_in o ≡ Some r → (equality_in o ≡ Some r) × (has_substrings r.family ≡ true)
+substrings_is : (o : Option TypeModel) (r : Rule) → option_and_then (λ (d : TypeModel). beside d.substrings (of_family has_substrings d.equality)) o ≡ Some r → (equality_in o ≡ Some r) × (has_substrings r.family ≡ true)
 substrings_is None r e = absurd (cc)
 substrings_is (Some t) r e = of_family_is t.equality r (beside_is t.substrings (of_family has_substrings t.equality) r e)
 

@@ -2,7 +2,7 @@
 -- keeps the posting lists is not here.
 use Rattle.std.specs.Prelude.{ℕ, Bool, true, false, ◌&&◌, not, List, filter}
 use Rattle.dir_index.specs.ldap_match.declared.truth.Truth.{Truth}
-use Rattle.dir_index.specs.ldap_match.declared.truth.Truth.TheVariants.{True, False, Undefined}
+use Rattle.dir_index.specs.ldap_match.declared.truth.Truth.TheVariants.{True}
 use Rattle.dir_index.specs.Postings.{Lists, has_number}
 use Rattle.search_plans.specs.Sets.{is_in, Guides}
 use Rattle.search_plans.specs.declared.plan.Sided.{Sided}
@@ -10,8 +10,7 @@ use Rattle.search_plans.specs.declared.plan.Sided.{Sided}
 -- whether a value is True
 abbrev pub is_true : Truth → Bool
 is_true True = true
-is_true False = false
-is_true Undefined = false
+is_true t = false
 
 -- the numbers of a scope whose value is True, in order
 abbrev pub true_set : (ℕ → Truth) → List ℕ → List ℕ
