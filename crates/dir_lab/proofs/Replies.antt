@@ -1,6 +1,7 @@
 -- Each reply of each schedule. The law on the replies of an event flows in; the client, the number and the code of the committed record at its place
 -- flow out.
 use Rattle.std.proofs.Common.{◌≡◌, ℕ, zero, suc, ◌+◌, ◌-◌, ◌<◌, ◌≤◌, nat_lt, Bool, true, false, cond, ◌⊎◌, inl, inr, List, [], ◌∷◌, ◌++◌, map, length, take, drop, reverse, Option, Some, None, slice_get, refl, sym, ap, ◌∙◌, subst, arith, length-append, append_assoc}
+use Rattle.std.specs.Option.{option_map_or}
 use Rattle.std.proofs.Math.ListN.{drop_of_length-le}
 use Rattle.std.proofs.Math.Seq.{drop-append_seam}
 use Rattle.std.proofs.lemmas.List.{reverse-append, length-reverse, map-append}
@@ -26,7 +27,8 @@ use Rattle.state_machine.proofs.dir_store.Joins.{replies_join}
 use Rattle.dir_search.specs.Answer.{answer}
 use Rattle.dir_lab.specs.Headline.{committed_by, IsReplyOf, RepliesAreOfCommitted}
 use Rattle.dir_lab.specs.Schedule.{happenings, executed, executions, found, told, given_since, shown_by, shown_from}
-use Rattle.dir_lab.specs.Shown.{Shown, Replied, Unavailable, NotYet, Answered, Standing, Down, standing, code_at, code_or_other}
+use Rattle.dir_lab.specs.Shown.{Shown, Replied, Unavailable, NotYet, Answered, Standing, Down, standing, code_at}
+use Rattle.dir_search.specs.directory_api.Answers.{ReplyModel}
 use Rattle.dir_lab.specs.declared.events.LabEvent.{LabEvent}
 use Rattle.dir_lab.specs.declared.events.LabEvent.TheVariants.{Happens, Search, State as Question}
 
@@ -151,7 +153,7 @@ module _ (s : SchemaModel) (root : List RdnModel) (all : List (LogEntry OpValue)
         named = record { entry = named.entry; at = record { front = named.at.front; within = prefix_trans named.at.within begins; op_number = named.at.op_number }; client = named.client; request_number = named.request_number };
         reply = found.0;
         at = ap (λ l. slice_get l (t.reply.op_number - 1)) goes_on ∙ found.2;
-        code = ap code_or_other found.1;
+        code = ap (λ (o : Option ReplyModel). option_map_or (λ (x : ReplyModel). x.code) o 80) found.1;
       }
 
 module _ (s : SchemaModel) (root : List RdnModel) (n : ℕ) (size : IsSize n) (all : List (LogEntry OpValue)) where

@@ -21,8 +21,7 @@ use Rattle.dir_lab.specs.declared.events.LabEvent.TheVariants.{Happens, Search, 
 -- What happens in the world at an event of a schedule; at a search or a question nothing does.
 abbrev pub happening : LabEvent → List (WorldEvent OpValue)
 happening (Happens e) = e ∷ []
-happening (Search i named q) = []
-happening (Question i) = []
+happening e = []
 
 -- What happens at all of these, one after another.
 abbrev pub happenings : List LabEvent → List (WorldEvent OpValue)

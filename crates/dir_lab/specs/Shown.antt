@@ -1,6 +1,7 @@
 -- What a lab shows: replies to updates with their codes, answers of searches, states of replicas. What is in memory flows in; plain values flow
 -- out. What is shown when is not here.
 use Rattle.std.specs.Prelude.{ℕ, ◌-◌, List, length, Option, Some, None, slice_get}
+use Rattle.std.specs.Option.{option_map_or}
 use Rattle.vr_state.specs.State.{State}
 use Rattle.vr_state.specs.declared.words.Status.{Status}
 use Rattle.vr_world.specs.declared.words.ReplyBy.{ReplyBy}
@@ -34,11 +35,6 @@ abbrev pub standing : ℕ → Option (State OpValue) → Shown
 standing i None = Down i
 standing i (Some r) = Standing i r.view_number r.status (length r.log) r.commit_number
 
--- other (80), where there is no reply: no lab of 2f + 1 replicas shows it
-abbrev pub code_or_other : Option ReplyModel → ℕ
-code_or_other None = 80
-code_or_other (Some reply) = reply.code
-
--- the code of the reply to the record of this number, 1 for the first
+-- the code of the reply to the record of this number, 1 for the first; other (80), where there is none: no lab of 2f + 1 replicas shows it
 abbrev pub code_at : List ReplyModel → ℕ → ℕ
-code_at replies op_number = code_or_other (slice_get replies (op_number - 1))
+code_at replies op_number = option_map_or (λ reply. reply.code) (slice_get replies (op_number - 1)) 80

@@ -6,7 +6,7 @@ use Rattle.ldap_filter.specs.Tree.{Tree}
 use Rattle.indexed_tree.specs.ldap_dn.Names.{RdnModel, rdns}
 use Rattle.indexed_tree.specs.ldap_dn.Texts.{name_of_text}
 use Rattle.indexed_tree.specs.directory_api.ldap_msg.ldap_requests.declared.search.Scope.{Scope}
-use Rattle.indexed_tree.specs.directory_api.ldap_msg.ldap_requests.declared.search.Scope.TheVariants.{BaseObject, SingleLevel, WholeSubtree, SubordinateSubtree}
+use Rattle.indexed_tree.specs.directory_api.ldap_msg.ldap_requests.declared.search.Scope.TheVariants.{BaseObject, SubordinateSubtree}
 use Rattle.indexed_tree.specs.directory_api.ldap_msg.Messages.{SearchRequestValue, SearchResultEntryValue}
 use Rattle.ldap_eval.specs.Value.{filter_value}
 use Rattle.indexed_tree.specs.Directory.{Directory, NamedEntry}
@@ -47,16 +47,12 @@ is_empty (r ∷ rs) = false
 -- whether the base itself is all that is searched
 abbrev pub is_base : Scope → Bool
 is_base BaseObject = true
-is_base SingleLevel = false
-is_base WholeSubtree = false
-is_base SubordinateSubtree = false
+is_base scope = false
 
 -- whether the scope is subordinateSubtree, which is no scope of RFC 4511
 abbrev pub is_subordinate : Scope → Bool
-is_subordinate BaseObject = false
-is_subordinate SingleLevel = false
-is_subordinate WholeSubtree = false
 is_subordinate SubordinateSubtree = true
+is_subordinate scope = false
 
 -- the entries in scope that match, as they are shown, up to the limit
 abbrev pub found_at : Directory → SearchRequestValue → List RdnModel → Answer

@@ -76,10 +76,8 @@ modified d m = then (change_asked d m) (λ k. Ok (with_attributes k.number k.att
 
 -- the relative name of a name that has just one
 abbrev pub one_rdn : Option (List RdnModel) → Option RdnModel
-one_rdn None = None
-one_rdn (Some []) = None
 one_rdn (Some (r ∷ [])) = Some r
-one_rdn (Some (r ∷ s ∷ rs)) = None
+one_rdn rdns = None
 
 -- the relative name of a text; 34 where it is no name of exactly one relative name
 abbrev pub rdn_asked : SchemaModel → List ℕ → Result RdnModel ReplyModel

@@ -2,14 +2,14 @@
 -- the code of a refusal, flows out. Names of entries are not here.
 use Rattle.std.specs.Prelude.{ℕ, List, [], ◌∷◌, ◌++◌, Bool, true, false, cond, not, ◌&&◌, ◌||◌, nat_eq, nat_lt, map, filter, length, Option, None, Some, is_some, slice_get, Result, Ok}
 use Rattle.std.specs.List.{list_all, list_any}
-use Rattle.dir_entry.specs.ldap_schema.Schema.{TypeModel, ClassModel, SchemaModel, class_named, class_name, type_at}
+use Rattle.dir_entry.specs.ldap_schema.Schema.{ClassModel, SchemaModel, class_named, class_name, type_at}
 use Rattle.dir_entry.specs.ldap_schema.Superclasses.{is_among, missing_superclasses, is_subclass}
 use Rattle.dir_entry.specs.ldap_schema.ObjectClassType.{object_class_type}
 use Rattle.dir_entry.specs.ldap_schema.declared.class.ClassKind.{ClassKind}
-use Rattle.dir_entry.specs.ldap_schema.declared.class.ClassKind.TheVariants.{Abstract, Structural, Auxiliary}
+use Rattle.dir_entry.specs.ldap_schema.declared.class.ClassKind.TheVariants.{Structural}
 use Rattle.dir_entry.specs.Entry.{AttributeModel}
 use Rattle.dir_entry.specs.Adding.{refuse, has_type}
-use Rattle.std.specs.Option.{option_eq}
+use Rattle.std.specs.Option.{option_eq, option_map_or}
 
 -- whether this is the type objectClass
 abbrev pub is_object_class : SchemaModel → ℕ → Bool
@@ -48,18 +48,9 @@ abbrev pub class_values : SchemaModel → List AttributeModel → List (List ℕ
 class_values s [] = []
 class_values s (a ∷ e) = cond (is_object_class s a.kind) a.values (class_values s e)
 
--- whether there are fewer than two values
-abbrev pub has_at_most_one : List (List ℕ) → Bool
-has_at_most_one values = nat_lt (length values) 2
-
--- whether a type is SINGLE-VALUE, where there is one (RFC 4512 4.1.2)
-abbrev pub is_single_in : Option TypeModel → Bool
-is_single_in None = false
-is_single_in (Some t) = t.is_single_value
-
 -- an attribute of a SINGLE-VALUE type has at most one value (RFC 4512 4.1.2)
 abbrev pub has_single_value : SchemaModel → AttributeModel → Bool
-has_single_value s a = not (is_single_in (type_at s a.kind)) || has_at_most_one a.values
+has_single_value s a = not (option_map_or (λ t. t.is_single_value) (type_at s a.kind) false) || nat_lt (length a.values) 2
 
 -- whether no attribute of a SINGLE-VALUE type has two values
 abbrev pub has_single_values : SchemaModel → List AttributeModel → Bool
@@ -67,9 +58,8 @@ has_single_values s e = list_all (has_single_value s) e
 
 -- whether a class of this kind is structural (RFC 4512 2.4.2)
 abbrev pub is_structural_kind : ClassKind → Bool
-is_structural_kind Abstract = false
 is_structural_kind Structural = true
-is_structural_kind Auxiliary = false
+is_structural_kind kind = false
 
 -- whether a class is structural, where there is one
 abbrev pub is_structural_in : Option ClassModel → Bool

@@ -1,6 +1,7 @@
 -- What a modify does: RFC 4511 4.6. A schema, a relative name, changes and an entry flow in; the attributes after them, or the code of the
 -- first check that fails, flow out. Where the entry stands is not here.
-use Rattle.std.specs.Prelude.{ℕ, List, [], ◌∷◌, Bool, true, false, Option, None, Some, Result, Ok, Err}
+use Rattle.std.specs.Prelude.{ℕ, List, [], ◌∷◌, Bool, true, false, Result, Ok, Err}
+use Rattle.std.specs.Option.{ok_or}
 use Rattle.entry_changes.specs.ldap_schema.Schema.{SchemaModel, find}
 use Rattle.entry_changes.specs.ldap_dn.Names.{TypeAndValue}
 use Rattle.ldap_op.specs.ldap_updates.Values.{ChangeValue}
@@ -14,10 +15,8 @@ use Rattle.entry_updates.specs.Finishing.{kept}
 
 -- none of RFC 4511's operations is RFC 4525's increment
 abbrev pub is_increment : ModifyOperation → Bool
-is_increment Add = false
-is_increment Delete = false
-is_increment Replace = false
 is_increment Increment = true
+is_increment operation = false
 
 -- a change of a recognised type; protocolError (2) for an increment (RFC 4511 4.6, Appendix A.2)
 abbrev pub with_change : SchemaModel → ModifyOperation → ℕ → List (List ℕ) → List AttributeModel → Result (List AttributeModel) ℕ
@@ -26,14 +25,12 @@ with_change s Delete t values e = with_deleted s t values e
 with_change s Replace t values e = with_replaced s t values e
 with_change s Increment t values e = Err 2
 
--- undefinedAttributeType (17) where the description is not recognised
-abbrev pub on_type : SchemaModel → ModifyOperation → Option ℕ → List (List ℕ) → List AttributeModel → Result (List AttributeModel) ℕ
-on_type s operation None values e = Err 17
-on_type s operation (Some t) values e = with_change s operation t values e
-
--- One change: protocolError (2) for an increment, 17 as above, then what the change itself refuses.
+-- One change: protocolError (2) for an increment, undefinedAttributeType (17) where the description is not recognised, then what the change
+-- itself refuses.
 abbrev pub changed : SchemaModel → ChangeValue → List AttributeModel → Result (List AttributeModel) ℕ
-changed s c e = refuse (is_increment c.operation) 2 (on_type s c.operation (find s c.modification.description) c.modification.values e)
+changed s c e =
+    refuse (is_increment c.operation) 2
+    (and_then (ok_or (find s c.modification.description) 17) (λ t. with_change s c.operation t c.modification.values e))
 
 -- Changes in order, each on what the one before left (RFC 4511 4.6).
 abbrev pub all_changed : SchemaModel → List ChangeValue → List AttributeModel → Result (List AttributeModel) ℕ

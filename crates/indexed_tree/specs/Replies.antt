@@ -1,5 +1,6 @@
 -- Replies of updates and compares: RFC 4511 4.1.9. Checks flow in; what passes them, or the reply to the first that fails, flows out.
 use Rattle.std.specs.Prelude.{ℕ, List, [], Bool, cond, Option, None, Some, Result, Ok, Err}
+use Rattle.std.specs.Option.{option_map_or}
 use Rattle.dir_index.specs.ldap_dn.Names.{RdnModel, rdns}
 use Rattle.dir_index.specs.ldap_dn.Printed.{printed_name}
 use Rattle.dir_index.specs.ldap_dn.Texts.{name_of_text}
@@ -8,14 +9,9 @@ use Rattle.directory_api.specs.Answers.{ReplyModel, only}
 use Rattle.indexed_tree.specs.Directory.{Directory, NamedEntry}
 use Rattle.indexed_tree.specs.Places.{entry_named, nearest}
 
--- an entry's name as text, empty where there is no entry
-abbrev pub printed_in : SchemaModel → Option NamedEntry → List ℕ
-printed_in s None = []
-printed_in s (Some e) = printed_name s e.name
-
--- noSuchObject (32), with the printed name of the entry at the longest front of the name that has one (RFC 4511 4.1.9)
+-- noSuchObject (32), with the printed name of the entry at the longest front of the name that has one, if any (RFC 4511 4.1.9)
 abbrev pub not_found : Directory → List RdnModel → ReplyModel
-not_found d name = record { code = 32; matched = printed_in d.schema (nearest (rdns name) d.entries) }
+not_found d name = record { code = 32; matched = option_map_or (λ e. printed_name d.schema e.name) (nearest (rdns name) d.entries) [] }
 
 -- what comes after a step that may refuse
 abbrev pub then : {A B : Type 0} → Result A ReplyModel → (A → Result B ReplyModel) → Result B ReplyModel

@@ -1,10 +1,11 @@
 //! Entries by name. A tree and names flow in; entries, or the reply that there is none, flow out. Texts are not here.
-ghost use Rattle.std.specs.Prelude.{◌≡◌, ◌≤◌, length, IfOk, is_some, take, string_bytes};
-ghost use Rattle.std.specs.Option.{option_map};
+ghost use Rattle.std.specs.Prelude.{◌≡◌, ◌≤◌, [], length, IfOk, is_some, take, string_bytes};
+ghost use Rattle.std.specs.Option.{option_map, option_map_or};
 ghost use Rattle.dir_index.specs.ldap_dn.Names.{rdns};
+ghost use Rattle.dir_index.specs.ldap_dn.Printed.{printed_name};
 ghost use Rattle.directory_api.specs.dir_tree.Directory.{name_eq, begins, find, front};
 ghost use Rattle.indexed_tree.specs.Places.{nearest as nearest_entry};
-ghost use Rattle.indexed_tree.specs.Replies.{not_found as not_found_reply, printed_in};
+ghost use Rattle.indexed_tree.specs.Replies.{not_found as not_found_reply};
 ghost use Rattle.indexed_tree.specs.Stored.{directory, entered_of};
 ghost use Rattle.directory_api.specs.View.{reply_view};
 
@@ -70,7 +71,7 @@ fn nearest_name(
     tree: &Tree,
     name: &[Rdn],
 ) -> Result<String, AllocError>
-    ensures { IfOk result (λ t. string_bytes t ≡ printed_in schema.now (nearest_entry (rdns name.now) (directory schema.now tree.now).entries)) }
+    ensures { IfOk result (λ t. string_bytes t ≡ option_map_or (λ e. printed_name schema.now e.name) (nearest_entry (rdns name.now) (directory schema.now tree.now).entries) []) }
 {
     match standing(alloc, tree, front_of(tree, name))? {
         Some((_, held)) => held.name.print(alloc, schema),
