@@ -1,5 +1,6 @@
 -- What no public contract leads to: contracts of other functions, and proofs, speak of it. Who trusts the public ones need not read it.
 pub mod Ahead
+pub mod Dense
 pub mod Entries
 pub mod Held
 pub mod Runs
