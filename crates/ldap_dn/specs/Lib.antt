@@ -10,6 +10,7 @@ pub mod NameTexts
 pub mod Rising
 pub mod Ordered
 pub mod OrderLaws
+pub mod Digests
 pub mod NameKeys
 pub mod Pairs
 pub mod private
