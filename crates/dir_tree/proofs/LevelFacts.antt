@@ -9,10 +9,10 @@ use Rattle.std.specs.Set.{remove_key}
 use Rattle.std.specs.BTreeSet.{insert_key}
 use Rattle.dir_entry.specs.shared_map.Entries.{Rises, IsAhead}
 use Rattle.dir_entry.specs.ldap_dn.Names.{RdnModel, TypeAndKey, are_same_keys}
-use Rattle.dir_entry.specs.ldap_dn.Ordered.{rdn_order}
-use Rattle.dir_entry.specs.ldap_dn.OrderLaws.{rdn_ties}
 use Rattle.dir_tree.specs.declared.place.Below.{Below}
 use Rattle.dir_tree.specs.Superiors.{has_number}
+use Rattle.dir_tree.specs.Digests.{digested_order}
+use Rattle.dir_tree.specs.DigestLaws.{digested_ties}
 use Rattle.dir_tree.specs.private.Superiors.{alone, below_at, number_among}
 use Rattle.dir_entry.specs.shared_map.Sets.{IsRising}
 use Rattle.dir_tree.proofs.Kept.{under, under-put, under-out, same_number, has-put, has-out}
@@ -22,9 +22,9 @@ pub if_ok : {A E : Type 0} (P Q : A → Type 0) (r : Result A E) → ((x : A) �
 if_ok P Q (Ok a) f h = f a h
 if_ok P Q (Err e) f h = h
 
-pub among_find : (r : RdnModel) (names : List (RdnModel × ℕ)) → lookup (is_at (rdn_order r)) names ≡ number_among r.keys names
+pub among_find : (r : RdnModel) (names : List (RdnModel × ℕ)) → lookup (is_at (digested_order r)) names ≡ number_among r.keys names
 among_find r [] = refl
-among_find r (e ∷ es) = ap (λ (b : Bool). cond b (Some e.1) (lookup (is_at (rdn_order r)) es)) (sym (rdn_ties r e.0)) ∙ ap (λ (o : Option ℕ). cond (are_same_keys r.keys e.0.keys) (Some e.1) o) (among_find r es)
+among_find r (e ∷ es) = ap (λ (b : Bool). cond b (Some e.1) (lookup (is_at (digested_order r)) es)) (sym (digested_ties r e.0)) ∙ ap (λ (o : Option ℕ). cond (are_same_keys r.keys e.0.keys) (Some e.1) o) (among_find r es)
 
 -- something else below a number, and nothing
 pub below_put : (bs : List (ℕ × Below)) (k : ℕ) (b : Below) (a : ℕ) → below_at (insert_entry nat_cmp bs k b) a ≡ cond (nat_eq a k) b (below_at bs a)
@@ -47,26 +47,26 @@ swapped true true apart v w o = absurd (apart refl refl)
 swapped true false apart v w o = refl
 swapped false b apart v w o = refl
 
-pub among_put : (r : RdnModel) (v : ℕ) (x : List TypeAndKey) (names : List (RdnModel × ℕ)) → number_among x (insert_entry rdn_order names r v) ≡ cond (are_same_keys x r.keys) (Some v) (number_among x names)
+pub among_put : (r : RdnModel) (v : ℕ) (x : List TypeAndKey) (names : List (RdnModel × ℕ)) → number_among x (insert_entry digested_order names r v) ≡ cond (are_same_keys x r.keys) (Some v) (number_among x names)
 among_put r v x [] = refl
-among_put r v x (e ∷ es) = by (rdn_order r e.0) refl (among_put r v x es)
+among_put r v x (e ∷ es) = by (digested_order r e.0) refl (among_put r v x es)
   where
-    one : (o : Ordering) → rdn_order r e.0 ≡ o → is_eq o ≡ true → r.keys ≡ e.0.keys
-    one o f g = (part_decides r.keys e.0.keys).0 (rdn_ties r e.0 ∙ ap is_eq f ∙ g)
+    one : (o : Ordering) → digested_order r e.0 ≡ o → is_eq o ≡ true → r.keys ≡ e.0.keys
+    one o f g = (part_decides r.keys e.0.keys).0 (digested_ties r e.0 ∙ ap is_eq f ∙ g)
 
-    apart : (o : Ordering) → rdn_order r e.0 ≡ o → is_eq o ≡ false → are_same_keys x r.keys ≡ true → are_same_keys x e.0.keys ≡ true → ⊥
+    apart : (o : Ordering) → digested_order r e.0 ≡ o → is_eq o ≡ false → are_same_keys x r.keys ≡ true → are_same_keys x e.0.keys ≡ true → ⊥
     apart o f g u w =
         let same : r.keys ≡ e.0.keys = sym ((part_decides x r.keys).0 u) ∙ (part_decides x e.0.keys).0 w in
         let on : are_same_keys r.keys e.0.keys ≡ true = (part_decides r.keys e.0.keys).1 same in
-        let off : are_same_keys r.keys e.0.keys ≡ false = rdn_ties r e.0 ∙ ap is_eq f ∙ g in
+        let off : are_same_keys r.keys e.0.keys ≡ false = digested_ties r e.0 ∙ ap is_eq f ∙ g in
         cc (on, off)
 
     flat : (b : Bool) (o : Option ℕ) → cond b (Some v) o ≡ cond b (Some v) (cond b (Some e.1) o)
     flat true o = refl
     flat false o = refl
 
-    by : (o : Ordering) → rdn_order r e.0 ≡ o → number_among x (insert_entry rdn_order es r v) ≡ cond (are_same_keys x r.keys) (Some v) (number_among x es)
-        → number_among x (match_ordering o ((r, v) ∷ e ∷ es) ((e.0, v) ∷ es) (e ∷ insert_entry rdn_order es r v)) ≡ cond (are_same_keys x r.keys) (Some v) (cond (are_same_keys x e.0.keys) (Some e.1) (number_among x es))
+    by : (o : Ordering) → digested_order r e.0 ≡ o → number_among x (insert_entry digested_order es r v) ≡ cond (are_same_keys x r.keys) (Some v) (number_among x es)
+        → number_among x (match_ordering o ((r, v) ∷ e ∷ es) ((e.0, v) ∷ es) (e ∷ insert_entry digested_order es r v)) ≡ cond (are_same_keys x r.keys) (Some v) (cond (are_same_keys x e.0.keys) (Some e.1) (number_among x es))
     by Ordering.Less f ih = refl
     by Ordering.Equal f ih =
         let same : r.keys ≡ e.0.keys = one Ordering.Equal f refl in
@@ -75,11 +75,11 @@ among_put r v x (e ∷ es) = by (rdn_order r e.0) refl (among_put r v x es)
         ap (λ (o : Option ℕ). cond (are_same_keys x e.0.keys) (Some e.1) o) ih
         ∙ swapped (are_same_keys x r.keys) (are_same_keys x e.0.keys) (apart Ordering.Greater f refl) v e.1 (number_among x es)
 
-among-ahead : (r : RdnModel) (names : List (RdnModel × ℕ)) → IsAhead rdn_order r names → number_among r.keys names ≡ None
+among-ahead : (r : RdnModel) (names : List (RdnModel × ℕ)) → IsAhead digested_order r names → number_among r.keys names ≡ None
 among-ahead r [] h = refl
-among-ahead r (e ∷ es) h = ap (λ (b : Bool). cond b (Some e.1) (number_among r.keys es)) (rdn_ties r e.0 ∙ ap is_eq h.0) ∙ among-ahead r es h.1
+among-ahead r (e ∷ es) h = ap (λ (b : Bool). cond b (Some e.1) (number_among r.keys es)) (digested_ties r e.0 ∙ ap is_eq h.0) ∙ among-ahead r es h.1
 
-pub among_out : (r : RdnModel) (x : List TypeAndKey) (names : List (RdnModel × ℕ)) → Rises rdn_order names → number_among x (remove_entry (is_at (rdn_order r)) names) ≡ cond (are_same_keys x r.keys) None (number_among x names)
+pub among_out : (r : RdnModel) (x : List TypeAndKey) (names : List (RdnModel × ℕ)) → Rises digested_order names → number_among x (remove_entry (is_at (digested_order r)) names) ≡ cond (are_same_keys x r.keys) None (number_among x names)
 among_out r x [] h = by (are_same_keys x r.keys)
   where
     none : Option ℕ
@@ -88,7 +88,7 @@ among_out r x [] h = by (are_same_keys x r.keys)
     by : (b : Bool) → none ≡ cond b none none
     by true = refl
     by false = refl
-among_out r x (e ∷ es) h = ap (λ (b : Bool). number_among x (cond b es (e ∷ remove_entry (is_at (rdn_order r)) es))) (sym (rdn_ties r e.0)) ∙ by (are_same_keys r.keys e.0.keys) refl (among_out r x es h.1)
+among_out r x (e ∷ es) h = ap (λ (b : Bool). number_among x (cond b es (e ∷ remove_entry (is_at (digested_order r)) es))) (sym (digested_ties r e.0)) ∙ by (are_same_keys r.keys e.0.keys) refl (among_out r x es h.1)
   where
     first : r.keys ≡ e.0.keys → (b : Bool) → are_same_keys x r.keys ≡ b → number_among x es ≡ cond b None (cond b (Some e.1) (number_among x es))
     first s true f = ap (λ (k : List TypeAndKey). number_among k es) ((part_decides x r.keys).0 f ∙ s) ∙ among-ahead e.0 es h.0
@@ -100,12 +100,12 @@ among_out r x (e ∷ es) h = ap (λ (b : Bool). number_among x (cond b es (e ∷
     past false true o p never g = refl
     past false false o p never g = g
 
-    by : (b : Bool) → are_same_keys r.keys e.0.keys ≡ b → number_among x (remove_entry (is_at (rdn_order r)) es) ≡ cond (are_same_keys x r.keys) None (number_among x es)
-        → number_among x (cond b es (e ∷ remove_entry (is_at (rdn_order r)) es)) ≡ cond (are_same_keys x r.keys) None (cond (are_same_keys x e.0.keys) (Some e.1) (number_among x es))
+    by : (b : Bool) → are_same_keys r.keys e.0.keys ≡ b → number_among x (remove_entry (is_at (digested_order r)) es) ≡ cond (are_same_keys x r.keys) None (number_among x es)
+        → number_among x (cond b es (e ∷ remove_entry (is_at (digested_order r)) es)) ≡ cond (are_same_keys x r.keys) None (cond (are_same_keys x e.0.keys) (Some e.1) (number_among x es))
     by true f ih =
         let s : r.keys ≡ e.0.keys = (part_decides r.keys e.0.keys).0 f in
         first s (are_same_keys x r.keys) refl ∙ ap (λ (k : List TypeAndKey). cond (are_same_keys x r.keys) None (cond (are_same_keys x k) (Some e.1) (number_among x es))) s
-    by false f ih = past (are_same_keys x r.keys) (are_same_keys x e.0.keys) (number_among x (remove_entry (is_at (rdn_order r)) es)) (number_among x es) never ih
+    by false f ih = past (are_same_keys x r.keys) (are_same_keys x e.0.keys) (number_among x (remove_entry (is_at (digested_order r)) es)) (number_among x es) never ih
       where
         never : are_same_keys x r.keys ≡ true → are_same_keys x e.0.keys ≡ true → ⊥
         never u w =
@@ -173,15 +173,15 @@ module _ (b b' : ℕ → Below) (k : ℕ) (w : Below) (put : (a : ℕ) → b' a 
       by false e = refl
 
 -- a child more or fewer in a record below a number
-pub child_steps : (b b' : ℕ → Below) (k : ℕ) (w : Below) → ((a : ℕ) → b' a ≡ cond (nat_eq a k) w (b a)) → (old : List (RdnModel × ℕ)) → old ≡ (b k).names → (r : RdnModel) (v : ℕ) → w.names ≡ insert_entry rdn_order old r v
+pub child_steps : (b b' : ℕ → Below) (k : ℕ) (w : Below) → ((a : ℕ) → b' a ≡ cond (nat_eq a k) w (b a)) → (old : List (RdnModel × ℕ)) → old ≡ (b k).names → (r q : RdnModel) → q ≡ r → (v : ℕ) → w.names ≡ insert_entry digested_order old q v
     → (a : ℕ) (x : List TypeAndKey) → number_among x (b' a).names ≡ cond (nat_eq a k && are_same_keys x r.keys) (Some v) (number_among x (b a).names)
-child_steps b b' k w put old is r v h =
-    put_steps b b' k w put (λ x. are_same_keys x r.keys) (Some v) (λ x. ap (number_among x) h ∙ among_put r v x old ∙ ap (λ (l : List (RdnModel × ℕ)). cond (are_same_keys x r.keys) (Some v) (number_among x l)) is)
+child_steps b b' k w put old is r q e v h =
+    put_steps b b' k w put (λ x. are_same_keys x r.keys) (Some v) (λ x. ap (number_among x) (h ∙ ap (λ (m : RdnModel). insert_entry digested_order old m v) e) ∙ among_put r v x old ∙ ap (λ (l : List (RdnModel × ℕ)). cond (are_same_keys x r.keys) (Some v) (number_among x l)) is)
 
-pub child_out_steps : (b b' : ℕ → Below) (k : ℕ) (w : Below) → ((a : ℕ) → b' a ≡ cond (nat_eq a k) w (b a)) → (old : List (RdnModel × ℕ)) → old ≡ (b k).names → (r : RdnModel) → Rises rdn_order old → w.names ≡ remove_entry (is_at (rdn_order r)) old
+pub child_out_steps : (b b' : ℕ → Below) (k : ℕ) (w : Below) → ((a : ℕ) → b' a ≡ cond (nat_eq a k) w (b a)) → (old : List (RdnModel × ℕ)) → old ≡ (b k).names → (r q : RdnModel) → q ≡ r → Rises digested_order old → w.names ≡ remove_entry (is_at (digested_order q)) old
     → (a : ℕ) (x : List TypeAndKey) → number_among x (b' a).names ≡ cond (nat_eq a k && are_same_keys x r.keys) None (number_among x (b a).names)
-child_out_steps b b' k w put old is r rise h =
-    put_steps b b' k w put (λ x. are_same_keys x r.keys) None (λ x. ap (number_among x) h ∙ among_out r x old rise ∙ ap (λ (l : List (RdnModel × ℕ)). cond (are_same_keys x r.keys) None (number_among x l)) is)
+child_out_steps b b' k w put old is r q e rise h =
+    put_steps b b' k w put (λ x. are_same_keys x r.keys) None (λ x. ap (number_among x) (h ∙ ap (λ (m : RdnModel). remove_entry (is_at (digested_order m)) old) e) ∙ among_out r x old rise ∙ ap (λ (l : List (RdnModel × ℕ)). cond (are_same_keys x r.keys) None (number_among x l)) is)
 
 pub child_more : (b b' : ℕ → Below) (k : ℕ) (w : Below) → ((a : ℕ) → b' a ≡ cond (nat_eq a k) w (b a)) → (old : List ℕ) → old ≡ (b k).children → (v : ℕ) → w.children ≡ insert_key nat_cmp old v
     → (a j : ℕ) → has_number j (b' a).children ≡ ((nat_eq a k && nat_eq j v) || has_number j (b a).children)

@@ -3,43 +3,20 @@ use Rattle.std.proofs.Common.{◌≡◌, ℕ, zero, suc, ◌-◌, ◌≤◌, Boo
 use Rattle.std.specs.Prelude.{◌&&◌, ◌||◌}
 use Rattle.std.specs.Bool.{Decides}
 use Rattle.std.specs.Cmp.{IsEquivalence}
-use Rattle.std.specs.Cmp.Lexicographic.{pointwise, lists_equiv, pointwise_decides}
+use Rattle.std.specs.Cmp.Lexicographic.{lists_equiv, pointwise_decides}
 use Rattle.std.specs.Str.{bytes_eq}
 use Rattle.std.proofs.Math.Seq.{take-length}
-use Rattle.std.proofs.lemmas.Bool.{eqb-true, eq-eqb}
+use Rattle.std.proofs.lemmas.Bool.{eq-eqb}
 use Rattle.std.proofs.lemmas.List.{length-take-le, take-map, drop-map, length-map, take_rest}
 use Rattle.std.proofs.lemmas.Slice.Eq.{bytes_eq-Decides}
 use Rattle.dir_entry.specs.ldap_dn.Names.{TypeAndKey, RdnModel, rdns, are_same_keys, is_front}
 use Rattle.dir_entry.specs.ldap_dn.OrderLaws.{rdn_equiv}
 use Rattle.dir_tree.specs.Directory.{NameKey, name_eq, begins, above}
-
-pub both : (a b : Bool) → (a && b) ≡ true → (a ≡ true) × (b ≡ true)
-both true b e = (refl, e)
-both false b e = absurd (cc)
+pub use Rattle.dir_tree.specs.DigestLaws.{both}
+use Rattle.dir_tree.specs.DigestLaws.{keys_same}
 
 pub and_true : (a b : Bool) → a ≡ true → b ≡ true → (a && b) ≡ true
 and_true a b e f = rw (e, f) refl
-
-of : ℕ → List ℕ → TypeAndKey
-of t k = record { kind = t; key = k }
-
-made : (t u : ℕ) (k l : List ℕ) → t ≡ u → k ≡ l → of t k ≡ of u l
-made t u k l e f = rw (e, f) refl
-
-same_fields : (x y : TypeAndKey) → x.kind ≡ y.kind → x.key ≡ y.key → x ≡ y
-unfolding of
-same_fields x y e f = made x.kind y.kind x.key y.key e f
-
-keys_same : (xs ys : List TypeAndKey) → are_same_keys xs ys ≡ true → xs ≡ ys
-keys_same [] [] e = refl
-keys_same [] (y ∷ ys) e = absurd (cc)
-keys_same (x ∷ xs) [] e = absurd (cc)
-keys_same (x ∷ xs) (y ∷ ys) e =
-    let p = both (nat_eq x.kind y.kind && bytes_eq x.key y.key) (are_same_keys xs ys) e in
-    let q = both (nat_eq x.kind y.kind) (bytes_eq x.key y.key) p.0 in
-    let head : x ≡ y = same_fields x y (eqb-true x.kind y.kind q.0) ((bytes_eq-Decides x.key y.key).0 q.1) in
-    let tail : xs ≡ ys = keys_same xs ys p.1 in
-    cc (head, tail)
 
 own_keys : (xs : List TypeAndKey) → are_same_keys xs xs ≡ true
 own_keys [] = refl

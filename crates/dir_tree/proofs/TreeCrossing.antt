@@ -5,6 +5,7 @@ use Rattle.dir_entry.proofs.shared_map.Crossing.{map_crosses}
 use Rattle.dir_entry.proofs.Crossing.{entry_crosses}
 use Rattle.dir_tree.specs.contracts.shared_names.SharedRdn as SharedRdn
 use Rattle.dir_tree.specs.contracts.shared_names.SharedName as SharedName
+use Rattle.dir_tree.specs.contracts.digested_names.DigestedRdn as DigestedRdn
 use Rattle.dir_tree.specs.contracts.shared.SharedEntry as SharedEntry
 use Rattle.dir_tree.specs.contracts.place.Standing as Standing
 use Rattle.dir_tree.specs.contracts.place.Below as Below
@@ -17,6 +18,12 @@ rdn_send = search (entry_crosses, map_crosses, crosses, sendable) depth 60 fits 
 
 rdn_sync : IsSync SharedRdn.the_field.row
 rdn_sync = search (entry_crosses, map_crosses, crosses, sendable) depth 60 fits 20000
+
+digested_send : IsSend DigestedRdn.the_field.row
+digested_send = search (rdn_send, rdn_sync, crosses, sendable) depth 60 fits 20000
+
+digested_sync : IsSync DigestedRdn.the_field.row
+digested_sync = search (rdn_send, rdn_sync, crosses, sendable) depth 60 fits 20000
 
 name_send : IsSend SharedName.the_field.row
 name_send = search (entry_crosses, map_crosses, crosses, sendable) depth 60 fits 20000
@@ -37,10 +44,10 @@ standing_sync : IsSync Standing.the_field.row
 standing_sync = search (rdn_send, rdn_sync, name_send, name_sync, entry_send, entry_sync, map_crosses, crosses, sendable) depth 60 fits 20000
 
 below_send : IsSend Below.the_field.row
-below_send = search (rdn_send, rdn_sync, map_crosses, crosses, sendable) depth 60 fits 20000
+below_send = search (digested_send, digested_sync, map_crosses, crosses, sendable) depth 60 fits 20000
 
 below_sync : IsSync Below.the_field.row
-below_sync = search (rdn_send, rdn_sync, map_crosses, crosses, sendable) depth 60 fits 20000
+below_sync = search (digested_send, digested_sync, map_crosses, crosses, sendable) depth 60 fits 20000
 
 suffix_send : IsSend Suffix.the_field.row
 suffix_send = search (name_send, name_sync, map_crosses, crosses, sendable) depth 60 fits 20000

@@ -9,7 +9,7 @@ use Rattle.dir_entry.specs.shared_map.Runs.{IsBeginning, entries_after}
 use Rattle.dir_entry.specs.shared_map.Sets.{IsRising}
 use Rattle.dir_entry.specs.ldap_dn.Names.{RdnModel, rdns}
 use Rattle.dir_tree.specs.Directory.{NameKey, Entered, AllBelow, NamesDiffer, IsDirectory, name_eq, begins, above, find, entry_at, numbers, number_found, is_at_or_below, is_right_under, has_below, front, front_from}
-use Rattle.dir_tree.specs.Placed.{name_placed, name_under, IsSpelled, IsPlacedAsSpelled}
+use Rattle.dir_tree.specs.Placed.{name_under, IsSpelled, IsPlacedAsSpelled}
 use Rattle.dir_tree.specs.declared.place.Place.{Place}
 use Rattle.dir_tree.specs.declared.place.Place.TheVariants.{Root, Under}
 use Rattle.dir_tree.specs.declared.place.Standing.{Standing}

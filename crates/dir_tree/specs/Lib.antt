@@ -3,6 +3,8 @@ pub mod Holdings
 pub mod Superiors
 pub mod Kept
 pub mod Placed
+pub mod Digests
+pub mod DigestLaws
 pub mod private
 -- what layers above name of the crates below
 pub use Rattle.dir_entry.specs.ldap_schema as ldap_schema

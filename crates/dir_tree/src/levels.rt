@@ -8,6 +8,7 @@ ghost use Rattle.dir_entry.specs.ldap_dn.Names.{TypeAndKey, are_same_keys};
 ghost use Rattle.dir_entry.specs.shared_map.Sets.{has_number};
 ghost use Rattle.dir_tree.specs.private.Superiors.{alone, below_at, step_at, number_among};
 
+use crate::digested_names::{DigestedRdn, SoughtRdn};
 use crate::number_sets::{joined, parted};
 use crate::place::{Below, Levels};
 use crate::shared_names::SharedRdn;
@@ -16,10 +17,10 @@ use std::alloc::{AllocError, Global};
 
 /// The number of a relative name.
 #[tactic(auto, using(crate::proofs::LevelFacts::among_find))]
-fn number_of(names: &SharedMap<SharedRdn, u64>, rdn: &Rdn) -> Option<u64>
+fn number_of(names: &SharedMap<DigestedRdn, u64>, rdn: &Rdn) -> Option<u64>
     ensures { result ≡ number_among rdn.now.keys names.now }
 {
-    match names.find(rdn) {
+    match names.find(&SoughtRdn::new(rdn)) {
         Some(number) => Some(*number),
         None => None,
     }
@@ -87,7 +88,7 @@ pub fn with_child(
         ≡ (below_at levels.now a).within) }
 {
     let mut below = shared_at(levels, above)?;
-    below.names = below.names.with(alloc, rdn, number)?;
+    below.names = below.names.with(alloc, DigestedRdn::new(rdn), number)?;
     below.children = below.children.with(alloc, number)?;
     with_below(alloc, levels, above, below)
 }
@@ -110,7 +111,7 @@ pub fn without_child(
 {
     let mut below = shared_at(levels, above)?;
     below.names.rises();
-    below.names = below.names.without(alloc, rdn)?;
+    below.names = below.names.without(alloc, &SoughtRdn::new(rdn))?;
     below.children.rises();
     below.children = below.children.without(alloc, number)?;
     with_below(alloc, levels, above, below)

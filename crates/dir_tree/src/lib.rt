@@ -6,8 +6,10 @@
 //! and sets of `shared_map`, so a tree is a value, and versions share an entry behind a counted pointer (`shared`). A change (`updating`, over
 //! `roots`) makes new maps in locals and assigns them last; out of memory nothing has changed.
 //!
-//! A look-up by name takes two look-ups a relative name, from the root down (`finding`). A name is read off by going up, without memory, or
-//! made where it is shown (`reading`). A `visit` reads many entries in turn, with one look-up for those of a leaf. A scope is a set that lies ready. An add or a delete changes the sets of each entry above by one number.
+//! A look-up by name takes two look-ups a relative name, from the root down (`finding`). It digests the relative name once and compares
+//! digests; a relative name that is kept is read only where its digest is equal (`digested_names`). A name is read off by going up, without
+//! memory, or made where it is shown (`reading`). A `visit` reads many entries in turn, with one look-up for those of a leaf. A scope is a
+//! set that lies ready. An add or a delete changes the sets of each entry above by one number.
 //! A rename changes one place, two relative names, and the sets of the entries above one of the two places alone. `reach` bounds every way up.
 //! Ways up end at the root, ways down are those up, and the sets are those of the entries: that is the type's invariant (`Superiors`, `Kept`).
 //!
@@ -17,6 +19,7 @@
 #![tactic(auto)]
 
 mod comparing;
+mod digested_names;
 mod finding;
 mod levels;
 mod number_sets;

@@ -3,6 +3,7 @@
 
 ghost use Rattle.std.specs.Prelude.{◌≡◌, ◌∷◌, []};
 
+use crate::digested_names::DigestedRdn;
 use crate::shared::SharedEntry;
 use crate::shared_names::{SharedName, SharedRdn};
 use dir_entry::{NumberSet, Shared, SharedMap};
@@ -99,7 +100,7 @@ pub type Entries = SharedMap<u64, Standing>;
 /// What stands below an entry.
 pub struct Below {
     /// The numbers of the entries right under it, by their relative names.
-    pub names: SharedMap<SharedRdn, u64>,
+    pub names: SharedMap<DigestedRdn, u64>,
     /// The numbers of the entries right under it.
     pub children: NumberSet,
     /// The numbers of the entries at or below it, its own too.

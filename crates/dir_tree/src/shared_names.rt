@@ -1,15 +1,10 @@
-// Names and relative names in memory that is shared, and the order of relative names. Takes and hands out names.
-// Numbers, entries, and where names stand, are not here.
+// Names and relative names in memory that is shared. Takes and hands out names.
+// Numbers, entries, where names stand, and the order of relative names are not here.
 
-ghost use Rattle.std.specs.Prelude.{◌≡◌, ◌≤◌, length, IfOk, Some, refl};
-ghost use Rattle.std.specs.Cmp.{partial_equiv_from_equiv, partial_order_from_agreeing_total};
-ghost use Rattle.dir_entry.specs.ldap_dn.Names.{are_same_keys};
-ghost use Rattle.dir_entry.specs.ldap_dn.Ordered.{rdn_order};
-ghost use Rattle.dir_entry.specs.ldap_dn.OrderLaws.{rdn_equiv, rdn_total, rdn_ties};
+ghost use Rattle.std.specs.Prelude.{◌≡◌, ◌≤◌, length, IfOk};
 
-use dir_entry::{Name, Rdn, Shared, Sought};
+use dir_entry::{Name, Rdn, Shared};
 use std::alloc::{AllocError, Global};
-use std::cmp::Ordering;
 use std::marker::Model;
 use std::sync::Arc;
 
@@ -63,52 +58,6 @@ impl Shared for SharedRdn {
 
     fn mostly_rises() -> bool {
         false
-    }
-}
-
-impl PartialEq for SharedRdn {
-    ghost eq = { λ a b. are_same_keys a.keys b.keys };
-
-    ghost laws = { partial_equiv_from_equiv rdn_equiv };
-
-    fn eq(&self, other: &SharedRdn) -> bool {
-        *self.get() == *other.get()
-    }
-}
-
-impl Eq for SharedRdn {
-    ghost laws = { rdn_equiv };
-}
-
-impl PartialOrd for SharedRdn {
-    ghost partial_cmp = { λ a b. Some (rdn_order a b) };
-
-    ghost laws = { partial_order_from_agreeing_total rdn_order rdn_total (λ x y. refl) rdn_ties };
-
-    fn partial_cmp(&self, other: &SharedRdn) -> Option<Ordering> {
-        Some(self.cmp(other))
-    }
-}
-
-impl Ord for SharedRdn {
-    ghost cmp = { rdn_order };
-
-    ghost total = { rdn_total };
-
-    ghost matches_partial_cmp = { λ x y. refl };
-
-    ghost matches_eq = { rdn_ties };
-
-    fn cmp(&self, other: &SharedRdn) -> Ordering {
-        self.get().cmp(other.get())
-    }
-}
-
-impl Sought<SharedRdn> for Rdn {
-    ghost key = { λ r. r };
-
-    fn compare(&self, other: &SharedRdn) -> Ordering {
-        self.cmp(other.get())
     }
 }
 
