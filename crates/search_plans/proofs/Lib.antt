@@ -1,4 +1,5 @@
 pub mod Equations
+pub mod Forward
 pub mod Gathered
 pub mod Joined
 pub mod Sorted

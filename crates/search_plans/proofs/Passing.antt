@@ -9,7 +9,8 @@ use Rattle.dir_index.specs.Postings.{has_number, IsRising}
 use Rattle.search_plans.specs.Sets.{Guides}
 use Rattle.search_plans.specs.Runs.{is_true, is_open, is_wanted}
 use Rattle.search_plans.specs.private.Runs.{is_asked, AreInside, AreSameWithin, IsGuided, IsUnderWay}
-use Rattle.search_plans.proofs.Rising.{has_head}
+use Rattle.search_plans.specs.private.Sets.{AreSameFrom}
+use Rattle.search_plans.proofs.Rising.{has_head, has_above}
 use Rattle.search_plans.proofs.Searching.{or_late}
 
 pub filter_yes : (p : ℕ → Bool) (x : ℕ) (xs : List ℕ) → p x ≡ true → filter p (x ∷ xs) ≡ x ∷ filter p xs
@@ -194,8 +195,16 @@ inside_rest is_known n rest scope candidates is h known m there = h known m (sub
 pub same_first : (one other : ℕ → Bool) (n : ℕ) (rest scope candidates : List ℕ) → candidates ≡ n ∷ rest → AreSameWithin one other scope candidates → has_number n scope ≡ true → one n ≡ other n
 same_first one other n rest scope candidates is same = same n (subst (λ (c : List ℕ). has_number n c ≡ true) (sym is) (has_head n rest))
 
-pub same_rest : (one other : ℕ → Bool) (n : ℕ) (rest scope candidates : List ℕ) → candidates ≡ n ∷ rest → AreSameWithin one other scope candidates → AreSameWithin one other scope rest
+same_rest : (one other : ℕ → Bool) (n : ℕ) (rest scope candidates : List ℕ) → candidates ≡ n ∷ rest → AreSameWithin one other scope candidates → AreSameWithin one other scope rest
 same_rest one other n rest scope candidates is same m there = same m (subst (λ (c : List ℕ). has_number m c ≡ true) (sym is) (or_late (nat_eq m n) _ there))
+
+-- the same of the others, when plans were taken forward to the first: the others are above it
+pub same_left : (must may : ℕ → Bool) (value : ℕ → Truth) (one one' other : ℕ → Bool) (h : ℕ) (rest scope candidates : List ℕ) (t l : ℕ) → candidates ≡ h ∷ rest → IsUnderWay must may value scope candidates t l
+    → AreSameFrom h one' one → AreSameWithin one other scope candidates → AreSameWithin one' other scope rest
+same_left must may value one one' other h rest scope candidates t l is w same within n there inside =
+    let front = take t (filter (is_open must may) scope) in
+    let later : h < n = has_above n h rest (all_behind front rest h (subst (λ (c : List ℕ). IsRising (front ++ c)) is w.rises)) there in
+    same n (omega arith) ∙ same_rest one other h rest scope candidates is within n there inside
 
 -- a number is asked for where resolved plans leave it open just where the plans do
 pub asked_same : (must may must' may' : ℕ → Bool) (scope : List ℕ) (n : ℕ) → (has_number n scope ≡ true → must' n ≡ must n) → (has_number n scope ≡ true → may' n ≡ may n)

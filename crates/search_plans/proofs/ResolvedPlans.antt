@@ -7,10 +7,10 @@ use Rattle.search_plans.specs.declared.plan.Plan.{Plan}
 use Rattle.search_plans.specs.declared.plan.Plan.TheVariants as plan
 use Rattle.search_plans.specs.declared.resolved.ResolvedPlan.{ResolvedPlan}
 use Rattle.search_plans.specs.declared.resolved.ResolvedPlan.TheVariants as resolved
-use Rattle.search_plans.specs.declared.resolved.ResolvedPlan.TheVariants.{rolls-Union, rolls-Inter, rolls-Minus}
+use Rattle.search_plans.specs.declared.resolved.ResolvedPlan.TheVariants.{rolls-Union, rolls-Inter, rolls-Not}
 use Rattle.search_plans.specs.declared.resolved.ResolvedPlan.TheOpen.{ResolvedPlan-F}
 use Rattle.search_plans.specs.declared.resolved.ResolvedPlan.TheFolds.{fold-roll-ResolvedPlan}
-use Rattle.search_plans.specs.private.Resolved.{resolved_step, is_in_resolved, IsResolved, AreResolved}
+use Rattle.search_plans.specs.private.Resolved.{resolved_step, is_in_resolved, IsResolved, AreResolved, IsDifference}
 use Rattle.search_plans.specs.private.Sets.{is_in_when}
 use Rattle.search_plans.proofs.Equations.{in_plan-Union, in_plan-Inter, in_plan-Minus}
 
@@ -22,9 +22,9 @@ pub in_resolved-Inter : (kept : Lists) (n : ℕ) (v : Vec ResolvedPlan Global) �
 in_resolved-Inter kept n v =
     ap (λ (r : ResolvedPlan). is_in_resolved kept r n) (sym (rolls-Inter v)) ∙ fold-roll-ResolvedPlan Bool (resolved_step (has_number n) (λ r. has_number n (kept.range r))) (ResolvedPlan-F.Inter v)
 
-pub in_resolved-Minus : (kept : Lists) (n : ℕ) (a b : Box ResolvedPlan Global) → is_in_resolved kept (resolved.Minus a b) n ≡ (is_in_resolved kept a.value n && not (is_in_resolved kept b.value n))
-in_resolved-Minus kept n a b =
-    ap (λ (r : ResolvedPlan). is_in_resolved kept r n) (sym (rolls-Minus a b)) ∙ fold-roll-ResolvedPlan Bool (resolved_step (has_number n) (λ r. has_number n (kept.range r))) (ResolvedPlan-F.Minus a b)
+pub in_resolved-Not : (kept : Lists) (n : ℕ) (a : Box ResolvedPlan Global) → is_in_resolved kept (resolved.Not a) n ≡ not (is_in_resolved kept a.value n)
+in_resolved-Not kept n a =
+    ap (λ (r : ResolvedPlan). is_in_resolved kept r n) (sym (rolls-Not a)) ∙ fold-roll-ResolvedPlan Bool (resolved_step (has_number n) (λ r. has_number n (kept.range r))) (ResolvedPlan-F.Not a)
 
 -- a plan of parts is resolved by its resolved parts
 pub resolved_union : (kept : Lists) (p : Plan) (ps : Vec Plan Global) (rs : Vec ResolvedPlan Global) → p ≡ plan.Union ps → AreResolved kept ps.items rs.items
@@ -37,10 +37,10 @@ pub resolved_inter : (kept : Lists) (p : Plan) (ps : Vec Plan Global) (rs : Vec 
 resolved_inter kept p ps rs is each n =
     in_resolved-Inter kept n rs ∙ ap (list_all (λ b. b)) (each n) ∙ sym (ap (λ (q : Plan). is_in_when kept true q n) is ∙ in_plan-Inter _ _ _ ps)
 
-pub resolved_minus : (kept : Lists) (p : Plan) (a b : Box Plan Global) (r s : Box ResolvedPlan Global) → p ≡ plan.Minus a b → IsResolved kept a.value r.value → IsResolved kept b.value s.value
-    → IsResolved kept p (resolved.Minus r s)
-resolved_minus kept p a b r s is first second n =
-    in_resolved-Minus kept n r s ∙ ap₂ (λ (x y : Bool). x && not y) (first n) (second n) ∙ sym (ap (λ (q : Plan). is_in_when kept true q n) is ∙ in_plan-Minus _ _ _ a b)
+pub resolved_minus : (kept : Lists) (p : Plan) (a b : Box Plan Global) (first second : ResolvedPlan) → p ≡ plan.Minus a b → IsResolved kept a.value first → IsResolved kept b.value second
+    → (r : ResolvedPlan) → IsDifference first second r → IsResolved kept p r
+resolved_minus kept p a b first second is one other r differs n =
+    differs kept n ∙ ap₂ (λ (x y : Bool). x && not y) (one n) (other n) ∙ sym (ap (λ (q : Plan). is_in_when kept true q n) is ∙ in_plan-Minus _ _ _ a b)
 
 -- one more plan of a row
 pub resolved_more : (kept : Lists) (ps : List Plan) (i : ℕ) (p : Plan) (rs rs' : List ResolvedPlan) (r : ResolvedPlan) → AreResolved kept (take i ps) rs

@@ -12,8 +12,9 @@
 //! one rising list. A range that is drawn from is gathered once and sorted; no other set becomes a list. What is drawn from is a matter of
 //! cost alone (`estimating`): the cheapest part of an intersection, or the scope (`scope`).
 //!
-//! A run (`running`) looks up the posting lists of both plans when it starts, and not again for each candidate (`resolved`). It leaves
-//! out what isn't in scope, gives what must be, and asks `Values` about the rest (`telling`).
+//! A run (`running`) looks up the posting lists of both plans when it starts, and not again for each candidate (`resolved`). Since candidates
+//! rise, it asks each list by a walk that only goes forward (`probing`). It leaves out what isn't in scope, gives what must be, and asks
+//! `Values` about the rest (`telling`).
 //! Where both plans are one `or` of posting lists, each list is looked up once and nothing is asked (`listing`).
 //!
 //! Proved: the plans bound where the filter is True, over any entries and scope, and are its true set where schema and index choice decide
@@ -33,6 +34,7 @@ mod leaves;
 mod listing;
 mod octet_runs;
 mod plan;
+mod probing;
 mod resolved;
 mod running;
 mod scope;

@@ -1,31 +1,34 @@
-// Plans whose posting lists were looked up. A plan and what is kept go in, and a tree of borrowed sets comes out. The tree tells
-// whether a number in scope is in the plan's set, without memory, and looks no list up again.
+// Plans whose posting lists were looked up. A plan and what is kept go in, and a tree of walks over borrowed lists comes out. The tree tells
+// whether a number in scope is in the plan's set, without memory, and looks no list up again. It is asked about rising numbers: each question
+// takes the lists that it asks forward to its number, and a list that it doesn't ask stays behind until a later question.
 // What must not be here: where candidates come from, and what a yes or no is used for.
 
 ghost use Rattle.std.specs.Prelude.{◌≡◌, IfOk};
 ghost use Rattle.std.specs.List.{list_any, list_all};
-ghost use Rattle.search_plans.specs.private.Resolved.{is_in_resolved, IsResolved, AreResolved, IsResolvedFor};
+ghost use Rattle.search_plans.specs.private.Resolved.{is_in_resolved, IsResolved, AreResolved, IsResolvedFor, IsDifference, AreSameInRow};
+ghost use Rattle.search_plans.specs.private.Sets.{AreSameFrom};
 
 use crate::plan::{Plan, Sided};
-use dir_index::{Kept, NumberSet, Range};
+use crate::probing::Probe;
+use dir_index::{Kept, Range};
 use std::alloc::{AllocError, Global};
 
-/// A plan whose posting lists were looked up. It is asked about numbers in scope.
+/// A plan whose posting lists were looked up. It is asked about numbers in scope, in rising order.
 pub enum ResolvedPlan<'a> {
     /// No number.
     Empty,
     /// Every number of the scope.
     Scope,
-    /// The numbers of a posting list.
-    Set(&'a NumberSet),
+    /// The numbers of a posting list that are still to come.
+    Set(Probe<'a>),
     /// The numbers of the posting lists of the keys in a range. These are many lists, so what is kept is asked about each number.
     Range(&'a Range),
     /// The numbers of any of the plans.
     Union(Vec<ResolvedPlan<'a>>),
     /// The numbers of all of the plans.
     Inter(Vec<ResolvedPlan<'a>>),
-    /// The numbers of the first plan that are not of the second.
-    Minus(Box<ResolvedPlan<'a>>, Box<ResolvedPlan<'a>>),
+    /// The numbers that are not of the plan.
+    Not(Box<ResolvedPlan<'a>>),
 }
 
 // Not derived: see "What the gate takes" in docs/ARCHITECTURE.md.
@@ -38,9 +41,24 @@ impl<'a> Drop for ResolvedPlan<'a> {
             ResolvedPlan::Range(_) => {}
             ResolvedPlan::Union(_) => {}
             ResolvedPlan::Inter(_) => {}
-            ResolvedPlan::Minus(_, _) => {}
+            ResolvedPlan::Not(_) => {}
         }
     }
+}
+
+/// The numbers of the first plan that are not of the second. The second isn't asked about a number that the first lacks.
+fn difference<'a>(
+    alloc: Global,
+    first: ResolvedPlan<'a>,
+    second: ResolvedPlan<'a>,
+) -> Result<ResolvedPlan<'a>, AllocError>
+    ensures { IfOk result (λ r. IsDifference first.entry second.entry r) }
+{
+    let other = ResolvedPlan::Not(Box::new(alloc, second)?);
+    let mut parts = Vec::with_capacity(alloc, 2)?;
+    parts.push(first)?;
+    parts.push(other)?;
+    Ok(ResolvedPlan::Inter(parts))
 }
 
 /// Looks up each posting list that a plan names. It takes the memory of the tree.
@@ -55,14 +73,14 @@ fn resolve<'a, K: Kept>(
     match plan {
         Plan::Empty => Ok(ResolvedPlan::Empty),
         Plan::Scope => Ok(ResolvedPlan::Scope),
-        Plan::Posting(posting) => Ok(ResolvedPlan::Set(kept.numbers(posting))),
+        Plan::Posting(posting) => Ok(ResolvedPlan::Set(Probe::new(kept.numbers(posting)))),
         Plan::Range(range) => Ok(ResolvedPlan::Range(range)),
         Plan::Union(plans) => Ok(ResolvedPlan::Union(resolve_each(alloc, plans, kept)?)),
         Plan::Inter(plans) => Ok(ResolvedPlan::Inter(resolve_each(alloc, plans, kept)?)),
         Plan::Minus(plan, without) => {
             let first = resolve(alloc, plan, kept)?;
             let second = resolve(alloc, without, kept)?;
-            Ok(ResolvedPlan::Minus(Box::new(alloc, first)?, Box::new(alloc, second)?))
+            difference(alloc, first, second)
         }
     }
 }
@@ -101,10 +119,16 @@ fn resolve_unless_sure<'a, K: Kept>(
 }
 
 /// The two plans of a run, resolved.
-#[derive(Drop)]
 pub struct ResolvedSides<'a> {
     pub must: ResolvedPlan<'a>,
     pub may: ResolvedPlan<'a>,
+}
+
+// Not derived: see "What the gate takes" in docs/ARCHITECTURE.md.
+impl<'a> Drop for ResolvedSides<'a> {
+    fn drop(self) {
+        let ResolvedSides { must: _, may: _ } = self;
+    }
 }
 
 /// Looks up each posting list that the two plans of a run name, unless all its candidates are known to be among what must be found.
@@ -122,44 +146,46 @@ pub fn resolve_sided<'a, K: Kept>(
     Ok(ResolvedSides { must, may })
 }
 
-/// Whether a number that is in scope is in the set of a resolved plan. Each posting list costs a look-up of the number in it.
+/// Whether a number that is in scope is in the set of a resolved plan. Each posting list that is asked goes forward to the number, so the
+/// plan says nothing of lower numbers any more; of this number and of those above it the plan says what it said.
 #[cycle(has)]
-pub fn has_inside<K: Kept>(plan: &ResolvedPlan, kept: &K, number: u64) -> bool
-    ensures { result ≡ is_in_resolved (K.lists kept.now) plan.now number }
+pub fn has_inside<K: Kept>(plan: &mut ResolvedPlan, kept: &K, number: u64) -> bool
+    ensures found { result ≡ is_in_resolved (K.lists kept.now) plan.old number }
+    ensures same { AreSameFrom number (is_in_resolved (K.lists kept.now) plan.new) (is_in_resolved (K.lists kept.now) plan.old) }
 {
     match plan {
         ResolvedPlan::Empty => false,
         ResolvedPlan::Scope => true,
-        ResolvedPlan::Set(set) => set.contains(number),
+        ResolvedPlan::Set(list) => list.has(number),
         ResolvedPlan::Range(range) => kept.in_range(range, number),
         ResolvedPlan::Union(plans) => any_has(plans, kept, number),
         ResolvedPlan::Inter(plans) => all_have(plans, kept, number),
-        ResolvedPlan::Minus(plan, without) => {
-            has_inside(plan, kept, number) && !has_inside(without, kept, number)
-        }
+        ResolvedPlan::Not(plan) => !has_inside(plan, kept, number),
     }
 }
 
-/// Whether a number that is in scope is in the set of one of the plans.
+/// Whether a number that is in scope is in the set of one of the plans. Those behind the first that has it aren't asked.
 #[cycle(has)]
-fn any_has<K: Kept>(plans: &[ResolvedPlan], kept: &K, number: u64) -> bool
-    ensures { result ≡ list_any (λ p. is_in_resolved (K.lists kept.now) p number) plans.now }
+fn any_has<K: Kept>(plans: &mut [ResolvedPlan], kept: &K, number: u64) -> bool
+    ensures found { result ≡ list_any (λ p. is_in_resolved (K.lists kept.now) p number) plans.old }
+    ensures same { AreSameInRow number (K.lists kept.now) plans.new plans.old }
 {
-    for plan in plans {
-        if has_inside(plan, kept, number) {
+    for i in 0..plans.len() {
+        if has_inside(&mut plans[i], kept, number) {
             return true;
         }
     }
     false
 }
 
-/// Whether a number that is in scope is in the set of all the plans.
+/// Whether a number that is in scope is in the set of all the plans. Those behind the first that lacks it aren't asked.
 #[cycle(has)]
-fn all_have<K: Kept>(plans: &[ResolvedPlan], kept: &K, number: u64) -> bool
-    ensures { result ≡ list_all (λ p. is_in_resolved (K.lists kept.now) p number) plans.now }
+fn all_have<K: Kept>(plans: &mut [ResolvedPlan], kept: &K, number: u64) -> bool
+    ensures found { result ≡ list_all (λ p. is_in_resolved (K.lists kept.now) p number) plans.old }
+    ensures same { AreSameInRow number (K.lists kept.now) plans.new plans.old }
 {
-    for plan in plans {
-        if !has_inside(plan, kept, number) {
+    for i in 0..plans.len() {
+        if !has_inside(&mut plans[i], kept, number) {
             return false;
         }
     }

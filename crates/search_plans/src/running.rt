@@ -6,7 +6,7 @@ ghost use Rattle.search_plans.specs.Runs.{AreGuides, left_open, true_set};
 
 use crate::gathering::{Drawn, draw_sided};
 use crate::plan::Sided;
-use crate::resolved::resolve_sided;
+use crate::resolved::{ResolvedSides, resolve_sided};
 use crate::scope::Scope;
 use crate::stream::Stream;
 use crate::telling::{Criteria, is_found};
@@ -20,7 +20,8 @@ use std::marker::Model;
 pub struct Running<'a, K: Kept, V: Values> {
     // prover: contracts speak of the plans that the run was started with
     sided: &'a Sided,
-    /// The same plans, resolved, and the scope: they decide about each candidate.
+    /// The same plans, resolved: their posting lists go forward with the candidates.
+    sides: ResolvedSides<'a>,
     criteria: Criteria<'a, K>,
     stream: Stream<'a>,
     values: V,
@@ -42,9 +43,9 @@ impl<'a, K: Kept, V: Values> Model for Running<'a, K, V> {
     ghost invariant = { λ r. IsUnderWay (is_in (K.lists r.criteria.kept.now) r.criteria.scope.now r.sided.now.must)
         (is_in (K.lists r.criteria.kept.now) r.criteria.scope.now r.sided.now.may) (V.value_at r.values) r.criteria.scope.now r.stream
         r.tests (V.looks r.values) × AreInside r.criteria.is_inside r.stream r.criteria.scope.now
-        × AreSameWithin (is_in_resolved (K.lists r.criteria.kept.now) r.criteria.sides.must)
+        × AreSameWithin (is_in_resolved (K.lists r.criteria.kept.now) r.sides.must)
         (is_in (K.lists r.criteria.kept.now) r.criteria.scope.now r.sided.now.must) r.criteria.scope.now r.stream
-        × AreSameWithin (is_in_resolved (K.lists r.criteria.kept.now) r.criteria.sides.may)
+        × AreSameWithin (is_in_resolved (K.lists r.criteria.kept.now) r.sides.may)
         (is_in (K.lists r.criteria.kept.now) r.criteria.scope.now r.sided.now.may) r.criteria.scope.now r.stream };
 }
 
@@ -70,8 +71,8 @@ pub fn start<'a, K: Kept, V: Values + Drop>(
     let sides = resolve_sided(alloc, sided, kept, known.is_sure)?;
     Ok(Running {
         sided,
+        sides,
         criteria: Criteria {
-            sides,
             kept,
             scope,
             is_inside: known.is_inside,
@@ -95,7 +96,13 @@ impl<'a, K: Kept, V: Values> Running<'a, K, V> {
         ensures counted { self.new.looks + self.old.tests ≡ self.old.looks + self.new.tests }
     {
         while let Some(number) = self.stream.next() {
-            if is_found(&self.criteria, &mut self.values, &mut self.tests, number) {
+            if is_found(
+                &mut self.sides,
+                &self.criteria,
+                &mut self.values,
+                &mut self.tests,
+                number,
+            ) {
                 return Some(number);
             }
         }
@@ -115,6 +122,7 @@ impl<'a, K: Kept, V: Values> Running<'a, K, V> {
     {
         let Running {
             sided: _,
+            sides: _,
             criteria: _,
             stream: _,
             values,

@@ -1,4 +1,4 @@
-// One candidate of a run. Resolved plans and a number go in; whether the number is found comes out.
+// One candidate of a run. Resolved plans and a number go in; whether the number is found comes out, and the plans are taken forward to it.
 // What must not be here: where candidates come from.
 
 ghost use Rattle.std.specs.Prelude.{◌≡◌, ℕ, ◌+◌, ◌^◌, ◌<◌, true, cond};
@@ -6,16 +6,15 @@ ghost use Rattle.dir_index.specs.Postings.{has_number};
 ghost use Rattle.search_plans.specs.Runs.{is_wanted};
 ghost use Rattle.search_plans.specs.private.Resolved.{is_in_resolved};
 ghost use Rattle.search_plans.specs.private.Runs.{is_left_open, IsGuided};
+ghost use Rattle.search_plans.specs.private.Sets.{AreSameFrom};
 
 use crate::resolved::{ResolvedSides, has_inside};
 use crate::scope::Scope;
 use crate::values::Values;
 use dir_index::{Kept, Truth};
 
-/// What decides about the candidates of a run: the resolved plans, and the scope.
+/// What decides about the candidates of a run, besides its plans: what is kept, and the scope. It stays the same for all of them.
 pub struct Criteria<'a, K: Kept> {
-    /// The plans of the run, resolved: what is asked about each candidate.
-    pub sides: ResolvedSides<'a>,
     pub kept: &'a K,
     pub scope: &'a Scope<'a>,
     /// Whether all candidates are known to be in scope.
@@ -26,7 +25,6 @@ pub struct Criteria<'a, K: Kept> {
 impl<'a, K: Kept> Drop for Criteria<'a, K> {
     fn drop(self) {
         let Criteria {
-            sides: _,
             kept: _,
             scope: _,
             is_inside: _,
@@ -37,7 +35,9 @@ impl<'a, K: Kept> Drop for Criteria<'a, K> {
 /// Whether the entry of a candidate is to be given: it is in scope, and its value is True. The plans are asked first, since most candidates of an
 /// intersection fail there, and the scope is the largest set. The value is asked for only where the plans leave it open. Whether it must be
 /// True is asked before whether it may: a filter that the indexes decide then is asked about once, and one that they don't has little that must be.
+/// Of this candidate and of those above it the plans say afterwards what they said.
 pub fn is_found<K: Kept, V: Values>(
+    sides: &mut ResolvedSides,
     criteria: &Criteria<K>,
     values: &mut V,
     tests: &mut u64,
@@ -45,19 +45,23 @@ pub fn is_found<K: Kept, V: Values>(
 ) -> bool
     requires inside { criteria.now.is_inside ≡ true → has_number number criteria.now.scope.now ≡ true }
     requires guides { has_number number criteria.now.scope.now ≡ true
-        → IsGuided (is_in_resolved (K.lists criteria.now.kept.now) criteria.now.sides.must number)
-        (V.value_at values.old number) (is_in_resolved (K.lists criteria.now.kept.now) criteria.now.sides.may number) }
-    requires room { is_left_open (K.lists criteria.now.kept.now) criteria.now.sides criteria.now.scope.now number ≡ true
+        → IsGuided (is_in_resolved (K.lists criteria.now.kept.now) sides.old.must number)
+        (V.value_at values.old number) (is_in_resolved (K.lists criteria.now.kept.now) sides.old.may number) }
+    requires room { is_left_open (K.lists criteria.now.kept.now) sides.old criteria.now.scope.now number ≡ true
         → (V.looks values.old + 1 < 2 ^ 64) × (tests.old + 1 < 2 ^ 64) }
     ensures found { result ≡ is_wanted (V.value_at values.old) criteria.now.scope.now number }
     ensures tests { tests.new ≡ tests.old
-        + cond (is_left_open (K.lists criteria.now.kept.now) criteria.now.sides criteria.now.scope.now number) 1 0 }
+        + cond (is_left_open (K.lists criteria.now.kept.now) sides.old criteria.now.scope.now number) 1 0 }
     ensures counted { V.looks values.new ≡ V.looks values.old
-        + cond (is_left_open (K.lists criteria.now.kept.now) criteria.now.sides criteria.now.scope.now number) 1 0 }
+        + cond (is_left_open (K.lists criteria.now.kept.now) sides.old criteria.now.scope.now number) 1 0 }
     ensures same { (n : ℕ) → V.value_at values.new n ≡ V.value_at values.old n }
+    ensures must { AreSameFrom number (is_in_resolved (K.lists criteria.now.kept.now) sides.new.must)
+        (is_in_resolved (K.lists criteria.now.kept.now) sides.old.must) }
+    ensures may { AreSameFrom number (is_in_resolved (K.lists criteria.now.kept.now) sides.new.may)
+        (is_in_resolved (K.lists criteria.now.kept.now) sides.old.may) }
 {
-    let must = has_inside(&criteria.sides.must, criteria.kept, number);
-    if !must && !has_inside(&criteria.sides.may, criteria.kept, number) {
+    let must = has_inside(&mut sides.must, criteria.kept, number);
+    if !must && !has_inside(&mut sides.may, criteria.kept, number) {
         return false;
     }
     if !criteria.is_inside && !criteria.scope.has(number) {

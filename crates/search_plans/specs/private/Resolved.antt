@@ -1,6 +1,6 @@
--- The sets of plans whose posting lists were looked up. A resolved plan and what is kept flow in; yes or no of a number in scope
--- flows out. Candidates are not here.
-use Rattle.std.specs.Prelude.{◌≡◌, ℕ, Bool, true, false, ◌&&◌, not, List, map}
+-- The sets of plans whose posting lists were looked up: whether a number in scope is in one, by what its lists still have to give.
+-- Candidates are not here.
+use Rattle.std.specs.Prelude.{◌≡◌, ℕ, ◌≤◌, Bool, true, false, ◌&&◌, not, List, map}
 use Rattle.std.specs.List.{list_any, list_all}
 use Rattle.dir_index.specs.Postings.{Lists, has_number}
 use Rattle.dir_index.specs.declared.posting.Range.{Range}
@@ -13,11 +13,11 @@ use Rattle.search_plans.specs.private.Sets.{is_in_when}
 abbrev pub resolved_step : (List ℕ → Bool) → (Range → Bool) → ResolvedPlan-F Bool → Bool
 resolved_step s r ResolvedPlan-F.Empty = false
 resolved_step s r ResolvedPlan-F.Scope = true
-resolved_step s r (ResolvedPlan-F.Set x) = s x.now
+resolved_step s r (ResolvedPlan-F.Set x) = s x
 resolved_step s r (ResolvedPlan-F.Range x) = r x.now
 resolved_step s r (ResolvedPlan-F.Union v) = list_any (λ b. b) v.items
 resolved_step s r (ResolvedPlan-F.Inter v) = list_all (λ b. b) v.items
-resolved_step s r (ResolvedPlan-F.Minus a b) = a.value && not b.value
+resolved_step s r (ResolvedPlan-F.Not a) = not a.value
 
 -- whether a number in scope is in the set of a resolved plan
 abbrev pub is_in_resolved : Lists → ResolvedPlan → ℕ → Bool
@@ -36,3 +36,11 @@ AreResolved kept ps rs = (n : ℕ) → map (λ r. is_in_resolved kept r n) rs �
 abbrev pub IsResolvedFor : Bool → Lists → Plan → ResolvedPlan → Type 0
 IsResolvedFor is_sure kept p r =
     (n : ℕ) → (is_sure ≡ true → is_in_when kept true p n ≡ true) → is_in_resolved kept r n ≡ is_in_when kept true p n
+
+-- the numbers in scope of the first plan that are not of the second
+abbrev pub IsDifference : ResolvedPlan → ResolvedPlan → ResolvedPlan → Type 0
+IsDifference first second r = (kept : Lists) (n : ℕ) → is_in_resolved kept r n ≡ (is_in_resolved kept first n && not (is_in_resolved kept second n))
+
+-- two rows of resolved plans have, plan by plan, the same of the numbers from one on
+abbrev pub AreSameInRow : ℕ → Lists → List ResolvedPlan → List ResolvedPlan → Type 0
+AreSameInRow least kept rs qs = (n : ℕ) → least ≤ n → map (λ r. is_in_resolved kept r n) rs ≡ map (λ q. is_in_resolved kept q n) qs

@@ -1,4 +1,5 @@
 use Rattle.search_plans.proofs.ResolvedPlans.{resolved_union, resolved_inter, resolved_minus, resolved_more, resolved_all}
+use Rattle.search_plans.proofs.Rows.{if_ok_weaker}
 use Rattle.search_plans.proofs.resolved.+resolve.Goals as goal
 
 pub resolve-returns-in_ok-resolve_each-in-Union : goal.resolve-returns-in_ok-resolve_each-in-Union
@@ -11,11 +12,13 @@ resolve-returns-in_ok-resolve_each-in-Inter g t c =
     let each = rw c.deref-in-Inter.ensures.value at c.in_ok-resolve_each-in-Inter.ensures in
     resolved_inter (g.K.Kept.lists c.args.kept.now) c.args.plan.now c.in-Inter.plans c.in_ok-resolve_each-in-Inter.field-0 c.in-Inter.is each
 
-pub resolve-returns-in_ok-new-in-Minus-2 : goal.resolve-returns-in_ok-new-in-Minus-2
-resolve-returns-in_ok-new-in-Minus-2 g t c =
-    let first = rw (c.deref-in-Minus.ensures, ← c.in_ok-new-in-Minus.ensures.ok) at c.in_ok-first-in-Minus.ensures in
-    let second = rw (c.deref-in-Minus-2.ensures, ← c.in_ok-new-in-Minus-2.ensures.ok) at c.in_ok-second-in-Minus.ensures in
-    resolved_minus (g.K.Kept.lists c.args.kept.now) c.args.plan.now c.in-Minus.plan c.in-Minus.without c.in_ok-new-in-Minus.field-0 c.in_ok-new-in-Minus-2.field-0 c.in-Minus.is first second
+pub resolve-returns-in_ok-second-in-Minus : goal.resolve-returns-in_ok-second-in-Minus
+resolve-returns-in_ok-second-in-Minus g t c =
+    let one = rw c.deref-in-Minus.ensures at c.in_ok-first-in-Minus.ensures in
+    let other = rw c.deref-in-Minus-2.ensures at c.in_ok-second-in-Minus.ensures in
+    if_ok_weaker _ _
+    (resolved_minus (g.K.Kept.lists c.args.kept.now) c.args.plan.now c.in-Minus.plan c.in-Minus.without c.in_ok-first-in-Minus.first c.in_ok-second-in-Minus.second c.in-Minus.is one other)
+    c.difference.result c.difference.ensures
 
 pub resolve_each-loop-plan-preserved : goal.resolve_each-loop-plan-preserved
 resolve_each-loop-plan-preserved g t c =
