@@ -1,5 +1,5 @@
 -- Look-ups of lists by key, after a change of the map.
-use Rattle.std.proofs.Common.{◌≡◌, ℕ, Bool, true, false, cond, List, [], ◌∷◌, Option, Some, None, Ordering, refl, sym, ap, ◌∙◌}
+use Rattle.std.proofs.Common.{◌≡◌, ℕ, Bool, true, false, cond, List, [], ◌∷◌, Option, Some, None, Ordering, map, refl, sym, ap, ap₂, ◌∙◌}
 use Rattle.std.specs.Ordering.{is_eq, match_ordering, eq_by_cmp}
 use Rattle.std.specs.Cmp.{IsTotalOrder, eq_by_cmp_equiv}
 use Rattle.std.specs.Map.{lookup, remove_entry}
@@ -85,3 +85,13 @@ pub list-remove : (ls : ListRows) (k : ListKey) (q : ListKey) → Rises list_ord
 list-remove ls k q s =
     ap (λ w. unwrap_or w []) (found-remove list_total ls k q s) ∙ or_none (eq_by_cmp list_order k q) (lookup (is_at (list_order q)) ls)
     ∙ ap (λ b. cond b [] (list_at ls q)) (sym (list_ties k q))
+
+-- the lists that are found, by what is found
+pub each_found : {X Y Z : Type 0} (f : X → Option Z) (g : Y → Option Z) (none : Z) (xs : List X) (ys : List Y) → map f xs ≡ map g ys → map (λ x. unwrap_or (f x) none) xs ≡ map (λ y. unwrap_or (g y) none) ys
+each_found f g none [] [] h = refl
+each_found f g none [] (y ∷ ys) h = absurd (cc)
+each_found f g none (x ∷ xs) [] h = absurd (cc)
+each_found f g none (x ∷ xs) (y ∷ ys) h =
+    let head : f x ≡ g y = cc in
+    let rest : map f xs ≡ map g ys = cc in
+    ap₂ ◌∷◌ (ap (λ o. unwrap_or o none) head) (each_found f g none xs ys rest)

@@ -1,7 +1,7 @@
 // What keeps posting lists, as plans ask it. A posting or a range flows in; numbers, or whether a number is there, flow out.
 // What must not be here: how the lists are kept and changed.
 
-ghost use Rattle.std.specs.Prelude.{◌≡◌, ◌||◌, ℕ, OnOk};
+ghost use Rattle.std.specs.Prelude.{◌≡◌, ◌||◌, ℕ, map, IfOk, OnOk};
 ghost use Rattle.dir_index.specs.Postings.{Lists, has_number};
 
 use crate::posting::{Posting, Range};
@@ -15,6 +15,10 @@ pub trait Kept {
     /// The numbers of a posting, in rising order. It takes a look-up, and no memory.
     fn numbers(&self, posting: &Posting) -> &NumberSet
         ensures { result.now ≡ (lists self.now).posting posting.now };
+
+    /// The same for each posting, in its place. The look-ups go on together; what they find takes memory.
+    fn numbers_of_each(&self, postings: &[&Posting]) -> Result<Vec<&NumberSet>, AllocError>
+        ensures { IfOk result (λ v. map (λ s. s.now) v.items ≡ map (λ p. (lists self.now).posting p.now) postings.now) };
 
     /// Whether an entry of this number has a value in the range. It costs a look-up and a test of each value of the range's type, and takes no
     /// memory.

@@ -91,6 +91,15 @@ impl<'a> Sought<ListKey> for Place<'a> {
     }
 }
 
+impl<'a> Sought<ListKey> for &'a Posting {
+    ghost key = { λ p. key_of p.now };
+
+    fn compare(&self, other: &ListKey) -> Ordering {
+        let posting: &Posting = self;
+        posting.compare(other)
+    }
+}
+
 impl Sought<ListKey> for Posting {
     ghost key = { key_of };
 

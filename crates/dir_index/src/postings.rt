@@ -1,7 +1,7 @@
 // The posting lists of entries, changed entry by entry and asked by plans.
 // What must not be here: which entries there are, and which a search wants.
 
-ghost use Rattle.std.specs.Prelude.{◌≡◌, ◌||◌, ℕ, [], ◌∷◌, ◌++◌, List, nat_eq, cond, IfOk, OnOk, OnErr};
+ghost use Rattle.std.specs.Prelude.{◌≡◌, ◌||◌, ℕ, [], ◌∷◌, ◌++◌, List, map, nat_eq, cond, IfOk, OnOk, OnErr, unwrap_or, option_copied};
 ghost use Rattle.dir_index.specs.declared.posting.Posting.{Posting};
 ghost use Rattle.dir_index.specs.ListKeys.{key_of};
 ghost use Rattle.dir_index.specs.private.Marked.{lists_entry};
@@ -144,6 +144,28 @@ impl Postings {
         ensures { result.now ≡ list_of self.now posting.now }
     {
         match self.lists.find(posting) {
+            Some(numbers) => numbers,
+            None => &self.none,
+        }
+    }
+
+    /// The same for each posting, in its place. The look-ups go on together, and their results take memory.
+    pub fn numbers_of_each(&self, postings: &[&Posting]) -> Result<Vec<&NumberSet>, AllocError>
+        ensures { IfOk result (λ v. map (λ s. s.now) v.items ≡ map (λ p. list_of self.now p.now) postings.now) }
+    {
+        let found = self.lists.find_each(self.alloc, postings)?;
+        let mut sets = Vec::with_capacity(self.alloc, found.len())?;
+        for one in &found {
+            sets.push(self.found_or_none(*one))?;
+        }
+        Ok(sets)
+    }
+
+    // The set that was found; the empty one, where none was.
+    fn found_or_none<'a>(&'a self, found: Option<&'a NumberSet>) -> &'a NumberSet
+        ensures { result.now ≡ unwrap_or (option_copied found.entry) [] }
+    {
+        match found {
             Some(numbers) => numbers,
             None => &self.none,
         }

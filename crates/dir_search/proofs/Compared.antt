@@ -1,5 +1,5 @@
 -- A compare of the entry that a name has, known by its attributes. Facts on lists flow in and out; no value of the program is here.
-use Rattle.std.proofs.Common.{◌≡◌, List, Option, None, Some, refl, sym, ap, ◌∙◌, is_some, Ok, Err, ℕ}
+use Rattle.std.proofs.Common.{◌≡◌, List, Option, None, Some, refl, ap, is_some, ℕ}
 use Rattle.std.specs.Option.{option_map}
 use Rattle.indexed_tree.specs.ldap_dn.Names.{RdnModel, rdns}
 use Rattle.indexed_tree.specs.dir_entry.Entry.{AttributeModel}

@@ -1,5 +1,5 @@
 -- Names read relative name by relative name, from their ends. Facts on lists flow in and out; no value of the program is here.
-use Rattle.std.proofs.Common.{◌≡◌, ◌<◌, ◌≤◌, ◌-◌, ℕ, zero, suc, List, [], ◌∷◌, ◌++◌, length, reverse, Option, None, Some, refl, sym, ap, ◌∙◌, arith}
+use Rattle.std.proofs.Common.{◌≡◌, ◌<◌, ◌-◌, ℕ, List, [], ◌∷◌, ◌++◌, length, reverse, Option, None, Some, refl, sym, ap, ◌∙◌, arith}
 use Rattle.std.specs.Prelude.{option_copied, get_or, is_some, map, true}
 use Rattle.std.specs.Option.{option_map, option_and_then}
 use Rattle.std.specs.List.{slice_get}
@@ -9,10 +9,9 @@ use denote.Bor.{Bor}
 use Rattle.indexed_tree.specs.ldap_dn.Names.{RdnModel}
 use Rattle.indexed_tree.specs.ldap_dn.Printed.{printed_behind, printed_name, printed_rdn, separated}
 use Rattle.indexed_tree.specs.ldap_schema.Schema.{SchemaModel}
-use Rattle.indexed_tree.specs.ldap_match.declared.truth.Truth.{Truth}
 use Rattle.indexed_tree.specs.ldap_match.declared.truth.Truth.TheVariants.{Undefined}
 use Rattle.indexed_tree.specs.dir_entry.Entry.{KeyedAttribute}
-use Rattle.indexed_tree.specs.dir_tree.Directory.{Entered, entry_at}
+use Rattle.indexed_tree.specs.dir_tree.Directory.{Entered}
 use Rattle.ldap_eval.specs.Bound.{bound_value}
 use Rattle.ldap_eval.specs.declared.bound.BoundFilter.{BoundFilter}
 use Rattle.dir_search.specs.Numbered.{name_of}

@@ -25,7 +25,7 @@ use crate::scoping::{is_unnamed, numbers_right_under, numbers_within};
 use crate::showing::show_found;
 use crate::values::Evaluated;
 use indexed_tree::{
-    IndexedTree, NumberSet, Rdn, Schema, Scope, SearchAnswer, SearchRequest, Shows,
+    IndexedTree, NumberSet, Rdn, Schema, Scope, SearchAnswer, SearchRequest, Shows, Wanted,
 };
 use ldap_eval::BoundFilter;
 use search_plans::{Scope as NumberScope, Sided, compile, sets_are_of_entries, start};
@@ -94,7 +94,7 @@ impl BoundSearch<'_> {
         tree.is_directory();
         let sided = guide(self.alloc, self.indexed, self.bound)?;
         let values = Evaluated {
-            visit: tree.visit(),
+            visit: tree.visit(Wanted::Keys),
             bound: self.bound,
             looks: 0,
         };

@@ -6,7 +6,9 @@ ghost use Rattle.indexed_tree.specs.ldap_dn.Printed.{printed_behind, printed_nam
 ghost use Rattle.indexed_tree.specs.dir_tree.Directory.{entry_at};
 ghost use Rattle.dir_search.specs.Numbered.{name_of};
 
-use indexed_tree::{Schema, SharedEntry, Tree, Visit, print_before, print_behind, print_from_leaf};
+use indexed_tree::{
+    Schema, SharedEntry, Tree, Visit, Wanted, print_before, print_behind, print_from_leaf,
+};
 use std::alloc::{AllocError, Global};
 use std::marker::Model;
 
@@ -90,7 +92,7 @@ impl<'a> EntryReader<'a> {
         EntryReader {
             alloc,
             schema,
-            visit: tree.visit(),
+            visit: tree.visit(Wanted::Names),
             superior: None,
             behind: String::new(alloc),
         }

@@ -31,6 +31,10 @@ impl Values for Evaluated<'_> {
 
     ghost looks = { λ v. v.looks };
 
+    fn expect(&mut self, numbers: &[u64]) {
+        self.visit.expect(numbers);
+    }
+
     #[tactic(auto, using(crate::proofs::NamesAt::value_some, crate::proofs::NamesAt::value_none))]
     fn value(&mut self, number: u64) -> Truth {
         self.looks += 1;

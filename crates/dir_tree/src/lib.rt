@@ -8,8 +8,9 @@
 //!
 //! A look-up by name takes two look-ups a relative name, from the root down (`finding`). It digests the relative name once and compares
 //! digests; a relative name that is kept is read only where its digest is equal (`digested_names`). A name is read off by going up, without
-//! memory, or made where it is shown (`reading`). A `visit` reads many entries in turn, with one look-up for those of a leaf. A scope is a
-//! set that lies ready. An add or a delete changes the sets of each entry above by one number.
+//! memory, or made where it is shown (`reading`). A `visit` reads many entries in turn, with one look-up for those of a leaf; entries that
+//! come next are read some at a time, so that the processor waits for memory once for all of them (`reading_ahead`). A scope is a set that
+//! lies ready. An add or a delete changes the sets of each entry above by one number.
 //! A rename changes one place, two relative names, and the sets of the entries above one of the two places alone. `reach` bounds every way up.
 //! Ways up end at the root, ways down are those up, and the sets are those of the entries: that is the type's invariant (`Superiors`, `Kept`).
 //!
@@ -26,6 +27,7 @@ mod number_sets;
 mod place;
 mod reach;
 mod reading;
+mod reading_ahead;
 mod roots;
 mod shared;
 mod shared_names;
@@ -40,6 +42,7 @@ pub use dir_entry::{
     Shared, Truth, TypeAndValue, TypeId, are_same, copy_values, is_of_syntax, number_of_digits,
     print_before, print_behind, print_from_leaf,
 };
+pub use reading_ahead::Wanted;
 pub use shared::SharedEntry;
 pub use tree::Tree;
 pub use visit::Visit;

@@ -7,7 +7,9 @@ ghost use Rattle.dir_entry.specs.ldap_dn.Names.{rdns};
 ghost use Rattle.dir_tree.specs.Directory.{NameKey, Entered, AllBelow, IsDirectory, number_found, name_eq, begins, above, moved, is_right_under, is_at_or_below, find, entry_at, front, has_below, has_footing, numbers, unnumbered, replaced};
 ghost use Rattle.dir_tree.specs.Placed.{name_placed, IsSpelled, IsPlacedAsSpelled};
 
+use crate::place::Standing;
 use crate::reach::Reach;
+use crate::reading_ahead::Wanted;
 use crate::roots::Roots;
 use crate::shared::SharedEntry;
 use crate::suffix::Suffix;
@@ -123,11 +125,19 @@ impl Tree {
         self.roots.is_above_all(number)
     }
 
-    /// The tree, to be asked about many numbers.
-    pub fn visit(&self) -> Visit<'_>
+    /// The tree, to be asked about many numbers, of whose entries this is wanted.
+    pub fn visit(&self, wanted: Wanted) -> Visit<'_>
         ensures { result ≡ self.now }
     {
-        Visit::of(self, &self.roots.entries)
+        Visit::of(self, &self.roots.entries, wanted)
+    }
+
+    /// What stands at each number, looked up together.
+    pub(crate) fn standing_each(
+        &self,
+        numbers: &[u64],
+    ) -> Result<Vec<Option<&Standing>>, AllocError> {
+        self.roots.entries.find_each(self.alloc, numbers)
     }
 
     /// The attributes of a number's entry.

@@ -1,5 +1,6 @@
 // A tree that is asked about many numbers, one after the other. Numbers flow in; attributes, superiors and relative names flow out. Numbers
-// that stand near each other cost one look-up for each leaf.
+// that stand near each other cost one look-up for each leaf. Of numbers that follow one another, and of those that are told beforehand, entries
+// are read ahead (`reading_ahead`).
 // Which numbers are asked about is not here.
 
 ghost use Rattle.std.specs.Prelude.{◌≡◌, ◌++◌, ◌∷◌, [], IfSome, Some, is_some, option_copied, true};
@@ -9,6 +10,7 @@ ghost use Rattle.dir_tree.specs.private.Visits.{IsVisit};
 ghost use Rattle.dir_tree.specs.declared.place.Place.TheVariants.{Under};
 
 use crate::place::{Entries, Place, Standing};
+use crate::reading_ahead::{Wanted, read_ahead};
 use crate::shared::SharedEntry;
 use crate::tree::Tree;
 use dir_entry::{Cursor, Rdn};
@@ -18,7 +20,16 @@ use std::marker::Model;
 pub struct Visit<'a> {
     tree: &'a Tree,
     entries: Cursor<'a, u64, Standing>,
+    wanted: Wanted,
+    ahead: Cursor<'a, u64, Standing>,
+    /// The number behind those that were asked about or read ahead.
+    next: u64,
+    /// What was read ahead, added up: nobody asks for it, but without it the compiler would leave these reads out.
+    read: u64,
 }
+
+/// So many entries are read ahead together where numbers follow one another.
+const TOGETHER: usize = 8;
 
 // Not derived: see "What the gate takes" in docs/ARCHITECTURE.md.
 impl<'a> Drop for Visit<'a> {
@@ -26,6 +37,10 @@ impl<'a> Drop for Visit<'a> {
         let Visit {
             tree: _,
             entries: _,
+            wanted: _,
+            ahead: _,
+            next: _,
+            read: _,
         } = self;
     }
 }
@@ -61,15 +76,33 @@ fn superior_of(standing: Option<&Standing>) -> Option<(u64, &Rdn)>
     }
 }
 
+/// What stands at a number and at some behind it.
+fn standing_from<'a>(
+    entries: &mut Cursor<'a, u64, Standing>,
+    number: u64,
+) -> [Option<&'a Standing>; TOGETHER]
+    ensures { entries.new ≡ entries.old }
+{
+    let mut found = [None; TOGETHER];
+    for i in 0..TOGETHER {
+        found[i] = entries.get(&number.saturating_add(i as u64));
+    }
+    found
+}
+
 impl<'a> Visit<'a> {
-    /// Over a tree and its entries.
-    pub(crate) fn of(tree: &'a Tree, entries: &'a Entries) -> Visit<'a>
+    /// Over a tree and its entries, of which this is wanted.
+    pub(crate) fn of(tree: &'a Tree, entries: &'a Entries, wanted: Wanted) -> Visit<'a>
         requires { IsVisit tree.now entries.now }
         ensures { result ≡ tree.now }
     {
         Visit {
             tree,
             entries: Cursor::new(entries),
+            wanted,
+            ahead: Cursor::new(entries),
+            next: 0,
+            read: 0,
         }
     }
 
@@ -85,10 +118,36 @@ impl<'a> Visit<'a> {
         ensures same { self.new ≡ self.old }
         ensures entry { option_map (λ e. e.now) result ≡ option_map (λ e. e.entry) (entry_at number self.old.entries) }
     {
+        self.go_on_to(number);
         match self.entries.get(&number) {
             Some(standing) => Some(&standing.entry),
             None => None,
         }
+    }
+
+    /// Reads the names of the entries of these numbers ahead, since they will be shown. It may take memory; where there is none, nothing is read.
+    pub fn expect(&mut self, numbers: &[u64])
+        ensures { self.new ≡ self.old }
+    {
+        if let Ok(found) = self.tree.standing_each(numbers) {
+            self.read = self.read.wrapping_add(read_ahead(&found, Wanted::Names));
+        }
+    }
+
+    // Where a number is the one behind those before, reads its entry and some that follow ahead.
+    fn go_on_to(&mut self, number: u64)
+        ensures { self.new ≡ self.old }
+    {
+        if number < self.next {
+            return;
+        }
+        if number > self.next {
+            self.next = number.saturating_add(1);
+            return;
+        }
+        let found = standing_from(&mut self.ahead, number);
+        self.read = self.read.wrapping_add(read_ahead(&found, self.wanted));
+        self.next = number.saturating_add(TOGETHER as u64);
     }
 
     /// The number of the entry right above a number's entry, and the relative name that the entry has below it; none, where it is the root's.

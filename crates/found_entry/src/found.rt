@@ -82,6 +82,14 @@ fn encode_stored(
 }
 
 impl FoundEntry {
+    /// The attributes of the stored entry; none, where they were made.
+    pub(crate) fn stored_attributes(&self) -> &[Attribute] {
+        match &self.found {
+            Found::Stored(entry, _) => entry.attributes(),
+            Found::Made(_) => &[],
+        }
+    }
+
     /// What is shown of a stored entry, by this name.
     pub fn stored(object_name: String, entry: SharedEntry, shows: Arc<Shows>) -> FoundEntry
         ensures { found_view result ≡ record { object_name = string_bytes object_name; attributes = shown_of (arc_value shows) (attributes_of entry) } }

@@ -149,6 +149,10 @@ impl Kept for IndexedTree {
         self.postings.numbers(posting)
     }
 
+    fn numbers_of_each(&self, postings: &[&Posting]) -> Result<Vec<&NumberSet>, AllocError> {
+        self.postings.numbers_of_each(postings)
+    }
+
     fn in_range(&self, range: &Range, number: u64) -> bool {
         self.tree.is_directory();
         match self.tree.entry(number) {

@@ -1,6 +1,6 @@
 -- Plans that are the same `or` of posting lists. Facts of their parts flow in, facts of the plans flow out.
-use Rattle.std.proofs.Common.{◌≡◌, ◌<◌, ◌≤◌, ◌+◌, ℕ, Bool, true, false, ◌||◌, List, [], ◌∷◌, ◌++◌, Vec, Global, Result, Ok, Err, Option, Some, None, IfOk, IfSome, length, take, get_or, refl, sym, ap, ◌∙◌}
-use Rattle.std.proofs.lemmas.List.{take_more, take_all}
+use Rattle.std.proofs.Common.{◌≡◌, ◌<◌, ◌≤◌, ◌+◌, ℕ, Bool, true, false, ◌||◌, List, [], ◌∷◌, ◌++◌, map, drop, Vec, Global, Result, Ok, Err, IfOk, length, take, get_or, refl, sym, ap, ◌∙◌}
+use Rattle.std.proofs.lemmas.List.{append-nil, drop_all, take_more, take_all}
 use Rattle.std.proofs.lemmas.List.Folds.{list_any-append}
 use Rattle.std.specs.List.{list_any}
 use Rattle.dir_index.specs.Postings.{Lists}
@@ -14,10 +14,14 @@ use Rattle.search_plans.proofs.Rising.{any_map}
 pub union_is : (kept : Lists) (scope : List ℕ) (p : Plan) (v : Vec Plan Global) → p ≡ plan.Union v → (n : ℕ) → is_in kept scope p n ≡ list_any (λ q. is_in kept scope q n) v.items
 union_is kept scope p v is n = ap (λ (q : Plan). is_in kept scope q n) is ∙ in_plan-Union _ _ _ v ∙ any_map _ _ v.items
 
-pub listed_weaker : {C E : Type 0} (P Q : Type 0) → (P → Q) → (r : Result (Option C) E) → IfOk r (λ o. IfSome o (λ c. P)) → IfOk r (λ o. IfSome o (λ c. Q))
-listed_weaker P Q f (Ok (Some c)) h = f h
-listed_weaker P Q f (Ok None) h = tt
-listed_weaker P Q f (Err e) h = tt
+-- the same where two plans are the same
+pub same_weaker : {E : Type 0} (P Q : Type 0) → (P → Q) → (r : Result Bool E) → IfOk r (λ b. b ≡ true → P) → IfOk r (λ b. b ≡ true → Q)
+same_weaker P Q f (Ok b) h = λ e. f (h e)
+same_weaker P Q f (Err e) h = tt
+
+-- a list with one item for each of another's, once all are through
+pub each_done : {X Y : Type 0} (f : X → Y) (so_far : List Y) (xs : List X) (i : ℕ) → length xs ≤ i → so_far ++ map f (drop i xs) ≡ map f xs → so_far ≡ map f xs
+each_done f so_far xs i le h = sym (append-nil so_far) ∙ ap (λ ys. so_far ++ map f ys) (sym (drop_all i xs le)) ∙ h
 
 or_false : (b : Bool) → (b || false) ≡ b
 or_false true = refl

@@ -11,7 +11,7 @@ ghost use Rattle.search_plans.specs.Streams.{Covers, Draws, together};
 ghost use Rattle.search_plans.specs.private.Streams.{Gathers, GathersAll};
 
 use crate::estimating::{is_cheap, is_cheap_listed, smallest};
-use crate::listing::push_listed;
+use crate::listing::{ListWalks, listed};
 use crate::plan::{Plan, Sided};
 use crate::scope::Scope;
 use crate::stream::Stream;
@@ -246,9 +246,9 @@ pub fn draw_sided<'a, K: Kept>(
     ensures sure { IfOk result (λ d. AreSure d.known.is_sure (is_in (K.lists kept.now) scope.now sided.now.must) d.stream) }
 {
     scope.rises();
-    let mut walks = Vec::new(alloc);
-    match push_listed(&sided.may, &sided.must, kept, &mut walks)? {
-        Some(numbers) => {
+    match listed(alloc, &sided.may, &sided.must, kept)? {
+        Some(listed) => {
+            let ListWalks { walks, numbers } = listed;
             if is_cheap_listed(numbers, walks.len(), scope) {
                 Ok(from_lists(walks))
             } else {

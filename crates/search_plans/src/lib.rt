@@ -15,7 +15,8 @@
 //! A run (`running`) looks up the posting lists of both plans when it starts, and not again for each candidate (`resolved`). Since candidates
 //! rise, it asks each list by a walk that only goes forward (`probing`). It leaves out what isn't in scope, gives what must be, and asks
 //! `Values` about the rest (`telling`).
-//! Where both plans are one `or` of posting lists, each list is looked up once and nothing is asked (`listing`).
+//! Where both plans are one `or` of posting lists, all lists are looked up together, once, and nothing is asked (`listing`); the entries that
+//! come first are told beforehand (`Values::expect`).
 //!
 //! Proved: the plans bound where the filter is True, over any entries and scope, and are its true set where schema and index choice decide
 //! it. What an `and` may be lies in each part that they decide and holds its substrings' runs (`compile`). A run gives the numbers in scope

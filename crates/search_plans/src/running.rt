@@ -49,6 +49,25 @@ impl<'a, K: Kept, V: Values> Model for Running<'a, K, V> {
         (is_in (K.lists r.criteria.kept.now) r.criteria.scope.now r.sided.now.may) r.criteria.scope.now r.stream };
 }
 
+/// Where it is known that all that is drawn will be found, tells of the numbers that come next in several walks.
+fn expect_heads<V: Values>(
+    alloc: Global,
+    is_sure: bool,
+    stream: &Stream,
+    values: &mut V,
+) -> Result<(), AllocError>
+    ensures { values.new ≡ values.old }
+{
+    if !is_sure {
+        return Ok(());
+    }
+    let heads = stream.heads(alloc)?;
+    if heads.len() > 1 {
+        values.expect(&heads);
+    }
+    Ok(())
+}
+
 /// Starts a run of two plans that bound the entries whose value is True, within a scope. It looks up the posting lists that the
 /// plans name, and takes the memory for the candidates and for the resolved plans; the run takes none.
 pub fn start<'a, K: Kept, V: Values + Drop>(
@@ -66,8 +85,10 @@ pub fn start<'a, K: Kept, V: Values + Drop>(
     ensures looks { IfOk result (λ r. r.looks ≡ V.looks values) }
 {
     scope.rises();
+    let mut values = values;
     let drawn = draw_sided(alloc, sided, kept, scope)?;
     let Drawn { stream, known } = drawn;
+    expect_heads(alloc, known.is_sure, &stream, &mut values)?;
     let sides = resolve_sided(alloc, sided, kept, known.is_sure)?;
     Ok(Running {
         sided,

@@ -8,7 +8,11 @@ ghost use Rattle.search_plans.specs.private.Streams.{behind as left_behind, less
 ghost use Rattle.dir_index.specs.private.Postings.{AreRising};
 
 use crate::walking::Walk;
+use std::alloc::{AllocError, Global};
 use std::marker::Model;
+
+/// So many numbers that come next are told at most: their entries fit into the processor's caches.
+const MOST_HEADS: usize = 64;
 
 /// Walks through rising numbers, seen as one: the numbers that are still to come.
 #[derive(Drop)]
@@ -68,6 +72,18 @@ impl<'a> Stream<'a> {
         ensures { result ≡ together walks.entry.items }
     {
         Stream { walks }
+    }
+
+    /// Numbers that come next, each in a walk of its own; of many walks, some.
+    pub(crate) fn heads(&self, alloc: Global) -> Result<Vec<u64>, AllocError> {
+        let count = self.walks.len().min(MOST_HEADS);
+        let mut heads = Vec::with_capacity(alloc, count)?;
+        for walk in &self.walks[..count] {
+            if let Some(number) = walk.head() {
+                heads.push(number)?;
+            }
+        }
+        Ok(heads)
     }
 
     /// The next number.

@@ -12,6 +12,10 @@ pub trait Values {
 
     ghost looks: { Self → ℕ };
 
+    /// Tells of numbers whose entries will be found, so that these can be read ahead.
+    fn expect(&mut self, numbers: &[u64])
+        ensures { self.new ≡ self.old };
+
     /// The value on the entry of a number. It changes nothing but the count.
     fn value(&mut self, number: u64) -> Truth
         requires { looks self.old + 1 < 2 ^ 64 }

@@ -1,10 +1,11 @@
 -- The responses of a search, one after the other. Responses flow in; that one of them is too long, or what they are together, flows out. Octets
 -- are not read here.
-use Rattle.std.proofs.Common.{◌≡◌, ◌≤◌, ◌^◌, inl, inr, ℕ, List, [], ◌∷◌, ◌++◌, map, length, sym, ap, ◌∙◌, subst, Result, Ok, Err}
-use Rattle.std.specs.Prelude.{IfOk, IsErrOf}
+use Rattle.std.proofs.Common.{◌≡◌, ◌+◌, ◌<◌, ◌≤◌, ◌^◌, inl, inr, ℕ, List, [], ◌∷◌, ◌++◌, append_assoc, drop, get_or, map, length, sym, ap, ◌∙◌, subst, Result, Ok, Err}
+use Rattle.std.specs.Prelude.{IfOk, IsErrOf, Vec}
+use Rattle.std.specs.Global.{Global}
 use Rattle.request_checks.specs.ldap_msg.Messages.{MessageValue}
 use Rattle.request_checks.specs.ldap_msg.Written.{message_bytes, message_content}
-use Rattle.std.proofs.lemmas.List.{map-append}
+use Rattle.std.proofs.lemmas.List.{drop_more, map-append}
 use Rattle.request_checks.specs.ldap_msg.Messages.{search_entry}
 use Rattle.directory_api.specs.found_entry.View.{found_view}
 use Rattle.directory_api.specs.found_entry.declared.found.FoundEntry.{FoundEntry}
@@ -57,3 +58,32 @@ first_too_long id entries e rest is long = subst (λ (l : List FoundEntry). HasT
 -- an error is the same in another result
 pub same_error : {S T E : Type 0} (e f : E) → ◌≡◌ {A = Result T E} (Err e) (Err f) → ◌≡◌ {A = Result S E} (Err e) (Err f)
 same_error e f h = let is : e ≡ f = cc in ap Err is
+
+-- an entry of a list, and those behind it
+opened : (entries : List FoundEntry) (i : ℕ) (e : FoundEntry) → i < length entries → e ≡ get_or entries i e → drop i entries ≡ e ∷ drop (i + 1) entries
+opened entries i e lt is = drop_more entries i e lt ∙ ap (λ (x : FoundEntry). x ∷ drop (i + 1) entries) (sym is)
+
+-- one more response, and those of the entries that are left then, are those of all entries
+pub written_more : (id : ℕ) (entries : List FoundEntry) (i : ℕ) (e : FoundEntry) (xs ys : List (Vec ℕ Global)) (v : Vec ℕ Global) (whole : List (List ℕ)) → i < length entries → e ≡ get_or entries i e
+    → v.items ≡ message_bytes (message id (search_entry (found_view e)) []) → ys ≡ xs ++ v ∷ []
+    → map (λ (w : Vec ℕ Global). w.items) xs ++ map message_bytes (entry_messages id (map found_view (drop i entries))) ≡ whole
+    → map (λ (w : Vec ℕ Global). w.items) ys ++ map message_bytes (entry_messages id (map found_view (drop (i + 1) entries))) ≡ whole
+written_more id entries i e xs ys v whole lt is octets more so_far =
+    let rest : List (List ℕ) = map message_bytes (entry_messages id (map found_view (drop (i + 1) entries))) in
+    let front : List (List ℕ) = map (λ (w : Vec ℕ Global). w.items) xs in
+    let grown : map (λ (w : Vec ℕ Global). w.items) ys ≡ front ++ v.items ∷ [] = ap (map (λ (w : Vec ℕ Global). w.items)) more ∙ map-append (λ (w : Vec ℕ Global). w.items) xs (v ∷ []) in
+    ap (λ (l : List (List ℕ)). l ++ rest) grown
+    ∙ append_assoc front (v.items ∷ []) rest
+    ∙ ap (λ (o : List ℕ). front ++ o ∷ rest) octets
+    ∙ ap (λ (l : List FoundEntry). front ++ map message_bytes (entry_messages id (map found_view l))) (sym (opened entries i e lt is))
+    ∙ so_far
+
+-- one that is too long, of the entries that are left, is one of those that were left
+pub too_long_more : (id : ℕ) (entries : List FoundEntry) (i : ℕ) (e : FoundEntry) → i < length entries → e ≡ get_or entries i e
+    → HasTooLong (entry_messages id (map found_view (drop (i + 1) entries))) → HasTooLong (entry_messages id (map found_view (drop i entries)))
+too_long_more id entries i e lt is h = subst (λ (l : List FoundEntry). HasTooLong (entry_messages id (map found_view l))) (sym (opened entries i e lt is)) (inr h)
+
+-- an entry that is too long is one of those that are left
+pub too_long_at : (id : ℕ) (entries : List FoundEntry) (i : ℕ) (e : FoundEntry) → i < length entries → e ≡ get_or entries i e → 2 ^ 32 ≤ length (message_content (message id (search_entry (found_view e)) []))
+    → HasTooLong (entry_messages id (map found_view (drop i entries)))
+too_long_at id entries i e lt is long = first_too_long id (drop i entries) e (drop (i + 1) entries) (opened entries i e lt is) long

@@ -13,7 +13,7 @@ ghost use Rattle.session_handler.specs.Responses.{result_of, code_message, reply
 ghost use Rattle.session_handler.specs.Taken.{AreSaid};
 
 use crate::answered::{Answered, Next};
-use directory_api::{Found, FoundEntry, LookError, Reply, SearchAnswer};
+use directory_api::{Found, FoundEntry, LookError, Reply, SearchAnswer, read_ahead};
 use request_checks::{
     AnswerError, Answering, EncodeError, ExtendedResponse, LdapResult, Response, ResultCode,
     response_to, write_numbered, write_plain,
@@ -169,6 +169,18 @@ fn write_found(alloc: Global, id: u32, entry: &FoundEntry) -> Result<Vec<u8>, An
     })
 }
 
+/// So many entries are read ahead together.
+const TOGETHER: usize = 8;
+
+/// Reads entries from a place on ahead, since they are written next.
+fn read_some(entries: &[FoundEntry], from: usize) -> u64 {
+    let end = from.saturating_add(TOGETHER).min(entries.len());
+    if from > end {
+        return 0;
+    }
+    read_ahead(&entries[from..end])
+}
+
 /// The response of each entry, written, in order.
 fn entry_responses(
     alloc: Global,
@@ -179,8 +191,18 @@ fn entry_responses(
     ensures too_long { IsErrOf result AnswerError.TooLong → HasTooLong (entry_messages id (map found_view entries.items)) }
 {
     let mut responses = Vec::with_capacity(alloc, entries.len().saturating_add(1))?;
-    for entry in entries {
-        responses.push(write_found(alloc, id, &entry)?)?;
+    let mut read = 0u64;
+    let mut at = 0usize;
+    for entry in &entries {
+        if at % TOGETHER == 0 {
+            read = read.wrapping_add(read_some(&entries, at));
+        }
+        at = at.saturating_add(1);
+        responses.push(write_found(alloc, id, entry)?)?;
+    }
+    // What was read ahead says nothing; by this use the compiler keeps the reads.
+    if read == u64::MAX {
+        responses.reserve(1)?;
     }
     Ok(responses)
 }

@@ -1,4 +1,3 @@
-use Rattle.std.specs.Prelude.{IfOk}
 use Rattle.dir_search.proofs.Guided.{guided, leaves_few, told_open}
 use Rattle.dir_search.proofs.bound_search.guide.Goals as goal
 

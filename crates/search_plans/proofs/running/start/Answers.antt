@@ -10,7 +10,8 @@ invariant_of-result g c =
     let sided = c.args.sided.now in
     let stream = c.in_ok-drawn.drawn.stream in
     let sure = c.in_ok-drawn.drawn.known.is_sure in
-    let sides = c.in_ok-sides.sides in (
+    let sides = c.in_ok-sides.sides in
+    rw c.expect_heads.ensures (
       started _ _ (g.V.Values.value_at c.args.values) scope stream (g.V.Values.looks c.args.values)
           c.rises.ensures c.in_ok-drawn.ensures.rising (drawn _ scope stream c.rises.ensures c.in_ok-drawn.ensures.rising c.in_ok-drawn.ensures.covers) c.requires.guides c.requires.room,
       c.in_ok-drawn.ensures.inside,
@@ -21,5 +22,5 @@ invariant_of-result g c =
 
 pub returns-clause-numbers : goal.returns-clause-numbers
 returns-clause-numbers g c =
-    started_numbers _ _ (g.V.Values.value_at c.args.values) c.args.scope.now c.in_ok-drawn.drawn.stream
-    (drawn _ c.args.scope.now c.in_ok-drawn.drawn.stream c.rises.ensures c.in_ok-drawn.ensures.rising c.in_ok-drawn.ensures.covers) c.requires.guides
+    rw c.expect_heads.ensures (started_numbers _ _ (g.V.Values.value_at c.args.values) c.args.scope.now c.in_ok-drawn.drawn.stream
+    (drawn _ c.args.scope.now c.in_ok-drawn.drawn.stream c.rises.ensures c.in_ok-drawn.ensures.rising c.in_ok-drawn.ensures.covers) c.requires.guides)

@@ -14,6 +14,7 @@ use std::test::Fail;
 /// Entries with one value of a type each, and some with two, an octet each; and which these are.
 #[derive(Drop)]
 struct Entries {
+    alloc: Global,
     values: Vec<(u8, u8)>,
     several: NumberSet,
     none: NumberSet,
@@ -37,6 +38,7 @@ fn make_entries(alloc: Global) -> Result<Entries, AllocError> {
         }
     }
     Ok(Entries {
+        alloc,
         values,
         several,
         none: set_of(alloc, &[])?,
@@ -67,6 +69,14 @@ impl Kept for Entries {
             Posting::Several(_) => &self.several,
             _ => &self.none,
         }
+    }
+
+    fn numbers_of_each(&self, postings: &[&Posting]) -> Result<Vec<&NumberSet>, AllocError> {
+        let mut sets = Vec::with_capacity(self.alloc, postings.len())?;
+        for posting in postings {
+            sets.push(self.numbers(posting))?;
+        }
+        Ok(sets)
     }
 
     fn in_range(&self, range: &Range, number: u64) -> bool {
@@ -126,6 +136,8 @@ impl Values for Bounds<'_> {
     ghost value_at = { λ b n. Truth.False };
 
     ghost looks = { λ b. b.looks };
+
+    fn expect(&mut self, _numbers: &[u64]) {}
 
     fn value(&mut self, number: u64) -> Truth {
         self.looks += 1;

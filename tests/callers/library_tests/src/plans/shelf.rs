@@ -8,6 +8,7 @@ use std::marker::Model;
 /// The even numbers for each type, and the multiples of three for each value, each run and each range.
 #[derive(Drop)]
 pub struct Shelf {
+    alloc: Global,
     even: NumberSet,
     three: NumberSet,
 }
@@ -32,6 +33,14 @@ impl Kept for Shelf {
             Posting::Equal(_, _) => &self.three,
             Posting::Run(_, _) => &self.three,
         }
+    }
+
+    fn numbers_of_each(&self, postings: &[&Posting]) -> Result<Vec<&NumberSet>, AllocError> {
+        let mut sets = Vec::with_capacity(self.alloc, postings.len())?;
+        for posting in postings {
+            sets.push(self.numbers(posting))?;
+        }
+        Ok(sets)
     }
 
     fn in_range(&self, _range: &Range, number: u64) -> bool {
@@ -63,6 +72,7 @@ pub fn set_of(alloc: Global, numbers: &[u64]) -> Result<NumberSet, AllocError> {
 /// The even numbers and the multiples of three up to six.
 pub fn make_shelf(alloc: Global) -> Result<Shelf, AllocError> {
     Ok(Shelf {
+        alloc,
         even: set_of(alloc, &[2, 4, 6])?,
         three: set_of(alloc, &[3, 6])?,
     })
@@ -84,6 +94,8 @@ impl Values for Always {
     ghost value_at = { λ a n. a.truth };
 
     ghost looks = { λ a. a.looks };
+
+    fn expect(&mut self, _numbers: &[u64]) {}
 
     fn value(&mut self, _number: u64) -> Truth {
         self.looks += 1;

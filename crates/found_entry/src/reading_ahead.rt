@@ -1,0 +1,37 @@
+//! Entries that will be written, read ahead. Found entries flow in; the sum of what was read flows out, which says nothing. An entry and its
+//! values are in several pieces of memory, each of which tells where the next one is. Here the first pieces of several entries are read, then
+//! their second ones, so that the processor waits for all of a kind at once. What is written is not told here.
+use crate::found::FoundEntry;
+use dir_tree::Attribute;
+
+/// The first octets of an attribute's values.
+fn values_of(attribute: &Attribute) -> u64 {
+    let mut sum = 0u64;
+    for value in attribute.values() {
+        if let Some(first) = value.as_slice().first() {
+            sum = sum.wrapping_add(*first as u64);
+        }
+    }
+    sum
+}
+
+/// The values of an entry.
+fn values(entry: &FoundEntry) -> u64 {
+    let mut sum = 0u64;
+    for attribute in entry.stored_attributes() {
+        sum = sum.wrapping_add(values_of(attribute));
+    }
+    sum
+}
+
+/// Reads the attributes of these, and their values.
+pub fn read_ahead(entries: &[FoundEntry]) -> u64 {
+    let mut sum = 0u64;
+    for entry in entries {
+        sum = sum.wrapping_add(entry.stored_attributes().len() as u64);
+    }
+    for entry in entries {
+        sum = sum.wrapping_add(values(entry));
+    }
+    sum
+}
