@@ -11,7 +11,7 @@ use std::alloc::{AllocError, Global};
 use std::sync::Arc;
 
 /// What is indexed. A label may be a ticket, too.
-const INDEXES: &str = "label: pres eq\nticket: pres eq\nrank: eq ord\n";
+const INDEXES: &str = "label: pres eq\nticket: pres eq\nrank: eq ord\ncn: sub\n";
 
 /// An attribute with one value.
 fn attribute(alloc: Global, description: &str, value: String) -> Result<Attribute, AllocError> {
@@ -62,12 +62,13 @@ fn push_numbered(
     push(alloc, attributes, description, value)
 }
 
-/// Adds what an item has: one of a hundred labels, one of seven descriptions, and its place as its rank.
+/// Adds what an item has: one of a hundred labels, one of seven descriptions, its place as its rank, and a name with its place.
 fn push_item(alloc: Global, attributes: &mut Vec<Attribute>, place: u64) -> Result<(), AllocError> {
     push_class(alloc, attributes, "item")?;
     push_numbered(alloc, attributes, "label", "l", place % 100)?;
     push_numbered(alloc, attributes, "description", "d", place % 7)?;
-    push_numbered(alloc, attributes, "rank", "", place)
+    push_numbered(alloc, attributes, "rank", "", place)?;
+    push_numbered(alloc, attributes, "cn", "item", place)
 }
 
 /// The add of an entry above the items.

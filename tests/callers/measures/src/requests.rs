@@ -17,8 +17,11 @@ use std::alloc::Global;
 use std::io::{Eprint, Print};
 use std::time::{Clock, Instant};
 
-/// How many messages of a kind are timed together.
+/// How many messages of a kind are timed together, where each is about few items.
 const MESSAGES: u32 = 1000;
+
+/// How many, where each is about all items.
+const WIDE_MESSAGES: u32 = 5;
 
 /// From one message to the next the item is another one, so many places on: a prime number, so that all come round.
 const STRIDE: u32 = 7919;
@@ -34,6 +37,12 @@ pub enum Ask {
     Base,
     /// A compare of one of its values.
     Compare,
+    /// Six octets of its name, by an index of substrings.
+    Substring,
+    /// A value that no item has, of a type without an index: each item is tried.
+    Tried,
+    /// All items.
+    All,
 }
 
 /// Each with the name that it is printed under.
@@ -42,7 +51,20 @@ pub const ASKS: &[(Ask, &str)] = &[
     (Ask::TenEqual, "or of ten equal"),
     (Ask::Base, "base"),
     (Ask::Compare, "compare"),
+    (Ask::Substring, "substring"),
+    (Ask::Tried, "each item tried"),
+    (Ask::All, "all items"),
 ];
+
+/// How many messages of a kind are timed together.
+fn message_count(ask: Ask) -> u32
+    ensures { 0 < result }
+{
+    match ask {
+        Ask::Equal | Ask::TenEqual | Ask::Base | Ask::Compare | Ask::Substring => MESSAGES,
+        Ask::Tried | Ask::All => WIDE_MESSAGES,
+    }
+}
 
 /// The name of the item at a place.
 fn name(alloc: Global, place: u32) -> Result<String, Fault> {
@@ -109,6 +131,12 @@ fn request(alloc: Global, ask: Ask, place: u32) -> Result<Request, Fault> {
             "(objectClass=*)",
         ),
         Ask::Compare => compare(alloc, place),
+        Ask::Substring => {
+            let filter = format!(in alloc; "(cn=*em{place})")?;
+            search_items(alloc, filter.as_str())
+        }
+        Ask::Tried => search_items(alloc, "(description=d8)"),
+        Ask::All => search_items(alloc, "(label=*)"),
     }
 }
 
@@ -129,7 +157,7 @@ fn octets(alloc: Global, request: Request) -> Result<Vec<u8>, Fault> {
 pub fn messages(alloc: Global, ask: Ask, count: u32) -> Result<Vec<Vec<u8>>, Fault> {
     let mut messages = Vec::new(alloc);
     let mut place = 0u32;
-    for _message in 0..MESSAGES {
+    for _message in 0..message_count(ask) {
         messages.push(octets(alloc, request(alloc, ask, place)?)?)?;
         place = place.saturating_add(STRIDE) % count.max(1);
     }
@@ -188,7 +216,7 @@ fn show(
         let octets = answer_all(alloc, config, directory, &messages)?;
         let took = began.elapsed(rt)?.as_nanos();
         print_answered(rt, ask.1, octets)?;
-        print_request(rt, took / MESSAGES as u128)?;
+        print_request(rt, took / message_count(ask.0) as u128)?;
     }
     Ok(())
 }
