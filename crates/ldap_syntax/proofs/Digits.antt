@@ -3,7 +3,7 @@ use Rattle.std.proofs.Common.{ℕ, ◌+◌, ◌*◌, ◌-◌, ◌<◌, ◌≤◌
 use Rattle.std.proofs.lemmas.Bool.{ltb-true, lt-ltb}
 use Rattle.std.specs.Int.Digits.{number_from_digits_after}
 use Rattle.std.proofs.lemmas.Bool.Decides.{nat_tests}
-use Rattle.ldap_words.specs.Numbers.{is_digit, are_digits, is_whole, is_number, decimal}
+use Rattle.ldap_words.specs.Numbers.{is_digit, are_digits, decimal}
 pub use Rattle.ldap_words.proofs.Written.{and_left, and_right, IsWritten, whole_is_written, number_is_written}
 use Rattle.ldap_syntax.specs.Meaning.{is_before}
 use Rattle.ldap_syntax.specs.Keys.{counted, turned}

@@ -1,29 +1,27 @@
 -- Octets of ASCII that are seen, with single SPACEs between them: each text of theirs is made of them alone. Facts on lists flow in and out; no value of the
 -- program is here.
-use Rattle.std.proofs.Common.{ℕ, ◌<◌, ◌≤◌, List, [], ◌∷◌, ◌++◌, Bool, true, false, not, cond, ◌&&◌, ◌||◌, nat_eq, nat_le, Option, Some, None, IsAscii, chars, map, filter, encode_utf8_all, ◌≡◌, refl, ap, ap₂, sym, subst, ◌∙◌, arith}
+use Rattle.std.proofs.Common.{ℕ, ◌<◌, ◌≤◌, List, [], ◌∷◌, ◌++◌, Bool, true, false, not, cond, ◌&&◌, ◌||◌, nat_eq, nat_le, Option, Some, None, IsAscii, chars, map, filter, ◌≡◌, refl, ap, ap₂, sym, ◌∙◌, arith}
 use Rattle.std.specs.List.{All, AllByRecursion}
 use Rattle.std.proofs.lemmas.List.Elements.{All-nil, All-cons}
-use Rattle.std.specs.Str.{bytes_eq, is_utf8}
+use Rattle.std.specs.Str.{is_utf8}
 use Rattle.std.specs.Char.{to_ascii_lowercase}
-use Rattle.std.proofs.lemmas.Str.{chars-IsAscii, encodes-append, encodes-IsAscii, IsUtf8-from_ascii, is_utf8-from_IsUtf8}
+use Rattle.std.proofs.lemmas.Str.{chars-IsAscii, encodes-IsAscii, IsUtf8-from_ascii, is_utf8-from_IsUtf8}
 use Rattle.std.proofs.lemmas.Str.Ascii.{IsAscii-from_all}
 use Rattle.std.proofs.lemmas.Bool.Decides.{nat_tests}
 use Rattle.std.proofs.lemmas.Slice.Eq.{bytes_eq-Decides}
 use Rattle.ldap_words.specs.Octets.{utf8_of}
 use Rattle.ldap_words.specs.declared.rule.Family.{Family}
 use Rattle.ldap_words.specs.declared.rule.Family.TheVariants as family
-use Rattle.ldap_words.specs.declared.rule.Syntax.{Syntax}
 use Rattle.ldap_words.specs.declared.rule.Syntax.TheVariants as syntax
 use Rattle.ldap_syntax.specs.declared.plain.Style.{Style}
 use Rattle.ldap_syntax.specs.declared.plain.Style.TheVariants as style
 use Rattle.ldap_syntax.specs.declared.preparing.Part.TheVariants.{Whole}
 use Rattle.ldap_syntax.specs.private.Seen.{are_seen, are_seen_behind}
-use Rattle.ldap_syntax.specs.Text.{is_white, is_control, mapped_character, mapped, normal, folded, words, joined, spaced, spaced_words, prepared}
+use Rattle.ldap_syntax.specs.Text.{is_control, mapped_character, mapped, normal, folded, words, joined, spaced, spaced_words, prepared}
 use Rattle.ldap_syntax.specs.Meaning.{spelled}
-use Rattle.ldap_syntax.specs.Keys.{key_in, key_at}
 use Rattle.ldap_syntax.specs.Syntaxes.{is_in_syntax}
 use Rattle.ldap_syntax.specs.Styles.{written, text_by}
-use Rattle.ldap_syntax.specs.Forms.{form_of, between, plain_text, texts_of, text_in, is_that, is_plain_in, are_plain}
+use Rattle.ldap_syntax.specs.Forms.{form_of, between, plain_text, texts_of, is_that, are_plain}
 use Rattle.ldap_syntax.proofs.Ascii.{normal_ascii, folded_ascii}
 use Rattle.ldap_syntax.proofs.Words.{rest_of, writes}
 

@@ -77,21 +77,26 @@ fn mapped_character(c: char) -> char
 fn mapped(alloc: Global, text: &str) -> Result<Vec<char>, AllocError>
     ensures { IfOk result (λ v. v.items ≡ mapped_text (chars text.now)) }
 {
-    text.chars()
-        .filter(|c| !is_control(*c))
-        .map(|c| mapped_character(c))
-        .collect(alloc)
+    let mut out = Vec::with_capacity(alloc, text.len())?;
+    for c in text.chars() {
+        if !is_control(c) {
+            out.push(mapped_character(c))?;
+        }
+    }
+    Ok(out)
 }
 
 /// Mapped, with the capitals of ASCII made small.
 fn lowered(alloc: Global, text: &str) -> Result<Vec<char>, AllocError>
     ensures { IfOk result (λ v. v.items ≡ map to_ascii_lowercase (mapped_text (chars text.now))) }
 {
-    text.chars()
-        .filter(|c| !is_control(*c))
-        .map(|c| mapped_character(c))
-        .map(|c| c.to_ascii_lowercase())
-        .collect(alloc)
+    let mut out = Vec::with_capacity(alloc, text.len())?;
+    for c in text.chars() {
+        if !is_control(c) {
+            out.push(mapped_character(c).to_ascii_lowercase())?;
+        }
+    }
+    Ok(out)
 }
 
 /// The characters in normalization form KC (RFC 4518 2.3).

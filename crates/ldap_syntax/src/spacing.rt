@@ -9,6 +9,9 @@ use crate::mapping::SPACE;
 use crate::preparing::Part;
 use std::alloc::{AllocError, Global};
 
+/// So many octets more than a text of ASCII has characters mostly hold it with its SPACEs: one at each edge, and one more between a few words.
+const MORE: usize = 4;
+
 /// One SPACE at each closed edge, at most one at an open edge, two between words (RFC 4518 2.6.1). Takes one allocation and
 /// its growths.
 pub fn spaced(alloc: Global, text: &[char], part: Part) -> Result<String, AllocError>
@@ -17,7 +20,7 @@ pub fn spaced(alloc: Global, text: &[char], part: Part) -> Result<String, AllocE
     if !has_word(text) {
         return blank(alloc, part);
     }
-    let mut out = String::new(alloc);
+    let mut out = String::with_capacity(alloc, text.len().saturating_add(MORE))?;
     push_space_if(&mut out, is_led(part, text))?;
     push_words(&mut out, text)?;
     push_space_if(&mut out, is_closed(part, text))?;

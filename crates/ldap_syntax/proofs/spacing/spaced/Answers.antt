@@ -11,6 +11,6 @@ returns-then-not-has_word c =
 pub returns : goal.returns
 returns c =
     written c.args.part c.args.text.now _ _ _ _ _ (sym c.has_word.ensures ∙ c.if-not-has_word.false) c.is_led.ensures c.is_closed.ensures
-    (c.in_ok-push_space_if.ensures ∙ ap (λ (x : List ℕ). x ++ space_if c.is_led.result) c.new-out.ensures.bytes)
+    (c.in_ok-push_space_if.ensures ∙ ap (λ (x : List ℕ). x ++ space_if c.is_led.result) c.in_ok-out.ensures.bytes)
     c.in_ok-push_words.ensures
     c.in_ok-push_space_if-2.ensures
