@@ -1,6 +1,7 @@
 pub mod Keys
 pub mod Fronts
 pub mod Spelled
+pub mod Unparted
 pub mod Plain
 pub mod Parted
 pub mod NameTexts

@@ -1,5 +1,5 @@
 -- A value of ASCII of which no character is escaped is printed as it is.
-use Rattle.std.proofs.Common.{◌≡◌, ◌-◌, ◌<◌, ℕ, zero, suc, Bool, true, false, ◌&&◌, ◌||◌, not, List, [], ◌∷◌, ◌++◌, length, chars, Option, None, Some, get_or, slice_get, nat_eq, nat_lt, refl, sym, ap, ◌∙◌, subst, true≢false, arith}
+use Rattle.std.proofs.Common.{◌≡◌, ◌-◌, ◌<◌, ℕ, zero, suc, Bool, true, false, ◌&&◌, ◌||◌, not, List, [], ◌∷◌, ◌++◌, length, None, Some, slice_get, nat_eq, nat_lt, refl, sym, ap, ◌∙◌, true≢false, arith}
 use Rattle.std.proofs.lemmas.Bool.{and_parts, or_from, cond-false, ltb-true, ne_eqb}
 use Rattle.std.proofs.lemmas.Str.{encode_ascii, chars-IsAscii, chars-nil}
 use Rattle.std.specs.List.{list_all}

@@ -1,6 +1,7 @@
 pub mod Meaning
 pub mod Keyed
 pub mod Names
+pub mod Spellings
 pub mod Tokens
 pub mod Texts
 pub mod Printed

@@ -6,12 +6,14 @@ ghost use Rattle.std.specs.Option.{option_copied};
 ghost use Rattle.ldap_syntax.specs.Forms.{form_of};
 ghost use Rattle.ldap_dn.specs.Pairs.{key_for};
 ghost use Rattle.ldap_dn.specs.Rising.{KeysAreRising};
+ghost use Rattle.ldap_dn.specs.Spellings.{spelled_in};
 
 use ldap_schema::TypeId;
 use ldap_syntax::{Form, Key};
 use smallvec::SmallVec;
 use std::alloc::{AllocError, Global};
 use std::marker::Model;
+use std::slice;
 
 /// A type and a value of it, as it was written in a name (RFC 4512 2.3.1).
 #[derive(Drop)]
@@ -100,12 +102,40 @@ impl Default for TypeAndKey {
     }
 }
 
+/// Types with values, in the order written. Most relative names have one, which stands in place.
+pub enum Spelling {
+    One(TypeAndValue),
+    Many(Vec<TypeAndValue>),
+}
+
+// Not derived: see "What the gate takes" in docs/ARCHITECTURE.md.
+impl Drop for Spelling {
+    fn drop(self) {
+        match self {
+            Spelling::One(_) => {}
+            Spelling::Many(_) => {}
+        }
+    }
+}
+
+impl Spelling {
+    /// These types and values.
+    pub fn as_slice(&self) -> &[TypeAndValue]
+        ensures { result.now ≡ spelled_in self.now }
+    {
+        match self {
+            Spelling::One(only) => slice::from_ref(only),
+            Spelling::Many(list) => list.as_slice(),
+        }
+    }
+}
+
 /// A relative name (RFC 4512 2.3.1).
 pub struct Rdn {
     /// In rising order of type, each type once; one, as most have, in place.
     pub(crate) keys: SmallVec<TypeAndKey, 1>,
-    /// In the order written.
-    pub(crate) spelling: Vec<TypeAndValue>,
+    /// In the order written; one in place, too.
+    pub(crate) spelling: Spelling,
 }
 
 // Not derived: see "What the gate takes" in docs/ARCHITECTURE.md.
@@ -120,10 +150,11 @@ impl Drop for Rdn {
 
 impl Model for Rdn {
     ghost use Rattle.ldap_dn.specs.Names.{RdnModel};
+    ghost use Rattle.ldap_dn.specs.Spellings.{spelled_in};
 
     ghost Value = { RdnModel };
 
-    ghost view = { λ r. record { keys = r.keys.items; spelling = r.spelling.items } };
+    ghost view = { λ r. record { keys = r.keys.items; spelling = spelled_in r.spelling } };
 }
 
 /// A copy of a type with a value.
@@ -137,22 +168,32 @@ fn copy_written(alloc: Global, written: &TypeAndValue) -> Result<TypeAndValue, A
     })
 }
 
-/// A copy of types with values.
-fn copy_spelling(alloc: Global, spelling: &[TypeAndValue]) -> Result<Vec<TypeAndValue>, AllocError>
-    ensures { IfOk result (λ v. v.items ≡ spelling.now) }
+/// A copy of a list of types with values.
+fn copy_list(alloc: Global, list: &[TypeAndValue]) -> Result<Vec<TypeAndValue>, AllocError>
+    ensures { IfOk result (λ v. v.items ≡ list.now) }
 {
-    let mut copy = Vec::with_capacity(alloc, spelling.len())?;
-    for written in spelling {
+    let mut copy = Vec::with_capacity(alloc, list.len())?;
+    for written in list {
         copy.push(copy_written(alloc, written)?)?;
     }
     Ok(copy)
 }
 
+/// A copy of types with values.
+fn copy_spelling(alloc: Global, spelling: &Spelling) -> Result<Spelling, AllocError>
+    ensures { IfOk result (λ s. spelled_in s ≡ spelled_in spelling.now) }
+{
+    match spelling {
+        Spelling::One(only) => Ok(Spelling::One(copy_written(alloc, only)?)),
+        Spelling::Many(list) => Ok(Spelling::Many(copy_list(alloc, list)?)),
+    }
+}
+
 /// A copy of types with keys.
-fn copy_keys(alloc: Global, keys: &[TypeAndKey]) -> Result<Vec<TypeAndKey>, AllocError>
+fn copy_keys(alloc: Global, keys: &[TypeAndKey]) -> Result<SmallVec<TypeAndKey, 1>, AllocError>
     ensures { IfOk result (λ v. v.items ≡ keys.now) }
 {
-    let mut copy = Vec::with_capacity(alloc, keys.len())?;
+    let mut copy = SmallVec::with_capacity(alloc, keys.len())?;
     for key in keys {
         copy.push(TypeAndKey {
             type_id: key.type_id,
@@ -179,8 +220,8 @@ impl Rdn {
         ensures { IfOk result (λ r. r ≡ self.now) }
     {
         Ok(Rdn {
-            keys: SmallVec::from_vec(copy_keys(alloc, self.keys.as_slice())?),
-            spelling: copy_spelling(alloc, self.spelling.as_slice())?,
+            keys: copy_keys(alloc, self.keys.as_slice())?,
+            spelling: copy_spelling(alloc, &self.spelling)?,
         })
     }
 

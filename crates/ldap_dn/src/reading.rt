@@ -1,20 +1,35 @@
 // Tokens read as names. Tokens and a schema flow in, relative names flow out.
 // What must not be here: octets of a text, comparisons.
 
-ghost use Rattle.std.specs.Prelude.{◌≡◌, ◌≤◌, [], map, length, position, slice_get, None, Some, string_bytes, IfOk, OnOk, IsErrOf};
+ghost use Rattle.std.specs.Prelude.{◌≡◌, ◌≤◌, [], map, not, length, position, slice_get, None, Some, string_bytes, IfOk, OnOk, IsErrOf};
 ghost use Rattle.std.specs.List.{list_all};
 ghost use Rattle.ldap_dn.specs.Tokens.{octet_of as octet_of_token, is_plain as is_plain_token, is_unescaped as is_unescaped_token, is_space as is_space_token};
+ghost use Rattle.ldap_dn.specs.Spellings.{spelled_in};
 ghost use Rattle.ldap_dn.specs.Texts as texts;
 
 use crate::cutting::{is_plain, is_space, is_unescaped, octet_of, pieces, trimmed};
 use crate::fault::NameError;
-use crate::rdn::{Rdn, TypeAndKey, TypeAndValue, written_of};
+use crate::rdn::{Rdn, Spelling, TypeAndKey, TypeAndValue, written_of};
 use crate::token::Token;
 use crate::value_keys::key;
 use ldap_schema::{Family, Rule, Schema, TypeId, equality_rule};
 use ldap_syntax::{Key, ValueError};
 use smallvec::SmallVec;
 use std::alloc::{AllocError, Global};
+
+/// So many octets of a description need no memory of their own.
+const ROOM: usize = 32;
+
+/// The octets of a description, whose tokens these are.
+fn description_of(alloc: Global, tokens: &[Token]) -> Result<SmallVec<u8, ROOM>, AllocError>
+    ensures { IfOk result (λ v. v.items ≡ map octet_of_token tokens.now) }
+{
+    let mut description = SmallVec::with_capacity(alloc, tokens.len())?;
+    for token in tokens {
+        description.push(octet_of(*token))?;
+    }
+    Ok(description)
+}
 
 /// The octets of the tokens.
 fn octets(alloc: Global, tokens: &[Token]) -> Result<Vec<u8>, AllocError>
@@ -38,7 +53,7 @@ fn type_of(alloc: Global, schema: &Schema, tokens: &[Token]) -> Result<TypeId, N
     if !are_unescaped(tokens) {
         return Err(NameError::BadName);
     }
-    let description = octets(alloc, tokens)?;
+    let description = description_of(alloc, tokens)?;
     match schema.find_octets(description.as_slice()) {
         Some(type_id) => Ok(type_id),
         None => Err(NameError::BadName),
@@ -137,13 +152,24 @@ fn written_in(
     Ok(list)
 }
 
+/// Whether no unescaped `+` parts the tokens.
+fn is_unparted(tokens: &[Token]) -> bool
+    ensures { result ≡ list_all (λ t. not (is_plain_token 43 t)) tokens.now }
+{
+    tokens.iter().all(|token| !is_plain(b'+', *token))
+}
+
 /// The types and values that the tokens spell, in their order.
-fn written(alloc: Global, schema: &Schema, tokens: &[Token]) -> Result<Vec<TypeAndValue>, NameError>
-    ensures found { IfOk result (λ v. texts.written_of schema.now tokens.now ≡ Some v.items) }
+#[tactic(auto, using(crate::proofs::Unparted::unparted))]
+fn written(alloc: Global, schema: &Schema, tokens: &[Token]) -> Result<Spelling, NameError>
+    ensures found { IfOk result (λ v. texts.written_of schema.now tokens.now ≡ Some (spelled_in v)) }
     ensures refused { IsErrOf result NameError.BadName → texts.written_of schema.now tokens.now ≡ None }
 {
+    if is_unparted(tokens) {
+        return Ok(Spelling::One(type_and_value(alloc, schema, tokens)?));
+    }
     let pieces = pieces(alloc, tokens, b'+')?;
-    written_in(alloc, schema, pieces.as_slice())
+    Ok(Spelling::Many(written_in(alloc, schema, pieces.as_slice())?))
 }
 
 /// The key of a value that means something under the rule.
@@ -209,7 +235,7 @@ fn is_of_type(type_id: TypeId, keys: &[TypeAndKey], at: usize) -> bool
 }
 
 /// Puts a type in its place in the rising order.
-fn place(keys: &mut Vec<TypeAndKey>, key: TypeAndKey) -> Result<(), NameError>
+fn place(keys: &mut SmallVec<TypeAndKey, 1>, key: TypeAndKey) -> Result<(), NameError>
     ensures placed { OnOk result (texts.placed key keys.old.items ≡ Some keys.new.items) }
     ensures refused { IsErrOf result NameError.BadName → texts.placed key keys.old.items ≡ None }
 {
@@ -226,11 +252,11 @@ fn keys_of(
     alloc: Global,
     schema: &Schema,
     written: &[TypeAndValue],
-) -> Result<Vec<TypeAndKey>, NameError>
+) -> Result<SmallVec<TypeAndKey, 1>, NameError>
     ensures found { IfOk result (λ v. texts.keys_from schema.now [] written.now ≡ Some v.items) }
     ensures refused { IsErrOf result NameError.BadName → texts.keys_from schema.now [] written.now ≡ None }
 {
-    let mut keys = Vec::with_capacity(alloc, written.len())?;
+    let mut keys = SmallVec::with_capacity(alloc, written.len())?;
     for one in written {
         place(&mut keys, type_and_key(alloc, schema, one)?)?;
     }
@@ -244,10 +270,7 @@ fn rdn(alloc: Global, schema: &Schema, tokens: &[Token]) -> Result<Rdn, NameErro
 {
     let spelling = written(alloc, schema, tokens)?;
     let keys = keys_of(alloc, schema, spelling.as_slice())?;
-    Ok(Rdn {
-        keys: SmallVec::from_vec(keys),
-        spelling,
-    })
+    Ok(Rdn { keys, spelling })
 }
 
 /// The relative names that the pieces spell, in their order.

@@ -70,7 +70,7 @@ pub fn tokens(alloc: Global, text: &[u8]) -> Result<Vec<Token>, NameError>
     ensures found { IfOk result (λ v. tokens_of text.now ≡ Some v.items) }
     ensures refused { IsErrOf result NameError.BadName → tokens_of text.now ≡ None }
 {
-    let mut tokens = Vec::new(alloc);
+    let mut tokens = Vec::with_capacity(alloc, text.len())?;
     let mut scan = Scan::Between;
     for octet in text {
         match step(scan, *octet) {

@@ -1,5 +1,5 @@
 use Rattle.std.proofs.Common.{◌≡◌, ◌++◌, drop}
-use Rattle.ldap_dn.proofs.rdn.copy_spelling.Given as goal
+use Rattle.ldap_dn.proofs.rdn.copy_list.Given as goal
 
 abbrev pub invariant-loop-written : goal.invariant-loop-written
-invariant-loop-written l = l.copy.items ++ drop l.written-index l.spelling ≡ l.spelling
+invariant-loop-written l = l.copy.items ++ drop l.written-index l.list ≡ l.list
