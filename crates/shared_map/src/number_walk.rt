@@ -73,6 +73,11 @@ impl<'a> NumberWalk<'a> {
         self.first
     }
 
+    /// The set that it goes over.
+    pub fn set(&self) -> &'a NumberSet {
+        self.set
+    }
+
     // Goes on behind the number that is at hand.
     fn advance(&mut self, number: u64)
         requires { slice_get self.old 0 ≡ Some number }
