@@ -1,10 +1,12 @@
 // An entry: a list of attributes. Attributes flow in and out.
 // What must not be here: the entry's name and number.
 
-ghost use Rattle.std.specs.Prelude.{◌≡◌, ◌++◌, ◌∷◌, [], map, nat_eq, true, Ok, IfOk, IfErr, OnOk, OnErr};
+ghost use Rattle.std.specs.Prelude.{◌≡◌, ◌<◌, ◌++◌, ◌∷◌, [], length, map, nat_eq, slice_get, true, Ok, Some, IfOk, IfErr, OnOk, OnErr};
 ghost use Rattle.std.specs.List.{list_any};
+ghost use Rattle.std.specs.Option.{option_map};
 ghost use Rattle.ldap_match.specs.Keyed.{AreKeysOf};
 ghost use Rattle.dir_entry.specs.Entry.{attributes_of, shown, IsKeyedBy, are_in_syntax};
+ghost use Rattle.dir_entry.specs.private.Types.{AreTypesOf};
 ghost use Rattle.dir_entry.specs.Adding.{has_type as has_attribute_of_type, with_attribute, IsInvalid, Refuses};
 
 use crate::attribute::Attribute;
@@ -13,16 +15,27 @@ use ldap_match::{Schema, TypeId, ValueError};
 use std::alloc::{AllocError, Global};
 use std::marker::Model;
 
+/// The types of so many attributes stand together.
+const TOGETHER: usize = 12;
+
+/// Stands for a type whose number is this or a greater one, and where there is no attribute.
+const UNTOLD: u16 = u16::MAX;
+
 /// The attributes of an entry, in order (RFC 4512 2.2), with the keys of their values, so that evaluating a filter takes no
 /// memory.
 pub struct Entry {
+    /// The types of the first attributes, so that whoever looks for one need not read each where it stands.
+    types: [u16; TOGETHER],
     attributes: Vec<Attribute>,
 }
 
 // Not derived: see "What the gate takes" in docs/ARCHITECTURE.md.
 impl Drop for Entry {
     fn drop(self) {
-        let Entry { attributes: _ } = self;
+        let Entry {
+            types: _,
+            attributes: _,
+        } = self;
     }
 }
 
@@ -33,6 +46,10 @@ impl Model for Entry {
     ghost Value = { List KeyedAttribute };
 
     ghost view = { λ e. e.attributes.items };
+
+    ghost use Rattle.dir_entry.specs.private.Types.{AreTypesOf};
+
+    ghost invariant = { λ e. AreTypesOf e.types e.attributes.items };
 }
 
 /// Whether there is an attribute of the type.
@@ -41,6 +58,30 @@ pub fn has_type(attributes: &[Attribute], type_id: TypeId) -> bool
     ensures { result ≡ has_attribute_of_type type_id (attributes_of attributes.now) }
 {
     is_of_type(attributes, type_id)
+}
+
+/// The number of a type, where it is small.
+fn told(type_id: TypeId) -> u16
+    ensures { result < 65535 → result ≡ type_id }
+{
+    if type_id.number() < UNTOLD as usize {
+        type_id.number() as u16
+    } else {
+        UNTOLD
+    }
+}
+
+/// The types of the first attributes.
+fn types_of(attributes: &[Attribute]) -> [u16; TOGETHER]
+    ensures { AreTypesOf result attributes.now }
+{
+    let mut types = [UNTOLD; TOGETHER];
+    for i in 0..TOGETHER {
+        if i < attributes.len() {
+            types[i] = told(attributes[i].type_id());
+        }
+    }
+    types
 }
 
 /// Whether one of the attributes is of the type.
@@ -111,6 +152,7 @@ impl Entry {
         ensures { result ≡ [] }
     {
         Entry {
+            types: [UNTOLD; TOGETHER],
             attributes: Vec::new(alloc),
         }
     }
@@ -119,7 +161,8 @@ impl Entry {
     pub fn from_attributes(attributes: Vec<Attribute>) -> Entry
         ensures { result ≡ attributes.items }
     {
-        Entry { attributes }
+        let types = types_of(&attributes);
+        Entry { types, attributes }
     }
 
     /// Adds an attribute at the end, if its values are in the type's syntax, no two are equivalent, and the type isn't there
@@ -140,6 +183,7 @@ impl Entry {
     {
         let attribute = new_attribute(alloc, schema, self.attributes.as_slice(), type_id, values)?;
         self.attributes.push(attribute)?;
+        self.types = types_of(&self.attributes);
         Ok(())
     }
 
@@ -155,6 +199,7 @@ impl Entry {
         ensures { IfOk result (λ e. e ≡ self.now) }
     {
         Ok(Entry {
+            types: self.types,
             attributes: copy_attributes(alloc, self.attributes.as_slice())?,
         })
     }
@@ -166,11 +211,25 @@ impl Entry {
         self.attributes.as_slice()
     }
 
+    /// The type of the attribute at a place.
+    pub fn type_at(&self, place: usize) -> TypeId
+        requires { place < length self.now }
+        ensures { option_map (λ a. a.kind) (slice_get self.now place) ≡ Some result }
+    {
+        match self.types.get(place) {
+            Some(told) if *told < UNTOLD => TypeId::new(*told as usize),
+            _ => self.attributes[place].type_id(),
+        }
+    }
+
     /// The attributes in order, out of the entry.
     pub fn into_attributes(self) -> Vec<Attribute>
         ensures { result.items ≡ self }
     {
-        let Entry { attributes } = self;
+        let Entry {
+            types: _,
+            attributes,
+        } = self;
         attributes
     }
 }

@@ -1,6 +1,6 @@
 -- The leaves of an item against the item on the attributes under its type. Facts on lists flow in and out; no value of the
 -- program is here.
-use Rattle.std.proofs.Common.{ℕ, ◌+◌, ◌<◌, ◌≤◌, zero, suc, List, [], ◌∷◌, Bool, true, false, cond, ◌||◌, Option, Some, Vec, Global, ◌≡◌, ◌≢◌, refl, ap, ap₂, sym, subst, ◌∙◌, map, length, nat_eq, nat_lt, arith}
+use Rattle.std.proofs.Common.{ℕ, ◌+◌, ◌<◌, ◌≤◌, zero, suc, List, [], ◌∷◌, Bool, true, false, cond, ◌||◌, Option, Some, Vec, Global, ◌≡◌, ◌≢◌, refl, ap, ap₂, sym, subst, ◌∙◌, map, drop, length, slice_get, nat_eq, nat_lt, arith}
 use Rattle.std.specs.List.{list_any, position_from}
 use Rattle.std.proofs.lemmas.Option.{slice_get_past}
 use Rattle.std.proofs.lemmas.Bool.Decides.{nat_tests}
@@ -20,7 +20,7 @@ use Rattle.ldap_eval.specs.declared.bound.BoundFilter.TheVariants as bound
 use Rattle.ldap_eval.specs.declared.bound.BoundFilter.TheVariants.{rolls-Leaf, rolls-Or, rolls-Undefined}
 use Rattle.ldap_eval.specs.declared.bound.BoundFilter.TheOpen.{BoundFilter-F}
 use Rattle.ldap_eval.specs.declared.bound.BoundFilter.TheFolds.{fold-roll-BoundFilter}
-use Rattle.ldap_eval.proofs.Truths.{or_false, or_swap}
+use Rattle.ldap_eval.proofs.Truths.{or_assoc, or_false, or_swap}
 
 pub value-Leaf : (n : List RdnModel) (e : List KeyedAttribute) (leaf : Leaf) → bound_value n e (bound.Leaf leaf) ≡ leaf_value e leaf
 value-Leaf n e leaf = ap (bound_value n e) (sym (rolls-Leaf leaf)) ∙ fold-roll-BoundFilter Truth (value_step n e) (BoundFilter-F.Leaf leaf)
@@ -186,3 +186,20 @@ module _ (s : SchemaModel) (item : Item) (t : ℕ) where
       one_more a e s.types 0
       ∙ ap₂ truth_or (leaves_on_is a lt) (leaves_are_item e lt law k.1)
       ∙ if_under (is_under s a.kind t) a False (attributes_under s t (attributes_of e)) (law a.kind a.values a.keys k.0)
+
+-- the attribute at a place, and those behind it
+step : (leaf : Leaf) (e : List KeyedAttribute) (p : ℕ) (r : Truth) → p < length e → ((a : KeyedAttribute) → slice_get e p ≡ Some a → r ≡ leaf_on leaf a) →
+    disjunction (map (leaf_on leaf) (drop p e)) ≡ truth_or r (disjunction (map (leaf_on leaf) (drop (suc p) e)))
+step leaf [] p r h f = Prim.grind (arith)
+step leaf (a ∷ e) zero r h f = ap (λ (x : Truth). truth_or x (disjunction (map (leaf_on leaf) e))) (sym (f a refl))
+step leaf (a ∷ e) (suc p) r h f = step leaf e p r (Prim.grind (arith)) f
+
+-- the same with those before it
+pub leaf_more : (leaf : Leaf) (e : List KeyedAttribute) (p : ℕ) (t r : Truth) → p < length e → ((a : KeyedAttribute) → slice_get e p ≡ Some a → r ≡ leaf_on leaf a) →
+    truth_or t (disjunction (map (leaf_on leaf) (drop p e))) ≡ truth_or (truth_or t r) (disjunction (map (leaf_on leaf) (drop (p + 1) e)))
+leaf_more leaf e p t r h f =
+    subst (λ (q : ℕ). truth_or t (disjunction (map (leaf_on leaf) (drop p e))) ≡ truth_or (truth_or t r) (disjunction (map (leaf_on leaf) (drop q e)))) behind
+    (ap (truth_or t) (step leaf e p r h f) ∙ sym (or_assoc t r (disjunction (map (leaf_on leaf) (drop (suc p) e)))))
+  where
+    behind : suc p ≡ p + 1
+    behind = Prim.grind (arith)

@@ -1,9 +1,8 @@
 -- What binding makes of a filter, arm by arm. Facts on trees and lists flow in and out; no value of the program is here.
 use Rattle.std.proofs.Common.{ℕ, ◌+◌, ◌<◌, List, [], ◌∷◌, ◌++◌, Bool, true, false, Option, Some, None, Vec, Box, Global, ◌≡◌, refl, ap, sym, subst, ◌∙◌, length, take, get_or}
 use Rattle.std.proofs.lemmas.List.{take_more}
-use Rattle.ldap_filter.specs.Item as filter_item
 use Rattle.ldap_filter.specs.Item.{ExtensibleValue}
-use Rattle.ldap_filter.specs.Tree.{Tree, conj, disj, negation, item}
+use Rattle.ldap_filter.specs.Tree.{Tree, conj, disj, negation}
 use Rattle.ldap_filter.specs.View.{view, view_step}
 use Rattle.ldap_filter.specs.private.View.{views}
 use Rattle.ldap_filter.specs.declared.tree.Filter.{Filter}

@@ -1,11 +1,11 @@
 // The value of a bound filter. A bound filter, an entry and its name flow in, a truth flows out; no memory is taken.
 // What must not be here: schemas, descriptions, syntaxes.
 
-ghost use Rattle.std.specs.Prelude.{◌≡◌, map, Some, slice_get};
+ghost use Rattle.std.specs.Prelude.{◌≡◌, ◌<◌, length, map, Some, slice_get};
 ghost use Rattle.dir_entry.specs.ldap_schema.Schema.{SchemaModel};
 ghost use Rattle.dir_entry.specs.ldap_match.Truth.{conjunction, disjunction};
 ghost use Rattle.ldap_filter.specs.Tree.{Tree};
-ghost use Rattle.dir_entry.specs.Entry.{attributes_of, IsKeyedBy};
+ghost use Rattle.dir_entry.specs.Entry.{KeyedAttribute, attributes_of, IsKeyedBy};
 ghost use Rattle.ldap_eval.specs.Value.{filter_value};
 ghost use Rattle.ldap_eval.specs.Bound.{bound_value, leaf_value as value_of_leaf, leaf_on as leaf_on_attribute, match_on as match_on_attribute, match_on_name_pair, match_of_entry, IsBoundTo};
 ghost use Rattle.dir_entry.specs.ldap_dn.Names.{RdnModel};
@@ -164,15 +164,9 @@ fn match_on_written(matching: &Match, rdn: &Rdn, written: &TypeAndValue) -> Trut
 fn leaf_truth(leaf: &Leaf, entry: &Entry) -> Truth
     ensures { result ≡ value_of_leaf entry.now leaf.now }
 {
-    any_of(leaf, entry.attributes())
-}
-
-fn any_of(leaf: &Leaf, attributes: &[Attribute]) -> Truth
-    ensures { result ≡ value_of_leaf attributes.now leaf.now }
-{
     let mut truth = Truth::False;
-    for attribute in attributes {
-        truth = truth.or(leaf_on(leaf, attribute));
+    for place in 0..entry.attributes().len() {
+        truth = truth.or(leaf_at(leaf, entry, place));
         if truth == Truth::True {
             return truth;
         }
@@ -180,12 +174,13 @@ fn any_of(leaf: &Leaf, attributes: &[Attribute]) -> Truth
     truth
 }
 
-/// The leaf on one attribute: its test, where the attribute is of its type.
-fn leaf_on(leaf: &Leaf, attribute: &Attribute) -> Truth
-    ensures { result ≡ leaf_on_attribute leaf.now attribute.now }
+/// The leaf on the attribute at a place: its test, where the attribute is of its type. The others aren't read.
+fn leaf_at(leaf: &Leaf, entry: &Entry, place: usize) -> Truth
+    requires { place < length entry.now }
+    ensures { (a : KeyedAttribute) → slice_get entry.now place ≡ Some a → result ≡ leaf_on_attribute leaf.now a }
 {
-    if attribute.type_id() == leaf.type_id {
-        item_on_attribute(&leaf.test, attribute.keys())
+    if entry.type_at(place) == leaf.type_id {
+        item_on_attribute(&leaf.test, entry.attributes()[place].keys())
     } else {
         Truth::False
     }

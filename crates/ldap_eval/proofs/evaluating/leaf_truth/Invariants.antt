@@ -1,7 +1,7 @@
 use Rattle.std.proofs.Common.{◌≡◌, drop, map}
 use Rattle.dir_entry.specs.ldap_match.Truth.{truth_or, disjunction}
 use Rattle.ldap_eval.specs.Bound.{leaf_on}
-use Rattle.ldap_eval.proofs.evaluating.any_of.Given as goal
+use Rattle.ldap_eval.proofs.evaluating.leaf_truth.Given as goal
 
-abbrev pub invariant-loop-attribute : goal.invariant-loop-attribute
-invariant-loop-attribute l = truth_or l.truth (disjunction (map (leaf_on l.leaf) (drop l.attribute-index l.attributes))) ≡ disjunction (map (leaf_on l.leaf) l.attributes)
+abbrev pub invariant-loop-place : goal.invariant-loop-place
+invariant-loop-place l = truth_or l.truth (disjunction (map (leaf_on l.leaf) (drop l.place l.entry))) ≡ disjunction (map (leaf_on l.leaf) l.entry)
