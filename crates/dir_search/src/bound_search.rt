@@ -21,11 +21,13 @@ ghost use Rattle.dir_search.specs.Scopes.{is_right_under, is_in_scope};
 ghost use Rattle.dir_search.specs.private.View.{shows_of};
 ghost use Rattle.std.specs.Arc.{arc_value};
 
+use crate::asked_types::types_asked;
 use crate::scoping::{is_unnamed, numbers_right_under, numbers_within};
 use crate::showing::show_found;
 use crate::values::Evaluated;
 use indexed_tree::{
-    IndexedTree, NumberSet, Rdn, Schema, Scope, SearchAnswer, SearchRequest, Shows, Wanted,
+    IndexedTree, NumberSet, Rdn, Schema, Scope, SearchAnswer, SearchRequest, Shows, TypesAhead,
+    Wanted,
 };
 use ldap_eval::BoundFilter;
 use search_plans::{Scope as NumberScope, Sided, compile, sets_are_of_entries, start};
@@ -94,7 +96,7 @@ impl BoundSearch<'_> {
         tree.is_directory();
         let sided = guide(self.alloc, self.indexed, self.bound)?;
         let values = Evaluated {
-            visit: tree.visit(Wanted::Keys),
+            visit: tree.visit(Wanted::Keys(types_asked(self.bound, TypesAhead::new()))),
             bound: self.bound,
             looks: 0,
         };

@@ -12,6 +12,7 @@
 //! `tests`, `few`). A compare is its definition (`compare`).
 #![tactic(auto)]
 
+mod asked_types;
 mod bound_search;
 mod comparing;
 mod entry_reader;

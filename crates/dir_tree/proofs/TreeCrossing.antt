@@ -50,10 +50,10 @@ below_sync : IsSync Below.the_field.row
 below_sync = search (digested_send, digested_sync, map_crosses, crosses, sendable) depth 60 fits 20000
 
 suffix_send : IsSend Suffix.the_field.row
-suffix_send = search (name_send, name_sync, map_crosses, crosses, sendable) depth 60 fits 20000
+suffix_send = search (name_send, name_sync, entry_crosses, map_crosses, crosses, sendable) depth 60 fits 20000
 
 suffix_sync : IsSync Suffix.the_field.row
-suffix_sync = search (name_send, name_sync, map_crosses, crosses, sendable) depth 60 fits 20000
+suffix_sync = search (name_send, name_sync, entry_crosses, map_crosses, crosses, sendable) depth 60 fits 20000
 
 roots_send : IsSend Roots.the_field.row
 roots_send = search (rdn_send, rdn_sync, standing_send, standing_sync, below_send, below_sync, suffix_send, suffix_sync, map_crosses, crosses, sendable) depth 60 fits 20000

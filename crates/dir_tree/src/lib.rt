@@ -42,7 +42,7 @@ pub use dir_entry::{
     Shared, Truth, TypeAndValue, TypeId, are_same, copy_values, is_of_syntax, number_of_digits,
     print_before, print_behind, print_from_leaf,
 };
-pub use reading_ahead::Wanted;
+pub use reading_ahead::{TypesAhead, Wanted};
 pub use shared::SharedEntry;
 pub use tree::Tree;
 pub use visit::Visit;

@@ -3,10 +3,14 @@
 // are read ahead (`reading_ahead`).
 // Which numbers are asked about is not here.
 
-ghost use Rattle.std.specs.Prelude.{◌≡◌, ◌++◌, ◌∷◌, [], IfSome, Some, is_some, option_copied, true};
+ghost use Rattle.std.specs.Prelude.{◌≡◌, ◌++◌, ◌∷◌, [], ℕ, List, IfSome, Some, is_some, option_copied, true};
+ghost use Rattle.std.specs.Ordering.{nat_cmp};
+ghost use Rattle.std.specs.Map.{lookup};
+ghost use Rattle.std.specs.BTreeMap.{is_at};
 ghost use Rattle.std.specs.Option.{option_map};
 ghost use Rattle.dir_tree.specs.Directory.{entry_at};
-ghost use Rattle.dir_tree.specs.private.Visits.{IsVisit};
+ghost use Rattle.dir_tree.specs.private.Visits.{IsVisit, IsRow, HasRow};
+ghost use Rattle.dir_tree.specs.declared.place.Standing.{Standing};
 ghost use Rattle.dir_tree.specs.declared.place.Place.TheVariants.{Under};
 
 use crate::place::{Entries, Place, Standing};
@@ -22,14 +26,36 @@ pub struct Visit<'a> {
     entries: Cursor<'a, u64, Standing>,
     wanted: Wanted,
     ahead: Cursor<'a, u64, Standing>,
+    /// What was read ahead last.
+    row: Option<Row<'a>>,
     /// The number behind those that were asked about or read ahead.
     next: u64,
+    /// The number behind those whose leaves were read ahead.
+    leaves: u64,
     /// What was read ahead, added up: nobody asks for it, but without it the compiler would leave these reads out.
     read: u64,
 }
 
 /// So many entries are read ahead together where numbers follow one another.
-const TOGETHER: usize = 8;
+const TOGETHER: usize = 16;
+
+/// So many leaves are read ahead together, and so many numbers stand in one where they follow one another.
+const LEAVES: usize = 8;
+
+const IN_LEAF: u64 = 6;
+
+/// What stands at a number and at some behind it.
+struct Row<'a> {
+    from: u64,
+    found: [Option<&'a Standing>; TOGETHER],
+}
+
+// Not derived: see "What the gate takes" in docs/ARCHITECTURE.md.
+impl<'a> Drop for Row<'a> {
+    fn drop(self) {
+        let Row { from: _, found: _ } = self;
+    }
+}
 
 // Not derived: see "What the gate takes" in docs/ARCHITECTURE.md.
 impl<'a> Drop for Visit<'a> {
@@ -39,21 +65,24 @@ impl<'a> Drop for Visit<'a> {
             entries: _,
             wanted: _,
             ahead: _,
+            row: _,
             next: _,
+            leaves: _,
             read: _,
         } = self;
     }
 }
 
 impl<'a> Model for Visit<'a> {
+    ghost use Rattle.std.specs.Prelude.{◌≡◌};
     ghost use Rattle.dir_tree.specs.Directory.{TreeModel};
-    ghost use Rattle.dir_tree.specs.private.Visits.{IsVisit};
+    ghost use Rattle.dir_tree.specs.private.Visits.{IsVisit, HasRow};
 
     ghost Value = { TreeModel };
 
     ghost view = { λ v. v.tree.now };
 
-    ghost invariant = { λ v. IsVisit v.tree.now v.entries };
+    ghost invariant = { λ v. IsVisit v.tree.now v.entries × (v.ahead ≡ v.entries) × HasRow v.row v.entries };
 }
 
 /// The number right above a place, and the relative name below it.
@@ -77,17 +106,46 @@ fn superior_of(standing: Option<&Standing>) -> Option<(u64, &Rdn)>
 }
 
 /// What stands at a number and at some behind it.
-fn standing_from<'a>(
-    entries: &mut Cursor<'a, u64, Standing>,
-    number: u64,
-) -> [Option<&'a Standing>; TOGETHER]
-    ensures { entries.new ≡ entries.old }
+fn row_from<'a>(entries: &mut Cursor<'a, u64, Standing>, number: u64) -> Row<'a>
+    ensures same { entries.new ≡ entries.old }
+    ensures row { IsRow result entries.old }
 {
     let mut found = [None; TOGETHER];
     for i in 0..TOGETHER {
         found[i] = entries.get(&number.saturating_add(i as u64));
     }
-    found
+    Row {
+        from: number,
+        found,
+    }
+}
+
+/// What stands at a number, where a row reaches it.
+fn in_row<'a>(row: &Option<Row<'a>>, number: u64) -> Option<Option<&'a Standing>>
+    ensures { (es : List (ℕ × Standing)) → HasRow row.now es
+        → IfSome result (λ o. option_copied o ≡ lookup (is_at (nat_cmp number)) es) }
+{
+    match row {
+        Some(row) => {
+            if number < row.from || number - row.from >= TOGETHER as u64 {
+                return None;
+            }
+            let found = &row.found[..];
+            Some(found[(number - row.from) as usize])
+        }
+        None => None,
+    }
+}
+
+/// At how many numbers something stands.
+fn count_of(found: &[Option<&Standing>]) -> u64 {
+    let mut count = 0u64;
+    for one in found {
+        if one.is_some() {
+            count = count.wrapping_add(1);
+        }
+    }
+    count
 }
 
 impl<'a> Visit<'a> {
@@ -101,7 +159,9 @@ impl<'a> Visit<'a> {
             entries: Cursor::new(entries),
             wanted,
             ahead: Cursor::new(entries),
+            row: None,
             next: 0,
+            leaves: 0,
             read: 0,
         }
     }
@@ -119,9 +179,20 @@ impl<'a> Visit<'a> {
         ensures entry { option_map (λ e. e.now) result ≡ option_map (λ e. e.entry) (entry_at number self.old.entries) }
     {
         self.go_on_to(number);
-        match self.entries.get(&number) {
+        match self.standing(number) {
             Some(standing) => Some(&standing.entry),
             None => None,
+        }
+    }
+
+    // What stands at a number.
+    fn standing(&mut self, number: u64) -> Option<&'a Standing>
+        ensures same { self.new ≡ self.old }
+        ensures entry { option_map (λ s. s.entry) (option_copied result) ≡ option_map (λ e. e.entry) (entry_at number self.old.entries) }
+    {
+        match in_row(&self.row, number) {
+            Some(found) => found,
+            None => self.entries.get(&number),
         }
     }
 
@@ -145,9 +216,27 @@ impl<'a> Visit<'a> {
             self.next = number.saturating_add(1);
             return;
         }
-        let found = standing_from(&mut self.ahead, number);
-        self.read = self.read.wrapping_add(read_ahead(&found, self.wanted));
+        if number >= self.leaves {
+            self.expect_leaves(number);
+        }
+        let row = row_from(&mut self.ahead, number);
+        self.read = self.read.wrapping_add(read_ahead(&row.found, self.wanted));
+        self.row = Some(row);
         self.next = number.saturating_add(TOGETHER as u64);
+    }
+
+    // Looks up a number of each of the leaves that come next, all together.
+    fn expect_leaves(&mut self, number: u64)
+        ensures { self.new ≡ self.old }
+    {
+        let mut numbers = [number; LEAVES];
+        for i in 0..LEAVES {
+            numbers[i] = number.saturating_add(i as u64 * IN_LEAF);
+        }
+        if let Ok(found) = self.tree.standing_each(&numbers) {
+            self.read = self.read.wrapping_add(count_of(&found));
+        }
+        self.leaves = number.saturating_add(LEAVES as u64 * IN_LEAF);
     }
 
     /// The number of the entry right above a number's entry, and the relative name that the entry has below it; none, where it is the root's.

@@ -23,7 +23,7 @@ pub use directory::Directory;
 pub use found_entry::{
     AddRequest, Attribute, AttributeValueAssertion, CompareRequest, DerefAliases, FoundEntry,
     PartialAttribute, ResultCode, Scope, SearchRequest, SearchResultEntry, SharedEntry, Shows,
-    Tree, Visit, Wanted, read_ahead,
+    Tree, TypesAhead, Visit, Wanted, read_ahead,
 };
 pub use gate::{Ended, Gate, Role};
 pub use ldap_op::{Client, Op, Update};

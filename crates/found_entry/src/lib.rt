@@ -18,7 +18,7 @@ mod shown_attribute;
 mod shown_values;
 mod shows;
 
-pub use dir_tree::{SharedEntry, Tree, Visit, Wanted};
+pub use dir_tree::{SharedEntry, Tree, TypesAhead, Visit, Wanted};
 pub use found::FoundEntry;
 pub use ldap_msg::{
     AddRequest, Attribute, AttributeValueAssertion, CompareRequest, DerefAliases, PartialAttribute,

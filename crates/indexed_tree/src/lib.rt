@@ -25,8 +25,8 @@ pub use dir_index::{
 pub use directory_api::{
     AddRequest, AttributeValueAssertion, Client, CompareRequest, DerefAliases, Directory, Ended,
     Found, FoundEntry, Gate, Look, LookError, Op, PartialAttribute, Reply, ResultCode, Role, Scope,
-    SearchAnswer, SearchRequest, SearchResultEntry, SharedEntry, Shows, Tree, Update, Visit,
-    Wanted,
+    SearchAnswer, SearchRequest, SearchResultEntry, SharedEntry, Shows, Tree, TypesAhead, Update,
+    Visit, Wanted,
 };
 pub use finding::{entry_of, is_front, is_same, is_taken, not_found, standing};
 pub use held::Standing;
