@@ -110,8 +110,8 @@ fn sides(
 ) -> Result<(Vec<Plan>, Vec<Plan>), AllocError>
     ensures { IfOk result (λ x. EachSide indexes.now wanted filters.now x.0.items x.1.items) }
 {
-    let mut musts = Vec::new(alloc);
-    let mut mays = Vec::new(alloc);
+    let mut musts = Vec::with_capacity(alloc, filters.len())?;
+    let mut mays = Vec::with_capacity(alloc, filters.len())?;
     for filter in filters {
         let sided = side(alloc, filter, wanted, indexes)?;
         musts.push(sided.must)?;

@@ -14,7 +14,7 @@
 //!
 //! A run (`running`) looks up the posting lists of both plans when it starts, and not again for each candidate (`resolved`). Since candidates
 //! rise, it asks each list by a walk that only goes forward (`probing`). It leaves out what isn't in scope, gives what must be, and asks
-//! `Values` about the rest (`telling`).
+//! `Values` about the rest (`telling`). The lists that an intersection goes over are read ahead (`reading_ahead`).
 //! Where both plans are one `or` of posting lists, all lists are looked up together, once, and nothing is asked (`listing`); the entries that
 //! come first are told beforehand (`Values::expect`).
 //!
@@ -36,6 +36,7 @@ mod listing;
 mod octet_runs;
 mod plan;
 mod probing;
+mod reading_ahead;
 mod resolved;
 mod running;
 mod scope;

@@ -37,6 +37,11 @@ impl<'a> Probe<'a> {
         }
     }
 
+    /// The set that is asked.
+    pub fn numbers(&self) -> &'a NumberSet {
+        self.walk.set()
+    }
+
     /// Whether a number is still to come. The walk goes forward to it, which costs less than a look-up where it is near.
     pub fn has(&mut self, number: u64) -> bool
         ensures found { result ≡ has_number number self.old }

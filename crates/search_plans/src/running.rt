@@ -6,6 +6,7 @@ ghost use Rattle.search_plans.specs.Runs.{AreGuides, left_open, true_set};
 
 use crate::gathering::{Drawn, draw_sided};
 use crate::plan::Sided;
+use crate::reading_ahead::read_lists;
 use crate::resolved::{ResolvedSides, resolve_sided};
 use crate::scope::Scope;
 use crate::stream::Stream;
@@ -26,6 +27,8 @@ pub struct Running<'a, K: Kept, V: Values> {
     stream: Stream<'a>,
     values: V,
     tests: u64,
+    /// What was read ahead: nobody asks for it, but without it the compiler would leave these reads out.
+    read: u64,
 }
 
 impl<'a, K: Kept, V: Values> Model for Running<'a, K, V> {
@@ -90,6 +93,7 @@ pub fn start<'a, K: Kept, V: Values + Drop>(
     let Drawn { stream, known } = drawn;
     expect_heads(alloc, known.is_sure, &stream, &mut values)?;
     let sides = resolve_sided(alloc, sided, kept, known.is_sure)?;
+    let read = read_lists(&sides.may);
     Ok(Running {
         sided,
         sides,
@@ -101,6 +105,7 @@ pub fn start<'a, K: Kept, V: Values + Drop>(
         stream,
         values,
         tests: 0,
+        read,
     })
 }
 
@@ -148,6 +153,7 @@ impl<'a, K: Kept, V: Values> Running<'a, K, V> {
             stream: _,
             values,
             tests: _,
+            read: _,
         } = self;
         values
     }

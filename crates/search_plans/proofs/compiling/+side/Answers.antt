@@ -29,7 +29,7 @@ side-returns-in-Not t c =
     if_ok_weaker _ _ (λ s h. side_of_not c.args.indexes.now c.args.wanted c.args.filter.now c.in-Not.inner s.must s.may c.in-Not.is h) c.side.result found
 
 pub sides-loop-filter-init : goal.sides-loop-filter-init
-sides-loop-filter-init t c = rw (c.new-musts.ensures.items, c.new-mays.ensures.items) none
+sides-loop-filter-init t c = rw (c.in_ok-musts.ensures.items, c.in_ok-mays.ensures.items) none
 
 pub sides-loop-filter-preserved : goal.sides-loop-filter-preserved
 sides-loop-filter-preserved t c =
