@@ -1,7 +1,8 @@
 // Posting lists that are asked about rising numbers. A set goes in, and whether a number is in it comes out, without memory.
 // What must not be here: plans, and what a yes or no is used for.
 
-ghost use Rattle.std.specs.Prelude.{◌≡◌};
+ghost use Rattle.std.specs.Prelude.{◌≡◌, slice_get};
+ghost use Rattle.dir_index.specs.shared_map.Ahead.{ahead};
 ghost use Rattle.dir_index.specs.Postings.{has_number};
 ghost use Rattle.search_plans.specs.private.Sets.{AreSameFrom};
 
@@ -37,8 +38,10 @@ impl<'a> Probe<'a> {
         }
     }
 
-    /// The set that is asked.
-    pub fn numbers(&self) -> &'a NumberSet {
+    /// The set that is asked: the first number that is still to come, and those above it in the set, are what is still to come.
+    pub fn numbers(&self) -> &'a NumberSet
+        ensures { self.now ≡ ahead result.now (slice_get self.now 0) }
+    {
         self.walk.set()
     }
 

@@ -52,23 +52,17 @@ impl<'a, K: Kept, V: Values> Model for Running<'a, K, V> {
         (is_in (K.lists r.criteria.kept.now) r.criteria.scope.now r.sided.now.may) r.criteria.scope.now r.stream };
 }
 
-/// Where it is known that all that is drawn will be found, tells of the numbers that come next in several walks.
-fn expect_heads<V: Values>(
-    alloc: Global,
-    is_sure: bool,
-    stream: &Stream,
-    values: &mut V,
-) -> Result<(), AllocError>
+/// Where it is known that all that is drawn will be found, tells of the numbers that come next in several walks; not where a list of them
+/// finds no memory.
+fn expect_heads<V: Values>(alloc: Global, is_sure: bool, stream: &Stream, values: &mut V)
     ensures { values.new ≡ values.old }
 {
-    if !is_sure {
-        return Ok(());
+    if !is_sure || !stream.is_of_several() {
+        return;
     }
-    let heads = stream.heads(alloc)?;
-    if heads.len() > 1 {
+    if let Ok(heads) = stream.heads(alloc) {
         values.expect(&heads);
     }
-    Ok(())
 }
 
 /// Starts a run of two plans that bound the entries whose value is True, within a scope. It looks up the posting lists that the
@@ -91,7 +85,7 @@ pub fn start<'a, K: Kept, V: Values + Drop>(
     let mut values = values;
     let drawn = draw_sided(alloc, sided, kept, scope)?;
     let Drawn { stream, known } = drawn;
-    expect_heads(alloc, known.is_sure, &stream, &mut values)?;
+    expect_heads(alloc, known.is_sure, &stream, &mut values);
     let sides = resolve_sided(alloc, sided, kept, known.is_sure)?;
     let read = read_lists(&sides.may);
     Ok(Running {

@@ -74,6 +74,11 @@ impl<'a> Stream<'a> {
         Stream { walks }
     }
 
+    /// Whether there are several walks.
+    pub(crate) fn is_of_several(&self) -> bool {
+        self.walks.len() > 1
+    }
+
     /// Numbers that come next, each in a walk of its own; of many walks, some.
     pub(crate) fn heads(&self, alloc: Global) -> Result<Vec<u64>, AllocError> {
         let count = self.walks.len().min(MOST_HEADS);

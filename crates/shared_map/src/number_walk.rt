@@ -2,6 +2,7 @@
 // In: a set, a number to go forward to. Out: its numbers, one a call, without memory.
 // Not here: how a set is kept.
 ghost use Rattle.std.specs.Prelude.{◌≡◌, ◌<◌, [], ◌∷◌, filter, nat_le, nat_lt, slice_get, MatchOption};
+ghost use Rattle.shared_map.specs.Ahead.{ahead};
 
 use crate::numbers::NumberSet;
 use std::marker::Model;
@@ -73,8 +74,10 @@ impl<'a> NumberWalk<'a> {
         self.first
     }
 
-    /// The set that it goes over.
-    pub fn set(&self) -> &'a NumberSet {
+    /// The set that it goes over: what is still to come is its next number, and those above that one in the set.
+    pub fn set(&self) -> &'a NumberSet
+        ensures { self.now ≡ ahead result.now (slice_get self.now 0) }
+    {
         self.set
     }
 
