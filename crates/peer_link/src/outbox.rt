@@ -76,6 +76,15 @@ impl<T> Outbox<T> {
         Some(held.queue.pop()?.into_item())
     }
 
+    /// The next item, where one waits; none, once it is stopped.
+    pub fn take_waiting<R: Wait>(&self, rt: &R) -> Option<T> {
+        let mut held = self.held.lock(rt);
+        if held.is_stopping {
+            return None;
+        }
+        Some(held.queue.pop()?.into_item())
+    }
+
     /// Waits for so long, or until it is stopped; whether it is.
     pub fn rest<R: Wait + Clock>(&self, rt: &R, time: Duration) -> bool {
         let (held, _) = self

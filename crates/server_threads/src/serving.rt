@@ -68,7 +68,7 @@ where
             let mut dialer = SocketDialer::new(self.rt, place.peer_address, limit);
             let (rt, alloc, cluster) = (self.rt, self.alloc, self.cluster);
             let mut frames = MessageFrames::new(rt, alloc, self.shared_parts, cluster, to);
-            send_all(self.rt, outbox, &mut frames, &mut dialer);
+            send_all(rt, alloc, outbox, &mut frames, &mut dialer);
         }
     }
 

@@ -128,7 +128,7 @@ fn a_closed_link_is_made_again(rt: HostRuntime) -> Result<(), Fail> {
         || and_stop(&rt, &outbox, take_two(&rt, rt.alloc(), &listener, &outbox)),
         || {
             let mut dialer = SocketDialer::new(&rt, Address::Numbers(at), Duration::from_secs(5));
-            send_all(&rt, &outbox, &mut AsTheyAre { next: None }, &mut dialer);
+            send_all(&rt, rt.alloc(), &outbox, &mut AsTheyAre { next: None }, &mut dialer);
         },
     );
     let (first, second) = taken?;
@@ -148,7 +148,7 @@ fn an_idle_link_that_was_closed_loses_no_frame(rt: HostRuntime) -> Result<(), Fa
         || and_stop(&rt, &outbox, take_late(&rt, rt.alloc(), &listener, &outbox)),
         || {
             let mut dialer = SocketDialer::new(&rt, Address::Numbers(at), Duration::from_secs(5));
-            send_all(&rt, &outbox, &mut AsTheyAre { next: None }, &mut dialer);
+            send_all(&rt, rt.alloc(), &outbox, &mut AsTheyAre { next: None }, &mut dialer);
         },
     );
     let (first, second) = taken?;
@@ -176,7 +176,7 @@ fn frames_end_with_their_stream(rt: HostRuntime) -> Result<(), Fail> {
     Ok(())
 }
 
-/// What was written, and a place that says so when the last octet has come.
+/// What was written, 255 behind each write, and a place that says so when the last octet has come.
 #[derive(Drop)]
 struct Paper<'a, R> {
     rt: &'a R,
@@ -189,6 +189,7 @@ struct Paper<'a, R> {
 impl<'a, R: Wait> Write for Paper<'a, R> {
     fn write(&mut self, octets: &[u8]) -> io::Result<usize> {
         self.written.lock(self.rt).extend_from_slice(octets)?;
+        self.written.lock(self.rt).push(255)?;
         if octets.last().copied() == Some(self.last) {
             self.whole.give(self.rt);
         }
@@ -260,7 +261,7 @@ impl<'a, R: Wait> Framing<u8> for InTwo<'a, R> {
 }
 
 #[test]
-fn items_become_frames_in_their_order_outside_the_lock(rt: HostRuntime) -> Result<(), Fail> {
+fn items_that_wait_become_frames_of_one_write_in_their_order_outside_the_lock(rt: HostRuntime) -> Result<(), Fail> {
     let outbox = Outbox::new(rt.alloc(), 8, 1000)?;
     let written = Mutex::new(Vec::new(rt.alloc()));
     let whole = Signal::new();
@@ -283,10 +284,10 @@ fn items_become_frames_in_their_order_outside_the_lock(rt: HostRuntime) -> Resul
                 outbox: &outbox,
                 left: [None, None],
             };
-            send_all(&rt, &outbox, &mut frames, &mut dialer);
+            send_all(&rt, rt.alloc(), &outbox, &mut frames, &mut dialer);
         },
     );
     assert!(rt; has_come);
-    assert!(rt; written.lock(&rt).as_slice() == &[200u8, 1, 101, 2, 102, 3, 103, 9, 109][..]);
+    assert!(rt; written.lock(&rt).as_slice() == &[200u8, 255, 1, 101, 2, 102, 3, 103, 9, 109, 255][..]);
     Ok(())
 }
