@@ -261,7 +261,7 @@ impl<'a, R: Wait> Framing<u8> for InTwo<'a, R> {
 }
 
 #[test]
-fn items_that_wait_become_frames_of_one_write_in_their_order_outside_the_lock(rt: HostRuntime) -> Result<(), Fail> {
+fn items_that_wait_go_out_in_one_write_outside_the_lock(rt: HostRuntime) -> Result<(), Fail> {
     let outbox = Outbox::new(rt.alloc(), 8, 1000)?;
     let written = Mutex::new(Vec::new(rt.alloc()));
     let whole = Signal::new();
