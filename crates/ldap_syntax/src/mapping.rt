@@ -8,27 +8,31 @@ ghost use Rattle.unicode_normalization.specs.Forms.{nfkc as nfkc_of};
 ghost use Rattle.ldap_syntax.specs.Text.{is_white as is_white_space, is_control as is_control_character, mapped_character as mapped_to, mapped as mapped_text, normal as normal_text, folded as folded_text};
 
 use caseless::Caseless;
+use smallvec::SmallVec;
 use std::alloc::{AllocError, Global};
 use unicode_normalization::slice;
 
 /// SPACE, which stands for all white space in a prepared text.
 pub const SPACE: char = ' ';
 
-/// Mapped and in form KC: the steps that every text takes. Takes one allocation for text of ASCII, which is in that form, and
-/// else two, each with its growths, and what puts marks in order.
-pub fn normal(alloc: Global, text: &str) -> Result<Vec<char>, AllocError>
+/// So many characters need no memory of their own.
+const ROOM: usize = 32;
+
+/// Mapped and in form KC: the steps that every text takes. Takes an allocation where it has more than `ROOM` octets, and where it
+/// isn't ASCII, which is in that form, one more with its growths, and what puts marks in order.
+pub fn normal(alloc: Global, text: &str) -> Result<SmallVec<char, ROOM>, AllocError>
     ensures { IfOk result (λ v. v.items ≡ normal_text (chars text.now)) }
 {
     let mapped = mapped(alloc, text)?;
     if text.is_ascii() {
         return Ok(mapped);
     }
-    nfkc(alloc, mapped.as_slice())
+    Ok(SmallVec::from_vec(nfkc(alloc, mapped.as_slice())?))
 }
 
-/// Mapped and in form KC, then case folded by full folding, and in form KC again. Takes one allocation for text of ASCII, and
-/// else four, each with its growths, and what puts marks in order.
-pub fn folded(alloc: Global, text: &str) -> Result<Vec<char>, AllocError>
+/// Mapped and in form KC, then case folded by full folding, and in form KC again. Takes an allocation where it has more than
+/// `ROOM` octets, and where it isn't ASCII, three more, each with its growths, and what puts marks in order.
+pub fn folded(alloc: Global, text: &str) -> Result<SmallVec<char, ROOM>, AllocError>
     ensures { IfOk result (λ v. v.items ≡ folded_text (chars text.now)) }
 {
     if text.is_ascii() {
@@ -36,7 +40,7 @@ pub fn folded(alloc: Global, text: &str) -> Result<Vec<char>, AllocError>
     }
     let normal = normal(alloc, text)?;
     let lower = case_folded(alloc, normal.as_slice())?;
-    nfkc(alloc, lower.as_slice())
+    Ok(SmallVec::from_vec(nfkc(alloc, lower.as_slice())?))
 }
 
 /// Whether the character is white space, which is mapped to SPACE.
@@ -74,10 +78,10 @@ fn mapped_character(c: char) -> char
 }
 
 /// The mapping step (RFC 4518 2.2), without case folding.
-fn mapped(alloc: Global, text: &str) -> Result<Vec<char>, AllocError>
+fn mapped(alloc: Global, text: &str) -> Result<SmallVec<char, ROOM>, AllocError>
     ensures { IfOk result (λ v. v.items ≡ mapped_text (chars text.now)) }
 {
-    let mut out = Vec::with_capacity(alloc, text.len())?;
+    let mut out = SmallVec::with_capacity(alloc, text.len())?;
     for c in text.chars() {
         if !is_control(c) {
             out.push(mapped_character(c))?;
@@ -87,10 +91,10 @@ fn mapped(alloc: Global, text: &str) -> Result<Vec<char>, AllocError>
 }
 
 /// Mapped, with the capitals of ASCII made small.
-fn lowered(alloc: Global, text: &str) -> Result<Vec<char>, AllocError>
+fn lowered(alloc: Global, text: &str) -> Result<SmallVec<char, ROOM>, AllocError>
     ensures { IfOk result (λ v. v.items ≡ map to_ascii_lowercase (mapped_text (chars text.now))) }
 {
-    let mut out = Vec::with_capacity(alloc, text.len())?;
+    let mut out = SmallVec::with_capacity(alloc, text.len())?;
     for c in text.chars() {
         if !is_control(c) {
             out.push(mapped_character(c).to_ascii_lowercase())?;
