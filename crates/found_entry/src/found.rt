@@ -1,6 +1,6 @@
 //! An entry that a search found, as it is shown. A name and a stored entry, or attributes that were made, flow in; copies and octets of the
 //! message that shows it flow out. What is found is not told here.
-ghost use Rattle.std.specs.Prelude.{◌≡◌, ◌≤◌, ◌^◌, [], map, length, string_bytes, IfOk, IsErrOf};
+ghost use Rattle.std.specs.Prelude.{◌≡◌, ◌≤◌, ◌^◌, ◌++◌, [], map, length, string_bytes, IfOk, OnOk, IsErrOf};
 ghost use Rattle.std.specs.Arc.{arc_value};
 ghost use Rattle.dir_tree.specs.dir_entry.Entry.{attributes_of};
 ghost use Rattle.ldap_msg.specs.Messages.{response, search_entry};
@@ -13,7 +13,7 @@ ghost use Rattle.found_entry.specs.View.{found_view, found_attributes};
 use crate::made_attribute::copy_all_made;
 use crate::shows::Shows;
 use dir_tree::{Attribute, SharedEntry};
-use ldap_msg::{EncodeError, PartialAttribute, SearchResultEntry, encode_search_entry};
+use ldap_msg::{EncodeError, PartialAttribute, SearchResultEntry, put_search_entry};
 use std::alloc::{AllocError, Global};
 use std::sync::Arc;
 
@@ -63,20 +63,21 @@ impl Found {
     }
 }
 
-/// The octets of the message without controls that shows stored attributes by this name.
-fn encode_stored(
+/// Writes the message without controls that shows stored attributes by this name.
+fn put_stored(
     alloc: Global,
     id: u32,
     object_name: &str,
     shows: &Shows,
     attributes: &[Attribute],
-) -> Result<Vec<u8>, EncodeError>
-    ensures ok { IfOk result (λ v. v.items ≡ message_bytes (record { id = id; op = response (search_entry (record { object_name = object_name.now; attributes = shown_of shows.now (attributes_of attributes.now) })); controls = [] })) }
+    out: &mut Vec<u8>,
+) -> Result<(), EncodeError>
+    ensures ok { OnOk result (out.new.items ≡ out.old.items ++ message_bytes (record { id = id; op = response (search_entry (record { object_name = object_name.now; attributes = shown_of shows.now (attributes_of attributes.now) })); controls = [] })) }
     ensures too_long { IsErrOf result EncodeError.TooLong
         → 2 ^ 32 ≤ length (message_content (record { id = id; op = response (search_entry (record { object_name = object_name.now; attributes = shown_of shows.now (attributes_of attributes.now) })); controls = [] })) }
 {
     match shows.show_all(alloc, attributes) {
-        Ok(shown) => encode_search_entry(alloc, id, object_name, &shown),
+        Ok(shown) => put_search_entry(alloc, id, object_name, &shown, out),
         Err(_) => Err(EncodeError::NoMemory),
     }
 }
@@ -129,18 +130,19 @@ impl FoundEntry {
         })
     }
 
-    /// The octets of the message without controls that shows it. TooLong only where its content is over 4294967295 octets.
-    pub fn encode(&self, alloc: Global, id: u32) -> Result<Vec<u8>, EncodeError>
-        ensures ok { IfOk result (λ v. v.items ≡ message_bytes (record { id = id; op = response (search_entry (found_view self.now)); controls = [] })) }
+    /// Writes the message without controls that shows it behind what is there, each octet of its values once. TooLong only where its
+    /// content is over 4294967295 octets.
+    pub fn put(&self, alloc: Global, id: u32, out: &mut Vec<u8>) -> Result<(), EncodeError>
+        ensures ok { OnOk result (out.new.items ≡ out.old.items ++ message_bytes (record { id = id; op = response (search_entry (found_view self.now)); controls = [] })) }
         ensures too_long { IsErrOf result EncodeError.TooLong
             → 2 ^ 32 ≤ length (message_content (record { id = id; op = response (search_entry (found_view self.now)); controls = [] })) }
     {
         match &self.found {
             Found::Stored(entry, shows) => {
-                encode_stored(alloc, id, &self.object_name, shows, entry.attributes())
+                put_stored(alloc, id, &self.object_name, shows, entry.attributes(), out)
             }
             Found::Made(attributes) => {
-                encode_search_entry(alloc, id, &self.object_name, attributes)
+                put_search_entry(alloc, id, &self.object_name, attributes, out)
             }
         }
     }

@@ -7,7 +7,7 @@
 //! many entries has some of them read ahead (`reading_ahead`), so that the processor waits for memory once for all of these.
 //!
 //! Proved: the attributes that the selectors select are shown, in their order, each by its type's first name (`Shows`). A found entry is
-//! copied, and written as the message that shows it (`FoundEntry::copied`, `encode`).
+//! copied, and written as the message that shows it (`FoundEntry::copied`, `put`).
 #![tactic(auto)]
 
 mod found;

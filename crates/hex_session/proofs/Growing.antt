@@ -1,9 +1,11 @@
 -- Output that grows line by line, and input that is read line by line. Facts on octets flow in and out; no value of the program is here.
-use Rattle.std.proofs.Common.{◌≡◌, ℕ, ◌+◌, ◌<◌, List, [], ◌∷◌, ◌++◌, Option, None, Some, refl, ap, sym, subst, ◌∙◌, map, length, take, drop, get_or, append_assoc, take-append-drop}
-use Rattle.std.proofs.lemmas.List.{take_more}
+use Rattle.std.proofs.Common.{◌≡◌, ℕ, ◌+◌, ◌<◌, ◌≤◌, arith, List, [], ◌∷◌, ◌++◌, Option, None, Some, refl, ap, sym, subst, ◌∙◌, map, length, take, drop, get_or, append_assoc, take-append-drop}
+use Rattle.std.proofs.lemmas.List.{drop_more, get_or-map, length-append, length-map, take_more}
+use Rattle.std.proofs.Math.Seq.{drop-append_seam, take-append_seam}
 use Rattle.std.specs.Io.KnownBytes.{Appends}
 use Rattle.ldap_session.specs.ldap_msg.Messages.{MessageValue}
 use Rattle.ldap_session.specs.ldap_msg.Written.{message_bytes}
+use Rattle.ldap_session.specs.Octets.{joined}
 use Rattle.hex_session.specs.Lines.{hex_line, message_lines}
 use Rattle.hex_session.specs.private.Lines.{hex_lines}
 use Rattle.hex_session.specs.private.Faults.{IsCutOff}
@@ -32,47 +34,52 @@ appends_both (Some x) None d xs ys p q = absurd p
 appends_both (Some x) (Some y) None xs ys p q = absurd q
 appends_both (Some x) (Some y) (Some z) xs ys p q = q ∙ ap (λ (l : List ℕ). l ++ ys) p ∙ append_assoc x xs ys
 
-map_end : {A B : Type 0} (f : A → B) (xs : List A) (x : A) → map f (xs ++ x ∷ []) ≡ map f xs ++ f x ∷ []
-map_end f [] x = refl
-map_end f (y ∷ xs) x = ap (λ (l : List _). f y ∷ l) (map_end f xs x)
+-- the next of some rows stands at the front of the octets that are left
+pub next_row : (rows : List (List ℕ)) (ns : List ℕ) (i n : ℕ) (rest : List ℕ) → ns ≡ map length rows → i < length ns → n ≡ get_or ns i 0 → rest ≡ joined (drop i rows)
+    → (i < length rows) × (n ≤ length rest) × (take n rest ≡ get_or rows i []) × (drop n rest ≡ joined (drop (i + 1) rows))
+next_row rows ns i n rest are lt is left =
+    let there : i < length rows = omega (arith, lt, ap (λ (l : List ℕ). length l) are, length-map rows length) in
+    let row : List ℕ = get_or rows i [] in
+    let behind : List ℕ = joined (drop (i + 1) rows) in
+    let long : n ≡ length row = is ∙ ap (λ (l : List ℕ). get_or l i 0) are ∙ get_or-map length rows i [] 0 there in
+    let whole : rest ≡ row ++ behind = left ∙ ap joined (drop_more rows i [] there) in (
+      there,
+      omega (arith, long, ap (λ (l : List ℕ). length l) whole, length-append row behind),
+      ap (λ (m : ℕ). take m rest) long ∙ ap (take (length row)) whole ∙ take-append_seam row behind,
+      ap (λ (m : ℕ). drop m rest) long ∙ ap (drop (length row)) whole ∙ drop-append_seam row behind,
+    )
 
--- one line more of a list of octets
-pub lines_more : {A : Type 0} (items : A → List ℕ) (list : List A) (i : ℕ) (x : A) → i < length list → x ≡ get_or list i x → hex_lines (map items (take i list)) ++ hex_line (items x) ≡ hex_lines (map items (take (i + 1) list))
-lines_more items list i x lt is =
-    ap (λ (l : List ℕ). hex_lines (map items (take i list)) ++ l) (sym (append-nil (hex_line (items x))))
-    ∙ sym (lines_append (map items (take i list)) (items x ∷ []))
-    ∙ ap hex_lines (sym (map_end items (take i list) x))
-    ∙ ap (λ (l : List _). hex_lines (map items l)) (ap (λ (y : _). take i list ++ y ∷ []) is ∙ sym (take_more list i x lt))
+-- one line more of some rows
+lines_more : (rows : List (List ℕ)) (i : ℕ) → i < length rows → hex_lines (take i rows) ++ hex_line (get_or rows i []) ≡ hex_lines (take (i + 1) rows)
+lines_more rows i lt =
+    ap (λ (l : List ℕ). hex_lines (take i rows) ++ l) (sym (append-nil (hex_line (get_or rows i []))))
+    ∙ sym (lines_append (take i rows) (get_or rows i [] ∷ []))
+    ∙ ap hex_lines (sym (take_more rows i [] lt))
 
-pub line_done : {A : Type 0} (items : A → List ℕ) (list : List A) (i : ℕ) (x : A) (a b d : Option (List ℕ)) → i < length list → x ≡ get_or list i x → Appends a b (hex_lines (map items (take i list))) → Appends b d (hex_line (items x))
-    → Appends a d (hex_lines (map items (take (i + 1) list)))
-line_done items list i x a b d lt is p q = subst (Appends a d) (lines_more items list i x lt is) (appends_both a b d (hex_lines (map items (take i list))) (hex_line (items x)) p q)
+pub line_done : (rows : List (List ℕ)) (i : ℕ) (row : List ℕ) (a b d : Option (List ℕ)) → i < length rows → row ≡ get_or rows i [] → Appends a b (hex_lines (take i rows)) → Appends b d (hex_line row)
+    → Appends a d (hex_lines (take (i + 1) rows))
+line_done rows i row a b d lt is p q =
+    subst (Appends a d) (lines_more rows i lt)
+    (appends_both a b d (hex_lines (take i rows)) (hex_line (get_or rows i [])) p (subst (λ (l : List ℕ). Appends b d (hex_line l)) is q))
 
-map_append : {A B : Type 0} (f : A → B) (xs ys : List A) → map f (xs ++ ys) ≡ map f xs ++ map f ys
-map_append f [] ys = refl
-map_append f (x ∷ xs) ys = ap (λ (l : List _). f x ∷ l) (map_append f xs ys)
-
-lines_split : {A : Type 0} (items : A → List ℕ) (list : List A) (n : ℕ) → hex_lines (map items list) ≡ hex_lines (map items (take n list)) ++ hex_lines (map items (drop n list))
-lines_split items list n =
-    ap (λ (l : List _). hex_lines (map items l)) (sym (take-append-drop n list))
-    ∙ ap hex_lines (map_append items (take n list) (drop n list))
-    ∙ lines_append (map items (take n list)) (map items (drop n list))
+lines_split : (rows : List (List ℕ)) (n : ℕ) → hex_lines rows ≡ hex_lines (take n rows) ++ hex_lines (drop n rows)
+lines_split rows n = ap hex_lines (sym (take-append-drop n rows)) ∙ lines_append (take n rows) (drop n rows)
 
 -- a line is cut off, behind the lines before it
-pub line_cut : {A : Type 0} (items : A → List ℕ) (list : List A) (i : ℕ) (x : A) (octets : List ℕ) (a b d : Option (List ℕ)) (fault : LineFault) → i < length list → x ≡ get_or list i x → octets ≡ items x →
-    Appends a b (hex_lines (map items (take i list))) → IsCutOff b d (hex_line octets) fault → IsCutOff a d (hex_lines (map items list)) fault
-line_cut items list i x octets a b d fault lt is whose p q = record {
+pub line_cut : (rows : List (List ℕ)) (i : ℕ) (row : List ℕ) (a b d : Option (List ℕ)) (fault : LineFault) → i < length rows → row ≡ get_or rows i [] →
+    Appends a b (hex_lines (take i rows)) → IsCutOff b d (hex_line row) fault → IsCutOff a d (hex_lines rows) fault
+line_cut rows i row a b d fault lt is p q = record {
   kind = q.kind;
-  taken = hex_lines (map items (take i list)) ++ q.taken;
-  appended = appends_both a b d (hex_lines (map items (take i list))) q.taken p q.appended;
+  taken = hex_lines (take i rows) ++ q.taken;
+  appended = appends_both a b d (hex_lines (take i rows)) q.taken p q.appended;
   front = record {
-    rest = q.front.rest ++ hex_lines (map items (drop (i + 1) list));
+    rest = q.front.rest ++ hex_lines (drop (i + 1) rows);
     is =
-        lines_split items list (i + 1)
-        ∙ ap (λ (l : List ℕ). l ++ hex_lines (map items (drop (i + 1) list)))
-        (sym (lines_more items list i x lt is)
-        ∙ ap (λ (l : List ℕ). hex_lines (map items (take i list)) ++ l) (ap hex_line (sym whose) ∙ q.front.is)
-        ∙ sym (append_assoc (hex_lines (map items (take i list))) q.taken q.front.rest))
-        ∙ append_assoc (hex_lines (map items (take i list)) ++ q.taken) q.front.rest (hex_lines (map items (drop (i + 1) list)));
+        lines_split rows (i + 1)
+        ∙ ap (λ (l : List ℕ). l ++ hex_lines (drop (i + 1) rows))
+        (sym (lines_more rows i lt)
+        ∙ ap (λ (l : List ℕ). hex_lines (take i rows) ++ l) (ap hex_line (sym is) ∙ q.front.is)
+        ∙ sym (append_assoc (hex_lines (take i rows)) q.taken q.front.rest))
+        ∙ append_assoc (hex_lines (take i rows) ++ q.taken) q.front.rest (hex_lines (drop (i + 1) rows));
   };
 }

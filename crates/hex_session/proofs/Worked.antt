@@ -1,5 +1,5 @@
 -- What a session over lines has written when it goes on or ends. Facts on definitions flow in and out; no value of the program is here.
-use Rattle.std.proofs.Common.{◌≡◌, ◌⊎◌, inl, inr, ℕ, List, [], ◌∷◌, ◌++◌, Option, None, Some, Result, Ok, Err, IfOk, IfErr, refl, ap, sym, subst, ◌∙◌, map, append_assoc, append-nil}
+use Rattle.std.proofs.Common.{◌≡◌, ◌⊎◌, inl, inr, ℕ, List, [], ◌∷◌, ◌++◌, Option, None, Some, Result, Ok, Err, IfOk, IfErr, refl, ap, sym, subst, ◌∙◌, append_assoc, append-nil}
 use Rattle.std.specs.Io.KnownBytes.{Appends}
 use Rattle.std.proofs.KnownBytes.{Appends-nil, Appends-trans}
 use Rattle.ldap_session.specs.ldap_msg.Messages.{MessageValue}
@@ -42,7 +42,7 @@ begun allows c d s o = record {
   comes = λ first read written r. subst (λ (l : List ℕ). Reached message_lines allows c first d s read l) (sym (append-nil written)) r;
 }
 
-lines_are : (given : Answered) (rs : List MessageValue) (next : Next) → IsWritten given rs next → hex_lines (map (λ v. v.items) given.responses.items) ≡ message_lines rs
+lines_are : (given : Answered) (rs : List MessageValue) (next : Next) → IsWritten given rs next → hex_lines given.responses ≡ message_lines rs
 lines_are given rs next w = ap hex_lines w.octets ∙ written_lines rs
 
 -- a message, or what is none, is answered
@@ -60,7 +60,7 @@ put_as o g given r n m ok is h = subst (λ (x : Result Next LineFault). IfOk x (
 
 -- a message more is answered, and the session goes on
 pub more_answered : {D T : Type 0} (allows : D → Exchange T → D → Type 0) (c : ConfigValue) (old now e : D) (s0 s t : SessionValue) (o g h : Option (List ℕ)) (given : Answered) →
-    SoFar allows c old now s0 s o g → Answered1 allows c s t now e given → Appends g h (hex_lines (map (λ v. v.items) given.responses.items)) → given.next ≡ GoesOn → SoFar allows c old e s0 t o h
+    SoFar allows c old now s0 s o g → Answered1 allows c s t now e given → Appends g h (hex_lines given.responses) → given.next ≡ GoesOn → SoFar allows c old e s0 t o h
 more_answered allows c old now e s0 s t o g h given w (inl a) put goes = record {
   more = w.more ++ message_lines a.reaction.responses;
   appended = Appends-trans o g h w.more _ w.appended (subst (λ (l : List ℕ). Appends g h l) (lines_are given a.reaction.responses a.reaction.next a.written) put);
@@ -113,7 +113,7 @@ last_notice allows c first now s t read written given DisconnectedNext none faul
 
 -- a message, or what is none, is answered, and the session ends
 pub last_answered : {D T : Type 0} (allows : D → Exchange T → D → Type 0) (c : ConfigValue) (old now e : D) (s0 s t : SessionValue) (o g h : Option (List ℕ)) (given : Answered) (next : Next) →
-    SoFar allows c old now s0 s o g → Answered1 allows c s t now e given → Appends g h (hex_lines (map (λ v. v.items) given.responses.items)) → given.next ≡ next → (next ≡ GoesOn → ⊥) →
+    SoFar allows c old now s0 s o g → Answered1 allows c s t now e given → Appends g h (hex_lines given.responses) → given.next ≡ next → (next ≡ GoesOn → ⊥) →
     HasWorked allows c old e s0 t o h next
 last_answered allows c old now e s0 s t o g h given next w (inl a) put is apart = record {
   more = w.more ++ message_lines a.reaction.responses;
@@ -142,7 +142,7 @@ due_end NoMemoryFault next more ending rs written kind f = f
 
 -- the lines of an answer are cut off
 cut_off : {D T : Type 0} (allows : D → Exchange T → D → Type 0) (c : ConfigValue) (first now e : D) (s t : SessionValue) (read written more : List ℕ) (given : Answered) (fault : LineFault) →
-    Answered1 allows c s t now e given → IsWriteFault fault → IsFront more (hex_lines (map (λ v. v.items) given.responses.items)) → Reached message_lines allows c first now s read written →
+    Answered1 allows c s t now e given → IsWriteFault fault → IsFront more (hex_lines given.responses) → Reached message_lines allows c first now s read written →
     Ends message_lines allows c first e read (written ++ more) (end_of fault)
 cut_off allows c first now e s t read written more given fault (inl a) kind front r =
     ends_with message_lines allows c first now e s t read written more a.reaction (end_of fault) a.takes r
@@ -159,7 +159,7 @@ cut_off allows c first now e s t read written more given fault (inr (idle, stopp
 
 -- an answer can't be written
 pub not_put : {D T : Type 0} (allows : D → Exchange T → D → Type 0) (c : ConfigValue) (old now e : D) (s0 s t : SessionValue) (o g h : Option (List ℕ)) (given : Answered) (fault : LineFault) →
-    SoFar allows c old now s0 s o g → Answered1 allows c s t now e given → IsCutOff g h (hex_lines (map (λ v. v.items) given.responses.items)) fault → HasFailed allows c old e s0 o h fault
+    SoFar allows c old now s0 s o g → Answered1 allows c s t now e given → IsCutOff g h (hex_lines given.responses) fault → HasFailed allows c old e s0 o h fault
 not_put allows c old now e s0 s t o g h given fault w a cut = record {
   kind = cut.kind;
   more = w.more ++ cut.taken;

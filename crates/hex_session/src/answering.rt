@@ -1,5 +1,5 @@
 //! A session over lines of hex: lines flow in and out, a session answers. No rule of LDAP is here.
-ghost use Rattle.std.specs.Prelude.{◌≡◌, map, IfOk, IfErr};
+ghost use Rattle.std.specs.Prelude.{◌≡◌, IfOk, IfErr};
 ghost use Rattle.std.specs.Io.KnownBytes.{Appends};
 ghost use Rattle.ldap_session.specs.session_handler.View.{config_view};
 ghost use Rattle.ldap_session.specs.View.{session_view};
@@ -31,7 +31,7 @@ fn put_answered<W: Write>(
 ) -> Result<Next, LineFault>
     ensures ok { IfOk result (λ next. HasPut (W.contents output.old) (W.contents output.new) answered.now next) }
     ensures err { IfErr result (λ fault. IsCutOff (W.contents output.old) (W.contents output.new)
-        (hex_lines (map (λ v. v.items) answered.now.responses.items)) fault) }
+        (hex_lines answered.now.responses) fault) }
 {
     write_lines(alloc, &answered.responses, output)?;
     Ok(answered.next)

@@ -1,5 +1,5 @@
-//! Lines of hex. Octets of an input flow in line by line, octets of responses flow out, each list of them as a line. Messages are not here.
-ghost use Rattle.std.specs.Prelude.{◌≡◌, map, option_map, string_bytes, IfOk, IfErr, OnOk, IfSome};
+//! Lines of hex. Octets of an input flow in line by line, octets of responses flow out, each response as a line. Messages are not here.
+ghost use Rattle.std.specs.Prelude.{◌≡◌, option_map, string_bytes, IfOk, IfErr, OnOk, IfSome};
 ghost use Rattle.std.specs.Io.KnownBytes.{Appends};
 ghost use Rattle.std.specs.Io.BufRead.{strip_last};
 ghost use Rattle.hex_session.specs.Lines.{hex_line, IsNextLine};
@@ -10,7 +10,7 @@ ghost use Rattle.hex_session.specs.declared.fault.LineFault.TheVariants.{NoMemor
 
 use crate::fault::LineFault;
 use crate::line::Line;
-use ldap_session::write_octets;
+use ldap_session::{Responses, write_octets};
 use std::alloc::Global;
 use std::io::{BufRead, ErrorKind, Write};
 
@@ -104,15 +104,17 @@ fn write_line<W: Write>(alloc: Global, octets: &[u8], output: &mut W) -> Result<
 /// Writes the octets of each response as a line; at an error, a front of these lines.
 pub fn write_lines<W: Write>(
     alloc: Global,
-    responses: &[Vec<u8>],
+    responses: &Responses,
     output: &mut W,
 ) -> Result<(), LineFault>
-    ensures ok { OnOk result (Appends (W.contents output.old) (W.contents output.new) (hex_lines (map (λ v. v.items) responses.now))) }
-    ensures err { IfErr result (λ fault. IsCutOff (W.contents output.old) (W.contents output.new) (hex_lines (map (λ v. v.items) responses.now)) fault) }
+    ensures ok { OnOk result (Appends (W.contents output.old) (W.contents output.new) (hex_lines responses.now)) }
+    ensures err { IfErr result (λ fault. IsCutOff (W.contents output.old) (W.contents output.new) (hex_lines responses.now) fault) }
 {
-    for response in responses {
+    let mut rest = responses.octets();
+    for length in responses.lengths() {
+        let (response, behind) = rest.split_at(*length);
         match write_line(alloc, response, output) {
-            Ok(()) => {}
+            Ok(()) => rest = behind,
             Err(fault) => return Err(fault),
         }
     }

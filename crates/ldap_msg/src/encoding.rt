@@ -6,7 +6,7 @@ ghost use Rattle.ldap_requests.specs.ldap_ber.Element.{length_octets, element_by
 ghost use Rattle.ldap_requests.specs.ldap_fields.Written.{number_bytes};
 ghost use Rattle.ldap_responses.specs.Written.{entry_content};
 ghost use Rattle.ldap_msg.specs.Messages.{MessageValue, response, search_entry};
-ghost use Rattle.ldap_msg.specs.View.{operation_view, view};
+ghost use Rattle.ldap_msg.specs.View.{entry_view, operation_view, view};
 ghost use Rattle.ldap_msg.specs.Grammar.{operation_octet, IsMessage};
 ghost use Rattle.ldap_msg.specs.Written.{operation_content, operation_bytes, message_content, message_bytes, IsInRange};
 ghost use Rattle.ldap_msg.specs.private.Written.{enveloped};
@@ -16,7 +16,8 @@ use crate::encoding_response::{response_content, response_octet};
 use crate::message::{Message, ProtocolOp, Response};
 use ldap_requests::{WriteError, put_number};
 use ldap_responses::{
-    AttributeParts, add_lengths, element_length, entry_length, number_length, put_entry, write_head,
+    AttributeParts, SearchResultEntry, add_lengths, element_length, entry_length, number_length,
+    put_entry, write_head,
 };
 use ldap_updates::put_controls;
 use std::alloc::Global;
@@ -60,41 +61,41 @@ fn message_length(id: u32, content: usize, controls: usize) -> usize
     )
 }
 
-/// An empty buffer that holds an element whose content has this length.
-fn buffer(alloc: Global, content: usize) -> Result<Vec<u8>, WriteError>
-    ensures ok { IfOk result (λ v. v.items ≡ []) }
+/// Reserves room for an element whose content has this length.
+fn reserve(content: usize, out: &mut Vec<u8>) -> Result<(), WriteError>
+    ensures kept { out.new.items ≡ out.old.items }
     ensures too_long { IsErrOf result WriteError.TooLong → 2 ^ 32 ≤ content }
 {
     if content > MAX_CONTENT {
         return Err(WriteError::TooLong);
     }
-    match Vec::with_capacity(alloc, element_length(content)) {
-        Ok(octets) => Ok(octets),
+    match out.reserve(element_length(content)) {
+        Ok(()) => Ok(()),
         Err(_) => Err(WriteError::NoMemory),
     }
 }
 
-/// A buffer that holds a message whose content has the length `total`, and in it all that stands before
+/// Reserves room for a message whose content has the length `total`, and writes all that stands before
 /// the operation's content.
 fn begin(
-    alloc: Global,
     id: u32,
     first: u8,
     content: usize,
     total: usize,
-) -> Result<Vec<u8>, WriteError>
+    out: &mut Vec<u8>,
+) -> Result<(), WriteError>
     requires { first % 32 < 31 }
-    ensures ok { IfOk result (λ v. v.items
-        ≡ (48 ∷ length_octets total) ++ number_bytes 2 id ++ (first ∷ length_octets content)) }
+    ensures ok { OnOk result (out.new.items ≡ out.old.items
+        ++ ((48 ∷ length_octets total) ++ number_bytes 2 id ++ (first ∷ length_octets content))) }
     ensures total_fits { OnOk result (total < 2 ^ 32) }
     ensures content_fits { OnOk result (content < 2 ^ 32) }
     ensures too_long { IsErrOf result WriteError.TooLong → (2 ^ 32 ≤ content) ⊎ (2 ^ 32 ≤ total) }
 {
-    let mut octets = buffer(alloc, total)?;
-    write_head(0x30, total, &mut octets)?;
-    put_number(0x02, id, &mut octets)?;
-    write_head(first, content, &mut octets)?;
-    Ok(octets)
+    reserve(total, out)?;
+    write_head(0x30, total, out)?;
+    put_number(0x02, id, out)?;
+    write_head(first, content, out)?;
+    Ok(())
 }
 
 /// Writes octets that are spelled already.
@@ -108,16 +109,17 @@ fn put_octets(octets: &[u8], out: &mut Vec<u8>) -> Result<(), WriteError>
     }
 }
 
-/// A message that shows an entry of this name with these attributes, its controls spelled already:
-/// lengths first, then each octet to its place.
-fn encode_entry<A: AttributeParts>(
+/// Writes a message that shows an entry of this name with these attributes, its controls spelled
+/// already: lengths first, then each octet to its place.
+fn put_entry_message<A: AttributeParts>(
     alloc: Global,
     id: u32,
     object_name: &str,
     attributes: &[A],
     controls: &[u8],
-) -> Result<Vec<u8>, WriteError>
-    ensures ok { IfOk result (λ v. v.items ≡ element_bytes 48
+    out: &mut Vec<u8>,
+) -> Result<(), WriteError>
+    ensures ok { OnOk result (out.new.items ≡ out.old.items ++ element_bytes 48
         (enveloped id (element_bytes 100 (entry_content (record {
           object_name = object_name.now;
           attributes = map A.attribute attributes.now;
@@ -135,21 +137,22 @@ fn encode_entry<A: AttributeParts>(
 {
     let content = entry_length(object_name, attributes);
     let total = message_length(id, content, controls.len());
-    let mut octets = begin(alloc, id, 0x64, content, total)?;
-    put_entry(alloc, object_name, attributes, &mut octets)?;
-    put_octets(controls, &mut octets)?;
-    Ok(octets)
+    begin(id, 0x64, content, total, out)?;
+    put_entry(alloc, object_name, attributes, out)?;
+    put_octets(controls, out)?;
+    Ok(())
 }
 
-/// The octets of a message without controls that shows an entry of this name with these attributes,
-/// each octet of these copied once. E3 as `encode` has it.
-pub fn encode_search_entry<A: AttributeParts>(
+/// Writes a message without controls that shows an entry of this name with these attributes, each octet
+/// of these once, behind what is there. E3 as `encode` has it.
+pub fn put_search_entry<A: AttributeParts>(
     alloc: Global,
     id: u32,
     object_name: &str,
     attributes: &[A],
-) -> Result<Vec<u8>, WriteError>
-    ensures ok { IfOk result (λ v. v.items ≡ message_bytes (record {
+    out: &mut Vec<u8>,
+) -> Result<(), WriteError>
+    ensures ok { OnOk result (out.new.items ≡ out.old.items ++ message_bytes (record {
       id = id;
       op = response
           (search_entry (record { object_name = object_name.now; attributes = map A.attribute attributes.now }));
@@ -170,7 +173,7 @@ pub fn encode_search_entry<A: AttributeParts>(
       controls = [];
     })) }
 {
-    encode_entry(alloc, id, object_name, attributes, &[])
+    put_entry_message(alloc, id, object_name, attributes, &[], out)
 }
 
 /// A message whose operation's content and controls are spelled already.
@@ -190,9 +193,36 @@ fn encode_content(
         (enveloped id (element_bytes first content.now) controls.now) }
 {
     let total = message_length(id, content.len(), controls.len());
-    let mut octets = begin(alloc, id, first, content.len(), total)?;
+    let mut octets = Vec::new(alloc);
+    begin(id, first, content.len(), total, &mut octets)?;
     put_octets(content, &mut octets)?;
     put_octets(controls, &mut octets)?;
+    Ok(octets)
+}
+
+/// A message that shows this entry, its controls spelled already.
+fn encode_entry(
+    alloc: Global,
+    id: u32,
+    entry: &SearchResultEntry,
+    controls: &[u8],
+) -> Result<Vec<u8>, WriteError>
+    ensures ok { IfOk result (λ v. v.items ≡ element_bytes 48
+        (enveloped id (element_bytes 100 (entry_content (entry_view entry.now))) controls.now)) }
+    ensures fits { OnOk result (length
+        (enveloped id (element_bytes 100 (entry_content (entry_view entry.now))) controls.now) < 2 ^ 32) }
+    ensures too_long { IsErrOf result WriteError.TooLong → 2 ^ 32 ≤ length
+        (enveloped id (element_bytes 100 (entry_content (entry_view entry.now))) controls.now) }
+{
+    let mut octets = Vec::new(alloc);
+    put_entry_message(
+        alloc,
+        id,
+        &entry.object_name,
+        &entry.attributes,
+        controls,
+        &mut octets,
+    )?;
     Ok(octets)
 }
 
@@ -212,7 +242,7 @@ fn encode_operation(
 {
     match op {
         ProtocolOp::Response(Response::SearchEntry(entry)) => {
-            encode_entry(alloc, id, &entry.object_name, &entry.attributes, controls)
+            encode_entry(alloc, id, entry, controls)
         }
         _ => {
             let content = operation_content(alloc, op)?;

@@ -4,7 +4,7 @@
 //! two by two. To add an operation, put its content into `ldap_requests`, `ldap_updates` or `ldap_responses`. Then add a case here to the
 //! value (`Messages`), the view, the grammar (`request_octet`, `IsRequestContent`), the written form and the lists of `proofs/Choices`.
 //!
-//! Proved: whole messages are read exactly and written in their one form (`decode`, `encode`, `encode_search_entry`, `one_message`,
+//! Proved: whole messages are read exactly and written in their one form (`decode`, `encode`, `put_search_entry`, `one_message`,
 //! `is_message`).
 #![tactic(auto)]
 
@@ -17,7 +17,7 @@ mod encoding_response;
 mod message;
 
 pub use decoding::{MAX_MESSAGE, decode, one_message};
-pub use encoding::{encode, encode_search_entry, is_message};
+pub use encoding::{encode, is_message, put_search_entry};
 pub use ldap_requests::{
     AttributeValueAssertion, AuthenticationChoice, BerFault, BindRequest, CompareRequest,
     DerefAliases, ExtendedRequest, Filter, MsgFault, SaslCredentials, Scope, SearchRequest,

@@ -1,6 +1,7 @@
 -- What a conversation keeps of an answer. Facts on definitions come in and go out; no value of the program is here.
-use Rattle.std.proofs.Common.{◌≡◌, ◌⊎◌, inl, inr, ℕ, ◌+◌, ◌<◌, List, [], ◌∷◌, ◌++◌, Bool, true, false, None, Some, ap, sym, subst, ◌∙◌, map, length, take, drop, get_or, append_assoc, append-nil}
-use Rattle.std.specs.Bool.{OnTrue, OnFalse}
+use Rattle.std.proofs.Common.{◌≡◌, ◌==◌, arith, refl, suc, ◌⊎◌, inl, inr, ℕ, List, [], ◌∷◌, ◌++◌, Bool, true, false, None, Some, ap, sym, subst, ◌∙◌, length, append-nil}
+use Rattle.std.specs.Bool.{OnTrue}
+use Rattle.std.proofs.lemmas.Bool.{eqb-true}
 use Rattle.session_handler.specs.directory_api.Talk.{Exchange}
 use Rattle.session_handler.specs.Responses.{notice}
 use Rattle.session_handler.specs.Session.{ConfigValue}
@@ -21,7 +22,6 @@ use Rattle.ldap_session.specs.declared.end.SessionEnd.{SessionEnd}
 use Rattle.ldap_session.specs.declared.end.SessionEnd.TheVariants.{WriteFailed, NoMemory}
 use Rattle.ldap_session.proofs.Progressed.{goes_apart_too}
 use Rattle.ldap_session.proofs.Worked.{octets_are, no_front}
-use Rattle.ldap_session.proofs.Written.{joined_at, joined_split}
 
 -- the same octets are due, and the same comes next
 same_last_word : (v w : ConversationValue) (octets due : List ℕ) (next then : Next) (end : SessionEnd) → octets ≡ due → next ≡ then → EndsBy v w octets next end → EndsBy v w due then end
@@ -38,7 +38,7 @@ other_session v w t octets next end ends = record { more = ends.more; unsent = e
 -- what a message is answered with is kept
 pub kept_step : {D T : Type 0} (allows : D → Exchange T → D → Type 0) (c : ConfigValue) (v w : ConversationValue) (t : SessionValue) (d e : D) (given : AnsweredValue) (step : Step) →
     AnswersNext allows c v.session t d e given ⊎ (IsIdle v.session t d e × (v.session.framed.fault ≡ None → ⊥) × IsWritten given (notice ∷ []) DisconnectedNext) →
-    Keeps (record v { session = t }) w (joined (map (λ x. x.items) given.responses.items)) given.next step → StepsTo allows c v w d e step
+    Keeps (record v { session = t }) w (joined given.responses) given.next step → StepsTo allows c v w d e step
 kept_step allows c v w t d e given Awaits answers k = absurd k.keeps
 kept_step allows c v w t d e given Answered (inl a) k = record {
   reaction = a.reaction;
@@ -98,30 +98,15 @@ apart e = cc
 pub none_grown : (old new octets : List ℕ) → new ≡ old → HasGrown old new octets false
 none_grown old new octets is = record { taken = []; grown = is ∙ sym (append-nil old); front = no_front octets; whole = λ e. absurd (apart e) }
 
+-- all are
+pub all_grown : (old new octets : List ℕ) → new ≡ old ++ octets → HasGrown old new octets true
+all_grown old new octets is = record { taken = octets; grown = is; front = record { rest = []; is = sym (append-nil octets) }; whole = λ _. refl }
+
+-- the same, where none were there
+pub filled : (old new octets : List ℕ) → (length old == 0) ≡ true → new ≡ octets → HasGrown old new octets true
+filled [] new octets none is = all_grown [] new octets is
+filled (x ∷ xs) new octets none is = let other = eqb-true (suc (length xs)) 0 none in absurd (omega (arith, other))
+
 pub on_true : {P : Type 0} (b : Bool) → b ≡ true → OnTrue b P → P
 on_true true e h = h
 on_true false e h = absurd (apart e)
-
-false_apart : true ≡ false → ⊥
-false_apart e = cc
-
-pub on_false : {P : Type 0} (b : Bool) → b ≡ false → OnFalse b P → P
-on_false false e h = h
-on_false true e h = absurd (false_apart e)
-
--- some responses are put behind, and the next is not
-pub stopped_growing : {A : Type 0} (items : A → List ℕ) (list : List A) (i : ℕ) (old before new : List ℕ) (all : Bool) → before ≡ old ++ joined (map items (take i list)) → all ≡ false →
-    OnFalse all (new ≡ before) → HasGrown old new (joined (map items list)) false
-stopped_growing items list i old before new all so not_all is = record {
-  taken = joined (map items (take i list));
-  grown = on_false all not_all is ∙ so;
-  front = record { rest = joined (map items (drop i list)); is = joined_split items list i };
-  whole = λ e. absurd (apart e);
-}
-
--- one response more is put behind
-pub one_grown : {A : Type 0} (items : A → List ℕ) (list : List A) (i : ℕ) (x : A) (octets old before new : List ℕ) (all : Bool) → i < length list → x ≡ get_or list i x → octets ≡ items x →
-    before ≡ old ++ joined (map items (take i list)) → all ≡ true → OnTrue all (new ≡ before ++ octets) → new ≡ old ++ joined (map items (take (i + 1) list))
-one_grown items list i x octets old before new all lt at is so is_all grown =
-    on_true all is_all grown ∙ ap (λ (l : List ℕ). l ++ octets) so ∙ append_assoc old (joined (map items (take i list))) octets
-    ∙ ap (λ (l : List ℕ). old ++ (joined (map items (take i list)) ++ l)) is ∙ ap (λ (l : List ℕ). old ++ l) (sym (joined_at items list i x lt at))

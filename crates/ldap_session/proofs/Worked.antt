@@ -1,5 +1,5 @@
 -- What a session has written when it goes on or ends. Facts on definitions flow in and out; no value of the program is here.
-use Rattle.std.proofs.Common.{◌≡◌, ◌⊎◌, inl, inr, ℕ, List, [], ◌∷◌, ◌++◌, true, false, Option, None, Some, refl, ap, sym, subst, ◌∙◌, map, append_assoc, append-nil}
+use Rattle.std.proofs.Common.{◌≡◌, ◌⊎◌, inl, inr, ℕ, List, [], ◌∷◌, ◌++◌, true, false, Option, None, Some, refl, ap, sym, subst, ◌∙◌, append_assoc, append-nil}
 use Rattle.std.specs.Io.KnownBytes.{Appends}
 use Rattle.std.proofs.KnownBytes.{Appends-nil, Appends-trans}
 use Rattle.session_handler.specs.ldap_msg.Messages.{MessageValue}
@@ -36,7 +36,7 @@ begun allows c d s o = record {
 }
 
 -- the octets of what was answered are those of its messages
-pub octets_are : (given : AnsweredValue) (rs : List MessageValue) (next : Next) → IsWritten given rs next → joined (map (λ v. v.items) given.responses.items) ≡ octets_of rs
+pub octets_are : (given : AnsweredValue) (rs : List MessageValue) (next : Next) → IsWritten given rs next → joined given.responses ≡ octets_of rs
 octets_are given rs next w = ap joined w.octets ∙ joined_octets rs
 
 grown_by : {D T : Type 0} (allows : D → Exchange T → D → Type 0) (c : ConfigValue) (first old now e : D) (s0 s t : SessionValue) (o g : Option (List ℕ)) (octets read written : List ℕ) (a : Reaction) →

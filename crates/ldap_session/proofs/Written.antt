@@ -1,6 +1,5 @@
 -- Octets that are written bit by bit. Facts on octets flow in and out; no value of the program is here.
-use Rattle.std.proofs.Common.{◌≡◌, ℕ, ◌+◌, ◌<◌, List, [], ◌∷◌, ◌++◌, Bool, true, false, Option, refl, ap, sym, subst, ◌∙◌, map, length, take, drop, get_or, append_assoc, append-nil, take-append-drop}
-use Rattle.std.proofs.lemmas.List.{take_more}
+use Rattle.std.proofs.Common.{◌≡◌, ℕ, List, [], ◌∷◌, ◌++◌, Bool, true, false, Option, refl, ap, sym, subst, ◌∙◌, map, append_assoc, append-nil}
 use Rattle.std.proofs.KnownBytes.{Appends-nil, Appends-trans}
 use Rattle.std.specs.Io.KnownBytes.{Appends}
 use Rattle.session_handler.specs.ldap_msg.Messages.{MessageValue}
@@ -62,49 +61,6 @@ joined_octets (m ∷ ms) = ap (λ (l : List ℕ). message_bytes m ++ l) (joined_
 -- all octets, and nothing further, are a front of themselves
 pub whole_front : (whole written : List ℕ) → written ≡ whole → IsFront (written ++ []) whole
 whole_front whole written are = record { rest = []; is = sym are ∙ sym (append-nil written) ∙ sym (append-nil (written ++ [])) }
-
-map_append : {A B : Type 0} (f : A → B) (xs ys : List A) → map f (xs ++ ys) ≡ map f xs ++ map f ys
-map_append f [] ys = refl
-map_append f (x ∷ xs) ys = ap (λ (l : List _). f x ∷ l) (map_append f xs ys)
-
--- the octets of a list are those of its first i, of the next, and of those behind it
-pub joined_at : {A : Type 0} (items : A → List ℕ) (list : List A) (i : ℕ) (x : A) → i < length list → x ≡ get_or list i x
-    → joined (map items (take (i + 1) list)) ≡ joined (map items (take i list)) ++ items x
-joined_at items list i x lt is =
-    ap (λ (l : List _). joined (map items l)) (take_more list i x lt ∙ ap (λ (y : _). take i list ++ y ∷ []) (sym is))
-    ∙ ap joined (map_append items (take i list) (x ∷ []))
-    ∙ joined_append (map items (take i list)) (items x ∷ [])
-    ∙ ap (λ (l : List ℕ). joined (map items (take i list)) ++ l) (append-nil (items x))
-
-pub joined_split : {A : Type 0} (items : A → List ℕ) (list : List A) (n : ℕ) → joined (map items list) ≡ joined (map items (take n list)) ++ joined (map items (drop n list))
-joined_split items list n =
-    ap (λ (l : List _). joined (map items l)) (sym (take-append-drop n list))
-    ∙ ap joined (map_append items (take n list) (drop n list))
-    ∙ joined_append (map items (take n list)) (map items (drop n list))
-
--- one response more is written
-pub one_more : {A : Type 0} (items : A → List ℕ) (list : List A) (i : ℕ) (x : A) (octets : List ℕ) (all : Bool) (a b c : Option (List ℕ)) → i < length list → x ≡ get_or list i x
-    → octets ≡ items x → all ≡ true → Appends a b (joined (map items (take i list))) → HasWritten b c octets all → Appends a c (joined (map items (take (i + 1) list)))
-one_more items list i x octets all a b c lt is whose taken p q =
-    subst (λ (l : List ℕ). Appends a c l) (sym (joined_at items list i x lt is))
-    (Appends-trans a b c _ (items x) p (subst (λ (l : List ℕ). Appends b c l) (q.whole taken ∙ whose) q.grown))
-
--- a response is given up
-pub stopped_at : {A : Type 0} (items : A → List ℕ) (list : List A) (i : ℕ) (x : A) (octets : List ℕ) (all : Bool) (a b c : Option (List ℕ)) → i < length list → x ≡ get_or list i x
-    → octets ≡ items x → Appends a b (joined (map items (take i list))) → HasWritten b c octets all → HasWritten a c (joined (map items list)) false
-stopped_at items list i x octets all a b c lt is whose p q = record {
-  taken = joined (map items (take i list)) ++ q.taken;
-  grown = Appends-trans a b c _ q.taken p q.grown;
-  front = record {
-    rest = q.front.rest ++ joined (map items (drop (i + 1) list));
-    is =
-        joined_split items list (i + 1)
-        ∙ ap (λ (l : List ℕ). l ++ joined (map items (drop (i + 1) list)))
-        (joined_at items list i x lt is ∙ ap (λ (l : List ℕ). joined (map items (take i list)) ++ l) (sym whose ∙ q.front.is) ∙ sym (append_assoc (joined (map items (take i list))) q.taken q.front.rest))
-        ∙ append_assoc (joined (map items (take i list)) ++ q.taken) q.front.rest (joined (map items (drop (i + 1) list)));
-  };
-  whole = λ e. absurd (apart e);
-}
 
 -- all was written, and then the writer was flushed
 pub sent_off : (a b c : Option (List ℕ)) (octets : List ℕ) (done : Bool) → HasWritten a b octets true → Appends b c [] → HasWritten a c octets done

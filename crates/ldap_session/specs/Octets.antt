@@ -5,11 +5,7 @@ use Rattle.std.specs.Io.KnownBytes.{Appends}
 use Rattle.session_handler.specs.ldap_msg.Messages.{MessageValue}
 use Rattle.session_handler.specs.ldap_msg.Written.{message_bytes}
 pub use Rattle.session_handler.specs.request_checks.Binding.{is_empty}
-
--- octets, one after the other
-abbrev pub joined : List (List ℕ) → List ℕ
-joined [] = []
-joined (o ∷ os) = o ++ joined os
+pub use Rattle.session_handler.specs.Rows.{joined}
 
 -- messages written, one after the other
 abbrev pub octets_of : List MessageValue → List ℕ

@@ -29,7 +29,7 @@ pub record TakesNext {D T : Type 0} (allows : D → Exchange T → D → Type 0)
 
 -- the octets of these responses, and whether the session goes on
 pub record IsWritten (given : Answered) (responses : List MessageValue) (next : Next) : Type 0 where
-  pub octets : map (λ v. v.items) given.responses.items ≡ map message_bytes responses
+  pub octets : given.responses ≡ map message_bytes responses
   pub goes : given.next ≡ next
 
 -- a message is answered, and the session has the state after it

@@ -1,7 +1,6 @@
 //! Conversations: a session whose messages may be served by one directory after the other. Pieces of its stream come in, and the octets of its
 //! responses are kept until they are sent. Sockets, threads and whose turn it is are above.
-ghost use Rattle.std.specs.Prelude.{◌≡◌, ◌≤◌, ◌++◌, drop, length, map, Option, Some, None, IfSome, OnOk, OnErr};
-ghost use Rattle.std.specs.Bool.{OnTrue, OnFalse};
+ghost use Rattle.std.specs.Prelude.{◌≡◌, ◌≤◌, ◌++◌, drop, length, Option, Some, None, IfSome, OnOk, OnErr};
 ghost use Rattle.std.specs.Option.{option_map};
 ghost use Rattle.session_handler.specs.View.{config_view};
 ghost use Rattle.ldap_session.specs.Octets.{joined};
@@ -19,45 +18,16 @@ use bytes::BytesMut;
 use session_handler::{AnswerError, Answered, Config, Directory, Next};
 use std::alloc::{AllocError, Global};
 
-/// How many octets responses have in all, to reserve room for them at once; 18446744073709551615 stands for more too.
-fn weight(responses: &[Vec<u8>]) -> usize {
-    let mut weight = 0usize;
-    for response in responses {
-        weight = weight.saturating_add(response.len());
-    }
-    weight
-}
-
-/// Puts a response behind octets; whether there was memory for it.
-fn put_one(octets: &mut BytesMut, response: &[u8]) -> bool
-    ensures put { OnTrue result (octets.new.items ≡ octets.old.items ++ response.now) }
-    ensures left { OnFalse result (octets.new.items ≡ octets.old.items) }
+/// Puts responses behind octets, as these where there are none; whether there was memory for that.
+fn put_behind(octets: &mut BytesMut, responses: Vec<u8>) -> bool
+    ensures { HasGrown octets.old.items octets.new.items responses.items result }
 {
-    match octets.extend_from_slice(response) {
+    if octets.is_empty() {
+        *octets = BytesMut::from_vec(responses);
+        return true;
+    }
+    match octets.extend_from_slice(&responses) {
         Ok(()) => true,
-        Err(_) => false,
-    }
-}
-
-/// Puts responses behind octets, one after the other; whether there was memory for all.
-fn put_each(octets: &mut BytesMut, responses: &[Vec<u8>]) -> bool
-    ensures { HasGrown octets.old.items octets.new.items (joined (map (λ v. v.items) responses.now)) result }
-{
-    for response in responses {
-        if !put_one(octets, response) {
-            return false;
-        }
-    }
-    true
-}
-
-/// The same, where room for all is reserved at once.
-#[tactic(auto, using(crate::proofs::Kept::none_grown))]
-fn put_behind(octets: &mut BytesMut, responses: &[Vec<u8>]) -> bool
-    ensures { HasGrown octets.old.items octets.new.items (joined (map (λ v. v.items) responses.now)) result }
-{
-    match octets.reserve(weight(responses)) {
-        Ok(()) => put_each(octets, responses),
         Err(_) => false,
     }
 }
@@ -133,12 +103,13 @@ impl Conversation {
     /// Keeps what a message is answered with behind what is unsent.
     fn keep(&mut self, answered: Answered) -> Step
         ensures { (conversation_view self.old).end ≡ None
-            → Keeps (conversation_view self.old) (conversation_view self.new) (joined (map (λ v. v.items) answered.responses.items)) answered.next result }
+            → Keeps (conversation_view self.old) (conversation_view self.new) (joined answered.responses) answered.next result }
     {
-        if !put_behind(&mut self.unsent, &answered.responses) {
+        let next = answered.next;
+        if !put_behind(&mut self.unsent, answered.into_octets()) {
             return self.close(SessionEnd::NoMemory);
         }
-        match answered.next {
+        match next {
             Next::GoesOn => Step::Answered,
             Next::Unbound => self.close(SessionEnd::Unbound),
             Next::Disconnected => self.close(SessionEnd::Disconnected),

@@ -30,6 +30,6 @@ pub use serving::serve;
 pub use session::Session;
 pub use session_handler::{
     AnswerError, Answered, Client, CompareRequest, Config, Directory, Ended, Found, Gate, Look,
-    LookError, Name, Next, Reply, Role, SearchAnswer, SearchRequest, Update,
+    LookError, Name, Next, Reply, Responses, Role, SearchAnswer, SearchRequest, Update,
 };
 pub use writing::write_octets;

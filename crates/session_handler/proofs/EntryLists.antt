@@ -1,16 +1,17 @@
 -- The responses of a search, one after the other. Responses flow in; that one of them is too long, or what they are together, flows out. Octets
 -- are not read here.
-use Rattle.std.proofs.Common.{◌≡◌, ◌+◌, ◌<◌, ◌≤◌, ◌^◌, inl, inr, ℕ, List, [], ◌∷◌, ◌++◌, append_assoc, drop, get_or, map, length, sym, ap, ◌∙◌, subst, Result, Ok, Err}
-use Rattle.std.specs.Prelude.{IfOk, IsErrOf, Vec}
-use Rattle.std.specs.Global.{Global}
+use Rattle.std.proofs.Common.{◌≡◌, ◌+◌, ◌-◌, ◌<◌, ◌≤◌, ◌^◌, inl, inr, arith, ℕ, List, [], ◌∷◌, ◌++◌, append_assoc, drop, get_or, map, length, sym, ap, ◌∙◌, subst, Result, Ok, Err}
+use Rattle.std.specs.Prelude.{IfOk, IsErrOf}
 use Rattle.request_checks.specs.ldap_msg.Messages.{MessageValue}
 use Rattle.request_checks.specs.ldap_msg.Written.{message_bytes, message_content}
-use Rattle.std.proofs.lemmas.List.{drop_more, map-append}
+use Rattle.std.proofs.lemmas.List.{drop_more, length-append, map-append}
 use Rattle.request_checks.specs.ldap_msg.Messages.{search_entry}
 use Rattle.directory_api.specs.found_entry.View.{found_view}
 use Rattle.directory_api.specs.found_entry.declared.found.FoundEntry.{FoundEntry}
 use Rattle.request_checks.specs.Messages.{message, entry_messages, HasTooLong}
+use Rattle.session_handler.specs.Rows.{cut, total}
 use Rattle.session_handler.specs.Taken.{AreSaid}
+use Rattle.session_handler.proofs.Cutting.{cut_more, total_more}
 use Rattle.session_handler.specs.declared.answered.Answered.{Answered}
 use Rattle.session_handler.specs.declared.answered.Next.{Next}
 use Rattle.request_checks.specs.declared.fault.AnswerError.{AnswerError}
@@ -37,10 +38,10 @@ written_last ms m n front all is front_is same =
     ∙ sym (map-append message_bytes ms (n ∷ []))
 
 pub said_last : (ms : List MessageValue) (m n : MessageValue) (front : List (List ℕ)) (next : Next) (result : Result Answered AnswerError) → front ≡ map message_bytes ms → m ≡ n →
-    IfOk result (λ a. map (λ v. v.items) a.responses.items ≡ front ++ message_bytes m ∷ []) → IfOk result (λ a. a.next ≡ next) →
+    IfOk result (λ a. a.responses ≡ front ++ message_bytes m ∷ []) → IfOk result (λ a. a.next ≡ next) →
     (IsErrOf result TooLong → 2 ^ 32 ≤ length (message_content m)) → AreSaid (ms ++ n ∷ []) next result
 said_last ms m n front next (Ok a) front_is same written next_is long = record {
-  written = written_last ms m n front (map (λ v. v.items) a.responses.items) written front_is same;
+  written = written_last ms m n front a.responses written front_is same;
   next_is = next_is;
   too_long = λ is. absurd (cc);
 }
@@ -64,19 +65,22 @@ opened : (entries : List FoundEntry) (i : ℕ) (e : FoundEntry) → i < length e
 opened entries i e lt is = drop_more entries i e lt ∙ ap (λ (x : FoundEntry). x ∷ drop (i + 1) entries) (sym is)
 
 -- one more response, and those of the entries that are left then, are those of all entries
-pub written_more : (id : ℕ) (entries : List FoundEntry) (i : ℕ) (e : FoundEntry) (xs ys : List (Vec ℕ Global)) (v : Vec ℕ Global) (whole : List (List ℕ)) → i < length entries → e ≡ get_or entries i e
-    → v.items ≡ message_bytes (message id (search_entry (found_view e)) []) → ys ≡ xs ++ v ∷ []
-    → map (λ (w : Vec ℕ Global). w.items) xs ++ map message_bytes (entry_messages id (map found_view (drop i entries))) ≡ whole
-    → map (λ (w : Vec ℕ Global). w.items) ys ++ map message_bytes (entry_messages id (map found_view (drop (i + 1) entries))) ≡ whole
-written_more id entries i e xs ys v whole lt is octets more so_far =
+pub written_more : (id : ℕ) (entries : List FoundEntry) (i : ℕ) (e : FoundEntry) (ns octets ms new : List ℕ) (n : ℕ) (whole : List (List ℕ)) → i < length entries → e ≡ get_or entries i e
+    → total ns ≡ length octets → new ≡ octets ++ message_bytes (message id (search_entry (found_view e)) []) → n ≡ length new - length octets → ms ≡ ns ++ n ∷ []
+    → cut ns octets ++ map message_bytes (entry_messages id (map found_view (drop i entries))) ≡ whole
+    → (total ms ≡ length new) × (cut ms new ++ map message_bytes (entry_messages id (map found_view (drop (i + 1) entries))) ≡ whole)
+written_more id entries i e ns octets ms new n whole lt is sound more long added so_far =
+    let row : List ℕ = message_bytes (message id (search_entry (found_view e)) []) in
     let rest : List (List ℕ) = map message_bytes (entry_messages id (map found_view (drop (i + 1) entries))) in
-    let front : List (List ℕ) = map (λ (w : Vec ℕ Global). w.items) xs in
-    let grown : map (λ (w : Vec ℕ Global). w.items) ys ≡ front ++ v.items ∷ [] = ap (map (λ (w : Vec ℕ Global). w.items)) more ∙ map-append (λ (w : Vec ℕ Global). w.items) xs (v ∷ []) in
-    ap (λ (l : List (List ℕ)). l ++ rest) grown
-    ∙ append_assoc front (v.items ∷ []) rest
-    ∙ ap (λ (o : List ℕ). front ++ o ∷ rest) octets
-    ∙ ap (λ (l : List FoundEntry). front ++ map message_bytes (entry_messages id (map found_view l))) (sym (opened entries i e lt is))
-    ∙ so_far
+    let same : n ≡ length row = omega (arith, long, ap (λ (l : List ℕ). length l) more, length-append octets row) in (
+      ap total added ∙ total_more ns octets row n sound same ∙ ap (λ (l : List ℕ). length l) (sym more),
+      ap (λ (l : List ℕ). cut l new ++ rest) added
+          ∙ ap (λ (l : List ℕ). cut (ns ++ n ∷ []) l ++ rest) more
+          ∙ ap (λ (l : List (List ℕ)). l ++ rest) (cut_more ns octets row n sound same)
+          ∙ append_assoc (cut ns octets) (row ∷ []) rest
+          ∙ ap (λ (l : List FoundEntry). cut ns octets ++ map message_bytes (entry_messages id (map found_view l))) (sym (opened entries i e lt is))
+          ∙ so_far,
+    )
 
 -- one that is too long, of the entries that are left, is one of those that were left
 pub too_long_more : (id : ℕ) (entries : List FoundEntry) (i : ℕ) (e : FoundEntry) → i < length entries → e ≡ get_or entries i e

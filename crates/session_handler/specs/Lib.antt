@@ -1,4 +1,5 @@
 pub mod Responses
+pub mod Rows
 pub mod Session
 pub mod Turns
 pub mod Rising

@@ -16,7 +16,7 @@ use Rattle.request_checks.specs.declared.fault.AnswerError.TheVariants.{TooLong}
 -- These responses are answered, each in its one written form, and the session goes on or ends as said. TooLong only where one of them is too
 -- long; want of memory is the only other error.
 pub record AreSaid (responses : List MessageValue) (next : Next) (result : Result Answered AnswerError) : Type 0 where
-  pub written : IfOk result (λ a. map (λ v. v.items) a.responses.items ≡ map message_bytes responses)
+  pub written : IfOk result (λ a. a.responses ≡ map message_bytes responses)
   pub next_is : IfOk result (λ a. a.next ≡ next)
   pub too_long : IsErrOf result TooLong → HasTooLong responses
 

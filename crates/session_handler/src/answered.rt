@@ -1,4 +1,8 @@
 //! What one message is answered with. Octets of responses, and whether the session goes on. How they come about is not here.
+ghost use Rattle.std.specs.Prelude.{◌≡◌};
+ghost use Rattle.session_handler.specs.Rows.{joined};
+
+use crate::rows::Responses;
 
 /// Whether the session goes on after a message.
 #[derive(Clone, Copy)]
@@ -12,8 +16,8 @@ pub enum Next {
 
 /// What a message is answered with.
 pub struct Answered {
-    /// The octets of the responses, in order.
-    pub responses: Vec<Vec<u8>>,
+    /// The responses, written, in order.
+    pub responses: Responses,
     pub next: Next,
 }
 
@@ -24,5 +28,15 @@ impl Drop for Answered {
             responses: _,
             next: _,
         } = self;
+    }
+}
+
+impl Answered {
+    /// The octets of the responses, one after the other.
+    pub fn into_octets(self) -> Vec<u8>
+        ensures { result.items ≡ joined self.responses }
+    {
+        let Answered { responses, next: _ } = self;
+        responses.into_octets()
     }
 }

@@ -1,6 +1,6 @@
-//! Responses, as a session gives them. What answers a request flows in; octets flow out, one `Vec` a message. What a session does is not
+//! Responses, as a session gives them. What answers a request flows in; octets flow out, a message behind the other. What a session does is not
 //! here.
-ghost use Rattle.std.specs.Prelude.{◌≡◌, ◌≤◌, ◌^◌, ◌++◌, ◌∷◌, [], map, length, None, Ok, IfOk, IsErrOf};
+ghost use Rattle.std.specs.Prelude.{◌≡◌, ◌≤◌, ◌^◌, ◌++◌, ◌∷◌, [], map, length, None, Ok, IfOk, OnOk, IsErrOf};
 ghost use Rattle.request_checks.specs.ldap_msg.View.{response_view, result_view};
 ghost use Rattle.request_checks.specs.ldap_msg.Written.{message_bytes, message_content};
 ghost use Rattle.request_checks.specs.ldap_msg.Messages.{search_entry};
@@ -13,11 +13,13 @@ ghost use Rattle.session_handler.specs.Responses.{result_of, code_message, reply
 ghost use Rattle.session_handler.specs.Taken.{AreSaid};
 
 use crate::answered::{Answered, Next};
+use crate::rows::Responses;
 use directory_api::{Found, FoundEntry, LookError, Reply, SearchAnswer, read_ahead};
 use request_checks::{
     AnswerError, Answering, EncodeError, ExtendedResponse, LdapResult, Response, ResultCode,
     response_to, write_numbered, write_plain,
 };
+use smallvec::SmallVec;
 use std::alloc::{AllocError, Global};
 
 /// responseName of the Notice of Disconnection (RFC 4511 4.4.1).
@@ -48,20 +50,18 @@ pub fn silence(alloc: Global, next: Next) -> Result<Answered, AnswerError>
     ensures { AreSaid [] next result }
 {
     Ok(Answered {
-        responses: Vec::new(alloc),
+        responses: Responses::none(alloc),
         next,
     })
 }
 
 /// One response, after which the session goes on.
 fn one_answer(alloc: Global, octets: Vec<u8>) -> Result<Answered, AllocError>
-    ensures responses { IfOk result (λ a. map (λ v. v.items) a.responses.items ≡ octets.items ∷ []) }
+    ensures responses { IfOk result (λ a. a.responses ≡ octets.items ∷ []) }
     ensures next { IfOk result (λ a. a.next ≡ Next.GoesOn) }
 {
-    let mut responses = Vec::new(alloc);
-    responses.push(octets)?;
     Ok(Answered {
-        responses,
+        responses: Responses::one(alloc, octets)?,
         next: Next::GoesOn,
     })
 }
@@ -128,10 +128,9 @@ pub fn disconnect(alloc: Global) -> Result<Answered, AnswerError>
         response_name: Some(response_name),
         response_value: None,
     };
-    let mut responses = Vec::new(alloc);
-    responses.push(write_plain(alloc, 0, Response::Extended(notice))?)?;
+    let octets = write_plain(alloc, 0, Response::Extended(notice))?;
     Ok(Answered {
-        responses,
+        responses: Responses::one(alloc, octets)?,
         next: Next::Disconnected,
     })
 }
@@ -139,34 +138,53 @@ pub fn disconnect(alloc: Global) -> Result<Answered, AnswerError>
 /// Responses, and a last one with a number, where the request named one, after which the session goes on.
 fn with_last(
     alloc: Global,
-    mut responses: Vec<Vec<u8>>,
+    responses: Responses,
     id: u32,
     last: Response,
     asked: Option<u64>,
     number: u64,
 ) -> Result<Answered, AnswerError>
-    ensures written { IfOk result (λ a. map (λ v. v.items) a.responses.items
-        ≡ map (λ v. v.items) responses.items ++ message_bytes (message id (response_view last) (number_told asked number)) ∷ []) }
+    ensures written { IfOk result (λ a. a.responses
+        ≡ responses ++ message_bytes (message id (response_view last) (number_told asked number)) ∷ []) }
     ensures next { IfOk result (λ a. a.next ≡ Next.GoesOn) }
     ensures too_long { IsErrOf result AnswerError.TooLong
         → 2 ^ 32 ≤ length (message_content (message id (response_view last) (number_told asked number))) }
 {
-    responses.push(write_numbered(alloc, id, last, asked, number)?)?;
+    let octets = write_numbered(alloc, id, last, asked, number)?;
     Ok(Answered {
-        responses,
+        responses: responses.and(&octets)?,
         next: Next::GoesOn,
     })
 }
 
-/// The response that shows an entry, written from the entry itself.
-fn write_found(alloc: Global, id: u32, entry: &FoundEntry) -> Result<Vec<u8>, AnswerError>
-    ensures ok { IfOk result (λ octets. octets.items ≡ message_bytes (message id (search_entry (found_view entry.now)) [])) }
+/// Writes the response that shows an entry, from the entry itself, behind what is there.
+fn put_found(
+    alloc: Global,
+    id: u32,
+    entry: &FoundEntry,
+    octets: &mut Vec<u8>,
+) -> Result<(), AnswerError>
+    ensures ok { OnOk result (octets.new.items ≡ octets.old.items ++ message_bytes (message id (search_entry (found_view entry.now)) [])) }
     ensures too_long { IsErrOf result AnswerError.TooLong → 2 ^ 32 ≤ length (message_content (message id (search_entry (found_view entry.now)) [])) }
 {
-    entry.encode(alloc, id).map_err(|error| match error {
+    entry.put(alloc, id, octets).map_err(|error| match error {
         EncodeError::TooLong => AnswerError::TooLong,
         EncodeError::NoMemory => AnswerError::NoMemory,
     })
+}
+
+/// So many octets a response to a search are reserved ahead.
+const ROOM: usize = 256;
+
+/// So many octets are reserved ahead at most.
+const MOST_ROOM: usize = 1_048_576;
+
+/// Room for the responses to a search that shows so many entries; more is made as they are written.
+fn room_for(alloc: Global, entries: usize) -> Result<Vec<u8>, AllocError>
+    ensures { IfOk result (λ v. v.items ≡ []) }
+{
+    let room = entries.saturating_add(1).saturating_mul(ROOM);
+    Vec::with_capacity(alloc, room.min(MOST_ROOM))
 }
 
 /// So many entries are read ahead together.
@@ -186,11 +204,12 @@ fn entry_responses(
     alloc: Global,
     id: u32,
     entries: Vec<FoundEntry>,
-) -> Result<Vec<Vec<u8>>, AnswerError>
-    ensures ok { IfOk result (λ r. map (λ v. v.items) r.items ≡ map message_bytes (entry_messages id (map found_view entries.items))) }
+) -> Result<Responses, AnswerError>
+    ensures ok { IfOk result (λ r. r ≡ map message_bytes (entry_messages id (map found_view entries.items))) }
     ensures too_long { IsErrOf result AnswerError.TooLong → HasTooLong (entry_messages id (map found_view entries.items)) }
 {
-    let mut responses = Vec::with_capacity(alloc, entries.len().saturating_add(1))?;
+    let mut octets = room_for(alloc, entries.len())?;
+    let mut lengths = SmallVec::with_capacity(alloc, entries.len().saturating_add(1))?;
     let mut read = 0u64;
     let mut at = 0usize;
     for entry in &entries {
@@ -198,13 +217,15 @@ fn entry_responses(
             read = read.wrapping_add(read_some(&entries, at));
         }
         at = at.saturating_add(1);
-        responses.push(write_found(alloc, id, entry)?)?;
+        let before = octets.len();
+        put_found(alloc, id, entry, &mut octets)?;
+        lengths.push(octets.len().saturating_sub(before))?;
     }
     // What was read ahead says nothing; by this use the compiler keeps the reads.
     if read == u64::MAX {
-        responses.reserve(1)?;
+        octets.reserve(1)?;
     }
-    Ok(responses)
+    Ok(Responses::of(octets, lengths))
 }
 
 /// What a search found: its entries, and then the done message.

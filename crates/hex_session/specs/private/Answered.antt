@@ -1,6 +1,6 @@
 -- What a session over lines of hex comes to: what contracts that aren't public say of it.
 -- What public contracts say is in specs/Answered.
-use Rattle.std.specs.Prelude.{◌≡◌, ◌⊎◌, ℕ, List, [], ◌++◌, map, Option}
+use Rattle.std.specs.Prelude.{◌≡◌, ◌⊎◌, ℕ, List, [], ◌++◌, Option}
 use Rattle.std.specs.Io.KnownBytes.{Appends}
 use Rattle.ldap_session.specs.directory_api.Talk.{Exchange}
 use Rattle.ldap_session.specs.session_handler.Session.{ConfigValue}
@@ -31,7 +31,7 @@ ComesTo allows c d e s read written DisconnectedNext = Ends message_lines allows
 
 -- what a message is answered with is written, each response a line
 pub record HasPut (output grown : Option (List ℕ)) (given : Answered) (next : Next) : Type 0 where
-  pub appended : Appends output grown (hex_lines (map (λ v. v.items) given.responses.items))
+  pub appended : Appends output grown (hex_lines given.responses)
   pub goes : given.next ≡ next
 
 -- Wherever a session stood, it has written more lines, and comes to this.

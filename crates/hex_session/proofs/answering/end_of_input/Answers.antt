@@ -1,4 +1,4 @@
-use Rattle.std.proofs.Common.{◌≡◌, List, [], sym, ◌∙◌, subst, ap, None, ⊎_elim, inl, inr, refl}
+use Rattle.std.proofs.Common.{◌≡◌, ⊎_elim, inr, refl}
 use Rattle.ldap_session.specs.View.{SessionValue, session_view}
 use Rattle.ldap_session.specs.Progress.{IsAtLast}
 use Rattle.ldap_session.specs.declared.end.SessionEnd.{SessionEnd}

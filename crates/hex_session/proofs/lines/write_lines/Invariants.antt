@@ -1,7 +1,11 @@
-use Rattle.std.proofs.Common.{take, map}
+use Rattle.std.proofs.Common.{◌≡◌, drop, take}
 use Rattle.std.specs.Io.KnownBytes.{Appends}
+use Rattle.ldap_session.specs.Octets.{joined}
 use Rattle.hex_session.specs.private.Lines.{hex_lines}
 use Rattle.hex_session.proofs.lines.write_lines.Given as goal
 
-abbrev pub invariant-loop-response : goal.invariant-loop-response
-invariant-loop-response g l = Appends (g.W.Write.contents l.fn.output) (g.W.Write.contents l.output) (hex_lines (map (λ v. v.items) (take l.response-index l.responses)))
+-- the lines of the responses so far are written, and the octets of the others are left
+abbrev pub invariant-loop-length : goal.invariant-loop-length
+invariant-loop-length g l =
+    Appends (g.W.Write.contents l.fn.output) (g.W.Write.contents l.output) (hex_lines (take l.length-index l.fn.responses))
+    × (l.rest ≡ joined (drop l.length-index l.fn.responses))
