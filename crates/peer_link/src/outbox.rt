@@ -40,6 +40,16 @@ impl<T: Drop> Drop for Outbox<T> {
     }
 }
 
+impl<T> Held<T> {
+    /// The next item, where one waits; none, once it is stopped.
+    fn take(&mut self) -> Option<T> {
+        if self.is_stopping {
+            return None;
+        }
+        Some(self.queue.pop()?.into_item())
+    }
+}
+
 impl<T> Outbox<T> {
     /// Nothing waits yet.
     pub fn new(
@@ -70,19 +80,12 @@ impl<T> Outbox<T> {
         let mut held = self.changed.wait_while(rt, self.held.lock(rt), |held| {
             !held.is_stopping && held.queue.is_empty()
         });
-        if held.is_stopping {
-            return None;
-        }
-        Some(held.queue.pop()?.into_item())
+        held.take()
     }
 
     /// The next item, where one waits; none, once it is stopped.
     pub fn take_waiting<R: Wait>(&self, rt: &R) -> Option<T> {
-        let mut held = self.held.lock(rt);
-        if held.is_stopping {
-            return None;
-        }
-        Some(held.queue.pop()?.into_item())
+        self.held.lock(rt).take()
     }
 
     /// Waits for so long, or until it is stopped; whether it is.
