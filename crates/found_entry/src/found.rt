@@ -1,6 +1,6 @@
 //! An entry that a search found, as it is shown. A name and a stored entry, or attributes that were made, flow in; copies and octets of the
 //! message that shows it flow out. What is found is not told here.
-ghost use Rattle.std.specs.Prelude.{◌≡◌, ◌≤◌, ◌^◌, ◌++◌, [], map, length, string_bytes, IfOk, OnOk, IsErrOf};
+ghost use Rattle.std.specs.Prelude.{◌≡◌, ◌≤◌, ◌^◌, ◌++◌, [], drop, map, length, string_bytes, IfOk, OnOk, IsErrOf};
 ghost use Rattle.std.specs.Arc.{arc_value};
 ghost use Rattle.dir_tree.specs.dir_entry.Entry.{attributes_of};
 ghost use Rattle.ldap_msg.specs.Messages.{response, search_entry};
@@ -75,6 +75,7 @@ fn put_stored(
     ensures ok { OnOk result (out.new.items ≡ out.old.items ++ message_bytes (record { id = id; op = response (search_entry (record { object_name = object_name.now; attributes = shown_of shows.now (attributes_of attributes.now) })); controls = [] })) }
     ensures too_long { IsErrOf result EncodeError.TooLong
         → 2 ^ 32 ≤ length (message_content (record { id = id; op = response (search_entry (record { object_name = object_name.now; attributes = shown_of shows.now (attributes_of attributes.now) })); controls = [] })) }
+    ensures kept { out.new.items ≡ out.old.items ++ drop (length out.old.items) out.new.items }
 {
     match shows.show_all(alloc, attributes) {
         Ok(shown) => put_search_entry(alloc, id, object_name, &shown, out),
@@ -130,12 +131,13 @@ impl FoundEntry {
         })
     }
 
-    /// Writes the message without controls that shows it behind what is there, each octet of its values once. TooLong only where its
-    /// content is over 4294967295 octets.
+    /// Writes the message without controls that shows it, each octet of its values once, behind what is there, which stays whatever comes.
+    /// TooLong only where its content is over 4294967295 octets.
     pub fn put(&self, alloc: Global, id: u32, out: &mut Vec<u8>) -> Result<(), EncodeError>
         ensures ok { OnOk result (out.new.items ≡ out.old.items ++ message_bytes (record { id = id; op = response (search_entry (found_view self.now)); controls = [] })) }
         ensures too_long { IsErrOf result EncodeError.TooLong
             → 2 ^ 32 ≤ length (message_content (record { id = id; op = response (search_entry (found_view self.now)); controls = [] })) }
+        ensures kept { out.new.items ≡ out.old.items ++ drop (length out.old.items) out.new.items }
     {
         match &self.found {
             Found::Stored(entry, shows) => {

@@ -1,7 +1,7 @@
 //! Wire, messages: the one spelling of a message that is written, each octet of an entry once.
 //! In: a message. Out: its octets, or an error. Not here: the parts of each operation.
 
-ghost use Rattle.std.specs.Prelude.{◌≡◌, ◌%◌, ◌^◌, ◌<◌, ◌≤◌, ◌++◌, ◌∷◌, ◌⊎◌, [], ℕ, List, length, map, min, IfOk, IfErr, IsErrOf, OnOk};
+ghost use Rattle.std.specs.Prelude.{◌≡◌, ◌%◌, ◌^◌, ◌<◌, ◌≤◌, ◌++◌, ◌∷◌, ◌⊎◌, [], ℕ, List, drop, length, map, min, IfOk, IfErr, IsErrOf, OnOk, OnErr};
 ghost use Rattle.ldap_requests.specs.ldap_ber.Element.{length_octets, element_bytes};
 ghost use Rattle.ldap_requests.specs.ldap_fields.Written.{number_bytes};
 ghost use Rattle.ldap_responses.specs.Written.{entry_content};
@@ -90,6 +90,7 @@ fn begin(
     ensures total_fits { OnOk result (total < 2 ^ 32) }
     ensures content_fits { OnOk result (content < 2 ^ 32) }
     ensures too_long { IsErrOf result WriteError.TooLong → (2 ^ 32 ≤ content) ⊎ (2 ^ 32 ≤ total) }
+    ensures kept { out.new.items ≡ out.old.items ++ drop (length out.old.items) out.new.items }
 {
     reserve(total, out)?;
     write_head(0x30, total, out)?;
@@ -102,6 +103,7 @@ fn begin(
 fn put_octets(octets: &[u8], out: &mut Vec<u8>) -> Result<(), WriteError>
     ensures ok { OnOk result (out.new.items ≡ out.old.items ++ octets.now) }
     ensures no_memory { IfErr result (λ e. e ≡ WriteError.NoMemory) }
+    ensures err { OnErr result (out.new.items ≡ out.old.items) }
 {
     match out.extend_from_slice(octets) {
         Ok(()) => Ok(()),
@@ -134,6 +136,7 @@ fn put_entry_message<A: AttributeParts>(
           object_name = object_name.now;
           attributes = map A.attribute attributes.now;
         }))) controls.now) }
+    ensures kept { out.new.items ≡ out.old.items ++ drop (length out.old.items) out.new.items }
 {
     let content = entry_length(object_name, attributes);
     let total = message_length(id, content, controls.len());
@@ -144,7 +147,7 @@ fn put_entry_message<A: AttributeParts>(
 }
 
 /// Writes a message without controls that shows an entry of this name with these attributes, each octet
-/// of these once, behind what is there. E3 as `encode` has it.
+/// of these once, behind what is there, which stays whatever comes. E3 as `encode` has it.
 pub fn put_search_entry<A: AttributeParts>(
     alloc: Global,
     id: u32,
@@ -172,6 +175,7 @@ pub fn put_search_entry<A: AttributeParts>(
       }));
       controls = [];
     })) }
+    ensures kept { out.new.items ≡ out.old.items ++ drop (length out.old.items) out.new.items }
 {
     put_entry_message(alloc, id, object_name, attributes, &[], out)
 }

@@ -41,7 +41,7 @@ impl Model for Responses {
 }
 
 impl Responses {
-    /// None.
+    /// No response.
     pub(crate) fn none(alloc: Global) -> Responses
         ensures { result ≡ [] }
     {
@@ -51,7 +51,7 @@ impl Responses {
         }
     }
 
-    /// One, whose octets these are.
+    /// One response, whose octets these are.
     pub(crate) fn one(alloc: Global, octets: Vec<u8>) -> Result<Responses, AllocError>
         ensures { IfOk result (λ r. r ≡ octets.items ∷ []) }
     {
@@ -60,7 +60,7 @@ impl Responses {
         Ok(Responses { octets, lengths })
     }
 
-    /// Those of these lengths, whose octets these are.
+    /// The responses of these lengths, whose octets these are.
     pub(crate) fn of(octets: Vec<u8>, lengths: Lengths) -> Responses
         requires { total lengths.items ≡ length octets.items }
         ensures { result ≡ cut lengths.items octets.items }
