@@ -13,6 +13,10 @@ fn after_first<'a>(octets: &'a [u8], part: &[u8]) -> Option<&'a [u8]>
         (λ rest. (before : List ℕ) × (octets.now ≡ before ++ part.now ++ rest.now)
         × ((b a : List ℕ) → octets.now ≡ b ++ part.now ++ a → length before ≤ length b)) }
 {
+    // what looks for a part is made from all of it first
+    if part.len() > octets.len() {
+        return None;
+    }
     let at = memmem::find(octets, part)?;
     Some(&octets[at + part.len()..])
 }
