@@ -1,7 +1,8 @@
 -- What a format writes, in another order of its parts.
-use Rattle.std.proofs.Common.{◌≡◌, ℕ, List, ◌++◌, Result, Some, IfOk, IfSome, ap, ◌∙◌, append_assoc}
+use Rattle.std.proofs.Common.{◌≡◌, ℕ, List, ◌++◌, Result, Some, IfOk, IfSome, ap, refl, ◌∙◌, append_assoc}
 use Rattle.std.proofs.lemmas.Result.{IfOk-weaker}
 use Rattle.status_page.specs.Samples.{figure}
+use Rattle.status_page.specs.Pages.{response}
 
 pub written_as : {E : Type 0} {S : Type 0} (octets : S → List ℕ) (r : Result S E) (xs ys : List ℕ) → xs ≡ ys →
     IfOk r (λ s. IfSome (Some xs) (λ bs. octets s ≡ bs)) → IfOk r (λ s. octets s ≡ ys)
@@ -17,3 +18,14 @@ pub figure_of : {E : Type 0} {S : Type 0} (octets : S → List ℕ) (r : Result 
 figure_of octets r name help kind shown samples e h =
     IfOk-weaker r (λ s. octets s ≡ figure name help kind shown) (λ s. octets s ≡ figure name help kind samples)
     (λ s p. p ∙ ap (λ (x : List ℕ). figure name help kind x) e) h
+
+-- two parts, one after the other
+pub two : (a b k l : List ℕ) → a ≡ k → b ≡ l → a ++ b ≡ k ++ l
+two a b k l p q = rw (p, q) refl
+
+-- a response with another text, that is the same octets
+pub response_of : {E : Type 0} {S : Type 0} (octets : S → List ℕ) (r : Result S E) (status shown text : List ℕ) → shown ≡ text →
+    IfOk r (λ s. octets s ≡ response status shown) → IfOk r (λ s. octets s ≡ response status text)
+response_of octets r status shown text e h =
+    IfOk-weaker r (λ s. octets s ≡ response status shown) (λ s. octets s ≡ response status text)
+    (λ s p. p ∙ ap (λ (x : List ℕ). response status x) e) h

@@ -12,10 +12,33 @@ pub enum Role {
     Recovering,
 }
 
+/// What keeps a replica that has its state from serving as it should.
+#[derive(Clone, Copy, Debug, PartialEq, Eq)]
+pub enum Trouble {
+    None,
+    /// It has been at one step for longer than a suspect period.
+    Stuck,
+    /// It has been at one step for so long that it no longer says it is alive.
+    Hung,
+    /// It is the primary, and hears from no majority.
+    NoMajority,
+}
+
+/// How the program was built.
+#[derive(Clone, Copy, Debug, PartialEq, Eq)]
+pub enum Build {
+    /// The prover has checked each function before it was built.
+    Proved,
+    /// Nothing was checked.
+    Unproved,
+}
+
 /// What a replica does at a moment, as numbers.
 #[derive(Clone, Copy)]
 pub struct Figures {
+    pub build: Build,
     pub role: Role,
+    pub trouble: Trouble,
     pub view_number: u64,
     /// The number of the last update that it has made.
     pub last_update: u64,
@@ -98,6 +121,20 @@ impl Role {
             Role::Backup => "backup",
             Role::Changing => "changing",
             Role::Recovering => "recovering",
+        }
+    }
+}
+
+impl Build {
+    ghost use Rattle.status_page.specs.Pages.{proved_word};
+
+    /// Whether the program's proofs were checked.
+    pub fn proved_word(self) -> &'static str
+        ensures { result.now ≡ proved_word self }
+    {
+        match self {
+            Build::Proved => "yes",
+            Build::Unproved => "no",
         }
     }
 }
