@@ -1,3 +1,5 @@
 pub mod Clock
 pub mod Signs
 pub mod Pace
+pub mod Steps
+pub mod Majority

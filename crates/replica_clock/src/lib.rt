@@ -11,11 +11,15 @@
 #![tactic(auto)]
 
 mod clock;
+mod majority;
 mod pace;
 mod sign;
+mod steps;
 mod times;
 
 pub use clock::{Asked, Due, ReplicaClock};
+pub use majority::Majority;
 pub use pace::Pace;
 pub use sign::{Sign, sign_of};
+pub use steps::{Progress, Steps, long_steps_are_told};
 pub use times::Times;
