@@ -1,3 +1,4 @@
 pub mod Waiting
 pub mod Reading
+pub mod KeepAlive
 pub mod private

@@ -12,8 +12,18 @@ pub trait Dial {
     /// A new stream, where one can be made now.
     fn dial(&mut self) -> Option<Self::Stream>;
 
-    /// Whether the other end still holds the stream, as far as that shows.
-    fn is_open(&mut self, stream: &Self::Stream) -> bool;
+    /// What has come back on the stream since it was asked last. It waits for nothing.
+    fn hear(&mut self, stream: &Self::Stream) -> Heard;
+}
+
+/// What has come back on a stream.
+#[derive(Clone, Copy, Debug, PartialEq, Eq)]
+pub enum Heard {
+    Nothing,
+    /// The other end has answered.
+    Answer,
+    /// The other end has closed the stream, or it has failed.
+    End,
 }
 
 /// Dials one address, or whatever addresses a name has at the moment.
@@ -52,16 +62,28 @@ impl<'a, R: Net<Stream = TcpStream>> SocketDialer<'a, R> {
     }
 }
 
-/// Nothing is ever sent back on such a stream, so what can be read of it is its end.
-fn looks_open(stream: &TcpStream) -> io::Result<bool> {
+/// How many octets of answers are read at once: one comes for each question, and one for the greeting.
+const ANSWERS: usize = 64;
+
+/// What can be read of a stream that doesn't wait.
+fn read_answers(mut stream: &TcpStream) -> Heard {
+    let mut octets = [0u8; ANSWERS];
+    match stream.read(&mut octets) {
+        Ok(0) => Heard::End,
+        Ok(_) => Heard::Answer,
+        Err(error) => match error.kind() {
+            ErrorKind::WouldBlock | ErrorKind::Interrupted => Heard::Nothing,
+            _ => Heard::End,
+        },
+    }
+}
+
+/// What has come back on a stream.
+fn answers_on(stream: &TcpStream) -> io::Result<Heard> {
     stream.set_nonblocking(true)?;
-    let mut octet = [0u8; 1];
-    let is_open = match stream.peek(&mut octet) {
-        Ok(_) => false,
-        Err(error) => error.kind() == ErrorKind::WouldBlock,
-    };
+    let heard = read_answers(stream);
     stream.set_nonblocking(false)?;
-    Ok(is_open)
+    Ok(heard)
 }
 
 impl<'a, R: Net<Stream = TcpStream>> Dial for SocketDialer<'a, R> {
@@ -74,7 +96,7 @@ impl<'a, R: Net<Stream = TcpStream>> Dial for SocketDialer<'a, R> {
         }
     }
 
-    fn is_open(&mut self, stream: &TcpStream) -> bool {
-        looks_open(stream).unwrap_or(false)
+    fn hear(&mut self, stream: &TcpStream) -> Heard {
+        answers_on(stream).unwrap_or(Heard::End)
     }
 }

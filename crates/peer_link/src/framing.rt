@@ -12,4 +12,10 @@ pub trait Framing<T> {
     /// The next frame of that item, where there is one more. An item that can't be made a frame of, or not all of it, is lost, and this is told
     /// by whoever makes the frames.
     fn next_frame(&mut self) -> Option<Bytes>;
+
+    /// The other end is there: it has answered, or it is one that never answers and its stream is open.
+    fn heard(&mut self);
+
+    /// The other end has been silent for too long: its stream is closed, and another one is made.
+    fn silent(&mut self);
 }

@@ -7,6 +7,15 @@ use std::alloc::{AllocError, Global};
 use std::sync::{Condvar, CondvarTimeouts, Mutex, Wait};
 use std::time::{Clock, Duration};
 
+/// What came of waiting for an item.
+pub enum Waited<T> {
+    Item(T),
+    /// None came in time.
+    Nothing,
+    /// Nothing is sent any more.
+    Stopped,
+}
+
 /// What is under the lock.
 struct Held<T> {
     queue: Queue<T>,
@@ -75,12 +84,20 @@ impl<T> Outbox<T> {
         self.changed.notify_all();
     }
 
-    /// Waits for the next item; none, once it is stopped. The lock is free again before the item is used.
-    pub fn take<R: Wait>(&self, rt: &R) -> Option<T> {
-        let mut held = self.changed.wait_while(rt, self.held.lock(rt), |held| {
-            !held.is_stopping && held.queue.is_empty()
-        });
-        held.take()
+    /// Waits for the next item, but only for so long. The lock is free again before the item is used.
+    pub fn take<R: Wait + Clock>(&self, rt: &R, time: Duration) -> Waited<T> {
+        let (mut held, _) = self
+            .changed
+            .wait_timeout_while(rt, self.held.lock(rt), time, |held| {
+                !held.is_stopping && held.queue.is_empty()
+            });
+        if held.is_stopping {
+            return Waited::Stopped;
+        }
+        match held.take() {
+            Some(item) => Waited::Item(item),
+            None => Waited::Nothing,
+        }
     }
 
     /// The next item, where one waits; none, once it is stopped.

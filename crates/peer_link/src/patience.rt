@@ -5,13 +5,13 @@ ghost use Rattle.std.specs.Prelude.{◌≡◌, ◌*◌, ◌≤◌, min};
 const FIRST: u64 = 50;
 
 /// The longest rest, in milliseconds.
-const LONGEST: u64 = 1600;
+const LONGEST: u64 = 500;
 
-/// How long to rest after failures in a row: 50 ms at first, then twice as long each time, 1.6 s at most.
+/// How long to rest after failures in a row: 50 ms at first, then twice as long each time, half a second at most.
 #[derive(Clone, Copy, Debug, PartialEq, Eq)]
 pub struct Patience {
     next: u64,
-    ghost short: { next ≤ 1600 },
+    ghost short: { next ≤ 500 },
 }
 
 impl Patience {
@@ -24,7 +24,7 @@ impl Patience {
     /// How long to rest after one more failure, in milliseconds.
     pub fn rest(&mut self) -> u64
         ensures rest { result ≡ self.old.next }
-        ensures next { self.new.next ≡ min (2 * self.old.next) 1600 }
+        ensures next { self.new.next ≡ min (2 * self.old.next) 500 }
     {
         let rest = self.next;
         *self = Patience {

@@ -1,15 +1,16 @@
 //! What waits is sent by a thread of its own: each item becomes frames here, which are written to a stream. What frames say is not here.
-use crate::dialing::Dial;
+use crate::dialing::{Dial, Heard};
 use crate::framing::Framing;
-use crate::outbox::Outbox;
+use crate::keep_alive::KeepAlive;
+use crate::outbox::{Outbox, Waited};
 use crate::patience::Patience;
 use std::alloc::Global;
 use std::io::{BufWriter, Write};
 use std::sync::Wait;
 use std::time::{Clock, Duration, Instant};
 
-/// After so many milliseconds without an item it is looked whether the other end still holds the stream.
-const IDLE: u64 = 1000;
+/// The question whether the other end is there: a frame of no octets, which is no message's.
+const QUESTION: [u8; 4] = [0; 4];
 
 /// Frames of so many octets in all go out in one write, where their items wait together.
 const HELD_BACK: usize = 16_384;
@@ -17,17 +18,24 @@ const HELD_BACK: usize = 16_384;
 /// No frame is held back while more than so many items are begun after its own.
 const TOGETHER: usize = 64;
 
-/// Whether nothing was sent for so long that the stream is to be looked at.
-fn was_idle<R: Clock>(rt: &R, last: &mut Option<Instant>) -> bool {
-    let now = Instant::now(rt).ok();
-    let was_idle = match (*last, now) {
-        (Some(before), Some(now)) => {
-            now.saturating_duration_since(before) >= Duration::from_millis(IDLE)
-        }
-        _ => true,
-    };
-    *last = now;
-    was_idle
+/// How often the other end is asked whether it is there, and how long it may be silent then.
+#[derive(Clone, Copy)]
+pub struct LinkTimes {
+    pub beat: Duration,
+    pub silence: Duration,
+}
+
+/// A time in microseconds, as far as they fit.
+fn micros(time: Duration) -> u64 {
+    u64::try_from(time.as_micros()).unwrap_or(u64::MAX)
+}
+
+/// The moment of now, in microseconds since another one; 0, where the clock can't be read.
+fn moment<R: Clock>(rt: &R, began: Option<Instant>) -> u64 {
+    match (began, Instant::now(rt)) {
+        (Some(began), Ok(now)) => micros(now.saturating_duration_since(began)),
+        _ => 0,
+    }
 }
 
 /// Gives a stream up, with what it hasn't taken.
@@ -80,16 +88,60 @@ fn dial_and_greet<R: Wait + Clock, T, F: Framing<T>, D: Dial>(
     None
 }
 
-/// The stream, unless nothing was sent over it for long and the other end has closed it.
-fn still_open<D: Dial>(
+/// Takes note of what has come back on a stream; whether its other end is there.
+fn listen<T, F: Framing<T>, D: Dial>(
+    framing: &mut F,
     dialer: &mut D,
+    keep_alive: &mut KeepAlive,
+    stream: &D::Stream,
+    now: u64,
+) -> bool {
+    match dialer.hear(stream) {
+        Heard::End => return false,
+        Heard::Answer => {
+            keep_alive.hear();
+            framing.heard();
+        }
+        Heard::Nothing => {
+            if !keep_alive.answers() {
+                framing.heard();
+            }
+        }
+    }
+    if keep_alive.is_gone(now) {
+        framing.silent();
+        return false;
+    }
+    true
+}
+
+/// Asks whether the other end is there, where it is one that answers; whether the stream took the question.
+fn ask<W: Write>(keep_alive: &mut KeepAlive, stream: &mut W, now: u64) -> bool {
+    keep_alive.ask(now);
+    if !keep_alive.answers() {
+        return true;
+    }
+    stream.write_all(&QUESTION).is_ok() && stream.flush().is_ok()
+}
+
+/// The stream, unless its other end has closed it or is silent for too long. The other end is asked once a beat.
+fn still_open<T, F: Framing<T>, D: Dial>(
+    framing: &mut F,
+    dialer: &mut D,
+    keep_alive: &mut KeepAlive,
     held: Option<BufWriter<D::Stream>>,
-    was_idle: bool,
+    now: u64,
 ) -> Option<BufWriter<D::Stream>> {
-    let stream = held?;
-    if !was_idle || dialer.is_open(stream.get_ref()) {
+    let mut stream = held?;
+    if !keep_alive.is_due(now) {
         return Some(stream);
     }
+    if listen(framing, dialer, keep_alive, stream.get_ref(), now)
+        && ask(keep_alive, &mut stream, now)
+    {
+        return Some(stream);
+    }
+    give_up(stream);
     None
 }
 
@@ -134,9 +186,27 @@ fn write_waiting<R: Wait, T, F: Framing<T>, W: Write>(
     stream.flush().is_ok()
 }
 
-/// Sends what waits in a queue, item by item in the order of the queue, over a stream that is made again whenever it fails or the other end has
-/// closed it, until the queue is stopped. The first stream is made before there is an item, and a greeting is first on each. Frames are made
-/// here, once there is a stream for them, and outside the queue's lock; those of items that wait together go out together. An item whose stream
+/// Writes an item, where there is one, and those that wait behind it; the stream, where it took them.
+fn sent<R: Wait, T, F: Framing<T>, W: Write + Drop>(
+    rt: &R,
+    outbox: &Outbox<T>,
+    framing: &mut F,
+    mut stream: BufWriter<W>,
+    item: Option<T>,
+) -> Option<BufWriter<W>> {
+    let Some(item) = item else {
+        return Some(stream);
+    };
+    if write_waiting(rt, outbox, framing, &mut stream, item) {
+        return Some(stream);
+    }
+    give_up(stream);
+    None
+}
+
+/// Sends what waits in a queue, item by item in the order of the queue, over a stream that is made again whenever it fails, or its other end has
+/// closed it or is silent for too long, until the queue is stopped. A stream is made before there is an item, and a greeting is first on each. Frames are
+/// made here, once there is a stream for them, and outside the queue's lock; those of items that wait together go out together. An item whose stream
 /// fails is lost, whole or in part, with those that were to go out with it, and so is the stream.
 pub fn send_all<R: Wait + Clock, T: Drop, F: Framing<T>, D: Dial>(
     rt: &R,
@@ -144,26 +214,27 @@ pub fn send_all<R: Wait + Clock, T: Drop, F: Framing<T>, D: Dial>(
     outbox: &Outbox<T>,
     framing: &mut F,
     dialer: &mut D,
+    times: LinkTimes,
 ) {
+    let began = Instant::now(rt).ok();
+    let mut keep_alive = KeepAlive::new(micros(times.beat), micros(times.silence));
     let mut stream = dial_and_greet(rt, alloc, outbox, framing, dialer);
-    let mut last: Option<Instant> = None;
+    keep_alive.begin(moment(rt, began));
     for _ in rt.forever() {
-        let Some(item) = outbox.take(rt) else {
-            break;
+        let item = match outbox.take(rt, times.beat) {
+            Waited::Item(item) => Some(item),
+            Waited::Nothing => None,
+            Waited::Stopped => break,
         };
-        let was_idle = was_idle(rt, &mut last);
-        stream = still_open(dialer, stream, was_idle);
+        let now = moment(rt, began);
+        stream = still_open(framing, dialer, &mut keep_alive, stream, now);
         if stream.is_none() {
             stream = dial_and_greet(rt, alloc, outbox, framing, dialer);
+            keep_alive.begin(moment(rt, began));
         }
-        let Some(mut open) = stream else {
+        let Some(open) = stream else {
             return;
         };
-        if write_waiting(rt, outbox, framing, &mut open, item) {
-            stream = Some(open);
-        } else {
-            give_up(open);
-            stream = None;
-        }
+        stream = sent(rt, outbox, framing, open, item);
     }
 }
