@@ -35,9 +35,18 @@ class Tap:
         rest = b""
         try:
             with taken, socket.create_connection(("127.0.0.1", self.port), 5) as onward:
+                threading.Thread(target=self._pass_back, args=(onward, taken), daemon=True).start()
                 while piece := taken.recv(65536):
                     onward.sendall(piece)
                     rest = self._count(rest + piece)
+        except OSError:
+            pass
+
+    def _pass_back(self, onward: socket.socket, taken: socket.socket) -> None:
+        """Answers go the other way."""
+        try:
+            while piece := onward.recv(4096):
+                taken.sendall(piece)
         except OSError:
             pass
 
@@ -48,7 +57,9 @@ class Tap:
             end = at + 4 + int.from_bytes(octets[at:at + 4], "big")
             if end > len(octets):
                 break
-            self.counts[octets[at + KIND_AT]] += 1
+            # a frame of no octets asks whether the other end is there
+            if end > at + KIND_AT:
+                self.counts[octets[at + KIND_AT]] += 1
             at = end
         return octets[at:]
 

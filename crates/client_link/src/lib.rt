@@ -40,6 +40,6 @@ pub use ldap_session::{
 };
 pub use limits::Limits;
 pub use patience::stretch;
-pub use peer::Peer;
+pub use peer::{Answering, Peer};
 pub use pieces::PieceReader;
 pub use serving::serve_all;

@@ -8,7 +8,26 @@ use std::io;
 use std::io::BufReader;
 use std::net::TcpStream;
 use std::sync::Wait;
-use std::time::Clock;
+use std::time::{Clock, Duration};
+
+/// A stream whose other end asks whether it is heard.
+pub trait Answering {
+    /// Tells the other end that it is heard.
+    fn answer(&mut self) -> io::Result<()>;
+
+    /// From now on the other end sends something within this time, as long as it is there.
+    fn expect_within(&mut self, silence: Duration);
+}
+
+impl<'a, R: Wait + Clock> Answering for BufReader<PieceReader<'a, R, FrameHeading>> {
+    fn answer(&mut self) -> io::Result<()> {
+        self.get_mut().answer()
+    }
+
+    fn expect_within(&mut self, silence: Duration) {
+        self.get_mut().expect_within(silence);
+    }
+}
 
 /// A stream that another replica, or a stranger, has opened. It is a stranger's until it is trusted.
 pub struct Peer<'a, R> {

@@ -4,7 +4,7 @@ ghost use Rattle.std.specs.Prelude.{◌≤◌};
 use crate::door::Door;
 use crate::gauge::{Gauge, Heading};
 use std::io;
-use std::io::{ErrorKind, Read};
+use std::io::{ErrorKind, Read, Write};
 use std::net::TcpStream;
 use std::sync::Wait;
 use std::time::{Clock, Duration, Instant};
@@ -26,6 +26,8 @@ pub struct PieceReader<'a, R, H> {
     since_octet: Instant,
     /// Since when it is a stranger, where it is one.
     stranger_since: Option<Instant>,
+    /// How long it may be silent, where it says in time that it is there.
+    silence: Option<Duration>,
 }
 
 // Not derived: see "What the gate takes" in docs/ARCHITECTURE.md.
@@ -40,6 +42,7 @@ impl<'a, R, H: Drop> Drop for PieceReader<'a, R, H> {
             since_message: _,
             since_octet: _,
             stranger_since: _,
+            silence: _,
         } = self;
     }
 }
@@ -63,7 +66,18 @@ impl<'a, R: Wait + Clock, H: Heading> PieceReader<'a, R, H> {
             since_message: now,
             since_octet: now,
             stranger_since: None,
+            silence: None,
         })
+    }
+
+    /// Tells the other end that it is heard, by one octet: it may be asking. What the stream doesn't take is lost, and so is the stream then.
+    pub fn answer(&mut self) -> io::Result<()> {
+        self.stream.write_all(&[0])
+    }
+
+    /// The other end sends something within this time, as long as it is there.
+    pub fn expect_within(&mut self, silence: Duration) {
+        self.silence = Some(silence);
     }
 
     /// The other end is a stranger, and has been since its socket was taken.
@@ -128,6 +142,11 @@ impl<'a, R: Wait + Clock, H: Heading> PieceReader<'a, R, H> {
         let silent = now.saturating_duration_since(self.since_octet);
         if self.gauge.is_inside() && silent >= limits.message {
             return Ok(true);
+        }
+        if let Some(silence) = self.silence {
+            if silent >= silence {
+                return Ok(true);
+            }
         }
         let idle = now.saturating_duration_since(self.since_message);
         Ok(idle >= limits.idle && self.door.give_up(self.rt))

@@ -7,11 +7,15 @@
 mod serving;
 mod words;
 
+use command_line::BUILD;
 use dird_commands::{Ran, Status, SystemFiles, run};
 use serving::serve_as_replica;
 use std::io::{self, BufReader, BufWriter, Write};
 use std::process::ExitCode;
 use words::system_words;
+
+/// What a program says first whose proofs were not checked.
+const UNPROVED: &str = "unproved build: the same sources, their proofs not checked; ./prove checks them and builds the proved program\n";
 
 fn main(rt: HostRuntime) -> io::Result<ExitCode> {
     let alloc = rt.alloc();
@@ -19,6 +23,9 @@ fn main(rt: HostRuntime) -> io::Result<ExitCode> {
     let mut input = BufReader::new(alloc, rt.reader())?;
     let mut output = BufWriter::new(alloc, io::writer(&rt))?;
     let mut faults = Vec::new(alloc);
+    if !BUILD.is_proved() {
+        rt.eprint(UNPROVED)?;
+    }
     let ran = run(
         &SystemFiles(&rt),
         alloc,

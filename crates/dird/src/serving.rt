@@ -1,9 +1,9 @@
 //! What the words of `serve` ask for becomes a running replica: the settings flow on to the server, and why it ended flows back. What a word or
 //! a file means is not here.
-use command_line::Address as Told;
+use command_line::{Address as Told, BUILD};
 use dird_commands::Service;
 use server::{
-    Address, Cluster, Limits, Logs, NodeConfig, Options, Place, ServerError, Terms, Times, serve,
+    Address, Build, Cluster, Limits, Logs, NodeConfig, Options, Place, ServerError, Terms, Times, serve,
 };
 use std::alloc::{AllocError, Global};
 use std::fs::{File, Files};
@@ -103,6 +103,11 @@ where
         return Err(ServerError::ForeignCluster);
     };
     let options = Options {
+        build: if BUILD.is_proved() {
+            Build::Proved
+        } else {
+            Build::Unproved
+        },
         node: NodeConfig {
             schema,
             indexes,

@@ -148,7 +148,7 @@ impl<'a, 'r, R: Wait, D: Device, J: JournalDevice, I: Identity, P: Peers> Gate<O
     fn role(&mut self, alloc: Global) -> (Role, Option<Told<Here>>) {
         // No update more is asked of it.
         self.asked = self.asked.saturating_add(0);
-        let role = match self.running.standing() {
+        let role = match self.running.standing_to_sessions() {
             Standing::Primary => Role::Primary,
             Standing::Backup { primary } => self.backup_of(alloc, primary),
             Standing::Changing => Role::Changing,

@@ -46,5 +46,5 @@ pub use opened::{Opened, OpenedNode};
 pub use opening::{OpenOptions, open};
 pub use peers::{Peers, send_all};
 pub use published::Here;
-pub use replica_clock::{Pace, Sign, Times};
+pub use replica_clock::{Majority, Pace, Progress, Sign, Steps, Times};
 pub use running::{Running, Ticked, copies};

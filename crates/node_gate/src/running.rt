@@ -296,7 +296,11 @@ impl<'a, R: Wait, D: Device, J: JournalDevice, I: Identity> Running<'a, R, D, J,
         let held = self.changed.wait_while(
             rt,
             self.held.lock(rt),
-            |held| held.is_awaited(&request) && !has_left.load(Ordering::SeqCst),
+            |held| {
+                held.is_awaited(&request)
+                    && !has_left.load(Ordering::SeqCst)
+                    && self.standing.has_majority()
+            },
         );
         let node = held.node();
         let ended = ended_at(alloc, node, request.client, request.number);
@@ -312,6 +316,22 @@ impl<'a, R: Wait, D: Device, J: JournalDevice, I: Identity> Running<'a, R, D, J,
     /// The standing of the node after some event of the call or the last before it. It waits for nobody.
     pub fn standing(&self) -> Standing {
         self.standing.get()
+    }
+
+    /// That standing as sessions are told it: a primary that hears from no majority takes no update.
+    pub fn standing_to_sessions(&self) -> Standing {
+        self.standing.to_sessions()
+    }
+
+    /// The node hears from a majority, or from none: then those who wait for an update's outcome go on without it. It waits for nobody.
+    pub fn set_majority(&self, has_majority: bool) {
+        self.standing.set_majority(has_majority);
+        self.changed.notify_all();
+    }
+
+    /// How many holds of the lock have ended. It waits for nobody.
+    pub fn steps(&self) -> u64 {
+        self.standing.steps()
     }
 
     /// The whole of what the seats see at some moment of the call; none, where there is no place to tell it by. It takes no lock, and waits for

@@ -2,7 +2,7 @@
 ghost use Rattle.std.specs.Prelude.{◌≡◌, ◌<◌, ◌^◌};
 
 use dir_node::Standing;
-use std::sync::atomic::{AtomicU64, Ordering};
+use std::sync::atomic::{AtomicBool, AtomicU64, Ordering};
 
 /// The words of the standings that name no replica; other words are those of a backup, and name its primary.
 const PRIMARY: u64 = 0;
@@ -35,24 +35,54 @@ fn standing_of(word: u64) -> Standing {
     }
 }
 
-/// A node's standing after its last event.
+/// A node's standing after its last event, how many holds of its lock have ended, and whether it hears from a majority.
 #[derive(Drop)]
 pub struct LastStanding {
     word: AtomicU64,
+    steps: AtomicU64,
+    has_majority: AtomicBool,
 }
 
 impl LastStanding {
     pub fn new(standing: Standing) -> LastStanding {
         LastStanding {
             word: AtomicU64::new(word_of(standing)),
+            steps: AtomicU64::new(0),
+            has_majority: AtomicBool::new(true),
         }
     }
 
     pub fn set(&self, standing: Standing) {
         self.word.store(word_of(standing), Ordering::SeqCst);
+        self.steps.fetch_add(1, Ordering::SeqCst);
     }
 
     pub fn get(&self) -> Standing {
         standing_of(self.word.load(Ordering::SeqCst))
+    }
+
+    /// The standing to sessions: a primary that hears from no majority takes no update, as if its view were changing.
+    pub fn to_sessions(&self) -> Standing {
+        let standing = self.get();
+        if standing == Standing::Primary && !self.has_majority() {
+            Standing::Changing
+        } else {
+            standing
+        }
+    }
+
+    /// How many holds of the lock have ended.
+    pub fn steps(&self) -> u64 {
+        self.steps.load(Ordering::SeqCst)
+    }
+
+    /// Whether it hears from a majority.
+    pub fn has_majority(&self) -> bool {
+        self.has_majority.load(Ordering::SeqCst)
+    }
+
+    /// It hears from a majority, or from none.
+    pub fn set_majority(&self, has_majority: bool) {
+        self.has_majority.store(has_majority, Ordering::SeqCst);
     }
 }

@@ -1,6 +1,6 @@
 //! What a server is told. Plain data flows in and out. What is done with it is not here.
 use node_gate::{Name, NodeConfig};
-use server_threads::{Limits, Logs, Place, Terms};
+use server_threads::{Build, Limits, Logs, Place, Terms};
 use std::net::SocketAddr;
 use std::time::Duration;
 
@@ -16,6 +16,8 @@ pub struct Times {
 /// What a server is told.
 #[derive(Drop)]
 pub struct Options<'a> {
+    /// How the program was built.
+    pub build: Build,
     /// The replica.
     pub node: NodeConfig,
     /// The name that may bind and update.

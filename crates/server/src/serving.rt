@@ -10,7 +10,7 @@ use crate::ticking::{TimedNode, clock_times};
 use file_device::{FileDevice, JournalFile, ViewGuard};
 use node_gate::{Here, Identity, NodeGate, OpenOptions, Opened, Pace, Running, Seat, Told};
 use server_threads::{
-    Choices, Config, NoReads, PROCESS_STATUS, Place, Server, ServerError, SharedParts,
+    Build, Choices, Config, LinkTimes, NoReads, PROCESS_STATUS, Place, Server, ServerError, SharedParts,
     make_shared_parts,
 };
 use std::alloc::{AllocError, Global};
@@ -91,6 +91,7 @@ struct Terms<'a> {
     config: Config<'a>,
     sessions: usize,
     times: Times,
+    build: Build,
     /// Where each replica is found.
     places: &'a [Place<'a>],
 }
@@ -134,6 +135,8 @@ where
         guard,
         restarts: terms.config.restarts,
         resumed: running.resumed(rt),
+        build: terms.build,
+        trouble: AtomicU64::new(0),
     };
     let ways = ways(&clock, seats)?;
     let server = Server {
@@ -209,6 +212,7 @@ where
         seats,
         sessions,
         times,
+        build,
         places,
         ..
     } = options;
@@ -232,6 +236,7 @@ where
         config,
         sessions: sessions.max(1),
         times,
+        build,
         places,
     };
     let peer_queues = PeerQueues {
@@ -266,6 +271,10 @@ where
         updates: options.updates.clamp(1, UPDATES),
         metrics: options.metrics,
         logs: options.logs,
+        link_times: LinkTimes {
+            beat: options.times.beat,
+            silence: options.times.suspect,
+        },
     };
     let status = File::open(rt, PROCESS_STATUS).ok();
     let shared_parts = make_shared_parts(rt, alloc, options.places, index, choices, status)?;

@@ -16,6 +16,42 @@ pub fn tell_pulse<R: Wait>(rt: &R, alloc: Global, reporter: &Reporter, pulse: &P
     reporter.say(rt, line);
 }
 
+/// A step of the node that lasts for long: nothing says which call it waits in.
+pub fn tell_stuck<R: Wait>(rt: &R, alloc: Global, reporter: &Reporter) {
+    reporter.say(
+        rt,
+        format!(in alloc;
+            "stuck: a step of the node has lasted for longer than --suspect; it takes no update until it ends (does the disk of --store and --journal answer?)"
+        ),
+    );
+}
+
+/// A step that has lasted for so long that the replica says no more that it is there.
+pub fn tell_hung<R: Wait>(rt: &R, alloc: Global, reporter: &Reporter) {
+    reporter.say(
+        rt,
+        format!(in alloc; "stuck for longer than three times --suspect: the others go on without this replica; end it and start it again"),
+    );
+}
+
+/// A step that lasted for long has ended.
+pub fn tell_unstuck<R: Wait>(rt: &R, alloc: Global, reporter: &Reporter) {
+    reporter.say(rt, format!(in alloc; "no longer stuck"));
+}
+
+/// A primary that hears from no majority.
+pub fn tell_no_majority<R: Wait>(rt: &R, alloc: Global, reporter: &Reporter) {
+    reporter.say(
+        rt,
+        format!(in alloc; "no majority answers: updates are refused until one does"),
+    );
+}
+
+/// A primary that hears from a majority again.
+pub fn tell_majority<R: Wait>(rt: &R, alloc: Global, reporter: &Reporter) {
+    reporter.say(rt, format!(in alloc; "a majority answers again"));
+}
+
 /// A replica that goes on from its journal, with so many records.
 pub fn tell_resumed<R: Wait>(
     rt: &R,

@@ -3,14 +3,17 @@
 use crate::opening::fault_of_node;
 use crate::options::Times;
 use crate::peer_queues::{PeerQueues, PeerQueuesAt};
-use crate::telling::{tell_caught_up, tell_pulse, tell_resumed};
+use crate::telling::{
+    tell_caught_up, tell_hung, tell_majority, tell_no_majority, tell_pulse, tell_resumed,
+    tell_stuck, tell_unstuck,
+};
 use file_device::{FileDevice, JournalFile, ViewGuard};
 use node_gate::{
-    Arrival, Identity, NodeError, Op, Pace, PeerMessage, Pulse, Running, Send, Standing, Ticked,
-    copies, send_all,
+    Arrival, Identity, Majority, NodeError, Op, Pace, PeerMessage, Progress, Pulse, Running, Send,
+    Standing, Steps, Ticked, copies, send_all,
 };
-use server_threads::{Engine, Figures, Role, ServerError, SharedParts};
-use std::alloc::Global;
+use server_threads::{Build, Engine, Figures, Role, ServerError, SharedParts, Trouble};
+use std::alloc::{AllocError, Global};
 use std::fs::{File, Files};
 use std::io::Read;
 use std::sync::Wait;
@@ -30,8 +33,15 @@ struct Watch {
     /// What the last beat sent, and when that may be sent again.
     beat: Vec<Send<Op>>,
     pace: Pace,
-    /// When all threads that were to have begun had, last.
-    whole_at: u64,
+    /// Since when threads are missing that were to have begun, where some are.
+    short_since: Option<u64>,
+    /// How the step goes that the node is at, and what was told of it.
+    steps: Steps,
+    progress: Progress,
+    /// Which replicas are heard, by how many signs of life each had given at the last look.
+    majority: Majority,
+    signs: Vec<u64>,
+    has_majority: bool,
     /// When the file of the stored view was looked at, last.
     looked_at: u64,
 }
@@ -56,6 +66,52 @@ pub struct TimedNode<'a, 'r, R: Wait, I: Identity> {
     /// How many records the journal told of the log, where the node is still to catch up with them; asked before any thread begins, since it may
     /// catch up at once.
     pub resumed: Option<u64>,
+    pub build: Build,
+    /// What keeps the replica from serving, as a word.
+    pub trouble: AtomicU64,
+}
+
+/// The words of what keeps a replica from serving.
+const WELL: u64 = 0;
+
+const STUCK: u64 = 1;
+
+const HUNG: u64 = 2;
+
+const NO_MAJORITY: u64 = 3;
+
+/// What keeps a replica from serving, by its word.
+fn trouble_of(word: u64) -> Trouble {
+    match word {
+        STUCK => Trouble::Stuck,
+        HUNG => Trouble::Hung,
+        NO_MAJORITY => Trouble::NoMajority,
+        _ => Trouble::None,
+    }
+}
+
+/// What is known of a node with its clock before the first look.
+fn first_watch<'a, 'r, R: Wait, I: Identity>(
+    timed: &TimedNode<'a, 'r, R, I>,
+    pulse: Pulse,
+    now: u64,
+) -> Result<Watch, AllocError> {
+    let shared_parts: &SharedParts = timed.shared_parts;
+    let times = clock_times(&timed.times);
+    let count = shared_parts.uris.len();
+    let own = usize::from(shared_parts.sender);
+    Ok(Watch {
+        pulse,
+        beat: Vec::new(timed.alloc),
+        pace: Pace::new(times),
+        short_since: None,
+        steps: Steps::new(times),
+        progress: Progress::Well,
+        majority: Majority::new(timed.alloc, times, own, count, now)?,
+        signs: Vec::from_elem(timed.alloc, 0u64, count)?,
+        has_majority: true,
+        looked_at: 0,
+    })
 }
 
 impl<'a, 'r, R: Wait + Clock, I: Identity> TimedNode<'a, 'r, R, I> {
@@ -75,15 +131,86 @@ impl<'a, 'r, R: Wait + Clock, I: Identity> TimedNode<'a, 'r, R, I> {
         }
     }
 
-    /// Sends the last beat once more, where the node is at a step for longer than a beat: the others are to know that their primary is there.
+    /// Sends the last beat once more, where the node is at a step for longer than a beat: the others are to know that their primary is there. It is silent
+    /// where the step never seems to end, so that they go on without it.
     fn beat_again(&self, watch: &mut Watch, now: u64) {
-        if !watch.pace.take_turn(now) {
+        if watch.progress == Progress::Hung || !watch.pace.take_turn(now) {
             return;
         }
         if let Ok(sends) = copies(self.alloc, watch.beat.as_slice()) {
             let mut peer_queues = self.peer_queues_at(now);
             send_all(&mut peer_queues, sends);
         }
+    }
+
+    /// Tells how the step goes that the node is at, where that has changed.
+    fn tell_step(&self, watch: &mut Watch, progress: Progress) {
+        if watch.progress == progress {
+            return;
+        }
+        watch.progress = progress;
+        match progress {
+            Progress::Well => tell_unstuck(self.rt, self.alloc, &self.shared_parts.reporter),
+            Progress::Stuck => tell_stuck(self.rt, self.alloc, &self.shared_parts.reporter),
+            Progress::Hung => tell_hung(self.rt, self.alloc, &self.shared_parts.reporter),
+        }
+    }
+
+    /// The node is at a step.
+    fn note_busy(&self, watch: &mut Watch, now: u64) {
+        watch.steps.busy(self.running.steps(), now);
+        let progress = watch.steps.progress(now);
+        self.tell_step(watch, progress);
+    }
+
+    /// The node is at no step.
+    fn note_free(&self, watch: &mut Watch) {
+        watch.steps.free();
+        self.tell_step(watch, Progress::Well);
+    }
+
+    /// Takes note of the signs of life that other replicas have given since the last look.
+    fn hear_signs(&self, watch: &mut Watch, now: u64) {
+        for (from, seen) in watch.signs.iter_mut().enumerate() {
+            let signs = self.shared_parts.counters.signs_of(from);
+            if *seen != signs {
+                *seen = signs;
+                watch.majority.hear(from, now);
+            }
+        }
+    }
+
+    /// Looks whether a primary still hears from a majority, and tells sessions and the operator where that has changed.
+    fn look_for_majority(&self, watch: &mut Watch, now: u64) {
+        self.hear_signs(watch, now);
+        let is_heard = watch.majority.ask(now);
+        let has_majority = is_heard || watch.pulse.standing != Standing::Primary;
+        if watch.has_majority == has_majority {
+            return;
+        }
+        watch.has_majority = has_majority;
+        self.running.set_majority(has_majority);
+        if !has_majority {
+            tell_no_majority(self.rt, self.alloc, &self.shared_parts.reporter);
+        } else if is_heard {
+            tell_majority(self.rt, self.alloc, &self.shared_parts.reporter);
+        }
+    }
+
+    /// Keeps for monitors what keeps the replica from serving.
+    fn keep_trouble(&self, watch: &Watch) {
+        let word = match watch.progress {
+            Progress::Hung => HUNG,
+            Progress::Stuck => STUCK,
+            Progress::Well => {
+                if watch.has_majority {
+                    WELL
+                } else {
+                    NO_MAJORITY
+                }
+            }
+        };
+        self.trouble.store(word, Ordering::SeqCst);
     }
 
     /// Takes note of what came of asking the clock.
@@ -107,16 +234,23 @@ impl<'a, 'r, R: Wait + Clock, I: Identity> TimedNode<'a, 'r, R, I> {
     fn tick(&self, watch: &mut Watch) -> u64 {
         let now = self.now();
         let mut peer_queues = self.peer_queues_at(now);
-        match self
+        let ticked = self
             .running
-            .tick(self.rt, self.alloc, &mut peer_queues, now)
-        {
-            Some(ticked) => self.take(watch, ticked, now),
+            .tick(self.rt, self.alloc, &mut peer_queues, now);
+        let wait = match ticked {
+            Some(ticked) => {
+                self.note_free(watch);
+                self.take(watch, ticked, now)
+            }
             None => {
+                self.note_busy(watch, now);
                 self.beat_again(watch, now);
                 AGAIN
             }
-        }
+        };
+        self.look_for_majority(watch, now);
+        self.keep_trouble(watch);
+        wait
     }
 
     /// Says once that the node has caught up with what its journal told, when it has; whether it has.
@@ -133,11 +267,18 @@ impl<'a, 'r, R: Wait + Clock, I: Identity> TimedNode<'a, 'r, R, I> {
 
     /// Whether threads are missing that should have begun long ago.
     fn is_short_of_threads(&self, watch: &mut Watch) -> bool {
-        let now = self.now();
         if self.shared_parts.needed_threads.is_whole() {
-            watch.whole_at = now;
+            watch.short_since = None;
+            return false;
         }
-        now.saturating_sub(watch.whole_at) >= THREADS_LIMIT * 1_000
+        let now = self.now();
+        match watch.short_since {
+            None => {
+                watch.short_since = Some(now);
+                false
+            }
+            Some(since) => now.saturating_sub(since) >= THREADS_LIMIT * 1_000,
+        }
     }
 }
 
@@ -184,6 +325,7 @@ where
 {
     fn hear(&self, from: u64, message: PeerMessage<Op>) -> bool {
         let now = self.now();
+        self.shared_parts.counters.hear(from);
         match &message {
             PeerMessage::NewState { .. } => self.peer_queues.asking.lock(self.rt).reset(),
             PeerMessage::PrepareOk { op_number, .. } => {
@@ -223,13 +365,7 @@ where
                 pulse.view_number,
             );
         }
-        let mut watch = Watch {
-            pulse,
-            beat: Vec::new(self.alloc),
-            pace: Pace::new(clock_times(&self.times)),
-            whole_at: 0,
-            looked_at: 0,
-        };
+        let mut watch = first_watch(self, pulse, self.now())?;
         for _ in self.rt.forever() {
             let wait = self.tick(&mut watch);
             if self.running.rest(self.rt, Duration::from_micros(wait)) {
@@ -270,6 +406,8 @@ where
 
     fn figures(&self) -> Figures {
         Figures {
+            build: self.build,
+            trouble: trouble_of(self.trouble.load(Ordering::SeqCst)),
             role: role_of(self.running.standing()),
             view_number: self.view_number.load(Ordering::SeqCst),
             last_update: self.last_update.load(Ordering::SeqCst),

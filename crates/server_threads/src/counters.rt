@@ -87,6 +87,7 @@ pub struct Counters {
     queued: Vec<AtomicU64>,
     sent: Vec<AtomicU64>,
     acknowledged: Vec<AtomicU64>,
+    signs: Vec<AtomicU64>,
 }
 
 // Not derived: see "What the gate takes" in docs/ARCHITECTURE.md.
@@ -103,6 +104,7 @@ impl Drop for Counters {
             queued: _,
             sent: _,
             acknowledged: _,
+            signs: _,
         } = self;
     }
 }
@@ -116,6 +118,7 @@ impl Counters {
         let queued = zeros(alloc, replicas)?;
         let sent = zeros(alloc, replicas)?;
         let acknowledged = zeros(alloc, replicas)?;
+        let signs = zeros(alloc, replicas)?;
         Ok(Counters {
             searches,
             compares,
@@ -127,7 +130,21 @@ impl Counters {
             queued,
             sent,
             acknowledged,
+            signs,
         })
+    }
+
+    /// The replica of this index is there: it has sent a message, or answered that it is heard.
+    pub fn hear(&self, from: u64) {
+        count_at(&self.signs, from);
+    }
+
+    /// How many signs of life the replica of this index has given.
+    pub fn signs_of(&self, from: usize) -> u64 {
+        match self.signs.get(from) {
+            Some(signs) => signs.load(Ordering::Relaxed),
+            None => 0,
+        }
     }
 
     /// So many threads answer reads.

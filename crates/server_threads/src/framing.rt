@@ -2,7 +2,7 @@
 use crate::counters::Counters;
 use crate::reporter::Reporter;
 use crate::shared_parts::SharedParts;
-use crate::telling::tell_lost;
+use crate::telling::{tell_lost, tell_silent};
 use peer_link::{Bytes, Framing};
 use replica_greeting::{Cluster, FrameSizes, Frames, Op, PeerMessage, Terms, WireError, greeting};
 use std::alloc::Global;
@@ -132,5 +132,13 @@ impl<'a, R: Wait> Framing<PeerMessage<Op>> for MessageFrames<'a, R> {
                 None
             }
         }
+    }
+
+    fn heard(&mut self) {
+        self.counters.hear(self.to as u64);
+    }
+
+    fn silent(&mut self) {
+        tell_silent(self.rt, self.alloc, self.reporter, self.to);
     }
 }

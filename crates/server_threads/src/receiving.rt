@@ -9,11 +9,11 @@ use crate::telling::{
 use crossbeam_channel::Receiver;
 use peer_link::{FrameEnd, read_head, read_more, read_rest};
 use replica_greeting::{Came, Gathering, Met, Term, Terms, WireError, meet, rest};
-use session_pool::Peer;
+use session_pool::{Answering, Peer};
 use std::alloc::Global;
 use std::io::Read;
 use std::sync::Wait;
-use std::time::Clock;
+use std::time::{Clock, Duration};
 
 /// How many octets of a greeting follow its first ones.
 const GREETING_REST: u32 = 96;
@@ -29,7 +29,12 @@ pub struct PeerReaders<'a, R, E> {
     pub links: &'a Links,
     /// What other replicas must have alike.
     pub terms: Terms,
+    /// How long a replica may be silent that asks whether it is heard.
+    pub silence: Duration,
 }
+
+/// The question whether the other end is there: a frame of no octets.
+const QUESTION: [u8; 4] = [0; 4];
 
 /// Why a connection ended, as it is told.
 fn reason_of(end: FrameEnd) -> &'static str {
@@ -52,18 +57,43 @@ fn heading_of(frame: &[u8]) -> Result<[u8; HEADING], &'static str> {
 }
 
 impl<'a, R: Wait + Clock, E: Engine> PeerReaders<'a, R, E> {
-    /// Reads the first octets of a frame. No more than these get room, whatever length is announced.
-    fn next_heading<S: Read>(&self, reader: &mut S) -> Result<Vec<u8>, &'static str> {
-        let head = read_head(reader).map_err(reason_of)?;
+    /// Reads the first octets of a frame behind its length. No more than these get room, whatever length is announced.
+    fn heading_behind<S: Read>(
+        &self,
+        reader: &mut S,
+        head: [u8; 4],
+    ) -> Result<Vec<u8>, &'static str> {
         if rest(head).map_err(refusal_of)? < BEHIND_LENGTH {
             return Err("E20");
         }
         read_rest(self.alloc, reader, head, BEHIND_LENGTH).map_err(reason_of)
     }
 
+    /// Reads the first octets of a frame.
+    fn next_heading<S: Read>(&self, reader: &mut S) -> Result<Vec<u8>, &'static str> {
+        let head = read_head(reader).map_err(reason_of)?;
+        self.heading_behind(reader, head)
+    }
+
+    /// Reads the length of the next frame that is no question; each question before it is answered.
+    fn next_head<S: Read + Answering>(&self, reader: &mut S) -> Result<[u8; 4], &'static str> {
+        for _ in self.rt.forever() {
+            let head = read_head(reader).map_err(reason_of)?;
+            if head != QUESTION {
+                return Ok(head);
+            }
+            if reader.answer().is_err() {
+                break;
+            }
+            reader.expect_within(self.silence);
+        }
+        Err("it failed")
+    }
+
     /// Reads one frame whole, or why there is none.
-    fn next_frame<S: Read>(&self, reader: &mut S) -> Result<Vec<u8>, &'static str> {
-        let mut frame = self.next_heading(reader)?;
+    fn next_frame<S: Read + Answering>(&self, reader: &mut S) -> Result<Vec<u8>, &'static str> {
+        let head = self.next_head(reader)?;
+        let mut frame = self.heading_behind(reader, head)?;
         let left = self
             .senders
             .rest_of(heading_of(&frame)?)
@@ -110,7 +140,7 @@ impl<'a, R: Wait + Clock, E: Engine> PeerReaders<'a, R, E> {
     }
 
     /// Reads one frame, and takes it; gives its sender.
-    fn take_next<S: Read>(
+    fn take_next<S: Read + Answering>(
         &self,
         gathering: &mut Gathering,
         reader: &mut S,
@@ -119,8 +149,11 @@ impl<'a, R: Wait + Clock, E: Engine> PeerReaders<'a, R, E> {
         self.take_frame(gathering, &frame)
     }
 
-    /// Reads the frames of the replica that greeted, to the end of the connection.
-    fn read_all<S: Read>(&self, reader: &mut S, peer: u64) -> &'static str {
+    /// Tells the replica that greeted that it is heard, and reads its frames, to the end of the connection.
+    fn read_all<S: Read + Answering>(&self, reader: &mut S, peer: u64) -> &'static str {
+        if reader.answer().is_err() {
+            return "it failed";
+        }
         let mut gathering = Gathering::new();
         for _ in self.rt.forever() {
             match self.take_next(&mut gathering, reader) {
@@ -133,7 +166,7 @@ impl<'a, R: Wait + Clock, E: Engine> PeerReaders<'a, R, E> {
     }
 
     /// Hears a replica that greeted with the same terms, to the end of the connection.
-    fn hear_peer<S: Read>(&self, reader: &mut S, peer: u64) {
+    fn hear_peer<S: Read + Answering>(&self, reader: &mut S, peer: u64) {
         if self.links.come(self.rt, peer) {
             tell_peer_twice(self.rt, self.alloc, self.reporter, peer);
         } else {

@@ -64,11 +64,12 @@ where
             self.shared_parts.boxes.get(to),
             self.places.get(to),
         ) {
-            let limit = Duration::from_millis(DIAL_LIMIT);
+            let times = self.shared_parts.link_times;
+            let limit = times.silence.min(Duration::from_millis(DIAL_LIMIT));
             let mut dialer = SocketDialer::new(self.rt, place.peer_address, limit);
             let (rt, alloc, cluster) = (self.rt, self.alloc, self.cluster);
             let mut frames = MessageFrames::new(rt, alloc, self.shared_parts, cluster, to);
-            send_all(rt, alloc, outbox, &mut frames, &mut dialer);
+            send_all(rt, alloc, outbox, &mut frames, &mut dialer, times);
         }
     }
 
@@ -124,6 +125,7 @@ where
             reporter: &self.shared_parts.reporter,
             links: &self.shared_parts.links,
             terms: self.shared_parts.terms,
+            silence: self.shared_parts.link_times.silence.saturating_add(self.shared_parts.link_times.silence),
         }
     }
 

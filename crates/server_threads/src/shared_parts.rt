@@ -7,7 +7,7 @@ use crate::logs::Logs;
 use crate::needed_threads::NeededThreads;
 use crate::places::{Place, own};
 use crate::reporter::Reporter;
-use peer_link::Outbox;
+use peer_link::{LinkTimes, Outbox};
 use replica_greeting::{Op, PeerMessage, Terms};
 use session_pool::{Door, HasDoor, Limits};
 use std::alloc::{AllocError, Global};
@@ -68,6 +68,8 @@ pub struct Choices {
     /// Where monitors are answered, if they are.
     pub metrics: Option<SocketAddr>,
     pub logs: Logs,
+    /// How often other replicas are asked whether they are there, and how long they may be silent then.
+    pub link_times: LinkTimes,
 }
 
 /// What a server's threads share, as it is made before they begin.
@@ -98,6 +100,7 @@ pub struct SharedParts {
     pub sender: u8,
     /// What all replicas must have alike.
     pub(crate) terms: Terms,
+    pub(crate) link_times: LinkTimes,
     /// How many clients are connected.
     pub(crate) sessions: AtomicU64,
     /// For each thread that updates, whether the client of its update has left.
@@ -142,6 +145,7 @@ impl Drop for SharedParts {
             links: _,
             sender: _,
             terms: _,
+            link_times: _,
             sessions: _,
             leaves: _,
             stays: _,
@@ -164,6 +168,7 @@ pub fn make_shared_parts<R: Net<Listener = TcpListener, Stream = TcpStream>>(
         updates,
         metrics,
         logs,
+        link_times,
     } = choices;
     let Some(place) = places.get(index as usize) else {
         return Err(ServerError::CannotListen);
@@ -208,6 +213,7 @@ pub fn make_shared_parts<R: Net<Listener = TcpListener, Stream = TcpStream>>(
         links,
         sender,
         terms,
+        link_times,
         sessions: AtomicU64::new(0),
         leaves,
         stays: AtomicBool::new(false),

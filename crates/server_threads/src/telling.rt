@@ -22,6 +22,14 @@ pub fn tell_peer_twice<R: Wait>(rt: &R, alloc: Global, reporter: &Reporter, send
     );
 }
 
+/// A peer that answers nothing any more on a connection to it.
+pub fn tell_silent<R: Wait>(rt: &R, alloc: Global, reporter: &Reporter, to: usize) {
+    reporter.say(
+        rt,
+        format!(in alloc; "replica {to} answers nothing: its connection is closed, and made again"),
+    );
+}
+
 /// What a replica has otherwise that must be alike, with the word that tells it.
 fn term_named(term: Term) -> &'static str {
     match term {

@@ -44,6 +44,7 @@ mod updaters;
 mod updating;
 
 pub use client_link::{
+    Answering,
     Client, CompareRequest, Config, Directory, Door, Ended, Found, HasDoor, Limits, LookError,
     Peer, Reply, Role, SearchAnswer, SearchRequest, SessionEnd, Update, accept_all, close,
 };

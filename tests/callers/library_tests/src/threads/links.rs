@@ -2,7 +2,8 @@
 
 use crate::threads::signal::Signal;
 use peer_link::{
-    Address, Bytes, Dial, FrameEnd, Framing, Outbox, SocketDialer, read_head, read_rest, send_all,
+    Address, Bytes, Dial, FrameEnd, Framing, Heard, LinkTimes, Outbox, SocketDialer, read_head,
+    read_rest, send_all,
 };
 use std::alloc::{AllocError, Global};
 use std::io::Write;
@@ -13,6 +14,12 @@ use std::test::*;
 use std::thread::Threads;
 use std::time::{Clock, Duration};
 use std::{io, thread};
+
+/// The other end is asked ten times a second whether it is there, and may be silent for half a second.
+const TIMES: LinkTimes = LinkTimes {
+    beat: Duration::from_millis(100),
+    silence: Duration::from_millis(500),
+};
 
 /// Frames that are sent as they are.
 #[derive(Drop)]
@@ -32,6 +39,10 @@ impl Framing<Bytes> for AsTheyAre {
     fn next_frame(&mut self) -> Option<Bytes> {
         self.next.take()
     }
+
+    fn heard(&mut self) {}
+
+    fn silent(&mut self) {}
 }
 
 /// A frame of one octet.
@@ -128,7 +139,7 @@ fn a_closed_link_is_made_again(rt: HostRuntime) -> Result<(), Fail> {
         || and_stop(&rt, &outbox, take_two(&rt, rt.alloc(), &listener, &outbox)),
         || {
             let mut dialer = SocketDialer::new(&rt, Address::Numbers(at), Duration::from_secs(5));
-            send_all(&rt, rt.alloc(), &outbox, &mut AsTheyAre { next: None }, &mut dialer);
+            send_all(&rt, rt.alloc(), &outbox, &mut AsTheyAre { next: None }, &mut dialer, TIMES);
         },
     );
     let (first, second) = taken?;
@@ -148,7 +159,7 @@ fn an_idle_link_that_was_closed_loses_no_frame(rt: HostRuntime) -> Result<(), Fa
         || and_stop(&rt, &outbox, take_late(&rt, rt.alloc(), &listener, &outbox)),
         || {
             let mut dialer = SocketDialer::new(&rt, Address::Numbers(at), Duration::from_secs(5));
-            send_all(&rt, rt.alloc(), &outbox, &mut AsTheyAre { next: None }, &mut dialer);
+            send_all(&rt, rt.alloc(), &outbox, &mut AsTheyAre { next: None }, &mut dialer, TIMES);
         },
     );
     let (first, second) = taken?;
@@ -222,8 +233,8 @@ impl<'a, R: Wait> Dial for PaperDialer<'a, R> {
         })
     }
 
-    fn is_open(&mut self, _stream: &Paper<'a, R>) -> bool {
-        true
+    fn hear(&mut self, _stream: &Paper<'a, R>) -> Heard {
+        Heard::Nothing
     }
 }
 
@@ -258,6 +269,10 @@ impl<'a, R: Wait> Framing<u8> for InTwo<'a, R> {
         self.left = [second, None];
         Bytes::from_vec(vec![in self.alloc; first?].ok()?).ok()
     }
+
+    fn heard(&mut self) {}
+
+    fn silent(&mut self) {}
 }
 
 #[test]
@@ -284,7 +299,7 @@ fn items_that_wait_go_out_in_one_write_outside_the_lock(rt: HostRuntime) -> Resu
                 outbox: &outbox,
                 left: [None, None],
             };
-            send_all(&rt, rt.alloc(), &outbox, &mut frames, &mut dialer);
+            send_all(&rt, rt.alloc(), &outbox, &mut frames, &mut dialer, TIMES);
         },
     );
     assert!(rt; has_come);

@@ -9,7 +9,8 @@ use ldap_session::{Config, Name};
 use replica_greeting::{Terms, greeting};
 use schema_reader::built_in_schema;
 use server_threads::{
-    Address, Choices, Engine, Figures, Logs, Place, Role, Server, ServerError, SharedParts,
+    Address, Build, Choices, Engine, Figures, LinkTimes, Logs, Place, Role, Server, ServerError,
+    SharedParts, Trouble,
     make_shared_parts,
 };
 use std::alloc::Global;
@@ -60,6 +61,10 @@ fn choices() -> Choices {
             updates: false,
             slow: 10_000,
         },
+        link_times: LinkTimes {
+            beat: Duration::from_millis(100),
+            silence: Duration::from_millis(500),
+        },
     }
 }
 
@@ -95,6 +100,8 @@ impl<'a, R: Wait + Clock> Engine for Ear<'a, R> {
 
     fn figures(&self) -> Figures {
         Figures {
+            build: Build::Proved,
+            trouble: Trouble::None,
             role: Role::Recovering,
             view_number: 0,
             last_update: 0,

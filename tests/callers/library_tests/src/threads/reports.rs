@@ -5,7 +5,7 @@ use ldap_op::Update;
 use peer_link::Framing;
 use replica_greeting::{Met, Term, Terms, meet};
 use server_threads::{
-    Address, Choices, Limits, Logs, MessageFrames, Note, NoteWriter, Place, Reporter,
+    Address, Choices, Limits, LinkTimes, Logs, MessageFrames, Note, NoteWriter, Place, Reporter,
     ServerError, SharedParts, make_shared_parts,
 };
 use std::alloc::{AllocError, Global};
@@ -144,6 +144,10 @@ fn parts_under(rt: &HostRuntime, terms: Terms) -> Result<SharedParts, ServerErro
             connections: false,
             updates: false,
             slow: 10_000,
+        },
+        link_times: LinkTimes {
+            beat: Duration::from_millis(100),
+            silence: Duration::from_millis(500),
         },
     };
     make_shared_parts(rt, rt.alloc(), &[place, place, place], 0, choices, None)
