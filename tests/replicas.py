@@ -17,17 +17,25 @@ MANAGER = "cn=admin,dc=example,dc=com"
 PASSWORD = "secret"
 # What is said by a replica that waits for others before it serves clients.
 WAITS = re.compile(r": recovering$|, resuming in view ")
+# What a program says first whose proofs were not checked.
+UNPROVED = "unproved build: the same sources, their proofs not checked; ./prove checks them and builds the proved program"
 # The time that begins a line of standard error, in UTC.
 TIME = re.compile(r"^\d{4}-\d\d-\d\dT\d\d:\d\d:\d\d\.\d{3}Z ")
 
 
 @functools.cache
 def program() -> str:
-    """The program: that of the environment's DIRD, or the repository's, built where it is not."""
+    """The program: that of the environment's DIRD, or the repository's: the proved one, where it stands and is fresh, else the unproved one, built where it is not."""
     if "DIRD" in os.environ:
         return os.environ["DIRD"]
-    subprocess.run([os.path.join(TOP, "dird"), "--version"], check=True, stdout=subprocess.DEVNULL)
-    return os.path.join(TOP, "crates", "dird", "out", "dird")
+    return subprocess.run([os.path.join(TOP, "tools", "program"), "dird"], check=True, stdout=subprocess.PIPE, text=True).stdout.strip()
+
+
+@functools.cache
+def is_proved() -> bool:
+    """Whether the program's proofs were checked, as it says itself."""
+    said = subprocess.run([program(), "--version"], check=True, stdout=subprocess.PIPE, stderr=subprocess.DEVNULL, text=True).stdout
+    return not said.rstrip().endswith("unproved")
 
 
 def free_ports(count: int) -> list[int]:
@@ -114,7 +122,8 @@ class Replica:
     def _keep(self, stream) -> None:
         """Keeps what it says on standard error, without the time; what it says of why it ends has none."""
         for line in stream:
-            self.lines.append(TIME.sub("", line.rstrip("\n")))
+            if line.rstrip("\n") != UNPROVED:
+                self.lines.append(TIME.sub("", line.rstrip("\n")))
 
     def pause(self) -> None:
         """Stops all of its threads, and comes back when the last one stands still: until then it may still acknowledge an update."""

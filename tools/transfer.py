@@ -39,11 +39,10 @@ class Failure(Exception):
 
 
 def program() -> str:
-    """The program: that of the environment's DIRD, or the repository's, built where it is not."""
+    """The program: that of the environment's DIRD, or the repository's: the proved one, where it stands and is fresh, else the unproved one, built where it is not."""
     if "DIRD" in os.environ:
         return os.environ["DIRD"]
-    subprocess.run([os.path.join(TOP, "dird"), "--version"], check=True, stdout=subprocess.DEVNULL)
-    return os.path.join(TOP, "crates", "dird", "out", "dird")
+    return subprocess.run([os.path.join(TOP, "tools", "program"), "dird"], check=True, stdout=subprocess.PIPE, text=True).stdout.strip()
 
 
 def place_of(uri: str) -> tuple[str, int]:

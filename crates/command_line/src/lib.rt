@@ -5,12 +5,14 @@
 //! `serve`, which has its own (`serving`). No clause but safety.
 #![tactic(auto)]
 
+mod build;
 mod logs;
 mod places;
 mod rows;
 mod serving;
 mod words;
 
+pub use build::{BUILD, Build};
 pub use clap::Error;
 pub use ldap_requests::Scope;
 pub use logs::Logs;

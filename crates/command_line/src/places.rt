@@ -62,6 +62,39 @@ fn address_of(word: &str) -> Option<Address<'_>> {
     })
 }
 
+/// Whether only this machine reaches an address, as far as its spelling shows.
+pub fn is_of_this_machine(address: &Address<'_>) -> bool {
+    match address {
+        Address::Numbers(address) => address.ip().is_loopback(),
+        Address::Name { host, port: _ } => *host == "localhost",
+    }
+}
+
+/// Whether an address stands for all of a machine's, which nobody else can be referred to.
+fn is_any(address: &Address<'_>) -> bool {
+    match address {
+        Address::Numbers(address) => address.ip().is_unspecified(),
+        Address::Name { host: _, port: _ } => false,
+    }
+}
+
+impl<'a> Peer<'a> {
+    /// Whether clients can be referred to the replica: by its URI, or else by an address that other machines reach.
+    pub fn is_referable(&self) -> bool {
+        self.uri.is_some() || !is_any(&self.ldap_address)
+    }
+
+    /// Whether two replicas are to be found at one address.
+    pub fn meets(&self, other: &Peer<'_>) -> bool {
+        self.peer_address == other.peer_address || self.ldap_address == other.ldap_address
+    }
+
+    /// Whether clients and other replicas are to be heard at one address.
+    pub fn meets_itself(&self) -> bool {
+        self.peer_address == self.ldap_address
+    }
+}
+
 /// Whether a character may stand in a URI (RFC 3986 2), escapes and all.
 fn is_in_uri(character: char) -> bool {
     character.is_ascii_graphic()

@@ -1,7 +1,8 @@
 //! The words of `serve`: what a replica is told. Matched words flow in, and a replica's settings flow out, or why they are none. What a
 //! replica does with them is not here.
+use crate::build::BUILD;
 use crate::logs::{Logs, logs_of};
-use crate::places::{Peer, peer_of};
+use crate::places::{Peer, is_of_this_machine, peer_of};
 use crate::rows::{INDEX_WORD, Order, SCHEMA_WORD, Takes, Word, command_of, refusal_by};
 use crate::words::as_text;
 use clap::{ArgMatches, Error};
@@ -255,6 +256,12 @@ const WORDS: &[Word] = &[
         help: "Log each search that evaluates its filter on more than so many entries, for want of an index",
     },
     Word {
+        name: "unproved",
+        value: "",
+        takes: Takes::Nothing,
+        help: "Serve beyond this machine although the program's proofs were not checked; a proved program needs no leave",
+    },
+    Word {
         name: "PEER",
         value: "",
         takes: Takes::Many { at_least_one: true },
@@ -291,7 +298,71 @@ fn peers_in<'a>(alloc: Global, words: &[&'a str]) -> Result<Vec<Peer<'a>>, Error
             }
         }
     }
+    judge_peers(alloc, &peers)?;
     Ok(peers)
+}
+
+/// Whether an address stands twice among those of the replicas.
+fn have_one_address(peers: &[Peer<'_>]) -> bool {
+    for (index, peer) in peers.iter().enumerate() {
+        if peer.meets_itself() || peers[..index].iter().any(|other| peer.meets(other)) {
+            return true;
+        }
+    }
+    false
+}
+
+/// Refuses replicas that contradict one another.
+fn judge_peers(alloc: Global, peers: &[Peer<'_>]) -> Result<(), Error> {
+    if have_one_address(peers) {
+        return Err(refusal(alloc, "an address stands twice among those of the PEERs"));
+    }
+    if peers.iter().any(|peer| !peer.is_referable()) {
+        return Err(refusal(
+            alloc,
+            "a PEER that hears clients at every address of its machine has the URI that clients are referred to behind it",
+        ));
+    }
+    Ok(())
+}
+
+/// How many beats a suspect period has, at least: one that is lost on its way is no reason for a suspicion.
+const BEATS: u64 = 3;
+
+/// Refuses times that contradict one another.
+fn judge_times(alloc: Global, beat: u64, suspect: u64) -> Result<(), Error> {
+    if beat.saturating_mul(BEATS) > suspect {
+        return Err(refusal(
+            alloc,
+            "--suspect is at least three times --beat, else a beat that is late is a suspicion",
+        ));
+    }
+    Ok(())
+}
+
+/// Whether all of a replica is within this machine: where it hears clients, other replicas and monitors.
+fn stays_here(own: &Peer<'_>, metrics: Option<SocketAddr>) -> bool {
+    let monitors = match metrics {
+        Some(address) => address.ip().is_loopback(),
+        None => true,
+    };
+    monitors && is_of_this_machine(&own.peer_address) && is_of_this_machine(&own.ldap_address)
+}
+
+/// Refuses to serve others by a program whose proofs were not checked, unless that is asked for.
+fn judge_build(
+    alloc: Global,
+    own: &Peer<'_>,
+    metrics: Option<SocketAddr>,
+    is_allowed: bool,
+) -> Result<(), Error> {
+    if BUILD.is_proved() || is_allowed || stays_here(own, metrics) {
+        return Ok(());
+    }
+    Err(refusal(
+        alloc,
+        "this program's proofs were not checked, so it serves only at 127.0.0.1, ::1 or localhost: ./prove builds the proved one; --unproved serves all the same",
+    ))
 }
 
 /// The number behind a word, which is there.
@@ -320,6 +391,7 @@ fn password_in<'a>(alloc: Global, matches: &ArgMatches<'a>) -> Result<Password<'
         matches.get_str("password"),
         matches.get_str("password-file"),
     ) {
+        (Some(""), None) => Err(refusal(alloc, "the password is empty")),
         (Some(text), None) => Ok(Password::Text(as_text(alloc, text)?)),
         (None, Some(path)) => Ok(Password::File(path)),
         _ => Err(refusal(
@@ -362,6 +434,14 @@ pub fn serving_in<'a>(alloc: Global, matches: &ArgMatches<'a>) -> Result<Serving
     let password = password_in(alloc, matches)?;
     let metrics = metrics_in(alloc, matches)?;
     let logs = logs_in(alloc, matches)?;
+    judge_times(
+        alloc,
+        number_in(matches, "beat"),
+        number_in(matches, "suspect"),
+    )?;
+    if let Some(own) = peers.get(index as usize) {
+        judge_build(alloc, own, metrics, matches.get_flag("unproved"))?;
+    }
     Ok(Serving {
         cluster: number_in(matches, "cluster"),
         index,

@@ -1,4 +1,5 @@
 //! The words of the command line: they flow in, a job flows out, or a text for the user. What a job does is not here.
+use crate::build::BUILD;
 use crate::rows::{INDEX_WORD, Order, SCHEMA_WORD, Takes, Word, command_of, refusal_by};
 use crate::serving::{SERVE, Serving, serving_in};
 use clap::{ArgMatches, Command, Error};
@@ -192,7 +193,7 @@ const ORDERS: &[Order] = &[
 /// The program's own words.
 fn program<'a>(alloc: Global) -> Command<'a> {
     Command::new(alloc, "dird")
-        .version("0.2.0")
+        .version(BUILD.version())
         .about("An LDAPv3 directory server whose answers are proved")
         .subcommand_required(true)
         .arg_required_else_help(true)
