@@ -18,8 +18,27 @@ use ldap_msg::{Message, MsgFault};
 use std::alloc::Global;
 use std::collections::VecDeque;
 
+/// How many octets of room a buffer may keep that it doesn't use: two reads of a socket.
+const ROOM: usize = 16_384;
+
+/// Gives back the room of a buffer, where that is more than 16 KiB and three times what the buffer holds: what it holds is copied to a
+/// buffer of its own size. Where there is no memory for that, the room stays. The copy costs less than the octets that have gone.
+fn give_back(alloc: Global, buffer: &mut BytesMut)
+    ensures { buffer.new.items ≡ buffer.old.items }
+{
+    let most = buffer.len().saturating_mul(3).max(ROOM);
+    if !buffer.try_reclaim(most) {
+        return;
+    }
+    match BytesMut::copy_from_slice(alloc, buffer.as_slice()) {
+        Ok(own) => *buffer = own,
+        Err(_) => {}
+    }
+}
+
 /// Cuts a stream into messages. A piece costs what its octets and its whole messages cost: what is
-/// left of a message is kept where it lies, and looked at again in its first six octets alone.
+/// left of a message is kept where it lies, and looked at again in its first six octets alone. Room grows by what came, never by what a
+/// header says will come; behind a large message it is given back.
 pub struct Framer {
     alloc: Global,
     buffer: BytesMut,
@@ -94,6 +113,9 @@ impl Framer {
                 match cut.fault {
                     None => {
                         self.buffer.advance(cut.taken);
+                        if cut.taken >= ROOM {
+                            give_back(self.alloc, &mut self.buffer);
+                        }
                         Ok(())
                     }
                     Some(fault) => {
@@ -122,13 +144,15 @@ impl Framer {
         self.ready.pop_front()
     }
 
-    /// Gives back the memory that was kept for octets and for messages, where none are held. A stream that pauses between two messages keeps
-    /// nothing then.
+    /// Gives back memory that was kept for octets and for messages: all of it where none are held, and for octets what is much more than those
+    /// that are held need. A stream that pauses between two messages keeps nothing then.
     pub fn rest(&mut self)
         ensures { framed self.new ≡ framed self.old }
     {
         if self.buffer.is_empty() {
             self.buffer = BytesMut::new(self.alloc);
+        } else {
+            give_back(self.alloc, &mut self.buffer);
         }
         if self.ready.is_empty() {
             self.ready = VecDeque::new(self.alloc);

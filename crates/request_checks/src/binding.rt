@@ -8,6 +8,7 @@ ghost use Rattle.request_checks.specs.Binding.{is_name_of, bound_without_passwor
 
 use crate::bound::Bound;
 use crate::identity::Identity;
+use crate::sameness::is_same;
 use dir_entry::{Name, NameError, Schema, are_same};
 use ldap_msg::{AuthenticationChoice, BindRequest, ResultCode};
 use std::alloc::{AllocError, Global};
@@ -60,7 +61,10 @@ fn bind_with_password(
 ) -> Result<Bound, AllocError>
     ensures { IfOk result (λ b. b ≡ bound_with_password schema.now manager.now manager_password.now name.now password.now) }
 {
-    if password == manager_password && is_manager(alloc, schema, manager, name)? {
+    // Both are asked, so that the time doesn't tell which of them is wrong.
+    let is_password = is_same(password, manager_password);
+    let is_name = is_manager(alloc, schema, manager, name)?;
+    if is_password && is_name {
         Ok(Bound {
             identity: Identity::Manager,
             code: ResultCode::SUCCESS,

@@ -27,8 +27,7 @@ use Rattle.dir_index.specs.Postings.{some_key, stands_in}
 use Rattle.search_plans.specs.Bounds.{is_test_decided}
 use Rattle.search_plans.specs.Decided.{has_index_for, is_decided_on}
 use Rattle.search_plans.specs.Held.{utf8_parts, stands_in_text, stands_in_some, has_prepared_runs, has_runs_by, has_runs_on}
-use Rattle.search_plans.specs.OctetRuns.{has_runs_of_test, runs_of_all}
-use Rattle.search_plans.specs.OctetRuns as runs
+use Rattle.search_plans.specs.OctetRuns.{has_runs_of_test, asked_runs}
 use Rattle.ldap_eval.specs.ldap_words.Octets.{utf8_of}
 
 -- what a test on keys says is what the item says
@@ -217,7 +216,7 @@ prepared_held : (s : SchemaModel) (ix : List Kinds) (r : Rule) (u : ℕ) → equ
     → has_runs_of_test ix u (test_of test.Parts (spelled_all o)) e ≡ has_prepared_runs s ix r u o (attributes_of e)
 prepared_held s ix r u is w e keyed None = refl
 prepared_held s ix r u is w e keyed (Some p) =
-    ap (λ (f : List ℕ → Bool). not (kinds_of ix u).substrings || list_all f (runs_of_all (runs.parts_of (utf8_parts p)))) (fun_ext (λ g. keys_stand s r u g is w e keyed))
+    ap (λ (f : List ℕ → Bool). not (kinds_of ix u).substrings || list_all f (asked_runs (utf8_parts p))) (fun_ext (λ g. keys_stand s r u g is w e keyed))
 
 parts_held : (s : SchemaModel) (ix : List Kinds) (u : ℕ) (p : PartsModel) (e : List KeyedAttribute) → IsKeyedBy s e → (o : Option Rule) → substrings_of s u ≡ o
     → has_runs_of_test ix u (test_by_rule test.Parts (λ r. part_keys_at r p) o) e ≡ has_runs_by s ix o u p (attributes_of e)

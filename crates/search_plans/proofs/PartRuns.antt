@@ -1,12 +1,12 @@
 -- What has the parts of an assertion has their runs of three octets.
-use Rattle.std.proofs.Common.{◌≡◌, ℕ, ◌-◌, Bool, true, false, ◌&&◌, List, [], ◌∷◌, ◌++◌, length, take, drop, refl, sym, ap, ◌∙◌, inl, inr}
+use Rattle.std.proofs.Common.{◌≡◌, ℕ, ◌-◌, Bool, true, false, ◌&&◌, not, cond, nat_lt, List, [], ◌∷◌, ◌++◌, length, take, drop, refl, sym, ap, ◌∙◌, inl, inr}
 use Rattle.std.proofs.lemmas.List.{take-append-drop, append-nil}
 use Rattle.std.specs.List.{list_any, list_all}
 use Rattle.ldap_eval.specs.ldap_syntax.Parts.{part_or_nothing}
 use Rattle.ldap_eval.specs.ldap_match.Parts.{PartsModel, is_at_start, is_at_end, tails, are_in_order, has_parts}
 use Rattle.ldap_eval.specs.dir_entry.Entry.{KeyedAttribute}
 use Rattle.dir_index.specs.Postings.{is_of, some_key, stands_in}
-use Rattle.search_plans.specs.OctetRuns.{runs_of, runs_of_all, parts_of, has_runs}
+use Rattle.search_plans.specs.OctetRuns.{runs_of, runs_of_all, parts_of, is_among, with_run, with_runs, asked_runs, has_runs}
 use Rattle.search_plans.proofs.Standing.{and_parts, and_from, or_parts, or_left, or_right, same_bytes, StandsAt, stands_of, stands_at, stands_at_start, stands_trans, stands_behind, stands_in_front}
 
 all_weaker : {X : Type 0} (p q : X → Bool) → ((x : X) → p x ≡ true → q x ≡ true) → (xs : List X) → list_all p xs ≡ true → list_all q xs ≡ true
@@ -99,6 +99,21 @@ runs_of_entry t p [] e f h = refl
 runs_of_entry t p (g ∷ gs) e f h =
     and_from _ _ (some_weaker t p (stands_in g) (λ x k. (and_parts _ _ (f x k)).0) e h) (runs_of_entry t p gs e (λ x k. (and_parts _ _ (f x k)).1) h)
 
--- an entry with a value that has the parts has their runs
+with_run_all : (p : List ℕ → Bool) (gs : List (List ℕ)) (x : List ℕ) → list_all p gs ≡ true → p x ≡ true → list_all p (with_run gs x) ≡ true
+with_run_all p gs x h k = by (nat_lt (length gs) 64 && not (is_among x gs))
+  where
+    by : (b : Bool) → list_all p (cond b (gs ++ x ∷ []) gs) ≡ true
+    by true = all_join p gs (x ∷ []) h (and_from _ _ k refl)
+    by false = h
+
+with_runs_all : (p : List ℕ → Bool) (gs xs : List (List ℕ)) → list_all p gs ≡ true → list_all p xs ≡ true → list_all p (with_runs gs xs) ≡ true
+with_runs_all p gs [] h k = h
+with_runs_all p gs (x ∷ xs) h k = let u = and_parts _ _ k in with_runs_all p (with_run gs x) xs (with_run_all p gs x h u.0) u.1
+
+-- what holds of each run of the parts holds of those that a plan asks for
+pub asked_all : (p : List ℕ → Bool) (parts : PartsModel) → list_all p (runs_of_all (parts_of parts)) ≡ true → list_all p (asked_runs parts) ≡ true
+asked_all p parts h = with_runs_all p [] (runs_of_all (parts_of parts)) refl h
+
+-- an entry with a value that has the parts has the runs that a plan asks for
 pub parts_entry : (t : ℕ) (p : PartsModel) (e : List KeyedAttribute) → some_key t (has_parts p) e ≡ true → has_runs t p e ≡ true
-parts_entry t p e h = runs_of_entry t (has_parts p) (runs_of_all (parts_of p)) e (parts_runs p) h
+parts_entry t p e h = asked_all (λ g. some_key t (stands_in g) e) p (runs_of_entry t (has_parts p) (runs_of_all (parts_of p)) e (parts_runs p) h)

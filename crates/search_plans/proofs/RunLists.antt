@@ -1,6 +1,7 @@
--- Lists of runs that grow, and the plan of an assertion's runs.
-use Rattle.std.proofs.Common.{◌≡◌, ℕ, ◌<◌, Bool, true, false, ◌&&◌, not, List, [], ◌∷◌, ◌++◌, length, get_or, take, ◌+◌, nat_eq, map, Vec, Global, refl, sym, ap, ap₂, subst, ◌∙◌, append_assoc, arith, Result, Ok, Err, IfOk}
+-- The runs that a plan asks for, and the plan that asks for them.
+use Rattle.std.proofs.Common.{◌≡◌, ℕ, ◌<◌, ◌≤◌, Bool, true, false, ◌&&◌, not, cond, List, [], ◌∷◌, ◌++◌, length, get_or, take, ◌+◌, nat_eq, map, Vec, Global, refl, sym, ap, ap₂, subst, ◌∙◌, append_assoc, arith, Result, Ok, Err, IfOk}
 use Rattle.std.proofs.lemmas.List.{append-nil, take_more}
+use Rattle.std.proofs.lemmas.Bool.{le-ltb}
 use Rattle.std.specs.List.{list_all}
 use Rattle.ldap_eval.specs.ldap_syntax.Parts.{part_or_nothing}
 use Rattle.ldap_eval.specs.ldap_match.Parts.{PartsModel}
@@ -20,11 +21,11 @@ use Rattle.search_plans.proofs.PlanEquations.{in_plan-Posting, in_plan-Inter, in
 use Rattle.ldap_eval.specs.Bound.{leaf_value}
 use Rattle.ldap_eval.specs.declared.bound.Leaf.{Leaf}
 use Rattle.search_plans.specs.Bounds.{Bounds, is_test_decided}
-use Rattle.search_plans.specs.OctetRuns.{runs_of, runs_of_all, parts_of, has_runs, has_runs_of_test}
+use Rattle.search_plans.specs.OctetRuns.{runs_of, runs_of_all, parts_of, is_among, with_run, with_runs, asked_runs, has_runs, has_runs_of_test}
 use Rattle.search_plans.specs.private.OctetRuns.{run_plans}
 use Rattle.search_plans.proofs.LeafValues.{leaf_as, of_true, leaf_unknown, leaf_two_valued, test_holds, bounds_flip}
 use Rattle.search_plans.proofs.LeafPlans.{and_kept, unknown_not_true}
-use Rattle.search_plans.proofs.PartRuns.{parts_entry}
+use Rattle.search_plans.proofs.PartRuns.{asked_all, parts_entry}
 use Rattle.search_plans.proofs.Standing.{and_parts, and_from, or_right as or_late}
 
 runs_short : (x : List ℕ) → length x < 3 → runs_of x ≡ []
@@ -33,39 +34,51 @@ runs_short (a ∷ []) h = refl
 runs_short (a ∷ b ∷ []) h = refl
 runs_short (a ∷ b ∷ c ∷ x) h = absurd (omega arith)
 
-pub runs_end : (t : ℕ) (plans all_plans : List Plan) (rest : List ℕ) → length rest < 3 → plans ++ run_plans t (runs_of rest) ≡ all_plans → plans ≡ all_plans
-runs_end t plans all_plans rest short h = sym (append-nil plans) ∙ ap (λ (gs : List (List ℕ)). plans ++ run_plans t gs) (sym (runs_short rest short)) ∙ h
+-- a rest that is shorter than a run adds none
+pub runs_end : (gs all_of_them : List (List ℕ)) (rest : List ℕ) → length rest < 3 → with_runs gs (runs_of rest) ≡ all_of_them → gs ≡ all_of_them
+runs_end gs all_of_them rest short h = ap (with_runs gs) (sym (runs_short rest short)) ∙ h
+
+full_run : (gs : List (List ℕ)) (x : List ℕ) → 64 ≤ length gs → with_run gs x ≡ gs
+full_run gs x h = ap (λ (b : Bool). cond (b && not (is_among x gs)) (gs ++ x ∷ []) gs) (le-ltb (length gs) 64 h)
+
+full : (gs xs : List (List ℕ)) → 64 ≤ length gs → with_runs gs xs ≡ gs
+full gs [] h = refl
+full gs (x ∷ xs) h = ap (λ (hs : List (List ℕ)). with_runs hs xs) (full_run gs x h) ∙ full gs xs h
+
+-- where they are as many as a plan asks for, no more are added
+pub runs_full : (gs all_of_them xs : List (List ℕ)) → 64 ≤ length gs → with_runs gs xs ≡ all_of_them → gs ≡ all_of_them
+runs_full gs all_of_them xs h e = sym (full gs xs h) ∙ e
+
+-- runs behind runs, one after the other
+pub runs_join : (gs xs ys : List (List ℕ)) → with_runs gs (xs ++ ys) ≡ with_runs (with_runs gs xs) ys
+runs_join gs [] ys = refl
+runs_join gs (x ∷ xs) ys = runs_join (with_run gs x) xs ys
 
 runs_push : (ps : List (List ℕ)) (p : List ℕ) → runs_of_all (ps ++ p ∷ []) ≡ runs_of_all ps ++ runs_of p
 runs_push [] p = append-nil (runs_of p)
 runs_push (x ∷ ps) p = ap (λ (gs : List (List ℕ)). runs_of x ++ gs) (runs_push ps p) ∙ sym (append_assoc (runs_of x) (runs_of_all ps) (runs_of p))
 
-plans_join : (t : ℕ) (gs hs : List (List ℕ)) → run_plans t (gs ++ hs) ≡ run_plans t gs ++ run_plans t hs
-plans_join t [] hs = refl
-plans_join t (g ∷ gs) hs = ap (λ (x : List Plan). plan.Posting (posting.Run t g) ∷ x) (plans_join t gs hs)
-
--- one more part's runs behind what was there
-pub runs_more : (t : ℕ) (first old new : List Plan) (xs : List (List ℕ)) (i : ℕ) (x y : List ℕ) → i < length xs → x ≡ get_or xs i x → y ≡ x
-    → old ≡ first ++ run_plans t (runs_of_all (take i xs)) → new ≡ old ++ run_plans t (runs_of y) → new ≡ first ++ run_plans t (runs_of_all (take (i + 1) xs))
-runs_more t first old new xs i x y lt is same so_far more =
-    let done = run_plans t (runs_of_all (take i xs)) in
+-- one more part's runs behind those of the parts before
+pub runs_more : (first old new xs : List (List ℕ)) (i : ℕ) (x y : List ℕ) → i < length xs → x ≡ get_or xs i x → y ≡ x
+    → old ≡ with_runs first (runs_of_all (take i xs)) → new ≡ with_runs old (runs_of y) → new ≡ with_runs first (runs_of_all (take (i + 1) xs))
+runs_more first old new xs i x y lt is same so_far more =
     let next : take (i + 1) xs ≡ take i xs ++ x ∷ [] = take_more xs i x lt ∙ ap (λ (z : List ℕ). take i xs ++ z ∷ []) (sym is) in
-    more ∙ ap₂ (λ (a : List Plan) (b : List ℕ). a ++ run_plans t (runs_of b)) so_far same
-    ∙ append_assoc first done (run_plans t (runs_of x))
-    ∙ ap (λ (a : List Plan). first ++ a) (sym (plans_join t (runs_of_all (take i xs)) (runs_of x)) ∙ ap (run_plans t) (sym (runs_push (take i xs) x) ∙ ap runs_of_all (sym next)))
+    more ∙ ap₂ (λ (a : List (List ℕ)) (b : List ℕ). with_runs a (runs_of b)) so_far same
+    ∙ sym (runs_join first (runs_of_all (take i xs)) (runs_of x))
+    ∙ ap (with_runs first) (sym (runs_push (take i xs) x) ∙ ap runs_of_all (sym next))
 
 -- the runs of the first part, of those between and of the last one, one after another
-pub runs_whole : (t : ℕ) (p : PartsModel) (none one two three : List Plan) (a c : List ℕ) (b : List (List ℕ)) → a ≡ part_or_nothing p.initial → b ≡ p.any → c ≡ part_or_nothing p.last → none ≡ []
-    → one ≡ none ++ run_plans t (runs_of a) → two ≡ one ++ run_plans t (runs_of_all b) → three ≡ two ++ run_plans t (runs_of c) → three ≡ run_plans t (runs_of_all (parts_of p))
-runs_whole t p none one two three a c b ea eb ec e0 e1 e2 e3 =
-    let first = part_or_nothing p.initial in
+pub runs_whole : (p : PartsModel) (none one two three : List (List ℕ)) (a c : List ℕ) (b : List (List ℕ)) → a ≡ part_or_nothing p.initial → b ≡ p.any → c ≡ part_or_nothing p.last → none ≡ []
+    → one ≡ with_runs none (runs_of a) → two ≡ with_runs one (runs_of_all b) → three ≡ with_runs two (runs_of c) → three ≡ asked_runs p
+runs_whole p none one two three a c b ea eb ec e0 e1 e2 e3 =
+    let first = runs_of (part_or_nothing p.initial) in
     let last = part_or_nothing p.last in
-    let is1 : one ≡ run_plans t (runs_of first) = e1 ∙ ap₂ (λ (x : List Plan) (y : List ℕ). x ++ run_plans t (runs_of y)) e0 ea in
-    let is2 : two ≡ run_plans t (runs_of first) ++ run_plans t (runs_of_all p.any) = e2 ∙ ap₂ (λ (x : List Plan) (y : List (List ℕ)). x ++ run_plans t (runs_of_all y)) is1 eb in
-    e3 ∙ ap₂ (λ (x : List Plan) (y : List ℕ). x ++ run_plans t (runs_of y)) is2 ec
-    ∙ append_assoc (run_plans t (runs_of first)) (run_plans t (runs_of_all p.any)) (run_plans t (runs_of last))
-    ∙ ap (λ (x : List Plan). run_plans t (runs_of first) ++ x) (sym (plans_join t (runs_of_all p.any) (runs_of last)) ∙ ap (run_plans t) (sym (runs_push p.any last)))
-    ∙ sym (plans_join t (runs_of first) (runs_of_all (p.any ++ last ∷ [])))
+    let is1 : one ≡ with_runs [] first = e1 ∙ ap₂ (λ (x : List (List ℕ)) (y : List ℕ). with_runs x (runs_of y)) e0 ea in
+    let is2 : two ≡ with_runs (with_runs [] first) (runs_of_all p.any) = e2 ∙ ap₂ (λ (x y : List (List ℕ)). with_runs x (runs_of_all y)) is1 eb in
+    e3 ∙ ap₂ (λ (x : List (List ℕ)) (y : List ℕ). with_runs x (runs_of y)) is2 ec
+    ∙ sym (runs_join (with_runs [] first) (runs_of_all p.any) (runs_of last))
+    ∙ ap (with_runs (with_runs [] first)) (sym (runs_push p.any last))
+    ∙ sym (runs_join [] first (runs_of_all (p.any ++ last ∷ [])))
 
 abbrev are_three : List (List ℕ) → Bool
 are_three gs = list_all (λ g. nat_eq (length g) 3) gs
@@ -84,6 +97,9 @@ all_are_three : (xs : List (List ℕ)) → are_three (runs_of_all xs) ≡ true
 all_are_three [] = refl
 all_are_three (x ∷ xs) = three_join (runs_of x) (runs_of_all xs) (runs_are_three x) (all_are_three xs)
 
+asked_are_three : (p : PartsModel) → are_three (asked_runs p) ≡ true
+asked_are_three p = asked_all (λ g. nat_eq (length g) 3) p (all_are_three (parts_of p))
+
 each_run : (ix : List Kinds) (t : ℕ) (e : List KeyedAttribute) (gs : List (List ℕ)) → (kinds_of ix t).substrings ≡ true → are_three gs ≡ true
     → list_all (λ b. b) (map (holds ix e) (run_plans t gs)) ≡ list_all (λ g. some_key t (stands_in g) e) gs
 each_run ix t e [] kept three = refl
@@ -92,10 +108,10 @@ each_run ix t e (g ∷ gs) kept three =
     ap₂ (λ (a b : Bool). a && b) (in_plan-Posting _ _ _ (posting.Run t g) ∙ and_kept ((kinds_of ix t).substrings && nat_eq (length g) 3) _ (and_from _ _ kept u.0)) (each_run ix t e gs kept u.1)
 
 -- the plan of an assertion's runs holds of the entries that have them
-pub run_plan : (ix : List Kinds) (t : ℕ) (p : PartsModel) (v : Vec Plan Global) → (kinds_of ix t).substrings ≡ true → v.items ≡ run_plans t (runs_of_all (parts_of p)) → (e : List KeyedAttribute)
+pub run_plan : (ix : List Kinds) (t : ℕ) (p : PartsModel) (v : Vec Plan Global) → (kinds_of ix t).substrings ≡ true → v.items ≡ run_plans t (asked_runs p) → (e : List KeyedAttribute)
     → holds ix e (plan.Inter v) ≡ has_runs t p e
 run_plan ix t p v kept is e =
-    in_plan-Inter _ _ _ v ∙ ap (λ (xs : List Plan). list_all (λ b. b) (map (holds ix e) xs)) is ∙ each_run ix t e (runs_of_all (parts_of p)) kept (all_are_three (parts_of p))
+    in_plan-Inter _ _ _ v ∙ ap (λ (xs : List Plan). list_all (λ b. b) (map (holds ix e) xs)) is ∙ each_run ix t e (asked_runs p) kept (asked_are_three p)
 
 pub run_bounds : (ix : List Kinds) (leaf : Leaf) (p : PartsModel) (y : Plan) → leaf.test ≡ test.Parts p → ((e : List KeyedAttribute) → holds ix e y ≡ has_runs leaf.type_id p e)
     → Bounds ix (λ e. leaf_value e leaf) True false plan.Empty y

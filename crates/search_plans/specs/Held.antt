@@ -18,8 +18,7 @@ use Rattle.ldap_eval.specs.Made.{is_equality_item}
 use Rattle.dir_index.specs.index_choice.declared.kinds.Kinds.{Kinds}
 use Rattle.dir_index.specs.index_choice.Choice.{kinds_of}
 use Rattle.dir_index.specs.Postings.{stands_in}
-use Rattle.search_plans.specs.OctetRuns.{runs_of_all}
-use Rattle.search_plans.specs.OctetRuns as runs
+use Rattle.search_plans.specs.OctetRuns.{asked_runs}
 use Rattle.search_plans.specs.Decided.{types_under, is_left_open}
 use Rattle.ldap_eval.specs.ldap_words.Octets.{utf8_of}
 use Rattle.std.specs.Option.{option_flatten}
@@ -42,9 +41,9 @@ stands_in_text g (Some (name a)) = false
 abbrev pub stands_in_some : SchemaModel → Rule → ℕ → List ℕ → List AttributeModel → Bool
 stands_in_some s r u g e = list_any (λ a. nat_eq a.kind u && list_any (λ v. stands_in_text g (meaning s r v)) a.values) e
 
--- whether an entry has, in values of a type, each run of three octets of each prepared part
+-- whether an entry has, in values of a type, each run of three octets that a plan asks for: the first 64 of the prepared parts, each once
 abbrev pub has_part_runs : SchemaModel → Rule → ℕ → PartsModel → List AttributeModel → Bool
-has_part_runs s r u p e = list_all (λ g. stands_in_some s r u g e) (runs_of_all (runs.parts_of (utf8_parts p)))
+has_part_runs s r u p e = list_all (λ g. stands_in_some s r u g e) (asked_runs (utf8_parts p))
 
 -- the same as far as there is a substrings index for the type; of no entry, where a part is no part of the syntax's values
 abbrev pub has_prepared_runs : SchemaModel → List Kinds → Rule → ℕ → Option PartsModel → List AttributeModel → Bool

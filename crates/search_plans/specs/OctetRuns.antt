@@ -1,7 +1,7 @@
--- Runs of three octets. A substrings assertion's parts and an entry flow in; which runs the entry has to hold flows
--- out. How the runs are found is not here.
-use Rattle.std.specs.Prelude.{ℕ, List, [], ◌∷◌, ◌++◌, Bool, true, false, not, ◌||◌}
+-- Runs of three octets: which of a substrings assertion's parts a plan asks for, and whether an entry holds them.
+use Rattle.std.specs.Prelude.{ℕ, List, [], ◌∷◌, ◌++◌, Bool, true, false, not, cond, ◌&&◌, ◌||◌, length, nat_lt}
 use Rattle.std.specs.List.{list_any, list_all}
+use Rattle.std.specs.Str.{bytes_eq}
 use Rattle.ldap_eval.specs.ldap_syntax.Parts.{part_or_nothing}
 use Rattle.ldap_eval.specs.ldap_match.Parts.{PartsModel}
 use Rattle.ldap_eval.specs.ldap_match.declared.testing.Test.{Test}
@@ -29,9 +29,26 @@ runs_of_all (x ∷ xs) = runs_of x ++ runs_of_all xs
 abbrev pub parts_of : PartsModel → List (List ℕ)
 parts_of p = part_or_nothing p.initial ∷ (p.any ++ part_or_nothing p.last ∷ [])
 
--- an entry has values of the type that hold each run of three octets of each part
+-- whether a run is among others
+abbrev pub is_among : List ℕ → List (List ℕ) → Bool
+is_among g gs = list_any (λ h. bytes_eq h g) gs
+
+-- a run behind those that are asked for so far, unless it is among them or they are 64
+abbrev pub with_run : List (List ℕ) → List ℕ → List (List ℕ)
+with_run gs g = cond (nat_lt (length gs) 64 && not (is_among g gs)) (gs ++ g ∷ []) gs
+
+-- the same for each run of a list, one after the other
+abbrev pub with_runs : List (List ℕ) → List (List ℕ) → List (List ℕ)
+with_runs gs [] = gs
+with_runs gs (x ∷ xs) = with_runs (with_run gs x) xs
+
+-- The runs of three octets that a plan asks for: of those of all parts the first 64, each once.
+abbrev pub asked_runs : PartsModel → List (List ℕ)
+asked_runs p = with_runs [] (runs_of_all (parts_of p))
+
+-- an entry has values of the type that hold each of these runs
 abbrev pub has_runs : ℕ → PartsModel → List KeyedAttribute → Bool
-has_runs t p e = list_all (λ g. some_key t (stands_in g) e) (runs_of_all (parts_of p))
+has_runs t p e = list_all (λ g. some_key t (stands_in g) e) (asked_runs p)
 
 -- Whether an entry holds the runs that a test of a type asks for, as far as there is a substrings index for the
 -- type; nothing passes a test that nobody can tell.

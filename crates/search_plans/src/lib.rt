@@ -3,10 +3,10 @@
 //! are drawn from.
 //!
 //! A plan is a set of numbers: a posting list, a range, the scope, or a union, intersection or difference of plans. `compiling` goes over a
-//! bound filter once and makes two plans, what must be and what may be. `leaves` knows which index serves which test; `octet_runs` takes a
-//! substrings assertion apart into runs of three octets. The one law between a plan's numbers and its entries is `agreeing`. `joining` adds
-//! to an intersection with two bounds on one type the range between them, or the entries with several values of the type. That changes no
-//! set, and a run draws from it.
+//! bound filter once and makes two plans, what must be and what may be. `leaves` knows which index serves which test; `octet_runs` chooses
+//! which runs of three octets a plan asks a substrings assertion's candidates for. The one law between a plan's numbers and its entries is
+//! `agreeing`. `joining` adds to an intersection with two bounds on one type the range between them, or the entries with several values of
+//! the type. That changes no set, and a run draws from it.
 //!
 //! `contains` asks about one number by look-ups. `candidates` draws numbers from walks (`gathering`, `walking`), which `Stream` makes into
 //! one rising list. A range that is drawn from is gathered once and sorted; no other set becomes a list. What is drawn from is a matter of

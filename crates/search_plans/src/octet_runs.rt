@@ -1,10 +1,10 @@
-// Runs of three octets: the keys of a substrings assertion's parts flow in, a plan for each run flows out.
+// Chooses the runs of three octets that a plan asks a substrings assertion's candidates for.
 // What must not be here: what the plans bound.
 
-ghost use Rattle.std.specs.Prelude.{◌≡◌, ◌++◌, OnOk, IfOk};
+ghost use Rattle.std.specs.Prelude.{◌≡◌, OnOk, IfOk};
 ghost use Rattle.std.specs.Option.{option_copied};
 ghost use Rattle.ldap_eval.specs.ldap_syntax.Parts.{part_or_nothing};
-ghost use Rattle.search_plans.specs.OctetRuns.{parts_of, runs_of, runs_of_all};
+ghost use Rattle.search_plans.specs.OctetRuns.{runs_of, runs_of_all, with_run, with_runs, asked_runs};
 ghost use Rattle.search_plans.specs.private.OctetRuns.{run_plans};
 
 use crate::plan::Plan;
@@ -12,54 +12,86 @@ use dir_index::Posting;
 use ldap_eval::{Key, PartKeys, TypeId};
 use std::alloc::{AllocError, Global};
 
-/// Adds a plan for each run of a part.
-fn push_runs(type_id: TypeId, part: &[u8], plans: &mut Vec<Plan>) -> Result<(), AllocError>
-    ensures { OnOk result (plans.new.items ≡ plans.old.items ++ run_plans type_id (runs_of part.now)) }
+/// The most runs that a plan asks for. Each candidate is asked for all of them, and each run of a part is compared with those that
+/// are chosen; an entry that holds 64 runs of a part and not the part is rare.
+const MOST_RUNS: usize = 64;
+
+/// Adds a run, unless it is among those that are chosen or they are as many as a plan asks for.
+fn push_run(run: &[u8; 3], runs: &mut Vec<[u8; 3]>) -> Result<(), AllocError>
+    ensures { OnOk result (runs.new.items ≡ with_run runs.old.items run.now) }
+{
+    if runs.len() < MOST_RUNS && !runs.contains(run) {
+        runs.push(*run)?;
+    }
+    Ok(())
+}
+
+/// Adds the runs of a part. Once they are as many as a plan asks for, the rest of the part isn't read.
+fn push_runs(part: &[u8], runs: &mut Vec<[u8; 3]>) -> Result<(), AllocError>
+    ensures { OnOk result (runs.new.items ≡ with_runs runs.old.items (runs_of part.now)) }
 {
     let mut rest = part;
     while let [a, b, c, ..] = rest {
-        plans.push(Plan::Posting(Posting::Run(type_id, [*a, *b, *c])))?;
+        if runs.len() >= MOST_RUNS {
+            return Ok(());
+        }
+        push_run(&[*a, *b, *c], runs)?;
         rest = &rest[1..];
     }
     Ok(())
 }
 
-/// Adds a plan for each run of a part that may be left out.
-fn push_end_runs(
-    type_id: TypeId,
-    end: Option<&Key>,
-    plans: &mut Vec<Plan>,
-) -> Result<(), AllocError>
-    ensures { OnOk result (plans.new.items ≡ plans.old.items
-        ++ run_plans type_id (runs_of (part_or_nothing (option_copied end.entry)))) }
+/// Adds the runs of a part that may be left out.
+fn push_end_runs(end: Option<&Key>, runs: &mut Vec<[u8; 3]>) -> Result<(), AllocError>
+    ensures { OnOk result (runs.new.items
+        ≡ with_runs runs.old.items (runs_of (part_or_nothing (option_copied end.entry)))) }
 {
     match end {
-        Some(key) => push_runs(type_id, key.as_octets(), plans),
+        Some(key) => push_runs(key.as_octets(), runs),
         None => Ok(()),
     }
 }
 
-/// Adds a plan for each run of each part.
-fn push_all_runs(type_id: TypeId, parts: &[Key], plans: &mut Vec<Plan>) -> Result<(), AllocError>
-    ensures { OnOk result (plans.new.items ≡ plans.old.items ++ run_plans type_id (runs_of_all parts.now)) }
+/// Adds the runs of each part.
+fn push_all_runs(parts: &[Key], runs: &mut Vec<[u8; 3]>) -> Result<(), AllocError>
+    ensures { OnOk result (runs.new.items ≡ with_runs runs.old.items (runs_of_all parts.now)) }
 {
     for part in parts {
-        push_runs(type_id, part.as_octets(), plans)?;
+        push_runs(part.as_octets(), runs)?;
     }
     Ok(())
 }
 
-/// The posting lists of each run of three octets of each part.
+/// The runs that a plan asks for.
+fn choose(alloc: Global, parts: &PartKeys) -> Result<Vec<[u8; 3]>, AllocError>
+    ensures { IfOk result (λ v. v.items ≡ asked_runs parts.now) }
+{
+    let mut runs = Vec::new(alloc);
+    push_end_runs(parts.initial(), &mut runs)?;
+    push_all_runs(parts.any(), &mut runs)?;
+    push_end_runs(parts.last(), &mut runs)?;
+    Ok(runs)
+}
+
+/// A plan for the posting list of each run.
+fn postings_of(alloc: Global, type_id: TypeId, runs: &[[u8; 3]]) -> Result<Vec<Plan>, AllocError>
+    ensures { IfOk result (λ v. v.items ≡ run_plans type_id runs.now) }
+{
+    let mut plans = Vec::with_capacity(alloc, runs.len())?;
+    for run in runs {
+        plans.push(Plan::Posting(Posting::Run(type_id, *run)))?;
+    }
+    Ok(plans)
+}
+
+/// The posting lists of the runs of the parts that a plan asks for: of the first 64, each once.
 pub fn run_postings(
     alloc: Global,
     type_id: TypeId,
     parts: &PartKeys,
 ) -> Result<Vec<Plan>, AllocError>
-    ensures { IfOk result (λ v. v.items ≡ run_plans type_id (runs_of_all (parts_of parts.now))) }
+    ensures { IfOk result (λ v. v.items ≡ run_plans type_id (asked_runs parts.now)) }
 {
-    let mut plans = Vec::new(alloc);
-    push_end_runs(type_id, parts.initial(), &mut plans)?;
-    push_all_runs(type_id, parts.any(), &mut plans)?;
-    push_end_runs(type_id, parts.last(), &mut plans)?;
-    Ok(plans)
+    let runs = choose(alloc, parts)?;
+    postings_of(alloc, type_id, &runs)
 }
