@@ -1,8 +1,11 @@
 //! The calls of a journal's device, made of a file.
-ghost use Rattle.std.specs.Prelude.{◌≡◌, ◌≤◌, ◌++◌, replicate, OnOk, IsErrOf};
+ghost use Rattle.std.specs.Prelude.{◌≡◌, ◌≤◌, ◌+◌, ◌++◌, replicate, IfSome, OnOk, IsErrOf};
 ghost use Rattle.journal.specs.Device.{HasRisen};
 
+use crate::first_block::BLOCK;
 use crate::journal_file::JournalFile;
+use crate::place::is_full;
+use crate::synced_mark::{MARK_AT, mark_of};
 use journal::{Device, DeviceFailure, GrowthError};
 use std::fs::File;
 use std::io::{self, ErrorKind};
@@ -23,11 +26,18 @@ fn write_zeros(file: &File, end: u64, octets: u64) -> io::Result<()> {
     file.sync_data()
 }
 
-/// Whether a write failed for want of room.
-fn is_full(kind: ErrorKind) -> bool {
-    kind == ErrorKind::StorageFull
-        || kind == ErrorKind::QuotaExceeded
-        || kind == ErrorKind::FileTooLarge
+/// How many octets may be synced until the first block notes it once more: so that a page more is written for each page of frames, and not for
+/// each batch.
+const MARK_STEP: u64 = 4_096;
+
+/// The least first octet of a frame. What is cleared begins with 0.
+const FRAME: u8 = 128;
+
+/// Where in the file the octet of a place is.
+fn place_of(at: u64) -> Option<u64>
+    ensures { IfSome result (λ place. place ≡ at + 4096) }
+{
+    at.checked_add(BLOCK as u64)
 }
 
 impl Device for JournalFile {
@@ -50,7 +60,7 @@ impl Device for JournalFile {
         let size = self.octets.size();
         match self.file.metadata() {
             Ok(about) => {
-                if about.len() == size {
+                if Some(about.len()) == place_of(size) {
                     Ok(size)
                 } else {
                     Err(self.fail())
@@ -73,7 +83,10 @@ impl Device for JournalFile {
     }
 
     fn write_at(&mut self, at: u64, octets: &[u8]) -> Result<(), DeviceFailure> {
-        if self.file.write_all_at(octets, at).is_err() {
+        let Some(place) = place_of(at) else {
+            return Err(self.fail());
+        };
+        if self.note_synced(at, octets).is_err() || self.file.write_all_at(octets, place).is_err() {
             return Err(self.fail());
         }
         self.octets.write_over(at, octets);
@@ -93,6 +106,26 @@ impl Device for JournalFile {
 }
 
 impl JournalFile {
+    /// Writes a mark, beside frames that are to be written from a place on, where there was none for long: all before them was synced. The
+    /// sync of the frames settles it.
+    fn note_synced(&mut self, at: u64, octets: &[u8]) -> io::Result<()>
+        ensures octets { self.new.octets ≡ self.old.octets }
+        ensures failures { self.new.failures ≡ self.old.failures }
+    {
+        let is_new = match self.marked {
+            Some(mark) => at.saturating_sub(mark) >= MARK_STEP,
+            None => true,
+        };
+        match octets {
+            [first, ..] if *first >= FRAME && is_new => {
+                self.file.write_all_at(&mark_of(at), MARK_AT as u64)?;
+                self.marked = Some(at);
+                Ok(())
+            }
+            _ => Ok(()),
+        }
+    }
+
     /// Writes zeros behind the end.
     fn lengthen(&mut self, zeros: u64) -> Result<(), GrowthError>
         ensures grown { OnOk result (self.new.octets.known.octets ≡ self.old.octets.known.octets ++ replicate zeros 0) }
@@ -100,7 +133,10 @@ impl JournalFile {
         ensures later { self.old.failures ≤ self.new.failures }
         ensures cause { IsErrOf result GrowthError.DeviceFailed → HasRisen self.old.failures self.new.failures }
     {
-        let end = self.octets.size();
+        let size = self.octets.size();
+        let Some(end) = place_of(size) else {
+            return Err(self.fail().into());
+        };
         if zeros > u64::MAX - end {
             return Err(self.fail().into());
         }
