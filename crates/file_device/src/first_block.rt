@@ -1,6 +1,6 @@
 //! The first block of a journal's file: its head, and zeros to the end of a page, so that no write of the journal's octets is in its place.
 ghost use Rattle.std.specs.Prelude.{◌≡◌, ◌≤◌, ◌++◌, length, replicate, IfOk};
-ghost use Rattle.file_device.specs.Heads.{head_of};
+ghost use Rattle.file_device.specs.private.Heads.{head_of};
 
 use crate::fault::FileDeviceError;
 use crate::file::read_some;

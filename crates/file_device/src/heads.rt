@@ -3,7 +3,7 @@
 //! They are a frame with a note that begins a journal, as `log_journal` spells one, but of version 2: a program that knows version 1 alone
 //! refuses the file as one of another version, and writes nothing.
 ghost use Rattle.std.specs.Prelude.{◌≡◌, ◌+◌, ◌≤◌, ◌++◌, length, take, drop, IfOk, IfSome, OnOk};
-ghost use Rattle.file_device.specs.Heads.{beginning, body_of, earlier_head, head_of, magic, numeral, sum_of};
+ghost use Rattle.file_device.specs.private.Heads.{beginning, body_of, earlier_head, head_of, magic, numeral, sum_of};
 ghost use Rattle.journal.specs.Frames.{frame};
 
 use crate::owner::{JournalOwner, Replica};
@@ -27,7 +27,7 @@ const EARLIER_VERSION: u64 = 1;
 const MAGIC: &[u8; 13] = b"dird journal\n";
 
 /// Adds a number. Its only error is want of memory.
-#[tactic(auto, unfolding(crate::specs::Heads::numeral))]
+#[tactic(auto, unfolding(crate::specs::private::Heads::numeral))]
 fn put_number(out: &mut Vec<u8>, number: u64) -> Result<(), AllocError>
     ensures { OnOk result (out.new.items ≡ out.old.items ++ numeral number) }
 {
@@ -35,7 +35,7 @@ fn put_number(out: &mut Vec<u8>, number: u64) -> Result<(), AllocError>
 }
 
 /// The sum of octets.
-#[tactic(auto, unfolding(crate::specs::Heads::sum_of))]
+#[tactic(auto, unfolding(crate::specs::private::Heads::sum_of))]
 fn sum_of(octets: &[u8]) -> [u8; 8]
     ensures { result ≡ sum_of octets.now }
 {

@@ -1,7 +1,7 @@
 //! Judges the first octets of a file before anything is written there: whether a replica's journal is in it, nothing, or something else.
 ghost use Rattle.std.specs.Prelude.{◌≡◌, ◌≢◌, ◌⊎◌, IfErr, OnOk, IfOk};
-ghost use Rattle.file_device.specs.Heads.{head_of, is_torn};
-ghost use Rattle.file_device.specs.Judged.{IsJudged};
+ghost use Rattle.file_device.specs.Unused.{is_torn};
+ghost use Rattle.file_device.specs.private.Judged.{IsJudged};
 
 use crate::fault::FileDeviceError;
 use crate::heads::{head_of, read_earlier, read_head};

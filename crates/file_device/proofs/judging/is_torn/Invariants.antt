@@ -1,5 +1,5 @@
 use Rattle.std.proofs.Common.{◌≡◌, drop}
-use Rattle.file_device.specs.Heads.{is_torn}
+use Rattle.file_device.specs.Unused.{is_torn}
 use Rattle.file_device.proofs.judging.is_torn.Given as goal
 
 -- what is left of both decides

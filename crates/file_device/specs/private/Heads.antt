@@ -1,5 +1,5 @@
 -- The octets that the file of a journal begins with: whose it is, spelled as a note that begins a journal, in a frame of its own.
-use Rattle.std.specs.Prelude.{ℕ, Bool, true, ◌&&◌, ◌||◌, ◌==◌, List, [], ◌∷◌, ◌++◌, take}
+use Rattle.std.specs.Prelude.{ℕ, List, [], ◌∷◌, ◌++◌, take}
 use Rattle.std.specs.Int.{w64, to_be_bytes}
 use Rattle.sha2.specs.Sha256.{sha256}
 use Rattle.journal.specs.Frames.{frame}
@@ -34,9 +34,3 @@ head_of owner = frame (beginning 2 owner.replica (magic ++ (owner.schema ++ owne
 -- what a journal of version 1 begins with, which has no head
 abbrev pub earlier_head : Replica → List ℕ
 earlier_head replica = frame (beginning 1 replica [])
-
--- Each octet is 0, or the one in the same place of what was to be written.
-abbrev pub is_torn : List ℕ → List ℕ → Bool
-is_torn [] written = true
-is_torn (x ∷ octets) [] = x == 0 && is_torn octets []
-is_torn (x ∷ octets) (w ∷ written) = (x == 0 || x == w) && is_torn octets written

@@ -6,7 +6,8 @@ use Rattle.file_device.specs.declared.judging.Holding.{Holding}
 use Rattle.file_device.specs.declared.judging.Holding.TheVariants as holding
 use Rattle.file_device.specs.declared.fault.FileDeviceError.{FileDeviceError}
 use Rattle.file_device.specs.declared.fault.FileDeviceError.TheVariants as fault
-use Rattle.file_device.specs.Heads.{earlier_head, head_of, is_torn}
+use Rattle.file_device.specs.Unused.{is_torn}
+use Rattle.file_device.specs.private.Heads.{earlier_head, head_of}
 
 -- The file begins with the head of this owner's journal, ..
 abbrev pub Heads : List ℕ → JournalOwner → Type 0
