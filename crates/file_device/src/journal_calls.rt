@@ -6,7 +6,7 @@ use crate::first_block::BLOCK;
 use crate::journal_file::JournalFile;
 use crate::place::is_full;
 use crate::synced_mark::{MARK_AT, mark_of};
-use journal::{Device, DeviceFailure, GrowthError};
+use journal::{Device, DeviceFailure, GrowthError, nonzeros};
 use std::fs::File;
 use std::io::{self, ErrorKind};
 use std::os::unix::fs::FileExt;
@@ -26,9 +26,12 @@ fn write_zeros(file: &File, end: u64, octets: u64) -> io::Result<()> {
     file.sync_data()
 }
 
-/// How many octets may be synced until the first block notes it once more: so that a page more is written for each page of frames, and not for
-/// each batch.
-const MARK_STEP: u64 = 4_096;
+/// How many octets may be synced until the first block notes it once more: each batch does. A greater step writes fewer pages, and tells damage
+/// of as many octets from a torn end less often.
+const MARK_STEP: u64 = 1;
+
+/// How many octets of what is cleared are written and synced first: those of a frame's header, so that no torn write of the rest makes a frame.
+const HEADER: u64 = 10;
 
 /// The least first octet of a frame. What is cleared begins with 0.
 const FRAME: u8 = 128;
@@ -86,7 +89,9 @@ impl Device for JournalFile {
         let Some(place) = place_of(at) else {
             return Err(self.fail());
         };
-        if self.note_synced(at, octets).is_err() || self.file.write_all_at(octets, place).is_err() {
+        if self.marked.is_none() && nonzeros(octets) == 0 {
+            self.put_off(at);
+        } else if self.write_frames(at, place, octets).is_err() {
             return Err(self.fail());
         }
         self.octets.write_over(at, octets);
@@ -126,6 +131,46 @@ impl JournalFile {
         }
     }
 
+    /// Notes that the journal cleared what stands from a place on. The start may still be refused, and then the file stays as it is: a crash
+    /// before it is cleared leaves what the journal reads the same strings from.
+    fn put_off(&mut self, at: u64)
+        ensures octets { self.new.octets ≡ self.old.octets }
+        ensures failures { self.new.failures ≡ self.old.failures }
+    {
+        let from = match self.uncleared {
+            Some(from) => from.min(at),
+            None => at,
+        };
+        self.uncleared = Some(from);
+    }
+
+    /// Clears what was put off: the place of a header, and then the rest.
+    fn clear(&mut self) -> io::Result<()>
+        ensures octets { self.new.octets ≡ self.old.octets }
+        ensures failures { self.new.failures ≡ self.old.failures }
+    {
+        let Some(from) = self.uncleared else {
+            return Ok(());
+        };
+        let room = self.octets.size().saturating_sub(from);
+        let header = room.min(HEADER);
+        let place = from.saturating_add(BLOCK as u64);
+        write_zeros(&self.file, place, header)?;
+        write_zeros(&self.file, place.saturating_add(header), room - header)?;
+        self.uncleared = None;
+        Ok(())
+    }
+
+    /// Writes frames at a place of the journal, which is this one of the file; what was put off is cleared before that.
+    fn write_frames(&mut self, at: u64, place: u64, octets: &[u8]) -> io::Result<()>
+        ensures octets { self.new.octets ≡ self.old.octets }
+        ensures failures { self.new.failures ≡ self.old.failures }
+    {
+        self.clear()?;
+        self.note_synced(at, octets)?;
+        self.file.write_all_at(octets, place)
+    }
+
     /// Writes zeros behind the end.
     fn lengthen(&mut self, zeros: u64) -> Result<(), GrowthError>
         ensures grown { OnOk result (self.new.octets.known.octets ≡ self.old.octets.known.octets ++ replicate zeros 0) }
@@ -138,6 +183,9 @@ impl JournalFile {
             return Err(self.fail().into());
         };
         if zeros > u64::MAX - end {
+            return Err(self.fail().into());
+        }
+        if self.clear().is_err() {
             return Err(self.fail().into());
         }
         match write_zeros(&self.file, end, zeros) {

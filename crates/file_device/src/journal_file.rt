@@ -31,6 +31,8 @@ pub struct JournalFile {
     pub(crate) failures: u64,
     /// Up to where the first block says that the journal is synced, once this process has noted that.
     pub(crate) marked: Option<u64>,
+    /// From where on the journal has cleared what stands there, and the file hasn't been written yet.
+    pub(crate) uncleared: Option<u64>,
     /// Whether the file was one of version 1, which has no first block, and was written anew with one.
     pub was_earlier: bool,
 }
@@ -43,6 +45,7 @@ impl Drop for JournalFile {
             octets: _,
             failures: _,
             marked: _,
+            uncleared: _,
             was_earlier: _,
         } = self;
     }
@@ -104,6 +107,7 @@ impl JournalFile {
             octets,
             failures: 0,
             marked: None,
+            uncleared: None,
             was_earlier,
         })
     }
@@ -131,6 +135,7 @@ impl JournalFile {
             octets,
             failures: 0,
             marked: None,
+            uncleared: None,
             was_earlier: false,
         })
     }
