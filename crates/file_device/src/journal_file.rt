@@ -51,8 +51,14 @@ impl Drop for JournalFile {
     }
 }
 
-/// Refuses a journal of which less is read than was synced: how far its frames reach, beside what its first block says.
+/// Refuses a journal that was cut inside its first block, or of which less is read than was synced: how far its frames reach, beside what
+/// that block says.
 fn check_whole(octets: &KeptOctets, front: &[u8]) -> Result<(), FileDeviceError> {
+    if front.len() < BLOCK {
+        return Err(FileDeviceError::Damaged {
+            at: front.len() as u64,
+        });
+    }
     let mut scan = FrameScan::new();
     octets.scan(&mut scan);
     match mark_in(front) {
@@ -79,8 +85,8 @@ impl JournalFile {
         let mut file = open_locked(rt, path, true)?;
         let front = read_front(alloc, &mut file)?;
         match judge(alloc, &front, owner)? {
-            Holding::Own if front.len() == BLOCK => JournalFile::read(alloc, file, &front, false),
-            Holding::Own | Holding::Nothing => JournalFile::begin(rt, alloc, path, file, owner),
+            Holding::Own => JournalFile::read(alloc, file, &front, false),
+            Holding::Nothing => JournalFile::begin(rt, alloc, path, file, owner),
             Holding::Earlier if is_fresh => Err(FileDeviceError::HoldsJournal),
             Holding::Earlier => {
                 let mut anew = migrated(rt, alloc, path, &file, owner)?;
