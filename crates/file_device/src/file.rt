@@ -1,18 +1,37 @@
 //! A file that is opened as a device. A path flows in, a device flows out. What the calls of a device do is not here.
-ghost use Rattle.std.specs.Prelude.{◌≡◌, ◌≤◌, length, IfOk, IfSome};
+ghost use Rattle.std.specs.Prelude.{◌≡◌, ◌≤◌, length, IfOk, IfSome, IsTrue};
+ghost use Rattle.file_device.specs.Unused.{IsUnused, first_slot};
 ghost use Rattle.view_store.specs.Device.{HasRisen};
 
 use crate::fault::FileDeviceError;
+use crate::judging::is_torn;
+use crate::place::{failed, open_locked, sync_folder};
 use std::alloc::Global;
-use std::fs::{File, Files, OpenOptions, TryLockError};
-use std::io::{self, Error, ErrorKind, Read};
-use view_store::DeviceFailure;
+use std::fs::{File, Files};
+use std::io::{ErrorKind, Read};
+use view_store::{Cluster, DeviceFailure};
 
 /// A file with more octets is refused.
 const MAX_OCTETS: usize = 4096;
 
 /// How many octets are read at once, at most.
 const PIECE: usize = 65_536;
+
+/// The version of a stored view of a replica without a journal, and of one with.
+const ALONE: u8 = 2;
+
+const JOURNALED: u8 = 3;
+
+/// The first slot of a stored view as its first store writes it: an open gate, the version, the sequence 1, view 0, one restart, the cluster.
+fn first_slot(version: u8, cluster: Cluster) -> [u8; 32]
+    ensures { result ≡ first_slot version cluster }
+{
+    let [_, _, a, b, c, d, e, f] = cluster.number().to_be_bytes();
+    [
+        0xa5, version, 0, 0, 0, 0, 0, 0, 0, 1, 0, 0, 0, 0, 0, 0, 0, 0, 0, 0, 0, 0, 0, 0, 0, 1, a,
+        b, c, d, e, f,
+    ]
+}
 
 /// A file as a device. Every octet that was read or written is kept beside it, and a read or a length that the file answers otherwise is a
 /// failure. Nothing is claimed of what a crash leaves of a file: as a device it names no outcome of a crash at all, so what the contract of a
@@ -39,17 +58,17 @@ impl Drop for FileDevice {
 }
 
 impl FileDevice {
-    /// Opens a file, and makes it where there is none. It is locked as long as the device is there, so that a file that another device holds is
-    /// refused, whatever process it is of.
+    /// Opens a regular file; where there is none, it is made, if it may be. It is locked as long as the device is there, so that a file that
+    /// another device holds is refused, whatever process it is of. Nothing is written to it.
     pub fn open<R: Files<File = File>>(
         rt: &R,
         alloc: Global,
         path: &str,
+        may_be_made: bool,
     ) -> Result<FileDevice, FileDeviceError>
         ensures { IfOk result (λ device. (length device.image.items ≤ 4096) × (device.failures ≡ 0)) }
     {
-        let mut file = open_file(rt, path)?;
-        lock(&file)?;
+        let mut file = open_locked(rt, path, may_be_made)?;
         let image = read_image(alloc, &mut file, MAX_OCTETS)?;
         if image.is_empty() {
             sync_folder(rt, path).map_err(failed)?;
@@ -62,6 +81,15 @@ impl FileDevice {
         })
     }
 
+    /// Whether the file holds nothing: no octets, zeros, or the first stored view of a replica of this cluster whose writing was cut short. No
+    /// replica has promised anything that is in such a file.
+    pub fn holds_nothing(&self, cluster: Cluster) -> bool
+        ensures { IsTrue result → IsUnused cluster self.now.image.items }
+    {
+        is_torn(&self.image, &first_slot(ALONE, cluster))
+            || is_torn(&self.image, &first_slot(JOURNALED, cluster))
+    }
+
     /// Counts a failure.
     pub(crate) fn fail(&mut self) -> DeviceFailure
         ensures image { self.new.image ≡ self.old.image }
@@ -70,43 +98,6 @@ impl FileDevice {
     {
         self.failures = self.failures.saturating_add(1);
         DeviceFailure
-    }
-}
-
-pub(crate) fn failed(error: Error) -> FileDeviceError {
-    FileDeviceError::Failed(error.kind())
-}
-
-/// A file to read and write, which is made where there is none.
-pub(crate) fn open_file<R: Files<File = File>>(
-    rt: &R,
-    path: &str,
-) -> Result<File, FileDeviceError> {
-    let mut options = OpenOptions::new();
-    options.read(true).write(true).create(true);
-    options.open(rt, path).map_err(failed)
-}
-
-/// The folder in which a file of this name is.
-fn folder_of(path: &str) -> &str {
-    match path.rsplit_once('/') {
-        Some(("", _)) => "/",
-        Some((folder, _)) => folder,
-        None => ".",
-    }
-}
-
-/// Has the operating system write what names its folder holds, where one of them may be new.
-pub(crate) fn sync_folder<R: Files<File = File>>(rt: &R, path: &str) -> io::Result<()> {
-    File::open(rt, folder_of(path))?.sync_all()
-}
-
-/// Takes the file for this process alone.
-pub(crate) fn lock(file: &File) -> Result<(), FileDeviceError> {
-    match file.try_lock() {
-        Ok(()) => Ok(()),
-        Err(TryLockError::WouldBlock) => Err(FileDeviceError::InUse),
-        Err(TryLockError::Error(error)) => Err(failed(error)),
     }
 }
 

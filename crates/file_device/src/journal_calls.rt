@@ -1,9 +1,12 @@
 //! The calls of a journal's device, made of a file.
-ghost use Rattle.std.specs.Prelude.{◌≡◌, ◌≤◌, ◌++◌, replicate, OnOk, IsErrOf};
+ghost use Rattle.std.specs.Prelude.{◌≡◌, ◌≤◌, ◌+◌, ◌++◌, replicate, IfSome, OnOk, IsErrOf};
 ghost use Rattle.journal.specs.Device.{HasRisen};
 
+use crate::first_block::BLOCK;
 use crate::journal_file::JournalFile;
-use journal::{Device, DeviceFailure, GrowthError};
+use crate::place::is_full;
+use crate::synced_mark::{MARK_AT, mark_of};
+use journal::{Device, DeviceFailure, GrowthError, nonzeros};
 use std::fs::File;
 use std::io::{self, ErrorKind};
 use std::os::unix::fs::FileExt;
@@ -23,11 +26,21 @@ fn write_zeros(file: &File, end: u64, octets: u64) -> io::Result<()> {
     file.sync_data()
 }
 
-/// Whether a write failed for want of room.
-fn is_full(kind: ErrorKind) -> bool {
-    kind == ErrorKind::StorageFull
-        || kind == ErrorKind::QuotaExceeded
-        || kind == ErrorKind::FileTooLarge
+/// How many octets may be synced until the first block notes it once more: each batch does. A greater step writes fewer pages, and tells damage
+/// of as many octets from a torn end less often.
+const MARK_STEP: u64 = 1;
+
+/// How many octets of what is cleared are written and synced first: those of a frame's header, so that no torn write of the rest makes a frame.
+const HEADER: u64 = 10;
+
+/// The least first octet of a frame. What is cleared begins with 0.
+const FRAME: u8 = 128;
+
+/// Where in the file the octet of a place is.
+fn place_of(at: u64) -> Option<u64>
+    ensures { IfSome result (λ place. place ≡ at + 4096) }
+{
+    at.checked_add(BLOCK as u64)
 }
 
 impl Device for JournalFile {
@@ -50,7 +63,7 @@ impl Device for JournalFile {
         let size = self.octets.size();
         match self.file.metadata() {
             Ok(about) => {
-                if about.len() == size {
+                if Some(about.len()) == place_of(size) {
                     Ok(size)
                 } else {
                     Err(self.fail())
@@ -73,7 +86,12 @@ impl Device for JournalFile {
     }
 
     fn write_at(&mut self, at: u64, octets: &[u8]) -> Result<(), DeviceFailure> {
-        if self.file.write_all_at(octets, at).is_err() {
+        let Some(place) = place_of(at) else {
+            return Err(self.fail());
+        };
+        if self.marked.is_none() && nonzeros(octets) == 0 {
+            self.put_off(at);
+        } else if self.write_frames(at, place, octets).is_err() {
             return Err(self.fail());
         }
         self.octets.write_over(at, octets);
@@ -93,6 +111,66 @@ impl Device for JournalFile {
 }
 
 impl JournalFile {
+    /// Writes a mark, beside frames that are to be written from a place on, where there was none for long: all before them was synced. The
+    /// sync of the frames settles it.
+    fn note_synced(&mut self, at: u64, octets: &[u8]) -> io::Result<()>
+        ensures octets { self.new.octets ≡ self.old.octets }
+        ensures failures { self.new.failures ≡ self.old.failures }
+    {
+        let is_new = match self.marked {
+            Some(mark) => at.saturating_sub(mark) >= MARK_STEP,
+            None => true,
+        };
+        match octets {
+            [first, ..] if *first >= FRAME && is_new => {
+                self.file.write_all_at(&mark_of(at), MARK_AT as u64)?;
+                self.marked = Some(at);
+                Ok(())
+            }
+            _ => Ok(()),
+        }
+    }
+
+    /// Notes that the journal cleared what stands from a place on. The start may still be refused, and then the file stays as it is: a crash
+    /// before it is cleared leaves what the journal reads the same strings from.
+    fn put_off(&mut self, at: u64)
+        ensures octets { self.new.octets ≡ self.old.octets }
+        ensures failures { self.new.failures ≡ self.old.failures }
+    {
+        let from = match self.uncleared {
+            Some(from) => from.min(at),
+            None => at,
+        };
+        self.uncleared = Some(from);
+    }
+
+    /// Clears what was put off: the place of a header, and then the rest.
+    fn clear(&mut self) -> io::Result<()>
+        ensures octets { self.new.octets ≡ self.old.octets }
+        ensures failures { self.new.failures ≡ self.old.failures }
+    {
+        let Some(from) = self.uncleared else {
+            return Ok(());
+        };
+        let room = self.octets.size().saturating_sub(from);
+        let header = room.min(HEADER);
+        let place = from.saturating_add(BLOCK as u64);
+        write_zeros(&self.file, place, header)?;
+        write_zeros(&self.file, place.saturating_add(header), room - header)?;
+        self.uncleared = None;
+        Ok(())
+    }
+
+    /// Writes frames at a place of the journal, which is this one of the file; what was put off is cleared before that.
+    fn write_frames(&mut self, at: u64, place: u64, octets: &[u8]) -> io::Result<()>
+        ensures octets { self.new.octets ≡ self.old.octets }
+        ensures failures { self.new.failures ≡ self.old.failures }
+    {
+        self.clear()?;
+        self.note_synced(at, octets)?;
+        self.file.write_all_at(octets, place)
+    }
+
     /// Writes zeros behind the end.
     fn lengthen(&mut self, zeros: u64) -> Result<(), GrowthError>
         ensures grown { OnOk result (self.new.octets.known.octets ≡ self.old.octets.known.octets ++ replicate zeros 0) }
@@ -100,8 +178,14 @@ impl JournalFile {
         ensures later { self.old.failures ≤ self.new.failures }
         ensures cause { IsErrOf result GrowthError.DeviceFailed → HasRisen self.old.failures self.new.failures }
     {
-        let end = self.octets.size();
+        let size = self.octets.size();
+        let Some(end) = place_of(size) else {
+            return Err(self.fail().into());
+        };
         if zeros > u64::MAX - end {
+            return Err(self.fail().into());
+        }
+        if self.clear().is_err() {
             return Err(self.fail().into());
         }
         match write_zeros(&self.file, end, zeros) {

@@ -1,10 +1,12 @@
 //! Holds the octets of a file: all as clauses know them, in no memory, and those at its end that reads are answered from.
 ghost use Rattle.std.specs.Prelude.{◌≡◌, ◌≤◌, ◌<◌, ◌+◌, ◌-◌, ◌++◌, ◌^◌, [], IsTrue, OnOk, length, max, vec_len, take, drop, replicate};
 ghost use Rattle.journal.specs.Device.{Holds};
-ghost use Rattle.file_device.specs.private.Pieces.{octets_in};
+ghost use Rattle.file_device.specs.private.Pieces.{are_zeros, octets_in};
 
 use crate::copying::copy_out;
+use crate::frame_scan::FrameScan;
 use crate::known_octets::KnownOctets;
+use journal::nonzeros;
 use std::alloc::{AllocError, Global};
 
 /// The octets of a file. So many at its end are in memory, in pieces, and the fields say that these are the file's.
@@ -47,6 +49,25 @@ impl KeptOctets {
         ensures { result ≡ length self.now.known.octets }
     {
         self.size
+    }
+
+    /// Whether all that are kept are 0.
+    pub fn are_zeros(&self) -> bool
+        ensures { result ≡ are_zeros self.now.pieces.items }
+    {
+        for piece in &self.pieces {
+            if nonzeros(piece) != 0 {
+                return false;
+            }
+        }
+        true
+    }
+
+    /// Gives all that are kept to a scan.
+    pub fn scan(&self, scan: &mut FrameScan) {
+        for piece in &self.pieces {
+            scan.take(piece);
+        }
     }
 
     /// Joins a piece to the end. At an error, which is want of memory, nothing has changed.

@@ -5,34 +5,14 @@ ghost use Rattle.view_store.specs.Slots.{found};
 ghost use Rattle.file_device.specs.private.Guarded.{IsOfStart};
 
 use crate::fault::FileDeviceError;
-use crate::file::{FileDevice, failed};
-use std::fs::{File, Files, Metadata};
-use std::io::ErrorKind;
-use std::os::unix::fs::{FileExt, MetadataExt};
+use crate::file::FileDevice;
+use crate::place::{FileIdentity, failed, identity_of, is_elsewhere, is_there};
+use std::fs::{File, Files};
+use std::os::unix::fs::FileExt;
 use view_store::{Cluster, read_pair};
 
 /// How many octets a look reads: one more than a stored view has, so that a longer file shows.
 const OCTETS: usize = 65;
-
-/// Which file this is: the one of this number on this device.
-#[derive(Clone, Copy, Debug, PartialEq, Eq)]
-struct FileIdentity {
-    device: u64,
-    inode: u64,
-}
-
-/// The file that this was told of.
-fn identity_of(metadata: &Metadata) -> FileIdentity {
-    FileIdentity {
-        device: metadata.dev(),
-        inode: metadata.ino(),
-    }
-}
-
-/// Whether this error says that a name leads to no file. Any other error says nothing of the file.
-fn is_missing(kind: ErrorKind) -> bool {
-    kind == ErrorKind::NotFound || kind == ErrorKind::NotADirectory
-}
 
 /// Whether these octets are a view that this start of a cluster's replica stored: this view, or a later one.
 fn is_of_start(octets: &[u8], cluster: Cluster, restarts: u64, view: u64) -> bool
@@ -83,12 +63,9 @@ impl ViewGuard {
         })
     }
 
-    /// Whether the path leads to no file now, or to another one.
-    fn is_moved<R: Files<File = File>>(&self, rt: &R) -> bool {
-        match rt.metadata(self.path.as_str()) {
-            Ok(metadata) => identity_of(&metadata) != self.identity,
-            Err(error) => is_missing(error.kind()),
-        }
+    /// Whether this name leads to the same file.
+    pub fn is_at<R: Files<File = File>>(&self, rt: &R, path: &str) -> bool {
+        is_there(rt, path, self.identity)
     }
 
     /// Whether the file holds what this start of the replica didn't store, or an earlier view than this one.
@@ -104,6 +81,7 @@ impl ViewGuard {
     /// restarts count. A look that the system refuses shows nothing. What one read shows may be a store that the node is halfway through, so a
     /// second one has to show it too.
     pub fn is_lost<R: Files<File = File>>(&self, rt: &R, restarts: u64, view: u64) -> bool {
-        self.is_moved(rt) || (self.is_changed(restarts, view) && self.is_changed(restarts, view))
+        is_elsewhere(rt, self.path.as_str(), self.identity)
+            || (self.is_changed(restarts, view) && self.is_changed(restarts, view))
     }
 }

@@ -214,16 +214,22 @@ where
         times,
         build,
         places,
+        terms,
         ..
     } = options;
     let cluster = node.cluster;
-    let files = Names { store, journal };
+    let files = Names {
+        store,
+        journal,
+        terms: &terms,
+        reporter: &shared_parts.reporter,
+    };
     let options = OpenOptions {
         is_fresh,
         seats: seats.clamp(1, SEATS),
         times: clock_times(&times),
     };
-    let (opened, guard) = open_node(rt, alloc, files, node, options)?;
+    let (opened, guards) = open_node(rt, alloc, files, node, options)?;
     let config = Config {
         schema: &schema,
         manager: &manager,
@@ -246,7 +252,7 @@ where
         asking: Mutex::new(Pace::new(clock_times(&times))),
     };
     // prover: the proof of this call picks the identity of the node that was opened.
-    serve_opened::<R, N, Brand>(alloc, opened, peer_queues, &guard, terms)
+    serve_opened::<R, N, Brand>(alloc, opened, peer_queues, &guards.view, terms)
 }
 
 /// Serves as a replica: listens to the others, opens its node, and serves them, and clients once the node has a state, until the node has stopped

@@ -24,6 +24,15 @@ pub enum ServerError {
     /// The file of a first start holds a stored view already.
     #[error("stored view found\n--fresh: the file of --store holds what a replica has promised: start without --fresh, or move the file away where that may be forgotten")]
     HoldsView,
+    /// The file of a first start holds octets that are no stored view of this cluster.
+    #[error("no empty file\n--fresh: the file of --store isn't empty, and holds no view of this cluster's: nothing was written to it; check the name, or move the file away")]
+    HoldsOther,
+    /// The name of the stored view leads to a folder, a pipe, a socket or a device.
+    #[error("no regular file\n--store: the name leads to a folder, a pipe, a socket or a device")]
+    StoreIsNoFile,
+    /// The names of the stored view and of the journal lead to one file.
+    #[error("one file\n--journal: the name leads to the file of --store: give each a file of its own")]
+    SameFile,
     /// The stored view was removed, replaced or written over while the replica ran.
     #[error("stored view lost\n--store: the file was removed or replaced, or holds what this start of the replica didn't store: put back the very file that it had, and start again without --fresh; without it the replica can't come back")]
     ViewLost,
@@ -36,6 +45,21 @@ pub enum ServerError {
     /// The file of the journal can't be opened, or is another process's.
     #[error("cannot open the journal\n--journal: another process has the file open, its folder isn't there, or this user may not write to it")]
     CannotOpenJournal,
+    /// The name of the journal leads to a folder, a pipe, a socket or a device.
+    #[error("no regular file\n--journal: the name leads to a folder, a pipe, a socket or a device")]
+    JournalIsNoFile,
+    /// The file isn't empty, and isn't a journal.
+    #[error("no journal\n--journal: the file isn't empty, and is no journal: nothing was written to it; check the name, or move the file away")]
+    NoJournal,
+    /// The journal was begun with another schema.
+    #[error("other schema\n--schema: the journal was begun with another schema, and its records are read by that one alone: nothing was written to it; start with that schema, or change it as OPERATIONS.md says")]
+    OtherSchema,
+    /// The journal was begun with another suffix.
+    #[error("other suffix\n--suffix: the journal was begun with another suffix: nothing was written to it; start with that suffix, or with another --journal")]
+    OtherSuffix,
+    /// The journal was removed, replaced, cut or written over while the replica ran.
+    #[error("journal lost\n--journal: the file was removed, replaced or cut, or its beginning was written over: put back the very file that it had, or give it up: move it away, and the replica begins a new one from what the others know")]
+    JournalLost,
     /// The journal is another cluster's.
     #[error("E23 foreign cluster\n--journal: the file is a journal of another cluster: check --cluster and --journal")]
     ForeignJournal,
@@ -48,6 +72,9 @@ pub enum ServerError {
     /// The journal is damaged.
     #[error("E28 damaged journal\n--journal: the file holds what no replica wrote: check the disk, then give it up: move it away, and the replica begins a new one from what the others know")]
     DamagedJournal,
+    /// Of the journal a record is damaged that was synced.
+    #[error("E28 damaged journal\n--journal: at octet {0} of the file a record is damaged that was synced, and nothing was written to it: check the disk, then give the file up: move it away, and the replica begins a new one from what the others know")]
+    DamagedJournalAt(u64),
     /// The journal can't grow.
     #[error("E29 journal full\n--journal: the disk has no room left for the file: make room, and start again without --fresh")]
     JournalFull,
