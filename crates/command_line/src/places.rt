@@ -78,6 +78,19 @@ fn is_any(address: &Address<'_>) -> bool {
     }
 }
 
+/// Whether the system chooses an address's port when somebody listens there.
+fn has_free_port(address: &Address<'_>) -> bool {
+    match address {
+        Address::Numbers(address) => address.port() == 0,
+        Address::Name { host: _, port } => *port == 0,
+    }
+}
+
+/// Whether two addresses are one.
+fn are_one(first: &Address<'_>, second: &Address<'_>) -> bool {
+    first == second && !has_free_port(first)
+}
+
 impl<'a> Peer<'a> {
     /// Whether clients can be referred to the replica: by its URI, or else by an address that other machines reach.
     pub fn is_referable(&self) -> bool {
@@ -86,12 +99,13 @@ impl<'a> Peer<'a> {
 
     /// Whether two replicas are to be found at one address.
     pub fn meets(&self, other: &Peer<'_>) -> bool {
-        self.peer_address == other.peer_address || self.ldap_address == other.ldap_address
+        are_one(&self.peer_address, &other.peer_address)
+            || are_one(&self.ldap_address, &other.ldap_address)
     }
 
     /// Whether clients and other replicas are to be heard at one address.
     pub fn meets_itself(&self) -> bool {
-        self.peer_address == self.ldap_address
+        are_one(&self.peer_address, &self.ldap_address)
     }
 }
 
