@@ -76,7 +76,7 @@ impl Conversation {
 
     /// What stands next. Only an update may have to wait for others.
     pub fn due(&self) -> Due
-        ensures { result ≡ due (conversation_view self.now).end (conversation_view self.now).session.framed }
+        ensures { result ≡ due (conversation_view self.now).end (conversation_view self.now).session }
     {
         match self.end {
             Some(_) => Due::Nothing,

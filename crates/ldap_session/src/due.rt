@@ -6,7 +6,7 @@ use crate::end::SessionEnd;
 pub enum Due {
     /// No whole message, or the conversation is over.
     Nothing,
-    /// A request that may be an update, and may have to wait for other replicas.
+    /// An update of the manager's whose controls don't refuse it: it may have to wait for other replicas.
     Update,
     /// Any other message, or what is no message: it is answered from what is there.
     Other,

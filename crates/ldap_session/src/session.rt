@@ -9,35 +9,16 @@ ghost use Rattle.session_handler.specs.View.{config_view};
 ghost use Rattle.ldap_session.specs.View.{session_view};
 ghost use Rattle.ldap_session.specs.Progress.{Answers, IsAtLast};
 ghost use Rattle.ldap_session.specs.private.Progress.{IsNoMessage};
-ghost use Rattle.ldap_session.specs.Waiting.{is_update, due_at_last, due_of, bind_name_in, bind_of};
+ghost use Rattle.ldap_session.specs.Waiting.{due_at_last, due_of, bind_name_in, bind_of};
 ghost use Rattle.session_handler.specs.ldap_msg.View.{view};
 
 use crate::due::Due;
 use crate::end::SessionEnd;
 use ldap_framer::{FrameFault, Framer, Message, ProtocolOp, Request};
-use session_handler::{AnswerError, Answered, Config, Directory, State, disconnect, take};
+use session_handler::{
+    AnswerError, Answered, Config, Directory, State, disconnect, may_update, take,
+};
 use std::alloc::{AllocError, Global};
-
-/// Whether a message may be an update.
-fn is_update(message: &Message) -> bool
-    ensures { result ≡ is_update (view message.now).op }
-{
-    match &message.op {
-        ProtocolOp::Request(request) => match request {
-            Request::Add(_)
-            | Request::Modify(_)
-            | Request::Delete(_)
-            | Request::ModifyDn(_)
-            | Request::Extended(_) => true,
-            Request::Bind(_)
-            | Request::Unbind
-            | Request::Search(_)
-            | Request::Compare(_)
-            | Request::Abandon(_) => false,
-        },
-        ProtocolOp::Response(_) => false,
-    }
-}
 
 /// The name in a bind, which is empty for nobody; none, in any other message.
 fn bind_name(message: &Message) -> Option<&str>
@@ -122,13 +103,13 @@ impl Session {
         }
     }
 
-    /// What stands next: only an update may have to wait for others.
+    /// What stands next: only an update may have to wait for others, and only the manager's is one.
     pub fn due(&self) -> Due
-        ensures { result ≡ due_of (session_view self.now).framed.ready (session_view self.now).framed.fault }
+        ensures { result ≡ due_of (session_view self.now).state (session_view self.now).framed.ready (session_view self.now).framed.fault }
     {
         match self.framer.peek() {
             Some(message) => {
-                if is_update(message) {
+                if may_update(&self.state, message) {
                     Due::Update
                 } else {
                     Due::Other

@@ -26,5 +26,5 @@ pub use ldap_msg::{
     ProtocolOp, Request, Response, ResultCode, SearchRequest,
 };
 pub use numbers::{GREATEST, number_of, pair_of};
-pub use requests::{Answering, answering_of, kind_of, update_in};
+pub use requests::{Answering, answering_of, is_update, kind_of, update_in};
 pub use writing::{referral_to, response_to, value_for, write_numbered, write_plain};

@@ -1,6 +1,6 @@
 //! Requests by what they ask for. A request flows in; its kind, the kind of its response and the update that it is flow out. What comes of it
 //! is not here.
-ghost use Rattle.std.specs.Prelude.{◌≡◌, IfOk, IfErr};
+ghost use Rattle.std.specs.Prelude.{◌≡◌, IfOk, IfErr, is_some};
 ghost use Rattle.ldap_msg.specs.View.{request_view, extended_request_view};
 ghost use Rattle.ldap_msg.specs.Messages.{extended_request};
 ghost use Rattle.ldap_op.specs.View.{update_view};
@@ -32,6 +32,21 @@ fn is_noop(request: &ExtendedRequest) -> bool
     ensures { result ≡ is_noop (extended_request_view request.now) }
 {
     request.request_name.as_str() == NOOP_REQUEST
+}
+
+/// Whether a request is an update.
+pub fn is_update(request: &Request) -> bool
+    ensures { result ≡ is_some (update_of (request_view request.now)) }
+{
+    match request {
+        Request::Add(_) | Request::Modify(_) | Request::Delete(_) | Request::ModifyDn(_) => true,
+        Request::Extended(extended) => is_noop(extended),
+        Request::Bind(_)
+        | Request::Unbind
+        | Request::Search(_)
+        | Request::Compare(_)
+        | Request::Abandon(_) => false,
+    }
 }
 
 /// The kind of a request to its controls.

@@ -2,6 +2,7 @@ pub mod Responses
 pub mod Rows
 pub mod Session
 pub mod Turns
+pub mod Waiting
 pub mod Rising
 pub mod Taken
 pub mod View

@@ -1,6 +1,7 @@
 //! Laws of sessions. Nothing flows in; what holds of all sessions flows out. Code that runs is not here.
 ghost use Rattle.session_handler.specs.Rising.{ReadsRise};
 ghost use Rattle.session_handler.specs.Turns.{SessionsJoin, RoleIsFirst};
+ghost use Rattle.session_handler.specs.Waiting.{OthersDoNotUpdate};
 
 /// A session over some messages, and on over others, is one over both, whatever is told with roles: a law on the definitions, so its body is
 /// empty.
@@ -18,4 +19,9 @@ pub fn role_is_first<T>()
 /// on the definitions, so its body is empty.
 pub fn reads_rise<T>()
     ensures { ReadsRise T }
+{}
+
+/// No message asks for an update but those of which that is said beforehand: a law on the definitions, so its body is empty.
+pub fn others_do_not_update<T>()
+    ensures { OthersDoNotUpdate T }
 {}

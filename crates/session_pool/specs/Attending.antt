@@ -23,7 +23,7 @@ talk g = conversation_view g.conversation
 
 -- what stands next in it
 abbrev pub due_next : ConversationValue → Due
-due_next v = due v.end v.session.framed
+due_next v = due v.end v.session
 
 -- it is the same session, at the same place
 pub record IsSame (g h : PooledSession) : Type 0 where

@@ -1,0 +1,5 @@
+use Rattle.session_handler.proofs.Waits.{others_make_none}
+use Rattle.session_handler.proofs.laws.others_do_not_update.Goals as goal
+
+pub returns : goal.returns
+returns g c = others_make_none _
