@@ -1,4 +1,5 @@
 pub mod Given
 pub mod Grows
 pub mod Sent
+pub mod BeatSent
 pub mod Crossing
