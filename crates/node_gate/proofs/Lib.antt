@@ -1,4 +1,6 @@
 pub mod Given
 pub mod Grows
 pub mod Sent
+pub mod Starts
+pub mod BeatSent
 pub mod Crossing
