@@ -3,11 +3,11 @@
 ghost use Rattle.std.specs.Prelude.{◌≡◌};
 ghost use Rattle.node_gate.specs.Identities.{identity_of};
 
-use crate::opening::{Names, open_node};
+use crate::opening::{Guards, Names, open_node};
 use crate::options::{Options, Times};
 use crate::peer_queues::{PeerQueues, PeerQueuesAt};
 use crate::ticking::{TimedNode, clock_times};
-use file_device::{FileDevice, JournalFile, ViewGuard};
+use file_device::{FileDevice, JournalFile};
 use node_gate::{Here, Identity, NodeGate, OpenOptions, Opened, Pace, Running, Seat, Told};
 use server_threads::{
     Build, Choices, Config, LinkTimes, NoReads, PROCESS_STATUS, Place, Server, ServerError, SharedParts,
@@ -102,7 +102,7 @@ fn run_in<'a, 'r, R, N, I>(
     seats: Vec<Seat<Here>>,
     running: &'a Running<'r, R, FileDevice, JournalFile, I>,
     peer_queues: &'a PeerQueues<'a, R>,
-    guard: &'a ViewGuard,
+    guards: &'a Guards,
     terms: Terms<'a>,
 ) -> Result<(), ServerError>
 where
@@ -132,7 +132,7 @@ where
         opened,
         view_number: AtomicU64::new(0),
         last_update: AtomicU64::new(0),
-        guard,
+        guards,
         restarts: terms.config.restarts,
         resumed: running.resumed(rt),
         build: terms.build,
@@ -156,7 +156,7 @@ fn serve_opened<R, N, I>(
     alloc: Global,
     opened: Opened<'_, R, FileDevice, JournalFile>,
     peer_queues: PeerQueues<'_, R>,
-    guard: &ViewGuard,
+    guards: &Guards,
     terms: Terms<'_>,
 ) -> Result<(), ServerError>
 where
@@ -180,7 +180,7 @@ where
     } = opened;
     let running = node.share::<I>();
     peer_queues.post_all(outputs.sends);
-    run_in(alloc, seats, &running, &peer_queues, guard, terms)
+    run_in(alloc, seats, &running, &peer_queues, guards, terms)
 }
 
 /// Opens the node, and serves by it.
@@ -252,7 +252,7 @@ where
         asking: Mutex::new(Pace::new(clock_times(&times))),
     };
     // prover: the proof of this call picks the identity of the node that was opened.
-    serve_opened::<R, N, Brand>(alloc, opened, peer_queues, &guards.view, terms)
+    serve_opened::<R, N, Brand>(alloc, opened, peer_queues, &guards, terms)
 }
 
 /// Serves as a replica: listens to the others, opens its node, and serves them, and clients once the node has a state, until the node has stopped

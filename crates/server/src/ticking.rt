@@ -1,13 +1,13 @@
 //! A node with its clock: what other replicas sent, and what a replica does by itself. Messages and time flow in; events flow to the node. What is due,
 //! and when, is decided by `replica_clock`; what an event makes is not here.
-use crate::opening::fault_of_node;
+use crate::opening::{Guards, fault_of_node};
 use crate::options::Times;
 use crate::peer_queues::{PeerQueues, PeerQueuesAt};
 use crate::telling::{
     tell_caught_up, tell_hung, tell_majority, tell_no_majority, tell_pulse, tell_resumed,
     tell_stuck, tell_unstuck,
 };
-use file_device::{FileDevice, JournalFile, ViewGuard};
+use file_device::{FileDevice, JournalFile};
 use node_gate::{
     Arrival, Identity, Majority, NodeError, Op, Pace, PeerMessage, Progress, Pulse, Running, Send,
     Standing, Steps, Ticked, copies, send_all,
@@ -60,8 +60,8 @@ pub struct TimedNode<'a, 'r, R: Wait, I: Identity> {
     /// The node's view, and its last update, when its clock was asked last.
     pub view_number: AtomicU64,
     pub last_update: AtomicU64,
-    /// What looks at the file of the stored view, and which start of the replica stored it, counted from 1.
-    pub guard: &'a ViewGuard,
+    /// What looks at the files of the stored view and of the journal, and which start of the replica stored the view, counted from 1.
+    pub guards: &'a Guards,
     pub restarts: u64,
     /// How many records the journal told of the log, where the node is still to catch up with them; asked before any thread begins, since it may
     /// catch up at once.
@@ -289,15 +289,29 @@ impl<'a, 'r, R: Wait + Clock, I: Identity> TimedNode<'a, 'r, R, I> {
 }
 
 impl<'a, 'r, R: Wait + Clock + Files<File = File>, I: Identity> TimedNode<'a, 'r, R, I> {
-    /// Whether the stored view is lost, as far as its file shows, which is looked at once a beat.
-    fn has_lost_view(&self, watch: &mut Watch) -> bool {
+    /// Which file is lost, if one is, as far as that shows; they are looked at once a beat.
+    fn lost_file(&self, watch: &mut Watch) -> Option<ServerError> {
         let now = self.now();
         if now.saturating_sub(watch.looked_at) < micros(self.times.beat) {
-            return false;
+            return None;
         }
         watch.looked_at = now;
-        self.guard
+        let guards: &Guards = self.guards;
+        if guards
+            .view
             .is_lost(self.rt, self.restarts, watch.pulse.view_number)
+        {
+            return Some(ServerError::ViewLost);
+        }
+        match &guards.journal {
+            Some(journal) => {
+                if journal.is_lost(self.rt) {
+                    return Some(ServerError::JournalLost);
+                }
+                None
+            }
+            None => None,
+        }
     }
 }
 
@@ -383,8 +397,8 @@ where
             if watch.pulse.is_halted {
                 return Err(ServerError::DeviceFailed);
             }
-            if self.has_lost_view(&mut watch) {
-                return Err(ServerError::ViewLost);
+            if let Some(lost) = self.lost_file(&mut watch) {
+                return Err(lost);
             }
         }
         Ok(())
