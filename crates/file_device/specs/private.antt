@@ -2,4 +2,5 @@
 pub mod Guarded
 pub mod Heads
 pub mod Judged
+pub mod Marks
 pub mod Pieces

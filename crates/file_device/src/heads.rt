@@ -26,17 +26,24 @@ const EARLIER_VERSION: u64 = 1;
 /// What stands in a head before the digests, so that people see what the file is.
 const MAGIC: &[u8; 13] = b"dird journal\n";
 
-/// Adds a number. Its only error is want of memory.
+/// The octets of a number.
 #[tactic(auto, unfolding(crate::specs::private::Heads::numeral))]
+pub fn numeral(number: u64) -> [u8; 8]
+    ensures { result ≡ numeral number }
+{
+    number.to_be_bytes()
+}
+
+/// Adds a number. Its only error is want of memory.
 fn put_number(out: &mut Vec<u8>, number: u64) -> Result<(), AllocError>
     ensures { OnOk result (out.new.items ≡ out.old.items ++ numeral number) }
 {
-    out.extend_from_slice(&number.to_be_bytes())
+    out.extend_from_slice(&numeral(number))
 }
 
 /// The sum of octets.
 #[tactic(auto, unfolding(crate::specs::private::Heads::sum_of))]
-fn sum_of(octets: &[u8]) -> [u8; 8]
+pub fn sum_of(octets: &[u8]) -> [u8; 8]
     ensures { result ≡ sum_of octets.now }
 {
     let digest = Sha256::digest(octets);
@@ -102,7 +109,7 @@ pub fn head_of(alloc: Global, owner: &JournalOwner) -> Result<Vec<u8>, AllocErro
 }
 
 /// The number in the eight octets from a place on.
-fn number_at(octets: &[u8], at: usize) -> u64
+pub fn number_at(octets: &[u8], at: usize) -> u64
     requires { at + 8 ≤ length octets.now }
 {
     let mut word = [0; 8];

@@ -5,7 +5,7 @@ ghost use Rattle.journal.specs.Device.{HasRisen};
 use crate::first_block::BLOCK;
 use crate::journal_file::JournalFile;
 use crate::place::is_full;
-use crate::synced_mark::{MARK_AT, mark_of};
+use crate::synced_mark::{MARK_AT, SUM_AT, mark_of};
 use journal::{Device, DeviceFailure, GrowthError, nonzeros};
 use std::fs::File;
 use std::io::{self, ErrorKind};
@@ -123,7 +123,9 @@ impl JournalFile {
         };
         match octets {
             [first, ..] if *first >= FRAME && is_new => {
-                self.file.write_all_at(&mark_of(at), MARK_AT as u64)?;
+                let (number, sum) = mark_of(at);
+                self.file.write_all_at(&number, MARK_AT as u64)?;
+                self.file.write_all_at(&sum, SUM_AT as u64)?;
                 self.marked = Some(at);
                 Ok(())
             }
