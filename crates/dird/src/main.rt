@@ -15,7 +15,8 @@ use std::process::ExitCode;
 use words::system_words;
 
 /// What a program says first whose proofs were not checked.
-const UNPROVED: &str = "unproved build: the same sources, their proofs not checked; ./prove checks them and builds the proved program\n";
+const UNPROVED: &str =
+    "unproved build: the same sources, their proofs not checked; ./prove checks them and builds the proved program\n";
 
 fn main(rt: HostRuntime) -> io::Result<ExitCode> {
     let alloc = rt.alloc();

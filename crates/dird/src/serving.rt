@@ -3,7 +3,8 @@
 use command_line::{Address as Told, BUILD};
 use dird_commands::Service;
 use server::{
-    Address, Build, Cluster, Limits, Logs, NodeConfig, Options, Place, ServerError, Terms, Times, serve,
+    Address, Build, Cluster, Limits, Logs, NodeConfig, Options, Place, ServerError, Terms, Times,
+    serve,
 };
 use std::alloc::{AllocError, Global};
 use std::fs::{File, Files};

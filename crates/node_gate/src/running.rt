@@ -350,15 +350,11 @@ impl<'a, R: Wait, D: Device, J: JournalDevice, I: Identity> Running<'a, R, D, J,
     ) -> (Ended, Snapshot<Node<D, J>>)
         ensures { SettlesAs I.own result.1.value request.client request.number (ended_view result.0) }
     {
-        let held = self.changed.wait_while(
-            rt,
-            self.held.lock(rt),
-            |held| {
-                held.is_awaited(&request)
-                    && !has_left.load(Ordering::SeqCst)
-                    && self.standing.has_majority()
-            },
-        );
+        let held = self.changed.wait_while(rt, self.held.lock(rt), |held| {
+            held.is_awaited(&request)
+                && !has_left.load(Ordering::SeqCst)
+                && self.standing.has_majority()
+        });
         let node = held.node();
         let ended = ended_at(alloc, node, request.client, request.number);
         (ended, Snapshot::of(node))

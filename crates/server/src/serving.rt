@@ -10,8 +10,8 @@ use crate::ticking::{TimedNode, clock_times};
 use file_device::{FileDevice, JournalFile};
 use node_gate::{Here, Identity, NodeGate, OpenOptions, Opened, Pace, Running, Seat, Told};
 use server_threads::{
-    Build, Choices, Config, LinkTimes, NoReads, PROCESS_STATUS, Place, Server, ServerError, SharedParts,
-    make_shared_parts,
+    Build, Choices, Config, LinkTimes, NoReads, PROCESS_STATUS, Place, Server, ServerError,
+    SharedParts, make_shared_parts,
 };
 use std::alloc::{AllocError, Global};
 use std::fs::{File, Files};
@@ -91,7 +91,7 @@ struct Terms<'a> {
     config: Config<'a>,
     sessions: usize,
     times: Times,
-    build: Build,
+    is_proved: bool,
     /// Where each replica is found.
     places: &'a [Place<'a>],
 }
@@ -132,10 +132,11 @@ where
         opened,
         view_number: AtomicU64::new(0),
         last_update: AtomicU64::new(0),
-        guards,
+        view_guard: &guards.view,
+        journal_guard: &guards.journal,
         restarts: terms.config.restarts,
         resumed: running.resumed(rt),
-        build: terms.build,
+        is_proved: terms.is_proved,
         trouble: AtomicU64::new(0),
     };
     let ways = ways(&clock, seats)?;
@@ -242,7 +243,7 @@ where
         config,
         sessions: sessions.max(1),
         times,
-        build,
+        is_proved: matches!(build, Build::Proved),
         places,
     };
     let peer_queues = PeerQueues {

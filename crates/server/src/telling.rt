@@ -30,7 +30,9 @@ pub fn tell_stuck<R: Wait>(rt: &R, alloc: Global, reporter: &Reporter) {
 pub fn tell_hung<R: Wait>(rt: &R, alloc: Global, reporter: &Reporter) {
     reporter.say(
         rt,
-        format!(in alloc; "stuck for longer than three times --suspect: the others go on without this replica; end it and start it again"),
+        format!(in alloc;
+            "stuck for longer than three times --suspect: the others go on without this replica; end it and start it again"
+        ),
     );
 }
 

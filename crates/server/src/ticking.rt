@@ -1,13 +1,13 @@
 //! A node with its clock: what other replicas sent, and what a replica does by itself. Messages and time flow in; events flow to the node. What is due,
 //! and when, is decided by `replica_clock`; what an event makes is not here.
-use crate::opening::{Guards, fault_of_node};
+use crate::opening::fault_of_node;
 use crate::options::Times;
 use crate::peer_queues::{PeerQueues, PeerQueuesAt};
 use crate::telling::{
     tell_caught_up, tell_hung, tell_majority, tell_no_majority, tell_pulse, tell_resumed,
     tell_stuck, tell_unstuck,
 };
-use file_device::{FileDevice, JournalFile};
+use file_device::{FileDevice, JournalFile, JournalGuard, ViewGuard};
 use node_gate::{
     Arrival, Identity, Majority, NodeError, Op, Pace, PeerMessage, Progress, Pulse, Running, Send,
     Standing, Steps, Ticked, copies, send_all,
@@ -60,13 +60,16 @@ pub struct TimedNode<'a, 'r, R: Wait, I: Identity> {
     /// The node's view, and its last update, when its clock was asked last.
     pub view_number: AtomicU64,
     pub last_update: AtomicU64,
-    /// What looks at the files of the stored view and of the journal, and which start of the replica stored the view, counted from 1.
-    pub guards: &'a Guards,
+    /// What looks at the file of the stored view, and at that of the journal, where it keeps one; and which start of the replica stored the view,
+    /// counted from 1.
+    pub view_guard: &'a ViewGuard,
+    pub journal_guard: &'a Option<JournalGuard>,
     pub restarts: u64,
     /// How many records the journal told of the log, where the node is still to catch up with them; asked before any thread begins, since it may
     /// catch up at once.
     pub resumed: Option<u64>,
-    pub build: Build,
+    /// Whether the program's proofs were checked.
+    pub is_proved: bool,
     /// What keeps the replica from serving, as a word.
     pub trouble: AtomicU64,
 }
@@ -296,14 +299,13 @@ impl<'a, 'r, R: Wait + Clock + Files<File = File>, I: Identity> TimedNode<'a, 'r
             return None;
         }
         watch.looked_at = now;
-        let guards: &Guards = self.guards;
-        if guards
-            .view
+        if self
+            .view_guard
             .is_lost(self.rt, self.restarts, watch.pulse.view_number)
         {
             return Some(ServerError::ViewLost);
         }
-        match &guards.journal {
+        match self.journal_guard {
             Some(journal) => {
                 if journal.is_lost(self.rt) {
                     return Some(ServerError::JournalLost);
@@ -427,7 +429,11 @@ where
 
     fn figures(&self) -> Figures {
         Figures {
-            build: self.build,
+            build: if self.is_proved {
+                Build::Proved
+            } else {
+                Build::Unproved
+            },
             trouble: trouble_of(self.trouble.load(Ordering::SeqCst)),
             role: role_of(self.running.standing()),
             view_number: self.view_number.load(Ordering::SeqCst),

@@ -125,7 +125,11 @@ where
             reporter: &self.shared_parts.reporter,
             links: &self.shared_parts.links,
             terms: self.shared_parts.terms,
-            silence: self.shared_parts.link_times.silence.saturating_add(self.shared_parts.link_times.silence),
+            silence: self
+                .shared_parts
+                .link_times
+                .silence
+                .saturating_add(self.shared_parts.link_times.silence),
         }
     }
 

@@ -44,9 +44,9 @@ mod updaters;
 mod updating;
 
 pub use client_link::{
-    Answering,
-    Client, CompareRequest, Config, Directory, Door, Ended, Found, HasDoor, Limits, LookError,
-    Peer, Reply, Role, SearchAnswer, SearchRequest, SessionEnd, Update, accept_all, close,
+    Answering, Client, CompareRequest, Config, Directory, Door, Ended, Found, HasDoor, Limits,
+    LookError, Peer, Reply, Role, SearchAnswer, SearchRequest, SessionEnd, Update, accept_all,
+    close,
 };
 pub use limit::descriptors;
 pub use no_reads::NoReads;
