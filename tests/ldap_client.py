@@ -115,8 +115,13 @@ class Closed(Exception):
 class Client:
     """One connection."""
 
-    def __init__(self, host: str, port: int, timeout: float = 20.0):
-        self.socket = socket.create_connection((host, port), timeout)
+    def __init__(self, host: str, port: int, timeout: float = 20.0, receives: int | None = None):
+        """A client whose system keeps so many octets for it that it hasn't read, or as many as it likes."""
+        self.socket = socket.socket()
+        self.socket.settimeout(timeout)
+        if receives is not None:
+            self.socket.setsockopt(socket.SOL_SOCKET, socket.SO_RCVBUF, receives)
+        self.socket.connect((host, port))
         self.socket.setsockopt(socket.IPPROTO_TCP, socket.TCP_NODELAY, 1)
         # What has come, and how much of it was taken.
         self.rest = b""
