@@ -1,6 +1,4 @@
 pub mod Given
 pub mod Grows
 pub mod Sent
-pub mod Starts
-pub mod BeatSent
 pub mod Crossing

@@ -17,7 +17,6 @@
 #![tactic(auto)]
 
 mod arrival;
-mod beats;
 mod driving;
 mod ending;
 mod events;
@@ -25,7 +24,6 @@ mod gate;
 mod held;
 mod identity;
 mod inbox;
-mod moved;
 mod opened;
 mod opening;
 mod peers;
@@ -39,13 +37,11 @@ pub use dir_node::{
     PeerMessage, Send, ViewStoreError,
 };
 pub use dir_seats::{Seat, Told};
-pub use driving::Batched;
 pub use ending::Request;
 pub use gate::NodeGate;
 pub use held::{Pulse, Standing};
 pub use identity::Identity;
 pub use inbox::Batch;
-pub use moved::{Acted, Handed, Moved};
 pub use opened::{Opened, OpenedNode};
 pub use opening::{OpenOptions, open};
 pub use peers::{Peers, send_all};
