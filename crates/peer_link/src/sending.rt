@@ -124,7 +124,7 @@ fn ask<W: Write>(keep_alive: &mut KeepAlive, stream: &mut W, now: u64) -> bool {
     stream.write_all(&QUESTION).is_ok() && stream.flush().is_ok()
 }
 
-/// The stream, unless its other end has closed it or is silent for too long. The other end is asked once a beat.
+/// The stream, unless its other end has closed it or is silent for too long; the other end is asked whether it is there.
 fn still_open<T, F: Framing<T>, D: Dial>(
     framing: &mut F,
     dialer: &mut D,
@@ -133,9 +133,6 @@ fn still_open<T, F: Framing<T>, D: Dial>(
     now: u64,
 ) -> Option<BufWriter<D::Stream>> {
     let mut stream = held?;
-    if !keep_alive.is_due(now) {
-        return Some(stream);
-    }
     if listen(framing, dialer, keep_alive, stream.get_ref(), now)
         && ask(keep_alive, &mut stream, now)
     {
@@ -220,6 +217,8 @@ pub fn send_all<R: Wait + Clock, T: Drop, F: Framing<T>, D: Dial>(
     let mut keep_alive = KeepAlive::new(micros(times.beat), micros(times.silence));
     let mut stream = dial_and_greet(rt, alloc, outbox, framing, dialer);
     keep_alive.begin(moment(rt, began));
+    // A new stream is looked at before the first item goes out on it: its other end may have turned it away.
+    let mut is_new = true;
     for _ in rt.forever() {
         let item = match outbox.take(rt, times.beat) {
             Waited::Item(item) => Some(item),
@@ -227,10 +226,14 @@ pub fn send_all<R: Wait + Clock, T: Drop, F: Framing<T>, D: Dial>(
             Waited::Stopped => break,
         };
         let now = moment(rt, began);
-        stream = still_open(framing, dialer, &mut keep_alive, stream, now);
+        if is_new || keep_alive.is_due(now) {
+            stream = still_open(framing, dialer, &mut keep_alive, stream, now);
+            is_new = false;
+        }
         if stream.is_none() {
             stream = dial_and_greet(rt, alloc, outbox, framing, dialer);
             keep_alive.begin(moment(rt, began));
+            is_new = true;
         }
         let Some(open) = stream else {
             return;

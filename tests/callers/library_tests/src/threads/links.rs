@@ -16,10 +16,12 @@ use std::time::{Clock, Duration};
 use std::{io, thread};
 
 /// The other end is asked ten times a second whether it is there, and may be silent for half a second.
-const TIMES: LinkTimes = LinkTimes {
-    beat: Duration::from_millis(100),
-    silence: Duration::from_millis(500),
-};
+fn times() -> LinkTimes {
+    LinkTimes {
+        beat: Duration::from_millis(100),
+        silence: Duration::from_millis(500),
+    }
+}
 
 /// Frames that are sent as they are.
 #[derive(Drop)]
@@ -139,7 +141,7 @@ fn a_closed_link_is_made_again(rt: HostRuntime) -> Result<(), Fail> {
         || and_stop(&rt, &outbox, take_two(&rt, rt.alloc(), &listener, &outbox)),
         || {
             let mut dialer = SocketDialer::new(&rt, Address::Numbers(at), Duration::from_secs(5));
-            send_all(&rt, rt.alloc(), &outbox, &mut AsTheyAre { next: None }, &mut dialer, TIMES);
+            send_all(&rt, rt.alloc(), &outbox, &mut AsTheyAre { next: None }, &mut dialer, times());
         },
     );
     let (first, second) = taken?;
@@ -159,7 +161,7 @@ fn an_idle_link_that_was_closed_loses_no_frame(rt: HostRuntime) -> Result<(), Fa
         || and_stop(&rt, &outbox, take_late(&rt, rt.alloc(), &listener, &outbox)),
         || {
             let mut dialer = SocketDialer::new(&rt, Address::Numbers(at), Duration::from_secs(5));
-            send_all(&rt, rt.alloc(), &outbox, &mut AsTheyAre { next: None }, &mut dialer, TIMES);
+            send_all(&rt, rt.alloc(), &outbox, &mut AsTheyAre { next: None }, &mut dialer, times());
         },
     );
     let (first, second) = taken?;
@@ -299,7 +301,7 @@ fn items_that_wait_go_out_in_one_write_outside_the_lock(rt: HostRuntime) -> Resu
                 outbox: &outbox,
                 left: [None, None],
             };
-            send_all(&rt, rt.alloc(), &outbox, &mut frames, &mut dialer, TIMES);
+            send_all(&rt, rt.alloc(), &outbox, &mut frames, &mut dialer, times());
         },
     );
     assert!(rt; has_come);
