@@ -226,14 +226,16 @@ pub fn send_all<R: Wait + Clock, T: Drop, F: Framing<T>, D: Dial>(
             Waited::Stopped => break,
         };
         let now = moment(rt, began);
-        if is_new || keep_alive.is_due(now) {
+        let is_first = is_new && item.is_some();
+        if is_first || keep_alive.is_due(now) {
             stream = still_open(framing, dialer, &mut keep_alive, stream, now);
-            is_new = false;
         }
         if stream.is_none() {
             stream = dial_and_greet(rt, alloc, outbox, framing, dialer);
             keep_alive.begin(moment(rt, began));
             is_new = true;
+        } else if is_first {
+            is_new = false;
         }
         let Some(open) = stream else {
             return;
