@@ -43,10 +43,14 @@ class Tap:
             pass
 
     def _pass_back(self, onward: socket.socket, taken: socket.socket) -> None:
-        """Answers go the other way."""
+        """Answers go the other way, and so does the end of a connection that is turned away."""
         try:
             while piece := onward.recv(4096):
                 taken.sendall(piece)
+        except OSError:
+            pass
+        try:
+            taken.shutdown(socket.SHUT_RDWR)
         except OSError:
             pass
 
