@@ -75,7 +75,6 @@ pub fn accept_all<'a, R: Wait + Clock, H: HasDoor, V: Arrives<'a, R, H> + Drop>(
         let Ok(visitor) = V::arrive(rt, alloc, house, socket) else {
             continue;
         };
-        door.wait(rt);
         if !hand_on(rt, door, &to, number, visitor) {
             break;
         }

@@ -66,10 +66,9 @@ impl<'a, R: Wait + Clock> Peer<'a, R> {
         self.reader.is_strange_for_long()
     }
 
-    /// It is given a place: what frames are read from. It is a stranger there, until it is trusted.
+    /// What frames are read from, once it has a thread. It is a stranger there, until it is trusted.
     pub fn seated(self, alloc: Global) -> io::Result<BufReader<PieceReader<'a, R, FrameHeading>>> {
-        let Peer { mut reader } = self;
-        reader.sit();
+        let Peer { reader } = self;
         BufReader::new(alloc, reader)
     }
 }

@@ -13,8 +13,8 @@ use std::time::{Clock, Duration, Instant};
 const PROBATION: u64 = 2_000;
 
 /// Reads a socket, and fails where the door is closed, where the other end is silent for too long inside a message, and where it sends no
-/// whole message for too long while another waits for the place. A stranger has 2 seconds from when it came, and gives its place up as soon as
-/// another waits.
+/// whole message for too long while another waits for the place. A stranger has 2 seconds from when it came; what it has sent is read before it is
+/// judged, and it gives its place up where nothing comes while another waits.
 pub struct PieceReader<'a, R, H> {
     rt: &'a R,
     door: &'a Door,
@@ -99,12 +99,9 @@ impl<'a, R: Wait + Clock, H: Heading> PieceReader<'a, R, H> {
         Ok(now.saturating_duration_since(since) >= Duration::from_millis(PROBATION))
     }
 
-    /// Whether a stranger has to go.
-    fn is_to_go(&self) -> io::Result<bool> {
-        if self.stranger_since.is_none() {
-            return Ok(false);
-        }
-        Ok(self.is_strange_for_long()? || self.door.give_up(self.rt))
+    /// Whether a stranger of which nothing has come gives its place up to one that waits for it.
+    fn is_to_go(&self) -> bool {
+        self.stranger_since.is_some() && self.door.give_up(self.rt)
     }
 
     /// The first octets that have come, without taking them, as many as the buffer has room for; how many. Where none has come it fails with
@@ -114,11 +111,6 @@ impl<'a, R: Wait + Clock, H: Heading> PieceReader<'a, R, H> {
         let seen = self.stream.peek(octets);
         self.stream.set_nonblocking(false)?;
         seen
-    }
-
-    /// It is given a place.
-    pub fn sit(&mut self) {
-        self.door.sit(self.rt);
     }
 
     /// A read begins: what came before is answered by now, and the time that this took is not the other end's.
@@ -136,7 +128,7 @@ impl<'a, R: Wait + Clock, H: Heading> PieceReader<'a, R, H> {
     fn is_over(&self) -> io::Result<bool> {
         let now = Instant::now(self.rt)?;
         let limits = self.door.limits();
-        if self.door.is_closed() || self.is_to_go()? {
+        if self.door.is_closed() || self.is_strange_for_long()? {
             return Ok(true);
         }
         let silent = now.saturating_duration_since(self.since_octet);
@@ -168,6 +160,9 @@ impl<'a, R: Wait + Clock, H: Heading> Read for PieceReader<'a, R, H> {
                 Err(error) => {
                     if !is_pause(error.kind()) {
                         return Err(error);
+                    }
+                    if self.is_to_go() {
+                        break;
                     }
                 }
             }

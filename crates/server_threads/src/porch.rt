@@ -121,9 +121,8 @@ impl<'a, R: Wait + Clock> Porch<'a, R> {
         }
     }
 
-    /// A stranger comes. It had been counted with those who wait for a place; here it waits for none yet.
+    /// A stranger comes. It waits for no thread yet.
     fn let_in(&self, strangers: &mut Strangers<'a, R>, peer: Peer<'a, R>) {
-        self.door.sit(self.rt);
         if strangers.len() >= STRANGERS {
             if let Some(first) = strangers.pop_front() {
                 self.send_away(first, "others came after it");
@@ -138,21 +137,30 @@ impl<'a, R: Wait + Clock> Porch<'a, R> {
         );
     }
 
-    /// Hands a stranger to a thread that reads. Where all are busy it comes back, and is counted with those who wait for a place.
+    /// Hands a stranger to a thread that reads, where one is free. Else it comes back, and is counted with those who wait for one, so that only where all
+    /// are busy a place is given up.
     fn hand_over(
         &self,
         to: &Sender<Peer<'a, R>>,
         stranger: Stranger<'a, R>,
     ) -> Option<Stranger<'a, R>> {
-        if !stranger.is_waiting {
-            self.door.wait(self.rt);
-        }
+        let was_waiting = stranger.is_waiting;
         match to.try_send(self.rt, stranger.into_peer()) {
-            Ok(()) | Err(TrySendError::Disconnected(_)) => None,
-            Err(TrySendError::Full(peer) | TrySendError::OutOfMemory(peer)) => Some(Stranger {
-                peer,
-                is_waiting: true,
-            }),
+            Ok(()) | Err(TrySendError::Disconnected(_)) => {
+                if was_waiting {
+                    self.door.sit(self.rt);
+                }
+                None
+            }
+            Err(TrySendError::Full(peer) | TrySendError::OutOfMemory(peer)) => {
+                if !was_waiting {
+                    self.door.wait(self.rt);
+                }
+                Some(Stranger {
+                    peer,
+                    is_waiting: true,
+                })
+            }
         }
     }
 

@@ -218,7 +218,7 @@ where
         let writers = self.others()?;
         let readers = self.readers()?;
         let (to_porch, arrivals) = bounded(self.alloc, 1)?;
-        let (to_readers, waiting) = bounded(self.alloc, 1)?;
+        let (to_readers, waiting) = bounded(self.alloc, 0)?;
         let ((), passed) = thread::join(
             self.rt,
             || self.take_peers(to_porch),
