@@ -1,25 +1,64 @@
-//! What monitors ask of a replica, over HTTP/1.1: one connection after the other, each answered once and closed. What the pages say is not here.
+//! Answers monitors over HTTP/1.1, each once, sixteen beside one another. One thread looks at all of them, and waits for none. What the pages say is not here.
 use crate::engine::Engine;
 use crate::resident::resident_octets;
 use crate::shared_parts::SharedParts;
 use status_page::{Counts, Head, Page, bad_request, head_of, page};
 use std::alloc::{AllocError, Global};
-use std::io::{self, Read, Write};
+use std::collections::VecDeque;
+use std::io::{self, ErrorKind, Read, Write};
 use std::net::{TcpListener, TcpStream};
 use std::sync::Wait;
 use std::thread;
-use std::time::{Clock, Duration};
+use std::time::{Clock, Duration, Instant};
 
-/// How long a monitor may take for its request, and for taking the answer, in milliseconds.
+/// How long a monitor may take for its request and for taking the answer together, in milliseconds.
 const PATIENCE: u64 = 1_000;
 
-/// How many octets are read at once, and how often they are for one request: longer heads aren't answered.
+/// How many octets are read at once, and how many a request's head may have.
 const PIECE: usize = 512;
 
-const PIECES: usize = 16;
+const HEAD: usize = 8_192;
+
+/// How many monitors are answered beside one another: where one more comes, the one that came first is disconnected.
+const MONITORS: usize = 16;
+
+/// How often monitors are looked at, in milliseconds.
+const LOOK: u64 = 5;
 
 /// How long it is waited before a connection is asked for again, where none could be taken, in milliseconds.
 const PAUSE: u64 = 100;
+
+/// A monitor's connection, which doesn't wait.
+struct Monitor {
+    stream: TcpStream,
+    since: Instant,
+    /// What has come of its request.
+    asked: Vec<u8>,
+    /// What it is answered, and how much of that it has taken.
+    answer: Option<String>,
+    taken: usize,
+}
+
+// Not derived: see "What the gate takes" in docs/ARCHITECTURE.md.
+impl Drop for Monitor {
+    fn drop(self) {
+        let Monitor {
+            stream: _,
+            since: _,
+            asked: _,
+            answer: _,
+            taken: _,
+        } = self;
+    }
+}
+
+/// All monitors, the one that was looked at last at the back.
+type Monitors = VecDeque<Monitor, Global>;
+
+/// Whether a call came to nothing only because it would have to wait.
+fn is_pause(kind: ErrorKind) -> bool {
+    kind == ErrorKind::WouldBlock || kind == ErrorKind::Interrupted
+}
 
 /// What answers monitors.
 #[derive(Drop)]
@@ -57,52 +96,122 @@ impl<'a, R: Wait + Clock, E: Engine> Monitoring<'a, R, E> {
         }
     }
 
-    /// Reads a request, and gives its answer; none, where no whole one comes.
-    fn answer_of(&self, stream: &mut TcpStream) -> io::Result<Option<String>> {
-        let mut octets = Vec::new(self.alloc);
+    /// Reads what has come of a request, up to a piece. Whether more may come.
+    fn read(&self, monitor: &mut Monitor) -> io::Result<bool> {
         let mut piece = [0u8; PIECE];
-        for _ in 0..PIECES {
-            let count = stream.read(&mut piece)?;
-            let Some(come) = piece.get(..count) else {
-                break;
-            };
-            octets.extend_from_slice(come)?;
-            if let Some(answer) = self.answer(&octets)? {
-                return Ok(Some(answer));
+        let count = match monitor.stream.read(&mut piece) {
+            Ok(count) => count,
+            Err(error) => {
+                return if is_pause(error.kind()) {
+                    Ok(true)
+                } else {
+                    Err(error)
+                };
             }
-            if count == 0 {
-                break;
-            }
+        };
+        if count == 0 || monitor.asked.len() >= HEAD {
+            return Ok(false);
         }
-        Ok(None)
+        if let Some(come) = piece.get(..count) {
+            monitor.asked.extend_from_slice(come)?;
+        }
+        monitor.answer = self.answer(&monitor.asked)?;
+        Ok(true)
     }
 
-    /// Answers one monitor.
-    fn serve(&self, mut stream: TcpStream) -> io::Result<()> {
-        let limit = Some(Duration::from_millis(PATIENCE));
-        stream.set_read_timeout(limit)?;
-        stream.set_write_timeout(limit)?;
-        if let Some(answer) = self.answer_of(&mut stream)? {
-            stream.write_all(answer.as_bytes())?;
+    /// Writes what the monitor takes of its answer. Whether there is more.
+    fn write(&self, monitor: &mut Monitor) -> io::Result<bool> {
+        let Some(answer) = &monitor.answer else {
+            return Ok(true);
+        };
+        let Some(left) = answer.as_bytes().get(monitor.taken..) else {
+            return Ok(false);
+        };
+        match monitor.stream.write(left) {
+            Ok(count) => {
+                monitor.taken = monitor.taken.saturating_add(count);
+                Ok(count > 0 && count < left.len())
+            }
+            Err(error) => {
+                if is_pause(error.kind()) {
+                    Ok(true)
+                } else {
+                    Err(error)
+                }
+            }
         }
+    }
+
+    /// Goes on with a monitor as far as that needs no waiting. Whether it stays.
+    fn go_on(&self, monitor: &mut Monitor) -> io::Result<bool> {
+        let now = Instant::now(self.rt)?;
+        if now.saturating_duration_since(monitor.since) >= Duration::from_millis(PATIENCE) {
+            return Ok(false);
+        }
+        if monitor.answer.is_none() && !self.read(monitor)? {
+            return Ok(false);
+        }
+        self.write(monitor)
+    }
+
+    /// Goes on with each monitor.
+    fn go_on_with_all(&self, monitors: &mut Monitors) {
+        for _ in 0..monitors.len() {
+            let Some(mut monitor) = monitors.pop_front() else {
+                break;
+            };
+            if let Ok(true) = self.go_on(&mut monitor) {
+                // A monitor for which there is no memory asks again.
+                let _ = monitors.push_back(monitor);
+            }
+        }
+    }
+
+    /// Lets a monitor in.
+    fn let_in(&self, monitors: &mut Monitors, stream: TcpStream) -> io::Result<()> {
+        stream.set_nonblocking(true)?;
+        let since = Instant::now(self.rt)?;
+        if monitors.len() >= MONITORS {
+            let _first = monitors.pop_front();
+        }
+        let monitor = Monitor {
+            stream,
+            since,
+            asked: Vec::new(self.alloc),
+            answer: None,
+            taken: 0,
+        };
+        monitors.push_back(monitor)?;
         Ok(())
+    }
+
+    /// Waits for the next monitor while there is none, else until the next look.
+    fn next(&self, listener: &TcpListener, monitors: &mut Monitors) -> io::Result<()> {
+        listener.set_nonblocking(!monitors.is_empty())?;
+        match listener.accept() {
+            Ok((stream, _)) => self.let_in(monitors, stream),
+            Err(error) => {
+                if !is_pause(error.kind()) {
+                    return Err(error);
+                }
+                thread::sleep(self.rt, Duration::from_millis(LOOK));
+                Ok(())
+            }
+        }
     }
 
     /// Answers monitors, until the door is closed.
     pub fn serve_all(&self, listener: &TcpListener) {
         self.shared_parts.needed_threads.begin();
+        let mut monitors = VecDeque::new(self.alloc);
         for _ in self.rt.forever() {
-            let accepted = listener.accept();
+            if self.next(listener, &mut monitors).is_err() {
+                thread::sleep(self.rt, Duration::from_millis(PAUSE));
+            }
             if self.shared_parts.monitor_door.is_closed() {
                 break;
             }
-            match accepted {
-                Ok((stream, _)) => {
-                    // A monitor that doesn't take its answer asks again.
-                    let _ = self.serve(stream);
-                }
-                Err(_) => thread::sleep(self.rt, Duration::from_millis(PAUSE)),
-            }
+            self.go_on_with_all(&mut monitors);
         }
     }
 }

@@ -92,7 +92,7 @@ replica_text f =
     ++ figure (codes "dird_view") (codes "The number of the replica's view.") (codes "gauge")
     (sample (codes "dird_view") f.view_number)
     ++ figure (codes "dird_last_update") (codes "The number of the last update that the replica has made.")
-    (codes "counter")
+    (codes "gauge")
     (sample (codes "dird_last_update") f.last_update)
     ++ figure (codes "dird_sessions") (codes "How many clients are connected.") (codes "gauge")
     (sample (codes "dird_sessions") f.sessions)

@@ -79,7 +79,7 @@ fn replica(alloc: Global, figures: &Figures) -> Result<String, AllocError>
         alloc,
         "dird_last_update",
         "The number of the last update that the replica has made.",
-        "counter",
+        "gauge",
         figures.last_update,
     )?;
     let sessions = single(
