@@ -1,26 +1,34 @@
 //! The calls of a device, made of a file. Octets flow to and from a file. What is stored there is not here, nor what a crash leaves.
-ghost use Rattle.std.specs.Prelude.{◌≡◌, ◌+◌, ◌≤◌, length, take, drop};
+ghost use Rattle.std.specs.Prelude.{◌≡◌, ◌+◌, ◌≤◌, length, take, drop, ◌∷◌, true, IfOk};
+ghost use Rattle.journal.specs.Memory.{write};
+ghost use Rattle.view_store.specs.Device.{Holds};
 
 use crate::file::FileDevice;
 use crate::splicing::spliced;
+use std::io;
 use std::os::unix::fs::FileExt;
 use view_store::{Device, DeviceFailure};
 
 impl Device for FileDevice {
     ghost seen = { λ f. f.image.items };
 
-    // What a crash leaves of a file is not said.
-    ghost may_leave = { λ f c. ⊥ };
+    ghost use Rattle.std.specs.Prelude.{length};
+    ghost use Rattle.view_store.specs.Memory.{MayLeave, LeftSince};
+    ghost use Rattle.view_store.specs.Replay as replay;
+    ghost use Rattle.file_device.specs.private.History.{view_events};
 
-    ghost moment = { λ f. 0 };
+    // By the rules of a device, over what the file held as it was opened and the calls since.
+    ghost may_leave = { λ f. MayLeave f.known.history.base (view_events f.known.history) };
 
-    ghost left_since = { λ f t c. ⊥ };
+    ghost moment = { λ f. length (view_events f.known.history) };
+
+    ghost left_since = { λ f. LeftSince f.known.history.base (view_events f.known.history) };
 
     ghost failure_count = { λ f. f.failures };
 
-    ghost counts_now = { λ f t c le left. left };
+    ghost counts_now = { λ f t c le left. replay.counts_now f.known.history.base (view_events f.known.history) t c le left };
 
-    ghost only_now = { λ f c left. left };
+    ghost only_now = { λ f c left. replay.only_now f.known.history.base (view_events f.known.history) c left };
 
     fn len(&mut self) -> Result<u64, DeviceFailure> {
         let kept = self.image.len() as u64;
@@ -48,24 +56,60 @@ impl Device for FileDevice {
     }
 
     fn write_at(&mut self, at: u64, octets: &[u8]) -> Result<(), DeviceFailure> {
-        let Ok(next) = spliced(self.alloc, &self.image, at as usize, octets) else {
-            return Err(self.fail());
-        };
-        if self.file.write_all_at(octets, at).is_err() {
-            return Err(self.fail());
+        match self.written(at, octets) {
+            Ok(next) => {
+                self.write_over(at, octets, next);
+                Ok(())
+            }
+            Err(_) => {
+                self.known.cut_write(at, octets);
+                Err(self.fail())
+            }
         }
-        self.image = next;
-        Ok(())
     }
 
     fn sync(&mut self) -> Result<(), DeviceFailure> {
         match self.file.sync_data() {
-            Ok(()) => Ok(()),
+            Ok(()) => {
+                self.known.settle();
+                Ok(())
+            }
             Err(_) => Err(self.fail()),
         }
     }
 
     fn failures(&self) -> u64 {
         self.failures
+    }
+}
+
+impl FileDevice {
+    /// Writes octets in the file, and gives what it holds then.
+    fn written(&self, at: u64, octets: &[u8]) -> io::Result<Vec<u8>>
+        requires { at ≤ length self.now.image.items }
+        ensures { IfOk result (λ next. Holds self.now.image.items at octets.now next.items) }
+    {
+        let next = spliced(self.alloc, &self.image, at as usize, octets)?;
+        self.file.write_all_at(octets, at)?;
+        Ok(next)
+    }
+
+    /// Notes octets that were written, after which the file holds this.
+    fn write_over(&mut self, at: u64, octets: &[u8], next: Vec<u8>)
+        requires within { at ≤ length self.old.image.items }
+        requires next { Holds self.old.image.items at octets.now next.items }
+        ensures image { self.new.image ≡ next }
+        ensures known { self.new.known.history ≡ record self.old.known.history { events = write at octets.now true ∷ self.old.known.history.events } }
+        ensures failures { self.new.failures ≡ self.old.failures }
+    {
+        let FileDevice {
+            alloc: _,
+            file: _,
+            image,
+            known,
+            failures: _,
+        } = self;
+        known.write_over(at, octets);
+        *image = next;
     }
 }

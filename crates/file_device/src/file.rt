@@ -1,14 +1,18 @@
 //! A file that is opened as a device. A path flows in, a device flows out. What the calls of a device do is not here.
-ghost use Rattle.std.specs.Prelude.{◌≡◌, ◌≤◌, length, IfOk, IfSome, IsTrue};
+ghost use Rattle.std.specs.Prelude.{◌≡◌, ◌≤◌, [], length, true, IfOk, IfSome, IsTrue};
+ghost use Rattle.view_store.specs.Memory.{seen_after};
+ghost use Rattle.file_device.specs.private.History.{view_events, begin_within};
 ghost use Rattle.file_device.specs.Unused.{IsUnused, first_slot};
 ghost use Rattle.view_store.specs.Device.{HasRisen};
 
 use crate::fault::FileDeviceError;
 use crate::judging::is_torn;
+use crate::known_octets::KnownOctets;
 use crate::place::{failed, open_locked, sync_folder};
 use std::alloc::Global;
 use std::fs::{File, Files};
 use std::io::{ErrorKind, Read};
+use std::os::unix::fs::FileExt;
 use view_store::{Cluster, DeviceFailure};
 
 /// A file with more octets is refused.
@@ -34,15 +38,19 @@ fn first_slot(version: u8, cluster: Cluster) -> [u8; 32]
 }
 
 /// A file as a device. Every octet that was read or written is kept beside it, and a read or a length that the file answers otherwise is a
-/// failure. Nothing is claimed of what a crash leaves of a file: as a device it names no outcome of a crash at all, so what the contract of a
-/// device says of crashes holds of it for want of any. A sync hands the octets to the operating system's own sync of the file; the folder of
+/// failure. What a crash leaves of it is said by the rules of a device: each call of the system that writes or syncs is noted beside it, and that the
+/// system and the disk keep these rules is assumed. A sync hands the octets to the operating system's own sync of the file; the folder of
 /// a file without octets is synced when that is opened, so that a file that was made is found again.
 pub struct FileDevice {
     pub(crate) alloc: Global,
     pub(crate) file: File,
     /// What the file holds, as far as it is honest.
     pub(crate) image: Vec<u8>,
+    /// What clauses know of the file.
+    pub(crate) known: KnownOctets,
     pub(crate) failures: u64,
+    ghost shown: { image.items ≡ seen_after known.history.base (view_events known.history) },
+    ghost writes_within: { begin_within known.history.base (view_events known.history) ≡ true },
 }
 
 // Not derived: see "What the gate takes" in docs/ARCHITECTURE.md.
@@ -52,6 +60,7 @@ impl Drop for FileDevice {
             alloc: _,
             file: _,
             image: _,
+            known: _,
             failures: _,
         } = self;
     }
@@ -66,18 +75,46 @@ impl FileDevice {
         path: &str,
         may_be_made: bool,
     ) -> Result<FileDevice, FileDeviceError>
-        ensures { IfOk result (λ device. (length device.image.items ≤ 4096) × (device.failures ≡ 0)) }
+        ensures { IfOk result (λ device. (length device.image.items ≤ 4096) × (device.failures ≡ 0) × (device.known.history.events ≡ [])) }
     {
         let mut file = open_locked(rt, path, may_be_made)?;
         let image = read_image(alloc, &mut file, MAX_OCTETS)?;
         if image.is_empty() {
             sync_folder(rt, path).map_err(failed)?;
         }
+        let mut known = KnownOctets::new();
+        known.join(&image);
         Ok(FileDevice {
             alloc,
             file,
             image,
+            known,
             failures: 0,
+        })
+    }
+
+    /// Writes what the file held as it was opened once more, as it is, and syncs it: a sync that failed in an earlier process may have left that in the
+    /// system's memory alone, where it is read, and no later sync writes it. What is known of the file begins anew.
+    pub fn settled(self) -> Result<FileDevice, FileDeviceError>
+        ensures { IfOk result (λ device. (device.image ≡ self.image) × (device.failures ≡ self.failures) × (device.known.history.events ≡ [])) }
+    {
+        let FileDevice {
+            alloc,
+            file,
+            image,
+            known: _,
+            failures,
+        } = self;
+        file.write_all_at(&image, 0).map_err(failed)?;
+        file.sync_data().map_err(failed)?;
+        let mut known = KnownOctets::new();
+        known.join(&image);
+        Ok(FileDevice {
+            alloc,
+            file,
+            image,
+            known,
+            failures,
         })
     }
 
@@ -93,6 +130,7 @@ impl FileDevice {
     /// Counts a failure.
     pub(crate) fn fail(&mut self) -> DeviceFailure
         ensures image { self.new.image ≡ self.old.image }
+        ensures known { self.new.known ≡ self.old.known }
         ensures later { self.old.failures ≤ self.new.failures }
         ensures risen { HasRisen self.old.failures self.new.failures }
     {

@@ -1,5 +1,7 @@
 //! The calls of a journal's device, made of a file.
-ghost use Rattle.std.specs.Prelude.{◌≡◌, ◌≤◌, ◌+◌, ◌++◌, replicate, IfSome, OnOk, IsErrOf};
+ghost use Rattle.std.specs.Prelude.{◌≡◌, ◌≤◌, ◌<◌, ◌+◌, ◌^◌, ◌∷◌, length, true, false, IfSome, OnOk, OnErr, IsErrOf};
+ghost use Rattle.journal.specs.Memory.{grow};
+ghost use Rattle.file_device.specs.private.History.{octets_of};
 ghost use Rattle.journal.specs.Device.{HasRisen};
 
 use crate::first_block::BLOCK;
@@ -44,20 +46,25 @@ fn place_of(at: u64) -> Option<u64>
 }
 
 impl Device for JournalFile {
-    ghost seen = { λ f. f.octets.known.octets };
+    ghost use Rattle.std.specs.Prelude.{length};
+    ghost use Rattle.journal.specs.Memory.{MayLeave, LeftSince};
+    ghost use Rattle.journal.specs.Replay as replay;
+    ghost use Rattle.file_device.specs.private.History.{octets_of};
 
-    // What a crash leaves of a file is not said.
-    ghost may_leave = { λ f c. ⊥ };
+    ghost seen = { λ f. octets_of f.octets.known.history };
 
-    ghost moment = { λ f. 0 };
+    // By the rules of a device, over what the file held as it was opened and the calls since.
+    ghost may_leave = { λ f. MayLeave f.octets.known.history.base f.octets.known.history.events };
 
-    ghost left_since = { λ f t c. ⊥ };
+    ghost moment = { λ f. length f.octets.known.history.events };
+
+    ghost left_since = { λ f. LeftSince f.octets.known.history.base f.octets.known.history.events };
 
     ghost failure_count = { λ f. f.failures };
 
-    ghost counts_now = { λ f t c le left. left };
+    ghost counts_now = { λ f t c le left. replay.counts_now f.octets.known.history.base f.octets.known.history.events t c le left };
 
-    ghost only_now = { λ f c left. left };
+    ghost only_now = { λ f c left. replay.only_now f.octets.known.history.base f.octets.known.history.events c left };
 
     fn len(&mut self) -> Result<u64, DeviceFailure> {
         let size = self.octets.size();
@@ -86,12 +93,8 @@ impl Device for JournalFile {
     }
 
     fn write_at(&mut self, at: u64, octets: &[u8]) -> Result<(), DeviceFailure> {
-        let Some(place) = place_of(at) else {
-            return Err(self.fail());
-        };
-        if self.marked.is_none() && nonzeros(octets) == 0 {
-            self.put_off(at);
-        } else if self.write_frames(at, place, octets).is_err() {
+        if self.put(at, octets).is_err() {
+            self.octets.cut_write(at, octets);
             return Err(self.fail());
         }
         self.octets.write_over(at, octets);
@@ -100,7 +103,10 @@ impl Device for JournalFile {
 
     fn sync(&mut self) -> Result<(), DeviceFailure> {
         match self.file.sync_data() {
-            Ok(()) => Ok(()),
+            Ok(()) => {
+                self.octets.settle();
+                Ok(())
+            }
             Err(_) => Err(self.fail()),
         }
     }
@@ -163,6 +169,21 @@ impl JournalFile {
         Ok(())
     }
 
+    /// Writes octets at a place of the journal. Where the first write is of zeros, it is put off.
+    fn put(&mut self, at: u64, octets: &[u8]) -> io::Result<()>
+        ensures octets { self.new.octets ≡ self.old.octets }
+        ensures failures { self.new.failures ≡ self.old.failures }
+    {
+        let Some(place) = place_of(at) else {
+            return Err(io::Error::from(ErrorKind::InvalidInput));
+        };
+        if self.marked.is_none() && nonzeros(octets) == 0 {
+            self.put_off(at);
+            return Ok(());
+        }
+        self.write_frames(at, place, octets)
+    }
+
     /// Writes frames at a place of the journal, which is this one of the file; what was put off is cleared before that.
     fn write_frames(&mut self, at: u64, place: u64, octets: &[u8]) -> io::Result<()>
         ensures octets { self.new.octets ≡ self.old.octets }
@@ -173,12 +194,12 @@ impl JournalFile {
         self.file.write_all_at(octets, place)
     }
 
-    /// Writes zeros behind the end.
-    fn lengthen(&mut self, zeros: u64) -> Result<(), GrowthError>
-        ensures grown { OnOk result (self.new.octets.known.octets ≡ self.old.octets.known.octets ++ replicate zeros 0) }
-        ensures full { IsErrOf result GrowthError.Full → self.new.octets.known.octets ≡ self.old.octets.known.octets }
+    /// Writes zeros behind the end, and syncs them. Where that doesn't end well, the file is cut where it ended before; why it didn't.
+    fn extend(&mut self, zeros: u64) -> Result<(), GrowthError>
+        ensures octets { self.new.octets ≡ self.old.octets }
         ensures later { self.old.failures ≤ self.new.failures }
         ensures cause { IsErrOf result GrowthError.DeviceFailed → HasRisen self.old.failures self.new.failures }
+        ensures room { OnOk result (length (octets_of self.old.octets.known.history) + zeros < 2 ^ 64) }
     {
         let size = self.octets.size();
         let Some(end) = place_of(size) else {
@@ -191,11 +212,28 @@ impl JournalFile {
             return Err(self.fail().into());
         }
         match write_zeros(&self.file, end, zeros) {
-            Ok(()) => {}
-            Err(error) => return Err(self.refuse(end, error.kind())),
+            Ok(()) => Ok(()),
+            Err(error) => Err(self.refuse(end, error.kind())),
         }
-        self.octets.lengthen(zeros);
-        Ok(())
+    }
+
+    /// Writes zeros behind the end, and notes them.
+    fn lengthen(&mut self, zeros: u64) -> Result<(), GrowthError>
+        ensures ok { OnOk result (self.new.octets.known.history ≡ record self.old.octets.known.history { events = grow zeros true ∷ self.old.octets.known.history.events }) }
+        ensures err { OnErr result (self.new.octets.known.history ≡ record self.old.octets.known.history { events = grow zeros false ∷ self.old.octets.known.history.events }) }
+        ensures later { self.old.failures ≤ self.new.failures }
+        ensures cause { IsErrOf result GrowthError.DeviceFailed → HasRisen self.old.failures self.new.failures }
+    {
+        match self.extend(zeros) {
+            Ok(()) => {
+                self.octets.lengthen(zeros);
+                Ok(())
+            }
+            Err(error) => {
+                self.octets.cut_growth(zeros);
+                Err(error)
+            }
+        }
     }
 
     /// Cuts the file where it ended before a growth that didn't end well; why it didn't.

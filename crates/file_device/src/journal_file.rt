@@ -1,5 +1,5 @@
 //! A file as the device under a journal: a block that says whose the journal is, and the journal's octets behind it.
-ghost use Rattle.std.specs.Prelude.{◌≡◌, ◌≤◌, IfOk};
+ghost use Rattle.std.specs.Prelude.{◌≡◌, ◌≤◌, [], IfOk};
 ghost use Rattle.view_store.specs.Device.{HasRisen};
 
 use crate::fault::FileDeviceError;
@@ -15,6 +15,7 @@ use crate::synced_mark::mark_in;
 use journal::DeviceFailure;
 use std::alloc::Global;
 use std::fs::{File, Files};
+use std::io;
 
 /// How many octets a journal's file may have.
 const MAX_OCTETS: u64 = 0x4000_0000_0000_0000;
@@ -22,8 +23,8 @@ const MAX_OCTETS: u64 = 0x4000_0000_0000_0000;
 /// A file as the device under a journal. What it holds is judged before anything is written there. It is read once, as it is opened;
 /// what was read is kept in pieces until the journal lets go of it, and a read of what isn't kept fails. A write or a growth lets go
 /// of all. So a batch costs one write of its own octets and one sync, and nothing of the file stays in memory. The journal's octets
-/// begin behind the first block. Nothing is claimed of what a crash leaves of a file: as a device it names no outcome of a crash at
-/// all, so what the contract of a device says of crashes holds of it for want of any.
+/// begin behind the first block. What a crash leaves of it is said by the rules of a device: each call of the system that writes, grows or
+/// syncs is noted beside it, and that the system and the disk keep these rules is assumed (GUARANTEES).
 pub struct JournalFile {
     pub(crate) file: File,
     /// What the file holds behind its first block, as far as it is honest.
@@ -52,8 +53,8 @@ impl Drop for JournalFile {
 }
 
 /// Refuses a journal that was cut inside its first block, or of which less is read than was synced: how far its frames reach, beside what
-/// that block says.
-fn check_whole(octets: &KeptOctets, front: &[u8]) -> Result<(), FileDeviceError> {
+/// that block says. Gives where the frames begin that may not be synced, and where the last one ends.
+fn check_whole(octets: &KeptOctets, front: &[u8]) -> Result<(u64, u64), FileDeviceError> {
     if front.len() < BLOCK {
         return Err(FileDeviceError::Damaged {
             at: front.len() as u64,
@@ -65,13 +66,22 @@ fn check_whole(octets: &KeptOctets, front: &[u8]) -> Result<(), FileDeviceError>
         Some(mark) if scan.end() < mark => Err(FileDeviceError::Damaged {
             at: scan.end().saturating_add(BLOCK as u64),
         }),
-        _ => Ok(()),
+        Some(mark) => Ok((mark, scan.end())),
+        None => Ok((0, scan.end())),
     }
+}
+
+/// Writes the frames once more that may not be synced, and syncs them. A sync that failed in an earlier process may have left them in the system's
+/// memory alone, where they are read, and no later sync writes them.
+fn settle(file: &File, octets: &KeptOctets, unsynced: (u64, u64)) -> io::Result<()> {
+    let (from, to) = unsynced;
+    octets.write_again(file, from, to)?;
+    file.sync_data()
 }
 
 impl JournalFile {
     /// Opens the file in which a replica keeps its journal, and makes it where there is none. Anything but this replica's journal, or
-    /// nothing, is refused, and stays as it is. At a first start a journal of version 1 is refused too. The file is locked as long as
+    /// nothing, is refused, and stays as it is. What may not be synced of the journal is written once more, as it is, and synced. At a first start a journal of version 1 is refused too. The file is locked as long as
     /// the device is there, so that a file that another device holds is refused, whatever process it is of.
     pub fn open<R: Files<File = File>>(
         rt: &R,
@@ -80,7 +90,7 @@ impl JournalFile {
         owner: &JournalOwner,
         is_fresh: bool,
     ) -> Result<JournalFile, FileDeviceError>
-        ensures { IfOk result (λ device. device.failures ≡ 0) }
+        ensures { IfOk result (λ device. (device.failures ≡ 0) × (device.octets.known.history.events ≡ [])) }
     {
         let mut file = open_locked(rt, path, true)?;
         let front = read_front(alloc, &mut file)?;
@@ -103,11 +113,14 @@ impl JournalFile {
         front: &[u8],
         was_earlier: bool,
     ) -> Result<JournalFile, FileDeviceError>
-        ensures { IfOk result (λ device. device.failures ≡ 0) }
+        ensures { IfOk result (λ device. (device.failures ≡ 0) × (device.octets.known.history.events ≡ [])) }
     {
         let mut file = file;
         let octets = read_octets(alloc, &mut file, MAX_OCTETS)?;
-        check_whole(&octets, front)?;
+        let unsynced = check_whole(&octets, front)?;
+        if !was_earlier {
+            settle(&file, &octets, unsynced).map_err(failed)?;
+        }
         Ok(JournalFile {
             file,
             octets,
@@ -126,7 +139,7 @@ impl JournalFile {
         file: File,
         owner: &JournalOwner,
     ) -> Result<JournalFile, FileDeviceError>
-        ensures { IfOk result (λ device. device.failures ≡ 0) }
+        ensures { IfOk result (λ device. (device.failures ≡ 0) × (device.octets.known.history.events ≡ [])) }
     {
         let mut file = file;
         let octets = read_octets(alloc, &mut file, MAX_OCTETS)?;

@@ -1,5 +1,6 @@
 //! Reads a file whole, in pieces.
-ghost use Rattle.std.specs.Prelude.{◌≤◌, IfOk, IfSome, length, vec_len};
+ghost use Rattle.std.specs.Prelude.{◌≡◌, ◌≤◌, [], IfOk, IfSome, length, vec_len};
+ghost use Rattle.file_device.specs.private.History.{octets_of};
 
 use crate::fault::FileDeviceError;
 use crate::file::read_some;
@@ -33,7 +34,7 @@ fn read_piece(
 
 /// Reads all octets of a file, so many at most.
 pub fn read_octets(alloc: Global, file: &mut File, most: u64) -> Result<KeptOctets, FileDeviceError>
-    ensures { IfOk result (λ octets. length octets.known.octets ≤ most) }
+    ensures { IfOk result (λ octets. (length (octets_of octets.known.history) ≤ most) × (octets.known.history.events ≡ [])) }
 {
     let mut octets = KeptOctets::new(alloc);
     for _ in 0..u64::MAX {

@@ -106,11 +106,11 @@ fn unused(device: FileDevice, cluster: Cluster) -> Result<FileDevice, ServerErro
     }
 }
 
-/// The device of a later start, which has to hold a stored view of the cluster's.
+/// The device of a later start, which has to hold a stored view of the cluster's. It is synced before anything is made of it.
 fn used(device: FileDevice, cluster: Cluster) -> Result<FileDevice, ServerError> {
     let mut views = ViewStore::new(device, cluster);
     match views.load() {
-        Ok(_) => Ok(views.into_device()),
+        Ok(_) => views.into_device().settled().map_err(fault_of_device),
         Err(error) => Err(fault_of_node(NodeError::Store(error))),
     }
 }

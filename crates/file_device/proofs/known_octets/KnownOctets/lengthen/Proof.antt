@@ -1,5 +1,5 @@
 -- An empty body. The borrow is opened and closed at another ghost value.
-use Rattle.std.proofs.Common.{◌<◌, ◌^◌, ℕ, List, [], ◌∷◌, ◌++◌, replicate, refl, w64, MutBor}
+use Rattle.std.proofs.Common.{◌<◌, ◌^◌, ℕ, List, [], ◌∷◌, true, false, refl, w64, MutBor}
 use seplogic.Ra.Ura.{Ura}
 use mir.Syntax.{named}
 use mir.Val.{Val, vunit, vptr, vint}
@@ -28,6 +28,7 @@ use denote.Triple.Entry.{on_entry}
 use denote.Triple.Spec.{Meets, triple_of}
 use denote.Triple.Table.{entered}
 use denote.Triple.Walked.{says, Stays, stay_ref, stay_dropped, walk_of, AllGo, Goes-ref, Goes-dropped, Walks, ends_at, walked, walk_Meets}
+use Rattle.journal.specs.Memory.{grow}
 use Rattle.file_device.specs.declared.known_octets.KnownOctets.{KnownOctets}
 use Rattle.file_device.specs.contracts.known_octets.KnownOctets as T
 use Rattle.file_device.specs.contracts.known_octets.KnownOctets.lengthen.Key.{name as #it}
@@ -48,7 +49,7 @@ module _ {M : Type 1} {𝓤 : Ura M} (𝓛 : Logic 𝓤) (at_mem : Memory → SP
   x = (record { ref_ptr = (b, o); ghost_name = γ; now = h }, (k, tt))
 
   abbrev h' : KnownOctets
-  h' = record { marker = h.marker; octets = h.octets ++ replicate k 0 }
+  h' = record { marker = h.marker; history = record { base = h.history.base; events = grow k true ∷ h.history.events } }
 
   abbrev at : List Val × (List Val × Unit {0})
   at = (vptr b o ∷ [], (vint w64 k ∷ [], tt))

@@ -21,6 +21,7 @@ use denote.Triple.Entry.{on_entry}
 use denote.Triple.Spec.{Meets, triple_of}
 use denote.Triple.Table.{entered}
 use denote.Triple.Walked.{says, ends_at, walked, walk_Meets}
+use Rattle.file_device.specs.private.History.{no_history}
 use Rattle.file_device.specs.declared.known_octets.KnownOctets.{KnownOctets}
 use Rattle.file_device.specs.contracts.known_octets.KnownOctets as T
 use Rattle.file_device.specs.contracts.known_octets.KnownOctets.new.Key.{name as #it}
@@ -32,7 +33,7 @@ abbrev v : Val
 v = vstruct (vcons (vstruct vnil) vnil)
 
 abbrev r : KnownOctets
-r = record { marker = record {}; octets = [] }
+r = record { marker = record {}; history = no_history }
 
 meets : {M : Type 1} {𝓤 : Ura M} (𝓛 : Logic 𝓤) → (at_mem : Memory → SProp 𝓤) (run : Routine → Fun 𝓤) (𝓣 : Tables 𝓤 𝓛.H)
     → Meets 𝓛 it.signature (WpFn 𝓤 𝓛.H 𝓣.C 𝓣.Λ code.function) (it.spec 𝓛 at_mem run)

@@ -1,5 +1,5 @@
 -- An empty body. The borrow is opened and closed at another ghost value.
-use Rattle.std.proofs.Common.{◌<◌, ◌+◌, ◌^◌, ℕ, List, [], ◌∷◌, ◌++◌, length, take, drop, refl, w64, MutBor}
+use Rattle.std.proofs.Common.{◌<◌, ◌^◌, ℕ, List, [], ◌∷◌, length, true, false, refl, w64, MutBor}
 use seplogic.Ra.Ura.{Ura}
 use mir.Syntax.{named}
 use mir.Val.{Val, vunit, vptr, vint}
@@ -29,6 +29,7 @@ use denote.Triple.Entry.{on_entry}
 use denote.Triple.Spec.{Meets, triple_of}
 use denote.Triple.Table.{entered}
 use denote.Triple.Walked.{says, Stays, stay_ref, stay_dropped, stay_none_slice, walk_of, AllGo, Goes-ref, Goes-dropped, Goes-none_slice, Walks, ends_at, walked, walk_Meets}
+use Rattle.journal.specs.Memory.{write}
 use Rattle.file_device.specs.declared.known_octets.KnownOctets.{KnownOctets}
 use Rattle.file_device.specs.contracts.known_octets.KnownOctets as T
 use Rattle.file_device.specs.contracts.known_octets.KnownOctets.write_over.Key.{name as #it}
@@ -49,7 +50,7 @@ module _ {M : Type 1} {𝓤 : Ura M} (𝓛 : Logic 𝓤) (at_mem : Memory → SP
   x = (record { ref_ptr = (b, o); ghost_name = γ; now = h }, (k, (s, tt)))
 
   abbrev h' : KnownOctets
-  h' = record { marker = h.marker; octets = take k h.octets ++ (s.now ++ drop (k + length s.now) h.octets) }
+  h' = record { marker = h.marker; history = record { base = h.history.base; events = write k s.now true ∷ h.history.events } }
 
   abbrev at : List Val × (List Val × (List Val × Unit {0}))
   at = (vptr b o ∷ [], (vint w64 k ∷ [], (slice_val s.ref_ptr (length s.now) ∷ [], tt)))
