@@ -85,3 +85,10 @@ printed_some s (Some e) l h = let same : l ≡ reverse e.name = cc h in ap (λ (
 pub printed_none : (s : SchemaModel) (o : Option Entered) → ◌≡◌ {A = Option (List RdnModel)} None (option_map (λ (e : Entered). reverse e.name) o) → [] ≡ printed_name s (name_of o)
 printed_none s None h = refl
 printed_none s (Some e) h = absurd (cc h)
+
+-- the name of an entry that stands below another one
+pub named_below : (o above : Option Entered) (r : RdnModel) → is_some o ≡ true → option_map (λ (e : Entered). e.name) o ≡ option_map (λ (e : Entered). e.name ++ r ∷ []) above
+    → name_of o ≡ name_of above ++ r ∷ []
+named_below None above r n h = absurd (cc n)
+named_below (Some e) None r n h = absurd (cc h)
+named_below (Some e) (Some a) r n h = cc h

@@ -1,7 +1,7 @@
 // The names of a tree's entries as evaluation asks for them: read off relative name by relative name, without memory.
 // Filters, and which entries are asked for, are not here.
 
-ghost use Rattle.std.specs.Prelude.{◌≡◌, ◌<◌, ◌-◌, length, slice_get};
+ghost use Rattle.std.specs.Prelude.{◌≡◌, ◌<◌, ◌-◌, ◌++◌, [], ◌∷◌, IfSome, length, slice_get};
 ghost use Rattle.std.specs.Option.{option_map};
 ghost use Rattle.indexed_tree.specs.dir_tree.Directory.{entry_at};
 ghost use Rattle.dir_search.specs.Numbered.{name_of};
@@ -43,20 +43,39 @@ fn rdn_at(tree: &Tree, number: u64, count: usize, at: usize) -> Option<&Rdn>
     tree.rdn_above(number, count - 1 - at)
 }
 
+/// The number of the entry right above a number's entry, and its relative name below it.
+#[tactic(auto, using(crate::proofs::NamesAt::named_below))]
+fn superior_at(tree: &Tree, number: u64) -> Option<(u64, &Rdn)>
+    ensures { IfSome result (λ p. name_of (entry_at number tree.now.entries)
+        ≡ name_of (entry_at p.0 tree.now.entries) ++ p.1.now ∷ []) }
+{
+    tree.superior_of(number)
+}
+
 impl NamePairs for NameAt<'_> {
     ghost use Rattle.indexed_tree.specs.dir_tree.Directory.{entry_at};
     ghost use Rattle.dir_search.specs.Numbered.{name_of};
 
     ghost name = { λ n. name_of (entry_at n.number n.tree.now.entries) };
 
-    fn count(&self) -> usize {
-        count_at(self.tree, self.number)
+    ghost named = { λ n k. name_of (entry_at k n.tree.now.entries) };
+
+    fn number(&self) -> u64 {
+        self.number
     }
 
-    fn pairs(&self, at: usize) -> Option<&Rdn> {
-        let count = count_at(self.tree, self.number);
+    fn superior(&self, number: u64) -> Option<(u64, &Rdn)> {
+        superior_at(self.tree, number)
+    }
+
+    fn count(&self, number: u64) -> usize {
+        count_at(self.tree, number)
+    }
+
+    fn pairs(&self, number: u64, at: usize) -> Option<&Rdn> {
+        let count = count_at(self.tree, number);
         if at < count {
-            rdn_at(self.tree, self.number, count, at)
+            rdn_at(self.tree, number, count, at)
         } else {
             None
         }

@@ -10,6 +10,7 @@ ghost use Rattle.dir_entry.specs.shared_map.Sets.{IsRising};
 ghost use Rattle.dir_tree.specs.Directory.{AllBelow};
 ghost use Rattle.dir_tree.specs.Kept.{shown};
 ghost use Rattle.dir_tree.specs.Superiors.{name_up, place_at};
+ghost use Rattle.dir_tree.specs.declared.place.Place.TheVariants.{Under};
 ghost use Rattle.dir_tree.specs.private.Superiors.{AreOwn, below_at};
 
 use crate::place::{Entries, Place};
@@ -49,6 +50,16 @@ fn push_back<'a>(into: &mut Vec<&'a Rdn>, rdns: &'a [Rdn]) -> Result<(), AllocEr
 }
 
 impl Roots {
+    /// The number that a number's entry stands right under, and its relative name there; none, where it is a root's.
+    pub fn superior_of(&self, number: u64) -> Option<(u64, &Rdn)>
+        ensures { IfSome result (λ p. place_at self.now.entries number ≡ Some (Under p.0 p.1.now)) }
+    {
+        match place_of(&self.entries, number) {
+            Some(Place::Under(above, rdn)) => Some((*above, rdn.get())),
+            Some(Place::Root(_)) | None => None,
+        }
+    }
+
     /// The relative name that is `up` steps above the last of a number's name, 0 its own. It takes
     /// a look-up for each step.
     pub fn rdn_above(&self, number: u64, up: usize) -> Option<&Rdn>

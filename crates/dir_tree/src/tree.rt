@@ -1,7 +1,7 @@
 // The directory's tree. Takes names, numbers and attributes; hands out entries, numbers, sets of numbers and names.
 // Which updates are refused, with which code, and what a filter says of an entry, are not here.
 
-ghost use Rattle.std.specs.Prelude.{◌≡◌, ◌++◌, ◌∷◌, [], ℕ, None, Some, true, false, IfOk, OnOk, OnErr, IsTrue, ◌↔◌, is_some, length, map, option_copied, reverse, slice_get};
+ghost use Rattle.std.specs.Prelude.{◌≡◌, ◌++◌, ◌∷◌, [], ℕ, None, Some, true, false, IfOk, IfSome, OnOk, OnErr, IsTrue, ◌↔◌, is_some, length, map, option_copied, reverse, slice_get};
 ghost use Rattle.std.specs.Option.{option_and_then, option_map};
 ghost use Rattle.dir_entry.specs.ldap_dn.Names.{rdns};
 ghost use Rattle.dir_tree.specs.Directory.{NameKey, Entered, AllBelow, IsDirectory, number_found, name_eq, begins, above, moved, is_right_under, is_at_or_below, find, entry_at, front, has_below, has_footing, numbers, unnumbered, replaced};
@@ -146,6 +146,16 @@ impl Tree {
             ≡ option_map (λ e. e.entry) (entry_at number self.now.entries) }
     {
         self.roots.entry(number)
+    }
+
+    /// The number of the entry right above a number's entry, and the relative name that the entry has below it; none, where it is a root's.
+    /// It takes one look-up, and no memory.
+    pub fn superior_of(&self, number: u64) -> Option<(u64, &Rdn)>
+        ensures here { IfSome result (λ p. is_some (entry_at number self.now.entries) ≡ true) }
+        ensures name { IfSome result (λ p. option_map (λ e. e.name) (entry_at number self.now.entries)
+            ≡ option_map (λ e. e.name ++ p.1.now ∷ []) (entry_at p.0 self.now.entries)) }
+    {
+        self.roots.superior_of(number)
     }
 
     /// The relative name that is `up` steps above the last of a number's name, 0 its own; none past

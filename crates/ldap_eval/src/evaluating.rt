@@ -110,23 +110,36 @@ fn match_on(matching: &Match, attribute: &Attribute) -> Truth
     )
 }
 
-/// The `or` of the match over the pairs of the name.
+/// The `or` of the match over the pairs of the name, relative name by relative name, from the last one up.
 fn any_in_name<N: NamePairs>(matching: &Match, name: &N) -> Truth
     ensures { result ≡ disjunction (map (match_on_name_pair matching.now) (pairs_of (N.name name.now))) }
 {
     let mut truth = Truth::False;
-    for at in 0..name.count() {
-        truth = truth.or(in_name_at(matching, name, at));
+    let mut number = name.number();
+    while let Some((above, rdn)) = name.superior(number) {
+        truth = truth.or(any_in_rdn(matching, rdn));
+        number = above;
+    }
+    truth.or(any_by_place(matching, name, number))
+}
+
+/// The `or` of the match over the pairs of the name of a number, place by place.
+fn any_by_place<N: NamePairs>(matching: &Match, name: &N, number: u64) -> Truth
+    ensures { result ≡ disjunction (map (match_on_name_pair matching.now) (pairs_of (N.named name.now number))) }
+{
+    let mut truth = Truth::False;
+    for at in 0..name.count(number) {
+        truth = truth.or(in_name_at(matching, name, number, at));
     }
     truth
 }
 
 /// The `or` of the match over the pairs of the relative name at a place.
-fn in_name_at<N: NamePairs>(matching: &Match, name: &N, at: usize) -> Truth
-    ensures { (r : RdnModel) → slice_get (N.name name.now) at ≡ Some r
+fn in_name_at<N: NamePairs>(matching: &Match, name: &N, number: u64, at: usize) -> Truth
+    ensures { (r : RdnModel) → slice_get (N.named name.now number) at ≡ Some r
         → result ≡ disjunction (map (match_on_name_pair matching.now) (pairs_in r)) }
 {
-    match name.pairs(at) {
+    match name.pairs(number, at) {
         Some(rdn) => any_in_rdn(matching, rdn),
         None => Truth::False,
     }
