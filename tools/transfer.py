@@ -1,24 +1,33 @@
-"""Entries into a directory and out of it, through its replicas: LDIF files are loaded by adds, and one state is backed up. URIs of replicas and names of
-files flow in; counts flow out. What is LDIF is told by the program (`dird import`, `dird export`)."""
+"""Entries into a directory and out of it, through its replicas: loads the records of LDIF files by adds, and reads one state for a backup. The program reads and writes LDIF
+(`dird import`, `dird export`)."""
 from __future__ import annotations
 
 import os
 import re
+import shutil
+import socket
 import subprocess
 import sys
 import time
 from collections.abc import Callable
 
-TOP = os.path.dirname(os.path.dirname(os.path.abspath(__file__)))
-sys.path.insert(0, os.path.join(TOP, "tests"))
+FOLDER = os.path.dirname(os.path.realpath(__file__))
+# In a checkout the client is among the tests; installed, it is beside this file.
+sys.path.append(os.path.join(os.path.dirname(FOLDER), "tests"))
 import ldap_client as ldap
 from ldap_client import Closed
 
-# How long nothing may go forward before it is given up, and how long a replica may be silent, in seconds.
+# For how many seconds nothing may go forward before a tool ends, and for how many a replica may be silent.
 PATIENCE = 60.0
 SILENCE = 20.0
+# The most octets of a message that a replica reads.
+LONGEST = 4_194_304
+# The most ranges of records that a line names.
+MOST_RANGES = 12
 
-SUCCESS, REFERRAL, BUSY, UNAVAILABLE, NO_SUCH_OBJECT, EXISTS = 0, 10, 51, 52, 32, 68
+SUCCESS, REFERRAL, BUSY, UNAVAILABLE, OTHER, NO_SUCH_OBJECT, EXISTS = 0, 10, 51, 52, 80, 32, 68
+# What a replica answers that can't make the update now, or doesn't know whether it was made: another one is asked.
+ELSEWHERE = (BUSY, UNAVAILABLE, OTHER)
 
 # The codes of RFC 4511, section 4.1.9, that an add or a search may be answered with.
 NAMES = {
@@ -38,18 +47,57 @@ class Failure(Exception):
     """Why it can't go on."""
 
 
+class Refused(Failure):
+    """A record is refused, and that is the end."""
+
+
+def reason_of(error: Exception) -> str:
+    """Why a replica gives no answer, for who started a tool."""
+    if isinstance(error, ConnectionRefusedError):
+        return "connection refused: nothing listens there"
+    if isinstance(error, socket.gaierror):
+        return "no host has this name"
+    if isinstance(error, (socket.timeout, TimeoutError)):
+        return "no answer in time"
+    if isinstance(error, Closed):
+        return {"closed": "it closed the connection", "timed out": "no answer in time"}.get(str(error), str(error))
+    return getattr(error, "strerror", None) or str(error)
+
+
 def program() -> str:
-    """The program: that of the environment's DIRD, or the repository's: the proved one, where it stands and is fresh, else the unproved one, built where it is not."""
+    """The program: that of the environment's DIRD; else the one beside the tool, which in a checkout is built where it is missing or stale; else that of the PATH."""
     if "DIRD" in os.environ:
+        if shutil.which(os.environ["DIRD"]) is None:
+            raise Failure(f"DIRD={os.environ['DIRD']}: no such program")
         return os.environ["DIRD"]
-    return subprocess.run([os.path.join(TOP, "tools", "program"), "dird"], check=True, stdout=subprocess.PIPE, text=True).stdout.strip()
+    called = os.path.dirname(os.path.abspath(sys.argv[0]))
+    for folder in (called, FOLDER, os.path.join(FOLDER, "..", "..", "bin")):
+        if os.access(os.path.join(folder, "dird"), os.X_OK):
+            return os.path.join(folder, "dird")
+    if os.path.exists(os.path.join(FOLDER, "program")):
+        run = subprocess.run([os.path.join(FOLDER, "program"), "dird"], check=False, stdout=subprocess.PIPE, text=True)
+        if run.returncode == 0:
+            return run.stdout.strip()
+    found = shutil.which("dird")
+    if found is None:
+        raise Failure("no program dird: set DIRD to its path, or put it beside this tool or into a folder of the PATH")
+    return found
+
+
+def run_program(command: str, **options) -> subprocess.CompletedProcess:
+    """Runs a command of the program; standard error is read."""
+    name = program()
+    try:
+        return subprocess.run([name, command], stdout=subprocess.PIPE, stderr=subprocess.PIPE, text=True, check=False, **options)
+    except OSError as error:
+        raise Failure(f"{name}: {reason_of(error)}") from error
 
 
 def place_of(uri: str) -> tuple[str, int]:
     """The host and the port of an LDAP URI (RFC 4516); 389, where it names none."""
     found = re.fullmatch(r"ldap://(\[[^\]]+\]|[^/:]+)(?::(\d+))?/?.*", uri)
     if found is None:
-        raise Failure(f"{uri} is no ldap:// URI")
+        raise Failure(f"{uri} is no ldap:// URI, as ldap://10.0.0.1:389; ldaps:// isn't spoken here: name a replica's own address for clients")
     return found[1].strip("[]"), int(found[2] or 389)
 
 
@@ -58,7 +106,7 @@ def session(uri: str, manager: str | None, password: str, silence: float = SILEN
     client = ldap.Client(*place_of(uri), silence)
     if manager is not None:
         code = client.bind(manager, password)
-        if code in (BUSY, UNAVAILABLE):
+        if code in ELSEWHERE:
             raise Closed(code_name(code))
         if code != SUCCESS:
             raise Failure(f"{uri}: bind as {manager}: {code_name(code)}")
@@ -71,85 +119,217 @@ def record_of(message: bytes) -> str:
     return ldap.elements(operation)[0][1].decode("utf-8", "replace")
 
 
+def ranges_of(numbers: list[int]) -> str:
+    """Records by number, in words: `record 3`, `records 3 to 5 and 8`."""
+    parts: list[list[int]] = []
+    for number in numbers:
+        if parts and parts[-1][-1] == number - 1:
+            parts[-1] = [parts[-1][0], number]
+        else:
+            parts.append([number])
+    words = [" to ".join(str(it) for it in part) for part in parts[:MOST_RANGES]]
+    if len(parts) > MOST_RANGES:
+        words.append(f"others up to {numbers[-1]}")
+    text = words[0] if len(words) == 1 else f"{', '.join(words[:-1])} and {words[-1]}"
+    return f"record{'s' if len(numbers) > 1 else ''} {text}"
+
+
+class Records:
+    """Where the records of an LDIF file are in it; the file is read when that is asked for."""
+
+    def __init__(self, path: str, count: int):
+        self.path = path
+        self.count = count
+        self.places: list[tuple[int, int, int]] | None = None
+
+    def _places(self) -> list[tuple[int, int, int]]:
+        """Line, first octet and end of each record; none where they aren't as many as the program found."""
+        if self.places is None:
+            found: list[tuple[int, int, int]] = []
+            at, number, inside = 0, 0, False
+            with open(self.path, "rb") as file:
+                for line in file:
+                    number += 1
+                    is_empty = line.rstrip(b"\n") in (b"", b"\r")
+                    if not inside and line[:3].lower() == b"dn:":
+                        found.append((number, at, at))
+                        inside = True
+                    at += len(line)
+                    inside = inside and not is_empty
+                    if inside:
+                        found[-1] = (*found[-1][:2], at)
+            self.places = found if len(found) == self.count else []
+        return self.places
+
+    def line(self, index: int) -> str:
+        """The line of a record, in words."""
+        return f", line {self._places()[index][0]}" if self._places() else ""
+
+    def text(self, index: int) -> bytes:
+        """The lines of a record; none where its place isn't known."""
+        if not self._places():
+            return b""
+        _, first, end = self._places()[index]
+        with open(self.path, "rb") as file:
+            file.seek(first)
+            return file.read(end - first)
+
+
 class Loading:
     """Adds that are sent, some ahead of their answers, to whichever replica takes updates."""
 
-    def __init__(self, messages: list[bytes], uris: list[str], manager: str, password: str, goes_on: bool, tell: Callable[[str], None]):
+    def __init__(self, messages: list[bytes], uris: list[str], manager: str, password: str, goes_on: bool, tell: Callable[[str], None], records: Records | None = None,
+                 skips: bool = False, refused_file: str | None = None):
         self.messages = messages
         self.uris = list(uris)
         self.manager = manager
         self.password = password
         self.goes_on = goes_on
         self.tell = tell
-        # How many are answered; how many of them were refused; how many were sent over streams that broke, and may have been made without an answer.
+        self.records = records
+        # Whether an entry that is there already counts as present, and isn't refused.
+        self.skips = skips
+        self.refused_file = refused_file
+        # How many records from the first on have an answer.
         self.done = 0
-        self.refused = 0
+        self.added = 0
+        self.present: list[int] = []
+        self.refused: list[int] = []
+        # Those beyond the first refused one that were under way and were added, or got no answer.
+        self.beyond: list[int] = []
+        self.unanswered: list[int] = []
+        # How many were sent over streams that broke, and may have been made without an answer.
         self.unsure = 0
+        # The last reason of each replica to take no update, and whether it was told since something went forward.
+        self.reasons: dict[str, str] = {}
 
     def run(self, first: int, ahead: int) -> None:
-        """Sends all from one on, this many ahead of the answers."""
+        """Sends all from one on, this many ahead of the answers; raises at the first refused one, once what was under way is answered."""
         self.done = first
         moved_at, tried = time.monotonic(), 0
         while self.done < len(self.messages):
             before = self.done
             uri = self.uris[tried % len(self.uris)]
+            why, referred = "", []
             try:
-                referred = self._through(uri, ahead)
+                why, referred = self._through(uri, ahead)
             except (OSError, Closed) as error:
-                referred, why = None, str(error)
-            else:
-                why = "no primary"
+                why = reason_of(error)
+            if self.refused and not self.goes_on:
+                raise Refused(f"{ranges_of(self.refused)} refused")
             if self.done > before:
                 moved_at = time.monotonic()
+                self.reasons.clear()
+            if self.done == len(self.messages):
+                return
             if referred:
                 self.uris = [*referred, *(it for it in self.uris if it not in referred)]
                 tried = 0
-            elif self.done < len(self.messages):
+            else:
                 tried += 1
+                self._tell_retry(uri, why, self.uris[tried % len(self.uris)])
             if time.monotonic() - moved_at > PATIENCE:
-                raise Failure(f"no replica took an update for {PATIENCE:.0f} seconds (last tried: {uri}: {why})")
-            if self.done < len(self.messages) and self.done == before:
+                reasons = "; ".join(f"{uri}: {why}" for uri, why in self.reasons.items())
+                raise Failure(f"no replica took record {self.done + 1} for {PATIENCE:.0f} seconds ({reasons or 'each referred to another'})")
+            if self.done == before:
                 time.sleep(0.2)
 
-    def _through(self, uri: str, ahead: int) -> list[str] | None:
-        """Sends what is left through one replica, until it is done or the replica refers elsewhere: the URIs that it gives."""
+    def _tell_retry(self, uri: str, why: str, other: str) -> None:
+        """Tells that a replica takes no update and another is asked: once for each reason until something goes forward."""
+        if self.reasons.get(uri) != why:
+            self.reasons[uri] = why
+            self.tell(f"{uri}: {why}; {'asking ' + other if other != uri else 'asking it again'} from record {self.done + 1} on")
+
+    def _through(self, uri: str, ahead: int) -> tuple[str, list[str]]:
+        """Sends what is left through one replica, until it is done, or one is refused, or the replica takes no more: why, and the URIs that it refers to."""
+        if self._refuses_long():
+            return "", []
         client = session(uri, self.manager, self.password)
         sent = self.done
         try:
             while self.done < len(self.messages):
-                while sent < len(self.messages) and sent - self.done < ahead:
+                while sent < len(self.messages) and sent - self.done < ahead and len(self.messages[sent]) <= LONGEST and self._goes_forward():
                     client.socket.sendall(self.messages[sent])
                     sent += 1
-                _, _, fields, _ = client.receive()
-                code = int.from_bytes(fields[0][1], "big")
+                if sent == self.done:
+                    if not self._goes_forward() or self._refuses_long():
+                        return "", []
+                    sent = self.done
+                    continue
+                number, _, fields, _ = client.receive()
+                code, text = int.from_bytes(fields[0][1], "big"), fields[2][1].decode("utf-8", "replace")
+                if number == 0:
+                    raise Closed(f"it ended the session: {code_name(code)}")
                 if code == REFERRAL:
-                    return [it.decode() for field, content in fields if field == 0xA3 for _, it in ldap.elements(content)]
-                if code in (BUSY, UNAVAILABLE):
-                    return None
-                if code != SUCCESS and not (code == EXISTS and self.done < self.unsure):
-                    self._refuse(code, fields[2][1].decode("utf-8", "replace"))
-                self.done += 1
-            return None
+                    return self._referred(uri, [it.decode() for field, content in fields if field == 0xA3 for _, it in ldap.elements(content)])
+                if code in ELSEWHERE:
+                    return code_name(code), []
+                self._settle(code, text)
+            return "", []
         finally:
+            if not self._goes_forward():
+                self.unanswered = list(range(self.done + 1, sent + 1))
             self.unsure = max(self.unsure, sent)
             client.close()
 
-    def _refuse(self, code: int, text: str) -> None:
-        """Tells of a record that was refused; it is the end, unless it is to go on."""
-        said = f"record {self.done + 1} ({record_of(self.messages[self.done])}): {code_name(code)}{': ' + text if text else ''}"
-        if not self.goes_on:
-            raise Failure(said)
-        self.tell(said)
-        self.refused += 1
+    def _goes_forward(self) -> bool:
+        """Whether further records are sent."""
+        return self.goes_on or not self.refused
+
+    def _refuses_long(self) -> bool:
+        """Refuses the next record where it is too long for a message, which no replica would read; whether that is the end."""
+        while self.done < len(self.messages) and len(self.messages[self.done]) > LONGEST:
+            self._refuse(f"its request takes {len(self.messages[self.done])} octets, and a replica reads at most {LONGEST}: it is not sent")
+            self.done += 1
+            if not self._goes_forward():
+                return True
+        return self.done == len(self.messages)
+
+    def _referred(self, uri: str, uris: list[str]) -> tuple[str, list[str]]:
+        """The URIs of a referral that can be followed."""
+        spoken = [it for it in uris if it.startswith("ldap://")]
+        return (f"it refers to {', '.join(uris)}, which is no ldap:// URI" if not spoken else ""), spoken
+
+    def _settle(self, code: int, text: str) -> None:
+        """Counts the answer to the next record."""
+        if code == EXISTS and self.done < self.unsure:
+            code = SUCCESS
+        if code == SUCCESS:
+            self.added += 1
+            if not self._goes_forward():
+                self.beyond.append(self.done + 1)
+        elif code == EXISTS and self.skips:
+            self.present.append(self.done + 1)
+        else:
+            self._refuse(f"{code_name(code)}{': ' + text if text else ''}")
+        self.done += 1
+
+    def _refuse(self, why: str) -> None:
+        """Tells of a record that is refused, and writes it to the file of those."""
+        number = self.done + 1
+        line = self.records.line(self.done) if self.records else ""
+        self.tell(f"record {number}{line} ({record_of(self.messages[self.done])}): {why}")
+        if self.refused_file is not None and self.records is not None:
+            with open(self.refused_file, "ab" if self.refused else "wb") as file:
+                if not self.refused:
+                    file.write(b"version: 1\n")
+                text = self.records.text(self.done).replace(b"\r\n", b"\n")
+                file.write(f"\n# record {number}{line} of {os.path.basename(self.records.path)}: {why}\n".encode() + text.rstrip(b"\n") + b"\n")
+        self.refused.append(number)
 
 
 def messages_of(path: str) -> list[bytes]:
     """The adds that the records of an LDIF file ask for (RFC 2849)."""
     with open(path, "rb") as file:
-        run = subprocess.run([program(), "import"], stdin=file, stdout=subprocess.PIPE, stderr=subprocess.PIPE, text=True)
+        run = run_program("import", stdin=file)
     if run.returncode != 0:
         raise Failure(f"{path}: {run.stderr.strip()}")
     return [bytes.fromhex(line) for line in run.stdout.splitlines()]
+
+
+# What to do where a search gets a code.
+REMEDIES = {BUSY: ": this replica has not made update {number} yet; ask again, or another one", UNAVAILABLE: ": this replica has no state yet; ask another one",
+            34: ": no name under the directory's schema"}
 
 
 def depth_of(name: str) -> int:
@@ -171,7 +351,7 @@ def state_of(client: ldap.Client, base: str, number: int = 0) -> tuple[list[byte
             continue
         code = int.from_bytes(fields[0][1], "big")
         if code not in (SUCCESS, NO_SUCH_OBJECT):
-            raise Failure(f"the search of {base}: {code_name(code)}")
+            raise Failure(f"the search of {base}: {code_name(code)}{REMEDIES.get(code, '').format(number=number)}")
         # What was moved may stand below an entry of a higher number; the order among entries of one depth stays.
         found.sort(key=lambda it: it[0])
         return [*(message for _, message in found), ldap.element(0x30, whole)], ldap.controls_of(whole).get(ldap.READ, "")
@@ -179,7 +359,7 @@ def state_of(client: ldap.Client, base: str, number: int = 0) -> tuple[list[byte
 
 def write_ldif(messages: list[bytes], path: str) -> int:
     """Writes the entries that a search showed as an LDIF file, which is there whole or not at all; gives how many."""
-    run = subprocess.run([program(), "export"], input="".join(f"{it.hex()}\n" for it in messages), stdout=subprocess.PIPE, stderr=subprocess.PIPE, text=True)
+    run = run_program("export", input="".join(f"{it.hex()}\n" for it in messages))
     if run.returncode != 0:
         raise Failure(f"export: {run.stderr.strip()}")
     with open(f"{path}.new", "w", encoding="utf-8") as file:
