@@ -1,6 +1,8 @@
-"""Tests of `tools/install` and of what it installs, below a folder in place of `/`: the units' command lines are run as systemd runs them, with that folder's paths. And of `tools/status`, over the same replicas."""
+"""Tests of `tools/install` and of what it installs, below a folder in place of `/`: the units' command lines are run as systemd runs them, with that folder's paths. And of `tools/status` and of
+examples/monitoring, over the same replicas."""
 from __future__ import annotations
 
+import json
 import os
 import re
 import shutil
@@ -8,12 +10,15 @@ import stat
 import subprocess
 import threading
 import time
+import urllib.request
 
+import ldap_client as ldap
 from replicas import MANAGER, PASSWORD, SUFFIX, TOP, free_ports, is_proved, program
 from serving import HOST, PATIENCE, item
 
 PREFIX = "/usr/local"
 COUNT = 3
+MONITORING = os.path.join(TOP, "examples", "monitoring")
 PROGRAMS = ("dird", "dird-load", "dird-backup", "dird-status", "dird-init", "dird-slapd-schema")
 # The most exposure of a unit, as `systemd-analyze security` counts it, in tenths.
 EXPOSURE = "30"
@@ -276,8 +281,45 @@ def status_counts_a_majority(host: Host) -> None:
     assert "no replica's --metrics is there" in wrong[1] or "no answer in time" in wrong[1] or "it closed" in wrong[1], wrong
 
 
+def samples_of(host: Host, index: int) -> str:
+    """The page for Prometheus of a replica."""
+    with urllib.request.urlopen(f"http://{host.monitor(index)}/metrics", timeout=20) as answer:
+        return answer.read().decode()
+
+
+def monitoring_names_what_replicas_show(host: Host) -> None:
+    """Alerts, their tests and the dashboard name no figure that a replica doesn't show; promtool takes them, where it is installed."""
+    with open(os.path.join(MONITORING, "dashboard.json"), encoding="utf-8") as file:
+        board = json.load(file)
+    queries = [target["expr"] for panel in board["panels"] for target in panel["targets"]] + [board["templating"]["list"][1]["query"]["query"]]
+    with open(os.path.join(MONITORING, "alerts.yml"), encoding="utf-8") as file:
+        alerts = file.read()
+    with open(os.path.join(MONITORING, "alerts_test.yml"), encoding="utf-8") as file:
+        series = file.read()
+    index = next(it for it in range(COUNT) if f"r{it}" in host.processes)
+    client = ldap.Client(HOST, host.ports[2 * index + 1])
+    client.ask(ldap.compare(SUFFIX, "dc", "example"))
+    client.close()
+    page = samples_of(host, index)
+    shown = set(re.findall(r"(?m)^# TYPE (\w+)", page))
+    named = set(re.findall(r"\b(?:dird|process)_\w+", " ".join([*queries, *re.findall(r"(?m)^ +expr: (.*)", alerts), *re.findall(r"series: '(\w+)", series)])))
+    assert named <= shown and len(named) > 15, (named - shown, shown)
+    assert len(re.findall(r"- alert: (\w+)", alerts)) == 5
+    labels = set(re.findall(r'[{,](\w+)="', page)) | {"job", "instance"}
+    assert set(re.findall(r'[{,] *(\w+)=~?"', " ".join([*queries, alerts]))) <= labels, labels
+    if shutil.which("promtool") is None:
+        print("left out: promtool is not installed")
+        return
+    told_by("promtool", "check", "config", "prometheus.yml", cwd=MONITORING)
+    told_by("promtool", "test", "rules", "alerts_test.yml", cwd=MONITORING)
+    rules = os.path.join(host.root, "queries.yml")
+    with open(rules, "w", encoding="utf-8") as file:
+        json.dump({"groups": [{"name": "queries", "rules": [{"record": f"query{at}", "expr": it.replace("$__rate_interval", "1m")} for at, it in enumerate(queries[:-1])]}]}, file)
+    told_by("promtool", "check", "rules", rules)
+
+
 def what_is_installed_can_be_followed(folder: str) -> None:
-    """An install below a folder, its first start, its replicas, their end and their next start; status beside them."""
+    """An install below a folder, its first start, its replicas, their end and their next start; status and monitoring beside them."""
     host = Host(folder)
     try:
         files_are_in_their_places(host)
@@ -288,6 +330,7 @@ def what_is_installed_can_be_followed(folder: str) -> None:
             host.edit(index)
         a_first_start_cannot_be_done_wrong(host)
         replicas_start_by_their_units(host)
+        monitoring_names_what_replicas_show(host)
         status_counts_a_majority(host)
     finally:
         host.end()
