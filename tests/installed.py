@@ -169,7 +169,8 @@ def files_are_in_their_places(host: Host) -> None:
     assert not any("@PREFIX@" in host.text(name[len(host.root):]) for name in found if name.endswith((".service", ".conf")))
     assert host.text(f"{PREFIX}/share/man/man1/dird.1").startswith(".TH DIRD 1 ")
     for name in PROGRAMS[1:]:
-        assert re.search(rf"usage: {name}|tools/\w+ ", host.tool(name, "--help")), name
+        shown = host.tool(name, "--help")
+        assert re.search(rf"(?m)^ *(usage: )?{name} ", shown) and "tools/" not in shown, (name, shown)
 
 
 def completion_is_that_of_the_help(host: Host) -> None:
@@ -246,7 +247,8 @@ def replicas_start_by_their_units(host: Host) -> None:
     with open(path, "w", encoding="utf-8") as file:
         file.write(f"dn: {SUFFIX}\nobjectClass: domain\ndc: example\n\ndn: {item(1)[0]}\nobjectClass: item\ncn: item1\nrank: 1\n")
     uris = [host.uri(index) for index in range(COUNT)]
-    assert host.tool("dird-load", path, *uris, "--manager", MANAGER, "--password-file", host.path("/etc/dird/password")).startswith("2 records added")
+    loaded = host.tool("dird-load", path, *uris, "--manager", MANAGER, "--password-file", host.path("/etc/dird/password"))
+    assert loaded.startswith("2 records added") and loaded.endswith("; the last update is 2\n"), loaded
     host.end()
     for index in range(COUNT):
         host.start(index)

@@ -21,7 +21,7 @@ CLOSES = -1
 
 
 class Played:
-    """A replica that answers each bind with 0, and each add by a function of its name and of how often it came: a result code, or an end of the connection."""
+    """A replica that answers each bind with 0, and each add by a function of its name and of how often it came: a result code, or an end of the connection. An add that asks for its number gets 77."""
 
     def __init__(self, answer: Callable[[str, int], int], referral: str | None = None):
         self.answer = answer
@@ -44,13 +44,15 @@ class Played:
         reader.socket, reader.rest, reader.at, reader.number = stream, b"", 0, 0
         while True:
             try:
-                number, tag, fields, _ = reader.receive()
+                number, tag, fields, controls = reader.receive()
                 code = self._code(tag, fields)
                 if code == CLOSES:
                     stream.close()
                     return
                 uris = ldap.element(0xA3, ldap.text(self.referral)) if code == 10 else b""
-                stream.sendall(ldap.element(0x30, ldap.integer(number) + ldap.element(OPERATIONS[tag], ldap.integer(code, 0x0A) + ldap.text("") + ldap.text("") + uris)))
+                result = ldap.element(OPERATIONS[tag], ldap.integer(code, 0x0A) + ldap.text("") + ldap.text("") + uris)
+                shown = ldap.element(0xA0, ldap.control(ldap.READ, "77")) if ldap.READ in controls else b""
+                stream.sendall(ldap.element(0x30, ldap.integer(number) + result + shown))
             except (OSError, ldap.Closed, KeyError):
                 return
 
@@ -100,7 +102,7 @@ def a_load_names_what_was_added_beyond_a_refusal(folder: str) -> None:
     replica.close()
     # The file of refused records is LDIF, and is loaded like any other.
     other = Played(lambda name, _: 0)
-    assert loaded(folder, refused, other.uri).stdout.startswith("2 records added, 0 refused, 0 left"), text
+    assert re.fullmatch(r"2 records added, 0 refused, 0 left, in \d+\.\d s; the last update is 77\n", loaded(folder, refused, other.uri).stdout), text
     other.close()
     own = loaded(folder, refused, other.uri, "--refused", refused)
     assert own.returncode == 1 and "is the file that is loaded" in own.stderr, own

@@ -51,6 +51,20 @@ class Refused(Failure):
     """A record is refused, and that is the end."""
 
 
+class Behind(Failure):
+    """A replica hasn't made the update yet that its answer has to show."""
+
+
+# The names of the tools where they are installed.
+INSTALLED = {"load": "dird-load", "backup": "dird-backup", "status": "dird-status", "init": "dird-init", "slapd_schema": "dird-slapd-schema"}
+
+
+def text_of_help(text: str) -> str:
+    """A tool's own text, with the names by which tools are called where they are installed."""
+    is_installed = os.path.basename(sys.argv[0]).startswith("dird-")
+    return re.sub(r"tools/(\w+)", lambda found: INSTALLED.get(found[1], found[0]) if is_installed else found[0], text)
+
+
 def reason_of(error: Exception) -> str:
     """Why a replica gives no answer, for who started a tool."""
     if isinstance(error, ConnectionRefusedError):
@@ -119,6 +133,12 @@ def record_of(message: bytes) -> str:
     return ldap.elements(operation)[0][1].decode("utf-8", "replace")
 
 
+def numbered(message: bytes) -> bytes:
+    """An add whose answer has its update's number."""
+    content = ldap.elements(message)[0][1]
+    return ldap.element(0x30, content + ldap.element(0xA0, ldap.control(ldap.READ, "0"))) if len(message) <= LONGEST - 64 else message
+
+
 def ranges_of(numbers: list[int]) -> str:
     """Records by number, in words: `record 3`, `records 3 to 5 and 8`."""
     parts: list[list[int]] = []
@@ -180,7 +200,9 @@ class Loading:
 
     def __init__(self, messages: list[bytes], uris: list[str], manager: str, password: str, goes_on: bool, tell: Callable[[str], None], records: Records | None = None,
                  skips: bool = False, refused_file: str | None = None):
-        self.messages = messages
+        self.messages = [*messages[:-1], *(numbered(it) for it in messages[-1:])]
+        # The number of the last record's update, once it is answered.
+        self.number = ""
         self.uris = list(uris)
         self.manager = manager
         self.password = password
@@ -256,7 +278,7 @@ class Loading:
                         return "", []
                     sent = self.done
                     continue
-                number, _, fields, _ = client.receive()
+                number, _, fields, controls = client.receive()
                 code, text = int.from_bytes(fields[0][1], "big"), fields[2][1].decode("utf-8", "replace")
                 if number == 0:
                     raise Closed(f"it ended the session: {code_name(code)}")
@@ -264,6 +286,7 @@ class Loading:
                     return self._referred(uri, [it.decode() for field, content in fields if field == 0xA3 for _, it in ldap.elements(content)])
                 if code in ELSEWHERE:
                     return code_name(code), []
+                self.number = controls.get(ldap.READ, "")
                 self._settle(code, text)
             return "", []
         finally:
@@ -351,7 +374,7 @@ def state_of(client: ldap.Client, base: str, number: int = 0) -> tuple[list[byte
             continue
         code = int.from_bytes(fields[0][1], "big")
         if code not in (SUCCESS, NO_SUCH_OBJECT):
-            raise Failure(f"the search of {base}: {code_name(code)}{REMEDIES.get(code, '').format(number=number)}")
+            raise (Behind if code == BUSY else Failure)(f"the search of {base}: {code_name(code)}{REMEDIES.get(code, '').format(number=number)}")
         # What was moved may stand below an entry of a higher number; the order among entries of one depth stays.
         found.sort(key=lambda it: it[0])
         return [*(message for _, message in found), ldap.element(0x30, whole)], ldap.controls_of(whole).get(ldap.READ, "")
