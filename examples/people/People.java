@@ -39,11 +39,11 @@ public class People {
         return person;
     }
 
-    static int count(DirContext context, String surname) throws Exception {
+    static int count(DirContext context, String name) throws Exception {
         SearchControls controls = new SearchControls();
         controls.setSearchScope(SearchControls.ONELEVEL_SCOPE);
         controls.setReturningAttributes(new String[] {"mail", "cn"});
-        NamingEnumeration<SearchResult> results = context.search("ou=People", "(&(objectClass=inetOrgPerson)(sn={0}))", new Object[] {surname}, controls);
+        NamingEnumeration<SearchResult> results = context.search("ou=People", "(&(objectClass=inetOrgPerson)(uid={0}))", new Object[] {name}, controls);
         int count = 0;
         while (results.hasMore()) {
             results.next();
@@ -52,15 +52,25 @@ public class People {
         return count;
     }
 
+    /** A backup shows an update once it has heard that it is committed, up to one beat later: asks until it does. */
+    static int countOnceShown(DirContext context, String name) throws Exception {
+        int count = count(context, name);
+        while (count == 0) {
+            Thread.sleep(20);
+            count = count(context, name);
+        }
+        return count;
+    }
+
     public static void main(String[] words) throws Exception {
         Hashtable<String, String> settings = settings(words.length > 0 ? words : URLS);
         for (int number = 0; number < 3; number++) {
             DirContext context = new InitialDirContext(settings);
-            String name = "uid=j" + number + ",ou=People";
+            String uid = "j" + number;
+            String name = "uid=" + uid + ",ou=People";
             context.createSubcontext(name, person("J " + number));
             System.out.println("added " + name);
-            // A backup shows an update as soon as it has heard that it is committed, which may be a little later.
-            System.out.println("found " + count(context, "j"));
+            System.out.println("found " + countOnceShown(context, uid));
             context.destroySubcontext(name);
             System.out.println("deleted " + name);
             context.close();
