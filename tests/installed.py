@@ -210,7 +210,8 @@ def units_are_hardened(host: Host) -> None:
         assert words in host.text(f"{PREFIX}/lib/systemd/system/dird@.service"), words
     if host.snippet("systemd-sysusers") and host.snippet("systemd-tmpfiles --create"):
         assert re.search(r"(?m)^dird:", host.text("/etc/passwd")), "the user is there"
-        assert stat.S_IMODE(os.stat(host.path("/var/lib/dird")).st_mode) == 0o700
+        assert stat.S_IMODE(os.stat(host.path("/var/lib/dird")).st_mode) == 0o700 and stat.S_IMODE(os.stat(host.path("/etc/dird/password")).st_mode) == 0o600
+        os.unlink(host.path("/etc/dird/password"))
 
 
 def a_first_start_cannot_be_done_wrong(host: Host) -> None:
@@ -228,7 +229,7 @@ def a_first_start_cannot_be_done_wrong(host: Host) -> None:
     assert {name: open(os.path.join(folder, name), "rb").read() for name in os.listdir(folder)} == made
     new = [it.replace("-r0", "-new") for it in host.unit("dird-init@r0")]
     for words, why in ((new[:new.index("--journal")] + new[new.index("--journal") + 2:], "--journal FILE is missing"), ([*new, "--fresh"], "--fresh is what this does"), (new[:-1], "2 PEERs: a cluster has 3, 5 or 7"),
-                       ([it.replace("/journal-new", "/none/journal-new") for it in new], "no folder "), ([it.replace("dc=example,dc=com", "nonsense") for it in new], "bad name")):
+                       ([it.replace("/journal-new", "/none/journal-new") for it in new], "no folder "), ([it.replace("/journal-new", "/view-new") for it in new], "one file"), ([it.replace("dc=example,dc=com", "nonsense") for it in new], "bad name")):
         assert why in told_by(*words, status=1, cwd="/", env=environment()), why
         assert sorted(os.listdir(folder)) == sorted(made), why
 

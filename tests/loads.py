@@ -1,6 +1,7 @@
 """Tests of `tools/load`, `tools/backup` and `tools/status` over replicas that are played here, so that each code comes when it is wanted. Those over real replicas are in tests/tools."""
 from __future__ import annotations
 
+import http.server
 import os
 import pty
 import re
@@ -240,5 +241,65 @@ def tools_find_the_program(folder: str) -> None:
     assert says(PATH=path_with, DIRD="/none") == "DIRD=/none: no such program\n"
 
 
-TESTS = (a_load_names_what_was_added_beyond_a_refusal, a_load_from_a_record_passes_over_what_is_there, a_load_asks_another_replica, a_load_refuses_what_is_too_long,
+class Monitored:
+    """A replica's address for monitors, with these figures."""
+
+    def __init__(self, ready: str, role: str, view: int, update: int):
+        roles = "".join(f'dird_role{{role="{it}"}} {int(it == role)}\n' for it in ("primary", "backup", "changing", "recovering"))
+        pages = {"/ready": f"{ready}\n", "/metrics": f'# HELP x\n{roles}dird_view {view}\ndird_last_update {update}\ndird_sessions 4\ndird_build_info{{proved="yes"}} 1\n'}
+
+        class Handler(http.server.BaseHTTPRequestHandler):
+            def do_GET(self) -> None:
+                octets = pages[self.path].encode()
+                self.send_response(200 if ready in ("primary", "backup") or self.path == "/metrics" else 503)
+                self.send_header("Content-Length", str(len(octets)))
+                self.end_headers()
+                self.wfile.write(octets)
+
+            def log_message(self, *_: object) -> None:
+                pass
+
+        self.server = http.server.ThreadingHTTPServer((HOST, 0), Handler)
+        self.address = f"{HOST}:{self.server.server_port}"
+        threading.Thread(target=self.server.serve_forever, daemon=True).start()
+
+
+# What each replica shows (what `/ready` says, role, view, last update; none is down), the status, and the verdict.
+PRIMARY, BACKUP, DOWN = ("primary", "primary", 3, 90), ("backup", "backup", 3, 88), None
+VERDICTS: list[tuple[list[tuple[str, str, int, int] | None], int, str]] = [
+    ([PRIMARY, BACKUP, BACKUP], 0, "a majority agrees: 3 of 3 serve in view 3, the primary is "),
+    ([DOWN, BACKUP, PRIMARY], 0, "a majority agrees: 2 of 3 serve in view 3, the primary is "),
+    ([PRIMARY, DOWN, DOWN], 1, "no majority agrees: 1 of 3 serve"),
+    ([PRIMARY, ("backup", "backup", 2, 80), DOWN], 1, "no majority agrees: 2 of 3 serve, 1 of them in view 3"),
+    ([BACKUP, BACKUP, ("recovering", "recovering", 3, 0)], 1, "no majority agrees: 2 of 3 serve in view 3, and none of these is the primary"),
+    ([("no majority", "primary", 3, 90), ("primary", "primary", 4, 95), ("backup", "backup", 4, 95)], 0, "a majority agrees: 2 of 3 serve in view 4, the primary is "),
+    ([("no majority", "primary", 3, 90), BACKUP, DOWN], 1, "no majority agrees: 1 of 3 serve"),
+    ([("stuck", "primary", 3, 90), BACKUP, BACKUP], 1, "no majority agrees: 2 of 3 serve in view 3, and none of these is the primary"),
+    ([PRIMARY, BACKUP, DOWN, DOWN, DOWN], 1, "no majority agrees: 2 of 5 serve"),
+    ([PRIMARY, BACKUP, BACKUP, DOWN, DOWN], 0, "a majority agrees: 3 of 5 serve in view 3, the primary is "),
+]
+
+
+def a_status_is_that_of_a_majority(_folder: str) -> None:
+    """Each row has its status and its verdict; the lines have role, view, update, lag, sessions and proved."""
+    for shown, status, verdict in VERDICTS:
+        replicas = [it and Monitored(*it) for it in shown]
+        addresses = [it.address if it else f"{HOST}:{free_ports(1)[0]}" for it in replicas]
+        run = subprocess.run([STATUS, *addresses], stdout=subprocess.PIPE, stderr=subprocess.PIPE, text=True, timeout=60)
+        lines = run.stdout.splitlines()
+        assert run.returncode == status and lines[-1].startswith(verdict) and len(lines) == len(shown) + 2, (shown, run)
+        newest = max(it[3] for it in shown if it)
+        for line, address, it in zip(lines[1:], addresses, shown):
+            if it is None:
+                assert line.startswith(f"{address}  connection refused"), line
+            else:
+                role = it[1] if it[0] == it[1] else f"{it[1]} ({it[0]})"
+                assert re.split(r"  +", line) == [address, role, str(it[2]), str(it[3]), str(newest - it[3]), "4", "-", "yes"], line
+        for replica in replicas:
+            if replica:
+                replica.server.shutdown()
+                replica.server.server_close()
+
+
+TESTS = (a_status_is_that_of_a_majority, a_load_names_what_was_added_beyond_a_refusal, a_load_from_a_record_passes_over_what_is_there, a_load_asks_another_replica, a_load_refuses_what_is_too_long,
          a_load_shows_its_progress_on_a_terminal, messages_name_what_to_do, tools_find_the_program)
