@@ -265,18 +265,18 @@ class Monitored:
 
 
 # What each replica shows (what `/ready` says, role, view, last update; none is down), the status, and the verdict.
-PRIMARY, BACKUP, DOWN = ("primary", "primary", 3, 90), ("backup", "backup", 3, 88), None
+LEADS, FOLLOWS, DOWN = ("primary", "primary", 3, 90), ("backup", "backup", 3, 88), None
 VERDICTS: list[tuple[list[tuple[str, str, int, int] | None], int, str]] = [
-    ([PRIMARY, BACKUP, BACKUP], 0, "a majority agrees: 3 of 3 serve in view 3, the primary is "),
-    ([DOWN, BACKUP, PRIMARY], 0, "a majority agrees: 2 of 3 serve in view 3, the primary is "),
-    ([PRIMARY, DOWN, DOWN], 1, "no majority agrees: 1 of 3 serve"),
-    ([PRIMARY, ("backup", "backup", 2, 80), DOWN], 1, "no majority agrees: 2 of 3 serve, 1 of them in view 3"),
-    ([BACKUP, BACKUP, ("recovering", "recovering", 3, 0)], 1, "no majority agrees: 2 of 3 serve in view 3, and none of these is the primary"),
+    ([LEADS, FOLLOWS, FOLLOWS], 0, "a majority agrees: 3 of 3 serve in view 3, the primary is "),
+    ([DOWN, FOLLOWS, LEADS], 0, "a majority agrees: 2 of 3 serve in view 3, the primary is "),
+    ([LEADS, DOWN, DOWN], 1, "no majority agrees: 1 of 3 serve"),
+    ([LEADS, ("backup", "backup", 2, 80), DOWN], 1, "no majority agrees: 2 of 3 serve, 1 of them in view 3"),
+    ([FOLLOWS, FOLLOWS, ("recovering", "recovering", 3, 0)], 1, "no majority agrees: 2 of 3 serve in view 3, and none of these is the primary"),
     ([("no majority", "primary", 3, 90), ("primary", "primary", 4, 95), ("backup", "backup", 4, 95)], 0, "a majority agrees: 2 of 3 serve in view 4, the primary is "),
-    ([("no majority", "primary", 3, 90), BACKUP, DOWN], 1, "no majority agrees: 1 of 3 serve"),
-    ([("stuck", "primary", 3, 90), BACKUP, BACKUP], 1, "no majority agrees: 2 of 3 serve in view 3, and none of these is the primary"),
-    ([PRIMARY, BACKUP, DOWN, DOWN, DOWN], 1, "no majority agrees: 2 of 5 serve"),
-    ([PRIMARY, BACKUP, BACKUP, DOWN, DOWN], 0, "a majority agrees: 3 of 5 serve in view 3, the primary is "),
+    ([("no majority", "primary", 3, 90), FOLLOWS, DOWN], 1, "no majority agrees: 1 of 3 serve"),
+    ([("stuck", "primary", 3, 90), FOLLOWS, FOLLOWS], 1, "no majority agrees: 2 of 3 serve in view 3, and none of these is the primary"),
+    ([LEADS, FOLLOWS, DOWN, DOWN, DOWN], 1, "no majority agrees: 2 of 5 serve"),
+    ([LEADS, FOLLOWS, FOLLOWS, DOWN, DOWN], 0, "a majority agrees: 3 of 5 serve in view 3, the primary is "),
 ]
 
 
