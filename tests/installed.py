@@ -91,8 +91,14 @@ class Host:
         text = re.sub(r"(?m)^OPTIONS=.*", f"OPTIONS=--metrics {self.monitor(index)} --beat 100 --suspect 2000 {more}", text)
         with open(self.path(path), "w", encoding="utf-8") as file:
             file.write(text)
-        with open(self.path("/etc/dird/password"), "w", encoding="utf-8", opener=lambda name, flags: os.open(name, flags, 0o600)) as file:
-            file.write(PASSWORD + "\n")
+        self.set_password(PASSWORD + "\n")
+
+    def set_password(self, text: str) -> None:
+        """Writes the password's file whole, since a replica may read it now."""
+        path = self.path("/etc/dird/password")
+        with open(f"{path}.new", "w", encoding="utf-8", opener=lambda name, flags: os.open(name, flags, 0o600)) as file:
+            file.write(text)
+        os.replace(f"{path}.new", path)
 
     def unit(self, name: str) -> list[str]:
         """The command line of a unit, `dird@r0` or alike, with its settings put in as systemd does, and this host's paths."""
@@ -218,6 +224,9 @@ def a_first_start_cannot_be_done_wrong(host: Host) -> None:
     """The unit doesn't start before dird-init@ has made both files; a second dird-init@ is refused and changes nothing; nothing else is left in the folder."""
     folder = host.path("/var/lib/dird")
     assert not host.may_start("dird@r0")
+    host.set_password("\n")
+    assert "/etc/dird/password is empty: write the manager's password there" in host.init(0, status=1)
+    host.set_password(PASSWORD + "\n")
     for index in range(COUNT):
         assert f"replica {index} of cluster 7: made " in host.init(index)
     made = {name: open(os.path.join(folder, name), "rb").read() for name in os.listdir(folder)}

@@ -252,7 +252,7 @@ class Loading:
                 self._tell_retry(uri, why, self.uris[tried % len(self.uris)])
             if time.monotonic() - moved_at > PATIENCE:
                 reasons = "; ".join(f"{uri}: {why}" for uri, why in self.reasons.items())
-                raise Failure(f"no replica took record {self.done + 1} for {PATIENCE:.0f} seconds ({reasons or 'each referred to another'})")
+                raise Failure(f"no replica took record {self.done + 1} for {PATIENCE:.0f} seconds ({reasons or 'each referred to another'}): more than half have to run; name all of them")
             if self.done == before:
                 time.sleep(0.2)
 
