@@ -45,7 +45,7 @@ ENABLED = "/etc/enabled"
 
 def start(name):
     kind, _, instance = name.partition("@")
-    unit = f"/usr/local/lib/systemd/system/{kind}@.service"
+    unit = next(it for it in (f"/usr/local/lib/systemd/system/{kind}@.service", f"/usr/lib/systemd/system/{kind}@.service") if os.path.exists(it))
     text = open(unit).read().replace("%i", instance)
     for needed in re.findall("(?m)^ConditionPathExists=(.*)", text):
         if not os.path.exists(needed):
@@ -152,6 +152,10 @@ class Hosts:
     def install(self, index: int, line: str) -> None:
         """The page's line in the checkout, which is hidden then, wherever it is."""
         self.run(index, line + ("" if is_proved() else " --unproved"), folder="/tmp/repository")
+        self.hide(index)
+
+    def hide(self, index: int) -> None:
+        """Hides the checkout and the program there."""
         at = self.root(index)
         self.inside(index, f"umount {at}/tmp/repository {at}/tmp/program && mkdir -p {at}{TOP} && mount -t tmpfs tmpfs {at}{TOP}")
 
