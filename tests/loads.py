@@ -105,6 +105,16 @@ def a_load_names_what_was_added_beyond_a_refusal(folder: str) -> None:
     other = Played(lambda name, _: 0)
     assert re.fullmatch(r"2 records added, 0 refused, 0 left, in \d+\.\d s; the last update is 77\n", loaded(folder, refused, other.uri).stdout), text
     other.close()
+    pipe = os.path.join(folder, "pipe")
+    os.mkfifo(pipe)
+    piped = loaded(folder, pipe, other.uri, "--refused", refused)
+    assert piped.returncode == 1 and "pipe is no regular file" in piped.stderr, piped
+    writer = subprocess.Popen(["sh", "-c", 'cat "$0" > "$1"', path, pipe])
+    bad = Played(lambda name, _: 65 if name == "cn=30" else 0)
+    piped = loaded(folder, pipe, bad.uri)
+    writer.wait(60)
+    bad.close()
+    assert piped.stdout.startswith("29 records added, 1 refused, 0 left") and "record 30 (cn=30," in piped.stderr, piped
     own = loaded(folder, refused, other.uri, "--refused", refused)
     assert own.returncode == 1 and "is the file that is loaded" in own.stderr, own
 

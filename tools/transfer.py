@@ -167,7 +167,8 @@ class Records:
         if self.places is None:
             found: list[tuple[int, int, int]] = []
             at, number, inside = 0, 0, False
-            with open(self.path, "rb") as file:
+            # What comes through a pipe is gone.
+            with open(self.path if os.path.isfile(self.path) else os.devnull, "rb") as file:
                 for line in file:
                     number += 1
                     is_empty = line.rstrip(b"\n") in (b"", b"\r")
