@@ -38,6 +38,13 @@ pub enum What {
     Fault,
     /// All replicas crash at once.
     PowerCut,
+    /// A replica's disk hangs, for good.
+    Hang,
+    /// A replica whose disk hangs repeats its last beat.
+    Again {
+        machine: usize,
+        life: u64,
+    },
     /// The slow time of the network ends.
     Calm {
         turn: u64,

@@ -3,11 +3,12 @@
 use crate::agenda::What;
 use crate::mark::Mark;
 use crate::setting::Kind;
-use crate::timer::{SUSPECT, Timer};
+use crate::timer::{BEAT, SUSPECT, Timer};
 use crate::world::World;
+use replica_clock::{Progress, Steps, Times};
 use std::alloc::AllocError;
 use vr_recover::recover;
-use vr_state::message::{Change, Send};
+use vr_state::message::{Change, PeerMessage, Send};
 use vr_state::replica::Replica;
 
 impl World {
@@ -102,6 +103,7 @@ impl World {
         self.machines[at].is_down = true;
         self.machines[at].is_doomed = false;
         self.machines[at].busy_until = 0;
+        self.machines[at].hung = None;
         self.machines[at].ask_turn += 1;
         for other in 0..self.machines.len() {
             let out = self.link(at, other);
@@ -141,6 +143,60 @@ impl World {
             }
         }
         Ok(())
+    }
+
+    /// The disk of a replica hangs, as often the primary's as any, where fewer than f others are down: it takes no step any more.
+    pub fn on_hang(&mut self) -> Result<(), AllocError> {
+        let at = self.victim();
+        if !self.may_crash(at) || self.machines[at].replica.is_none() {
+            return Ok(());
+        }
+        let until = self.deadline() + 1_000 * self.period;
+        let local = self.machines[at].local(self.now);
+        let machine = &mut self.machines[at];
+        let mut steps = Steps::new(Times::new(BEAT, SUSPECT));
+        steps.busy(0, local);
+        machine.hung = Some(steps);
+        machine.is_down = true;
+        machine.busy_until = until;
+        let leads = machine.leads();
+        machine.beat = match &machine.replica {
+            Some(replica) if leads => Some((replica.view_number, replica.commit_number)),
+            _ => None,
+        };
+        let life = machine.starts;
+        if self.setting.traces {
+            let text = format!(in self.alloc; "the disk of {at} hangs")?;
+            self.tell(&text)?;
+        }
+        self.agenda
+            .put(self.now, What::Again { machine: at, life })
+    }
+
+    /// A replica whose disk hangs sends its last beat again, for as long as it does so.
+    pub fn on_again(&mut self, at: usize, life: u64) -> Result<(), AllocError> {
+        let local = self.machines[at].local(self.now);
+        let machine = &self.machines[at];
+        let (Some(steps), Some((view_number, commit_number))) = (&machine.hung, machine.beat) else {
+            return Ok(());
+        };
+        if machine.starts != life || !self.setting.beats_on && steps.progress(local) == Progress::Hung {
+            return Ok(());
+        }
+        let next = machine.time_of(local + BEAT).max(self.now + 1);
+        for other in 0..self.machines.len() {
+            if other != at {
+                self.send(
+                    at,
+                    other,
+                    PeerMessage::Commit {
+                        view_number,
+                        commit_number,
+                    },
+                )?;
+            }
+        }
+        self.agenda.put(next, What::Again { machine: at, life })
     }
 
     /// A replica goes on from its journal, which may have forgotten how much is committed.
@@ -346,6 +402,9 @@ impl World {
         }
         for at in 0..self.machines.len() {
             self.machines[at].is_doomed = false;
+            if self.machines[at].is_hung() {
+                continue;
+            }
             self.machines[at].busy_until = 0;
             if self.machines[at].replica.is_none() {
                 let life = self.machines[at].starts;

@@ -82,14 +82,21 @@ impl World {
     /// What is wrong with the statuses and views.
     fn wrong_status(&self) -> Wrong {
         let mut latest = 0;
+        let mut view = 0;
         for machine in self.machines.iter() {
+            if machine.is_hung() {
+                continue;
+            }
+            view = machine.view();
             if machine.status() != Some(Status::Recovering) {
                 latest = machine.view().max(latest);
             }
         }
         let mut wrong = Wrong::Nothing;
-        let view = self.machines[0].view();
         for machine in self.machines.iter() {
+            if machine.is_hung() {
+                continue;
+            }
             match machine.status() {
                 None => return Wrong::LongRecovery,
                 Some(Status::Recovering) => {
@@ -116,8 +123,16 @@ impl World {
                 return Wrong::Request;
             }
         }
-        let commit = commit_of(&self.machines[0]);
+        let mut commit = 0;
         for machine in self.machines.iter() {
+            if !machine.is_hung() {
+                commit = commit_of(machine).max(commit);
+            }
+        }
+        for machine in self.machines.iter() {
+            if machine.is_hung() {
+                continue;
+            }
             if commit_of(machine) != commit {
                 return Wrong::Commits;
             }

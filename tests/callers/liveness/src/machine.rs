@@ -2,6 +2,7 @@
 
 use crate::mark::Mark;
 use crate::timer::Timer;
+use replica_clock::Steps;
 use vr_state::message::{Change, PeerMessage};
 use vr_state::replica::Replica;
 use vr_state::words::Status;
@@ -27,6 +28,9 @@ pub struct Machine {
     pub offset: u64,
     /// It does nothing before this time.
     pub busy_until: u64,
+    /// How the step goes at which its disk hangs, where it does; and what it sent with its last beat.
+    pub hung: Option<Steps>,
+    pub beat: Option<(u64, u64)>,
     /// Which asking of its clock is still wanted, and when by its clock.
     pub ask_turn: u64,
     pub ask_at: u64,
@@ -53,6 +57,11 @@ impl Machine {
                 most
             };
         }
+    }
+
+    /// Whether its disk hangs.
+    pub fn is_hung(&self) -> bool {
+        self.hung.is_some()
     }
 
     /// Whether all that it has promised is on its disk or in its memory, and outlives a crash.

@@ -1,6 +1,7 @@
 //! Plays one seed after another, and tells what came of them.
 
 use crate::judging::Wrong;
+use crate::setting::HANGS;
 use crate::words::Wish;
 use crate::world::World;
 use std::io;
@@ -42,6 +43,7 @@ pub fn play(rt: &HostRuntime, wish: &Wish) -> io::Result<bool> {
     };
     if wish.checks_itself {
         check_itself(rt, wish, &mut tally)?;
+        check_hangs(rt, wish, &mut tally)?;
     }
     for seed in wish.first..wish.first + wish.seeds {
         play_one(rt, wish, seed, &mut tally)?;
@@ -88,6 +90,26 @@ fn check_itself(rt: &HostRuntime, wish: &Wish, tally: &mut Tally) -> io::Result<
         }
     }
     println!(rt; "by the old rule no seed fails")?;
+    tally.failed += 1;
+    Ok(())
+}
+
+/// Plays a hung primary that repeats its last beat for ever, until a seed fails, which has to come.
+fn check_hangs(rt: &HostRuntime, wish: &Wish, tally: &mut Tally) -> io::Result<()> {
+    let mut setting = wish.setting;
+    setting.beats_on = true;
+    setting.kinds = HANGS;
+    for seed in 1..=20 {
+        let mut world = World::new(rt.alloc(), setting, seed)?;
+        world.run()?;
+        let wrong = world.wrong();
+        if wrong != Wrong::Nothing {
+            println!(rt; "with beats for ever seed {seed} fails, as it has to: {wrong:?}")?;
+            tally.passed += 1;
+            return Ok(());
+        }
+    }
+    println!(rt; "with beats for ever no seed fails")?;
     tally.failed += 1;
     Ok(())
 }

@@ -9,6 +9,8 @@ pub struct Setting {
     pub count: u64,
     /// Whether replicas move by the old rule.
     pub is_old: bool,
+    /// Whether a primary whose disk hangs repeats its last beat for ever.
+    pub beats_on: bool,
     /// Whether a replica that recovers for long asks for a view change.
     pub mends: bool,
     pub traces: bool,
@@ -43,10 +45,13 @@ pub const DELAYS: u64 = 1 << 10;
 /// Some replicas, or all, have their logs on their disks, and all of them may crash at once.
 pub const JOURNALS: u64 = 1 << 11;
 
-pub const ALL: u64 = (1 << 12) - 1;
+/// Disks of some replicas hang, for good.
+pub const HANGS: u64 = 1 << 12;
+
+pub const ALL: u64 = (1 << 13) - 1;
 
 /// The names of the bits, in their order.
-pub const NAMES: [&str; 12] = [
+pub const NAMES: [&str; 13] = [
     "quick-crash",
     "slow-crash",
     "store-crash",
@@ -59,6 +64,7 @@ pub const NAMES: [&str; 12] = [
     "losses",
     "delays",
     "journals",
+    "hangs",
 ];
 
 const KINDS: [Kind; 8] = [

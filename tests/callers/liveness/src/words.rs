@@ -23,6 +23,7 @@ pub fn wish_of(words: &Vec<String>) -> Option<Wish> {
         setting: Setting {
             count: 0,
             is_old: false,
+            beats_on: false,
             mends: false,
             traces: false,
             kinds: ALL,
@@ -49,6 +50,7 @@ pub fn wish_of(words: &Vec<String>) -> Option<Wish> {
 fn take(wish: &mut Wish, word: &str, next: &str) -> Option<usize> {
     match word {
         "--old" => wish.setting.is_old = true,
+        "--beat-on" => wish.setting.beats_on = true,
         "--mend" => wish.setting.mends = true,
         "--trace" => wish.setting.traces = true,
         "--self-check" => wish.checks_itself = true,

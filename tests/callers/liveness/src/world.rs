@@ -6,7 +6,7 @@ use crate::clients::Caller;
 use crate::links::{Flight, Flights, Link};
 use crate::machine::Machine;
 use crate::mark::Mark;
-use crate::setting::{JOURNALS, Plan, Setting};
+use crate::setting::{HANGS, JOURNALS, Plan, Setting};
 use crate::timer::{SUSPECT, Timer};
 use replica_clock::{Due, Sign, sign_of};
 use std::alloc::{AllocError, Global};
@@ -75,6 +75,7 @@ impl World {
         world.agenda.put(first, What::Fault)?;
         world.agenda.put(setting.faults_time, What::Heal)?;
         world.give_journals()?;
+        world.give_hangs(seed)?;
         Ok(world)
     }
 
@@ -137,6 +138,8 @@ impl World {
             speed,
             offset,
             busy_until: 0,
+            hung: None,
+            beat: None,
             ask_turn: 0,
             ask_at: 0,
             compared: 0,
@@ -160,6 +163,19 @@ impl World {
         for _ in 0..self.power.between(1, 3) {
             let time = self.power.below(self.setting.faults_time);
             self.agenda.put(time, What::PowerCut)?;
+        }
+        Ok(())
+    }
+
+    /// In a third of the runs up to three disks hang. What says when stands by itself, so that other lives of a seed are as they were.
+    fn give_hangs(&mut self, seed: u64) -> Result<(), AllocError> {
+        let mut hangs = Chance::new(seed ^ 0x6861_6e67_2064_6973);
+        if self.setting.kinds & HANGS == 0 || self.setting.kinds != HANGS && hangs.hits(667) {
+            return Ok(());
+        }
+        for _ in 0..hangs.between(1, 3) {
+            let time = hangs.below(self.setting.faults_time);
+            self.agenda.put(time, What::Hang)?;
         }
         Ok(())
     }
@@ -216,6 +232,8 @@ impl World {
             What::Restart { machine, life } => self.on_restart(machine, life),
             What::Fault => self.on_fault(),
             What::PowerCut => self.on_power_cut(),
+            What::Hang => self.on_hang(),
+            What::Again { machine, life } => self.on_again(machine, life),
             What::Calm { turn } => {
                 if turn == self.slow_turn {
                     self.slow_delay = 0;
