@@ -18,6 +18,7 @@ pub struct Queues {
     silent: Turns,
     inside: Turns,
     unsent: Turns,
+    leaving: Turns,
 }
 
 /// The place that has stood longest in a queue.
@@ -40,6 +41,7 @@ impl Queues {
             silent: BTreeMap::new(alloc),
             inside: BTreeMap::new(alloc),
             unsent: BTreeMap::new(alloc),
+            leaving: BTreeMap::new(alloc),
         }
     }
 
@@ -53,6 +55,7 @@ impl Queues {
             Queue::Silent => self.silent.insert(turn, place)?,
             Queue::Inside => self.inside.insert(turn, place)?,
             Queue::Unsent => self.unsent.insert(turn, place)?,
+            Queue::Leaving => self.leaving.insert(turn, place)?,
         };
         Ok(())
     }
@@ -65,6 +68,7 @@ impl Queues {
             Queue::Silent => self.silent.remove(&turn),
             Queue::Inside => self.inside.remove(&turn),
             Queue::Unsent => self.unsent.remove(&turn),
+            Queue::Leaving => self.leaving.remove(&turn),
         };
     }
 
@@ -77,6 +81,7 @@ impl Queues {
             Queue::Silent => first_of(&self.silent),
             Queue::Inside => first_of(&self.inside),
             Queue::Unsent => first_of(&self.unsent),
+            Queue::Leaving => first_of(&self.leaving),
         }
     }
 }

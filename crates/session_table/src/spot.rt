@@ -9,6 +9,8 @@ pub enum Queue {
     Inside,
     /// Those that wait for the client to take an answer.
     Unsent,
+    /// Those that are over, and whose client may still read.
+    Leaving,
 }
 
 /// Where a place stands.

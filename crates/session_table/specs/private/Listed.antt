@@ -5,7 +5,7 @@ use Rattle.std.specs.Ordering.{nat_cmp}
 use Rattle.session_table.specs.Places.{IsIn}
 use Rattle.session_table.specs.declared.queues.Queues.{Queues}
 use Rattle.session_table.specs.declared.spot.Queue.{Queue}
-use Rattle.session_table.specs.declared.spot.Queue.TheVariants.{Silent, Inside, Unsent}
+use Rattle.session_table.specs.declared.spot.Queue.TheVariants.{Silent, Inside, Unsent, Leaving}
 use Rattle.session_table.specs.declared.spot.Spot.{Spot}
 
 -- the place that has stood in this queue since this turn
@@ -13,12 +13,14 @@ abbrev pub place_at : Queues → Queue → ℕ → Option ℕ
 place_at queues Silent turn = get nat_cmp queues.silent turn
 place_at queues Inside turn = get nat_cmp queues.inside turn
 place_at queues Unsent turn = get nat_cmp queues.unsent turn
+place_at queues Leaving turn = get nat_cmp queues.leaving turn
 
 -- whether two queues are one
 abbrev pub is_queue : Queue → Queue → Bool
 is_queue Silent Silent = true
 is_queue Inside Inside = true
 is_queue Unsent Unsent = true
+is_queue Leaving Leaving = true
 is_queue a b = false
 
 -- this place stands at a turn, and none at an earlier one

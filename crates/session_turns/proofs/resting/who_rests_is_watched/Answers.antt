@@ -1,0 +1,5 @@
+use Rattle.session_turns.proofs.Watched.{law}
+use Rattle.session_turns.proofs.resting.who_rests_is_watched.Goals as goal
+
+pub returns : goal.returns
+returns c = law
