@@ -24,24 +24,29 @@ fn is_want(error: &io::Error) -> bool {
 }
 
 impl<'a, R: Wait + Clock, T: Tells> SessionPool<'a, R, T> {
-    /// Lets the session go that was silent for longest.
-    fn evict(&self, why: Away) -> bool {
-        let longest = {
-            let mut table = self.table.lock(self.rt);
-            match table.places.longest(Queue::Silent) {
-                Some(pooled) => {
-                    let place = pooled.place;
-                    table.places.wake(place)
-                }
-                None => None,
+    /// The session that has waited longest of a queue, which waits no more.
+    fn wake_longest(&self, queue: Queue) -> Option<PooledSession> {
+        let mut table = self.table.lock(self.rt);
+        match table.places.longest(queue) {
+            Some(pooled) => {
+                let place = pooled.place;
+                table.places.wake(place)
             }
-        };
-        let Some(pooled) = longest else {
+            None => None,
+        }
+    }
+
+    /// Lets a session go: one that is over, else the one that was silent for longest.
+    fn evict(&self, why: Away) -> bool {
+        if let Some(pooled) = self.wake_longest(Queue::Leaving) {
+            self.close(pooled);
+            return true;
+        }
+        let Some(pooled) = self.wake_longest(Queue::Silent) else {
             return false;
         };
-        let (place, number) = (pooled.place, pooled.number);
-        drop(pooled);
-        self.table.lock(self.rt).places.free(place);
+        let number = pooled.number;
+        self.close(pooled);
         self.teller.let_go(number, why);
         true
     }

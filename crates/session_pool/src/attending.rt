@@ -12,6 +12,7 @@ use crate::pooled::{Heard, PooledSession, Then};
 use crate::tells::Tells;
 use client_link::{Config, Directory, Due};
 use session_table::Queue;
+use session_turns::{After, Seen, follows};
 use std::sync::Wait;
 use std::sync::atomic::Ordering;
 use std::time::{Clock, Duration, Instant};
@@ -37,6 +38,17 @@ const SOON_HEARD: u64 = 1_000;
 /// After how many messages a thread that stays with a session looks whether others are ready.
 const TURNS: u32 = 16;
 
+/// A stay of a thread with a session.
+#[derive(Drop)]
+struct Stay {
+    /// When it began, in microseconds since the pool did.
+    begun: u64,
+    /// For how many messages the thread has waited since it last looked whether others are ready.
+    turns: u32,
+    /// Whether it ends with the message that was answered last, since others are ready.
+    is_over: bool,
+}
+
 /// Whether less than this many microseconds have gone by.
 fn is_within<R: Clock>(rt: &R, since: Instant, limit: u64) -> bool {
     match Instant::now(rt) {
@@ -46,27 +58,60 @@ fn is_within<R: Clock>(rt: &R, since: Instant, limit: u64) -> bool {
 }
 
 impl<'a, R: Wait + Clock, T: Tells> SessionPool<'a, R, T> {
-    /// Answers the next message, unless it may be an update, or the client has to take first what it was answered. Whether it did.
+    /// What a thread does behind a message of its stay.
+    fn what_follows(&self, stay: &Stay) -> After {
+        let seen = Seen {
+            ready: self.queued.load(Ordering::SeqCst),
+            is_led: self.is_led.load(Ordering::SeqCst),
+            looked: self.looked.load(Ordering::SeqCst),
+        };
+        follows(seen, self.micros(), stay.begun)
+    }
+
+    /// Behind a message: looks which sockets are ready where that is due, and ends the stay where others are.
+    fn look_around(&self, stay: &mut Stay) {
+        let mut after = self.what_follows(stay);
+        if after == After::Looks {
+            self.look();
+            after = self.what_follows(stay);
+        }
+        if after == After::Ends {
+            stay.is_over = true;
+        }
+    }
+
+    /// Answers the next message, unless the stay is over, it may be an update, or the client has to take first what it was answered. Whether it
+    /// did.
     fn answer_next<D: Directory>(
         &self,
         pooled: &mut PooledSession,
         config: &Config,
         directory: &mut D,
+        stay: &mut Stay,
     ) -> bool
         ensures same { IsSame pooled.old pooled.new }
         ensures answered { OnTrue result (AnswersNext D.allows (config_view config.now) (talk pooled.old) (talk pooled.new)
             directory.old directory.new) }
         ensures left { OnFalse result ((talk pooled.new ≡ talk pooled.old) × (directory.new ≡ directory.old)) }
     {
+        if stay.is_over {
+            return false;
+        }
         if pooled.conversation.due() != Due::Other || pooled.conversation.unsent().len() >= UNSENT {
             return false;
         }
         self.answer_and_tell(pooled, config, directory);
+        self.look_around(stay);
         true
     }
 
-    /// Answers whole messages that are no updates, at most 16, and while the client takes what it is answered.
-    fn answer_some<D: Directory>(&self, pooled: &mut PooledSession, directory: &mut D)
+    /// Answers whole messages that are no updates, at most 16, while the stay lasts and the client takes what it is answered.
+    fn answer_some<D: Directory>(
+        &self,
+        pooled: &mut PooledSession,
+        directory: &mut D,
+        stay: &mut Stay,
+    )
         ensures same { IsSame pooled.old pooled.new }
         ensures answers { AnswersSome D.allows (config_of (config_view self.now.config) pooled.old.number) (talk pooled.old)
             (talk pooled.new) directory.old directory.new 16 }
@@ -76,32 +121,37 @@ impl<'a, R: Wait + Clock, T: Tells> SessionPool<'a, R, T> {
             ..self.config
         };
         for _count in 0..MESSAGES {
-            if !self.answer_next(pooled, &config, directory) {
+            if !self.answer_next(pooled, &config, directory, stay) {
                 return;
             }
         }
     }
 
     /// Answers some messages, and writes what is unsent; what becomes of the session then.
-    fn sit_once<D: Directory>(&self, pooled: &mut PooledSession, directory: &mut D) -> Then
+    fn sit_once<D: Directory>(
+        &self,
+        pooled: &mut PooledSession,
+        directory: &mut D,
+        stay: &mut Stay,
+    ) -> Then
         ensures same { IsSame pooled.old pooled.new }
         ensures sitting { Sitting D.allows (config_of (config_view self.now.config) pooled.old.number) (talk pooled.old)
             (talk pooled.new) directory.old directory.new }
         ensures becomes { Becomes (talk pooled.new) result }
     {
-        self.answer_some(pooled, directory);
+        self.answer_some(pooled, directory, stay);
         pooled.say(self.door.limits().write)
     }
 
     /// Whether the thread may wait for the next message of its session: where that comes soon, a seat is left to lead, and, each 16th time,
     /// no other session is ready and the door is open.
-    fn may_linger(&self, pooled: &PooledSession, turns: &mut u32) -> bool {
+    fn may_linger(&self, pooled: &PooledSession, stay: &mut Stay) -> bool {
         if !pooled.is_quick {
             return false;
         }
-        *turns = turns.saturating_add(1);
-        if *turns >= TURNS {
-            *turns = 0;
+        stay.turns = stay.turns.saturating_add(1);
+        if stay.turns >= TURNS {
+            stay.turns = 0;
             if self.queued.load(Ordering::SeqCst) > 0 || self.door.is_closed() {
                 return false;
             }
@@ -128,27 +178,30 @@ impl<'a, R: Wait + Clock, T: Tells> SessionPool<'a, R, T> {
         heard
     }
 
-    /// Reads a session's socket once, where that is ready or the thread may wait for it.
+    /// Reads a session's socket once, where the stay lasts and that is ready, or the thread may wait for it.
     fn hear_on(
         &self,
         pooled: &mut PooledSession,
         buffer: &mut [u8],
         is_ready: bool,
-        turns: &mut u32,
+        stay: &mut Stay,
     ) -> Heard
         ensures same { IsSame pooled.old pooled.new }
         ensures heard { HasHeard None None (talk pooled.old) buffer.new (talk pooled.new) result }
     {
+        if stay.is_over {
+            return Heard::Nothing;
+        }
         if is_ready {
             pooled.hear(buffer)
-        } else if self.may_linger(pooled, turns) {
+        } else if self.may_linger(pooled, stay) {
             self.linger(pooled, buffer)
         } else {
             Heard::Nothing
         }
     }
 
-    /// Serves a session for as long as its messages come one soon after the other, 256 sittings at most.
+    /// Serves a session for as long as its messages come one soon after the other, 256 sittings at most, and a millisecond where others are ready.
     fn attend<D: Directory>(
         &self,
         pooled: &mut PooledSession,
@@ -159,15 +212,19 @@ impl<'a, R: Wait + Clock, T: Tells> SessionPool<'a, R, T> {
         ensures attends { Attends D.allows (config_of (config_view self.now.config) pooled.old.number) (talk pooled.old)
             (talk pooled.new) directory.old directory.new result }
     {
-        let mut turns = 0u32;
+        let mut stay = Stay {
+            begun: self.micros(),
+            turns: 0,
+            is_over: false,
+        };
         let mut is_ready = pooled.is_silent();
-        let mut then = self.sit_once(pooled, directory);
+        let mut then = self.sit_once(pooled, directory, &mut stay);
         for _sitting in 1..SITTINGS {
             let Then::Listens = then else {
                 return then;
             };
-            match self.hear_on(pooled, buffer, is_ready, &mut turns) {
-                Heard::Octets => then = self.sit_once(pooled, directory),
+            match self.hear_on(pooled, buffer, is_ready, &mut stay) {
+                Heard::Octets => then = self.sit_once(pooled, directory, &mut stay),
                 Heard::Nothing => return Then::Listens,
                 Heard::Ends(end) => return Then::Ends(end),
             }
@@ -186,7 +243,7 @@ impl<'a, R: Wait + Clock, T: Tells> SessionPool<'a, R, T> {
             Then::Updates => self.queue_update(pooled),
             Then::Queues => self.queue(pooled),
             Then::Waits => self.park(pooled, Queue::Unsent),
-            Then::Ends(end) => self.end(pooled, end),
+            Then::Ends(end) => self.finish(pooled, end),
         }
     }
 

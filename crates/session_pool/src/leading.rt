@@ -1,5 +1,6 @@
 //! Seats that take turns: of those that are free one waits for all sessions that wait. Sockets that are ready come in; sessions go out, to
 //! whoever is free. What is done with a session is not here.
+use crate::leaving::FAREWELL;
 use crate::place_state::Turn;
 use crate::pool::{SessionPool, Watch};
 use crate::pooled::PooledSession;
@@ -10,6 +11,7 @@ use mio::event::Event;
 use mio::unix::SourceFd;
 use mio::{Interest, Token};
 use session_table::Queue;
+use session_turns::{Act, Call, Was};
 use std::os::fd::AsRawFd;
 use std::sync::Wait;
 use std::sync::atomic::Ordering;
@@ -18,8 +20,16 @@ use std::time::{Clock, Duration, Instant};
 /// How long the leader waits at most, in milliseconds.
 const LONGEST: u64 = 1_000;
 
-/// How many sessions are taken to be served, at most, before it is looked which further sockets are ready.
-const UNLOOKED: usize = 16;
+/// After which part of the time that a client may let an answer wait its session is asked whether that is over: it is longer for what was taken.
+const PART: u32 = 16;
+
+/// That part of a time.
+fn part_of(limit: Duration) -> Duration {
+    limit
+        .checked_div(PART)
+        .unwrap_or(limit)
+        .max(Duration::from_millis(1))
+}
 
 impl<'a, R: Wait + Clock, T: Tells> SessionPool<'a, R, T> {
     /// Puts a session where it waits, and has it watched. The leader takes the same lock before it looks at what is ready. One whose message isn't
@@ -45,7 +55,7 @@ impl<'a, R: Wait + Clock, T: Tells> SessionPool<'a, R, T> {
     }
 
     /// Puts a session at its place and has it watched, under one lock. It comes back where that can't be done.
-    fn put_at_place(
+    pub fn put_at_place(
         &self,
         pooled: PooledSession,
         queue: Queue,
@@ -66,20 +76,31 @@ impl<'a, R: Wait + Clock, T: Tells> SessionPool<'a, R, T> {
         }
     }
 
-    /// A session is over: its socket is closed before its place is free.
-    pub fn end(&self, pooled: PooledSession, end: SessionEnd) {
-        let (place, number) = (pooled.place, pooled.number);
-        drop(pooled);
-        self.table.lock(self.rt).places.free(place);
-        self.teller.ended(number, end);
+    /// For how many microseconds the pool has been there; 0, where the clock can't be read.
+    pub fn micros(&self) -> u64 {
+        match Instant::now(self.rt) {
+            Ok(now) => {
+                let time = now.saturating_duration_since(self.start).as_micros();
+                u64::try_from(time).unwrap_or(u64::MAX)
+            }
+            Err(_) => 0,
+        }
     }
 
-    /// Calls a seat that waits for its turn, or, where only the leader is free, the leader.
-    fn call(&self, idle: usize, has_leader: bool) {
-        if idle > 0 {
-            self.turn.notify_one();
-        } else if has_leader {
-            let _ = self.waker.wake();
+    /// What seats that answer see of the table, without its lock.
+    fn show(&self, table: &Table) {
+        self.queued.store(table.places.ready(), Ordering::SeqCst);
+        self.is_led.store(table.lead.is_led(), Ordering::SeqCst);
+    }
+
+    /// Calls whom a thread has to call.
+    fn call(&self, call: Call) {
+        match call {
+            Call::Nobody => {}
+            Call::Seat => self.turn.notify_one(),
+            Call::Leader => {
+                let _ = self.waker.wake();
+            }
         }
     }
 
@@ -90,10 +111,10 @@ impl<'a, R: Wait + Clock, T: Tells> SessionPool<'a, R, T> {
             drop(table);
             return self.end(pooled, SessionEnd::NoMemory);
         }
-        self.queued.store(table.places.ready(), Ordering::SeqCst);
-        let (idle, has_leader) = (table.idle, table.has_leader);
+        let call = table.lead.line_up();
+        self.show(&table);
         drop(table);
-        self.call(idle, has_leader);
+        self.call(call);
     }
 
     /// Queues a session whose next message may be an update.
@@ -144,11 +165,14 @@ impl<'a, R: Wait + Clock, T: Tells> SessionPool<'a, R, T> {
         let mut table = self.table.lock(self.rt);
         for event in &watch.events {
             let place = event.token().0;
+            if self.drop_input(&mut table, place) {
+                continue;
+            }
             if !self.rouse(&mut table, place, now) {
                 self.note(&mut table, event, now);
             }
         }
-        self.queued.store(table.places.ready(), Ordering::SeqCst);
+        self.show(&table);
     }
 
     /// Ends the sessions that have waited for too long in a queue.
@@ -157,6 +181,46 @@ impl<'a, R: Wait + Clock, T: Tells> SessionPool<'a, R, T> {
             let overdue = self.table.lock(self.rt).places.overdue(queue, limit, now);
             match overdue {
                 Some(pooled) => self.end(pooled, end),
+                None => break,
+            }
+        }
+    }
+
+    /// Ends the sessions whose clients have let octets wait for too long. How long is too long, each session says for itself: it is asked again and
+    /// again, after a part of the limit.
+    fn expire_unsent(&self, limit: Duration, now: Instant) {
+        for _ in self.rt.forever() {
+            let mut table = self.table.lock(self.rt);
+            let Some(mut pooled) = table.places.overdue(Queue::Unsent, part_of(limit), now) else {
+                break;
+            };
+            let slow = pooled.wait_on(limit, now);
+            let ends = if slow {
+                Some((pooled, SessionEnd::WriteFailed))
+            } else {
+                match table.places.park(pooled, Queue::Unsent) {
+                    Ok(()) => None,
+                    Err(pooled) => Some((pooled, SessionEnd::NoMemory)),
+                }
+            };
+            drop(table);
+            if let Some((pooled, end)) = ends {
+                self.end(pooled, end);
+            }
+        }
+    }
+
+    /// Closes the sockets of sessions that were over for long enough.
+    fn close_overdue(&self, now: Instant) {
+        let limit = Duration::from_millis(FAREWELL);
+        for _ in self.rt.forever() {
+            let overdue = self
+                .table
+                .lock(self.rt)
+                .places
+                .overdue(Queue::Leaving, limit, now);
+            match overdue {
+                Some(pooled) => self.close(pooled),
                 None => break,
             }
         }
@@ -188,7 +252,16 @@ impl<'a, R: Wait + Clock, T: Tells> SessionPool<'a, R, T> {
             return Duration::from_secs(0);
         }
         most.min(table.places.time_left(Queue::Inside, limits.message, now))
-            .min(table.places.time_left(Queue::Unsent, limits.write, now))
+            .min(
+                table
+                    .places
+                    .time_left(Queue::Unsent, part_of(limits.write), now),
+            )
+            .min(
+                table
+                    .places
+                    .time_left(Queue::Leaving, Duration::from_millis(FAREWELL), now),
+            )
             .max(Duration::from_millis(1))
     }
 
@@ -200,64 +273,80 @@ impl<'a, R: Wait + Clock, T: Tells> SessionPool<'a, R, T> {
         let limits = self.door.limits();
         self.rouse_all(watch, now);
         self.expire(Queue::Inside, limits.message, now, SessionEnd::ReadFailed);
-        self.expire(Queue::Unsent, limits.write, now, SessionEnd::WriteFailed);
+        self.expire_unsent(limits.write, now);
+        self.close_overdue(now);
         self.leave_all(limits.message, now);
     }
 
-    /// Waits for sessions that are ready, queues them, and ends those that have waited for too long.
-    fn lead(&self) {
-        let limit = self.time_left();
+    /// Waits for sockets for so long, at most; queues sessions that are ready, and ends those that have waited for too long.
+    fn poll_sockets(&self, limit: Duration) {
         let mut watch = self.watch.lock(self.rt);
         let Watch { poll, events } = &mut *watch;
         let _ = poll.poll(events, Some(limit));
         self.attend_all(&*watch);
         drop(watch);
-        let mut table = self.table.lock(self.rt);
-        table.has_leader = false;
+        self.looked.store(self.micros(), Ordering::SeqCst);
         if self.door.is_closed() {
-            table.is_closed = true;
-            drop(table);
+            self.table.lock(self.rt).is_closed = true;
             self.turn.notify_all();
             self.work.notify_all();
         }
     }
 
-    /// A session that is ready, or none, where this thread is to lead first, or the pool is closed. Sessions that are ready don't keep it for long from
-    /// being looked at which others are.
-    fn take_ready(&self) -> Option<PooledSession> {
+    /// A look for a seat that serves a session begins, unless another seat leads.
+    fn begin_look(&self) -> bool {
+        let mut table = self.table.lock(self.rt);
+        let begins = table.lead.begin_look();
+        self.show(&table);
+        begins
+    }
+
+    /// It has ended. Whom the seat calls: others that came to rest meanwhile relied on it.
+    fn end_look(&self) -> Call {
+        let mut table = self.table.lock(self.rt);
+        let call = table.lead.end_look();
+        self.show(&table);
+        call
+    }
+
+    /// Looks which sockets are ready, unless another seat leads.
+    pub fn look(&self) {
+        if self.begin_look() {
+            self.poll_sockets(Duration::from_secs(0));
+            let call = self.end_look();
+            self.call(call);
+        }
+    }
+
+    /// A session that is ready, or none, where this seat is to wait for sockets first, or the pool is closed.
+    fn take_ready(&self, before: Was) -> Option<PooledSession> {
+        let mut was = before;
         let mut table = self.table.lock(self.rt);
         for _ in self.rt.forever() {
-            if table.is_closed || table.places.ready() > 0 || !table.has_leader {
-                break;
+            if table.is_closed {
+                return None;
             }
-            table.idle = table.idle.saturating_add(1);
-            table = self.turn.wait(self.rt, table);
-            table.idle = table.idle.saturating_sub(1);
+            let ready = table.places.ready();
+            let (act, call) = table.lead.free(was, ready);
+            match act {
+                Act::Rest => {
+                    table = self.turn.wait(self.rt, table);
+                    was = Was::Resting;
+                }
+                Act::Lead => {
+                    self.show(&table);
+                    return None;
+                }
+                Act::Serve => {
+                    let pooled = table.places.next_ready();
+                    self.show(&table);
+                    drop(table);
+                    self.call(call);
+                    return pooled;
+                }
+            }
         }
-        if table.is_closed {
-            return None;
-        }
-        let is_due = !table.has_leader && table.unlooked >= UNLOOKED;
-        let pooled = if is_due {
-            None
-        } else {
-            table.places.next_ready()
-        };
-        if pooled.is_none() {
-            table.has_leader = true;
-            table.unlooked = 0;
-            return None;
-        }
-        table.unlooked = table.unlooked.saturating_add(1);
-        let ready = table.places.ready();
-        self.queued.store(ready, Ordering::SeqCst);
-        let is_wanted = ready > 0 || !table.has_leader;
-        let (idle, has_leader) = (table.idle, table.has_leader);
-        drop(table);
-        if is_wanted {
-            self.call(idle, has_leader);
-        }
-        pooled
+        None
     }
 
     fn is_closed(&self) -> bool {
@@ -267,12 +356,14 @@ impl<'a, R: Wait + Clock, T: Tells> SessionPool<'a, R, T> {
     /// The next session that is ready; none, once the pool is closed. Of the seats that are free, one waits for all sessions.
     pub fn next(&self) -> Option<PooledSession> {
         let mut next = None;
+        let mut was = Was::Serving;
         for _ in self.rt.forever() {
-            next = self.take_ready();
+            next = self.take_ready(was);
             if next.is_some() || self.is_closed() {
                 break;
             }
-            self.lead();
+            self.poll_sockets(self.time_left());
+            was = Was::Leading;
         }
         next
     }

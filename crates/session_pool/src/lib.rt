@@ -12,13 +12,18 @@
 //! - *Staying.* A thread waits up to 5 ms for the next message of a session whose messages come within a millisecond. It
 //!   does so if a seat is left to lead and no other session is ready. A busy client then costs two system calls a message.
 //! - *Fairness.* 16 messages or 64 KiB of unsent octets are one sitting; then the session goes to the back of the queue.
-//!   After 16 of these the sockets are looked at again, although sessions are ready.
+//!   After 16 of these the sockets are looked at again, although sessions are ready. After each message a seat asks
+//!   `session_turns`: it looks itself where no seat leads and the last look is 1 ms old, and its stay ends after 1 ms
+//!   where other sessions are ready.
 //! - *Patience.* A message has to be whole within a limit after its first octet, which is looked at whenever its session is parked. No
 //!   session has more than 256 sittings in a row.
-//!   One whose client doesn't take its octets is written to once a sitting, and not read.
+//!   One whose client doesn't take its octets is written to once a sitting, and not read. It may let them wait for longer the
+//!   more it has taken: it is asked 16 times per limit.
+//! - *Leaving.* The socket of a session that ended with input unread is closed once its client has closed it, after a
+//!   second at most (`leaving`). What comes meanwhile is dropped by whoever leads.
 //! - *Updates* have threads of their own, each with a gate and a look that finds nothing (`NoReads`). The leader watches the
 //!   socket meanwhile, and tells the thread when the client has left.
-//! - *No room.* When the table is full, or descriptors are used up, the longest silent session goes (`arriving`).
+//! - *No room.* When the table is full, or descriptors are used up, a session that is over goes, else the longest silent one (`arriving`).
 //!
 //! Proved: a session hears what its socket gave, and has sent a front of what it had to send, in order (`PooledSession::hear`, `say`, `queue`). A
 //! seat answers at most 16 of its messages in a row, no update among them, and goes on with it only where no whole message is left over,
@@ -31,6 +36,7 @@ mod arriving;
 mod attending;
 mod binding;
 mod leading;
+mod leaving;
 mod limit;
 mod no_reads;
 mod place_state;

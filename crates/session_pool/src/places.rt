@@ -12,7 +12,7 @@ ghost use Rattle.session_pool.specs.declared.place_state.PlaceState.{PlaceState}
 use crate::place_state::{NoPlace, PlaceState, Turn};
 use crate::pooled::PooledSession;
 use crate::updaters::is_past;
-use session_table::{Book, Queue};
+use session_table::{Book, Queue, Spot};
 use std::alloc::{AllocError, Global};
 use std::collections::VecDeque;
 use std::os::fd::{AsRawFd, RawFd};
@@ -62,7 +62,7 @@ fn roused(pooled: &mut Option<PooledSession>, now: Instant) -> Option<(RawFd, Tu
 }
 
 impl Places {
-    ghost use Rattle.session_pool.specs.private.Tabling.{tabled, IsAt, IsFree, Claims, freed, Parks, LinesUp, Wakes, Sits, Works, WaitsLongest, Rouses, NoneOverdue, LeavesTime};
+    ghost use Rattle.session_pool.specs.private.Tabling.{tabled, IsAt, IsFree, Claims, freed, Parks, LinesUp, Wakes, Sits, Works, WaitsLongest, IsLeaving, Rouses, NoneOverdue, LeavesTime};
     ghost use Rattle.session_pool.specs.private.Posting.{IsPast};
 
     /// Places, all free. Room for sessions is made as they come.
@@ -227,6 +227,23 @@ impl Places {
         ensures none { IfNone result (NoneIn (tabled self.now).spots queue) }
     {
         let place = self.book.first(queue)?;
+        self.sessions[place].as_ref()
+    }
+
+    /// The session of a place that is over, and whose client may still read.
+    pub fn leaving(&self, place: usize) -> Option<&PooledSession>
+        ensures some { IfSome result (λ g. IsLeaving (tabled self.now) place g.now) }
+        ensures none { IfNone result ((turn : ℕ) → IsIn (tabled self.now).spots place Queue.Leaving turn → ⊥) }
+    {
+        let Some(
+            Spot::In {
+                queue: Queue::Leaving,
+                turn: _,
+            },
+        ) = self.book.spot(place)
+        else {
+            return None;
+        };
         self.sessions[place].as_ref()
     }
 

@@ -5,8 +5,9 @@ use mio::{Events, Poll, Registry, Token, Waker};
 use std::alloc::Global;
 use std::io;
 use std::net::Net;
-use std::sync::atomic::{AtomicBool, AtomicUsize};
+use std::sync::atomic::{AtomicBool, AtomicU64, AtomicUsize};
 use std::sync::{Condvar, Mutex};
+use std::time::{Clock, Instant};
 
 /// How many sockets are told as ready at once.
 const EVENTS: usize = 256;
@@ -56,9 +57,14 @@ pub struct SessionPool<'a, R, T> {
     pub lingering: AtomicUsize,
     /// How many seats may wait so: one is left to lead.
     pub most: usize,
+    /// Whether a seat waits for sockets or looks at them, and when one last looked, in microseconds since the pool began. Seats that answer read
+    /// this, and how many sessions are ready, without the table's lock.
+    pub is_led: AtomicBool,
+    pub looked: AtomicU64,
+    pub start: Instant,
 }
 
-impl<'a, R: Net, T> SessionPool<'a, R, T> {
+impl<'a, R: Net + Clock, T> SessionPool<'a, R, T> {
     /// A pool without sessions.
     pub fn new(
         rt: &'a R,
@@ -88,6 +94,9 @@ impl<'a, R: Net, T> SessionPool<'a, R, T> {
             queued: AtomicUsize::new(0),
             lingering: AtomicUsize::new(0),
             most: terms.seats.saturating_sub(1),
+            is_led: AtomicBool::new(false),
+            looked: AtomicU64::new(0),
+            start: Instant::now(rt)?,
         })
     }
 }

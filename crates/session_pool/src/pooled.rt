@@ -4,8 +4,9 @@ ghost use Rattle.client_link.specs.ldap_session.Conversing.{IsFresh};
 ghost use Rattle.client_link.specs.ldap_session.View.{conversation_view};
 ghost use Rattle.session_pool.specs.declared.place_state.Turn.{Turn};
 ghost use Rattle.session_pool.specs.Attending.{talk, due_next, IsSame, HasSent, Becomes};
-ghost use Rattle.session_pool.specs.private.Attending.{HasHeard, began_while, began_in, HasPaused, IsLate, SendsTo, HasToWrite, IsSlow, HasCause, WaitsFor, HasWaited, IsSilent, IsUpdateNext};
+ghost use Rattle.session_pool.specs.private.Attending.{HasHeard, began_while, began_in, HasPaused, IsLate, SendsTo, HasToWrite, IsSlow, HasCause, WaitsFor, HasWaited, Counts, IsSilent, IsUpdateNext};
 
+use crate::leaving::Dropped;
 use crate::place_state::Turn;
 use crate::updaters::is_past;
 use client_link::{Conversation, Due, SessionEnd, stretch};
@@ -13,7 +14,7 @@ use session_table::Queue;
 use std::alloc::Global;
 use std::io;
 use std::io::{ErrorKind, Read, Write};
-use std::net::TcpStream;
+use std::net::{Shutdown, TcpStream};
 use std::time::{Duration, Instant};
 
 /// How long a read or a write of a socket waits, in milliseconds: for so long a thread stays with a session whose next message may come at
@@ -88,6 +89,27 @@ fn hear_from<R: Read>(reader: &mut R, conversation: &mut Conversation, buffer: &
     }
 }
 
+/// Reads once, and drops what is read.
+fn drop_from<R: Read>(reader: &mut R, buffer: &mut [u8]) -> Dropped {
+    match reader.read(buffer) {
+        Ok(0) => Dropped::Over,
+        Ok(count) => {
+            if count < buffer.len() {
+                Dropped::All
+            } else {
+                Dropped::Much
+            }
+        }
+        Err(error) => {
+            if is_pause(error.kind()) {
+                Dropped::All
+            } else {
+                Dropped::Over
+            }
+        }
+    }
+}
+
 /// Writes once what is unsent, and tells how much of it the writer took: none, where its time was over.
 fn send_to<W: Write>(writer: &mut W, conversation: &mut Conversation) -> io::Result<usize>
     ensures ok { IfOk result (SendsTo (W.contents writer.old) (W.contents writer.new)
@@ -126,7 +148,7 @@ fn began_in(queue: Queue, began: Option<Instant>, now: Instant) -> Option<Instan
 {
     match queue {
         Queue::Inside => Some(began.unwrap_or(now)),
-        Queue::Silent | Queue::Unsent => None,
+        Queue::Silent | Queue::Unsent | Queue::Leaving => None,
     }
 }
 
@@ -217,12 +239,50 @@ impl PooledSession {
 
     /// It waits no more. Where it waited for its client to take an answer, that time counts.
     pub fn rouse(&mut self, now: Instant)
-        ensures { HasWaited self.old self.new }
+        ensures waited { HasWaited self.old self.new }
+        ensures counted { Counts self.old now self.new }
     {
         if self.is_stuck {
             let more = now.saturating_duration_since(self.since);
             self.waited = self.waited.saturating_add(more);
         }
+    }
+
+    /// It is over: its client is told that nothing more comes, its socket doesn't wait, and what its conversation kept is given back.
+    pub fn retire(&mut self, alloc: Global, now: Instant) -> io::Result<()>
+        ensures same { IsSame self.old self.new }
+    {
+        self.conversation = Conversation::new(alloc);
+        self.since = now;
+        self.stream.shutdown(Shutdown::Write)?;
+        self.stream.set_nonblocking(true)
+    }
+
+    /// Whether its client has sent what was not read. Its socket doesn't wait.
+    pub fn has_unread(&self) -> bool {
+        let mut buffer = [0u8; 1];
+        match self.stream.peek(&mut buffer) {
+            Ok(count) => count > 0,
+            Err(_) => false,
+        }
+    }
+
+    /// Reads once and drops what its client has sent. Its socket doesn't wait.
+    pub fn drop_input(&self, buffer: &mut [u8]) -> Dropped {
+        let mut stream = &self.stream;
+        drop_from(&mut stream, buffer)
+    }
+
+    /// It waits on for its client to take an answer; whether that has lasted for too long by now.
+    pub fn wait_on(&mut self, limit: Duration, now: Instant) -> bool
+        ensures waited { HasWaited self.old self.new }
+        ensures counted { Counts self.old now self.new }
+        ensures since { self.new.since ≡ now }
+        ensures slow { IsTrue result ↔ IsSlow self.new limit }
+    {
+        self.rouse(now);
+        self.since = now;
+        self.is_slow(limit)
     }
 
     /// Writes once what is unsent, as far as the client takes it.

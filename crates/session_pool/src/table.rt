@@ -1,6 +1,7 @@
 //! What the threads of a pool share under one lock: the sessions that no thread serves, the updates that wait in threads, and whose turn it is.
 use crate::places::Places;
 use crate::updaters::Updaters;
+use session_turns::Lead;
 use std::alloc::{AllocError, Global};
 
 /// The sessions of a pool.
@@ -8,11 +9,8 @@ use std::alloc::{AllocError, Global};
 pub struct Table {
     pub places: Places,
     pub updaters: Updaters,
-    /// How many seats wait for their turn.
-    pub idle: usize,
-    pub has_leader: bool,
-    /// How many sessions were taken to be served since it was last looked which sockets are ready.
-    pub unlooked: usize,
+    /// Which seats rest, and whether one waits for sockets or looks at them.
+    pub lead: Lead,
     pub is_closed: bool,
 }
 
@@ -22,9 +20,7 @@ impl Table {
         Ok(Table {
             places: Places::new(alloc, size)?,
             updaters: Updaters::new(alloc, threads)?,
-            idle: 0,
-            has_leader: false,
-            unlooked: 0,
+            lead: Lead::new(),
             is_closed: false,
         })
     }

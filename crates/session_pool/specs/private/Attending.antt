@@ -1,8 +1,9 @@
 -- What becomes of a session in the hands of a thread: what contracts that aren't public say of it.
 -- What public contracts say is in specs/Attending.
-use Rattle.std.specs.Prelude.{◌≡◌, ◌⊎◌, ◌≤◌, ◌↔◌, ◌+◌, ◌*◌, ◌/◌, min, true, ℤ, ℕ, List, [], take, length, false, Option, Some, None, unwrap_or}
+use Rattle.std.specs.Prelude.{◌≡◌, ◌⊎◌, ◌≤◌, ◌↔◌, ◌+◌, ◌-◌, ◌*◌, ◌/◌, min, true, ℤ, ℕ, List, [], take, length, false, Option, Some, None, unwrap_or}
 use Rattle.std.specs.Io.KnownBytes.{Appends, Consumes}
 use Rattle.std.specs.Duration.{as_nanos, max_nanos}
+use Rattle.std.specs.Time.{instant_nanos}
 use Rattle.std.specs.declared.time.Duration.{Duration}
 use Rattle.std.specs.declared.time.Instant.{Instant}
 use Rattle.client_link.specs.ldap_session.View.{SessionValue, ConversationValue}
@@ -11,7 +12,7 @@ use Rattle.client_link.specs.ldap_session.declared.due.Due.{Due}
 use Rattle.client_link.specs.ldap_session.declared.due.Due.TheVariants.{Nothing as DueNothing, Update as DueUpdate, Other as DueOther}
 use Rattle.client_link.specs.ldap_session.declared.end.SessionEnd.TheVariants.{WriteFailed}
 use Rattle.session_table.specs.declared.spot.Queue.{Queue}
-use Rattle.session_table.specs.declared.spot.Queue.TheVariants.{Silent, Inside, Unsent}
+use Rattle.session_table.specs.declared.spot.Queue.TheVariants.{Silent, Inside, Unsent, Leaving}
 use Rattle.session_pool.specs.private.Posting.{IsPast}
 use Rattle.session_pool.specs.declared.place_state.Turn.{Turn}
 use Rattle.session_pool.specs.declared.place_state.Turn.TheVariants.{Update}
@@ -75,6 +76,7 @@ abbrev pub began_in : Queue → Option Instant → Instant → Option Instant
 began_in Inside began now = Some (unwrap_or began now)
 began_in Silent began now = None
 began_in Unsent began now = None
+began_in Leaving began now = None
 
 -- it waits in a queue from now on, and nothing of what was heard and said has changed
 pub record HasPaused (g : PooledSession) (queue : Queue) (now : Instant) (h : PooledSession) : Type 0 where
@@ -95,6 +97,10 @@ pub record HasWaited (g h : PooledSession) : Type 0 where
   pub began : h.began ≡ g.began
   pub kept : talk h ≡ talk g
   pub stuck : h.is_stuck ≡ g.is_stuck
+
+-- how long its client has let octets wait: so far, and since it waits now
+abbrev pub Counts : PooledSession → Instant → PooledSession → Type 0
+Counts g now h = g.is_stuck ≡ true → as_nanos h.waited ≡ min (as_nanos g.waited + (instant_nanos now - instant_nanos g.since)) max_nanos
 
 -- and its next message is for whom it waits now
 pub record HasRoused (g h : PooledSession) (turn : Turn) : Type 0 where

@@ -5,8 +5,9 @@ use Rattle.std.specs.Duration.{as_nanos}
 use Rattle.std.specs.Time.{instant_nanos}
 use Rattle.std.specs.declared.time.Duration.{Duration}
 use Rattle.std.specs.declared.time.Instant.{Instant}
-use Rattle.session_table.specs.Places.{HasPut, HasTaken, IsLongest, NoneIn}
+use Rattle.session_table.specs.Places.{IsIn, HasPut, HasTaken, IsLongest, NoneIn}
 use Rattle.session_table.specs.declared.spot.Queue.{Queue}
+use Rattle.session_table.specs.declared.spot.Queue.TheVariants.{Leaving}
 use Rattle.session_table.specs.declared.spot.Spot.{Spot}
 use Rattle.session_pool.specs.private.Attending.{HasRoused}
 use Rattle.session_pool.specs.private.Posting.{IsPast}
@@ -111,6 +112,12 @@ pub record WaitsLongest (t : Tabled) (queue : Queue) (g : PooledSession) : Type 
   pub place : ℕ
   pub home : IsHome t g place
   pub longest : IsLongest t.spots queue place
+
+-- the session of a place is over, and its client may still read
+pub record IsLeaving (t : Tabled) (p : ℕ) (g : PooledSession) : Type 0 where
+  pub turn : ℕ
+  pub home : IsHome t g p
+  pub is_in : IsIn t.spots p Leaving turn
 
 -- the session of a place that waited for its client waits for its turn behind all others: for a thread that updates, where its next message may
 -- be an update

@@ -9,5 +9,5 @@ returns-in-Some c =
       turn = c.turn.result;
       after_is = refl;
       told_is = refl;
-      roused = record { waited = c.rouse.ensures; turn_is = c.turn.ensures };
+      roused = record { waited = c.rouse.ensures.waited; turn_is = c.turn.ensures };
     })
