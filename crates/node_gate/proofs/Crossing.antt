@@ -10,6 +10,7 @@ use Rattle.std.proofs.string.String.TheSendSync as string
 use Rattle.std.proofs.sync.Condvar.TheSendSync as condvar
 use Rattle.std.proofs.sync.Mutex.TheSendSync as mutex
 use Rattle.node_gate.proofs.inbox.Inbox.TheSendSync as inbox
+use Rattle.node_gate.proofs.moved.Moved.TheSendSync as moved
 use Rattle.node_gate.proofs.running.Call.TheSendSync as call
 use Rattle.node_gate.proofs.standing.LastStanding.TheSendSync as standing
 use Rattle.dir_node.proofs.Crossing.{node_send}
@@ -22,6 +23,7 @@ pub use Rattle.dir_seats.proofs.Crossing.{seat_send}
 use Rattle.node_gate.specs.declared.identity.Identity as Identity
 use Rattle.node_gate.specs.contracts.published.Here as Here
 use Rattle.node_gate.specs.contracts.published.PublishedNode as PublishedNode
+use Rattle.node_gate.specs.contracts.beats.LastBeat as LastBeat
 use Rattle.node_gate.specs.contracts.held.Held as Held
 use Rattle.node_gate.specs.contracts.running.Running as Running
 use Rattle.node_gate.specs.contracts.gate.NodeGate as NodeGate
@@ -38,9 +40,15 @@ module _ (D J I : RattleType) (g : Device.Ghosts D.Denot) (h : JournalDevice.Gho
       (struct_send (Declared.shape (Held.the_type a R D J I g h i))
       (published_field_send a R y s t, (search (crosses, sendable) depth 40, (plain_send _ _ _ _ _, (plain_send _ _ _ _ _, (phantom.the_field_send I, tt))))))
 
+  last_beat_send : IsSend (LastBeat.the_row I i)
+  last_beat_send =
+      recorded_send (LastBeat.the_field I i).row _ _ (LastBeat.the_type I i).to_one
+      (struct_send (Declared.shape (LastBeat.the_type I i)) (search (send.the_send, op.the_send, maps_cross, crosses, sendable) depth 60 fits 20000, (phantom.the_field_send I, tt)))
+
   pub running_sync : (a : NamedLft) (R : RattleType) → IsSync R → IsSend D → IsSend J → IsSync (Running.the_row a R D J I g h i)
   running_sync a R y s t =
       let held : IsSend (Held.the_row a R D J I g h i) = held_send a R y s t in
+      let beat : IsSend (LastBeat.the_row I i) = last_beat_send in
       recorded_sync (Running.the_field a R D J I g h i).row _ _ (Running.the_type a R D J I g h i).to_one
       (struct_sync (Declared.shape (Running.the_type a R D J I g h i)) (
         search (held, mutex.the_sync) depth 20,
@@ -52,7 +60,7 @@ module _ (D J I : RattleType) (g : Device.Ghosts D.Denot) (h : JournalDevice.Gho
               condvar.the_field_sync,
               (
                 search (inbox.the_sync, sendable) depth 20,
-                (search (send.the_send, op.the_send, mutex.the_sync, maps_cross, crosses, sendable) depth 60 fits 20000, (search (call.the_send, mutex.the_sync) depth 20, (condvar.the_field_sync, tt))),
+                (search (beat, mutex.the_sync, maps_cross, crosses, sendable) depth 60 fits 20000, (search (call.the_send, mutex.the_sync) depth 20, (condvar.the_field_sync, tt))),
               ),
             ),
           ),
@@ -73,7 +81,16 @@ module _ (D J I : RattleType) (g : Device.Ghosts D.Denot) (h : JournalDevice.Gho
               search (crosses, sendable, string.the_sync) depth 20,
               (
                 search (crosses, sendable) depth 20,
-                (plain_send _ _ _ _ _, (search (crosses, sendable) depth 20, (search (phantom.the_field_send) depth 5, tt))),
+                (
+                  plain_send _ _ _ _ _,
+                  (
+                    search (crosses, sendable) depth 20,
+                    (
+                      search (moved.the_field_send, moved.the_send, crosses, sendable) depth 20,
+                      (search (crosses, sendable) depth 20, (search (phantom.the_field_send) depth 5, tt)),
+                    ),
+                  ),
+                ),
               ),
             ),
           ),

@@ -1,6 +1,6 @@
 -- An event at a node: what was executed before is a beginning of what is after. The clauses of the call flow in; a beginning flows out. What a publisher
 -- makes of it is not here.
-use Rattle.std.proofs.Common.{◌≡◌, List, Bool, Result, Ok, Err, IfOk, IsErrOf, true, refl, ap}
+use Rattle.std.proofs.Common.{◌≡◌, List, Bool, Result, Ok, Err, IfErr, IfOk, IsErrOf, true, refl, ap, subst, sym}
 use Rattle.dir_node.specs.vr_state.Words.{LogEntry}
 use Rattle.dir_node.specs.dir_store.ldap_op.Values.{OpValue}
 use Rattle.dir_node.specs.declared.error.NodeError.{NodeError}
@@ -9,6 +9,7 @@ use Rattle.dir_node.specs.log_journal.declared.error.NoteError.{NoteError}
 use Rattle.dir_node.specs.view_store.declared.fault.ViewStoreError.{ViewStoreError}
 use Rattle.dir_node.specs.NodeState.{CatchesUp, IsSameNode, NodeValue}
 use Rattle.dir_seats.specs.Lists.{IsBeginning}
+use Rattle.node_gate.specs.Moved.{IsLeftBy}
 use Rattle.node_gate.proofs.Given.{grown, stayed}
 
 pub begins : {D J H : Type 0} (behind : H → Bool) (old new : NodeValue D J) (due : List (LogEntry OpValue)) (r : Result H NodeError)
@@ -25,3 +26,23 @@ begins behind old new due (Err (error.Store e)) p same no-memory halted stops lo
 begins behind old new due (Err (error.Journal e)) p same no-memory halted stops logs foreign stale = stayed old.executed new.executed (logs e refl).1
 begins behind old new due (Err error.ForeignJournal) p same no-memory halted stops logs foreign stale = absurd (foreign refl)
 begins behind old new due (Err error.StaleJournal) p same no-memory halted stops logs foreign stale = absurd (stale refl)
+
+-- a node that is as it was is so but for its journal
+pub unchanged : {D J : Type 0} (old new : NodeValue D J) → new ≡ old → new ≡ record old { journal = new.journal }
+unchanged {D} {J} old new e = subst (λ (n : NodeValue D J). n ≡ record old { journal = n.journal }) (sym e) refl
+
+-- what each refusal leaves of the node
+pub left : {D J H : Type 0} (old new : NodeValue D J) (r : Result H NodeError)
+    → (IsErrOf r error.NoMemory → new ≡ record old { journal = new.journal })
+    → (IsErrOf r error.Halted → old.is_halted ≡ true) → (IsErrOf r error.Halted → new ≡ old)
+    → ((e : ViewStoreError) → IsErrOf r (error.Store e) → (new.is_halted ≡ true) × (new.executed ≡ old.executed))
+    → ((e : NoteError) → IsErrOf r (error.Journal e) → (new.is_halted ≡ true) × (new.executed ≡ old.executed) × (new.device ≡ old.device))
+    → (IsErrOf r error.ForeignJournal → ⊥) → (IsErrOf r error.StaleJournal → ⊥)
+    → IfErr r (λ e. IsLeftBy e old new)
+left old new (Ok h) no-memory stopped halted stops logs foreign stale = tt
+left old new (Err error.NoMemory) no-memory stopped halted stops logs foreign stale = no-memory refl
+left old new (Err error.Halted) no-memory stopped halted stops logs foreign stale = (stopped refl, halted refl)
+left old new (Err (error.Store e)) no-memory stopped halted stops logs foreign stale = stops e refl
+left old new (Err (error.Journal e)) no-memory stopped halted stops logs foreign stale = logs e refl
+left old new (Err error.ForeignJournal) no-memory stopped halted stops logs foreign stale = absurd (foreign refl)
+left old new (Err error.StaleJournal) no-memory stopped halted stops logs foreign stale = absurd (stale refl)

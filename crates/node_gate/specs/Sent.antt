@@ -1,20 +1,12 @@
--- What is handed to the way to the other replicas. A node, an event and that way flow in; what the way has taken flows out. What is lost on it is not
--- said here.
+-- What is handed to the way to the other replicas. Messages and that way flow in; what the way has taken flows out. What is lost on it is not said
+-- here.
 use Rattle.std.specs.Prelude.{ℕ, List, [], ◌∷◌}
 use Rattle.dir_node.specs.dir_store.ldap_op.Values.{OpValue}
 use Rattle.dir_node.specs.vr_state.declared.message.PeerMessage.{PeerMessage}
 use Rattle.dir_node.specs.vr_state.declared.message.Send.{Send}
-use Rattle.dir_node.specs.vr_state.declared.event.Event.{Event}
-use Rattle.dir_node.specs.vr_state.Step.{step}
-use Rattle.dir_node.specs.NodeState.{NodeValue}
 
 -- A way to the other replicas took these messages, one after the other, and nothing else.
 pub data TakesAll {P : Type 0} (takes : P → ℕ → PeerMessage OpValue → P → Type 0) : P → List (Send OpValue) → P → Type 0 where
   none : {p : P} → TakesAll takes p [] p
   next : {p q r : P} {sends : List (Send OpValue)} (send : Send OpValue) → takes p send.to send.message q → TakesAll takes q sends r →
       TakesAll takes p (send ∷ sends) r
-
--- It took what the step of some node at an event sends, in the step's order.
-pub record TakesStep {P : Type 0} (D J : Type 0) (takes : P → ℕ → PeerMessage OpValue → P → Type 0) (event : Event OpValue) (before after : P) : Type 0 where
-  pub node : NodeValue D J
-  pub taken : TakesAll takes before (step node.count node.index node.replica event).sends after

@@ -1,15 +1,13 @@
 -- How a replica starts: for the first time in its life, or again from the pair that its device holds.
-use Rattle.std.specs.Prelude.{◌≡◌, ℕ, Bool, true, false, List, Option, Some, None}
+use Rattle.std.specs.Prelude.{ℕ, Bool, true, false, Option, Some, None}
 use Rattle.dir_node.specs.dir_store.ldap_op.Values.{OpValue}
 use Rattle.dir_node.specs.view_store.Slots.{Finding}
 use Rattle.dir_node.specs.view_store.declared.slot.Pair.{Pair}
 use Rattle.dir_node.specs.vr_state.Outcome.{Outcome, idle}
 use Rattle.dir_node.specs.vr_state.State.{State, first, recovering}
 use Rattle.dir_node.specs.vr_recover.Rules.{recovers}
-use Rattle.dir_node.specs.vr_state.declared.message.Outputs.{Outputs}
 use Rattle.dir_node.specs.declared.config.NodeConfig.{NodeConfig}
-use Rattle.dir_node.specs.NodeState.{IsOwn, NodeValue, started_pair}
-use Rattle.dir_node.specs.Restarting.{IsRestarted}
+use Rattle.dir_node.specs.NodeState.{IsOwn, NodeValue, nothing_executed, started_pair}
 
 -- the view and the restarts of a start: view 0 and one restart, or the view that was found and one restart more
 abbrev pub pair_of_start : Bool → Finding → Pair
@@ -32,11 +30,9 @@ IsPlain true journal = Unit {0}
 IsPlain false None = Unit {0}
 IsPlain false (Some j) = ⊥
 
--- A later start over a journal of these strings: it sends what some node that is so started sends, and the restarts are that node's.
-pub record IsOpenedOver (D J : Type 0) (config : NodeConfig) (finding : Finding) (strings : List (List ℕ)) (out : Outputs OpValue) (restarts : ℕ) : Type 0 where
-  pub node : NodeValue D J
-  pub started : IsRestarted config finding strings node out
-  pub restarts_are : restarts ≡ node.restarts
+-- a node as its start made it, before it executed anything
+abbrev pub as_made : {D J : Type 0} → NodeConfig → NodeValue D J → NodeValue D J
+as_made config n = record n { executed = nothing_executed config }
 
 -- A later start found a pair of the cluster's own.
 abbrev pub MayStart : Bool → Finding → Type 0

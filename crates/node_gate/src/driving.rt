@@ -1,48 +1,93 @@
 //! A node with a journal, driven by one thread: it takes all events that wait at once, so that one sync settles them all, and only
 //! then shows the seats what was executed and hands over what is sent.
-ghost use Rattle.std.specs.Prelude.{◌≡◌, OnOk, OnErr};
-ghost use Rattle.node_gate.specs.Batches.{TakesBatch, sends_in, sends_of};
+ghost use Rattle.std.specs.Prelude.{◌≡◌, IfErr, IfNone, IfOk, IfSome, MatchOption, OnOk, Some};
+ghost use Rattle.dir_node.specs.vr_state.declared.event.Event.TheVariants as event;
+ghost use Rattle.node_gate.specs.Batches.{left_out, left_out_in, sends_at, sends_in, sends_of};
+ghost use Rattle.node_gate.specs.Moved.{AreOf, HasRefused, HasStepped, HasSteppedAll, IsBeatOf};
+ghost use Rattle.node_gate.specs.private.Batches.{IsBeatAt};
 ghost use Rattle.node_gate.specs.Sent.{TakesAll};
 
 use crate::arrival::Arrival;
-use crate::held::Held;
+use crate::beats::LastBeat;
+use crate::held::{Held, Pulse};
 use crate::identity::Identity;
 use crate::inbox::{Batch, Inbox};
+use crate::moved::{Handed, Moved};
 use crate::peers::Peers;
-use crate::running::{Running, Ticked, copies, send_outputs};
+use crate::running::{Running, copies, send_outputs};
 use dir_node::{Device, Event, JournalDevice, NodeError, Op, Outputs, Send};
 use replica_clock::{Asked, Due};
 use std::alloc::{AllocError, Global};
+use std::snapshot::Snapshot;
 use std::sync::Wait;
 
 /// What events give out, or that one was left out for want of memory.
 type Given = Result<Outputs<Op>, AllocError>;
 
+/// What came of a batch of events.
+pub struct Batched {
+    /// How many of them were left out for want of memory.
+    pub left_out: u64,
+    /// What each of them gave, for clauses alone: it has no octets.
+    pub outputs: Snapshot<Vec<Given>>,
+}
+
+// Not derived: see "What the gate takes" in docs/ARCHITECTURE.md.
+impl Drop for Batched {
+    fn drop(self) {
+        let Batched {
+            left_out: _,
+            outputs: _,
+        } = self;
+    }
+}
+
 /// Copies of what the event at this place has sent; none where there is none, or no memory.
-fn copies_at(alloc: Global, outputs: &[Given], place: Option<usize>) -> Option<Vec<Send<Op>>> {
+fn copies_at(alloc: Global, outputs: &[Given], place: Option<usize>) -> Option<Vec<Send<Op>>>
+    ensures { IfSome result (λ c. sends_at place outputs.now ≡ Some c.items) }
+{
     match outputs.get(place?) {
         Some(Ok(given)) => copies(alloc, given.sends.as_slice()).ok(),
         _ => None,
     }
 }
 
-/// Hands over what a step sends.
-fn send_given<P: Peers>(peers: &mut P, given: Given)
-    ensures { TakesAll P.takes peers.old (sends_in given) peers.new }
+/// The place of a beat among these events, if it is one.
+fn place_of_beat(events: &[Event<Op>], place: Option<usize>) -> Option<usize>
+    ensures { IsBeatAt result events.now }
 {
-    match given {
-        Ok(outputs) => send_outputs(peers, outputs),
-        Err(_) => {}
+    match events.get(place?) {
+        Some(Event::Beat) => place,
+        _ => None,
     }
 }
 
-/// Hands over what steps send, in the order of the steps.
-fn send_each<P: Peers>(peers: &mut P, outputs: Vec<Given>)
-    ensures { TakesAll P.takes peers.old (sends_of outputs.items) peers.new }
+/// Hands over what a step sends; 1 where it was left out, else 0.
+fn send_given<P: Peers>(peers: &mut P, given: Given) -> u64
+    ensures taken { TakesAll P.takes peers.old (sends_in given) peers.new }
+    ensures left_out { result ≡ left_out_in given }
 {
-    for given in outputs {
-        send_given(peers, given);
+    match given {
+        Ok(outputs) => {
+            send_outputs(peers, outputs);
+            0
+        }
+        Err(_) => 1,
     }
+}
+
+/// Hands over what steps send, in the order of the steps; how many were left out.
+fn send_each<P: Peers>(peers: &mut P, outputs: Vec<Given>) -> u64
+    ensures taken { TakesAll P.takes peers.old (sends_of outputs.items) peers.new }
+    ensures left_out { result ≡ left_out outputs.items }
+{
+    // prover: the number fits.
+    let _most = outputs.len();
+    let mut left_out = 0;
+    for given in outputs {
+        left_out += send_given(peers, given);
+    }
+    left_out
 }
 
 /// Hands a batch of events to the node, and over what its steps send; copies of what the event at this place has sent.
@@ -52,14 +97,20 @@ fn take_all<R: Wait, D: Device, J: JournalDevice, I: Identity, P: Peers>(
     peers: &mut P,
     events: Vec<Event<Op>>,
     beat_at: Option<usize>,
-) -> Result<Option<Vec<Send<Op>>>, NodeError>
-    ensures sent { OnOk result (TakesBatch D J P.takes events.items peers.old peers.new) }
-    ensures nothing { OnErr result (peers.new ≡ peers.old) }
+) -> Result<(Batched, Option<LastBeat<I>>), NodeError>
+    ensures stepped { IfOk result (λ done. HasSteppedAll P.takes events.items done.0.outputs.value.items held.old.published.node held.new.published.node peers.old peers.new) }
+    ensures left_out { IfOk result (λ done. done.0.left_out ≡ left_out done.0.outputs.value.items) }
+    ensures refused { IfErr result (λ e. HasRefused e held.old.published.node held.new.published.node peers.old peers.new) }
 {
+    let place = place_of_beat(events.as_slice(), beat_at);
     let handled = held.handle_all(alloc, events)?;
-    let beat = copies_at(alloc, handled.outputs.as_slice(), beat_at);
-    send_each(peers, handled.outputs);
-    Ok(beat)
+    let outputs = Snapshot::of(&handled.outputs);
+    let beat = match copies_at(alloc, handled.outputs.as_slice(), place) {
+        Some(sends) => Some(LastBeat::new(sends)),
+        None => None,
+    };
+    let left_out = send_each(peers, handled.outputs);
+    Ok((Batched { left_out, outputs }, beat))
 }
 
 impl<'a, R: Wait, D: Device, J: JournalDevice, I: Identity> Running<'a, R, D, J, I> {
@@ -84,37 +135,70 @@ impl<'a, R: Wait, D: Device, J: JournalDevice, I: Identity> Running<'a, R, D, J,
     }
 
     /// Hands an event to the node, or posts it where a thread drives the node; which of the events that were posted it is, from 1 on,
-    /// and 0 where none are. Its errors are the node's.
+    /// and 0 where none are. Its errors are the node's. For clauses alone it gives the event, and what that made of the node where it wasn't posted.
     pub fn give<P: Peers>(
         &self,
         rt: &R,
         alloc: Global,
         peers: &mut P,
         event: Event<Op>,
-    ) -> Result<u64, NodeError> {
+    ) -> (Result<u64, NodeError>, Handed<D, J>)
+        ensures given { result.1.event.value ≡ event }
+        ensures own { IfSome result.1.moved (λ m. AreOf I.own m.before.value m.after.value) }
+        ensures stepped { OnOk result.0 (IfSome result.1.moved (λ m. HasStepped P.takes event m.before.value m.after.value peers.old peers.new)) }
+        ensures refused { IfErr result.0 (λ e. IfSome result.1.moved (λ m. HasRefused e m.before.value m.after.value peers.old peers.new)) }
+        ensures posted { MatchOption result.1.moved (peers.new ≡ peers.old) (λ m. IfOk result.0 (λ number. number ≡ 0)) }
+    {
+        let given = Snapshot::of(&event);
         match &self.inbox {
-            Some(inbox) => inbox.post(rt, event),
+            Some(inbox) => {
+                let handed = Handed {
+                    event: given,
+                    moved: None,
+                };
+                match inbox.post(rt, event) {
+                    Ok(number) => (Ok(number), handed),
+                    Err(error) => (Err(error), handed),
+                }
+            }
             None => {
-                self.handle(rt, alloc, peers, event)?;
-                Ok(0)
+                let (done, moved) = self.handle(rt, alloc, peers, event);
+                let handed = Handed {
+                    event: given,
+                    moved: Some(moved),
+                };
+                match done {
+                    Ok(()) => (Ok(0), handed),
+                    Err(error) => (Err(error), handed),
+                }
             }
         }
     }
 
-    /// Hands the message of another replica to the node, or posts it where a thread drives the node.
+    /// Hands the message of another replica to the node, or posts it where a thread drives the node. For clauses alone it gives what the message made
+    /// of the node where it wasn't posted.
     pub fn give_message<P: Peers>(
         &self,
         rt: &R,
         alloc: Global,
         peers: &mut P,
         arrival: Arrival,
-    ) -> Result<(), NodeError> {
+    ) -> (Result<(), NodeError>, Option<Moved<D, J>>)
+        ensures own { IfSome result.1 (λ m. AreOf I.own m.before.value m.after.value) }
+        ensures stepped { OnOk result.0 (IfSome result.1
+            (λ m. HasStepped P.takes (event.Message arrival.from arrival.message) m.before.value m.after.value peers.old peers.new)) }
+        ensures refused { IfErr result.0 (λ e. IfSome result.1 (λ m. HasRefused e m.before.value m.after.value peers.old peers.new)) }
+        ensures posted { IfNone result.1 (peers.new ≡ peers.old) }
+    {
         match &self.inbox {
-            Some(inbox) => {
-                inbox.post_message(rt, arrival)?;
-                Ok(())
+            Some(inbox) => match inbox.post_message(rt, arrival) {
+                Ok(_) => (Ok(()), None),
+                Err(error) => (Err(error), None),
+            },
+            None => {
+                let (done, moved) = self.hear(rt, alloc, peers, arrival);
+                (done, Some(moved))
             }
-            None => self.hear(rt, alloc, peers, arrival),
         }
     }
 
@@ -124,7 +208,8 @@ impl<'a, R: Wait, D: Device, J: JournalDevice, I: Identity> Running<'a, R, D, J,
     }
 
     /// Hands a batch of events to the node, which shows the seats what it then has executed; hands over what the steps send, in the
-    /// order of the steps; and tells those who wait. Its errors are the node's.
+    /// order of the steps; and tells those who wait. Its errors are the node's. It gives the node as the lock held it before the batch and after it, for
+    /// clauses alone.
     pub fn handle_batch<P: Peers>(
         &self,
         rt: &R,
@@ -132,9 +217,11 @@ impl<'a, R: Wait, D: Device, J: JournalDevice, I: Identity> Running<'a, R, D, J,
         peers: &mut P,
         batch: Batch,
         now: u64,
-    ) -> Result<(), NodeError>
-        ensures sent { OnOk result (TakesBatch D J P.takes batch.events.items peers.old peers.new) }
-        ensures nothing { OnErr result (peers.new ≡ peers.old) }
+    ) -> (Result<Batched, NodeError>, Moved<D, J>)
+        ensures own { AreOf I.own result.1.before.value result.1.after.value }
+        ensures stepped { IfOk result.0 (λ done. HasSteppedAll P.takes batch.events.items done.outputs.value.items result.1.before.value result.1.after.value peers.old peers.new) }
+        ensures left_out { IfOk result.0 (λ done. done.left_out ≡ left_out done.outputs.value.items) }
+        ensures refused { IfErr result.0 (λ e. HasRefused e result.1.before.value result.1.after.value peers.old peers.new) }
     {
         let Batch {
             events,
@@ -143,41 +230,59 @@ impl<'a, R: Wait, D: Device, J: JournalDevice, I: Identity> Running<'a, R, D, J,
             last,
         } = batch;
         let mut held = self.held.lock(rt);
-        let before = held.ask_at();
+        let ask_at = held.ask_at();
+        let before = Snapshot::of(held.node());
         let done = take_all(alloc, &mut held, peers, events, beat_at);
+        let after = Snapshot::of(held.node());
         held.hear_all(heard.as_slice(), now);
         held.had = last;
-        let is_early = held.ask_at() < before;
+        let is_early = held.ask_at() < ask_at;
         self.standing.set(held.standing());
         drop(held);
         self.changed.notify_all();
         if is_early {
             self.call_early(rt);
         }
-        let beat = done?;
-        self.keep_beat(rt, beat);
-        Ok(())
+        let moved = Moved { before, after };
+        match done {
+            Ok((batched, beat)) => {
+                self.keep_beat(rt, beat);
+                (Ok(batched), moved)
+            }
+            Err(error) => (Err(error), moved),
+        }
     }
 
     /// Keeps what a beat has sent, for the thread of the clock.
-    fn keep_beat(&self, rt: &R, beat: Option<Vec<Send<Op>>>) {
+    fn keep_beat(&self, rt: &R, beat: Option<LastBeat<I>>) {
         if beat.is_some() {
             *self.beat.lock(rt) = beat;
         }
     }
 
-    /// Asks the node's clock, at this moment, and posts what is due; none, where another thread has the node just then.
-    pub(crate) fn tick_beside(&self, rt: &R, inbox: &Inbox, now: u64) -> Option<Ticked> {
+    /// Asks the node's clock, at this moment, and posts what is due: what was due, what the node does, and what its last beat has sent, where that wasn't
+    /// taken yet. None, where another thread has the node just then.
+    pub(crate) fn tick_beside(
+        &self,
+        rt: &R,
+        inbox: &Inbox,
+        now: u64,
+    ) -> Option<(Asked, Pulse, Option<Vec<Send<Op>>>)>
+        ensures { IfSome result (λ t. IfSome t.2 (λ c. IsBeatOf I.own c.items)) }
+    {
         let mut held = self.held.try_lock()?;
-        let Asked { due, wait } = held.ask(now);
+        let asked = held.ask(now);
         let pulse = held.pulse();
         drop(held);
-        match due {
+        match asked.due {
             Due::Nothing => {}
             Due::Beat => inbox.post_due(rt, true),
             Due::Suspect => inbox.post_due(rt, false),
         }
-        let beat = self.beat.lock(rt).take();
-        Some(Ticked { pulse, wait, beat })
+        let beat = match self.beat.lock(rt).take() {
+            Some(beat) => Some(beat.into_sends()),
+            None => None,
+        };
+        Some((asked, pulse, beat))
     }
 }

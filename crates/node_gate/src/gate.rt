@@ -1,11 +1,12 @@
 // A session's gate to a running node. Updates flow in; how they ended flows out. What must not be here: reads, how replicas agree.
-ghost use Rattle.std.specs.Prelude.{◌≡◌, None};
+ghost use Rattle.std.specs.Prelude.{◌≡◌, None, Some};
 ghost use Rattle.std.specs.Option.{option_map};
 ghost use Rattle.dir_seats.specs.directory_api.View.{ended_view};
-ghost use Rattle.node_gate.specs.private.Shared.{IsRefused, IsUpdated};
+ghost use Rattle.node_gate.specs.private.Shared.{GivesRequest, IsRefused, IsUpdated, request_of};
 
 use crate::ending::Request;
 use crate::identity::Identity;
+use crate::moved::Moved;
 use crate::peers::Peers;
 use crate::published::Here;
 use crate::running::Running;
@@ -27,7 +28,10 @@ pub struct NodeGate<'a, 'r, R: Wait, D: Device, J: JournalDevice, I: Identity, P
     /// Whether the client has left whose update is waited for.
     has_left: &'a AtomicBool,
     asked: u64,
-    /// The node as the lock held it when the last update had ended: for clauses alone, it has no octets.
+    /// The event that was given for the last update, if one was, what it made of the node where it wasn't posted, and the node as the lock held it when
+    /// that update had ended: for clauses alone.
+    given: Option<Snapshot<Event<Op>>>,
+    moved: Option<Moved<D, J>>,
     held: Option<Snapshot<Node<D, J>>>,
     // prover: the runtime lives as long as the node, which the lock round that hides.
     lives: PhantomData<&'r R>,
@@ -44,6 +48,8 @@ impl<'a, 'r, R: Wait, D: Device, J: JournalDevice, I: Identity, P: Drop> Drop
             uris: _,
             has_left: _,
             asked: _,
+            given: _,
+            moved: _,
             held: _,
             lives: _,
         } = self;
@@ -58,7 +64,7 @@ impl<'a, 'r, R: Wait, D: Device, J: JournalDevice, I: Identity, P> NodeGate<'a, 
         uris: &'a [String],
         has_left: &'a AtomicBool,
     ) -> NodeGate<'a, 'r, R, D, J, I, P>
-        ensures nothing { (result.asked ≡ 0) × (result.held ≡ None) }
+        ensures nothing { (result.asked ≡ 0) × (result.given ≡ None) × (result.held ≡ None) }
     {
         NodeGate {
             rt,
@@ -67,6 +73,8 @@ impl<'a, 'r, R: Wait, D: Device, J: JournalDevice, I: Identity, P> NodeGate<'a, 
             uris,
             has_left,
             asked: 0,
+            given: None,
+            moved: None,
             held: None,
             lives: PhantomData,
         }
@@ -105,6 +113,8 @@ impl<'a, 'r, R: Wait, D: Device, J: JournalDevice, I: Identity, P: Peers> NodeGa
 > {
     /// Hands a request to the node, and waits for its outcome, or until its client has left: then it counts as lost, and goes on.
     fn ask(&mut self, alloc: Global, client: Client, number: u64, payload: Op) -> Ended
+        ensures given { option_map (λ s. s.value) self.new.given ≡ Some (request_of client number payload) }
+        ensures made { GivesRequest I.own (option_map (λ m. (m.before.value, m.after.value)) self.new.moved) (request_of client number payload) }
         ensures ended { IsUpdated I.own (option_map (λ s. s.value) self.new.held) client number (ended_view result) }
         ensures asked { self.new.asked ≡ self.old.asked }
     {
@@ -115,8 +125,12 @@ impl<'a, 'r, R: Wait, D: Device, J: JournalDevice, I: Identity, P: Peers> NodeGa
                 payload,
             },
         };
-        match self.running.give(self.rt, alloc, &mut self.peers, event) {
+        let (done, handed) = self.running.give(self.rt, alloc, &mut self.peers, event);
+        let (given, moved) = handed.into_parts();
+        self.given = Some(given);
+        match done {
             Ok(event) => {
+                self.moved = moved;
                 let request = Request {
                     client,
                     number,
@@ -126,7 +140,10 @@ impl<'a, 'r, R: Wait, D: Device, J: JournalDevice, I: Identity, P: Peers> NodeGa
                 self.held = Some(held);
                 ended
             }
-            Err(error) => ended_by(error),
+            Err(error) => {
+                self.moved = None;
+                ended_by(error)
+            }
         }
     }
 }
@@ -138,9 +155,10 @@ impl<'a, 'r, R: Wait, D: Device, J: JournalDevice, I: Identity, P: Peers> Gate<O
     ghost use Rattle.dir_seats.specs.directory_api.Counting.{updates_of, greatest_count};
     ghost use Rattle.node_gate.specs.private.Shared.{gates};
 
-    // An update ends as its outcome at a state of the node with this identity that the lock held; the count rises by one with each.
+    // What is given to the node is the request that was asked, and an update ends as its outcome at a state of the node with this identity that the lock
+    // held; the count rises by one with each.
     ghost allows = { λ d x e. (e.asked ≡ min (d.asked + updates_of x) greatest_count)
-        × gates I.own (option_map (λ s. s.value) e.held) x };
+        × gates I.own (option_map (λ s. s.value) e.given) (option_map (λ m. (m.before.value, m.after.value)) e.moved) (option_map (λ s. s.value) e.held) x };
 
     ghost count = { λ d. d.asked };
 
@@ -159,6 +177,7 @@ impl<'a, 'r, R: Wait, D: Device, J: JournalDevice, I: Identity, P: Peers> Gate<O
 
     fn update(&mut self, alloc: Global, client: Client, number: u64, update: Update) -> Ended {
         self.asked = self.asked.saturating_add(1);
+        self.given = None;
         match Op::new(alloc, update) {
             Ok(payload) => self.ask(alloc, client, number, payload),
             Err(_) => Ended::NoMemory,

@@ -1,6 +1,7 @@
 // What the lock holds: the node that threads share, its clock, and whether those who wait are to go on. Locks and threads are above.
-ghost use Rattle.std.specs.Prelude.{◌≡◌, IfOk};
+ghost use Rattle.std.specs.Prelude.{◌≡◌, IfOk, IfErr};
 ghost use Rattle.dir_node.specs.vr_state.declared.event.Event.TheVariants as event;
+ghost use Rattle.node_gate.specs.Moved.{IsLeftBy};
 ghost use Rattle.node_gate.specs.private.Batches.{HasHandledAll};
 ghost use Rattle.node_gate.specs.private.Handled.{HasHandled};
 ghost use Rattle.node_gate.specs.Identities.{identity_of};
@@ -123,7 +124,8 @@ impl<'a, R: Wait, D: Device, J: JournalDevice, I: Identity> Held<'a, R, D, J, I>
 
     /// Hands an event to the node, and shows its seats what it then has executed. It is behind too where there was no memory to show all.
     pub fn handle(&mut self, alloc: Global, event: Event<Op>) -> Result<Handled, NodeError>
-        ensures { IfOk result (λ h. HasHandled self.old.published.node event h self.new.published.node self.new.published.publisher) }
+        ensures handled { IfOk result (λ h. HasHandled self.old.published.node event h self.new.published.node self.new.published.publisher) }
+        ensures refused { IfErr result (λ e. IsLeftBy e self.old.published.node self.new.published.node) }
     {
         self.published.handle(alloc, event)
     }
@@ -135,7 +137,8 @@ impl<'a, R: Wait, D: Device, J: JournalDevice, I: Identity> Held<'a, R, D, J, I>
         alloc: Global,
         events: Vec<Event<Op>>,
     ) -> Result<AllHandled, NodeError>
-        ensures { IfOk result (λ h. HasHandledAll self.old.published.node events.items h self.new.published.node self.new.published.publisher) }
+        ensures handled { IfOk result (λ h. HasHandledAll self.old.published.node events.items h self.new.published.node self.new.published.publisher) }
+        ensures refused { IfErr result (λ e. IsLeftBy e self.old.published.node self.new.published.node) }
     {
         self.published.handle_all(alloc, events)
     }
@@ -152,7 +155,8 @@ impl<'a, R: Wait, D: Device, J: JournalDevice, I: Identity> Held<'a, R, D, J, I>
 
     /// Hands the message of another replica to the node, and tells its clock of it.
     pub fn hear(&mut self, alloc: Global, arrival: Arrival) -> Result<Handled, NodeError>
-        ensures { IfOk result (λ h. HasHandled self.old.published.node (event.Message arrival.from arrival.message) h self.new.published.node self.new.published.publisher) }
+        ensures handled { IfOk result (λ h. HasHandled self.old.published.node (event.Message arrival.from arrival.message) h self.new.published.node self.new.published.publisher) }
+        ensures refused { IfErr result (λ e. IsLeftBy e self.old.published.node self.new.published.node) }
     {
         let Arrival { from, message, at } = arrival;
         let sign = sign_of(&message);

@@ -11,12 +11,14 @@
 //! A lock tells no state of what it holds, but the node's identity never changes. So a type parameter stands for it (`Identity`): it is
 //! picked in the proof of the call that shares the opened node.
 //!
-//! Proved: when the lock is free, what seats see begins what the node has executed; an update ends as its outcome at a state of the opened
-//! node that the lock held (`NodeGate`, `Running`). A step's messages are handed over, all, in order, and no others (`Running::handle`,
-//! `hear`, `handle_batch`). A start is a first one, or one that found a pair (`open`).
+//! Proved: when the lock is free, what seats see begins what the node has executed. `handle`, `hear`, `give`, `handle_batch` and `tick` name the
+//! node before and after: it is the opened one, it made its step at the event, and the step's messages are handed over, all, in order, and no
+//! others. The event that a session's gate gives is the request that was asked, and an update ends as its outcome at a state of that node that
+//! the lock held (`NodeGate`, `settled`). `open` gives the node that its start made, with seats that have seen nothing.
 #![tactic(auto)]
 
 mod arrival;
+mod beats;
 mod driving;
 mod ending;
 mod events;
@@ -24,6 +26,7 @@ mod gate;
 mod held;
 mod identity;
 mod inbox;
+mod moved;
 mod opened;
 mod opening;
 mod peers;
@@ -37,11 +40,13 @@ pub use dir_node::{
     PeerMessage, Send, ViewStoreError,
 };
 pub use dir_seats::{Seat, Told};
+pub use driving::Batched;
 pub use ending::Request;
 pub use gate::NodeGate;
 pub use held::{Pulse, Standing};
 pub use identity::Identity;
 pub use inbox::Batch;
+pub use moved::{Acted, Handed, Moved};
 pub use opened::{Opened, OpenedNode};
 pub use opening::{OpenOptions, open};
 pub use peers::{Peers, send_all};

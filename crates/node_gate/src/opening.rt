@@ -1,13 +1,16 @@
 // Opens a node over its devices: starts it, makes its seats, and hands on what its start sends. Threads share it later (`opened`). Files and sockets
 // are above.
-ghost use Rattle.std.specs.Prelude.{◌≡◌, ◌<◌, ◌≤◌, true, false, Some, None, IfOk, OnOk};
+ghost use Rattle.std.specs.Prelude.{◌≡◌, ◌<◌, ◌≤◌, true, false, length, All, Some, None, IfOk, OnOk};
+ghost use Rattle.std.specs.Arc.{arc_value};
 ghost use Rattle.dir_node.specs.NodeState.{IsMade, given, nothing_executed};
 ghost use Rattle.dir_node.specs.Restarting.{IsRestarted};
 ghost use Rattle.dir_node.specs.log_journal.journal.Frames.{recorded};
 ghost use Rattle.dir_node.specs.view_store.Slots.{found};
+ghost use Rattle.dir_seats.specs.Lists.{nothing_over};
 ghost use Rattle.node_gate.specs.Identities.{identity_by, identity_of};
+ghost use Rattle.node_gate.specs.Moved.{ExecutesDue};
 ghost use Rattle.node_gate.specs.private.Identities.{IsReplicaOf};
-ghost use Rattle.node_gate.specs.Starting.{IsOpenedOver, IsPlain, MayStart, outcome_of_start, pair_of_start, state_of_start};
+ghost use Rattle.node_gate.specs.Starting.{IsPlain, MayStart, as_made, outcome_of_start, pair_of_start, state_of_start};
 
 use crate::inbox::Inbox;
 use crate::opened::{Opened, OpenedNode};
@@ -118,13 +121,22 @@ pub fn open<'a, R: Wait, D: Device + Drop, J: JournalDevice + Drop>(
     ensures outputs { IsPlain options.is_fresh journal → let finding = found config.cluster (D.seen device) in
         IfOk result (λ opened. given (state_of_start options.is_fresh config.count finding) opened.outputs ≡ outcome_of_start options.is_fresh config.count config.index finding) }
     ensures restarts { IsPlain options.is_fresh journal → IfOk result (λ opened. opened.restarts ≡ (pair_of_start options.is_fresh (found config.cluster (D.seen device))).restarts) }
+    ensures made { IsPlain options.is_fresh journal → let finding = found config.cluster (D.seen device) in
+        IfOk result (λ opened. IsMade config (state_of_start options.is_fresh config.count finding) (pair_of_start options.is_fresh finding).restarts (as_made config opened.node)) }
 
     // It is the configuration's replica, at that start, over the configuration's schema, root and index choice.
     ensures own_start { IfOk result (λ opened. identity_of opened.node ≡ identity_by config opened.restarts) }
 
     // A later start that keeps a journal goes on from it, or recovers and begins it, as its strings say.
     ensures restarted { (j : J) → options.is_fresh ≡ false → journal ≡ Some j
-        → IfOk result (λ opened. IsOpenedOver D J config (found config.cluster (D.seen device)) (recorded (J.seen j)) opened.outputs opened.restarts) }
+        → IfOk result (λ opened. IsRestarted config (found config.cluster (D.seen device)) (recorded (J.seen j)) (as_made config opened.node) opened.outputs) }
+
+    // It has executed what the start says is committed, or, for want of memory, a front of it.
+    ensures executed { IfOk result (λ opened. ExecutesDue (as_made config opened.node) opened.node) }
+
+    // There are as many seats as were asked for, and they have seen nothing.
+    ensures count { IfOk result (λ opened. length opened.seats.items ≡ options.seats) }
+    ensures seats { IfOk result (λ opened. All (λ seat. seat ≡ nothing_over (arc_value config.schema) config.indexes config.suffix) opened.seats.items) }
 {
     let (publisher, seats) = seats(
         rt,
@@ -139,9 +151,9 @@ pub fn open<'a, R: Wait, D: Device + Drop, J: JournalDevice + Drop>(
     let (node, outputs) = start(alloc, device, journal, config, options.is_fresh)?;
     let restarts = node.restarts();
     let mut published = PublishedNode::new(node, publisher);
+    // Without a journal nothing is due. What is left for want of memory is executed after the first event.
+    let _is_behind = published.execute_due(alloc);
     let inbox = if has_journal {
-        // What is left for want of memory is executed after the first event.
-        let _is_behind = published.execute_due(alloc);
         Some(Inbox::new(alloc))
     } else {
         None

@@ -1,17 +1,21 @@
 // A node that threads share. Events flow in, one at a time; messages to other replicas flow out, and who waits is told of each change. What
 // must not be here: sessions, sockets, reads.
-ghost use Rattle.std.specs.Prelude.{◌≡◌, OnOk, OnErr};
+ghost use Rattle.std.specs.Prelude.{◌≡◌, IfErr, IfNone, IfOk, IfSome, MatchOption, OnOk};
 ghost use Rattle.dir_node.specs.vr_state.declared.event.Event.TheVariants as event;
 ghost use Rattle.dir_seats.specs.directory_api.View.{ended_view};
 ghost use Rattle.node_gate.specs.Identities.{identity_of};
-ghost use Rattle.node_gate.specs.Sent.{TakesAll, TakesStep};
+ghost use Rattle.node_gate.specs.Moved.{AreOf, HasActed, HasRefused, HasStepped, IsBeatOf, event_of, step_at};
+ghost use Rattle.node_gate.specs.Sent.{TakesAll};
 ghost use Rattle.node_gate.specs.Shared.{SettlesAs};
+ghost use Rattle.replica_clock.specs.declared.clock.Due.TheVariants as kind;
 
 use crate::arrival::Arrival;
+use crate::beats::LastBeat;
 use crate::ending::{Request, ended_at};
 use crate::held::{Held, Pulse, status_of};
 use crate::identity::Identity;
 use crate::inbox::Inbox;
+use crate::moved::{Acted, Moved};
 use crate::peers::{Peers, send_all};
 use crate::published::{Here, PublishedNode};
 use crate::standing::LastStanding;
@@ -44,7 +48,7 @@ pub struct Running<'a, R: Wait, D: Device, J: JournalDevice, I: Identity> {
     /// Events that wait for the thread that drives a node with a journal; none without one.
     pub(crate) inbox: Option<Inbox>,
     /// What the last beat of that thread has sent, until the thread of the clock takes it.
-    pub(crate) beat: Mutex<Option<Vec<Send<Op>>>>,
+    pub(crate) beat: Mutex<Option<LastBeat<I>>>,
     call: Mutex<Call>,
     called: Condvar,
 }
@@ -68,17 +72,23 @@ impl<'a, R: Wait, D: Device + Drop, J: JournalDevice + Drop, I: Identity> Drop
 
 /// What came of asking the clock.
 #[derive(Drop)]
-pub struct Ticked {
+pub struct Ticked<D: Device, J: JournalDevice> {
     /// What the node does after it.
     pub pulse: Pulse,
     /// After how long to ask again.
     pub wait: u64,
     /// Copies of what a beat has sent, as far as there was memory for them; none where it was no beat.
     pub beat: Option<Vec<Send<Op>>>,
+    /// What was due.
+    pub due: Due,
+    /// What came of that; none where it was posted.
+    pub acted: Option<Acted<D, J>>,
 }
 
 /// Copies of what is sent.
-pub fn copies(alloc: Global, sends: &[Send<Op>]) -> Result<Vec<Send<Op>>, AllocError> {
+pub fn copies(alloc: Global, sends: &[Send<Op>]) -> Result<Vec<Send<Op>>, AllocError>
+    ensures { IfOk result (λ c. c.items ≡ sends.now) }
+{
     let mut copied = Vec::with_capacity(alloc, sends.len())?;
     for send in sends {
         copied.push(Send {
@@ -108,8 +118,8 @@ fn take<R: Wait, D: Device, J: JournalDevice, I: Identity, P: Peers>(
     peers: &mut P,
     event: Event<Op>,
 ) -> Result<(), NodeError>
-    ensures sent { OnOk result (TakesStep D J P.takes event peers.old peers.new) }
-    ensures nothing { OnErr result (peers.new ≡ peers.old) }
+    ensures stepped { OnOk result (HasStepped P.takes event held.old.published.node held.new.published.node peers.old peers.new) }
+    ensures refused { IfErr result (λ e. HasRefused e held.old.published.node held.new.published.node peers.old peers.new) }
 {
     let handled = held.handle(alloc, event)?;
     send_outputs(peers, handled.outputs);
@@ -123,42 +133,51 @@ fn take_message<R: Wait, D: Device, J: JournalDevice, I: Identity, P: Peers>(
     peers: &mut P,
     arrival: Arrival,
 ) -> Result<(), NodeError>
-    ensures sent { OnOk result (TakesStep D J P.takes (event.Message arrival.from arrival.message) peers.old peers.new) }
-    ensures nothing { OnErr result (peers.new ≡ peers.old) }
+    ensures stepped { OnOk result (HasStepped P.takes (event.Message arrival.from arrival.message) held.old.published.node held.new.published.node peers.old peers.new) }
+    ensures refused { IfErr result (λ e. HasRefused e held.old.published.node held.new.published.node peers.old peers.new) }
 {
     let handled = held.hear(alloc, arrival)?;
     send_outputs(peers, handled.outputs);
     Ok(())
 }
 
-/// Lets the node make a beat, and copies what it sends. Without memory what it gives out is lost, and a node that stopped shows in its pulse.
+/// Lets the node make a beat, and copies what it sends, where there is memory for that.
 fn beat<R: Wait, D: Device, J: JournalDevice, I: Identity, P: Peers>(
     alloc: Global,
     held: &mut Held<'_, R, D, J, I>,
     peers: &mut P,
-) -> Option<Vec<Send<Op>>> {
-    let Ok(handled) = held.handle(alloc, Event::Beat) else {
-        return None;
-    };
-    let copied = copies(alloc, handled.outputs.sends.as_slice()).ok();
-    send_outputs(peers, handled.outputs);
-    copied
+) -> (Result<(), NodeError>, Option<Vec<Send<Op>>>)
+    ensures stepped { OnOk result.0 (HasStepped P.takes event.Beat held.old.published.node held.new.published.node peers.old peers.new) }
+    ensures refused { IfErr result.0 (λ e. HasRefused e held.old.published.node held.new.published.node peers.old peers.new) }
+    ensures copied { IfSome result.1 (λ c. c.items ≡ (step_at held.old.published.node event.Beat).sends) }
+{
+    match held.handle(alloc, Event::Beat) {
+        Ok(handled) => {
+            let copied = match copies(alloc, handled.outputs.sends.as_slice()) {
+                Ok(sends) => Some(sends),
+                Err(_) => None,
+            };
+            send_outputs(peers, handled.outputs);
+            (Ok(()), copied)
+        }
+        Err(error) => (Err(error), None),
+    }
 }
 
-/// Does what is due; copies of what a beat has sent.
+/// Does what is due, or nothing where nothing is; copies of what a beat has sent. A node that stopped at it shows that in its pulse.
 fn act<R: Wait, D: Device, J: JournalDevice, I: Identity, P: Peers>(
     alloc: Global,
     held: &mut Held<'_, R, D, J, I>,
     peers: &mut P,
     due: Due,
-) -> Option<Vec<Send<Op>>> {
+) -> (Result<(), NodeError>, Option<Vec<Send<Op>>>)
+    ensures acted { HasActed P.takes (event_of due) result.0 held.old.published.node held.new.published.node peers.old peers.new }
+    ensures copied { IfSome result.1 (λ c. (due ≡ kind.Beat) × (c.items ≡ (step_at held.old.published.node event.Beat).sends)) }
+{
     match due {
-        Due::Nothing => None,
+        Due::Nothing => (Ok(()), None),
         Due::Beat => beat(alloc, held, peers),
-        Due::Suspect => {
-            let _done = take(alloc, held, peers, Event::Suspect).is_ok();
-            None
-        }
+        Due::Suspect => (take(alloc, held, peers, Event::Suspect), None),
     }
 }
 
@@ -199,23 +218,26 @@ impl<'a, R: Wait, D: Device, J: JournalDevice, I: Identity> Running<'a, R, D, J,
     }
 
     /// Hands an event to the node, which shows the seats what it then has executed; hands over what the step sends, in the order of the steps; and tells
-    /// those who wait. Its errors are the node's.
+    /// those who wait. Its errors are the node's. It gives the node as the lock held it before the event and after it, for clauses alone.
     pub fn handle<P: Peers>(
         &self,
         rt: &R,
         alloc: Global,
         peers: &mut P,
         event: Event<Op>,
-    ) -> Result<(), NodeError>
-        ensures sent { OnOk result (TakesStep D J P.takes event peers.old peers.new) }
-        ensures nothing { OnErr result (peers.new ≡ peers.old) }
+    ) -> (Result<(), NodeError>, Moved<D, J>)
+        ensures own { AreOf I.own result.1.before.value result.1.after.value }
+        ensures stepped { OnOk result.0 (HasStepped P.takes event result.1.before.value result.1.after.value peers.old peers.new) }
+        ensures refused { IfErr result.0 (λ e. HasRefused e result.1.before.value result.1.after.value peers.old peers.new) }
     {
         let mut held = self.held.lock(rt);
+        let before = Snapshot::of(held.node());
         let done = take(alloc, &mut held, peers, event);
+        let after = Snapshot::of(held.node());
         self.standing.set(held.standing());
         drop(held);
         self.changed.notify_all();
-        done
+        (done, Moved { before, after })
     }
 
     /// Hands the message of another replica to the node, as `handle` does.
@@ -225,21 +247,24 @@ impl<'a, R: Wait, D: Device, J: JournalDevice, I: Identity> Running<'a, R, D, J,
         alloc: Global,
         peers: &mut P,
         arrival: Arrival,
-    ) -> Result<(), NodeError>
-        ensures sent { OnOk result (TakesStep D J P.takes (event.Message arrival.from arrival.message) peers.old peers.new) }
-        ensures nothing { OnErr result (peers.new ≡ peers.old) }
+    ) -> (Result<(), NodeError>, Moved<D, J>)
+        ensures own { AreOf I.own result.1.before.value result.1.after.value }
+        ensures stepped { OnOk result.0 (HasStepped P.takes (event.Message arrival.from arrival.message) result.1.before.value result.1.after.value peers.old peers.new) }
+        ensures refused { IfErr result.0 (λ e. HasRefused e result.1.before.value result.1.after.value peers.old peers.new) }
     {
         let mut held = self.held.lock(rt);
-        let before = held.ask_at();
+        let ask_at = held.ask_at();
+        let before = Snapshot::of(held.node());
         let done = take_message(alloc, &mut held, peers, arrival);
-        let is_early = held.ask_at() < before;
+        let after = Snapshot::of(held.node());
+        let is_early = held.ask_at() < ask_at;
         self.standing.set(held.standing());
         drop(held);
         self.changed.notify_all();
         if is_early {
             self.call_early(rt);
         }
-        done
+        (done, Moved { before, after })
     }
 
     /// A part of a long message of another replica has come, at this moment.
@@ -255,9 +280,32 @@ impl<'a, R: Wait, D: Device, J: JournalDevice, I: Identity> Running<'a, R, D, J,
 
     /// Asks the node's clock, at this moment, and does what is due, as `handle` does, or posts it where events wait for the thread
     /// that drives the node; none, where another thread has the node just then.
-    pub fn tick<P: Peers>(&self, rt: &R, alloc: Global, peers: &mut P, now: u64) -> Option<Ticked> {
+    pub fn tick<P: Peers>(
+        &self,
+        rt: &R,
+        alloc: Global,
+        peers: &mut P,
+        now: u64,
+    ) -> Option<Ticked<D, J>>
+        ensures own { IfSome result (λ t. IfSome t.acted (λ d. AreOf I.own d.moved.before.value d.moved.after.value)) }
+        ensures acted { IfSome result (λ t. MatchOption t.acted (peers.new ≡ peers.old)
+            (λ d. HasActed P.takes (event_of t.due) d.done d.moved.before.value d.moved.after.value peers.old peers.new)) }
+        ensures copied { IfSome result (λ t. IfSome t.acted (λ d. IfSome t.beat
+            (λ c. (t.due ≡ kind.Beat) × (c.items ≡ (step_at d.moved.before.value event.Beat).sends)))) }
+        ensures repeated { IfSome result (λ t. IfSome t.beat (λ c. IsBeatOf I.own c.items)) }
+        ensures elsewhere { IfNone result (peers.new ≡ peers.old) }
+    {
         match &self.inbox {
-            Some(inbox) => self.tick_beside(rt, inbox, now),
+            Some(inbox) => {
+                let (asked, pulse, beat) = self.tick_beside(rt, inbox, now)?;
+                Some(Ticked {
+                    pulse,
+                    wait: asked.wait,
+                    beat,
+                    due: asked.due,
+                    acted: None,
+                })
+            }
             None => self.tick_alone(rt, alloc, peers, now),
         }
     }
@@ -269,16 +317,33 @@ impl<'a, R: Wait, D: Device, J: JournalDevice, I: Identity> Running<'a, R, D, J,
         alloc: Global,
         peers: &mut P,
         now: u64,
-    ) -> Option<Ticked> {
+    ) -> Option<Ticked<D, J>>
+        ensures own { IfSome result (λ t. IfSome t.acted (λ d. AreOf I.own d.moved.before.value d.moved.after.value)) }
+        ensures acted { IfSome result (λ t. MatchOption t.acted (peers.new ≡ peers.old)
+            (λ d. HasActed P.takes (event_of t.due) d.done d.moved.before.value d.moved.after.value peers.old peers.new)) }
+        ensures copied { IfSome result (λ t. IfSome t.acted (λ d. IfSome t.beat
+            (λ c. (t.due ≡ kind.Beat) × (c.items ≡ (step_at d.moved.before.value event.Beat).sends)))) }
+        ensures repeated { IfSome result (λ t. IfSome t.beat (λ c. IsBeatOf I.own c.items)) }
+        ensures elsewhere { IfNone result (peers.new ≡ peers.old) }
+    {
         let mut held = self.held.try_lock()?;
         let Asked { due, wait } = held.ask(now);
-        let beat = act(alloc, &mut held, peers, due);
+        let before = Snapshot::of(held.node());
+        let (done, beat) = act(alloc, &mut held, peers, due);
+        let after = Snapshot::of(held.node());
         held.note(now);
         let pulse = held.pulse();
         self.standing.set(held.standing());
         drop(held);
         self.changed.notify_all();
-        Some(Ticked { pulse, wait, beat })
+        let moved = Moved { before, after };
+        Some(Ticked {
+            pulse,
+            wait,
+            beat,
+            due,
+            acted: Some(Acted { done, moved }),
+        })
     }
 
     /// Waits until the node has had the event of a client's request, where it was posted, and while what becomes of that is still to

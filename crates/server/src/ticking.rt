@@ -217,8 +217,14 @@ impl<'a, 'r, R: Wait + Clock, I: Identity> TimedNode<'a, 'r, R, I> {
     }
 
     /// Takes note of what came of asking the clock.
-    fn take(&self, watch: &mut Watch, ticked: Ticked, now: u64) -> u64 {
-        let Ticked { pulse, wait, beat } = ticked;
+    fn take(&self, watch: &mut Watch, ticked: Ticked<FileDevice, JournalFile>, now: u64) -> u64 {
+        let Ticked {
+            pulse,
+            wait,
+            beat,
+            due: _,
+            acted: _,
+        } = ticked;
         self.view_number.store(pulse.view_number, Ordering::SeqCst);
         self.last_update.store(pulse.last_update, Ordering::SeqCst);
         if !pulse.is_like(&watch.pulse) {
@@ -355,10 +361,10 @@ where
             at: now,
         };
         let mut peer_queues = self.peer_queues_at(now);
-        match self
+        let (done, _) = self
             .running
-            .give_message(self.rt, self.alloc, &mut peer_queues, arrival)
-        {
+            .give_message(self.rt, self.alloc, &mut peer_queues, arrival);
+        match done {
             // Without memory the message is lost, as the network may lose one.
             Ok(()) | Err(NodeError::NoMemory) => true,
             Err(_) => false,
@@ -408,9 +414,10 @@ where
             };
             let now = self.now();
             let mut peer_queues = self.peer_queues_at(now);
-            self.running
-                .handle_batch(self.rt, self.alloc, &mut peer_queues, batch, now)
-                .map_err(fault_of_node)?;
+            let (done, _) = self
+                .running
+                .handle_batch(self.rt, self.alloc, &mut peer_queues, batch, now);
+            done.map_err(fault_of_node)?;
             was_caught_up = self.tell_progress(was_caught_up);
         }
         Ok(())

@@ -1,9 +1,10 @@
 -- What a batch of events makes of a node that threads share, and what is handed over of it to the other replicas: what contracts that aren't public say of it.
 -- What public contracts say is in specs/Batches.
-use Rattle.std.specs.Prelude.{◌≡◌, Bool, false, List, length}
+use Rattle.std.specs.Prelude.{◌≡◌, ℕ, Bool, false, List, length, Option, Some, None, slice_get}
 use Rattle.dir_node.specs.dir_store.ldap_op.Values.{OpValue}
 use Rattle.dir_node.specs.state_machine.Executing.{due_after}
 use Rattle.dir_node.specs.vr_state.declared.event.Event.{Event}
+use Rattle.dir_node.specs.vr_state.declared.event.Event.TheVariants.{Beat}
 use Rattle.dir_node.specs.declared.config.AllHandled.{AllHandled}
 use Rattle.dir_node.specs.Handling.{MakesSteps}
 use Rattle.dir_node.specs.NodeState.{NodeValue, CatchesUp, IsSameNode}
@@ -19,3 +20,8 @@ pub record HasHandledAll {D J : Type 0} (old : NodeValue D J) (events : List (Ev
   pub same : IsSameNode old new
   pub in_time : handled.behind ≡ false → late ≡ false
   pub seen : handled.behind ≡ false → HasAll new.executed shown
+
+-- The event at this place, if one is named, is a beat.
+abbrev pub IsBeatAt : Option ℕ → List (Event OpValue) → Type 0
+IsBeatAt None events = Unit {0}
+IsBeatAt (Some place) events = slice_get events place ≡ Some Beat

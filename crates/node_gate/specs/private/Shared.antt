@@ -1,16 +1,20 @@
 -- What a session is told by a node that threads share: what contracts that aren't public say of it.
 -- What public contracts say is in specs/Shared.
-use Rattle.std.specs.Prelude.{◌==◌, ℕ, cond, Option, Some, None}
+use Rattle.std.specs.Prelude.{◌≡◌, ◌==◌, ℕ, cond, Option, Some, None}
 use Rattle.dir_seats.specs.directory_api.Talk.{Exchange, asked_role, learned, searched, compared, updated}
 use Rattle.dir_seats.specs.directory_api.Talk.{EndedValue}
 use Rattle.dir_seats.specs.directory_api.Talk as talk
+use Rattle.dir_node.specs.dir_store.ldap_op.Values.{OpValue}
 use Rattle.dir_node.specs.vr_state.Words.{Client}
+use Rattle.dir_node.specs.vr_state.declared.event.Event.{Event}
+use Rattle.dir_node.specs.vr_state.declared.event.Event.TheVariants as event
 use Rattle.dir_node.specs.state_machine.Executing.{ExecutedValue}
 use Rattle.dir_node.specs.NodeState.{NodeValue}
 use Rattle.dir_node.specs.Outcomes.{standing_of}
 use Rattle.dir_node.specs.declared.standing.Standing.{Standing}
 use Rattle.dir_node.specs.declared.standing.Standing.TheVariants.{Recovering}
 use Rattle.node_gate.specs.Identities.{NodeIdentity}
+use Rattle.node_gate.specs.Moved.{AreOf, step_at}
 use Rattle.node_gate.specs.Shared.{SettlesAs}
 
 -- how a node stands to sessions: as one that recovers, until it has committed as much as its journal told when it went on from it
@@ -36,10 +40,27 @@ IsRefused talk.stale = ⊥
 IsRefused talk.lost = Unit {0}
 IsRefused talk.refused_memory = Unit {0}
 
--- what a gate to the node of this identity may be told, where it took this state of the node under the lock
-abbrev pub gates : {D J : Type 0} → NodeIdentity → Option (NodeValue D J) → Exchange (Option ExecutedValue) → Type 0
-gates own held (asked_role role told) = Unit {0}
-gates own held (learned told) = ⊥
-gates own held (searched named q looked) = ⊥
-gates own held (compared named q looked) = ⊥
-gates own held (updated client number op ended) = IsUpdated own held client number ended
+-- a client's request of this number, for this update
+abbrev pub request_of : Client → ℕ → OpValue → Event OpValue
+request_of client number op = event.Request (record { client = client; request_number = number; payload = op })
+
+-- An event was posted, or the node of this identity made its step at it.
+abbrev pub GivesRequest : {D J : Type 0} → NodeIdentity → Option (NodeValue D J × NodeValue D J) → Event OpValue → Type 0
+GivesRequest own None e = Unit {0}
+GivesRequest own (Some (b, a)) e = AreOf own b a × (a.replica ≡ (step_at b e).state)
+
+-- What was given for an update is that client's request of that number for that update, and nothing else; nothing is given where there is no memory for
+-- the update.
+abbrev pub IsGivenFor : {D J : Type 0} → NodeIdentity → Option (Event OpValue) → Option (NodeValue D J × NodeValue D J) → Client → ℕ → OpValue → EndedValue → Type 0
+IsGivenFor own None moved client number op ended = ended ≡ talk.refused_memory
+IsGivenFor own (Some given) moved client number op ended = (given ≡ request_of client number op) × GivesRequest own moved given
+
+-- what a gate to the node of this identity may be told, where it gave this event, which made this of the node, and then took this state of the node
+-- under the lock
+abbrev pub gates : {D J : Type 0} → NodeIdentity → Option (Event OpValue) → Option (NodeValue D J × NodeValue D J) → Option (NodeValue D J)
+    → Exchange (Option ExecutedValue) → Type 0
+gates own given moved held (asked_role role told) = Unit {0}
+gates own given moved held (learned told) = ⊥
+gates own given moved held (searched named q looked) = ⊥
+gates own given moved held (compared named q looked) = ⊥
+gates own given moved held (updated client number op ended) = IsGivenFor own given moved client number op ended × IsUpdated own held client number ended
