@@ -40,11 +40,11 @@ pub beat_of : {D J : Type 0} (own : NodeIdentity) (old new : NodeValue D J) (eve
     (place : Option ℕ) (sends : List (Send OpValue)) → identity_of old ≡ own → MakesSteps old.count old.index old.replica events outputs new.replica
     → IsBeatAt place events → sends_at place outputs ≡ Some sends → IsBeatOf own sends
 beat_of own old new events outputs place sends own_is steps at given =
-    subst (λ (o : NodeIdentity). IsBeatOf o sends) own_is (beat_sent old.count old.index old.replica new.replica events outputs place sends steps at given)
+    subst (λ (o : NodeIdentity). IsBeatOf o sends) own_is ∣ beat_sent old.count old.index old.replica new.replica events outputs place sends steps at given ∣₁
 
 -- what a beat of a node sends is what a beat of a node of its identity sends
 beat_is : {D J : Type 0} (own : NodeIdentity) (n : NodeValue D J) (sends : List (Send OpValue)) → identity_of n ≡ own → sends ≡ (step_at n Beat).sends → IsBeatOf own sends
-beat_is own n sends own_is is = subst (λ (o : NodeIdentity). IsBeatOf o sends) own_is (n.replica, is)
+beat_is own n sends own_is is = subst (λ (o : NodeIdentity). IsBeatOf o sends) own_is ∣ (n.replica, is) ∣₁
 
 -- so where copies of it are kept
 pub beats_of : {D J V : Type 0} (own : NodeIdentity) (n : NodeValue D J) (items : V → List (Send OpValue)) (Q : Type 0) (beat : Option V) → identity_of n ≡ own

@@ -80,4 +80,4 @@ HasActed takes (Some e) (Err f) b a before after = HasRefused f b a before after
 
 -- These messages are what a beat of the node of this identity sends, in some state of its replica.
 abbrev pub IsBeatOf : NodeIdentity → List (Send OpValue) → Type 0
-IsBeatOf own sends = (r : State OpValue) × (sends ≡ (step own.count own.index r kind.Beat).sends)
+IsBeatOf own sends = ∥ ((r : State OpValue) × (sends ≡ (step own.count own.index r kind.Beat).sends)) ∥₁
