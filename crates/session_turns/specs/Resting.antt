@@ -39,6 +39,7 @@ whom is_led idle = cond (idle == 0) (cond is_led Leader Nobody) Seat
 abbrev pub calls_after : ℕ → ℕ → ℕ
 calls_after idle called = cond (idle == 0) called (more called)
 
+-- the same of what is known
 abbrev pub call_of : LeadValue → Call
 call_of l = whom l.is_led l.idle
 
@@ -61,6 +62,7 @@ left Leading l = laid_down l
 abbrev pub choice : Bool → ℕ → ℕ → Act
 choice is_led unlooked ready = cond is_led (cond (ready == 0) Rest Serve) (cond (ready == 0 || nat_le 16 unlooked) Leads Serve)
 
+-- the same of what is known
 abbrev pub chosen : LeadValue → ℕ → Act
 chosen l ready = choice l.is_led l.unlooked ready
 
