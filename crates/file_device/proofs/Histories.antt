@@ -8,7 +8,8 @@ use Rattle.journal.proofs.Mixing.{written_mixed, lost_mixed}
 use Rattle.view_store.specs.Device as view
 use Rattle.view_store.specs.Memory.{Event as ViewEvent, nothing as view_nothing, write as view_write, settle as view_settle, written as view_written, seen_after as view_seen, MayLeave as ViewMayLeave, LeftSince as ViewLeftSince}
 use Rattle.view_store.proofs.Images.{holds_torn}
-use Rattle.file_device.specs.private.History.{History, octets_of, are_within, begin_within}
+use Rattle.file_device.specs.History.{History, octets_of}
+use Rattle.file_device.specs.private.Within.{are_within, begin_within}
 
 -- what is read as a file is opened
 pub joined_octets : (h new : History) (piece : List ℕ) → h.events ≡ [] → new ≡ record h { base = h.base ++ piece } → octets_of new ≡ octets_of h ++ piece

@@ -15,7 +15,7 @@ impl Device for FileDevice {
     ghost use Rattle.std.specs.Prelude.{length};
     ghost use Rattle.view_store.specs.Memory.{MayLeave, LeftSince};
     ghost use Rattle.view_store.specs.Replay as replay;
-    ghost use Rattle.file_device.specs.private.History.{view_events};
+    ghost use Rattle.file_device.specs.History.{view_events};
 
     // By the rules of a device, over what the file held as it was opened and the calls since.
     ghost may_leave = { λ f. MayLeave f.known.history.base (view_events f.known.history) };

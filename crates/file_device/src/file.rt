@@ -1,7 +1,8 @@
 //! A file that is opened as a device. A path flows in, a device flows out. What the calls of a device do is not here.
 ghost use Rattle.std.specs.Prelude.{◌≡◌, ◌≤◌, [], length, true, IfOk, IfSome, IsTrue};
 ghost use Rattle.view_store.specs.Memory.{seen_after};
-ghost use Rattle.file_device.specs.private.History.{view_events, begin_within};
+ghost use Rattle.file_device.specs.History.{view_events};
+ghost use Rattle.file_device.specs.private.Within.{begin_within};
 ghost use Rattle.file_device.specs.Unused.{IsUnused, first_slot};
 ghost use Rattle.view_store.specs.Device.{HasRisen};
 

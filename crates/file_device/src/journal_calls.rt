@@ -1,7 +1,7 @@
 //! The calls of a journal's device, made of a file.
 ghost use Rattle.std.specs.Prelude.{◌≡◌, ◌≤◌, ◌<◌, ◌+◌, ◌^◌, ◌∷◌, length, true, false, IfSome, OnOk, OnErr, IsErrOf};
 ghost use Rattle.journal.specs.Memory.{grow};
-ghost use Rattle.file_device.specs.private.History.{octets_of};
+ghost use Rattle.file_device.specs.History.{octets_of};
 ghost use Rattle.journal.specs.Device.{HasRisen};
 
 use crate::first_block::BLOCK;
@@ -49,7 +49,7 @@ impl Device for JournalFile {
     ghost use Rattle.std.specs.Prelude.{length};
     ghost use Rattle.journal.specs.Memory.{MayLeave, LeftSince};
     ghost use Rattle.journal.specs.Replay as replay;
-    ghost use Rattle.file_device.specs.private.History.{octets_of};
+    ghost use Rattle.file_device.specs.History.{octets_of};
 
     ghost seen = { λ f. octets_of f.octets.known.history };
 

@@ -1,7 +1,8 @@
 //! Holds the octets of a file: all as clauses know them, in no memory, and those at its end that reads are answered from.
 ghost use Rattle.std.specs.Prelude.{◌≡◌, ◌≤◌, ◌<◌, ◌+◌, ◌-◌, ◌++◌, ◌∷◌, ◌^◌, [], IsTrue, OnOk, length, max, vec_len, take, drop, true, false};
 ghost use Rattle.journal.specs.Memory.{write, grow, settle};
-ghost use Rattle.file_device.specs.private.History.{no_history, octets_of, are_within};
+ghost use Rattle.file_device.specs.History.{no_history, octets_of};
+ghost use Rattle.file_device.specs.private.Within.{are_within};
 ghost use Rattle.file_device.specs.private.Pieces.{are_zeros, octets_in};
 
 use crate::copying::copy_out;

@@ -2,7 +2,7 @@
 ghost use Rattle.std.specs.Prelude.{◌≡◌, ◌++◌, ◌∷◌, true, false};
 ghost use Rattle.std.specs.Borrow.{ftrue};
 ghost use Rattle.journal.specs.Memory.{write, grow, settle};
-ghost use Rattle.file_device.specs.private.History.{History, no_history};
+ghost use Rattle.file_device.specs.History.{History, no_history};
 
 use std::marker::{Model, PhantomData};
 

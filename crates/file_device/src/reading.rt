@@ -1,6 +1,6 @@
 //! Reads a file whole, in pieces.
 ghost use Rattle.std.specs.Prelude.{◌≡◌, ◌≤◌, [], IfOk, IfSome, length, vec_len};
-ghost use Rattle.file_device.specs.private.History.{octets_of};
+ghost use Rattle.file_device.specs.History.{octets_of};
 
 use crate::fault::FileDeviceError;
 use crate::file::read_some;

@@ -1,5 +1,5 @@
 use Rattle.std.proofs.Common.{◌≡◌, ◌≤◌, [], length}
-use Rattle.file_device.specs.private.History.{octets_of}
+use Rattle.file_device.specs.History.{octets_of}
 use Rattle.file_device.proofs.reading.read_octets.Given as goal
 
 abbrev pub invariant-loop : goal.invariant-loop

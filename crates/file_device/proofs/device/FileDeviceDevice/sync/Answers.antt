@@ -1,6 +1,6 @@
 use Rattle.std.proofs.Common.{◌≡◌, sym, subst, ◌∙◌}
 use Rattle.view_store.specs.Memory.{MayLeave, seen_after}
-use Rattle.file_device.specs.private.History.{History, view_events}
+use Rattle.file_device.specs.History.{History, view_events}
 use Rattle.file_device.proofs.Histories.{view_is_left}
 use Rattle.file_device.proofs.device.FileDeviceDevice.sync.Goals as goal
 

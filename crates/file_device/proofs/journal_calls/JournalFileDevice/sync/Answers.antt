@@ -1,6 +1,6 @@
 use Rattle.std.proofs.Common.{◌≡◌, sym, subst}
 use Rattle.journal.specs.Memory.{MayLeave, seen_after}
-use Rattle.file_device.specs.private.History.{History}
+use Rattle.file_device.specs.History.{History}
 use Rattle.file_device.proofs.Histories.{seen_is_left}
 use Rattle.file_device.proofs.journal_calls.JournalFileDevice.sync.Goals as goal
 

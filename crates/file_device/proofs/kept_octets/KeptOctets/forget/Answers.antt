@@ -1,5 +1,5 @@
 use Rattle.std.proofs.Common.{◌<◌, length, arith}
-use Rattle.file_device.specs.private.History.{octets_of}
+use Rattle.file_device.specs.History.{octets_of}
 use Rattle.file_device.proofs.Copied.{first_let, first_within}
 use Rattle.file_device.proofs.kept_octets.KeptOctets.forget.Goals as goal
 

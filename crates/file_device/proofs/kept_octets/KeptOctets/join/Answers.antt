@@ -1,5 +1,5 @@
 use Rattle.std.proofs.Common.{◌≡◌, [], ◌∷◌, ◌++◌, ap, ◌∙◌, refl, arith}
-use Rattle.file_device.specs.private.History.{octets_of}
+use Rattle.file_device.specs.History.{octets_of}
 use Rattle.file_device.proofs.Copied.{joined}
 use Rattle.file_device.proofs.Histories.{joined_octets, joined_within}
 use Rattle.file_device.proofs.kept_octets.KeptOctets.join.Goals as goal

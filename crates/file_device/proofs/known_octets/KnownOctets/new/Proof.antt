@@ -21,7 +21,7 @@ use denote.Triple.Entry.{on_entry}
 use denote.Triple.Spec.{Meets, triple_of}
 use denote.Triple.Table.{entered}
 use denote.Triple.Walked.{says, ends_at, walked, walk_Meets}
-use Rattle.file_device.specs.private.History.{no_history}
+use Rattle.file_device.specs.History.{no_history}
 use Rattle.file_device.specs.declared.known_octets.KnownOctets.{KnownOctets}
 use Rattle.file_device.specs.contracts.known_octets.KnownOctets as T
 use Rattle.file_device.specs.contracts.known_octets.KnownOctets.new.Key.{name as #it}
