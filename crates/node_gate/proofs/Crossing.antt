@@ -2,7 +2,9 @@
 use denote.RattleType.{RattleType}
 use denote.Ref.{NamedLft}
 use denote.Struct.Declared
-use denote.Param.Send.{IsSend, IsSync, sendable, struct_send, struct_sync, plain_send, recorded_send, recorded_sync, shr_send}
+use denote.Enum.Declared.{shape as enum_shape}
+use denote.Enum.Enum as enum
+use denote.Param.Send.{IsSend, IsSync, sendable, struct_send, struct_sync, plain_send, recorded_send, recorded_sync, enum_send, shr_send}
 use Rattle.std.proofs.Crossing.{crosses}
 use Rattle.std.proofs.MapsCrossing.{crosses as maps_cross}
 use Rattle.std.proofs.marker.PhantomData.TheSendSync as phantom
@@ -10,7 +12,6 @@ use Rattle.std.proofs.string.String.TheSendSync as string
 use Rattle.std.proofs.sync.Condvar.TheSendSync as condvar
 use Rattle.std.proofs.sync.Mutex.TheSendSync as mutex
 use Rattle.node_gate.proofs.inbox.Inbox.TheSendSync as inbox
-use Rattle.node_gate.proofs.moved.Moved.TheSendSync as moved
 use Rattle.node_gate.proofs.running.Call.TheSendSync as call
 use Rattle.node_gate.proofs.standing.LastStanding.TheSendSync as standing
 use Rattle.dir_node.proofs.Crossing.{node_send}
@@ -24,9 +25,16 @@ use Rattle.node_gate.specs.declared.identity.Identity as Identity
 use Rattle.node_gate.specs.contracts.published.Here as Here
 use Rattle.node_gate.specs.contracts.published.PublishedNode as PublishedNode
 use Rattle.node_gate.specs.contracts.beats.LastBeat as LastBeat
+use Rattle.std.specs.contracts.option.Option as Option
 use Rattle.node_gate.specs.contracts.held.Held as Held
+use Rattle.node_gate.specs.contracts.moved.Moved as Moved
 use Rattle.node_gate.specs.contracts.running.Running as Running
 use Rattle.node_gate.specs.contracts.gate.NodeGate as NodeGate
+
+-- an option, of whatever it is
+option_send : (T : RattleType) → IsSend T → IsSend (Option.the_row T)
+option_send T s =
+    recorded_send (enum.Enum (enum_shape (Option.the_type T))) _ _ (Option.the_type T).to_one (enum_send (enum_shape (Option.the_type T)) (tt, ((s, tt), tt)))
 
 module _ (D J I : RattleType) (g : Device.Ghosts D.Denot) (h : JournalDevice.Ghosts J.Denot) (i : Identity.Ghosts I.Denot) where
   published_field_send : (a : NamedLft) (R : RattleType) → IsSync R → IsSend D → IsSend J → IsSend (PublishedNode.the_field a R D J g h).row
@@ -45,10 +53,15 @@ module _ (D J I : RattleType) (g : Device.Ghosts D.Denot) (h : JournalDevice.Gho
       recorded_send (LastBeat.the_field I i).row _ _ (LastBeat.the_type I i).to_one
       (struct_send (Declared.shape (LastBeat.the_type I i)) (search (send.the_send, op.the_send, maps_cross, crosses, sendable) depth 60 fits 20000, (phantom.the_field_send I, tt)))
 
+  moved_send : IsSend (Moved.the_row D J g h)
+  moved_send =
+      recorded_send (Moved.the_field D J g h).row _ _ (Moved.the_type D J g h).to_one
+      (struct_send (Declared.shape (Moved.the_type D J g h)) (search (crosses, sendable) depth 20, (search (crosses, sendable) depth 20, tt)))
+
   pub running_sync : (a : NamedLft) (R : RattleType) → IsSync R → IsSend D → IsSend J → IsSync (Running.the_row a R D J I g h i)
   running_sync a R y s t =
       let held : IsSend (Held.the_row a R D J I g h i) = held_send a R y s t in
-      let beat : IsSend (LastBeat.the_row I i) = last_beat_send in
+      let kept : IsSend (Option.the_row (LastBeat.the_row I i)) = option_send (LastBeat.the_row I i) last_beat_send in
       recorded_sync (Running.the_field a R D J I g h i).row _ _ (Running.the_type a R D J I g h i).to_one
       (struct_sync (Declared.shape (Running.the_type a R D J I g h i)) (
         search (held, mutex.the_sync) depth 20,
@@ -60,7 +73,7 @@ module _ (D J I : RattleType) (g : Device.Ghosts D.Denot) (h : JournalDevice.Gho
               condvar.the_field_sync,
               (
                 search (inbox.the_sync, sendable) depth 20,
-                (search (beat, mutex.the_sync, maps_cross, crosses, sendable) depth 60 fits 20000, (search (call.the_send, mutex.the_sync) depth 20, (condvar.the_field_sync, tt))),
+                (search (kept, mutex.the_sync) depth 20, (search (call.the_send, mutex.the_sync) depth 20, (condvar.the_field_sync, tt))),
               ),
             ),
           ),
@@ -70,6 +83,7 @@ module _ (D J I : RattleType) (g : Device.Ghosts D.Denot) (h : JournalDevice.Gho
   pub gate_send : (a b : NamedLft) (R P : RattleType) → IsSync R → IsSend D → IsSend J → IsSend P → IsSend (NodeGate.the_row a b R D J I P g h i)
   gate_send a b R P y s t p =
       let running : IsSync (Running.the_row b R D J I g h i) = running_sync b R y s t in
+      let moved : IsSend (Option.the_row (Moved.the_row D J g h)) = option_send (Moved.the_row D J g h) moved_send in
       recorded_send (NodeGate.the_field a b R D J I P g h i).row _ _ (NodeGate.the_type a b R D J I P g h i).to_one
       (struct_send (Declared.shape (NodeGate.the_type a b R D J I P g h i)) (
         shr_send _ _ R y,
@@ -86,7 +100,7 @@ module _ (D J I : RattleType) (g : Device.Ghosts D.Denot) (h : JournalDevice.Gho
                   (
                     search (crosses, sendable) depth 20,
                     (
-                      search (moved.the_field_send, moved.the_send, crosses, sendable) depth 20,
+                      search (moved, crosses, sendable) depth 20,
                       (search (crosses, sendable) depth 20, (search (phantom.the_field_send) depth 5, tt)),
                     ),
                   ),
