@@ -1,6 +1,7 @@
--- A journal's file may go to another thread: what clauses alone know of it owns nothing. What looks at it may be shared.
+-- The files of a replica may go to another thread: what clauses alone know of them owns nothing. What looks at it may be shared.
 use denote.Param.Send.{IsSend, IsSync, owning_send, sendable}
 use Rattle.std.proofs.Crossing.{crosses}
+use Rattle.file_device.specs.contracts.file.FileDevice as FileDevice
 use Rattle.file_device.specs.contracts.journal_file.JournalFile as JournalFile
 use Rattle.file_device.specs.contracts.journal_guard.JournalGuard as JournalGuard
 use Rattle.file_device.proofs.journal_guard.JournalGuard.TheSendSync as guard
@@ -15,6 +16,9 @@ kept_send = search (known_send, crosses, sendable) depth 40
 
 pub journal_send : IsSend JournalFile.the_row
 journal_send = search (kept_send, crosses, sendable) depth 40
+
+pub file_send : IsSend FileDevice.the_row
+file_send = search (known_send, crosses, sendable) depth 40
 
 pub guard_sync : IsSync JournalGuard.the_row
 guard_sync = search (guard.the_sync, crosses, sendable) depth 40

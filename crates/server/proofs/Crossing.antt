@@ -4,7 +4,6 @@ use denote.Ref.{NamedLft}
 use denote.Struct.Declared
 use denote.Param.Send.{IsSend, IsSync, sendable, struct_send, struct_sync, recorded_send, recorded_sync, shr_sync}
 use Rattle.std.proofs.Crossing.{crosses}
-use Rattle.file_device.proofs.file.FileDevice.TheSendSync as device
 use Rattle.file_device.proofs.view_guard.ViewGuard.TheSendSync as guard
 use Rattle.file_device.specs.contracts.device.FileDeviceDevice.TheImpl as DeviceRule
 use Rattle.file_device.specs.contracts.file.FileDevice as FileDevice
@@ -28,7 +27,7 @@ use Rattle.std.proofs.time.Instant.TheSendSync as instant
 use Rattle.std.specs.contracts.alloc.Global as Global
 
 device_send : IsSend FileDevice.the_row
-device_send = search (device.the_send) depth 5
+device_send = files.file_send
 
 journal_send : IsSend JournalFile.the_row
 journal_send = files.journal_send
