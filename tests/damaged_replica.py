@@ -12,7 +12,7 @@ import tempfile
 
 import ldap_client as ldap
 from damages import changes, fronts
-from replicas import Cluster
+from replicas import UNPROVED, Cluster
 from serving import HOST
 
 NUMBER = 9
@@ -50,6 +50,8 @@ def start_fault(command: list[str]) -> str:
             if not select.select([process.stderr], [], [], PATIENCE)[0]:
                 return f"neither recovers nor ends within {PATIENCE} s"
             first = process.stderr.readline()
+            if first.rstrip("\n") == UNPROVED:
+                first = process.stderr.readline()
             if RECOVERS.fullmatch(first):
                 return ""
             said = (first + process.stderr.read()).removesuffix("\n")
