@@ -13,6 +13,7 @@ ghost use Rattle.vr_world.specs.Law.{ChosenAgree, CommittedIsLongest, CommittedG
 ghost use Rattle.vr_world.specs.Law.{NumbersRise, RepliesAreCommitted, RepliesAreExecuted, StepsKeep, MajoritiesHold, JournalsKeep};
 
 mod acting;
+mod beginnings;
 pub mod cluster;
 pub mod events;
 mod happening;
@@ -23,6 +24,7 @@ mod resuming;
 mod returning;
 pub mod words;
 
+pub use beginnings::beginnings_agree;
 pub use cluster::Cluster;
 pub use events::WorldEvent;
 pub use words::ReplyBy;

@@ -1,0 +1,5 @@
+use Rattle.vr_short.proofs.Paired.{pairs}
+use Rattle.vr_short.proofs.laws.notes_are_paired.Goals as goal
+
+pub returns : goal.returns
+returns g c = pairs

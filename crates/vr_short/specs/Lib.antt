@@ -1,0 +1,5 @@
+pub mod Short
+pub mod Notes
+pub mod Pairing
+pub mod Laws
+pub mod private
