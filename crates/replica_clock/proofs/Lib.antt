@@ -1,1 +1,3 @@
 mod LongSteps
+mod LongMessages
+mod Commits

@@ -1,9 +1,9 @@
 //! A replica's clock: it is told what the replica does and hears, and says what is due.
-ghost use Rattle.std.specs.Prelude.{◌≡◌, ℕ, ◌+◌, ◌*◌, ◌<◌, ◌≤◌, min, true, false};
-ghost use Rattle.replica_clock.specs.Clock.{IsAsked, begun, noted, heard, part_heard, rested, done, due_at, is_over, is_time, is_own, is_past, is_same};
+ghost use Rattle.std.specs.Prelude.{◌≡◌, ℕ, ◌+◌, ◌*◌, ◌<◌, ◌≤◌, ◌^◌, min, true, false};
+ghost use Rattle.replica_clock.specs.Clock.{IsAsked, begun, noted, heard, hurried, part_heard, part_taken, awaits, rested, done, due_at, is_over, is_time, is_own, is_past, is_same};
 ghost use Rattle.replica_clock.specs.declared.clock.Due.TheVariants as due;
 ghost use Rattle.replica_clock.specs.declared.sign.Sign.TheVariants as sign;
-ghost use Rattle.replica_clock.specs.Clock.{latest, longest, limit, next_primary, patience, primary, spread, distance, suspects, beats, times_longer, one_more, still_given_up, first_lost};
+ghost use Rattle.replica_clock.specs.Clock.{latest, longest, most_longer, limit, next_primary, patience, primary, spread, distance, suspects, beats, times_longer, one_more, one_longer, still_given_up, twice_as_long, first_lost};
 
 use crate::sign::Sign;
 use crate::times::Times;
@@ -13,8 +13,11 @@ use vr_state::words::Status;
 /// The latest moment: a later one counts as this.
 const LATEST: u64 = 1 << 62;
 
-/// A view that doesn't begin is waited for at most so many times as long.
-const LONGER: u64 = 8;
+/// By how many patiences more a view that doesn't begin is waited for, at most, where nothing long is on its way.
+const LONGER: u64 = 7;
+
+/// By how many at most where long messages are: more than any log takes. Sums of such times can't overflow.
+const MOST_LONGER: u64 = (1 << 20) - 1;
 
 /// What a replica is to do by itself.
 #[derive(Clone, Copy, Debug, PartialEq, Eq)]
@@ -44,13 +47,14 @@ pub struct ReplicaClock {
     silent_since: u64,
     lost_since: Option<u64>,
     given_up: u64,
+    is_long: bool,
     beat_at: u64,
     ask_at: u64,
 }
 
 impl Model for ReplicaClock {
     ghost use Rattle.std.specs.Prelude.{◌<◌, ◌≤◌, ◌*◌, IfSome};
-    ghost use Rattle.replica_clock.specs.Clock.{ClockValue, latest};
+    ghost use Rattle.replica_clock.specs.Clock.{ClockValue, latest, most_longer};
 
     ghost Value = { ClockValue };
 
@@ -64,12 +68,13 @@ impl Model for ReplicaClock {
       silent_since = c.silent_since;
       lost_since = c.lost_since;
       given_up = c.given_up;
+      is_long = c.is_long;
       beat_at = c.beat_at;
       ask_at = c.ask_at;
     } };
 
     ghost invariant = { λ c. (c.index < c.count)
-        × (c.given_up ≤ 8)
+        × (c.given_up ≤ most_longer)
         × (c.silent_since ≤ latest)
         × IfSome c.lost_since (λ since. since ≤ latest)
         × (c.ask_at ≤ 2 * latest)
@@ -97,6 +102,51 @@ fn is_same(first: Status, second: Status) -> bool
     }
 }
 
+/// How much longer a view is waited for after one to whose end long messages were on their way.
+fn twice_as_long(given_up: u64) -> u64
+    requires { given_up ≤ most_longer }
+    ensures is { result ≡ twice_as_long given_up }
+    ensures most { result ≤ most_longer }
+{
+    (2 * given_up + 1).min(MOST_LONGER)
+}
+
+/// How much longer a view is waited for after one that is given up.
+fn one_more(status: Status, given_up: u64, is_long: bool) -> u64
+    requires { given_up ≤ most_longer }
+    ensures is { result ≡ one_more status given_up is_long }
+    ensures most { result ≤ most_longer }
+{
+    match status {
+        Status::ViewChange => {
+            if is_long {
+                twice_as_long(given_up)
+            } else {
+                given_up.max((given_up + 1).min(LONGER))
+            }
+        }
+        Status::Normal | Status::Recovering => 0,
+    }
+}
+
+/// How much longer a view is waited for in a new status.
+fn still_given_up(status: Status, given_up: u64, is_long: bool) -> u64
+    requires { given_up ≤ most_longer }
+    ensures is { result ≡ still_given_up status given_up is_long }
+    ensures most { result ≤ most_longer }
+{
+    match status {
+        Status::ViewChange => {
+            if is_long {
+                twice_as_long(given_up)
+            } else {
+                given_up
+            }
+        }
+        Status::Normal | Status::Recovering => 0,
+    }
+}
+
 impl ReplicaClock {
     /// The clock of the replica of this index among so many, in this view with this status. It wants to be asked at once.
     pub fn new(
@@ -120,6 +170,7 @@ impl ReplicaClock {
             silent_since: now,
             lost_since: None,
             given_up: 0,
+            is_long: false,
             beat_at: now + times.beat(),
             ask_at: now,
         }
@@ -172,11 +223,11 @@ impl ReplicaClock {
     fn limit(&self) -> u64
         ensures limit { result ≡ limit self.now }
         ensures some { 0 < result }
-        ensures short { result ≤ 16 * longest }
+        ensures short { result ≤ 2 ^ 21 * longest }
     {
         let patience = self.times.suspect() + self.spread();
         match self.status {
-            Status::ViewChange => patience * (self.given_up + 1).min(LONGER),
+            Status::ViewChange => patience * (self.given_up + 1),
             Status::Normal | Status::Recovering => patience,
         }
     }
@@ -250,10 +301,8 @@ impl ReplicaClock {
             Due::Suspect => {
                 self.silent_since = now;
                 self.lost_since = None;
-                self.given_up = match self.status {
-                    Status::ViewChange => (self.given_up + 1).min(LONGER),
-                    Status::Normal | Status::Recovering => 0,
-                };
+                self.given_up = one_more(self.status, self.given_up, self.is_long);
+                self.is_long = false;
                 self.beat_at = now + self.times.beat();
             }
         }
@@ -319,10 +368,17 @@ impl ReplicaClock {
         self.silent_since = now;
         self.lost_since = None;
         self.beat_at = now + self.times.beat();
-        match status {
-            Status::ViewChange => {}
-            Status::Normal | Status::Recovering => self.given_up = 0,
-        }
+        self.given_up = still_given_up(status, self.given_up, self.is_long);
+        self.is_long = false;
+    }
+
+    /// More is committed than the others were told: a primary makes its next beat within a 256th of the time between beats.
+    pub fn hurry(&mut self, now: u64)
+        ensures { self.new ≡ hurried self.old (min now latest) }
+    {
+        let soon = now.min(LATEST) + self.times.beat() / 256;
+        self.beat_at = self.beat_at.min(soon);
+        self.ask_at = self.ask_at.min(soon);
     }
 
     /// The replica of index `from` sent what says this of it. A sign of life is a PREPARE, COMMIT, STARTVIEW or NEWSTATE of the own view, from that
@@ -335,6 +391,7 @@ impl ReplicaClock {
             Sign::Leads { view_number } => self.hear_leader(from, view_number, now),
             Sign::Lost => self.hear_loss(from, now),
             Sign::Part => self.hear_part(from, now),
+            Sign::Taken => self.hear_taken(from, now),
             Sign::Other => {}
         }
     }
@@ -363,25 +420,45 @@ impl ReplicaClock {
         }
     }
 
+    /// Whether the replica waits for what this one sends.
+    fn awaits(&self, from: u64) -> bool
+        ensures { result ≡ awaits self.now.status self.now from }
+    {
+        match self.status {
+            Status::Normal => from == self.primary(),
+            Status::ViewChange => from == self.primary() || self.is_own(),
+            Status::Recovering => true,
+        }
+    }
+
     /// A part of a long message.
     fn hear_part(&mut self, from: u64, now: u64)
         requires { now ≤ latest }
         ensures { self.new ≡ heard self.old from sign.Part now }
     {
+        if !self.awaits(from) {
+            return;
+        }
+        self.silent_since = now;
         match self.status {
-            Status::Normal => {
-                if from == self.primary() {
-                    self.silent_since = now;
-                }
-            }
+            Status::Normal => {}
+            Status::ViewChange => self.is_long = true,
+            Status::Recovering => self.beat_at = self.beat_at.max(now + self.times.beat()),
+        }
+    }
+
+    /// A part of a long message was taken.
+    fn hear_taken(&mut self, to: u64, now: u64)
+        requires { now ≤ latest }
+        ensures { self.new ≡ heard self.old to sign.Taken now }
+    {
+        match self.status {
+            Status::Normal | Status::Recovering => {}
             Status::ViewChange => {
-                if from == self.primary() || self.is_own() {
+                if to == self.primary() {
                     self.silent_since = now;
+                    self.is_long = true;
                 }
-            }
-            Status::Recovering => {
-                self.silent_since = now;
-                self.beat_at = self.beat_at.max(now + self.times.beat());
             }
         }
     }

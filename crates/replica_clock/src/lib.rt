@@ -6,11 +6,13 @@
 //! keeps it beside the node. docs/REPLICATION.md, section 7, has its rules.
 //!
 //! Proved: a beat or a suspicion is due by the rules, and nothing is due before the moment at which it wants to be asked again
-//! (`ReplicaClock`). That views begin in time is simulated: `tests/liveness` plays a thousand lives of ten minutes (seeds 1 to 1000) in ten
+//! (`ReplicaClock`). Nobody is suspected while parts of its message come; a view given up meanwhile is followed by one that is waited for twice
+//! as long (`long_messages_are_awaited`). That views begin in time is simulated: `tests/liveness` plays a thousand lives of ten minutes (seeds 1 to 1000) in ten
 //! minutes of one processor; none failed.
 #![tactic(auto)]
 
 mod clock;
+mod laws;
 mod majority;
 mod pace;
 mod sign;
@@ -18,6 +20,7 @@ mod steps;
 mod times;
 
 pub use clock::{Asked, Due, ReplicaClock};
+pub use laws::{commits_are_told_soon, long_messages_are_awaited};
 pub use majority::Majority;
 pub use pace::Pace;
 pub use sign::{Sign, sign_of};

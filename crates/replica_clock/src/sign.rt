@@ -13,6 +13,8 @@ pub enum Sign {
     Lost,
     /// It is sending a long message, of which a part came.
     Part,
+    /// It has taken a part of a long message that goes to it.
+    Taken,
     /// Nothing that a clock goes by.
     Other,
 }

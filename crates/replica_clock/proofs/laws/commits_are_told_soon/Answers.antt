@@ -1,0 +1,5 @@
+use Rattle.replica_clock.proofs.Commits.{told_soon}
+use Rattle.replica_clock.proofs.laws.commits_are_told_soon.Goals as goal
+
+pub returns : goal.returns
+returns c = told_soon
