@@ -1,16 +1,18 @@
 //! A node: a replica, what it has executed, the device of its stored pair, and its journal where it keeps one. Events flow in; outputs flow out once the
 //! journal is settled and the view is stored. Which step an event makes is decided below, who sends and who waits above.
-ghost use Rattle.std.specs.Prelude.{◌≡◌, ◌-◌, ◌==◌, ◌∷◌, [], ◌↔◌, true, false, None, is_some, length, slice_get, IfOk, OnOk, IsErrOf};
+ghost use Rattle.std.specs.Prelude.{◌≡◌, ◌-◌, ◌==◌, ◌∷◌, [], ◌↔◌, true, false, None, is_some, not, length, slice_get, IfOk, OnOk, IsErrOf};
 ghost use Rattle.state_machine.specs.Executing.{directory_at, due_after, replies_at};
 ghost use Rattle.dir_node.specs.Handling.{MakesSteps, left_to_catch_up};
 ghost use Rattle.dir_node.specs.Logged.{HasRisenIn, LeavesOnlyIn, TellsSome, device_in};
 ghost use Rattle.dir_node.specs.NodeState.{CannotStore, CatchesUp, IsSameNode, KeepsLog, KeepsPair, given, head, pair_of};
 ghost use Rattle.dir_node.specs.private.NodeState.{IsRunning};
+ghost use Rattle.log_journal.specs.Refused.{IsOfKeepingOne};
 ghost use Rattle.dir_node.specs.Outcomes.{outcome_at, outcome_of, outcome_view, standing_of};
 ghost use Rattle.view_store.specs.Device.{HasRisen, LeavesOnly};
 ghost use Rattle.view_store.specs.Slots.{own, IsWellPlaced};
 ghost use Rattle.view_store.specs.Store.{IsFormerOrNew};
 ghost use Rattle.vr_state.specs.Step.{step as step_of};
+ghost use Rattle.vr_state.specs.State.{is_recovering};
 ghost use Rattle.vr_state.specs.Views.{state};
 
 use crate::config::{AllHandled, Handled};
@@ -27,7 +29,7 @@ use std::marker::Model;
 use view_store::{Device, Pair, ViewStore, ViewStoreError};
 use vr_state::event::Event;
 use vr_state::replica::Replica;
-use vr_state::standing::leads;
+use vr_state::standing::{is_recovering, leads};
 use vr_state::words::{Client, LogEntry, Status};
 
 /// A running replica. It is `Drop` where its devices are; whoever shares it puts it into a lock.
@@ -133,8 +135,8 @@ impl<D: Device, J: JournalDevice> Node<D, J> {
         ensures same { IsSameNode self.old self.new }
         ensures catch_up { OnOk result (self.new.catch_up ≡ left_to_catch_up self.old.catch_up self.new.replica) }
 
-        // A refused growth changes nothing; a journal stays as it is read.
-        ensures no_memory { IsErrOf result NodeError.NoMemory → self.new ≡ record self.old { journal = self.new.journal } }
+        // A refused growth changes nothing.
+        ensures no_memory { IsErrOf result NodeError.NoMemory → self.new ≡ self.old }
 
         // A node that has stopped answers so, and changes nothing.
         ensures halted { IsErrOf result NodeError.Halted ↔ (self.old.is_halted ≡ true) }
@@ -159,6 +161,8 @@ impl<D: Device, J: JournalDevice> Node<D, J> {
         ensures log_failed { IsErrOf result (NodeError.Journal NoteError.DeviceFailed)
             → HasRisenIn J.failure_count (device_in self.old.journal) (device_in self.new.journal) }
         ensures no_journal { (e : NoteError) → self.old.journal ≡ None → IsErrOf result (NodeError.Journal e) → ⊥ }
+        // There is no other cause than that, no room, and an update without a spelling: want of memory stops no node.
+        ensures log_causes { (e : NoteError) → IsErrOf result (NodeError.Journal e) → IsOfKeepingOne e }
         ensures foreign_journal { IsErrOf result NodeError.ForeignJournal → ⊥ }
         ensures stale_journal { IsErrOf result NodeError.StaleJournal → ⊥ }
 
@@ -230,8 +234,8 @@ impl<D: Device, J: JournalDevice> Node<D, J> {
         ensures same { IsSameNode self.old self.new }
         ensures catch_up { OnOk result (self.new.catch_up ≡ left_to_catch_up self.old.catch_up self.new.replica) }
 
-        // Without a journal the whole batch may be refused memory, and changes nothing then; with one, single events are.
-        ensures no_memory { IsErrOf result NodeError.NoMemory → (self.new ≡ self.old) × (self.old.journal ≡ None) }
+        // The whole batch may be refused memory, and changes nothing then.
+        ensures no_memory { IsErrOf result NodeError.NoMemory → self.new ≡ self.old }
 
         // A node that has stopped answers so, and changes nothing.
         ensures halted { IsErrOf result NodeError.Halted ↔ (self.old.is_halted ≡ true) }
@@ -256,6 +260,8 @@ impl<D: Device, J: JournalDevice> Node<D, J> {
         ensures log_failed { IsErrOf result (NodeError.Journal NoteError.DeviceFailed)
             → HasRisenIn J.failure_count (device_in self.old.journal) (device_in self.new.journal) }
         ensures no_journal { (e : NoteError) → self.old.journal ≡ None → IsErrOf result (NodeError.Journal e) → ⊥ }
+        // There is no other cause than that, no room, and an update without a spelling: want of memory stops no node.
+        ensures log_causes { (e : NoteError) → IsErrOf result (NodeError.Journal e) → IsOfKeepingOne e }
         ensures foreign_journal { IsErrOf result NodeError.ForeignJournal → ⊥ }
         ensures stale_journal { IsErrOf result NodeError.StaleJournal → ⊥ }
 
@@ -411,11 +417,39 @@ impl<D: Device, J: JournalDevice> Node<D, J> {
         self.replica.log.len() as u64
     }
 
+    /// The records of its log, in their order.
+    pub fn log(&self) -> &[LogEntry<Op>]
+        ensures { result.now ≡ self.now.replica.log }
+    {
+        self.replica.log.as_slice()
+    }
+
+    /// How many of them are committed.
+    pub fn commit_number(&self) -> u64
+        ensures { result ≡ self.now.replica.commit_number }
+    {
+        self.replica.commit_number
+    }
+
     /// The replica's view.
     pub fn view_number(&self) -> u64
         ensures { result ≡ self.now.replica.view_number }
     {
         self.replica.view_number
+    }
+
+    /// The last view in which the replica's status was normal.
+    pub fn last_normal_view(&self) -> u64
+        ensures { result ≡ self.now.replica.last_normal_view }
+    {
+        self.replica.last_normal_view
+    }
+
+    /// Whether the replica has a state of its own: it doesn't recover.
+    pub fn remembers(&self) -> bool
+        ensures { result ≡ not (is_recovering self.now.replica.status) }
+    {
+        !is_recovering(&self.replica)
     }
 
     /// Which start of the replica this is, counted from 1.

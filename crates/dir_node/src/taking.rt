@@ -6,28 +6,21 @@ ghost use Rattle.dir_node.specs.Logged.{HasRisenIn, LeavesOnlyIn, TellsSome, dev
 ghost use Rattle.dir_node.specs.private.Logged.{GoesAlong, IsHeldIn, IsToldIn};
 ghost use Rattle.dir_node.specs.NodeState.{given};
 ghost use Rattle.dir_node.specs.declared.fault.Untaken.TheVariants as untaken;
+ghost use Rattle.log_journal.specs.Refused.{IsOfKeepingOne};
 ghost use Rattle.log_journal.specs.Told.{Told};
 ghost use Rattle.vr_state.specs.Step.{step as step_of};
 ghost use Rattle.vr_state.specs.Views.{state};
 
 use crate::fault::Untaken;
-use log_journal::{Device as JournalDevice, Journal, NoteError, keep_events, step};
+use log_journal::{Device as JournalDevice, Journal, NoteError, keep_event, keep_events, step};
 use state_machine::Op;
 use std::alloc::{AllocError, Global};
 use vr_state::event::Event;
 use vr_state::message::Outputs;
 use vr_state::replica::Replica;
 
-/// The only one of these.
-fn only_of<T: Drop>(list: Vec<T>) -> Option<T>
-    ensures { (x : T) → list.items ≡ x ∷ [] → result ≡ Some x }
-{
-    let mut list = list;
-    list.pop()
-}
-
-/// A replica takes an event, and its journal keeps it as it is then. `NoMemory` leaves the event out: nothing of the replica has changed. After
-/// another error the replica and its journal are of no use until the replica is started again.
+/// A replica takes an event, and its journal keeps it as it is then. `NoMemory` leaves the event out: nothing has changed. After another error the
+/// replica and its journal are of no use until the replica is started again.
 fn take_noted<J: JournalDevice>(
     alloc: Global,
     replica: &mut Replica<Op>,
@@ -36,36 +29,26 @@ fn take_noted<J: JournalDevice>(
 ) -> Result<Outputs<Op>, Untaken>
     requires held { IsHeldIn J.seen J.may_leave (Some journal.old) }
     ensures step { IfOk result (λ out. given (state replica.new) out ≡ step_of replica.old.count replica.old.index (state replica.old) event) }
-    ensures no_memory { IsErrOf result Untaken.NoMemory → state replica.new ≡ state replica.old }
+    ensures no_memory { IsErrOf result Untaken.NoMemory → (state replica.new ≡ state replica.old) × (journal.new ≡ journal.old) }
     ensures index { replica.new.index ≡ replica.old.index }
     ensures count { replica.new.count ≡ replica.old.count }
     ensures kept { OnOk result (GoesAlong J.seen J.may_leave (state replica.old) (state replica.new) (Some journal.old) (Some journal.new)) }
-    ensures kept_still { IsErrOf result Untaken.NoMemory
-        → GoesAlong J.seen J.may_leave (state replica.old) (state replica.new) (Some journal.old) (Some journal.new) }
     ensures any_moment { (t : Told) → IsToldIn J.seen (Some journal.old) t (state replica.old)
         → LeavesOnlyIn J.moment J.left_since (Some journal.old.device) (Some journal.new.device)
         (TellsSome t replica.old.count replica.old.index (state replica.old) (event ∷ [])) }
+    ensures noted { (e : NoteError) → IsErrOf result (Untaken.Journal e) → IsOfKeepingOne e }
     ensures device_failed { IsErrOf result (Untaken.Journal NoteError.DeviceFailed)
         → HasRisenIn J.failure_count (Some journal.old.device) (Some journal.new.device) }
 {
-    let mut events = Vec::new(alloc);
-    match events.push(event) {
-        Ok(()) => {}
-        Err(_) => return Err(Untaken::NoMemory),
-    }
-    let taken = match keep_events(alloc, replica, journal, events) {
-        Ok(taken) => taken,
-        Err(error) => return Err(Untaken::Journal(error)),
-    };
-    match only_of(taken) {
-        Some(Ok(outputs)) => Ok(outputs),
-        Some(Err(_)) => Err(Untaken::NoMemory),
-        None => Err(Untaken::Journal(NoteError::NoMemory)),
+    match keep_event(alloc, replica, journal, event) {
+        Ok(Ok(outputs)) => Ok(outputs),
+        Ok(Err(_)) => Err(Untaken::NoMemory),
+        Err(error) => Err(Untaken::Journal(error)),
     }
 }
 
-/// A replica takes an event, and its journal, where it keeps one, keeps it as it is then. `NoMemory` leaves the event out: nothing of the replica
-/// has changed. After another error the replica and its journal are of no use until the replica is started again.
+/// A replica takes an event, and its journal, where it keeps one, keeps it as it is then. `NoMemory` leaves the event out: nothing has changed. After
+/// another error, which isn't want of memory, the replica and its journal are of no use until the replica is started again.
 pub fn take_one<J: JournalDevice>(
     alloc: Global,
     replica: &mut Replica<Op>,
@@ -74,16 +57,15 @@ pub fn take_one<J: JournalDevice>(
 ) -> Result<Outputs<Op>, Untaken>
     requires held { IsHeldIn J.seen J.may_leave journal.old }
     ensures step { IfOk result (λ out. given (state replica.new) out ≡ step_of replica.old.count replica.old.index (state replica.old) event) }
-    ensures no_memory { IsErrOf result Untaken.NoMemory → state replica.new ≡ state replica.old }
+    ensures no_memory { IsErrOf result Untaken.NoMemory → (state replica.new ≡ state replica.old) × (journal.new ≡ journal.old) }
     ensures index { replica.new.index ≡ replica.old.index }
     ensures count { replica.new.count ≡ replica.old.count }
     ensures journaled { is_some journal.new ≡ is_some journal.old }
     ensures kept { OnOk result (GoesAlong J.seen J.may_leave (state replica.old) (state replica.new) journal.old journal.new) }
-    ensures kept_still { IsErrOf result Untaken.NoMemory
-        → GoesAlong J.seen J.may_leave (state replica.old) (state replica.new) journal.old journal.new }
     ensures any_moment { (t : Told) → IsToldIn J.seen journal.old t (state replica.old)
         → LeavesOnlyIn J.moment J.left_since (device_in journal.old) (device_in journal.new)
         (TellsSome t replica.old.count replica.old.index (state replica.old) (event ∷ [])) }
+    ensures noted { (e : NoteError) → IsErrOf result (Untaken.Journal e) → IsOfKeepingOne e }
     ensures device_failed { IsErrOf result (Untaken.Journal NoteError.DeviceFailed)
         → HasRisenIn J.failure_count (device_in journal.old) (device_in journal.new) }
     ensures alone { journal.old ≡ None → IfErr result (λ e. e ≡ untaken.NoMemory) }
@@ -117,8 +99,8 @@ fn step_all(
 }
 
 /// A replica takes these events, one after another, and its journal, where it keeps one, keeps it as it is then, by one write and one sync. Each event
-/// gives its outputs, or is left out for want of memory. `NoMemory` is the error of a replica without a journal: nothing of it has changed. After
-/// another error the replica and its journal are of no use until the replica is started again.
+/// gives its outputs, or is left out for want of memory; at `NoMemory` all are left out, and nothing has changed. After another error, which isn't
+/// want of memory, the replica and its journal are of no use until the replica is started again.
 pub fn take_all<J: JournalDevice>(
     alloc: Global,
     replica: &mut Replica<Op>,
@@ -127,7 +109,7 @@ pub fn take_all<J: JournalDevice>(
 ) -> Result<Vec<Result<Outputs<Op>, AllocError>>, Untaken>
     requires held { IsHeldIn J.seen J.may_leave journal.old }
     ensures taken { IfOk result (λ outputs. MakesSteps replica.old.count replica.old.index (state replica.old) events.items outputs.items (state replica.new)) }
-    ensures no_memory { IsErrOf result Untaken.NoMemory → (state replica.new ≡ state replica.old) × (journal.old ≡ None) × (journal.new ≡ None) }
+    ensures no_memory { IsErrOf result Untaken.NoMemory → (state replica.new ≡ state replica.old) × (journal.new ≡ journal.old) }
     ensures index { replica.new.index ≡ replica.old.index }
     ensures count { replica.new.count ≡ replica.old.count }
     ensures journaled { is_some journal.new ≡ is_some journal.old }
@@ -135,6 +117,7 @@ pub fn take_all<J: JournalDevice>(
     ensures any_moment { (t : Told) → IsToldIn J.seen journal.old t (state replica.old)
         → LeavesOnlyIn J.moment J.left_since (device_in journal.old) (device_in journal.new)
         (TellsSome t replica.old.count replica.old.index (state replica.old) events.items) }
+    ensures noted { (e : NoteError) → IsErrOf result (Untaken.Journal e) → IsOfKeepingOne e }
     ensures device_failed { IsErrOf result (Untaken.Journal NoteError.DeviceFailed)
         → HasRisenIn J.failure_count (device_in journal.old) (device_in journal.new) }
     ensures alone { journal.old ≡ None → IfErr result (λ e. e ≡ untaken.NoMemory) }
@@ -142,6 +125,7 @@ pub fn take_all<J: JournalDevice>(
     match journal {
         Some(journal) => match keep_events(alloc, replica, journal, events) {
             Ok(outputs) => Ok(outputs),
+            Err(NoteError::NoMemory) => Err(Untaken::NoMemory),
             Err(error) => Err(Untaken::Journal(error)),
         },
         None => {

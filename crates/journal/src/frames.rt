@@ -1,5 +1,5 @@
 //! Writes frames and reads them: a string with its length and the number of its octets that aren't zero.
-ghost use Rattle.std.specs.Prelude.{◌≡◌, ◌<◌, ◌≤◌, ◌+◌, ◌%◌, ◌^◌, ◌++◌, ◌∷◌, [], nat_le, ◌&&◌, true, false, length, drop, OnOk, OnErr, IfSome, IfNone};
+ghost use Rattle.std.specs.Prelude.{◌≡◌, ◌<◌, ◌≤◌, ◌+◌, ◌%◌, ◌^◌, ◌++◌, ◌∷◌, [], nat_le, ◌&&◌, true, false, length, vec_len, vec_capacity, drop, OnOk, OnErr, IfSome, IfNone};
 ghost use Rattle.journal.specs.Frames.{are_digits, digits, number, nonzeros, frame, head_length, is_whole, body_at, after};
 
 use std::alloc::AllocError;
@@ -36,9 +36,12 @@ fn number(a: u8, b: u8, c: u8, d: u8, e: u8) -> u64
     low + 16_384 * c.saturating_sub(128) as u64 + 2_097_152 * high
 }
 
-/// Adds a number in five digits. Its only error is want of memory.
+/// Adds a number in five digits. Its only error is want of memory, where there is no room.
 fn put_number(out: &mut Vec<u8>, number: u64) -> Result<(), AllocError>
     ensures ok { OnOk result (out.new.items ≡ out.old.items ++ digits 5 number) }
+    ensures len { OnOk result (vec_len out.new ≡ vec_len out.old + 5) }
+    ensures capacity { vec_capacity out.old ≤ vec_capacity out.new }
+    ensures full { OnErr result (vec_capacity out.old < vec_len out.old + 5) }
     ensures kept { out.new.items ≡ out.old.items ++ drop (length out.old.items) out.new.items }
 {
     let second = number / 128;
@@ -54,9 +57,11 @@ fn put_number(out: &mut Vec<u8>, number: u64) -> Result<(), AllocError>
     ])
 }
 
-/// Adds the frame of a string, or a part of it. Its only error is want of memory.
+/// Adds the frame of a string, or a part of it. Its only error is want of memory, where there is no room.
 fn put_frame(out: &mut Vec<u8>, string: &[u8]) -> Result<(), AllocError>
     ensures ok { OnOk result (out.new.items ≡ out.old.items ++ frame string.now) }
+    ensures capacity { vec_capacity out.old ≤ vec_capacity out.new }
+    ensures full { OnErr result (vec_capacity out.old < vec_len out.old + (10 + length string.now)) }
     ensures kept { out.new.items ≡ out.old.items ++ drop (length out.old.items) out.new.items }
 {
     put_number(out, string.len() as u64)?;
@@ -64,10 +69,12 @@ fn put_frame(out: &mut Vec<u8>, string: &[u8]) -> Result<(), AllocError>
     out.extend_from_slice(string)
 }
 
-/// Adds the frame of a string. At an error, which is want of memory, nothing has changed.
+/// Adds the frame of a string. At an error, which is want of memory, nothing has changed; where there is room for the frame,
+/// there is none.
 pub fn put_string(out: &mut Vec<u8>, string: &[u8]) -> Result<(), AllocError>
     ensures ok { OnOk result (out.new.items ≡ out.old.items ++ frame string.now) }
     ensures err { OnErr result (out.new.items ≡ out.old.items) }
+    ensures full { OnErr result (vec_capacity out.old < vec_len out.old + (10 + length string.now)) }
 {
     let before = out.len();
     match put_frame(out, string) {

@@ -1,5 +1,5 @@
 -- One string more in a batch. In: octets that are the frames of their strings. Out: the same with a frame more, and what they are read as.
-use Rattle.std.proofs.Common.{◌≡◌, ◌<◌, ◌+◌, ◌^◌, ℕ, List, [], ◌∷◌, ◌++◌, length, sym, ap, ◌∙◌, subst, arith, append_assoc, length-append}
+use Rattle.std.proofs.Common.{◌≡◌, ◌<◌, ◌+◌, ◌^◌, ℕ, List, [], ◌∷◌, ◌++◌, length, refl, sym, ap, ◌∙◌, subst, arith, append_assoc, length-append}
 use Rattle.std.proofs.lemmas.List.{append-nil}
 use Rattle.journal.specs.Frames.{frame, frames, recorded, FramesAreRead}
 use Rattle.log_journal.specs.private.Framed.{IsFramed}
@@ -27,3 +27,18 @@ module _ (law : FramesAreRead) (old s new : List ℕ) (h : IsFramed old) (is : n
 
   pub framed_more : IsFramed new
   framed_more = record { framed = are_frames ∙ ap frames (sym read_more); short = short }
+
+frames_both : (xs bs : List (List ℕ)) → frames (xs ++ bs) ≡ frames xs ++ frames bs
+frames_both [] bs = refl
+frames_both (x ∷ xs) bs = ap (λ (l : List ℕ). frame x ++ l) (frames_both xs bs) ∙ sym (append_assoc (frame x) (frames xs) (frames bs))
+
+-- the frames of two batches, one behind the other
+module _ (law : FramesAreRead) (old more new : List ℕ) (h : IsFramed old) (k : IsFramed more) (is : new ≡ old ++ more) (short : length new < 2 ^ 35) where
+  are_both : new ≡ frames (recorded old ++ recorded more)
+  are_both = is ∙ ap (λ (l : List ℕ). l ++ more) h.framed ∙ ap (λ (l : List ℕ). frames (recorded old) ++ l) k.framed ∙ sym (frames_both (recorded old) (recorded more))
+
+  pub read_both : recorded new ≡ recorded old ++ recorded more
+  read_both = ap recorded (are_both ∙ sym (append-nil (frames (recorded old ++ recorded more)))) ∙ law (recorded old ++ recorded more) 0 (subst (λ (l : List ℕ). length l < 2 ^ 35) are_both short)
+
+  pub framed_both : IsFramed new
+  framed_both = record { framed = are_both ∙ ap frames (sym read_both); short = short }

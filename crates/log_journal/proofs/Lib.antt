@@ -2,6 +2,7 @@ pub mod Along
 pub mod Batching
 pub mod Finding
 pub mod Joining
+pub mod Lightly
 pub mod NoNote
 pub mod OfTaken
 pub mod OneTold

@@ -62,3 +62,8 @@ module _ (f : Fields) (range : AreInRange f) where
 -- The law.
 pub fields_read : FieldsAreRead
 fields_read f range = read_back f range
+
+-- how long the string of a note is
+pub string_length : (f : Fields) → length (string_of f) ≡ 49 + length f.rest
+unfolding numeral
+string_length f = omega (arith, length-append (body_of f) (numeral (sum_of (body_of f))))

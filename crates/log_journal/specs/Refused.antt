@@ -49,6 +49,12 @@ IsOfNoting Full = Unit {0}
 IsOfNoting Unwritable = Unit {0}
 IsOfNoting e = ⊥
 
+-- Noting one step is refused for these alone: want of memory has left its event out before.
+abbrev pub IsOfNotingOne : NoteError → Type 0
+IsOfNotingOne Full = Unit {0}
+IsOfNotingOne Unwritable = Unit {0}
+IsOfNotingOne e = ⊥
+
 -- The frames of a batch with a string that spells a note are too long.
 pub record HasNoRoom (x : Note) (batch : List (List ℕ)) : Type 0 where
   pub string : List ℕ
@@ -59,6 +65,11 @@ pub record HasNoRoom (x : Note) (batch : List (List ℕ)) : Type 0 where
 abbrev pub IsOfKeeping : NoteError → Type 0
 IsOfKeeping DeviceFailed = Unit {0}
 IsOfKeeping e = IsOfNoting e
+
+-- Keeping one event is refused for these alone.
+abbrev pub IsOfKeepingOne : NoteError → Type 0
+IsOfKeepingOne DeviceFailed = Unit {0}
+IsOfKeepingOne e = IsOfNotingOne e
 
 -- Settling a batch is refused for these alone.
 abbrev pub IsOfSettling : NoteError → Type 0

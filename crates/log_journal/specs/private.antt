@@ -2,6 +2,7 @@
 pub mod Apart
 pub mod Found
 pub mod Framed
+pub mod Light
 pub mod Notes
 pub mod Refused
 pub mod Told

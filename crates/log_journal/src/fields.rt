@@ -1,5 +1,5 @@
 //! Spells the fields of a note, and reads them.
-ghost use Rattle.std.specs.Prelude.{◌≡◌, ◌+◌, ◌≤◌, ◌++◌, length, true, false, IfOk, OnOk, IfSome, MatchOption};
+ghost use Rattle.std.specs.Prelude.{◌≡◌, ◌+◌, ◌≤◌, ◌<◌, ◌++◌, [], length, vec_len, vec_capacity, true, false, IfOk, OnOk, OnErr, IfSome, MatchOption};
 ghost use Rattle.std.specs.Str.{bytes_eq};
 ghost use Rattle.log_journal.specs.Fields.{body_of, fields_at, fields_of, front_of, is_summed, number_at, number_octets, numeral, string_of, sum_of};
 ghost use Rattle.log_journal.specs.Views.{fields_view};
@@ -14,7 +14,7 @@ const SUM: usize = 8;
 const NUMBERS_END: usize = 41;
 
 /// The least length of a string: a kind, five numbers and a sum.
-const LEAST: usize = 49;
+pub const LEAST: usize = 49;
 
 /// The fields of a note.
 #[derive(Clone, Copy)]
@@ -47,17 +47,23 @@ fn numeral(number: u64) -> [u8; 8]
     number.to_be_bytes()
 }
 
-/// Adds a number. Its only error is want of memory.
+/// Adds a number. Its only error is want of memory, where there is no room.
 fn put_number(out: &mut Vec<u8>, number: u64) -> Result<(), AllocError>
-    ensures { OnOk result (out.new.items ≡ out.old.items ++ numeral number) }
+    ensures ok { OnOk result (out.new.items ≡ out.old.items ++ numeral number) }
+    ensures len { OnOk result (vec_len out.new ≡ vec_len out.old + 8) }
+    ensures capacity { vec_capacity out.old ≤ vec_capacity out.new }
+    ensures full { OnErr result (vec_capacity out.old < vec_len out.old + 8) }
 {
     let octets = numeral(number);
     out.extend_from_slice(&octets)
 }
 
-/// Adds the five numbers. Its only error is want of memory.
+/// Adds the five numbers. Its only error is want of memory, where there is no room.
 fn put_numbers(out: &mut Vec<u8>, fields: &Fields<'_>) -> Result<(), AllocError>
-    ensures { OnOk result (out.new.items ≡ out.old.items ++ number_octets (fields_view fields.now)) }
+    ensures ok { OnOk result (out.new.items ≡ out.old.items ++ number_octets (fields_view fields.now)) }
+    ensures len { OnOk result (vec_len out.new ≡ vec_len out.old + 40) }
+    ensures capacity { vec_capacity out.old ≤ vec_capacity out.new }
+    ensures full { OnErr result (vec_capacity out.old < vec_len out.old + 40) }
 {
     put_number(out, fields.first)?;
     put_number(out, fields.second)?;
@@ -67,24 +73,37 @@ fn put_numbers(out: &mut Vec<u8>, fields: &Fields<'_>) -> Result<(), AllocError>
     Ok(())
 }
 
-/// What stands in front of the sum. Its only error is want of memory.
-fn body_of(alloc: Global, fields: &Fields<'_>) -> Result<Vec<u8>, AllocError>
-    ensures { IfOk result (λ body. body.items ≡ body_of (fields_view fields.now)) }
+/// Adds what stands in front of the sum. Its only error is want of memory, where there is no room.
+fn put_body(out: &mut Vec<u8>, fields: &Fields<'_>) -> Result<(), AllocError>
+    ensures ok { OnOk result (out.new.items ≡ out.old.items ++ body_of (fields_view fields.now)) }
+    ensures len { OnOk result (vec_len out.new ≡ vec_len out.old + (41 + length fields.now.rest.now)) }
+    ensures capacity { vec_capacity out.old ≤ vec_capacity out.new }
+    ensures full { OnErr result (vec_capacity out.old < vec_len out.old + (41 + length fields.now.rest.now)) }
 {
-    let mut body = Vec::new(alloc);
-    body.push(fields.kind)?;
-    put_numbers(&mut body, fields)?;
-    body.extend_from_slice(fields.rest)?;
-    Ok(body)
+    out.push(fields.kind)?;
+    put_numbers(out, fields)?;
+    out.extend_from_slice(fields.rest)?;
+    Ok(())
+}
+
+/// Spells a note into a buffer that is empty. Its only error is want of memory, where the buffer has no room for it.
+pub fn spell_fields(out: &mut Vec<u8>, fields: &Fields<'_>) -> Result<(), AllocError>
+    requires empty { out.old.items ≡ [] }
+    ensures ok { OnOk result (out.new.items ≡ string_of (fields_view fields.now)) }
+    ensures full { OnErr result (vec_capacity out.old < 49 + length fields.now.rest.now) }
+{
+    put_body(out, fields)?;
+    let sum = sum_of(out.as_slice());
+    put_number(out, sum)?;
+    Ok(())
 }
 
 /// The string of a note. Its only error is want of memory.
 pub fn write_fields(alloc: Global, fields: &Fields<'_>) -> Result<Vec<u8>, AllocError>
     ensures { IfOk result (λ string. string.items ≡ string_of (fields_view fields.now)) }
 {
-    let mut string = body_of(alloc, fields)?;
-    let sum = sum_of(&string);
-    put_number(&mut string, sum)?;
+    let mut string = Vec::new(alloc);
+    spell_fields(&mut string, fields)?;
     Ok(string)
 }
 

@@ -1,19 +1,20 @@
 //! A replica and its journal go along: a batch of events is taken, and its notes are settled by one write and one sync.
 //! What is sent or answered for it is handed out by the caller, after that.
-ghost use Rattle.std.specs.Prelude.{◌≡◌, ◌≤◌, ◌<◌, ◌+◌, ◌^◌, ◌++◌, length, IfOk, IfErr, OnOk, IsErrOf};
+ghost use Rattle.std.specs.Prelude.{◌≡◌, ◌≤◌, ◌<◌, ◌+◌, ◌^◌, ◌++◌, ◌∷◌, [], length, IfOk, IfErr, OnOk, OnErr, IsErrOf};
 ghost use Rattle.journal.specs.Device.{HasRisen, LeavesOnly};
 ghost use Rattle.journal.specs.Frames.{frames, recorded};
 ghost use Rattle.journal.specs.Journal.{IsGrown, IsSettled};
 ghost use Rattle.log_journal.specs.Kept.{IsHeld, IsMemory, IsMemoryOfTaken};
-ghost use Rattle.log_journal.specs.Refused.{HasRoom, IsOfKeeping, IsOfSettling};
-ghost use Rattle.log_journal.specs.Taken.{IsTaken};
+ghost use Rattle.log_journal.specs.Refused.{HasRoom, IsOfKeeping, IsOfKeepingOne, IsOfSettling};
+ghost use Rattle.log_journal.specs.Taken.{IsTaken, given};
 ghost use Rattle.log_journal.specs.Told.{Told};
+ghost use Rattle.vr_state.specs.Step.{step as step_of};
 ghost use Rattle.vr_state.specs.Views.{state};
 
 use crate::batch::Batch;
 use crate::error::NoteError;
 use crate::laws::{taken_is_told, told_goes_on};
-use crate::taking::take_events;
+use crate::taking::{take_event, take_events};
 use journal::{Device, GrowthError, Journal};
 use ldap_op::Op;
 use std::alloc::{AllocError, Global};
@@ -61,6 +62,8 @@ pub fn settle<J: Device>(journal: &mut Journal<J>, batch: &Batch) -> Result<(), 
     ensures strings { OnOk result (recorded (J.seen journal.new.device) ≡ recorded (J.seen journal.old.device) ++ batch.now) }
     ensures any_moment { LeavesOnly J.moment J.left_since journal.old.device journal.new.device
         (IsGrown (recorded (J.seen journal.old.device)) batch.now) }
+    // No strings are settled without a call.
+    ensures none { batch.now ≡ [] → journal.new ≡ journal.old }
     ensures device_failed { IsErrOf result NoteError.DeviceFailed → HasRisen (J.failure_count journal.old.device) (J.failure_count journal.new.device) }
     // It isn't full where there is room already.
     ensures full { IsErrOf result NoteError.Full
@@ -76,8 +79,46 @@ pub fn settle<J: Device>(journal: &mut Journal<J>, batch: &Batch) -> Result<(), 
     Ok(())
 }
 
+/// A replica takes an event, and its journal keeps it as it is then. The inner error is want of memory: the event is left out, and neither the replica nor
+/// its journal has changed. After the outer one, which isn't, the replica and its journal are of no use until the replica is started again.
+pub fn keep_event<J: Device>(
+    alloc: Global,
+    replica: &mut Replica<Op>,
+    journal: &mut Journal<J>,
+    event: Event<Op>,
+) -> Result<Result<Outputs<Op>, AllocError>, NoteError>
+    requires { IsHeld J.seen J.may_leave journal.old }
+    // The event makes its step.
+    ensures step { IfOk result (λ taken. IfOk taken (λ out.
+        given (state replica.new) out ≡ step_of replica.old.count replica.old.index (state replica.old) event)) }
+    ensures left_out { IfOk result (λ taken. OnErr taken ((state replica.new ≡ state replica.old) × (journal.new ≡ journal.old))) }
+    ensures index { replica.new.index ≡ replica.old.index }
+    ensures count { replica.new.count ≡ replica.old.count }
+    // The journal is settled, and tells the replica as it is now.
+    ensures held { OnOk result (IsHeld J.seen J.may_leave journal.new) }
+    ensures memory { OnOk result ((t : Told) → IsMemory t (state replica.old) (recorded (J.seen journal.old.device))
+        → IsMemory t (state replica.new) (recorded (J.seen journal.new.device))) }
+    // A crash at any moment of the call leaves the replica as it is before the event or after it.
+    ensures any_moment { (t : Told) → IsMemory t (state replica.old) (recorded (J.seen journal.old.device))
+        → LeavesOnly J.moment J.left_since journal.old.device journal.new.device
+        (λ c. IsMemoryOfTaken t replica.old.count replica.old.index (state replica.old) (event ∷ []) (recorded c)) }
+    ensures device_failed { IsErrOf result NoteError.DeviceFailed → HasRisen (J.failure_count journal.old.device) (J.failure_count journal.new.device) }
+    ensures errors { IfErr result (λ e. IsOfKeepingOne e) }
+{
+    taken_is_told();
+    told_goes_on();
+    let mut batch = Batch::new(alloc);
+    let taken = match take_event(alloc, replica, &mut batch, event) {
+        Ok(taken) => taken,
+        Err(error) => return Err(error),
+    };
+    settle(journal, &batch)?;
+    Ok(taken)
+}
+
 /// A replica takes these events, and its journal keeps it as it is then. Each event gives its outputs, or is left out for want of
-/// memory. After an error of the whole the replica and its journal are of no use until the replica is started again.
+/// memory; so is the whole, and then neither the replica nor its journal has changed. After another error of the whole the replica and
+/// its journal are of no use until the replica is started again.
 pub fn keep_events<J: Device>(
     alloc: Global,
     replica: &mut Replica<Op>,
@@ -97,6 +138,7 @@ pub fn keep_events<J: Device>(
     ensures any_moment { (t : Told) → IsMemory t (state replica.old) (recorded (J.seen journal.old.device))
         → LeavesOnly J.moment J.left_since journal.old.device journal.new.device
         (λ c. IsMemoryOfTaken t replica.old.count replica.old.index (state replica.old) events.items (recorded c)) }
+    ensures no_memory { IsErrOf result NoteError.NoMemory → (state replica.new ≡ state replica.old) × (journal.new ≡ journal.old) }
     ensures device_failed { IsErrOf result NoteError.DeviceFailed → HasRisen (J.failure_count journal.old.device) (J.failure_count journal.new.device) }
     ensures errors { IfErr result (λ e. IsOfKeeping e) }
 {

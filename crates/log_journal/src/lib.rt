@@ -12,10 +12,12 @@
 
 mod alike;
 mod batch;
+mod copying;
 mod error;
 mod fields;
 mod keeping;
 mod laws;
+mod light;
 mod notes;
 mod opening;
 mod spelling;
@@ -29,7 +31,7 @@ pub use batch::Batch;
 pub use error::NoteError;
 pub use fields::{Fields, read_fields, write_fields};
 pub use journal::{Device, DeviceFailure, GrowthError, Journal, JournalError, MemoryDevice};
-pub use keeping::{keep_events, settle};
+pub use keeping::{keep_event, keep_events, settle};
 pub use laws::{batches_are_told, fields_are_read, one_is_told, taken_is_told, told_goes_on};
 pub use notes::{put_begin, put_commit, put_start};
 pub use opening::open;

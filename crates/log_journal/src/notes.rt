@@ -36,7 +36,7 @@ fn see_kind(kind: u8)
 }
 
 // prover: fields fit their octets
-fn see_fields(fields: &Fields<'_>)
+pub fn see_fields(fields: &Fields<'_>)
     ensures { AreInRange (fields_view fields.now) }
 {
     see_kind(fields.kind);
@@ -63,7 +63,7 @@ fn put_fields(alloc: Global, batch: &mut Batch, fields: &Fields<'_>) -> Result<(
 }
 
 /// Five numbers, and nothing behind them.
-fn plain(kind: u8, first: u64, second: u64, third: u64, fourth: u64) -> Fields<'static>
+pub fn plain(kind: u8, first: u64, second: u64, third: u64, fourth: u64) -> Fields<'static>
     ensures { fields_view result ≡ plain kind first second third fourth 0 }
 {
     Fields {
@@ -169,9 +169,10 @@ pub fn put_commit(alloc: Global, batch: &mut Batch, commit_number: u64) -> Resul
 }
 
 /// The fields of a record whose update has these octets.
-fn entry_fields<'a>(kind: u8, first: u64, entry: &LogEntry<Op>, octets: &'a [u8]) -> Fields<'a>
+pub fn entry_fields<'a>(kind: u8, first: u64, entry: &LogEntry<Op>, octets: &'a [u8]) -> Fields<'a>
     requires { IsOp entry.now.payload octets.now }
-    ensures { IsEntryIn kind first entry.now (fields_view result) }
+    ensures entry { IsEntryIn kind first entry.now (fields_view result) }
+    ensures rest { result.rest.now ≡ octets.now }
 {
     Fields {
         kind,

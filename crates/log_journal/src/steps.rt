@@ -43,7 +43,7 @@ fn brings_tail(event: &Event<Op>) -> bool
 }
 
 /// Whether a replica's status is normal.
-fn is_normal(status: Status) -> bool
+pub fn is_normal(status: Status) -> bool
     ensures { result ≡ is_normal status }
 {
     match status {

@@ -12,6 +12,7 @@ pub loop-event-init : goal.loop-event-init
 loop-event-init c = (
   refl,
   refl,
+  grind (arith, c.in_ok-all.ensures.items, c.in_ok-all.ensures.capacity),
   λ xs s new h.
       let e : c.into_iter-event-iterator.result.rest.items ≡ c.args.events.items = search rules in
       let r = c.args.replica.now in
@@ -23,6 +24,7 @@ pub loop-event-preserved : goal.loop-event-preserved
 loop-event-preserved c = (
   c.take_event.ensures.index ∙ c.loop-event.invariant.0,
   c.take_event.ensures.count ∙ c.loop-event.invariant.1,
+  grind (arith, c.loop-event.invariant.2, c.push_reserved.ensures.items, c.push_reserved.ensures.capacity, c.in-Some.ensures.steps),
   λ xs s new h.
       let r = c.args.replica.now in
       let q = c.loop-event.replica in
@@ -30,8 +32,8 @@ loop-event-preserved c = (
       let one = subst (λ (k : ℕ). Takes k r.index (state q) c.in-Some.event x (state c.take_event.new.replica) c.loop-event.batch c.take_event.new.batch) c.loop-event.invariant.1
       (subst (λ (k : ℕ). Takes q.count k (state q) c.in-Some.event x (state c.take_event.new.replica) c.loop-event.batch c.take_event.new.batch) c.loop-event.invariant.0 c.in_ok-taken.ensures.taken) in
       subst (λ (l : List (Result (Outputs OpValue) AllocError)). TakesAll r.count r.index (state r) c.args.events.items l s c.args.batch.now new)
-      (sym (ap (λ (l : List (Result (Outputs OpValue) AllocError)). l ++ xs) c.in-Ok.ensures.items ∙ append_assoc c.loop-event.all.items (x ∷ []) xs))
-      (c.loop-event.invariant.2 (x ∷ xs) s new
+      (sym (ap (λ (l : List (Result (Outputs OpValue) AllocError)). l ++ xs) c.push_reserved.ensures.items ∙ append_assoc c.loop-event.all.items (x ∷ []) xs))
+      (c.loop-event.invariant.3 (x ∷ xs) s new
       (subst (λ (l : List (Event OpValue)). TakesAll r.count r.index (state q) l (x ∷ xs) s c.loop-event.batch new) (sym c.in-Some.ensures.steps.0)
       (state c.take_event.new.replica, c.take_event.new.batch, one, h))),
 )
@@ -42,5 +44,5 @@ returns-clause-taken c =
     let q = c.loop-event.replica in
     let nothing : c.loop-event.event-iterator.rest.items ≡ [] = nil_from_length c.loop-event.event-iterator.rest.items (omega (arith, c.in-None.ensures.steps.0)) in
     subst (λ (l : List (Result (Outputs OpValue) AllocError)). TakesAll r.count r.index (state r) c.args.events.items l (state q) c.args.batch.now c.loop-event.batch) (append-nil c.loop-event.all.items)
-    (c.loop-event.invariant.2 [] (state q) c.loop-event.batch
+    (c.loop-event.invariant.3 [] (state q) c.loop-event.batch
     (subst (λ (l : List (Event OpValue)). TakesAll r.count r.index (state q) l [] (state q) c.loop-event.batch c.loop-event.batch) (sym nothing) (refl, refl)))
