@@ -1,1 +1,3 @@
 pub mod Passing
+pub mod Remembering
+pub mod Spelling
