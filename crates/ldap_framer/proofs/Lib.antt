@@ -1,3 +1,4 @@
+pub mod Weighed
 pub mod Frames
 pub mod Seen
 pub mod OneReading

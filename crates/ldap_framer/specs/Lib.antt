@@ -1,4 +1,5 @@
 pub mod Stream
 pub mod Framed
 pub mod View
+pub mod Weighing
 pub mod private

@@ -2,31 +2,35 @@
 //! In: pieces of a stream. Out: its messages, one after the other, or the fault where it stops.
 //! Not here: sockets, what a message asks for.
 
-ghost use Rattle.std.specs.Prelude.{◌≡◌, ◌⊎◌, ℕ, List, [], ◌∷◌, ◌++◌, OnOk, IfErr, IfSome, IfNone, None, is_some, slice_get};
+ghost use Rattle.std.specs.Prelude.{◌≡◌, ◌⊎◌, ◌+◌, ◌≤◌, min, length, ℕ, List, [], ◌∷◌, ◌++◌, OnOk, IfErr, IfSome, IfNone, None, is_some, slice_get};
 ghost use Rattle.std.specs.Option.{option_map};
 ghost use Rattle.std.specs.Bool.{OnTrue, OnFalse};
 ghost use Rattle.ldap_msg.specs.Messages.{MessageValue};
 ghost use Rattle.ldap_msg.specs.View.{view};
 ghost use Rattle.ldap_framer.specs.Framed.{HasSeen, Takes, IsFeedFault};
-ghost use Rattle.ldap_framer.specs.View.{framed};
+ghost use Rattle.ldap_framer.specs.View.{framed, room_of};
+ghost use Rattle.ldap_framer.specs.Weighing.{StatesMore};
 ghost use Rattle.ldap_framer.specs.declared.fault.FrameFault.{FrameFault};
 
 use crate::cutting::cut;
 use crate::fault::FrameFault;
+use crate::weighing::weight;
 use bytes::BytesMut;
 use ldap_msg::{Message, MsgFault};
 use std::alloc::Global;
 use std::collections::VecDeque;
 
-/// How many octets of room a buffer may keep that it doesn't use: two reads of a socket.
+/// How many octets of room a buffer may keep that it doesn't use: two reads of a socket; and where the stream pauses, as many as nobody counts.
 const ROOM: usize = 16_384;
 
-/// Gives back the room of a buffer, where that is more than 16 KiB and three times what the buffer holds: what it holds is copied to a
+const SPARE: usize = 4_096;
+
+/// Gives back the room of a buffer, where that is at least this and three times what the buffer holds: what it holds is copied to a
 /// buffer of its own size. Where there is no memory for that, the room stays. The copy costs less than the octets that have gone.
-fn give_back(alloc: Global, buffer: &mut BytesMut)
+fn give_back(alloc: Global, buffer: &mut BytesMut, room: usize)
     ensures { buffer.new.items ≡ buffer.old.items }
 {
-    let most = buffer.len().saturating_mul(3).max(ROOM);
+    let most = buffer.len().saturating_mul(3).max(room);
     if !buffer.try_reclaim(most) {
         return;
     }
@@ -114,7 +118,7 @@ impl Framer {
                     None => {
                         self.buffer.advance(cut.taken);
                         if cut.taken >= ROOM {
-                            give_back(self.alloc, &mut self.buffer);
+                            give_back(self.alloc, &mut self.buffer, ROOM);
                         }
                         Ok(())
                     }
@@ -147,12 +151,13 @@ impl Framer {
     /// Gives back memory that was kept for octets and for messages: all of it where none are held, and for octets what is much more than those
     /// that are held need. A stream that pauses between two messages keeps nothing then.
     pub fn rest(&mut self)
-        ensures { framed self.new ≡ framed self.old }
+        ensures kept { framed self.new ≡ framed self.old }
+        ensures none { (framed self.old).rest ≡ [] → room_of self.new ≡ 0 }
     {
         if self.buffer.is_empty() {
             self.buffer = BytesMut::new(self.alloc);
         } else {
-            give_back(self.alloc, &mut self.buffer);
+            give_back(self.alloc, &mut self.buffer, SPARE);
         }
         if self.ready.is_empty() {
             self.ready = VecDeque::new(self.alloc);
@@ -171,6 +176,23 @@ impl Framer {
         ensures { result ≡ is_some (framed self.now).fault }
     {
         self.fault.is_some()
+    }
+
+    /// How many octets of memory are kept for octets that begin a message.
+    pub fn room(&self) -> usize
+        ensures room { result ≡ room_of self.now }
+        ensures holds { length (framed self.now).rest ≤ result }
+    {
+        self.buffer.capacity()
+    }
+
+    /// How many octets of memory those messages take, at most, that become whole by so many further octets: at least the octets of them all; 0,
+    /// where the message that is begun states more.
+    pub fn weight_of(&self, count: usize) -> usize
+        ensures begun { StatesMore (framed self.now).rest count → result ≡ 0 }
+        ensures whole { (StatesMore (framed self.now).rest count → ⊥) → min (length (framed self.now).rest + count) 18446744073709551615 ≤ result }
+    {
+        weight(self.buffer.as_slice(), count)
     }
 
     /// Whether octets are left that begin a message and are not a whole one.

@@ -12,6 +12,7 @@ mod fault;
 mod finding;
 mod framer;
 mod laws;
+mod weighing;
 
 pub use fault::FrameFault;
 pub use framer::Framer;

@@ -6,7 +6,7 @@ use Rattle.std.proofs.lemmas.Option.{slice_get_within}
 use Rattle.session_table.specs.Places.{IsAway, IsIn, IsLongest, NoneIn, HasPut}
 use Rattle.session_table.specs.private.Listed.{is_queue, IsFirstAt, Tells, AllTell}
 use Rattle.session_table.specs.declared.spot.Queue.{Queue}
-use Rattle.session_table.specs.declared.spot.Queue.TheVariants.{Silent, Inside, Unsent, Leaving}
+use Rattle.session_table.specs.declared.spot.Queue.TheVariants.{Silent, Inside, Unsent, Leaving, Delayed}
 use Rattle.session_table.specs.declared.spot.Spot.{Spot}
 use Rattle.session_table.specs.declared.spot.Spot.TheVariants.{Away, In}
 
@@ -46,18 +46,27 @@ queue_tells Silent Silent = inl (refl, refl)
 queue_tells Silent Inside = inr (refl, λ e. cc)
 queue_tells Silent Unsent = inr (refl, λ e. cc)
 queue_tells Silent Leaving = inr (refl, λ e. cc)
+queue_tells Silent Delayed = inr (refl, λ e. cc)
 queue_tells Inside Silent = inr (refl, λ e. cc)
 queue_tells Inside Inside = inl (refl, refl)
 queue_tells Inside Unsent = inr (refl, λ e. cc)
 queue_tells Inside Leaving = inr (refl, λ e. cc)
+queue_tells Inside Delayed = inr (refl, λ e. cc)
 queue_tells Unsent Silent = inr (refl, λ e. cc)
 queue_tells Unsent Inside = inr (refl, λ e. cc)
 queue_tells Unsent Unsent = inl (refl, refl)
 queue_tells Unsent Leaving = inr (refl, λ e. cc)
+queue_tells Unsent Delayed = inr (refl, λ e. cc)
 queue_tells Leaving Silent = inr (refl, λ e. cc)
 queue_tells Leaving Inside = inr (refl, λ e. cc)
 queue_tells Leaving Unsent = inr (refl, λ e. cc)
 queue_tells Leaving Leaving = inl (refl, refl)
+queue_tells Leaving Delayed = inr (refl, λ e. cc)
+queue_tells Delayed Silent = inr (refl, λ e. cc)
+queue_tells Delayed Inside = inr (refl, λ e. cc)
+queue_tells Delayed Unsent = inr (refl, λ e. cc)
+queue_tells Delayed Leaving = inr (refl, λ e. cc)
+queue_tells Delayed Delayed = inl (refl, refl)
 
 both : (x y : Bool) → x ≡ true → y ≡ true → (x && y) ≡ true
 both x y p q = grind (arith, p, q)

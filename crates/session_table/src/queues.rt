@@ -19,6 +19,7 @@ pub struct Queues {
     inside: Turns,
     unsent: Turns,
     leaving: Turns,
+    delayed: Turns,
 }
 
 /// The place that has stood longest in a queue.
@@ -42,6 +43,7 @@ impl Queues {
             inside: BTreeMap::new(alloc),
             unsent: BTreeMap::new(alloc),
             leaving: BTreeMap::new(alloc),
+            delayed: BTreeMap::new(alloc),
         }
     }
 
@@ -56,6 +58,7 @@ impl Queues {
             Queue::Inside => self.inside.insert(turn, place)?,
             Queue::Unsent => self.unsent.insert(turn, place)?,
             Queue::Leaving => self.leaving.insert(turn, place)?,
+            Queue::Delayed => self.delayed.insert(turn, place)?,
         };
         Ok(())
     }
@@ -69,6 +72,7 @@ impl Queues {
             Queue::Inside => self.inside.remove(&turn),
             Queue::Unsent => self.unsent.remove(&turn),
             Queue::Leaving => self.leaving.remove(&turn),
+            Queue::Delayed => self.delayed.remove(&turn),
         };
     }
 
@@ -82,6 +86,7 @@ impl Queues {
             Queue::Inside => first_of(&self.inside),
             Queue::Unsent => first_of(&self.unsent),
             Queue::Leaving => first_of(&self.leaving),
+            Queue::Delayed => first_of(&self.delayed),
         }
     }
 }

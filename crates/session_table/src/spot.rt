@@ -11,6 +11,8 @@ pub enum Queue {
     Unsent,
     /// Those that are over, and whose client may still read.
     Leaving,
+    /// Those whose next message is answered only later.
+    Delayed,
 }
 
 /// Where a place stands.

@@ -5,7 +5,7 @@ use Rattle.std.specs.Ordering.{nat_cmp}
 use Rattle.session_table.specs.Places.{IsIn}
 use Rattle.session_table.specs.declared.queues.Queues.{Queues}
 use Rattle.session_table.specs.declared.spot.Queue.{Queue}
-use Rattle.session_table.specs.declared.spot.Queue.TheVariants.{Silent, Inside, Unsent, Leaving}
+use Rattle.session_table.specs.declared.spot.Queue.TheVariants.{Silent, Inside, Unsent, Leaving, Delayed}
 use Rattle.session_table.specs.declared.spot.Spot.{Spot}
 
 -- the place that has stood in this queue since this turn
@@ -14,6 +14,7 @@ place_at queues Silent turn = get nat_cmp queues.silent turn
 place_at queues Inside turn = get nat_cmp queues.inside turn
 place_at queues Unsent turn = get nat_cmp queues.unsent turn
 place_at queues Leaving turn = get nat_cmp queues.leaving turn
+place_at queues Delayed turn = get nat_cmp queues.delayed turn
 
 -- whether two queues are one
 abbrev pub is_queue : Queue → Queue → Bool
@@ -21,6 +22,7 @@ is_queue Silent Silent = true
 is_queue Inside Inside = true
 is_queue Unsent Unsent = true
 is_queue Leaving Leaving = true
+is_queue Delayed Delayed = true
 is_queue a b = false
 
 -- this place stands at a turn, and none at an earlier one

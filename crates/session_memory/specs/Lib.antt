@@ -1,0 +1,4 @@
+pub mod Holding
+pub mod Limit
+pub mod Posted
+pub mod private
