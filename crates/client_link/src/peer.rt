@@ -15,6 +15,9 @@ pub trait Answering {
     /// Tells the other end that it is heard.
     fn answer(&mut self) -> io::Result<()>;
 
+    /// Tells the other end why it isn't.
+    fn refuse(&mut self, why: &[u8]) -> io::Result<()>;
+
     /// From now on the other end sends something within this time, as long as it is there.
     fn expect_within(&mut self, silence: Duration);
 }
@@ -22,6 +25,10 @@ pub trait Answering {
 impl<'a, R: Wait + Clock> Answering for BufReader<PieceReader<'a, R, FrameHeading>> {
     fn answer(&mut self) -> io::Result<()> {
         self.get_mut().answer()
+    }
+
+    fn refuse(&mut self, why: &[u8]) -> io::Result<()> {
+        self.get_mut().refuse(why)
     }
 
     fn expect_within(&mut self, silence: Duration) {

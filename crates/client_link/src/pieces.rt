@@ -75,6 +75,11 @@ impl<'a, R: Wait + Clock, H: Heading> PieceReader<'a, R, H> {
         self.stream.write_all(&[0])
     }
 
+    /// Tells the other end why it isn't heard, by these octets.
+    pub fn refuse(&mut self, why: &[u8]) -> io::Result<()> {
+        self.stream.write_all(why)
+    }
+
     /// The other end sends something within this time, as long as it is there.
     pub fn expect_within(&mut self, silence: Duration) {
         self.silence = Some(silence);

@@ -39,6 +39,34 @@ bind_name (compare c) = None
 bind_name (abandon id) = None
 bind_name (extended_request x) = None
 
+-- whether a request is a search (RFC 4511 4.5)
+abbrev pub is_search : RequestValue → Bool
+is_search (search q) = true
+is_search (bind b) = false
+is_search unbind = false
+is_search (modify m) = false
+is_search (add a) = false
+is_search (delete name) = false
+is_search (modify_dn m) = false
+is_search (compare c) = false
+is_search (abandon id) = false
+is_search (extended_request x) = false
+
+-- whether an operation is one
+abbrev pub is_search_in : OperationValue → Bool
+is_search_in (request r) = is_search r
+is_search_in (response r) = false
+
+-- whether a search stands next, of these messages
+abbrev pub is_search_of : List MessageValue → Bool
+is_search_of [] = false
+is_search_of (m ∷ ms) = is_search_in m.op
+
+-- the same in a conversation that is over, or is not
+abbrev pub is_search_next : Option SessionEnd → Framed → Bool
+is_search_next (Some end) f = false
+is_search_next None f = is_search_of f.ready
+
 -- the name that a bind request names
 abbrev pub bind_name_in : OperationValue → Option (List ℕ)
 bind_name_in (request r) = bind_name r

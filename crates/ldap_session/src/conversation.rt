@@ -1,12 +1,13 @@
 //! Conversations: a session whose messages may be served by one directory after the other. Pieces of its stream come in, and the octets of its
 //! responses are kept until they are sent. Sockets, threads and whose turn it is are above.
-ghost use Rattle.std.specs.Prelude.{◌≡◌, ◌≤◌, ◌++◌, drop, length, Option, Some, None, IfSome, OnOk, OnErr};
+ghost use Rattle.std.specs.Prelude.{◌≡◌, ◌≤◌, ◌↔◌, ◌++◌, min, IsFalse, drop, length, Option, Some, None, IfSome, OnOk, OnErr};
 ghost use Rattle.std.specs.Option.{option_map};
+ghost use Rattle.session_handler.specs.Session.{at_first};
 ghost use Rattle.session_handler.specs.View.{config_view};
 ghost use Rattle.ldap_session.specs.Octets.{joined};
 ghost use Rattle.ldap_session.specs.private.Octets.{HasGrown};
 ghost use Rattle.ldap_session.specs.Progress.{IsAtLast};
-ghost use Rattle.ldap_session.specs.Waiting.{due, bind_next};
+ghost use Rattle.ldap_session.specs.Waiting.{due, bind_next, is_search_next};
 ghost use Rattle.ldap_session.specs.View.{ConversationValue, conversation_view};
 ghost use Rattle.ldap_session.specs.Conversing.{IsFresh, Hears, StepsTo, StaysOver, Continues};
 ghost use Rattle.ldap_session.specs.private.Conversing.{Keeps};
@@ -40,6 +41,8 @@ fn put_behind(octets: &mut BytesMut, responses: Vec<u8>) -> bool
 pub struct Conversation {
     session: Session,
     unsent: BytesMut,
+    /// How many octets of memory are kept for those that are unsent, with those before them that were sent.
+    room: usize,
     end: Option<SessionEnd>,
 }
 
@@ -49,6 +52,7 @@ impl Drop for Conversation {
         let Conversation {
             session: _,
             unsent: _,
+            room: _,
             end: _,
         } = self;
     }
@@ -62,6 +66,7 @@ impl Conversation {
         Conversation {
             session: Session::new(alloc),
             unsent: BytesMut::new(alloc),
+            room: 0,
             end: None,
         }
     }
@@ -95,6 +100,16 @@ impl Conversation {
         }
     }
 
+    /// Whether a search stands next.
+    pub fn is_search_next(&self) -> bool
+        ensures { result ≡ is_search_next (conversation_view self.now).end (conversation_view self.now).session.framed }
+    {
+        match self.end {
+            Some(_) => false,
+            None => self.session.is_search_next(),
+        }
+    }
+
     /// The conversation is over, and how.
     fn close(&mut self, end: SessionEnd) -> Step
         ensures result { result ≡ Step.Ends end }
@@ -110,7 +125,9 @@ impl Conversation {
             → Keeps (conversation_view self.old) (conversation_view self.new) (joined answered.responses) answered.next result }
     {
         let next = answered.next;
-        if !put_behind(&mut self.unsent, answered.into_octets()) {
+        let is_kept = put_behind(&mut self.unsent, answered.into_octets());
+        self.room = self.room.max(self.unsent.capacity());
+        if !is_kept {
             return self.close(SessionEnd::NoMemory);
         }
         match next {
@@ -177,6 +194,20 @@ impl Conversation {
             ≡ record (conversation_view self.old) { unsent = drop count (conversation_view self.old).unsent } }
     {
         self.unsent.advance(count);
+        if self.room >= LARGE {
+            self.free_unsent();
+        }
+    }
+
+    /// Gives back the memory that is kept for octets to be sent, where there are none.
+    fn free_unsent(&mut self)
+        ensures { conversation_view self.new ≡ conversation_view self.old }
+    {
+        if self.unsent.is_empty() {
+            let alloc = *self.unsent.allocator();
+            self.unsent = BytesMut::new(alloc);
+            self.room = 0;
+        }
     }
 
     /// How it ended; none, while it goes on.
@@ -198,9 +229,27 @@ impl Conversation {
         ensures { conversation_view self.new ≡ conversation_view self.old }
     {
         self.session.rest();
-        if self.unsent.is_empty() {
-            let alloc = *self.unsent.allocator();
-            self.unsent = BytesMut::new(alloc);
-        }
+        self.free_unsent();
+    }
+
+    /// How many octets of memory messages take, at most, that become whole by so many further octets.
+    pub fn weight_of(&self, count: usize) -> usize {
+        self.session.weight_of(count)
+    }
+
+    /// How many octets of memory it keeps: for octets that were heard, messages that wait, and octets that are unsent.
+    pub fn held(&self) -> usize
+        ensures heard { min (length (conversation_view self.now).session.framed.rest) 18446744073709551615 ≤ result }
+        ensures unsent { length (conversation_view self.now).unsent ≤ result }
+    {
+        let unsent = self.room.max(self.unsent.capacity());
+        self.session.held().saturating_add(unsent)
+    }
+
+    /// Whether it is bound as the manager.
+    pub fn is_bound(&self) -> bool
+        ensures { IsFalse result ↔ ((conversation_view self.now).session.state.identity ≡ at_first.identity) }
+    {
+        self.session.is_bound()
     }
 }

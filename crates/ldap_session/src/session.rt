@@ -1,15 +1,16 @@
 //! A session. Pieces of its stream flow in; the octets of the responses to each message flow out. What a message asks of the directory is
 //! below; readers and writers are above.
-ghost use Rattle.std.specs.Prelude.{◌≡◌, ◌++◌, [], ℕ, List, None, OnOk, OnErr};
+ghost use Rattle.std.specs.Prelude.{◌≡◌, ◌≤◌, ◌↔◌, ◌++◌, [], ℕ, List, None, OnOk, OnErr, IsFalse, length, min};
 ghost use Rattle.std.specs.Option.{option_map};
 ghost use Rattle.session_handler.specs.ldap_msg.Messages.{MessageValue};
 ghost use Rattle.ldap_framer.specs.Framed.{HasSeen};
+ghost use Rattle.ldap_framer.specs.View.{room_of};
 ghost use Rattle.session_handler.specs.Session.{at_first};
 ghost use Rattle.session_handler.specs.View.{config_view};
 ghost use Rattle.ldap_session.specs.View.{session_view};
 ghost use Rattle.ldap_session.specs.Progress.{Answers, IsAtLast};
 ghost use Rattle.ldap_session.specs.private.Progress.{IsNoMessage};
-ghost use Rattle.ldap_session.specs.Waiting.{due_at_last, due_of, bind_name_in, bind_of};
+ghost use Rattle.ldap_session.specs.Waiting.{due_at_last, due_of, bind_name_in, bind_of, is_search_in, is_search_of};
 ghost use Rattle.session_handler.specs.ldap_msg.View.{view};
 
 use crate::due::Due;
@@ -41,10 +42,33 @@ fn bind_name(message: &Message) -> Option<&str>
     }
 }
 
+/// Whether a message is a search.
+fn is_search(message: &Message) -> bool
+    ensures { result ≡ is_search_in (view message.now).op }
+{
+    match &message.op {
+        ProtocolOp::Request(request) => match request {
+            Request::Search(_) => true,
+            Request::Bind(_)
+            | Request::Add(_)
+            | Request::Modify(_)
+            | Request::Delete(_)
+            | Request::ModifyDn(_)
+            | Request::Extended(_)
+            | Request::Unbind
+            | Request::Compare(_)
+            | Request::Abandon(_) => false,
+        },
+        ProtocolOp::Response(_) => false,
+    }
+}
+
 /// A session: its stream as far as it is not answered, and who it is bound as. At its beginning it is anonymous.
 pub struct Session {
     framer: Framer,
     state: State,
+    /// How many octets of memory the messages take, at most, that became whole since none waited.
+    decoded: usize,
 }
 
 // Not derived: see "What the gate takes" in docs/ARCHITECTURE.md.
@@ -53,6 +77,7 @@ impl Drop for Session {
         let Session {
             framer: _,
             state: _,
+            decoded: _,
         } = self;
     }
 }
@@ -68,6 +93,7 @@ impl Session {
         Session {
             framer: Framer::new(alloc),
             state: State::at_first(),
+            decoded: 0,
         }
     }
 
@@ -78,6 +104,7 @@ impl Session {
         ensures state { (session_view self.new).state ≡ (session_view self.old).state }
         ensures err { OnErr result (session_view self.new ≡ session_view self.old) }
     {
+        self.decoded = self.decoded_with(piece.len());
         match self.framer.feed(piece) {
             Ok(()) => Ok(()),
             Err(FrameFault::NoMemory) => Err(AllocError),
@@ -140,9 +167,55 @@ impl Session {
         }
     }
 
+    /// Whether a search stands next.
+    pub fn is_search_next(&self) -> bool
+        ensures { result ≡ is_search_of (session_view self.now).framed.ready }
+    {
+        match self.framer.peek() {
+            Some(message) => is_search(message),
+            None => false,
+        }
+    }
+
+    /// How many octets of memory the messages that wait take, at most.
+    fn decoded(&self) -> usize
+        ensures { (session_view self.now).framed.ready ≡ [] → result ≡ 0 }
+    {
+        match self.framer.peek() {
+            Some(_) => self.decoded,
+            None => 0,
+        }
+    }
+
+    /// How many octets of memory messages take, at most, that become whole by so many further octets.
+    pub fn weight_of(&self, count: usize) -> usize {
+        self.framer.weight_of(count)
+    }
+
+    /// The same with the messages that wait already.
+    fn decoded_with(&self, count: usize) -> usize {
+        self.decoded().saturating_add(self.weight_of(count))
+    }
+
+    /// How many octets of memory are kept for octets and for messages that wait.
+    pub fn held(&self) -> usize
+        ensures none { (session_view self.now).framed.ready ≡ [] → room_of self.now.framer ≡ 0 → result ≡ 0 }
+        ensures octets { min (length (session_view self.now).framed.rest) 18446744073709551615 ≤ result }
+    {
+        self.decoded().saturating_add(self.framer.room())
+    }
+
+    /// Whether it is bound as the manager.
+    pub fn is_bound(&self) -> bool
+        ensures { IsFalse result ↔ ((session_view self.now).state.identity ≡ at_first.identity) }
+    {
+        self.state.identity != State::at_first().identity
+    }
+
     /// Gives back the memory that is kept for octets and messages, where none are held.
     pub fn rest(&mut self)
-        ensures { session_view self.new ≡ session_view self.old }
+        ensures kept { session_view self.new ≡ session_view self.old }
+        ensures none { (session_view self.old).framed.rest ≡ [] → room_of self.new.framer ≡ 0 }
     {
         self.framer.rest();
     }

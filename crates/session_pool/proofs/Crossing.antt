@@ -19,6 +19,8 @@ use Rattle.client_link.below.ldap_framer.specs.contracts.framer.Framer as Framer
 use Rattle.client_link.proofs.Config.TheSendSync as config
 use Rattle.client_link.proofs.Door.TheSendSync as door
 use Rattle.session_table.proofs.Book.TheSendSync as book
+use Rattle.session_memory.proofs.Budget.TheSendSync as budget
+use Rattle.session_memory.proofs.Holders.TheSendSync as holders
 use Rattle.session_turns.proofs.Lead.TheSendSync as lead
 use Rattle.session_pool.proofs.pool.Watch.TheSendSync as watch
 use Rattle.session_pool.specs.contracts.pooled.PooledSession as PooledSession
@@ -32,7 +34,7 @@ session_send : IsSend PooledSession.the_row
 session_send = search (framer_send, octets.the_send, stream.the_field_send, instant.the_field_send, duration.the_field_send, crosses, sendable) depth 60 fits 20000
 
 table_send : IsSend Table.the_row
-table_send = search (session_send, book.the_send, lead.the_send, instant.the_send, crosses, sendable) depth 60 fits 20000
+table_send = search (session_send, book.the_send, holders.the_send, lead.the_send, instant.the_send, crosses, sendable) depth 60 fits 20000
 
 -- A pool is shared by its threads where its runtime and whoever is told of its sessions are.
 pub pool_sync : (a : NamedLft) (R T : RattleType) → IsSync R → IsSync T → IsSync (SessionPool.the_row a R T)
@@ -63,16 +65,19 @@ pool_sync a R T y z =
                           (
                             search (flag.the_sync, crosses, sendable) depth 20,
                             (
-                              search (count.the_field_sync, crosses, sendable) depth 20,
+                              search (budget.the_sync, crosses, sendable) depth 20,
                               (
                                 search (count.the_field_sync, crosses, sendable) depth 20,
                                 (
-                                  search (crosses, sendable) depth 20,
+                                  search (count.the_field_sync, crosses, sendable) depth 20,
                                   (
-                                    search (flag.the_field_sync, crosses, sendable) depth 20,
+                                    search (crosses, sendable) depth 20,
                                     (
-                                      search (crosses, sendable) depth 20,
-                                      (search (instant.the_field_sync, crosses, sendable) depth 20, tt),
+                                      search (flag.the_field_sync, crosses, sendable) depth 20,
+                                      (
+                                        search (crosses, sendable) depth 20,
+                                        (search (instant.the_field_sync, crosses, sendable) depth 20, tt),
+                                      ),
                                     ),
                                   ),
                                 ),

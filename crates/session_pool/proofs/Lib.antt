@@ -1,3 +1,4 @@
+pub mod Noted
 pub mod Attended
 pub mod Crossing
 pub mod Lined

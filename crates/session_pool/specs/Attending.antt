@@ -15,7 +15,7 @@ use Rattle.client_link.specs.ldap_session.declared.end.SessionEnd.{SessionEnd}
 use Rattle.client_link.specs.ldap_session.declared.end.SessionEnd.TheVariants.{ReadFailed, WriteFailed, NoMemory}
 use Rattle.session_pool.specs.declared.pooled.PooledSession.{PooledSession}
 use Rattle.session_pool.specs.declared.pooled.Then.{Then}
-use Rattle.session_pool.specs.declared.pooled.Then.TheVariants.{Listens, Updates, Queues, Waits, Ends as ThenEnds}
+use Rattle.session_pool.specs.declared.pooled.Then.TheVariants.{Listens, Updates, Queues, Delays, Waits, Ends as ThenEnds}
 
 -- the conversation of a session
 abbrev pub talk : PooledSession → ConversationValue
@@ -53,11 +53,12 @@ pub record IsAllSaid (v : ConversationValue) (next : Due) : Type 0 where
   pub goes_on : v.end ≡ None
   pub next_is : due_next v ≡ next
 
--- What becomes of a session: it is listened to, it waits for its turn or for its client, or it has ended, or could not be written to.
+-- What becomes of a session: it is listened to, it waits for its turn, for a while or for its client, or it has ended, or could not be written to.
 abbrev pub Becomes : ConversationValue → Then → Type 0
 Becomes v Listens = IsAllSaid v DueNothing
 Becomes v Updates = IsAllSaid v DueUpdate
 Becomes v Queues = IsAllSaid v DueOther
+Becomes v Delays = IsAllSaid v DueOther
 Becomes v Waits = v.unsent ≡ [] → ⊥
 Becomes v (ThenEnds end) = ((v.unsent ≡ []) × (v.end ≡ Some end)) ⊎ (end ≡ WriteFailed)
 

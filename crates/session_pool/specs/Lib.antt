@@ -1,3 +1,5 @@
 pub mod Attending
 pub mod Sittings
+pub mod Refusing
+pub mod Refused
 pub mod private

@@ -30,6 +30,7 @@ impl<'a, R: Wait + Clock, T: Tells> SessionPool<'a, R, T> {
         match table.places.longest(queue) {
             Some(pooled) => {
                 let place = pooled.place;
+                table.holders.take(place);
                 table.places.wake(place)
             }
             None => None,

@@ -1,10 +1,10 @@
 //! A session at a seat: its messages are answered, and it is parked, queued or ended. Which session comes next is not here.
-ghost use Rattle.std.specs.Prelude.{◌≡◌, None};
+ghost use Rattle.std.specs.Prelude.{◌≡◌, None, IsFalse};
 ghost use Rattle.std.specs.Bool.{OnTrue, OnFalse};
 ghost use Rattle.client_link.specs.session_handler.View.{config_view};
 ghost use Rattle.client_link.specs.Served.{config_of};
 ghost use Rattle.session_pool.specs.Attending.{talk, IsSame, Becomes, AnswersNext, AnswersSome};
-ghost use Rattle.session_pool.specs.private.Attending.{HasHeard};
+ghost use Rattle.session_pool.specs.private.Attending.{HasHeard, IsDelayed};
 ghost use Rattle.session_pool.specs.Sittings.{Sitting, Attends, HasAttendedSome};
 
 use crate::pool::SessionPool;
@@ -80,8 +80,8 @@ impl<'a, R: Wait + Clock, T: Tells> SessionPool<'a, R, T> {
         }
     }
 
-    /// Answers the next message, unless the stay is over, it may be an update, or the client has to take first what it was answered. Whether it
-    /// did.
+    /// Answers the next message, unless the stay is over, it may be an update, it is a bind that is to wait, or the client has to take first what it
+    /// was answered. Whether it did.
     fn answer_next<D: Directory>(
         &self,
         pooled: &mut PooledSession,
@@ -93,11 +93,15 @@ impl<'a, R: Wait + Clock, T: Tells> SessionPool<'a, R, T> {
         ensures answered { OnTrue result (AnswersNext D.allows (config_view config.now) (talk pooled.old) (talk pooled.new)
             directory.old directory.new) }
         ensures left { OnFalse result ((talk pooled.new ≡ talk pooled.old) × (directory.new ≡ directory.old)) }
+        ensures delayed { IsDelayed pooled.old → IsFalse result }
     {
-        if stay.is_over {
+        if stay.is_over || pooled.is_delayed() {
             return false;
         }
         if pooled.conversation.due() != Due::Other || pooled.conversation.unsent().len() >= UNSENT {
+            return false;
+        }
+        if pooled.conversation.is_search_next() && !self.relieve() {
             return false;
         }
         self.answer_and_tell(pooled, config, directory);
@@ -169,7 +173,7 @@ impl<'a, R: Wait + Clock, T: Tells> SessionPool<'a, R, T> {
         ensures heard { HasHeard None None (talk pooled.old) buffer.new (talk pooled.new) result }
     {
         let since = Instant::now(self.rt);
-        let heard = pooled.hear(buffer);
+        let heard = pooled.hear(buffer, self);
         self.lingering.fetch_sub(1, Ordering::SeqCst);
         pooled.is_quick = match (since, heard) {
             (Ok(since), Heard::Octets) => is_within(self.rt, since, SOON_HEARD),
@@ -193,7 +197,7 @@ impl<'a, R: Wait + Clock, T: Tells> SessionPool<'a, R, T> {
             return Heard::Nothing;
         }
         if is_ready {
-            pooled.hear(buffer)
+            pooled.hear(buffer, self)
         } else if self.may_linger(pooled, stay) {
             self.linger(pooled, buffer)
         } else {
@@ -242,6 +246,7 @@ impl<'a, R: Wait + Clock, T: Tells> SessionPool<'a, R, T> {
             }
             Then::Updates => self.queue_update(pooled),
             Then::Queues => self.queue(pooled),
+            Then::Delays => self.delay(pooled),
             Then::Waits => self.park(pooled, Queue::Unsent),
             Then::Ends(end) => self.finish(pooled, end),
         }

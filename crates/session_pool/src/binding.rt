@@ -34,22 +34,28 @@ fn code_at_end(octets: &[u8]) -> Option<u8>
 }
 
 impl<'a, R: Wait + Clock, T: Tells> SessionPool<'a, R, T> {
-    /// Tells of a bind that was answered, where it is refused.
-    fn tell_bind(&self, pooled: &PooledSession, step: Step, name: Result<String, AllocError>) {
+    /// Tells of a bind that was answered, where it is refused; whether it is.
+    fn tell_bind(
+        &self,
+        pooled: &PooledSession,
+        step: Step,
+        name: Result<String, AllocError>,
+    ) -> bool {
         let code = match step {
             Step::Answered => code_at_end(pooled.conversation.unsent()).unwrap_or(0),
             Step::Awaits | Step::Ends(_) => 0,
         };
         if code == 0 {
-            return;
+            return false;
         }
         match name {
             Ok(name) => self.teller.refused(pooled.number, Ok(name.as_str()), code),
             Err(error) => self.teller.refused(pooled.number, Err(error), code),
         }
+        true
     }
 
-    /// Answers the next message, and tells of it where it is a bind that is refused.
+    /// Answers the next message, and tells of it where it is a bind that is refused, which is counted.
     pub fn answer_and_tell<D: Directory>(
         &self,
         pooled: &mut PooledSession,
@@ -62,7 +68,8 @@ impl<'a, R: Wait + Clock, T: Tells> SessionPool<'a, R, T> {
         let name = kept(self.alloc, pooled.conversation.bind_next());
         let step = pooled.conversation.answer(self.alloc, config, directory);
         if let Some(name) = name {
-            self.tell_bind(pooled, step, name);
+            let is_refused = self.tell_bind(pooled, step, name);
+            pooled.note_bind(is_refused);
         }
     }
 }

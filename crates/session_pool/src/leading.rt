@@ -3,9 +3,10 @@
 use crate::leaving::FAREWELL;
 use crate::place_state::Turn;
 use crate::pool::{SessionPool, Watch};
-use crate::pooled::PooledSession;
+use crate::pooled::{Notice, PooledSession};
 use crate::table::Table;
 use crate::tells::Tells;
+use crate::updaters::is_past;
 use client_link::SessionEnd;
 use mio::event::Event;
 use mio::unix::SourceFd;
@@ -20,6 +21,9 @@ use std::time::{Clock, Duration, Instant};
 /// How long the leader waits at most, in milliseconds.
 const LONGEST: u64 = 1_000;
 
+/// For how many milliseconds a bind waits, where others of its connection were refused.
+const DELAY: u64 = 1_000;
+
 /// After which part of the time that a client may let an answer wait its session is asked whether that is over: it is longer for what was taken.
 const PART: u32 = 16;
 
@@ -29,6 +33,19 @@ fn part_of(limit: Duration) -> Duration {
         .checked_div(PART)
         .unwrap_or(limit)
         .max(Duration::from_millis(1))
+}
+
+/// How many bits of a socket's token are its session's place; those above are of its number.
+const PLACE_BITS: u32 = 32;
+
+/// What the poll tells a socket by: the place of its session, and the end of its number, since the place may be another session's by then.
+pub fn token_of(place: usize, number: u64) -> Token {
+    Token(place | (number as usize).wrapping_shl(PLACE_BITS))
+}
+
+/// The place in a token.
+fn place_in(token: Token) -> usize {
+    token.0 & 0xffff_ffff
 }
 
 impl<'a, R: Wait + Clock, T: Tells> SessionPool<'a, R, T> {
@@ -41,6 +58,9 @@ impl<'a, R: Wait + Clock, T: Tells> SessionPool<'a, R, T> {
         pooled.pause(queue, now);
         if pooled.is_late(self.door.limits().message, now) {
             return self.end(pooled, SessionEnd::ReadFailed);
+        }
+        if !self.admits(&mut pooled) {
+            return self.end_for_memory(pooled);
         }
         let interest = if queue == Queue::Unsent {
             Interest::WRITABLE
@@ -63,16 +83,40 @@ impl<'a, R: Wait + Clock, T: Tells> SessionPool<'a, R, T> {
         fd: i32,
         interest: Interest,
     ) -> Option<PooledSession> {
+        let (holder, token) = (pooled.holder(), token_of(place, pooled.number));
         let mut table = self.table.lock(self.rt);
         if let Err(pooled) = table.places.park(pooled, queue) {
             return Some(pooled);
         }
-        match self
-            .registry
-            .register(&mut SourceFd(&fd), Token(place), interest)
-        {
+        table.holders.put(place, holder);
+        match self.registry.register(&mut SourceFd(&fd), token, interest) {
             Ok(()) => None,
             Err(_) => table.places.wake(place),
+        }
+    }
+
+    /// A session ends since it holds more than there is room for.
+    fn end_for_memory(&self, pooled: PooledSession) {
+        self.budget.count_end();
+        self.finish(pooled, SessionEnd::NoMemory);
+    }
+
+    /// Puts a session at its place where no socket wakes it: its next message is answered only later.
+    pub fn delay(&self, mut pooled: PooledSession) {
+        let Ok(now) = Instant::now(self.rt) else {
+            return self.end(pooled, SessionEnd::ReadFailed);
+        };
+        pooled.pause(Queue::Delayed, now);
+        if !self.admits(&mut pooled) {
+            return self.end_for_memory(pooled);
+        }
+        let (place, holder) = (pooled.place, pooled.holder());
+        let mut table = self.table.lock(self.rt);
+        let refused = table.places.park(pooled, Queue::Delayed).err();
+        table.holders.put(place, holder);
+        drop(table);
+        if let Some(pooled) = refused {
+            self.end(pooled, SessionEnd::NoMemory);
         }
     }
 
@@ -105,25 +149,41 @@ impl<'a, R: Wait + Clock, T: Tells> SessionPool<'a, R, T> {
     }
 
     /// Queues a session of which a whole message stands next.
-    pub fn queue(&self, pooled: PooledSession) {
+    pub fn queue(&self, mut pooled: PooledSession) {
+        if !self.admits(&mut pooled) {
+            return self.end_for_memory(pooled);
+        }
+        let (place, holder) = (pooled.place, pooled.holder());
         let mut table = self.table.lock(self.rt);
         if let Err(pooled) = table.places.line_up(pooled, Turn::Seat) {
             drop(table);
             return self.end(pooled, SessionEnd::NoMemory);
         }
+        table.holders.put(place, holder);
         let call = table.lead.line_up();
         self.show(&table);
         drop(table);
         self.call(call);
     }
 
-    /// Queues a session whose next message may be an update.
-    pub fn queue_update(&self, pooled: PooledSession) {
+    /// Queues a session whose next message may be an update, and has it watched for its client's end.
+    pub fn queue_update(&self, mut pooled: PooledSession) {
+        let Ok(now) = Instant::now(self.rt) else {
+            return self.end(pooled, SessionEnd::ReadFailed);
+        };
+        if !self.admits(&mut pooled) {
+            return self.end_for_memory(pooled);
+        }
+        pooled.line_up(now);
+        let (place, holder) = (pooled.place, pooled.holder());
+        let (fd, token) = (pooled.stream.as_raw_fd(), token_of(place, pooled.number));
         let mut table = self.table.lock(self.rt);
         if let Err(pooled) = table.places.line_up(pooled, Turn::Update) {
             drop(table);
             return self.end(pooled, SessionEnd::NoMemory);
         }
+        table.holders.put(place, holder);
+        self.watch_end(fd, token);
         drop(table);
         self.work.notify_one();
     }
@@ -135,9 +195,19 @@ impl<'a, R: Wait + Clock, T: Tells> SessionPool<'a, R, T> {
         };
         let _ = self.registry.deregister(&mut SourceFd(&fd));
         if turn == Turn::Update {
+            if let Some(number) = table.places.number(place) {
+                self.watch_end(fd, token_of(place, number));
+            }
             self.work.notify_one();
         }
         true
+    }
+
+    /// The socket of a session whose update waits is watched for its client's end. It is registered anew, so that what was told before is told again.
+    fn watch_end(&self, fd: i32, token: Token) {
+        let _ = self
+            .registry
+            .register(&mut SourceFd(&fd), token, Interest::READABLE);
     }
 
     /// The client of the update in this thread is gone.
@@ -150,8 +220,9 @@ impl<'a, R: Wait + Clock, T: Tells> SessionPool<'a, R, T> {
 
     /// Takes note that the client of a session whose update waits is gone, or, where it sends no more, that it may be.
     fn note(&self, table: &mut Table, event: &Event, now: Instant) {
-        let Some(thread) = table.updaters.thread_of(event.token().0) else {
-            return;
+        let place = place_in(event.token());
+        let Some(thread) = table.updaters.thread_of(place) else {
+            return self.note_in_queue(table, place, event, now);
         };
         if event.is_error() || event.is_write_closed() {
             self.leave(thread);
@@ -160,11 +231,32 @@ impl<'a, R: Wait + Clock, T: Tells> SessionPool<'a, R, T> {
         }
     }
 
+    /// The same of one whose update waits for a thread: where its client is gone, no thread makes it.
+    fn note_in_queue(&self, table: &mut Table, place: usize, event: &Event, now: Instant) {
+        let notice = if event.is_error() || event.is_write_closed() {
+            Notice::Over(SessionEnd::ReadFailed)
+        } else if event.is_read_closed() {
+            Notice::SendsNoMore(now)
+        } else {
+            return;
+        };
+        let is_its = match table.places.number(place) {
+            Some(number) => token_of(place, number) == event.token(),
+            None => false,
+        };
+        if !is_its {
+            return;
+        }
+        if let Some(less) = table.places.notify(self.alloc, place, notice) {
+            self.budget.post(less, 0);
+        }
+    }
+
     /// Queues the sessions whose sockets are ready.
     fn rouse_all(&self, watch: &Watch, now: Instant) {
         let mut table = self.table.lock(self.rt);
         for event in &watch.events {
-            let place = event.token().0;
+            let place = place_in(event.token());
             if self.drop_input(&mut table, place) {
                 continue;
             }
@@ -237,6 +329,52 @@ impl<'a, R: Wait + Clock, T: Tells> SessionPool<'a, R, T> {
         }
     }
 
+    /// Lines up the sessions whose next message has waited for long enough.
+    fn release_delayed(&self, now: Instant) {
+        let limit = Duration::from_millis(DELAY);
+        for _ in self.rt.forever() {
+            let overdue = self
+                .table
+                .lock(self.rt)
+                .places
+                .overdue(Queue::Delayed, limit, now);
+            match overdue {
+                Some(mut pooled) => {
+                    pooled.allow_bind();
+                    self.queue(pooled);
+                }
+                None => break,
+            }
+        }
+    }
+
+    /// Has seats answer the updates that have waited for a thread for too long.
+    fn refuse_overdue(&self, limit: Duration, now: Instant) {
+        for _ in self.rt.forever() {
+            let mut table = self.table.lock(self.rt);
+            let is_overdue = match table.places.oldest_update() {
+                Some(pooled) => is_past(pooled.asked, limit, now),
+                None => false,
+            };
+            if !is_overdue {
+                break;
+            }
+            let Some(mut pooled) = table.places.next_update() else {
+                break;
+            };
+            drop(table);
+            self.unwatch_end(&pooled);
+            pooled.give_up_update();
+            self.queue(pooled);
+        }
+    }
+
+    /// The socket of a session whose update waits no more is watched no more.
+    pub fn unwatch_end(&self, pooled: &PooledSession) {
+        let fd = pooled.stream.as_raw_fd();
+        let _ = self.registry.deregister(&mut SourceFd(&fd));
+    }
+
     /// How long the leader may wait: not at all where sessions are ready; else until one has waited for too long, but no longer than a second, or
     /// than a limit.
     fn time_left(&self) -> Duration {
@@ -262,6 +400,11 @@ impl<'a, R: Wait + Clock, T: Tells> SessionPool<'a, R, T> {
                     .places
                     .time_left(Queue::Leaving, Duration::from_millis(FAREWELL), now),
             )
+            .min(
+                table
+                    .places
+                    .time_left(Queue::Delayed, Duration::from_millis(DELAY), now),
+            )
             .max(Duration::from_millis(1))
     }
 
@@ -276,6 +419,8 @@ impl<'a, R: Wait + Clock, T: Tells> SessionPool<'a, R, T> {
         self.expire_unsent(limits.write, now);
         self.close_overdue(now);
         self.leave_all(limits.message, now);
+        self.release_delayed(now);
+        self.refuse_overdue(limits.write, now);
     }
 
     /// Waits for sockets for so long, at most; queues sessions that are ready, and ends those that have waited for too long.
@@ -339,6 +484,9 @@ impl<'a, R: Wait + Clock, T: Tells> SessionPool<'a, R, T> {
                 }
                 Act::Serve => {
                     let pooled = table.places.next_ready();
+                    if let Some(pooled) = &pooled {
+                        table.holders.take(pooled.place);
+                    }
                     self.show(&table);
                     drop(table);
                     self.call(call);
@@ -353,23 +501,49 @@ impl<'a, R: Wait + Clock, T: Tells> SessionPool<'a, R, T> {
         self.table.lock(self.rt).is_closed
     }
 
+    /// A session that a thread has taken, as it is to be served; none, where it was over before its turn. An update that has waited for too long is
+    /// answered here.
+    fn ready_to_serve(&self, mut pooled: PooledSession) -> Option<PooledSession> {
+        if let Some(end) = pooled.over {
+            self.end(pooled, end);
+            return None;
+        }
+        if pooled.has_given_up() {
+            self.refuse_update(&mut pooled);
+            pooled.take_up();
+        } else if pooled.conversation.is_search_next() && !self.relieve() {
+            self.refuse_search(&mut pooled);
+        }
+        Some(pooled)
+    }
+
     /// The next session that is ready; none, once the pool is closed. Of the seats that are free, one waits for all sessions.
     pub fn next(&self) -> Option<PooledSession> {
         let mut next = None;
         let mut was = Was::Serving;
         for _ in self.rt.forever() {
-            next = self.take_ready(was);
+            match self.take_ready(was) {
+                Some(pooled) => {
+                    next = self.ready_to_serve(pooled);
+                    was = Was::Serving;
+                }
+                None => {
+                    if !self.is_closed() {
+                        self.poll_sockets(self.time_left());
+                    }
+                    was = Was::Leading;
+                }
+            }
             if next.is_some() || self.is_closed() {
                 break;
             }
-            self.poll_sockets(self.time_left());
-            was = Was::Leading;
         }
         next
     }
 
-    /// The next session whose next message may be an update; none, once the pool is closed.
-    pub fn next_update(&self) -> Option<PooledSession> {
+    /// The session whose update is to be made by this thread next; none, once the pool is closed. Since when its client sends no more is known to
+    /// those who watch the thread.
+    fn take_update(&self, thread: usize) -> Option<PooledSession> {
         let mut table = self.table.lock(self.rt);
         for _ in self.rt.forever() {
             if table.is_closed || table.places.has_updates() {
@@ -380,6 +554,35 @@ impl<'a, R: Wait + Clock, T: Tells> SessionPool<'a, R, T> {
         if table.is_closed {
             return None;
         }
-        table.places.next_update()
+        let pooled = table.places.next_update()?;
+        table.holders.take(pooled.place);
+        if let Some(leaves) = self.leaves.get(thread) {
+            leaves.store(false, Ordering::SeqCst);
+        }
+        table.updaters.post(thread, pooled.place, pooled.closed);
+        Some(pooled)
+    }
+
+    /// The next session whose next message may be an update, for this thread; none, once the pool is closed. One whose client was gone before is
+    /// ended.
+    pub fn next_update(&self, thread: usize) -> Option<PooledSession> {
+        let limit = self.door.limits().message;
+        let mut next = None;
+        for _ in self.rt.forever() {
+            let Some(mut pooled) = self.take_update(thread) else {
+                break;
+            };
+            match pooled.end_before(limit, Instant::now(self.rt).ok()) {
+                Some(end) => {
+                    self.unwatch(thread, &pooled);
+                    self.end(pooled, end);
+                }
+                None => {
+                    next = Some(pooled);
+                    break;
+                }
+            }
+        }
+        next
     }
 }

@@ -1,12 +1,13 @@
 //! Closes the sockets of sessions that are over so that clients get all answers: the system resets a connection that is closed with unread
 //! input, and what is on its way is lost. No thread waits for that.
+use crate::leading::token_of;
 use crate::pool::SessionPool;
 use crate::pooled::PooledSession;
 use crate::table::Table;
 use crate::tells::Tells;
 use client_link::SessionEnd;
+use mio::Interest;
 use mio::unix::SourceFd;
-use mio::{Interest, Token};
 use session_table::Queue;
 use std::os::fd::AsRawFd;
 use std::sync::Wait;
@@ -47,8 +48,9 @@ fn unread_at(end: SessionEnd) -> Unread {
 
 impl<'a, R: Wait + Clock, T: Tells> SessionPool<'a, R, T> {
     /// A session is over: its socket is closed before its place is free.
-    pub fn close(&self, pooled: PooledSession) {
+    pub fn close(&self, mut pooled: PooledSession) {
         let place = pooled.place;
+        self.give_back(&mut pooled);
         drop(pooled);
         self.table.lock(self.rt).places.free(place);
     }
@@ -70,6 +72,7 @@ impl<'a, R: Wait + Clock, T: Tells> SessionPool<'a, R, T> {
         if unread == Unread::Nothing {
             return self.end(pooled, end);
         }
+        self.give_back(&mut pooled);
         match pooled.retire(self.alloc, now) {
             Ok(()) => {}
             Err(_) => return self.end(pooled, end),
@@ -90,7 +93,7 @@ impl<'a, R: Wait + Clock, T: Tells> SessionPool<'a, R, T> {
         let Some(pooled) = table.places.leaving(place) else {
             return false;
         };
-        let fd = pooled.stream.as_raw_fd();
+        let (fd, token) = (pooled.stream.as_raw_fd(), token_of(place, pooled.number));
         let mut buffer = [0u8; PIECE];
         match pooled.drop_input(&mut buffer) {
             Dropped::All => {}
@@ -98,7 +101,7 @@ impl<'a, R: Wait + Clock, T: Tells> SessionPool<'a, R, T> {
             Dropped::Much => {
                 let _ = self
                     .registry
-                    .reregister(&mut SourceFd(&fd), Token(place), Interest::READABLE);
+                    .reregister(&mut SourceFd(&fd), token, Interest::READABLE);
             }
             Dropped::Over => {
                 let over = table.places.wake(place);

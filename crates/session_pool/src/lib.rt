@@ -22,7 +22,11 @@
 //! - *Leaving.* The socket of a session that ended with input unread is closed once its client has closed it, after a
 //!   second at most (`leaving`). What comes meanwhile is dropped by whoever leads.
 //! - *Updates* have threads of their own, each with a gate and a look that finds nothing (`NoReads`). The leader watches the
-//!   socket meanwhile, and tells the thread when the client has left.
+//!   socket from when the update lines up to its answer. It tells the thread when the client has left, and no thread makes the
+//!   update of a client that left before its turn. One that has lined up for too long a seat answers by 52 (`NoNode`).
+//! - *Memory.* What a session holds is posted in a `Budget` that all share when its thread lays it down, and before a large
+//!   message is decoded (`memory`). Where all hold too much, the session that `session_memory` says is ended.
+//! - *Refused binds.* After three of them a bind waits for a second, at its place in the table and in no thread.
 //! - *No room.* When the table is full, or descriptors are used up, a session that is over goes, else the longest silent one (`arriving`).
 //!
 //! Proved: a session hears what its socket gave, and has sent a front of what it had to send, in order (`PooledSession::hear`, `say`, `queue`). A
@@ -38,7 +42,10 @@ mod binding;
 mod leading;
 mod leaving;
 mod limit;
+mod memory;
+mod no_node;
 mod no_reads;
+mod no_room;
 mod place_state;
 mod places;
 mod pool;
@@ -58,4 +65,5 @@ pub use limit::descriptors;
 pub use no_reads::NoReads;
 pub use pool::{SessionPool, Terms};
 pub use running::serve_sessions;
+pub use session_memory::{Budget, limit_of};
 pub use tells::{Away, Tells};

@@ -1,16 +1,16 @@
 //! The places of a pool's table, and the sessions at them: each waits for its client, or for its turn. What a session says is not here. One
 //! thread at a time.
-ghost use Rattle.std.specs.Prelude.{◌≡◌, ◌≤◌, ◌<◌, ◌++◌, ◌∷◌, [], ℕ, Option, Some, None, IsTrue, IsFalse, ◌↔◌, IfSome, IfNone, OnOk, OnErr, Err, IfErr, IfOk, IsOk, slice_get, replicate, nat_lt, length, vec_len, vec_capacity};
+ghost use Rattle.std.specs.Prelude.{◌≡◌, ◌≤◌, ◌<◌, ◌++◌, ◌∷◌, [], ℕ, List, Option, Some, None, IsTrue, IsFalse, ◌↔◌, IfSome, IfNone, OnOk, OnErr, Err, IfErr, IfOk, IsOk, slice_get, replicate, nat_lt, length, vec_len, vec_capacity};
 ghost use Rattle.std.specs.VecDeque.{deque_capacity};
 ghost use Rattle.session_table.specs.Places.{IsIn, NoneIn};
 ghost use Rattle.session_table.specs.declared.spot.Queue.{Queue};
 ghost use Rattle.session_pool.specs.private.Stands.{times, once, is_made, is_free, is_ready, is_updates, is_waiting, is_in_queue, is_here, has_some};
-ghost use Rattle.session_pool.specs.private.Attending.{RousesAt};
+ghost use Rattle.session_pool.specs.private.Attending.{RousesAt, NotesAt};
 ghost use Rattle.session_pool.specs.declared.pooled.PooledSession.{PooledSession};
 ghost use Rattle.session_pool.specs.declared.place_state.PlaceState.{PlaceState};
 
 use crate::place_state::{NoPlace, PlaceState, Turn};
-use crate::pooled::PooledSession;
+use crate::pooled::{Notice, PooledSession};
 use crate::updaters::is_past;
 use session_table::{Book, Queue, Spot};
 use std::alloc::{AllocError, Global};
@@ -61,8 +61,29 @@ fn roused(pooled: &mut Option<PooledSession>, now: Instant) -> Option<(RawFd, Tu
     }
 }
 
+/// The first of a queue.
+fn first_in(queue: &VecDeque<usize>) -> Option<usize>
+    ensures some { IfSome result (λ p. (others : List ℕ) × (queue.now.items ≡ p ∷ others)) }
+    ensures none { IfNone result (queue.now.items ≡ []) }
+{
+    match queue.front() {
+        Some(place) => Some(*place),
+        None => None,
+    }
+}
+
+/// The session at a place is told this: how many octets are posted of it no more.
+fn notified(pooled: &mut Option<PooledSession>, alloc: Global, notice: Notice) -> Option<u64>
+    ensures { NotesAt pooled.old notice pooled.new result }
+{
+    match pooled {
+        Some(pooled) => Some(pooled.take_note(alloc, notice)),
+        None => None,
+    }
+}
+
 impl Places {
-    ghost use Rattle.session_pool.specs.private.Tabling.{tabled, IsAt, IsFree, Claims, freed, Parks, LinesUp, Wakes, Sits, Works, WaitsLongest, IsLeaving, Rouses, NoneOverdue, LeavesTime};
+    ghost use Rattle.session_pool.specs.private.Tabling.{tabled, IsAt, IsFree, Claims, freed, Parks, LinesUp, Wakes, Sits, Works, WaitsLongest, IsLeaving, Rouses, NoneOverdue, LeavesTime, WaitsItsTurn, Notes};
     ghost use Rattle.session_pool.specs.private.Posting.{IsPast};
 
     /// Places, all free. Room for sessions is made as they come.
@@ -219,6 +240,47 @@ impl Places {
         let place = self.updates.pop_front()?;
         self.stands[place] = PlaceState::Away;
         self.sessions[place].take()
+    }
+
+    /// The number of the session at a place; none, where none is there.
+    pub fn number(&self, place: usize) -> Option<u64> {
+        if place >= self.sessions.len() {
+            return None;
+        }
+        match &self.sessions[place] {
+            Some(pooled) => Some(pooled.number),
+            None => None,
+        }
+    }
+
+    /// The session that has waited longest for a thread that updates.
+    pub fn oldest_update(&self) -> Option<&PooledSession> {
+        let place = first_in(&self.updates)?;
+        self.sessions[place].as_ref()
+    }
+
+    /// Whether the session of this place waits for its turn.
+    fn waits_its_turn(&self, place: usize) -> bool
+        ensures { IsTrue result ↔ WaitsItsTurn (tabled self.now) place }
+    {
+        match self.stands.get(place).copied() {
+            Some(PlaceState::Ready | PlaceState::Updates) => true,
+            Some(PlaceState::New | PlaceState::Free | PlaceState::Away | PlaceState::Waits)
+            | None => false,
+        }
+    }
+
+    /// The session of a place that waits for its turn is told this, and waits on. How many octets are posted of it no more; none, where no session
+    /// waits for its turn there.
+    pub fn notify(&mut self, alloc: Global, place: usize, notice: Notice) -> Option<u64>
+        ensures some { IfSome result (λ _. Notes (tabled self.old) place notice (tabled self.new)) }
+        ensures none { IfNone result (WaitsItsTurn (tabled self.old) place → ⊥) }
+        ensures left { IfNone result (tabled self.new ≡ tabled self.old) }
+    {
+        if !self.waits_its_turn(place) {
+            return None;
+        }
+        notified(&mut self.sessions[place], alloc, notice)
     }
 
     /// The session that has waited for its client longest of a queue.

@@ -2,6 +2,7 @@
 use crate::table::Table;
 use client_link::{Config, Door};
 use mio::{Events, Poll, Registry, Token, Waker};
+use session_memory::Budget;
 use std::alloc::Global;
 use std::io;
 use std::net::Net;
@@ -26,6 +27,8 @@ pub struct Terms<'a> {
     pub seats: usize,
     /// For each thread that updates, whether the client of its update is gone.
     pub leaves: &'a [AtomicBool],
+    /// The memory that all sessions may take together.
+    pub budget: &'a Budget,
 }
 
 /// What waits for sockets.
@@ -52,6 +55,7 @@ pub struct SessionPool<'a, R, T> {
     pub turn: Condvar,
     pub work: Condvar,
     pub leaves: &'a [AtomicBool],
+    pub budget: &'a Budget,
     /// Sessions that are ready; seats that wait for the next message of their session.
     pub queued: AtomicUsize,
     pub lingering: AtomicUsize,
@@ -91,6 +95,7 @@ impl<'a, R: Net + Clock, T> SessionPool<'a, R, T> {
             turn: Condvar::new(),
             work: Condvar::new(),
             leaves: terms.leaves,
+            budget: terms.budget,
             queued: AtomicUsize::new(0),
             lingering: AtomicUsize::new(0),
             most: terms.seats.saturating_sub(1),

@@ -1,15 +1,16 @@
 //! A session with its socket. Octets come from the socket into its conversation, and go back. Whose turn it is is not here.
-ghost use Rattle.std.specs.Prelude.{◌≡◌, ◌↔◌, [], length, true, IsTrue, None, IfOk, OnOk, OnErr};
+ghost use Rattle.std.specs.Prelude.{◌≡◌, ◌↔◌, ◌+◌, [], length, min, cond, true, false, IsTrue, IsSome, None, IfOk, OnOk, OnErr};
 ghost use Rattle.client_link.specs.ldap_session.Conversing.{IsFresh};
 ghost use Rattle.client_link.specs.ldap_session.View.{conversation_view};
 ghost use Rattle.session_pool.specs.declared.place_state.Turn.{Turn};
 ghost use Rattle.session_pool.specs.Attending.{talk, due_next, IsSame, HasSent, Becomes};
-ghost use Rattle.session_pool.specs.private.Attending.{HasHeard, began_while, began_in, HasPaused, IsLate, SendsTo, HasToWrite, IsSlow, HasCause, WaitsFor, HasWaited, Counts, IsSilent, IsUpdateNext};
+ghost use Rattle.session_pool.specs.private.Attending.{HasHeard, began_while, began_in, HasPaused, IsLate, SendsTo, HasToWrite, IsSlow, HasCause, WaitsFor, HasWaited, Counts, IsSilent, IsUpdateNext, IsDelayed, HasNoted, HasGivenUp};
 
 use crate::leaving::Dropped;
 use crate::place_state::Turn;
 use crate::updaters::is_past;
 use client_link::{Conversation, Due, SessionEnd, stretch};
+use session_memory::Holder;
 use session_table::Queue;
 use std::alloc::Global;
 use std::io;
@@ -20,6 +21,12 @@ use std::time::{Duration, Instant};
 /// How long a read or a write of a socket waits, in milliseconds: for so long a thread stays with a session whose next message may come at
 /// once.
 const LINGER: u64 = 5;
+
+/// From how many octets on, beyond what is posted, room is asked for before octets are kept and messages are decoded.
+const LARGE: u64 = 65_536;
+
+/// After how many refused binds of one connection a further one waits.
+const REFUSALS: u32 = 3;
 
 /// A session with its socket.
 #[derive(Drop)]
@@ -39,6 +46,33 @@ pub struct PooledSession {
     taken: u64,
     /// Since when it waits inside of the message that stands next.
     began: Option<Instant>,
+    /// How many octets of memory are posted of it, as what it holds.
+    pub posted: u64,
+    /// How many of its binds were refused, and whether the one that stands next has waited for that.
+    refusals: u32,
+    has_waited: bool,
+    /// Since when it waits in the queue of updates, and since when its client sends no more, where that was told there.
+    pub asked: Instant,
+    pub closed: Option<Instant>,
+    /// How it ended where it waits for its turn.
+    pub over: Option<SessionEnd>,
+    /// Whether the update that stands next has waited for a thread for too long.
+    is_refused: bool,
+}
+
+/// What is told to a session that waits for its turn.
+#[derive(Clone, Copy, Debug)]
+pub enum Notice {
+    /// It is over.
+    Over(SessionEnd),
+    /// Its client sends no more, since then.
+    SendsNoMore(Instant),
+}
+
+/// Who makes room for what sessions hold.
+pub trait MakesRoom {
+    /// Whether there is room for so many octets more of a session that holds this.
+    fn makes_room(&self, own: Holder, more: u64) -> bool;
 }
 
 /// What a read of a socket gave.
@@ -58,6 +92,8 @@ pub enum Then {
     Updates,
     /// A whole message stands next.
     Queues,
+    /// A bind stands next, which waits since others were refused.
+    Delays,
     /// The client is to take an answer.
     Waits,
     Ends(SessionEnd),
@@ -68,17 +104,53 @@ fn is_pause(kind: ErrorKind) -> bool {
     kind == ErrorKind::WouldBlock || kind == ErrorKind::TimedOut
 }
 
-/// Reads once. What is heard is put into the conversation.
-fn hear_from<R: Read>(reader: &mut R, conversation: &mut Conversation, buffer: &mut [u8]) -> Heard
+/// Whether there is room for what a conversation keeps once it has heard so many octets that were read, with the messages that become whole by them.
+/// It is asked for where that is much more than is posted.
+fn has_room<M: MakesRoom>(
+    conversation: &Conversation,
+    count: usize,
+    posted: &mut u64,
+    room: &M,
+) -> bool {
+    let weight = conversation.weight_of(count) as u64;
+    let needed = (conversation.held() as u64).saturating_add(weight);
+    let more = needed.saturating_sub(*posted);
+    if more < LARGE {
+        return true;
+    }
+    let own = Holder {
+        octets: needed,
+        is_bound: conversation.is_bound(),
+    };
+    if !room.makes_room(own, more) {
+        return false;
+    }
+    *posted = needed;
+    true
+}
+
+/// Reads once. What is heard is put into the conversation, where there is room.
+fn hear_from<R: Read, M: MakesRoom>(
+    reader: &mut R,
+    conversation: &mut Conversation,
+    buffer: &mut [u8],
+    posted: &mut u64,
+    room: &M,
+) -> Heard
     ensures { HasHeard (R.remaining reader.old) (R.remaining reader.new)
         (conversation_view conversation.old) buffer.new (conversation_view conversation.new) result }
 {
     match reader.read(buffer) {
         Ok(0) => Heard::Ends(conversation.end_of_input()),
-        Ok(count) => match conversation.hear(&buffer[..count]) {
-            Ok(()) => Heard::Octets,
-            Err(_) => Heard::Ends(SessionEnd::NoMemory),
-        },
+        Ok(count) => {
+            if !has_room(conversation, count, posted, room) {
+                return Heard::Ends(SessionEnd::NoMemory);
+            }
+            match conversation.hear(&buffer[..count]) {
+                Ok(()) => Heard::Octets,
+                Err(_) => Heard::Ends(SessionEnd::NoMemory),
+            }
+        }
         Err(error) => {
             if is_pause(error.kind()) {
                 Heard::Nothing
@@ -148,7 +220,7 @@ fn began_in(queue: Queue, began: Option<Instant>, now: Instant) -> Option<Instan
 {
     match queue {
         Queue::Inside => Some(began.unwrap_or(now)),
-        Queue::Silent | Queue::Unsent | Queue::Leaving => None,
+        Queue::Silent | Queue::Unsent | Queue::Leaving | Queue::Delayed => None,
     }
 }
 
@@ -179,16 +251,29 @@ impl PooledSession {
             waited: Duration::from_secs(0),
             taken: 0,
             began: None,
+            posted: 0,
+            refusals: 0,
+            has_waited: false,
+            asked: since,
+            closed: None,
+            over: None,
+            is_refused: false,
         })
     }
 
     /// Reads once. What is heard is put into the conversation. Where that makes a message whole, the next one has not begun.
-    pub fn hear(&mut self, buffer: &mut [u8]) -> Heard
+    pub fn hear<M: MakesRoom>(&mut self, buffer: &mut [u8], room: &M) -> Heard
         ensures same { IsSame self.old self.new }
         ensures heard { HasHeard None None (talk self.old) buffer.new (talk self.new) result }
         ensures began { self.new.began ≡ began_while (due_next (talk self.new)) self.old.began }
     {
-        let heard = hear_from(&mut self.stream, &mut self.conversation, buffer);
+        let heard = hear_from(
+            &mut self.stream,
+            &mut self.conversation,
+            buffer,
+            &mut self.posted,
+            room,
+        );
         self.began = began_while(self.conversation.due(), self.began);
         heard
     }
@@ -237,7 +322,7 @@ impl PooledSession {
         }
     }
 
-    /// It waits no more. Where it waited for its client to take an answer, that time counts.
+    /// It waits for its client no more, but for its turn. Where it waited for its client to take an answer, that time counts.
     pub fn rouse(&mut self, now: Instant)
         ensures waited { HasWaited self.old self.new }
         ensures counted { Counts self.old now self.new }
@@ -246,6 +331,8 @@ impl PooledSession {
             let more = now.saturating_duration_since(self.since);
             self.waited = self.waited.saturating_add(more);
         }
+        self.asked = now;
+        self.closed = None;
     }
 
     /// It is over: its client is told that nothing more comes, its socket doesn't wait, and what its conversation kept is given back.
@@ -360,7 +447,132 @@ impl PooledSession {
         match self.conversation.due() {
             Due::Nothing => Then::Listens,
             Due::Update => Then::Updates,
-            Due::Other => Then::Queues,
+            Due::Other => {
+                if self.is_delayed() {
+                    Then::Delays
+                } else {
+                    Then::Queues
+                }
+            }
+        }
+    }
+
+    /// Whether a bind stands next that is to wait: several were refused, and it hasn't waited yet.
+    pub fn is_delayed(&self) -> bool
+        ensures { IsTrue result ↔ IsDelayed self.now }
+    {
+        self.refusals >= REFUSALS && !self.has_waited && self.conversation.bind_next().is_some()
+    }
+
+    /// The bind that stands next has waited.
+    pub fn allow_bind(&mut self)
+        ensures same { IsSame self.old self.new }
+        ensures kept { talk self.new ≡ talk self.old }
+        ensures waited { IsDelayed self.new → ⊥ }
+    {
+        self.has_waited = true;
+    }
+
+    /// A bind was answered: the next one waits by itself.
+    pub fn note_bind(&mut self, is_refused: bool)
+        ensures same { IsSame self.old self.new }
+        ensures kept { talk self.new ≡ talk self.old }
+        ensures counted { self.new.refusals ≡ cond is_refused (min (self.old.refusals + 1) 4294967295) self.old.refusals }
+        ensures again { self.new.has_waited ≡ false }
+    {
+        self.has_waited = false;
+        if is_refused {
+            self.refusals = self.refusals.saturating_add(1);
+        }
+    }
+
+    /// It waits in the queue of updates from now on.
+    pub fn line_up(&mut self, now: Instant)
+        ensures same { IsSame self.old self.new }
+        ensures kept { talk self.new ≡ talk self.old }
+        ensures asked { self.new.asked ≡ now }
+        ensures open { self.new.closed ≡ None }
+    {
+        self.asked = now;
+        self.closed = None;
+    }
+
+    /// Its update has waited for a thread for too long: a seat answers it.
+    pub fn give_up_update(&mut self)
+        ensures same { IsSame self.old self.new }
+        ensures kept { talk self.new ≡ talk self.old }
+        ensures refused { self.new.is_refused ≡ true }
+    {
+        self.is_refused = true;
+    }
+
+    /// Whether its update has waited for too long, and stands next.
+    pub fn has_given_up(&self) -> bool
+        ensures { IsTrue result ↔ HasGivenUp self.now }
+    {
+        self.is_refused && self.conversation.due() == Due::Update
+    }
+
+    /// Its update is answered.
+    pub fn take_up(&mut self)
+        ensures same { IsSame self.old self.new }
+        ensures kept { talk self.new ≡ talk self.old }
+        ensures answered { HasGivenUp self.new → ⊥ }
+    {
+        self.is_refused = false;
+    }
+
+    /// How it ended before the turn of its update: it is over, or its client has sent no more for so long.
+    pub fn end_before(&self, limit: Duration, now: Option<Instant>) -> Option<SessionEnd>
+        ensures over { IsSome self.now.over → result ≡ self.now.over }
+        ensures open { self.now.over ≡ None → self.now.closed ≡ None → result ≡ None }
+    {
+        if self.over.is_some() {
+            return self.over;
+        }
+        match (self.closed, now) {
+            (Some(since), Some(now)) if is_past(since, limit, now) => Some(SessionEnd::EndOfInput),
+            _ => None,
+        }
+    }
+
+    /// What it holds of the memory that clients may take together.
+    pub fn holder(&self) -> Holder
+        ensures { result.octets ≡ self.now.posted }
+    {
+        Holder {
+            octets: self.posted,
+            is_bound: self.conversation.is_bound(),
+        }
+    }
+
+    /// How many octets of memory its conversation keeps.
+    pub fn held(&self) -> u64 {
+        self.conversation.held() as u64
+    }
+
+    /// It is told this while it waits for its turn. Where it is over, what its conversation kept is given back, and its client is told that nothing
+    /// more comes. How many octets are posted of it no more.
+    pub fn take_note(&mut self, alloc: Global, notice: Notice) -> u64
+        ensures same { IsSame self.old self.new }
+        ensures noted { HasNoted self.old notice self.new }
+        ensures given { result + self.new.posted ≡ self.old.posted }
+    {
+        match notice {
+            Notice::Over(end) => {
+                let _ = self.stream.shutdown(Shutdown::Both);
+                self.conversation = Conversation::new(alloc);
+                self.over = Some(self.over.unwrap_or(end));
+                let posted = self.posted;
+                self.posted = 0;
+                posted
+            }
+            Notice::SendsNoMore(now) => {
+                if self.closed.is_none() {
+                    self.closed = Some(now);
+                }
+                0
+            }
         }
     }
 

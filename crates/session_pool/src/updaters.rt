@@ -50,15 +50,12 @@ impl Updaters {
         })
     }
 
-    /// The update of the session of this place waits in this thread.
-    pub fn post(&mut self, thread: usize, place: usize)
-        ensures { posted self.new ≡ slice_set (posted self.old) thread (Some (post_of place)) }
+    /// The update of the session of this place waits in this thread; its client may send more, or has sent no more since then.
+    pub fn post(&mut self, thread: usize, place: usize, closed: Option<Instant>)
+        ensures { posted self.new ≡ slice_set (posted self.old) thread (Some (record { place = place; closed = closed })) }
     {
         if thread < self.updaters.len() {
-            self.updaters[thread] = Some(Updater {
-                place,
-                closed: None,
-            });
+            self.updaters[thread] = Some(Updater { place, closed });
         }
     }
 

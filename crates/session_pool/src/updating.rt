@@ -2,41 +2,38 @@
 ghost use Rattle.client_link.specs.session_handler.View.{config_view};
 ghost use Rattle.client_link.specs.Served.{config_of};
 ghost use Rattle.session_pool.specs.Attending.{talk, IsSame, Answers};
+ghost use Rattle.session_pool.specs.Refused.{IsRefused};
 ghost use Rattle.session_pool.specs.Sittings.{HasUpdatedSome};
 
+use crate::no_node::NoNode;
 use crate::pool::SessionPool;
 use crate::pooled::PooledSession;
 use crate::tells::Tells;
 use client_link::{Config, Directory};
-use mio::unix::SourceFd;
-use mio::{Interest, Token};
-use std::os::fd::AsRawFd;
 use std::sync::Wait;
-use std::sync::atomic::Ordering;
 use std::time::Clock;
 
 impl<'a, R: Wait + Clock, T: Tells> SessionPool<'a, R, T> {
-    /// While its update waits in this thread, a session is watched for its client's end.
-    fn watch(&self, thread: usize, pooled: &PooledSession) {
-        if let Some(leaves) = self.leaves.get(thread) {
-            leaves.store(false, Ordering::SeqCst);
-        }
-        let (place, fd) = (pooled.place, pooled.stream.as_raw_fd());
-        let mut table = self.table.lock(self.rt);
-        table.updaters.post(thread, place);
-        let _ = self
-            .registry
-            .register(&mut SourceFd(&fd), Token(place), Interest::READABLE);
-    }
-
-    /// Its update waits no more.
-    fn unwatch(&self, thread: usize, pooled: &PooledSession) {
-        let fd = pooled.stream.as_raw_fd();
+    /// The update of a session waits no more.
+    pub fn unwatch(&self, thread: usize, pooled: &PooledSession) {
         self.table.lock(self.rt).updaters.unpost(thread);
-        let _ = self.registry.deregister(&mut SourceFd(&fd));
+        self.unwatch_end(pooled);
     }
 
-    /// Answers the next message of a session.
+    /// Answers the update of a session by what one is answered that finds no primary: it has waited for too long.
+    pub fn refuse_update(&self, pooled: &mut PooledSession)
+        ensures same { IsSame pooled.old pooled.new }
+        ensures refused { IsRefused (config_of (config_view self.now.config) pooled.old.number) (talk pooled.old) (talk pooled.new) }
+    {
+        let config = Config {
+            session: pooled.number,
+            ..self.config
+        };
+        let mut node = NoNode;
+        pooled.conversation.answer(self.alloc, &config, &mut node);
+    }
+
+    /// Answers the next message of a session, for whose client's end this thread is watched.
     fn answer_one<D: Directory>(&self, thread: usize, pooled: &mut PooledSession, directory: &mut D)
         ensures same { IsSame pooled.old pooled.new }
         ensures answers { Answers D.allows (config_of (config_view self.now.config) pooled.old.number) (talk pooled.old)
@@ -46,7 +43,6 @@ impl<'a, R: Wait + Clock, T: Tells> SessionPool<'a, R, T> {
             session: pooled.number,
             ..self.config
         };
-        self.watch(thread, pooled);
         pooled.conversation.answer(self.alloc, &config, directory);
         self.unwatch(thread, pooled);
     }
@@ -57,7 +53,7 @@ impl<'a, R: Wait + Clock, T: Tells> SessionPool<'a, R, T> {
     {
         let limit = self.door.limits().write;
         for _ in self.rt.forever() {
-            let Some(mut pooled) = self.next_update() else {
+            let Some(mut pooled) = self.next_update(thread) else {
                 return directory;
             };
             self.answer_one(thread, &mut pooled, &mut directory);

@@ -8,19 +8,23 @@ use Rattle.std.specs.declared.time.Duration.{Duration}
 use Rattle.std.specs.declared.time.Instant.{Instant}
 use Rattle.client_link.specs.ldap_session.View.{SessionValue, ConversationValue}
 use Rattle.client_link.specs.ldap_session.Conversing.{sends}
+use Rattle.client_link.specs.ldap_session.Conversing.{IsFresh}
+use Rattle.client_link.specs.ldap_session.Waiting.{bind_next}
 use Rattle.client_link.specs.ldap_session.declared.due.Due.{Due}
 use Rattle.client_link.specs.ldap_session.declared.due.Due.TheVariants.{Nothing as DueNothing, Update as DueUpdate, Other as DueOther}
 use Rattle.client_link.specs.ldap_session.declared.end.SessionEnd.TheVariants.{WriteFailed}
 use Rattle.session_table.specs.declared.spot.Queue.{Queue}
-use Rattle.session_table.specs.declared.spot.Queue.TheVariants.{Silent, Inside, Unsent, Leaving}
+use Rattle.session_table.specs.declared.spot.Queue.TheVariants.{Silent, Inside, Unsent, Leaving, Delayed}
 use Rattle.session_pool.specs.private.Posting.{IsPast}
 use Rattle.session_pool.specs.declared.place_state.Turn.{Turn}
 use Rattle.session_pool.specs.declared.place_state.Turn.TheVariants.{Update}
 use Rattle.session_pool.specs.declared.pooled.PooledSession.{PooledSession}
 use Rattle.session_pool.specs.declared.pooled.Heard.{Heard}
 use Rattle.session_pool.specs.declared.pooled.Heard.TheVariants.{Octets, Nothing, Ends as HeardEnds}
+use Rattle.session_pool.specs.declared.pooled.Notice.{Notice}
+use Rattle.session_pool.specs.declared.pooled.Notice.TheVariants.{Over, SendsNoMore}
 use Rattle.session_pool.specs.declared.pooled.Then.{Then}
-use Rattle.session_pool.specs.declared.pooled.Then.TheVariants.{Listens, Updates, Queues, Waits, Ends as ThenEnds}
+use Rattle.session_pool.specs.declared.pooled.Then.TheVariants.{Listens, Updates, Queues, Delays, Waits, Ends as ThenEnds}
 use Rattle.session_pool.specs.Attending.{talk, due_next, IsSame, HearsSome, IsHeardEnd}
 
 -- it has something to write, or its socket is to wait again
@@ -43,12 +47,24 @@ pub record SendsTo (output grown : Option (List ℕ)) (v w : ConversationValue) 
   pub appended : Appends output grown (take count v.unsent)
   pub sent : w ≡ sends v count
 
+-- a bind stands next that is to wait: three of its connection were refused, and it hasn't waited yet
+pub record IsDelayed (g : PooledSession) : Type 0 where
+  pub refused : 3 ≤ g.refusals
+  pub first : g.has_waited ≡ false
+  pub bind : bind_next (talk g).end (talk g).session.framed ≡ None → ⊥
+
+-- its update has waited for a thread for too long, and stands next
+pub record HasGivenUp (g : PooledSession) : Type 0 where
+  pub refused : g.is_refused ≡ true
+  pub next : due_next (talk g) ≡ DueUpdate
+
 -- Why a session becomes this by a write: its client may take its time still; or a write has failed, which is tried only where there is something to
 -- write, or an answer was too long.
 abbrev pub HasCause : PooledSession → PooledSession → Duration → Then → Type 0
 HasCause g h limit Listens = Unit {0}
 HasCause g h limit Updates = Unit {0}
 HasCause g h limit Queues = Unit {0}
+HasCause g h limit Delays = IsDelayed h
 HasCause g h limit Waits = IsSlow h limit → ⊥
 HasCause g h limit (ThenEnds end) = end ≡ WriteFailed → HasToWrite g ⊎ ((talk h).end ≡ Some WriteFailed)
 
@@ -77,6 +93,7 @@ began_in Inside began now = Some (unwrap_or began now)
 began_in Silent began now = None
 began_in Unsent began now = None
 began_in Leaving began now = None
+began_in Delayed began now = None
 
 -- it waits in a queue from now on, and nothing of what was heard and said has changed
 pub record HasPaused (g : PooledSession) (queue : Queue) (now : Instant) (h : PooledSession) : Type 0 where
@@ -125,3 +142,22 @@ RousesAt (Some g) after told = RousesOne g after told
 abbrev pub WaitsFor : SessionValue → Queue → Type 0
 WaitsFor s queue = s.framed.fault ≡ None →
     ((queue ≡ Silent) × (s.framed.rest ≡ [])) ⊎ ((queue ≡ Inside) × (s.framed.rest ≡ [] → ⊥))
+
+-- what is told to a session that waits for its turn: it is over, and its conversation is a new one; or its client sends no more, since then or before
+abbrev pub HasNoted : PooledSession → Notice → PooledSession → Type 0
+HasNoted g (Over end) h = (h.over ≡ Some (unwrap_or g.over end)) × (h.posted ≡ 0) × IsFresh (talk h)
+HasNoted g (SendsNoMore now) h = (h.closed ≡ Some (unwrap_or g.closed now)) × (h.over ≡ g.over) × (talk h ≡ talk g)
+
+-- the session at a place is told this, if one is there; so many octets are posted of it no more
+pub record NotesOne (g : PooledSession) (notice : Notice) (after : Option PooledSession) (told : Option ℕ) : Type 0 where
+  pub pooled : PooledSession
+  pub less : ℕ
+  pub after_is : after ≡ Some pooled
+  pub told_is : told ≡ Some less
+  pub same : IsSame g pooled
+  pub noted : HasNoted g notice pooled
+
+-- nothing where no session is there, else what telling that one does
+abbrev pub NotesAt : Option PooledSession → Notice → Option PooledSession → Option ℕ → Type 0
+NotesAt None notice after told = (after ≡ None) × (told ≡ None)
+NotesAt (Some g) notice after told = NotesOne g notice after told

@@ -9,7 +9,9 @@ use Rattle.session_table.specs.Places.{IsIn, HasPut, HasTaken, IsLongest, NoneIn
 use Rattle.session_table.specs.declared.spot.Queue.{Queue}
 use Rattle.session_table.specs.declared.spot.Queue.TheVariants.{Leaving}
 use Rattle.session_table.specs.declared.spot.Spot.{Spot}
-use Rattle.session_pool.specs.private.Attending.{HasRoused}
+use Rattle.session_pool.specs.Attending.{IsSame}
+use Rattle.session_pool.specs.private.Attending.{HasRoused, HasNoted}
+use Rattle.session_pool.specs.declared.pooled.Notice.{Notice}
 use Rattle.session_pool.specs.private.Posting.{IsPast}
 use Rattle.session_pool.specs.declared.pooled.PooledSession.{PooledSession}
 use Rattle.session_pool.specs.declared.places.Places.{Places}
@@ -112,6 +114,20 @@ pub record WaitsLongest (t : Tabled) (queue : Queue) (g : PooledSession) : Type 
   pub place : ℕ
   pub home : IsHome t g place
   pub longest : IsLongest t.spots queue place
+
+-- the session of a place waits for its turn: for a seat, or for a thread that updates
+abbrev pub WaitsItsTurn : Tabled → ℕ → Type 0
+WaitsItsTurn t p = IsAt t p Ready ⊎ IsAt t p Updates
+
+-- the session of a place that waits for its turn is told this, and waits on
+pub record Notes (t : Tabled) (p : ℕ) (notice : Notice) (u : Tabled) : Type 0 where
+  pub before : PooledSession
+  pub after : PooledSession
+  pub turn : WaitsItsTurn t p
+  pub home : IsHome t before p
+  pub same : IsSame before after
+  pub noted : HasNoted before notice after
+  pub told : u ≡ record t { sessions = slice_set t.sessions p (Some after) }
 
 -- the session of a place is over, and its client may still read
 pub record IsLeaving (t : Tabled) (p : ℕ) (g : PooledSession) : Type 0 where
