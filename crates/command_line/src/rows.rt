@@ -19,6 +19,8 @@ pub enum Takes {
     Number { first: i64, last: i64 },
     /// The number behind it, from 1 to this one; the other one, where it is left out.
     Count { last: i64, default: &'static str },
+    /// The number behind it, from 1 to this one; it may be left out.
+    Amount { last: i64 },
     /// It has no name before it, and can't be left out.
     Place,
     /// It has no name before it, is one of these, and can't be left out.
@@ -83,6 +85,7 @@ fn argument<'a>(alloc: Global, word: &Word) -> Arg<'a> {
         Takes::Wanted => named_argument(alloc, word).required(true),
         Takes::Number { first, last } => number(alloc, word, first, last).required(true),
         Takes::Count { last, default } => number(alloc, word, 1, last).default_value(default),
+        Takes::Amount { last } => number(alloc, word, 1, last),
         Takes::Place => placed_argument(alloc, word).required(true),
         Takes::OneOf(words) => placed_argument(alloc, word)
             .required(true)

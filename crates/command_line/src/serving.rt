@@ -15,6 +15,9 @@ const LAST_CLUSTER: i64 = 281_474_976_710_655;
 /// The greatest number of milliseconds that may be asked for, a day.
 const LONGEST: i64 = 86_400_000;
 
+/// The greatest number of MiB that may be told, more than any machine has.
+const MOST_MEMORY: i64 = 1_073_741_824;
+
 /// The greatest number of entries that may be told, more than any directory has.
 const MOST_ENTRIES: i64 = 4_294_967_295;
 
@@ -59,6 +62,8 @@ pub struct Serving<'a> {
     pub idle: u64,
     /// How long a client may take nothing of what it is sent.
     pub take: u64,
+    /// How many MiB of memory clients may take together, where that is told.
+    pub memory_for_clients: Option<u64>,
     /// Where monitors are answered, if they are.
     pub metrics: Option<SocketAddr>,
     /// What is logged beside what is always told.
@@ -92,6 +97,7 @@ impl<'a> Drop for Serving<'a> {
             stall: _,
             idle: _,
             take: _,
+            memory_for_clients: _,
             metrics: _,
             logs: _,
             slow: _,
@@ -214,7 +220,13 @@ const WORDS: &[Word] = &[
             last: LONGEST,
             default: "20000",
         },
-        help: "How long a client may take nothing of what it is sent",
+        help: "How long a client may take nothing of what it is sent, and an update wait for a thread",
+    },
+    Word {
+        name: "memory-for-clients",
+        value: "MIB",
+        takes: Takes::Amount { last: MOST_MEMORY },
+        help: "How much memory requests and answers of clients may take together, a quarter of this machine's at most; an eighth of it, between 64 and 1024, where it isn't told",
     },
     Word {
         name: "beat",
@@ -460,6 +472,7 @@ pub fn serving_in<'a>(alloc: Global, matches: &ArgMatches<'a>) -> Result<Serving
         stall: number_in(matches, "stall"),
         idle: number_in(matches, "idle"),
         take: number_in(matches, "take"),
+        memory_for_clients: matches.get_one::<u64>("memory-for-clients"),
         metrics,
         logs,
         slow: number_in(matches, "slow"),

@@ -125,6 +125,7 @@ where
         seats: words.seats as usize,
         sessions: words.sessions as usize,
         updates: words.updates as usize,
+        memory_for_clients: words.memory_for_clients,
         times: Times {
             beat: Duration::from_millis(words.beat),
             suspect: Duration::from_millis(words.suspect),

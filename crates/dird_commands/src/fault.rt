@@ -30,6 +30,8 @@ pub enum Fault {
     CannotRead,
     #[error("others may read the password's file")]
     OpenToOthers,
+    #[error("the password is empty")]
+    NoPassword,
     #[error("cannot write")]
     CannotWrite,
     #[error("E3")]

@@ -65,3 +65,16 @@ pub fn open_to_others(alloc: Global, path: &str) -> Refusal {
     };
     Refusal::with_explanation(Fault::OpenToOthers, told)
 }
+
+/// A file whose first line has no password.
+pub fn no_password_in(alloc: Global, path: &str) -> Refusal
+    ensures { result.fault ≡ Fault.NoPassword }
+{
+    let told = match shown(alloc, path.as_bytes()) {
+        Ok(name) => format!(in alloc;
+            "--password-file: the first line of {name} is empty: write the manager's password there"
+        ),
+        Err(error) => Err(error),
+    };
+    Refusal::with_explanation(Fault::NoPassword, told)
+}

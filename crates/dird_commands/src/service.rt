@@ -6,6 +6,7 @@ use crate::fault::Fault;
 use crate::files::ReadFiles;
 use crate::local::name_of_text;
 use crate::opening::{indexes_of, schema_told, text_of};
+use crate::reasons::no_password_in;
 use crate::refusal::Refusal;
 use command_line::{Password, Serving};
 use local_directory::{Indexes, Name, Schema};
@@ -50,7 +51,7 @@ fn first_line(text: &str) -> &str {
     }
 }
 
-/// The password that is told, or that a file of its owner alone tells in its first line.
+/// The password that is told, or that a file of its owner alone tells in its first line, where that isn't empty.
 fn password_of<S: ReadFiles>(
     files: &S,
     alloc: Global,
@@ -60,7 +61,11 @@ fn password_of<S: ReadFiles>(
         Password::Text(text) => Ok(String::from_str(alloc, text)?),
         Password::File(path) => {
             let text = files.read_secret(alloc, path)?;
-            Ok(String::from_str(alloc, first_line(&text))?)
+            let password = first_line(&text);
+            if password.is_empty() {
+                return Err(no_password_in(alloc, path));
+            }
+            Ok(String::from_str(alloc, password)?)
         }
     }
 }

@@ -46,7 +46,7 @@ module _ (D J I : RattleType) (g : Device.Ghosts D.Denot) (h : JournalDevice.Gho
   held_send a R y s t =
       recorded_send (Held.the_field a R D J I g h i).row _ _ (Held.the_type a R D J I g h i).to_one
       (struct_send (Declared.shape (Held.the_type a R D J I g h i))
-      (published_field_send a R y s t, (search (crosses, sendable) depth 40, (plain_send _ _ _ _ _, (plain_send _ _ _ _ _, (phantom.the_field_send I, tt))))))
+      (published_field_send a R y s t, (search (crosses, sendable) depth 40, (plain_send _ _ _ _ _, (plain_send _ _ _ _ _, (plain_send _ _ _ _ _, (phantom.the_field_send I, tt)))))))
 
   last_beat_send : IsSend (LastBeat.the_row I i)
   last_beat_send =

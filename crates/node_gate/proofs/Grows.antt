@@ -1,6 +1,6 @@
 -- An event at a node: what was executed before is a beginning of what is after. The clauses of the call flow in; a beginning flows out. What a publisher
 -- makes of it is not here.
-use Rattle.std.proofs.Common.{◌≡◌, List, Bool, Result, Ok, Err, IfErr, IfOk, IsErrOf, true, refl, ap, subst, sym}
+use Rattle.std.proofs.Common.{◌≡◌, List, Bool, Result, Ok, Err, IfErr, IfOk, IsErrOf, true, refl, ap}
 use Rattle.dir_node.specs.vr_state.Words.{LogEntry}
 use Rattle.dir_node.specs.dir_store.ldap_op.Values.{OpValue}
 use Rattle.dir_node.specs.declared.error.NodeError.{NodeError}
@@ -27,13 +27,9 @@ begins behind old new due (Err (error.Journal e)) p same no-memory halted stops 
 begins behind old new due (Err error.ForeignJournal) p same no-memory halted stops logs foreign stale = absurd (foreign refl)
 begins behind old new due (Err error.StaleJournal) p same no-memory halted stops logs foreign stale = absurd (stale refl)
 
--- a node that is as it was is so but for its journal
-pub unchanged : {D J : Type 0} (old new : NodeValue D J) → new ≡ old → new ≡ record old { journal = new.journal }
-unchanged {D} {J} old new e = subst (λ (n : NodeValue D J). n ≡ record old { journal = n.journal }) (sym e) refl
-
 -- what each refusal leaves of the node
 pub left : {D J H : Type 0} (old new : NodeValue D J) (r : Result H NodeError)
-    → (IsErrOf r error.NoMemory → new ≡ record old { journal = new.journal })
+    → (IsErrOf r error.NoMemory → new ≡ old)
     → (IsErrOf r error.Halted → old.is_halted ≡ true) → (IsErrOf r error.Halted → new ≡ old)
     → ((e : ViewStoreError) → IsErrOf r (error.Store e) → (new.is_halted ≡ true) × (new.executed ≡ old.executed))
     → ((e : NoteError) → IsErrOf r (error.Journal e) → (new.is_halted ≡ true) × (new.executed ≡ old.executed) × (new.device ≡ old.device))

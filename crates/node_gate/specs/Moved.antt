@@ -50,10 +50,10 @@ pub record HasSteppedAll {P D J : Type 0} (takes : P → ℕ → PeerMessage OpV
   pub executed : ExecutesDue b a
   pub taken : TakesAll takes before (sends_of outputs) after
 
--- What a refused event leaves of the node: for want of memory all but its journal, which is read as before; where its device or its journal failed it has
--- stopped, and executed nothing; a node that had stopped is as it was.
+-- What a refused event leaves of the node: for want of memory all as it was; where its device or its journal failed it has stopped, and executed nothing;
+-- a node that had stopped is as it was.
 abbrev pub IsLeftBy : {D J : Type 0} → NodeError → (before after : NodeValue D J) → Type 0
-IsLeftBy error.NoMemory b a = a ≡ record b { journal = a.journal }
+IsLeftBy error.NoMemory b a = a ≡ b
 IsLeftBy (error.Store e) b a = (a.is_halted ≡ true) × (a.executed ≡ b.executed)
 IsLeftBy (error.Journal e) b a = (a.is_halted ≡ true) × (a.executed ≡ b.executed) × (a.device ≡ b.device)
 IsLeftBy error.ForeignJournal b a = ⊥

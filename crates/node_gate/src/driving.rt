@@ -6,6 +6,8 @@ ghost use Rattle.node_gate.specs.Batches.{left_out, left_out_in, sends_at, sends
 ghost use Rattle.node_gate.specs.Moved.{AreOf, HasRefused, HasStepped, HasSteppedAll, IsBeatOf};
 ghost use Rattle.node_gate.specs.private.Batches.{IsBeatAt};
 ghost use Rattle.node_gate.specs.Sent.{TakesAll};
+ghost use Rattle.node_gate.specs.Identities.{identity_of};
+ghost use Rattle.vr_short.specs.Short.{taken_as};
 
 use crate::arrival::Arrival;
 use crate::beats::LastBeat;
@@ -15,11 +17,12 @@ use crate::inbox::{Batch, Inbox};
 use crate::moved::{Handed, Moved};
 use crate::peers::Peers;
 use crate::running::{Running, copies, send_outputs};
-use dir_node::{Device, Event, JournalDevice, NodeError, Op, Outputs, Send};
+use dir_node::{Device, Event, JournalDevice, Node, NodeError, Op, Outputs, PeerMessage, Send};
 use replica_clock::{Asked, Due};
 use std::alloc::{AllocError, Global};
 use std::snapshot::Snapshot;
 use std::sync::Wait;
+use vr_short::fill;
 
 /// What events give out, or that one was left out for want of memory.
 type Given = Result<Outputs<Op>, AllocError>;
@@ -199,6 +202,39 @@ impl<'a, R: Wait, D: Device, J: JournalDevice, I: Identity> Running<'a, R, D, J,
                 let (done, moved) = self.hear(rt, alloc, peers, arrival);
                 (done, Some(moved))
             }
+        }
+    }
+
+    /// What the node makes of another replica's message that leaves out so many of the first records of its log: the whole message, or nothing where the
+    /// node hasn't committed as many. It gives the node as the lock held it, for clauses alone. Its only error is want of memory.
+    pub fn fill(
+        &self,
+        rt: &R,
+        alloc: Global,
+        left_out: u64,
+        message: PeerMessage<Op>,
+    ) -> (
+        Result<Option<PeerMessage<Op>>, AllocError>,
+        Snapshot<Node<D, J>>,
+    )
+        ensures own { identity_of result.1.value ≡ I.own }
+        ensures filled { IfOk result.0 (λ taken. taken ≡ taken_as left_out result.1.value.replica.commit_number result.1.value.replica.log message) }
+    {
+        let held = self.held.lock(rt);
+        let node = held.node();
+        let taken = fill(alloc, node.log(), node.commit_number(), left_out, message);
+        (taken, Snapshot::of(node))
+    }
+
+    /// Parts of a long message were taken by the replica of this index, at this moment; whether the clock was told of it: not where another thread has the
+    /// node just then.
+    pub fn hear_taken(&self, to: u64, now: u64) -> bool {
+        match self.held.try_lock() {
+            Some(mut held) => {
+                held.hear_taken(to, now);
+                true
+            }
+            None => false,
         }
     }
 

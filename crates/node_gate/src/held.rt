@@ -12,6 +12,7 @@ use crate::ending::Request;
 use crate::identity::Identity;
 use crate::inbox::Heard;
 use crate::published::PublishedNode;
+use crate::telling::{told_by_step, told_by_steps};
 pub use dir_node::Standing;
 use dir_node::{
     AllHandled, Device, Event, Handled, JournalDevice, Node, NodeError, Op, Outcome, Status,
@@ -46,6 +47,8 @@ pub struct Held<'a, R: Wait, D: Device, J: JournalDevice, I: Identity> {
     pub is_stopping: bool,
     /// How many of the events that were posted the node has had.
     pub had: u64,
+    /// How many records its backups were told to be committed, or are told with its next beat.
+    told: u64,
     of: PhantomData<I>,
     ghost stays: { identity_of published.node ≡ I.own },
 }
@@ -59,6 +62,7 @@ impl<'a, R: Wait, D: Device + Drop, J: JournalDevice + Drop, I: Identity> Drop
             clock: _,
             is_stopping: _,
             had: _,
+            told: _,
             of: _,
         } = self;
     }
@@ -83,6 +87,7 @@ impl<'a, R: Wait, D: Device, J: JournalDevice, I: Identity> Held<'a, R, D, J, I>
             clock,
             is_stopping: false,
             had: 0,
+            told: 0,
             of: PhantomData,
         }
     }
@@ -127,7 +132,9 @@ impl<'a, R: Wait, D: Device, J: JournalDevice, I: Identity> Held<'a, R, D, J, I>
         ensures handled { IfOk result (λ h. HasHandled self.old.published.node event h self.new.published.node self.new.published.publisher) }
         ensures refused { IfErr result (λ e. IsLeftBy e self.old.published.node self.new.published.node) }
     {
-        self.published.handle(alloc, event)
+        let handled = self.published.handle(alloc, event)?;
+        self.told = self.told.max(told_by_step(&handled.outputs));
+        Ok(handled)
     }
 
     /// Hands a batch of events to the node, and shows its seats what it then has executed. It is behind too where there was no
@@ -140,7 +147,9 @@ impl<'a, R: Wait, D: Device, J: JournalDevice, I: Identity> Held<'a, R, D, J, I>
         ensures handled { IfOk result (λ h. HasHandledAll self.old.published.node events.items h self.new.published.node self.new.published.publisher) }
         ensures refused { IfErr result (λ e. IsLeftBy e self.old.published.node self.new.published.node) }
     {
-        self.published.handle_all(alloc, events)
+        let handled = self.published.handle_all(alloc, events)?;
+        self.told = self.told.max(told_by_steps(handled.outputs.as_slice()));
+        Ok(handled)
     }
 
     /// The clock is told of the messages that were heard, and of what the node does after them.
@@ -173,6 +182,13 @@ impl<'a, R: Wait, D: Device, J: JournalDevice, I: Identity> Held<'a, R, D, J, I>
         self.clock.hear(from, Sign::Part, now);
     }
 
+    /// A part of a long message was taken by another replica.
+    pub fn hear_taken(&mut self, to: u64, now: u64)
+        ensures published { self.new.published ≡ self.old.published }
+    {
+        self.clock.hear(to, Sign::Taken, now);
+    }
+
     /// Asks the node's clock what is due.
     pub fn ask(&mut self, now: u64) -> Asked
         ensures published { self.new.published ≡ self.old.published }
@@ -181,14 +197,21 @@ impl<'a, R: Wait, D: Device, J: JournalDevice, I: Identity> Held<'a, R, D, J, I>
         self.clock.ask(now)
     }
 
-    /// The clock is told what the node does.
+    /// The clock is told what the node does. Where all of a primary's records are committed and no message has told the backups so, the next beat comes
+    /// soon; the PREPARE of a later record would tell them itself.
     pub fn note(&mut self, now: u64)
         ensures published { self.new.published ≡ self.old.published }
     {
         let node = self.published.node();
         let view_number = node.view_number();
-        let status = status_of(node.standing());
-        self.clock.note(view_number, status, now);
+        let standing = node.standing();
+        let committed = node.executed_len() as u64;
+        self.clock.note(view_number, status_of(standing), now);
+        let is_settled = node.log_len() == committed;
+        if standing == Standing::Primary && is_settled && self.told < committed {
+            self.told = committed;
+            self.clock.hurry(now);
+        }
     }
 
     /// Whether somebody waits for what becomes of a request.

@@ -33,6 +33,7 @@ mod peers;
 mod published;
 mod running;
 mod standing;
+mod telling;
 
 pub use arrival::Arrival;
 pub use dir_node::{

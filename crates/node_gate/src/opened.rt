@@ -6,7 +6,7 @@ use crate::identity::Identity;
 use crate::inbox::Inbox;
 use crate::published::{Here, PublishedNode};
 use crate::running::Running;
-use dir_node::{Device, JournalDevice, Op, Outputs};
+use dir_node::{Device, JournalDevice, Node, Op, Outputs};
 use dir_seats::{Seat, Teller};
 use replica_clock::Times;
 use std::marker::Model;
@@ -42,6 +42,13 @@ impl<'a, R: Wait, D: Device, J: JournalDevice> Model for OpenedNode<'a, R, D, J>
 }
 
 impl<'a, R: Wait, D: Device, J: JournalDevice> OpenedNode<'a, R, D, J> {
+    /// The node.
+    pub fn node(&self) -> &Node<D, J>
+        ensures { result.now ≡ self.now }
+    {
+        self.published.node()
+    }
+
     /// The node with this identity, for threads to share. Its clock begins at the moment 0.
     pub fn share<I: Identity>(self) -> Running<'a, R, D, J, I>
         requires { identity_of self ≡ I.own }

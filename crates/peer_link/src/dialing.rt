@@ -22,6 +22,8 @@ pub enum Heard {
     Nothing,
     /// The other end has answered.
     Answer,
+    /// The other end doesn't hear this one, for this reason.
+    Refusal([u8; REFUSAL]),
     /// The other end has closed the stream, or it has failed.
     End,
 }
@@ -62,6 +64,19 @@ impl<'a, R: Net<Stream = TcpStream>> SocketDialer<'a, R> {
     }
 }
 
+/// How many octets a refusal has, and which is its first; an answer is another one, by itself.
+pub const REFUSAL: usize = 18;
+
+const REFUSED: u8 = 2;
+
+/// What octets say that have come back: a refusal, or that the other end is there.
+fn heard_in(octets: &[u8]) -> Heard {
+    match octets.first_chunk::<REFUSAL>() {
+        Some(refusal) if refusal[0] == REFUSED => Heard::Refusal(*refusal),
+        _ => Heard::Answer,
+    }
+}
+
 /// How many octets of answers are read at once: one comes for each question, and one for the greeting.
 const ANSWERS: usize = 64;
 
@@ -70,7 +85,10 @@ fn read_answers(mut stream: &TcpStream) -> Heard {
     let mut octets = [0u8; ANSWERS];
     match stream.read(&mut octets) {
         Ok(0) => Heard::End,
-        Ok(_) => Heard::Answer,
+        Ok(count) => match octets.get(..count) {
+            Some(come) => heard_in(come),
+            None => Heard::End,
+        },
         Err(error) => match error.kind() {
             ErrorKind::WouldBlock | ErrorKind::Interrupted => Heard::Nothing,
             _ => Heard::End,

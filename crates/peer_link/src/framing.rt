@@ -1,4 +1,5 @@
 //! How items become frames. Streams and queues are not here, nor what an item is.
+use crate::dialing::REFUSAL;
 use bytes::Bytes;
 
 /// Makes the frames of items, one item after the other. It is asked by the thread that sends, outside every lock.
@@ -15,6 +16,9 @@ pub trait Framing<T> {
 
     /// The other end is there: it has answered, or it is one that never answers and its stream is open.
     fn heard(&mut self);
+
+    /// The other end doesn't hear this one, for this reason: its stream is closed.
+    fn refused(&mut self, why: [u8; REFUSAL]);
 
     /// The other end has been silent for too long: its stream is closed, and another one is made.
     fn silent(&mut self);

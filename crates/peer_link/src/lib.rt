@@ -24,7 +24,7 @@ mod weighted;
 
 pub use address::Address;
 pub use bytes::Bytes;
-pub use dialing::{Dial, Heard, SocketDialer};
+pub use dialing::{Dial, Heard, REFUSAL, SocketDialer};
 pub use framing::Framing;
 pub use keep_alive::{KeepAlive, silence_is_found};
 pub use outbox::{Outbox, Waited};

@@ -98,6 +98,10 @@ fn listen<T, F: Framing<T>, D: Dial>(
 ) -> bool {
     match dialer.hear(stream) {
         Heard::End => return false,
+        Heard::Refusal(why) => {
+            framing.refused(why);
+            return false;
+        }
         Heard::Answer => {
             keep_alive.hear();
             framing.heard();

@@ -8,10 +8,11 @@ use crate::options::{Options, Times};
 use crate::peer_queues::{PeerQueues, PeerQueuesAt};
 use crate::ticking::{TimedNode, clock_times};
 use file_device::{FileDevice, JournalFile};
-use node_gate::{Here, Identity, NodeGate, OpenOptions, Opened, Pace, Running, Seat, Told};
+use node_gate::{Here, Identity, Node, NodeGate, OpenOptions, Opened, Pace, Running, Seat, Told};
 use server_threads::{
-    Build, Choices, Config, LinkTimes, NoReads, PROCESS_STATUS, Place, Server, ServerError,
-    SharedParts, make_shared_parts,
+    Build, Choices, Claim, Config, GROUP_MEMORY, LinkTimes, MACHINE_MEMORY, NoReads,
+    PROCESS_STATUS, Place, Server, ServerError, SharedParts, available_octets, limit_of,
+    make_shared_parts,
 };
 use std::alloc::{AllocError, Global};
 use std::fs::{File, Files};
@@ -94,6 +95,8 @@ struct Terms<'a> {
     is_proved: bool,
     /// Where each replica is found.
     places: &'a [Place<'a>],
+    /// What this start says of itself to the other replicas.
+    claim: Claim,
 }
 
 /// Runs all threads over what they share.
@@ -147,6 +150,7 @@ where
         engine: &clock,
         cluster: peer_queues.cluster,
         places: terms.places,
+        claim: terms.claim,
     };
     let gates = gates(&clock)?;
     server.run(ways, gates, terms.sessions, &terms.config)
@@ -182,6 +186,22 @@ where
     let running = node.share::<I>();
     peer_queues.post_all(outputs.sends);
     run_in(alloc, seats, &running, &peer_queues, guards, terms)
+}
+
+/// What the start of this node says of itself: it goes on from what it kept, unless it recovers. Its mark is the moment, so that two starts over copies
+/// of the same files have different ones.
+fn claim_of<R: Clock>(rt: &R, node: &Node<FileDevice, JournalFile>) -> Result<Claim, ServerError> {
+    let Ok(moment) = rt.since_1970() else {
+        return Err(ServerError::NoClock);
+    };
+    Ok(Claim {
+        start: node.restarts(),
+        mark: u64::try_from(moment.as_nanos()).unwrap_or(u64::MAX),
+        remembers: node.remembers(),
+        view: node.view_number(),
+        last_normal: node.last_normal_view(),
+        length: node.log_len(),
+    })
 }
 
 /// Opens the node, and serves by it.
@@ -239,12 +259,14 @@ where
         restarts: opened.restarts,
         session: 0,
     };
+    let claim = claim_of(rt, opened.node.node())?;
     let terms = Terms {
         config,
         sessions: sessions.max(1),
         times,
         is_proved: matches!(build, Build::Proved),
         places,
+        claim,
     };
     let peer_queues = PeerQueues {
         rt,
@@ -272,7 +294,11 @@ where
     N: Read + Drop + Send,
 {
     let index = options.node.index;
+    let machine = File::open(rt, MACHINE_MEMORY).ok();
+    let group = File::open(rt, GROUP_MEMORY).ok();
+    let available = available_octets(machine.as_ref(), group.as_ref());
     let choices = Choices {
+        memory: limit_of(options.memory_for_clients, available),
         limits: options.limits,
         terms: options.terms,
         updates: options.updates.clamp(1, UPDATES),

@@ -41,6 +41,8 @@ struct Watch {
     /// Which replicas are heard, by how many signs of life each had given at the last look.
     majority: Majority,
     signs: Vec<u64>,
+    /// How many parts of long messages each had taken by then.
+    taken: Vec<u64>,
     has_majority: bool,
     /// When the file of the stored view was looked at, last.
     looked_at: u64,
@@ -93,6 +95,14 @@ fn trouble_of(word: u64) -> Trouble {
     }
 }
 
+/// Whether records may be left out of a message's log.
+fn has_log(message: &PeerMessage<Op>) -> bool {
+    matches!(
+        message,
+        PeerMessage::DoViewChange { .. } | PeerMessage::StartView { .. }
+    )
+}
+
 /// What is known of a node with its clock before the first look.
 fn first_watch<'a, 'r, R: Wait, I: Identity>(
     timed: &TimedNode<'a, 'r, R, I>,
@@ -112,6 +122,7 @@ fn first_watch<'a, 'r, R: Wait, I: Identity>(
         progress: Progress::Well,
         majority: Majority::new(timed.alloc, times, own, count, now)?,
         signs: Vec::from_elem(timed.alloc, 0u64, count)?,
+        taken: Vec::from_elem(timed.alloc, 0u64, count)?,
         has_majority: true,
         looked_at: 0,
     })
@@ -183,6 +194,31 @@ impl<'a, 'r, R: Wait + Clock, I: Identity> TimedNode<'a, 'r, R, I> {
         }
     }
 
+    /// Has the clock hear of the parts of long messages that other replicas have taken since the last look.
+    fn hear_taken(&self, watch: &mut Watch, now: u64) {
+        for (to, seen) in watch.taken.iter_mut().enumerate() {
+            let taken = self.shared_parts.progress.taken(to);
+            if *seen != taken && self.running.hear_taken(to as u64, now) {
+                *seen = taken;
+            }
+        }
+    }
+
+    /// The whole message, where records were left out of it that the node has committed; else it is lost, as the network may lose it, and comes again.
+    fn whole(&self, message: PeerMessage<Op>, noted: Option<u64>) -> Option<PeerMessage<Op>> {
+        let Some(left_out) = noted else {
+            return Some(message);
+        };
+        if !has_log(&message) {
+            return Some(message);
+        }
+        let (taken, _) = self.running.fill(self.rt, self.alloc, left_out, message);
+        match taken {
+            Ok(whole) => whole,
+            Err(_) => None,
+        }
+    }
+
     /// Looks whether a primary still hears from a majority, and tells sessions and the operator where that has changed.
     fn look_for_majority(&self, watch: &mut Watch, now: u64) {
         self.hear_signs(watch, now);
@@ -227,6 +263,7 @@ impl<'a, 'r, R: Wait + Clock, I: Identity> TimedNode<'a, 'r, R, I> {
         } = ticked;
         self.view_number.store(pulse.view_number, Ordering::SeqCst);
         self.last_update.store(pulse.last_update, Ordering::SeqCst);
+        self.shared_parts.progress.commit(pulse.last_update);
         if !pulse.is_like(&watch.pulse) {
             tell_pulse(self.rt, self.alloc, &self.shared_parts.reporter, &pulse);
             watch.beat = Vec::new(self.alloc);
@@ -242,6 +279,7 @@ impl<'a, 'r, R: Wait + Clock, I: Identity> TimedNode<'a, 'r, R, I> {
     /// Does what is due at one moment; after how many microseconds to come again.
     fn tick(&self, watch: &mut Watch) -> u64 {
         let now = self.now();
+        self.hear_taken(watch, now);
         let mut peer_queues = self.peer_queues_at(now);
         let ticked = self
             .running
@@ -345,9 +383,17 @@ where
     N: Read + Drop,
     I: Identity,
 {
-    fn hear(&self, from: u64, message: PeerMessage<Op>) -> bool {
+    fn hear(&self, from: u64, message: PeerMessage<Op>, noted: Option<u64>) -> bool {
         let now = self.now();
         self.shared_parts.counters.hear(from);
+        self.shared_parts.progress.hear(from, &message, noted);
+        if self.shared_parts.progress.is_repeated(from, &message) {
+            return true;
+        }
+        let Some(message) = self.whole(message, noted) else {
+            return true;
+        };
+        self.shared_parts.progress.hand_on(from, &message);
         match &message {
             PeerMessage::NewState { .. } => self.peer_queues.asking.lock(self.rt).reset(),
             PeerMessage::PrepareOk { op_number, .. } => {
@@ -398,6 +444,9 @@ where
             }
             if watch.pulse.is_halted {
                 return Err(ServerError::DeviceFailed);
+            }
+            if self.shared_parts.is_refused.load(Ordering::SeqCst) {
+                return Err(ServerError::OlderFiles);
             }
             if let Some(lost) = self.lost_file(&mut watch) {
                 return Err(lost);

@@ -1,6 +1,6 @@
 //! Counts of what a server answers, for monitors. All of its threads count, and none takes a lock for it. What the figures say is not here.
-use session_pool::{Ended, Found, LookError, Reply, SearchAnswer};
-use status_page::{Counts, Labelled};
+use session_pool::{Budget, Ended, Found, LookError, Reply, SearchAnswer};
+use status_page::{ClientCounts, Counts, Labelled};
 use std::alloc::{AllocError, Global};
 use std::sync::atomic::{AtomicU64, Ordering};
 
@@ -87,7 +87,9 @@ pub struct Counters {
     queued: Vec<AtomicU64>,
     sent: Vec<AtomicU64>,
     acknowledged: Vec<AtomicU64>,
+    refused: Vec<AtomicU64>,
     signs: Vec<AtomicU64>,
+    refused_binds: AtomicU64,
 }
 
 // Not derived: see "What the gate takes" in docs/ARCHITECTURE.md.
@@ -104,7 +106,9 @@ impl Drop for Counters {
             queued: _,
             sent: _,
             acknowledged: _,
+            refused: _,
             signs: _,
+            refused_binds: _,
         } = self;
     }
 }
@@ -118,6 +122,7 @@ impl Counters {
         let queued = zeros(alloc, replicas)?;
         let sent = zeros(alloc, replicas)?;
         let acknowledged = zeros(alloc, replicas)?;
+        let refused = zeros(alloc, replicas)?;
         let signs = zeros(alloc, replicas)?;
         Ok(Counters {
             searches,
@@ -130,7 +135,9 @@ impl Counters {
             queued,
             sent,
             acknowledged,
+            refused,
             signs,
+            refused_binds: AtomicU64::new(0),
         })
     }
 
@@ -144,6 +151,21 @@ impl Counters {
         match self.signs.get(from) {
             Some(signs) => signs.load(Ordering::Relaxed),
             None => 0,
+        }
+    }
+
+    /// A bind was refused.
+    pub fn refuse_bind(&self) {
+        self.refused_binds.fetch_add(1, Ordering::Relaxed);
+    }
+
+    /// What clients take, and what was refused to them.
+    fn clients(&self, budget: &Budget) -> ClientCounts {
+        ClientCounts {
+            memory: budget.used(),
+            memory_limit: budget.limit(),
+            ended: budget.ended(),
+            refused_binds: self.refused_binds.load(Ordering::Relaxed),
         }
     }
 
@@ -212,13 +234,20 @@ impl Counters {
         }
     }
 
-    /// The counts of the replica of this index, of which so many threads update, in a process with so many octets of memory.
+    /// A start of the replica of this index was refused.
+    pub fn refuse(&self, from: u64) {
+        count_at(&self.refused, from);
+    }
+
+    /// The counts of the replica of this index, of which so many threads update, in a process with so many octets of memory, of which clients may
+    /// take this.
     pub fn counts(
         &self,
         alloc: Global,
         own: usize,
         update_threads: usize,
         memory: Option<u64>,
+        budget: &Budget,
     ) -> Result<Counts, AllocError> {
         let searches = counted(alloc, &self.searches)?;
         let compares = counted(alloc, &self.compares)?;
@@ -226,6 +255,7 @@ impl Counters {
         let queued = others(alloc, &self.queued, own)?;
         let sent = others(alloc, &self.sent, own)?;
         let acknowledged = others(alloc, &self.acknowledged, own)?;
+        let refused = others(alloc, &self.refused, own)?;
         Ok(Counts {
             searches,
             compares,
@@ -238,7 +268,9 @@ impl Counters {
             queued,
             sent,
             acknowledged,
+            refused,
             memory,
+            clients: self.clients(budget),
         })
     }
 }

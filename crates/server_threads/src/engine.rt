@@ -5,9 +5,9 @@ use status_page::Figures;
 
 /// The node behind a server's threads.
 pub trait Engine {
-    /// Hands on a message of the replica of this index; whether the node goes on. A message that finds no memory is lost, as the network may
-    /// lose one, and the node goes on.
-    fn hear(&self, from: u64, message: PeerMessage<Op>) -> bool;
+    /// Hands on a message of the replica of this index, with the number that was noted before it, if one was; whether the node goes on. A message that
+    /// finds no memory is lost, as the network may lose one, and the node goes on.
+    fn hear(&self, from: u64, message: PeerMessage<Op>, noted: Option<u64>) -> bool;
 
     /// Takes note that a part of a long message of the replica of this index has come.
     fn hear_part(&self, from: u64);

@@ -81,6 +81,9 @@ pub enum ServerError {
     /// The journal's file failed.
     #[error("E21\n--journal: the file failed: mend the disk, and start again without --fresh")]
     JournalFailed,
+    /// Another replica has heard of this one what its files don't hold.
+    #[error("older files\n--store, --journal: the files hold less than this replica has said: they were copied back, or the disk was; move the file of --journal away, and the replica begins a new one from what the others know, unless its stored view is older too: then it can't come back")]
+    OlderFiles,
     /// The file failed.
     #[error("E21\n--store: the file failed: mend the disk, and start again without --fresh")]
     DeviceFailed,

@@ -1,15 +1,27 @@
-//! Messages become frames, in the thread that sends them and outside every lock. Queues and streams are not here.
+//! Messages become frames, in the thread that sends them and outside every lock. A message to a replica that reads notes leaves out what that
+//! replica has said that it has committed. Queues and streams are not here.
 use crate::counters::Counters;
+use crate::links::Links;
+use crate::progress::PeerProgress;
 use crate::reporter::Reporter;
 use crate::shared_parts::SharedParts;
-use crate::telling::{tell_lost, tell_silent};
-use peer_link::{Bytes, Framing};
-use replica_greeting::{Cluster, FrameSizes, Frames, Op, PeerMessage, Terms, WireError, greeting};
-use std::alloc::Global;
+use crate::telling::{tell_lost, tell_refused_by, tell_silent};
+use peer_link::{Bytes, Framing, REFUSAL};
+use replica_greeting::{
+    Claim, Cluster, FrameSizes, Frames, Op, PeerMessage, Terms, WireError, earlier_greeting,
+    greeting, read_refusal,
+};
+use std::alloc::{AllocError, Global};
 use std::sync::Wait;
+use std::sync::atomic::{AtomicBool, Ordering};
+use vr_short::{note, noted};
 
-/// How many octets of a long message a part has: few enough that both ends hold little beside the message, and that each part is a sign of life in time.
-const PART: usize = 16_777_216;
+/// How many octets of a long message a part has: few enough that each part is a sign of life in time, also where a stream takes no more than a
+/// mebibyte within the shortest time after which a replica is suspected.
+const PART: usize = 1_048_576;
+
+/// So many parts of a message may wait in the systems of both ends, for a replica that reads nothing: that they were written is no sign of its life.
+const UNREAD: u64 = 16;
 
 /// Makes the frames of messages to one replica: one of each message that fits in one, else its parts. A message that can't be made frames of is told of.
 pub struct MessageFrames<'a, R> {
@@ -17,13 +29,22 @@ pub struct MessageFrames<'a, R> {
     alloc: Global,
     reporter: &'a Reporter,
     counters: &'a Counters,
+    progress: &'a PeerProgress,
     cluster: Cluster,
     sender: u8,
     terms: Terms,
+    claim: Claim,
+    /// Whether another replica has refused this start.
+    is_refused: &'a AtomicBool,
+    links: &'a Links,
     to: usize,
     /// How many messages were begun: each has another number in its parts.
     number: u64,
     frames: Option<Frames>,
+    /// The number that goes with the message, until its note is handed out.
+    noted: Option<u64>,
+    /// How many frames of the message were handed out.
+    handed: u64,
 }
 
 // Not derived: see "What the gate takes" in docs/ARCHITECTURE.md.
@@ -34,23 +55,30 @@ impl<'a, R> Drop for MessageFrames<'a, R> {
             alloc: _,
             reporter: _,
             counters: _,
+            progress: _,
             cluster: _,
             sender: _,
             terms: _,
+            claim: _,
+            is_refused: _,
+            links: _,
             to: _,
             number: _,
             frames: _,
+            noted: _,
+            handed: _,
         } = self;
     }
 }
 
 impl<'a, R> MessageFrames<'a, R> {
-    /// Frames of the server that has these parts, in this cluster, to the replica of this index.
+    /// Frames of the server that has these parts, in this cluster, to the replica of this index; its start says this of itself.
     pub fn new(
         rt: &'a R,
         alloc: Global,
         shared_parts: &'a SharedParts,
         cluster: Cluster,
+        claim: Claim,
         to: usize,
     ) -> MessageFrames<'a, R> {
         MessageFrames {
@@ -58,12 +86,18 @@ impl<'a, R> MessageFrames<'a, R> {
             alloc,
             reporter: &shared_parts.reporter,
             counters: &shared_parts.counters,
+            progress: &shared_parts.progress,
             cluster,
             sender: shared_parts.sender,
             terms: shared_parts.terms,
+            claim,
+            is_refused: &shared_parts.is_refused,
+            links: &shared_parts.links,
             to,
             number: 0,
             frames: None,
+            noted: None,
+            handed: 0,
         }
     }
 }
@@ -72,25 +106,58 @@ impl<'a, R: Wait> MessageFrames<'a, R> {
     /// Nothing more comes of a message, for this reason.
     fn lose(&mut self, error: WireError) {
         self.frames = None;
+        self.noted = None;
         tell_lost(self.rt, self.alloc, self.reporter, self.to, error);
+    }
+
+    /// The greeting, as the other replica wants it.
+    fn greeting_octets(&self) -> Result<Vec<u8>, AllocError> {
+        let (alloc, cluster, sender) = (self.alloc, self.cluster, self.sender);
+        if self.links.is_earlier(self.rt, self.to) {
+            earlier_greeting(alloc, cluster, sender, &self.terms)
+        } else {
+            greeting(alloc, cluster, sender, &self.terms, &self.claim)
+        }
     }
 
     /// The frames of the next message.
     fn frames_of(&self, message: &PeerMessage<Op>) -> Result<Frames, WireError> {
         let (alloc, cluster, sender) = (self.alloc, self.cluster, self.sender);
         let sizes = FrameSizes {
-            most: usize::MAX,
+            most: PART,
             part_size: PART,
         };
         Frames::of(alloc, cluster, sender, self.number, sizes, message)
     }
 
-    /// The octets of the next frame, where there is one.
+    /// Makes ready the frames of the next message, and the note before them.
+    fn make(&mut self, message: PeerMessage<Op>) -> Result<(), WireError> {
+        let (number, message) = match self.progress.said(self.to) {
+            Some(said) => noted(self.alloc, message, said, self.progress.committed())?,
+            None => (None, message),
+        };
+        self.frames = Some(self.frames_of(&message)?);
+        self.noted = number;
+        Ok(())
+    }
+
+    /// The octets of the next frame, where there is one. Who asks for one more has written those before.
     fn next_octets(&mut self) -> Result<Option<Vec<u8>>, WireError> {
-        match self.frames.as_mut() {
-            Some(frames) => frames.next(self.alloc),
-            None => Ok(None),
+        if let Some(number) = self.noted.take() {
+            let octets = Vec::from_array(self.alloc, note(self.cluster, self.sender, number))?;
+            return Ok(Some(octets));
         }
+        let Some(frames) = self.frames.as_mut() else {
+            return Ok(None);
+        };
+        let next = frames.next(self.alloc)?;
+        if next.is_some() {
+            if self.handed >= UNREAD {
+                self.progress.take_part(self.to);
+            }
+            self.handed = self.handed.saturating_add(1);
+        }
+        Ok(next)
     }
 }
 
@@ -104,22 +171,27 @@ fn bytes_of(octets: Vec<u8>) -> Result<Bytes, WireError> {
 
 impl<'a, R: Wait> Framing<PeerMessage<Op>> for MessageFrames<'a, R> {
     fn greeting(&mut self) -> Option<Bytes> {
-        let octets = greeting(self.alloc, self.cluster, self.sender, &self.terms).ok()?;
+        let octets = self.greeting_octets().ok()?;
         Bytes::from_vec(octets).ok()
     }
 
     fn begin(&mut self, message: PeerMessage<Op>) {
         self.number = self.number.wrapping_add(1);
         self.counters.send(self.to as u64);
-        match self.frames_of(&message) {
-            Ok(frames) => self.frames = Some(frames),
-            Err(error) => self.lose(error),
+        self.progress.begin(self.to, Some(&message));
+        self.handed = 0;
+        if let Err(error) = self.make(message) {
+            self.lose(error);
         }
     }
 
     fn next_frame(&mut self) -> Option<Bytes> {
         let octets = match self.next_octets() {
-            Ok(octets) => octets?,
+            Ok(Some(octets)) => octets,
+            Ok(None) => {
+                self.progress.begin::<Op>(self.to, None);
+                return None;
+            }
             Err(error) => {
                 self.lose(error);
                 return None;
@@ -136,6 +208,22 @@ impl<'a, R: Wait> Framing<PeerMessage<Op>> for MessageFrames<'a, R> {
 
     fn heard(&mut self) {
         self.counters.hear(self.to as u64);
+    }
+
+    fn refused(&mut self, why: [u8; REFUSAL]) {
+        let Some(forgotten) = read_refusal(why) else {
+            return;
+        };
+        if !self.is_refused.swap(true, Ordering::SeqCst) {
+            tell_refused_by(
+                self.rt,
+                self.alloc,
+                self.reporter,
+                self.to,
+                &self.claim,
+                forgotten,
+            );
+        }
     }
 
     fn silent(&mut self) {

@@ -1,8 +1,9 @@
 //! The first octets of a frame: whether it may be one that another replica of this cluster sends. What a frame says is not here.
 use replica_greeting::{
-    Cluster, HEADING as GREETING_HEADING, WireError, greeting_sender, heading as kind_and_sender,
-    rest,
+    Cluster, HEADING as GREETING_HEADING, Heading, WireError, greeting_heading,
+    heading as kind_and_sender, rest,
 };
+use vr_short::note_sender;
 
 /// How many octets of a frame are looked at before more of it is read: its length, and what tells its version, cluster, kind and sender.
 pub const HEADING: usize = 13;
@@ -49,16 +50,27 @@ impl Senders {
         Ok(left)
     }
 
-    /// Whose greeting begins so, which is the first frame on each connection; or why it is none of another replica of this cluster, as it is told.
-    pub fn greeting_of(&self, heading: [u8; GREETING_HEADING]) -> Result<u8, &'static str> {
-        let sender = greeting_sender(heading, self.cluster).map_err(refusal_of)?;
-        if sender == self.own {
+    /// Whose note begins so, where it is another replica's of this cluster.
+    pub fn note_of(&self, heading: [u8; HEADING]) -> Option<u8> {
+        let sender = note_sender(heading, self.cluster)?;
+        if self.have(sender) {
+            Some(sender)
+        } else {
+            None
+        }
+    }
+
+    /// Whose greeting begins so, which is the first frame on each connection, and how many of its octets are to come; or why it is none of another replica
+    /// of this cluster, as it is told.
+    pub fn greeting_of(&self, first: [u8; GREETING_HEADING]) -> Result<Heading, &'static str> {
+        let heading = greeting_heading(first, self.cluster).map_err(refusal_of)?;
+        if heading.sender == self.own {
             return Err("it has this replica's --id");
         }
-        if !self.have(sender) {
+        if !self.have(heading.sender) {
             return Err("E20");
         }
-        Ok(sender)
+        Ok(heading)
     }
 }
 

@@ -1,5 +1,6 @@
-//! Which replicas are heard on how many connections, and why one isn't: so that each change is told, and told once. Frames are not here.
-use replica_greeting::Term;
+//! Which replicas are heard on how many connections, and why one isn't: so that each change is told, and told once; and what each has said, so that a start
+//! of it that remembers less isn't heard.
+use replica_greeting::{Claim, Forgotten, Op, Past, PeerMessage, Term};
 use std::alloc::{AllocError, Global};
 use std::sync::{Mutex, Wait};
 
@@ -10,6 +11,20 @@ struct Link {
     connections: u64,
     /// The term for which it was refused last, since it was heard last.
     refused: Option<Term>,
+    /// What it has said.
+    past: Past,
+    /// The start of it that was refused last, since it remembers less.
+    forgetful: Option<Claim>,
+    /// Whether it greeted as version 0.2.0 does, last.
+    is_earlier: bool,
+}
+
+/// A start that isn't heard, since it remembers less than its replica said.
+#[derive(Clone, Copy)]
+pub struct Forgetful {
+    pub forgotten: Forgotten,
+    /// Whether the start is refused for the first time.
+    pub is_news: bool,
 }
 
 /// What is known of each replica, by index.
@@ -26,6 +41,9 @@ impl Links {
             links.push(Link {
                 connections: 0,
                 refused: None,
+                past: Past::new(),
+                forgetful: None,
+                is_earlier: false,
             })?;
         }
         Ok(Links {
@@ -61,5 +79,44 @@ impl Links {
         let is_news = link.refused != Some(term);
         link.refused = Some(term);
         is_news
+    }
+
+    /// Takes note of a start that greets, unless it remembers less than its replica said.
+    pub fn greet<R: Wait>(&self, rt: &R, sender: u64, claim: Claim) -> Option<Forgetful> {
+        let mut links = self.links.lock(rt);
+        let link = links.get_mut(sender as usize)?;
+        match link.past.judge(&claim) {
+            Some(forgotten) => {
+                let is_news = link.forgetful != Some(claim);
+                link.forgetful = Some(claim);
+                Some(Forgetful { forgotten, is_news })
+            }
+            None => {
+                link.past.greet(&claim);
+                None
+            }
+        }
+    }
+
+    /// Takes note of whether a replica greets as version 0.2.0 does.
+    pub fn note_version<R: Wait>(&self, rt: &R, sender: u64, is_earlier: bool) {
+        if let Some(link) = self.links.lock(rt).get_mut(sender as usize) {
+            link.is_earlier = is_earlier;
+        }
+    }
+
+    /// Whether a replica greeted as version 0.2.0 does, last: it wants to be greeted so.
+    pub fn is_earlier<R: Wait>(&self, rt: &R, index: usize) -> bool {
+        match self.links.lock(rt).get(index) {
+            Some(link) => link.is_earlier,
+            None => false,
+        }
+    }
+
+    /// Takes note of what a message of a replica says.
+    pub fn hear<R: Wait>(&self, rt: &R, sender: u64, message: &PeerMessage<Op>) {
+        if let Some(link) = self.links.lock(rt).get_mut(sender as usize) {
+            link.past.hear(message);
+        }
     }
 }

@@ -76,9 +76,13 @@ impl<'a, R: Wait + Clock, E: Engine> Monitoring<'a, R, E> {
         let memory = resident_octets(shared_parts.process_status.as_ref());
         let own = usize::from(shared_parts.sender);
         let update_threads = shared_parts.leaves.len();
-        shared_parts
-            .counters
-            .counts(self.alloc, own, update_threads, memory)
+        shared_parts.counters.counts(
+            self.alloc,
+            own,
+            update_threads,
+            memory,
+            &shared_parts.budget,
+        )
     }
 
     /// A page, of what the replica does now.

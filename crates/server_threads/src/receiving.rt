@@ -1,22 +1,25 @@
 //! What other replicas send: a greeting, and then frames, which become messages that the node hears. What a message makes of it is not here.
+use crate::counters::Counters;
 use crate::engine::Engine;
 use crate::heading::{BEHIND_LENGTH, HEADING, Senders, refusal_of};
-use crate::links::Links;
+use crate::links::{Forgetful, Links};
+use crate::progress::PeerProgress;
 use crate::reporter::Reporter;
 use crate::telling::{
-    tell_parts_lost, tell_peer_came, tell_peer_refused, tell_peer_twice, tell_peer_went,
+    tell_forgetful, tell_parts_lost, tell_peer_came, tell_peer_refused, tell_peer_twice,
+    tell_peer_went,
 };
 use crossbeam_channel::Receiver;
 use peer_link::{FrameEnd, read_head, read_more, read_rest};
-use replica_greeting::{Came, Gathering, Met, Term, Terms, WireError, meet, rest};
+use replica_greeting::{
+    Came, Claim, Gathering, Met, Term, Terms, WireError, meet, refusal_octets, rest,
+};
 use session_pool::{Answering, Peer};
 use std::alloc::Global;
 use std::io::Read;
 use std::sync::Wait;
 use std::time::{Clock, Duration};
-
-/// How many octets of a greeting follow its first ones.
-const GREETING_REST: u32 = 96;
+use vr_short::{NOTE_REST, note_number};
 
 /// What all who read from other replicas share.
 #[derive(Drop)]
@@ -27,10 +30,21 @@ pub struct PeerReaders<'a, R, E> {
     pub engine: &'a E,
     pub reporter: &'a Reporter,
     pub links: &'a Links,
+    pub progress: &'a PeerProgress,
+    pub counters: &'a Counters,
     /// What other replicas must have alike.
     pub terms: Terms,
     /// How long a replica may be silent that asks whether it is heard.
     pub silence: Duration,
+}
+
+/// What has come on one connection of a replica, of a message that isn't whole yet.
+#[derive(Drop)]
+struct Heard {
+    peer: u64,
+    gathering: Gathering,
+    /// The number of the last note before it.
+    noted: Option<u64>,
 }
 
 /// The question whether the other end is there: a frame of no octets.
@@ -75,8 +89,12 @@ impl<'a, R: Wait + Clock, E: Engine> PeerReaders<'a, R, E> {
         self.heading_behind(reader, head)
     }
 
-    /// Reads the length of the next frame that is no question; each question before it is answered.
-    fn next_head<S: Read + Answering>(&self, reader: &mut S) -> Result<[u8; 4], &'static str> {
+    /// Reads the length of the next frame of this replica that is no question; each question before it is answered.
+    fn next_head<S: Read + Answering>(
+        &self,
+        reader: &mut S,
+        peer: u64,
+    ) -> Result<[u8; 4], &'static str> {
         for _ in self.rt.forever() {
             let head = read_head(reader).map_err(reason_of)?;
             if head != QUESTION {
@@ -85,36 +103,64 @@ impl<'a, R: Wait + Clock, E: Engine> PeerReaders<'a, R, E> {
             if reader.answer().is_err() {
                 break;
             }
+            self.progress.read_notes(peer);
             reader.expect_within(self.silence);
         }
         Err("it failed")
     }
 
-    /// Reads one frame whole, or why there is none.
-    fn next_frame<S: Read + Answering>(&self, reader: &mut S) -> Result<Vec<u8>, &'static str> {
-        let head = self.next_head(reader)?;
-        let mut frame = self.heading_behind(reader, head)?;
-        let left = self
-            .senders
-            .rest_of(heading_of(&frame)?)
-            .map_err(refusal_of)?;
-        read_more(reader, &mut frame, left).map_err(reason_of)?;
-        Ok(frame)
+    /// Reads the number of a note, whose first octets were read.
+    fn number<S: Read>(&self, reader: &mut S, frame: &mut Vec<u8>) -> Result<u64, &'static str> {
+        read_more(reader, frame, NOTE_REST).map_err(reason_of)?;
+        match frame.last_chunk::<8>() {
+            Some(rest) => Ok(note_number(*rest)),
+            None => Err("E20"),
+        }
+    }
+
+    /// Reads one frame of this replica whole, and the number of the last note before it, if there is one; or why there is no frame.
+    fn next_frame<S: Read + Answering>(
+        &self,
+        reader: &mut S,
+        heard: &mut Heard,
+    ) -> Result<Vec<u8>, &'static str> {
+        for _ in self.rt.forever() {
+            let head = self.next_head(reader, heard.peer)?;
+            let mut frame = self.heading_behind(reader, head)?;
+            let heading = heading_of(&frame)?;
+            match self.senders.note_of(heading) {
+                Some(sender) if u64::from(sender) == heard.peer => {
+                    heard.noted = Some(self.number(reader, &mut frame)?);
+                }
+                Some(_) => return Err("E20"),
+                None => {
+                    let left = self.senders.rest_of(heading).map_err(refusal_of)?;
+                    read_more(reader, &mut frame, left).map_err(reason_of)?;
+                    return Ok(frame);
+                }
+            }
+        }
+        Err("it failed")
     }
 
     /// Reads a greeting, and what it says beside the own terms.
     fn greeting<S: Read>(&self, reader: &mut S) -> Result<Met, &'static str> {
         let mut frame = self.next_heading(reader)?;
-        self.senders.greeting_of(heading_of(&frame)?)?;
-        read_more(reader, &mut frame, GREETING_REST).map_err(reason_of)?;
+        let heading = self.senders.greeting_of(heading_of(&frame)?)?;
+        let Ok(behind) = u32::try_from(heading.behind) else {
+            return Err("E20");
+        };
+        read_more(reader, &mut frame, behind).map_err(reason_of)?;
         meet(&frame, self.senders.cluster, &self.terms).map_err(refusal_of)
     }
 
     /// Hands on what has come of a frame, and gives its sender; else why the connection ends.
-    fn hand_on(&self, came: Came) -> Result<u64, &'static str> {
+    fn hand_on(&self, heard: &mut Heard, came: Came) -> Result<u64, &'static str> {
         match came {
             Came::Message(sender, message) => {
-                if self.engine.hear(u64::from(sender), message) {
+                self.links.hear(self.rt, u64::from(sender), &message);
+                let noted = heard.noted.take();
+                if self.engine.hear(u64::from(sender), message, noted) {
                     Ok(u64::from(sender))
                 } else {
                     Err("the node has stopped")
@@ -132,21 +178,22 @@ impl<'a, R: Wait + Clock, E: Engine> PeerReaders<'a, R, E> {
     }
 
     /// Takes a frame: here frames become messages, and nowhere else. Gives its sender; else why the connection ends.
-    fn take_frame(&self, gathering: &mut Gathering, frame: &[u8]) -> Result<u64, &'static str> {
-        let came = gathering
+    fn take_frame(&self, heard: &mut Heard, frame: &[u8]) -> Result<u64, &'static str> {
+        let came = heard
+            .gathering
             .take(self.alloc, frame, self.senders.cluster)
             .map_err(refusal_of)?;
-        self.hand_on(came)
+        self.hand_on(heard, came)
     }
 
     /// Reads one frame, and takes it; gives its sender.
     fn take_next<S: Read + Answering>(
         &self,
-        gathering: &mut Gathering,
+        heard: &mut Heard,
         reader: &mut S,
     ) -> Result<u64, &'static str> {
-        let frame = self.next_frame(reader)?;
-        self.take_frame(gathering, &frame)
+        let frame = self.next_frame(reader, heard)?;
+        self.take_frame(heard, &frame)
     }
 
     /// Tells the replica that greeted that it is heard, and reads its frames, to the end of the connection.
@@ -154,9 +201,13 @@ impl<'a, R: Wait + Clock, E: Engine> PeerReaders<'a, R, E> {
         if reader.answer().is_err() {
             return "it failed";
         }
-        let mut gathering = Gathering::new();
+        let mut heard = Heard {
+            peer,
+            gathering: Gathering::new(),
+            noted: None,
+        };
         for _ in self.rt.forever() {
-            match self.take_next(&mut gathering, reader) {
+            match self.take_next(&mut heard, reader) {
                 Ok(sender) if sender == peer => {}
                 Ok(_) => return "E20",
                 Err(reason) => return reason,
@@ -184,6 +235,35 @@ impl<'a, R: Wait + Clock, E: Engine> PeerReaders<'a, R, E> {
         }
     }
 
+    /// Tells a start that remembers less than its replica said that it isn't heard.
+    fn turn_away<S: Answering>(
+        &self,
+        reader: &mut S,
+        peer: u64,
+        claim: &Claim,
+        forgetful: Forgetful,
+    ) {
+        let forgotten = forgetful.forgotten;
+        let _ = reader.refuse(&refusal_octets(forgotten));
+        if forgetful.is_news {
+            self.counters.refuse(peer);
+            tell_forgetful(self.rt, self.alloc, self.reporter, peer, claim, forgotten);
+        }
+    }
+
+    /// Hears a start of a replica that greeted with the same terms, to the end of the connection, unless it remembers less than its replica said. A replica of
+    /// version 0.2.0 says nothing of its start.
+    fn hear_start<S: Read + Answering>(&self, reader: &mut S, peer: u64, claim: Option<Claim>) {
+        self.links.note_version(self.rt, peer, claim.is_none());
+        if let Some(claim) = claim {
+            if let Some(forgetful) = self.links.greet(self.rt, peer, claim) {
+                self.turn_away(reader, peer, &claim, forgetful);
+                return;
+            }
+        }
+        self.hear_peer(reader, peer);
+    }
+
     /// Hears one connection, to its end, and tells of it.
     fn hear(&self, stranger: Peer<'a, R>) {
         let Ok(mut reader) = stranger.seated(self.alloc) else {
@@ -191,9 +271,9 @@ impl<'a, R: Wait + Clock, E: Engine> PeerReaders<'a, R, E> {
             return;
         };
         match self.greeting(&mut reader) {
-            Ok(Met::Alike { sender }) => {
+            Ok(Met::Alike { sender, claim }) => {
                 reader.get_mut().trust();
-                self.hear_peer(&mut reader, u64::from(sender));
+                self.hear_start(&mut reader, u64::from(sender), claim);
             }
             Ok(Met::Other { sender, term }) => self.refuse(u64::from(sender), term),
             Err(reason) => tell_peer_went(self.rt, self.alloc, self.reporter, None, reason),

@@ -18,7 +18,7 @@ use crate::shared_parts::{SharedParts, listen};
 use crate::telling::tell_room;
 use crossbeam_channel::{Receiver, Sender, bounded};
 use peer_link::{SocketDialer, send_all};
-use replica_greeting::Cluster;
+use replica_greeting::{Claim, Cluster};
 use session_pool::{
     Config, Directory, Door, Peer, SessionPool, Terms, accept_all, close, descriptors,
     serve_sessions,
@@ -45,6 +45,8 @@ pub struct Server<'a, R, E> {
     pub engine: &'a E,
     pub cluster: Cluster,
     pub places: &'a [Place<'a>],
+    /// What this start says of itself when it greets.
+    pub claim: Claim,
 }
 
 impl<'a, R, E> Server<'a, R, E>
@@ -68,7 +70,14 @@ where
             let limit = times.silence.min(Duration::from_millis(DIAL_LIMIT));
             let mut dialer = SocketDialer::new(self.rt, place.peer_address, limit);
             let (rt, alloc, cluster) = (self.rt, self.alloc, self.cluster);
-            let mut frames = MessageFrames::new(rt, alloc, self.shared_parts, cluster, to);
+            let mut frames = MessageFrames::new(
+                rt,
+                alloc,
+                self.shared_parts,
+                cluster,
+                self.claim,
+                to,
+            );
             send_all(rt, alloc, outbox, &mut frames, &mut dialer, times);
         }
     }
@@ -124,6 +133,8 @@ where
             engine: self.engine,
             reporter: &self.shared_parts.reporter,
             links: &self.shared_parts.links,
+            progress: &self.shared_parts.progress,
+            counters: &self.shared_parts.counters,
             terms: self.shared_parts.terms,
             silence: self
                 .shared_parts
@@ -322,6 +333,7 @@ where
             sessions: &self.shared_parts.sessions,
             engine: self.engine,
             reporter: &self.shared_parts.reporter,
+            counters: &self.shared_parts.counters,
             addresses: self.shared_parts.addresses.as_ref(),
         };
         let terms = Terms {
@@ -329,6 +341,7 @@ where
             sessions: self.room(sessions),
             seats: ways.len(),
             leaves: self.shared_parts.leaves.as_slice(),
+            budget: &self.shared_parts.budget,
         };
         self.shared_parts.counters.set_read_threads(ways.len());
         let door = &self.shared_parts.client_door;

@@ -1,5 +1,6 @@
 //! What is told of a server's sessions, a line an event. What a session answers is not here.
 use crate::addresses::Addresses;
+use crate::counters::Counters;
 use crate::engine::Engine;
 use crate::needed_threads::NeededThreads;
 use crate::reporter::Reporter;
@@ -19,6 +20,7 @@ pub struct Teller<'a, R, E> {
     pub sessions: &'a AtomicU64,
     pub engine: &'a E,
     pub reporter: &'a Reporter,
+    pub counters: &'a Counters,
     /// The addresses of the clients, where sessions are logged.
     pub addresses: Option<&'a Addresses>,
 }
@@ -63,9 +65,8 @@ impl<'a, R: Wait, E: Engine> Tells for Teller<'a, R, E> {
     }
 
     fn refused(&self, session: u64, name: Result<&str, AllocError>, code: u8) {
-        if self.addresses.is_some() {
-            tell_refused(self.rt, self.alloc, self.reporter, session, name, code);
-        }
+        self.counters.refuse_bind();
+        tell_refused(self.rt, self.alloc, self.reporter, session, name, code);
     }
 
     fn left(&self) {

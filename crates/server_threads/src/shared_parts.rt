@@ -6,10 +6,11 @@ use crate::links::Links;
 use crate::logs::Logs;
 use crate::needed_threads::NeededThreads;
 use crate::places::{Place, own};
+use crate::progress::PeerProgress;
 use crate::reporter::Reporter;
 use peer_link::{LinkTimes, Outbox};
 use replica_greeting::{Op, PeerMessage, Terms};
-use session_pool::{Door, HasDoor, Limits};
+use session_pool::{Budget, Door, HasDoor, Limits};
 use std::alloc::{AllocError, Global};
 use std::fs::File;
 use std::net::{Net, SocketAddr, TcpListener, TcpStream};
@@ -68,6 +69,8 @@ pub struct Choices {
     /// Where monitors are answered, if they are.
     pub metrics: Option<SocketAddr>,
     pub logs: Logs,
+    /// How many octets of memory clients may take together.
+    pub memory: u64,
     /// How often other replicas are asked whether they are there, and how long they may be silent then.
     pub link_times: LinkTimes,
 }
@@ -92,6 +95,8 @@ pub struct SharedParts {
     pub logs: Logs,
     /// What is counted for monitors.
     pub counters: Counters,
+    /// How far other replicas are.
+    pub progress: PeerProgress,
     /// The file that tells how much memory the process has, where it can be read.
     pub(crate) process_status: Option<File>,
     /// The addresses of clients, where sessions are logged.
@@ -103,10 +108,14 @@ pub struct SharedParts {
     pub(crate) link_times: LinkTimes,
     /// How many clients are connected.
     pub(crate) sessions: AtomicU64,
+    /// The memory that clients may take together.
+    pub(crate) budget: Budget,
     /// For each thread that updates, whether the client of its update has left.
     pub leaves: Vec<AtomicBool>,
     /// What is never so: nobody leaves who waits for nothing.
     pub stays: AtomicBool,
+    /// Whether another replica has refused this start, since it remembers less than this replica said.
+    pub is_refused: AtomicBool,
 }
 
 impl SharedParts {
@@ -140,6 +149,7 @@ impl Drop for SharedParts {
             reporter: _,
             logs: _,
             counters: _,
+            progress: _,
             process_status: _,
             addresses: _,
             links: _,
@@ -147,8 +157,10 @@ impl Drop for SharedParts {
             terms: _,
             link_times: _,
             sessions: _,
+            budget: _,
             leaves: _,
             stays: _,
+            is_refused: _,
         } = self;
     }
 }
@@ -168,6 +180,7 @@ pub fn make_shared_parts<R: Net<Listener = TcpListener, Stream = TcpStream>>(
         updates,
         metrics,
         logs,
+        memory,
         link_times,
     } = choices;
     let Some(place) = places.get(index as usize) else {
@@ -182,6 +195,7 @@ pub fn make_shared_parts<R: Net<Listener = TcpListener, Stream = TcpStream>>(
     let links = Links::new(alloc, places.len())?;
     let leaves = leaves(alloc, updates)?;
     let counters = Counters::new(alloc, places.len())?;
+    let progress = PeerProgress::new(alloc, places.len())?;
     // Clients are heard later; whether they can be is known from the start.
     let client_address = own(rt, place.ldap_address)?;
     drop(listen(rt, client_address)?);
@@ -208,6 +222,7 @@ pub fn make_shared_parts<R: Net<Listener = TcpListener, Stream = TcpStream>>(
         reporter,
         logs,
         counters,
+        progress,
         process_status,
         addresses,
         links,
@@ -215,7 +230,9 @@ pub fn make_shared_parts<R: Net<Listener = TcpListener, Stream = TcpStream>>(
         terms,
         link_times,
         sessions: AtomicU64::new(0),
+        budget: Budget::new(memory),
         leaves,
         stays: AtomicBool::new(false),
+        is_refused: AtomicBool::new(false),
     })
 }

@@ -1,7 +1,7 @@
 //! What a server says of its connections, a line an event.
 use crate::reporter::Reporter;
 use crate::showing::shown;
-use replica_greeting::{Term, WireError};
+use replica_greeting::{Claim, Forgotten, Term, WireError};
 use session_pool::{Away, SessionEnd};
 use std::alloc::{AllocError, Global};
 use std::net::SocketAddr;
@@ -49,6 +49,70 @@ pub fn tell_peer_refused<R: Wait>(
 ) {
     let why = term_named(term);
     reporter.say(rt, format!(in alloc; "replica {sender} is refused: {why}"));
+}
+
+/// What a start doesn't remember, beside what it does.
+fn text_of_forgotten(
+    alloc: Global,
+    claim: &Claim,
+    forgotten: Forgotten,
+) -> Result<String, AllocError> {
+    match forgotten {
+        Forgotten::Start { said } => {
+            format!(in alloc;
+                "start {said} has greeted, and this is start {}",
+                claim.start
+            )
+        }
+        Forgotten::View { said } => {
+            format!(in alloc;
+                "it said it was in view {said}, and they hold view {}",
+                claim.view
+            )
+        }
+        Forgotten::Log { said } => format!(in alloc;
+            "it said it had {} records in view {}, and they hold {} of view {}",
+            said.length, said.last_normal, claim.length, claim.last_normal
+        ),
+    }
+}
+
+/// A start of a peer that isn't heard, since it remembers less than the peer said.
+pub fn tell_forgetful<R: Wait>(
+    rt: &R,
+    alloc: Global,
+    reporter: &Reporter,
+    sender: u64,
+    claim: &Claim,
+    forgotten: Forgotten,
+) {
+    let line = match text_of_forgotten(alloc, claim, forgotten) {
+        Ok(text) => format!(in alloc;
+            "start {} of replica {sender} is refused: its files are older than what it said: {text}",
+            claim.start
+        ),
+        Err(error) => Err(error),
+    };
+    reporter.say(rt, line);
+}
+
+/// A peer refuses this start, since it remembers less than this replica said.
+pub fn tell_refused_by<R: Wait>(
+    rt: &R,
+    alloc: Global,
+    reporter: &Reporter,
+    by: usize,
+    claim: &Claim,
+    forgotten: Forgotten,
+) {
+    let line = match text_of_forgotten(alloc, claim, forgotten) {
+        Ok(text) => format!(in alloc;
+            "replica {by} refuses start {} of this replica: its files are older than what it said: {text}",
+            claim.start
+        ),
+        Err(error) => Err(error),
+    };
+    reporter.say(rt, line);
 }
 
 /// A connection to a peer that ended.

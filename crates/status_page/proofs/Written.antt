@@ -12,6 +12,10 @@ written_as octets r xs ys e h = IfOk-weaker r (λ s. octets s ≡ xs) (λ s. oct
 pub four : (a b c d k l m n : List ℕ) → a ≡ k → b ≡ l → c ≡ m → d ≡ n → a ++ (b ++ (c ++ d)) ≡ k ++ l ++ m ++ n
 four a b c d k l m n p q r s = rw (p, q, r, s) (simp append_assoc)
 
+-- five parts, one after the other
+pub five : (a b c d e k l m n o : List ℕ) → a ≡ k → b ≡ l → c ≡ m → d ≡ n → e ≡ o → a ++ (b ++ (c ++ (d ++ e))) ≡ k ++ l ++ m ++ n ++ o
+five a b c d e k l m n o p q r s t = rw (p, q, r, s, t) (simp append_assoc)
+
 -- a figure with other samples, that are the same octets
 pub figure_of : {E : Type 0} {S : Type 0} (octets : S → List ℕ) (r : Result S E) (name help kind shown samples : List ℕ) → shown ≡ samples →
     IfOk r (λ s. octets s ≡ figure name help kind shown) → IfOk r (λ s. octets s ≡ figure name help kind samples)

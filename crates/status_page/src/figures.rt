@@ -54,6 +54,18 @@ pub struct Labelled {
     pub number: u64,
 }
 
+/// What clients take of the memory that they may take together, and what was refused to them.
+#[derive(Clone, Copy)]
+pub struct ClientCounts {
+    /// How many octets of memory their sessions hold, and how many all may.
+    pub memory: u64,
+    pub memory_limit: u64,
+    /// How many sessions were ended because of that.
+    pub ended: u64,
+    /// How many binds were refused.
+    pub refused_binds: u64,
+}
+
 /// What a replica has answered since its start, and what it does at a moment. A list has each label once.
 pub struct Counts {
     /// How many searches were answered, by result code.
@@ -78,8 +90,11 @@ pub struct Counts {
     pub sent: Vec<Labelled>,
     /// The last log entry that each other replica has acknowledged to this one, by its number.
     pub acknowledged: Vec<Labelled>,
+    /// How many starts of each other replica were refused, since their files are older than what it said.
+    pub refused: Vec<Labelled>,
     /// How many octets of memory the process has, where the system tells it.
     pub memory: Option<u64>,
+    pub clients: ClientCounts,
 }
 
 // Not derived: see "What the gate takes" in docs/ARCHITECTURE.md.
@@ -97,7 +112,9 @@ impl Drop for Counts {
             queued: _,
             sent: _,
             acknowledged: _,
+            refused: _,
             memory: _,
+            clients: _,
         } = self;
     }
 }

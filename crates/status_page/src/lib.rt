@@ -16,5 +16,5 @@ mod samples;
 mod writing;
 
 pub use asking::{Head, Page, head_of};
-pub use figures::{Build, Counts, Figures, Labelled, Role, Trouble};
+pub use figures::{Build, ClientCounts, Counts, Figures, Labelled, Role, Trouble};
 pub use writing::{bad_request, page};

@@ -1,9 +1,9 @@
 //! What a replica counts, as figures in the text form that Prometheus reads.
 ghost use Rattle.std.specs.Prelude.{◌≡◌, IfOk, string_bytes};
-ghost use Rattle.status_page.specs.Metrics.{searches_text, compares_text, updates_text, queued_text, sent_text, acknowledged_text};
-ghost use Rattle.status_page.specs.Metrics.{answers_text, load_text, others_text};
+ghost use Rattle.status_page.specs.Metrics.{searches_text, compares_text, updates_text, queued_text, sent_text, acknowledged_text, refused_text};
+ghost use Rattle.status_page.specs.Metrics.{answers_text, threads_text, clients_text, load_text, others_text};
 
-use crate::figures::Counts;
+use crate::figures::{ClientCounts, Counts};
 use crate::samples::{labelled, optional, single};
 use std::alloc::{AllocError, Global};
 
@@ -67,8 +67,8 @@ pub fn answers(alloc: Global, counts: &Counts) -> Result<String, AllocError>
 }
 
 /// What its threads do.
-pub fn load(alloc: Global, counts: &Counts) -> Result<String, AllocError>
-    ensures { IfOk result (λ s. string_bytes s ≡ load_text counts.now) }
+fn threads(alloc: Global, counts: &Counts) -> Result<String, AllocError>
+    ensures { IfOk result (λ s. string_bytes s ≡ threads_text counts.now) }
 {
     let reads = single(
         alloc,
@@ -99,6 +99,50 @@ pub fn load(alloc: Global, counts: &Counts) -> Result<String, AllocError>
         counts.update_threads,
     )?;
     format!(in alloc; "{reads}{read_threads}{updating}{update_threads}")
+}
+
+/// What clients take of its memory, and what was refused to them.
+fn clients(alloc: Global, clients: ClientCounts) -> Result<String, AllocError>
+    ensures { IfOk result (λ s. string_bytes s ≡ clients_text clients) }
+{
+    let memory = single(
+        alloc,
+        "dird_client_memory_bytes",
+        "Octets of memory that the sessions of clients hold.",
+        "gauge",
+        clients.memory,
+    )?;
+    let limit = single(
+        alloc,
+        "dird_client_memory_limit_bytes",
+        "Octets of memory that they may hold together.",
+        "gauge",
+        clients.memory_limit,
+    )?;
+    let ended = single(
+        alloc,
+        "dird_sessions_ended_for_memory_total",
+        "Sessions that were ended since all held more than they may.",
+        "counter",
+        clients.ended,
+    )?;
+    let refused_binds = single(
+        alloc,
+        "dird_refused_binds_total",
+        "Binds that were refused.",
+        "counter",
+        clients.refused_binds,
+    )?;
+    format!(in alloc; "{memory}{limit}{ended}{refused_binds}")
+}
+
+/// What its threads do, and what its clients take.
+pub fn load(alloc: Global, counts: &Counts) -> Result<String, AllocError>
+    ensures { IfOk result (λ s. string_bytes s ≡ load_text counts.now) }
+{
+    let threads = threads(alloc, counts)?;
+    let clients = clients(alloc, counts.clients)?;
+    format!(in alloc; "{threads}{clients}")
 }
 
 /// Messages that were queued for another replica.
@@ -143,6 +187,20 @@ fn acknowledged(alloc: Global, counts: &Counts) -> Result<String, AllocError>
     )
 }
 
+/// Starts of it that were refused, since their files are older than what it said.
+fn refused(alloc: Global, counts: &Counts) -> Result<String, AllocError>
+    ensures { IfOk result (λ s. string_bytes s ≡ refused_text counts.now) }
+{
+    labelled(
+        alloc,
+        "dird_peer_starts_refused_total",
+        "Starts of it that were refused, since their files are older than what it said.",
+        "counter",
+        "peer",
+        counts.refused.as_slice(),
+    )
+}
+
 /// What it knows of the other replicas, and its memory.
 pub fn others(alloc: Global, counts: &Counts) -> Result<String, AllocError>
     ensures { IfOk result (λ s. string_bytes s ≡ others_text counts.now) }
@@ -150,6 +208,7 @@ pub fn others(alloc: Global, counts: &Counts) -> Result<String, AllocError>
     let queued = queued(alloc, counts)?;
     let sent = sent(alloc, counts)?;
     let acknowledged = acknowledged(alloc, counts)?;
+    let refused = refused(alloc, counts)?;
     let memory = optional(
         alloc,
         "process_resident_memory_bytes",
@@ -157,5 +216,5 @@ pub fn others(alloc: Global, counts: &Counts) -> Result<String, AllocError>
         "gauge",
         counts.memory,
     )?;
-    format!(in alloc; "{queued}{sent}{acknowledged}{memory}")
+    format!(in alloc; "{queued}{sent}{acknowledged}{refused}{memory}")
 }

@@ -1,12 +1,12 @@
 use Rattle.std.proofs.Common.{ap}
-use Rattle.node_gate.proofs.Grows.{begins, left, unchanged}
+use Rattle.node_gate.proofs.Grows.{begins, left}
 use Rattle.node_gate.proofs.events.handle_node_all.Goals as goal
 
 -- each end of the call leaves a beginning
 pub returns-clause-begins : goal.returns-clause-begins
-returns-clause-begins g c = begins (λ h. h.behind) _ _ _ _ c.handle_all.ensures.executed c.handle_all.ensures.same (λ h. ap (λ n. n.executed) (c.handle_all.ensures.no_memory h).0)
+returns-clause-begins g c = begins (λ h. h.behind) _ _ _ _ c.handle_all.ensures.executed c.handle_all.ensures.same (λ h. ap (λ n. n.executed) (c.handle_all.ensures.no_memory h))
     c.handle_all.ensures.halted_same c.handle_all.ensures.stops c.handle_all.ensures.log_stops c.handle_all.ensures.foreign_journal c.handle_all.ensures.stale_journal
 
 pub returns-clause-refused : goal.returns-clause-refused
-returns-clause-refused g c = left _ _ _ (λ h. unchanged _ _ (c.handle_all.ensures.no_memory h).0) (λ h. c.handle_all.ensures.halted.0 h) c.handle_all.ensures.halted_same
+returns-clause-refused g c = left _ _ _ c.handle_all.ensures.no_memory (λ h. c.handle_all.ensures.halted.0 h) c.handle_all.ensures.halted_same
     c.handle_all.ensures.stops c.handle_all.ensures.log_stops c.handle_all.ensures.foreign_journal c.handle_all.ensures.stale_journal

@@ -1,0 +1,189 @@
+//! How far other replicas are, as they have said, and what of long messages they have taken. What is made of it is not here.
+use replica_greeting::PeerMessage;
+use std::alloc::{AllocError, Global};
+use std::sync::atomic::{AtomicU64, Ordering};
+
+/// So many repeated DOVIEWCHANGEs in a row aren't handed on: the first counts, and each would cost the node a look at its whole log. One passes now
+/// and then, since the first may have come while the node recovered, or found no memory.
+const REPEATS: u64 = 16;
+
+/// What is known of one replica.
+#[derive(Drop)]
+struct Progress {
+    /// 0 as long as it isn't known to read notes, as one of an earlier version doesn't; else one more than it has said that it has committed.
+    said: AtomicU64,
+    /// How many parts of long messages it has taken.
+    taken: AtomicU64,
+    /// 0, or one more than the view of the DOVIEWCHANGE that is being sent to it.
+    changing: AtomicU64,
+    /// 0, or one more than the view of its last DOVIEWCHANGE that was handed on, and how many of that view were not since.
+    handed_on: AtomicU64,
+    repeated: AtomicU64,
+}
+
+impl Progress {
+    fn new() -> Progress {
+        Progress {
+            said: AtomicU64::new(0),
+            taken: AtomicU64::new(0),
+            changing: AtomicU64::new(0),
+            handed_on: AtomicU64::new(0),
+            repeated: AtomicU64::new(0),
+        }
+    }
+}
+
+/// What is known of each replica, by index, and how much this one has committed.
+#[derive(Drop)]
+pub struct PeerProgress {
+    replicas: Vec<Progress>,
+    committed: AtomicU64,
+}
+
+/// How many records a message says that its sender has committed, if it says so.
+fn committed_by<P>(message: &PeerMessage<P>) -> Option<u64> {
+    match message {
+        PeerMessage::Prepare { commit_number, .. } => Some(*commit_number),
+        PeerMessage::Commit { commit_number, .. } => Some(*commit_number),
+        PeerMessage::GetState { commit_number, .. } => Some(*commit_number),
+        PeerMessage::DoViewChange { change, .. } => Some(change.commit_number),
+        PeerMessage::StartView { held, .. } => Some(held.commit_number),
+        PeerMessage::NewState { tail, .. } => Some(tail.commit_number),
+        PeerMessage::Recovery { .. } => Some(0),
+        PeerMessage::PrepareOk { .. } => None,
+        PeerMessage::StartViewChange { .. } => None,
+        PeerMessage::RecoveryResponse { .. } => None,
+    }
+}
+
+impl PeerProgress {
+    /// Nothing is known of so many replicas.
+    pub fn new(alloc: Global, count: usize) -> Result<PeerProgress, AllocError> {
+        let mut replicas = Vec::with_capacity(alloc, count)?;
+        for _ in 0..count {
+            replicas.push(Progress::new())?;
+        }
+        Ok(PeerProgress {
+            replicas,
+            committed: AtomicU64::new(0),
+        })
+    }
+
+    /// The replica asks whether it is heard: so it reads notes. It never counts again as one that doesn't, so that each of its messages that may have a
+    /// note has one.
+    pub fn read_notes(&self, from: u64) {
+        if let Some(progress) = self.replicas.get(from as usize) {
+            if progress.said.load(Ordering::SeqCst) == 0 {
+                progress.said.store(1, Ordering::SeqCst);
+            }
+        }
+    }
+
+    /// The replica has said that it has committed so much.
+    fn say(&self, from: u64, committed: u64) {
+        if let Some(progress) = self.replicas.get(from as usize) {
+            if progress.said.load(Ordering::SeqCst) != 0 {
+                progress
+                    .said
+                    .store(committed.saturating_add(1), Ordering::SeqCst);
+            }
+        }
+    }
+
+    /// Takes note of what a message says of its sender, with the note that came before it, if one did.
+    pub fn hear<P>(&self, from: u64, message: &PeerMessage<P>, noted: Option<u64>) {
+        let said = match message {
+            PeerMessage::StartViewChange { .. } => noted,
+            _ => committed_by(message),
+        };
+        if let Some(committed) = said {
+            self.say(from, committed);
+        }
+    }
+
+    /// How much the replica has said that it has committed; none where it isn't known to read notes.
+    pub fn said(&self, to: usize) -> Option<u64> {
+        let said = self.replicas.get(to)?.said.load(Ordering::SeqCst);
+        said.checked_sub(1)
+    }
+
+    /// Whether a message is a DOVIEWCHANGE of the view of which one was handed on.
+    pub fn is_repeated<P>(&self, from: u64, message: &PeerMessage<P>) -> bool {
+        match (self.replicas.get(from as usize), message) {
+            (Some(progress), PeerMessage::DoViewChange { view_number, .. }) => {
+                let repeated = progress.repeated.load(Ordering::SeqCst);
+                let is_known = progress.handed_on.load(Ordering::SeqCst)
+                    == view_number.saturating_add(1)
+                    && repeated < REPEATS;
+                if is_known {
+                    progress
+                        .repeated
+                        .store(repeated.saturating_add(1), Ordering::SeqCst);
+                }
+                is_known
+            }
+            _ => false,
+        }
+    }
+
+    /// A message of the replica is handed on.
+    pub fn hand_on<P>(&self, from: u64, message: &PeerMessage<P>) {
+        if let (Some(progress), PeerMessage::DoViewChange { view_number, .. }) = (
+            self.replicas.get(from as usize),
+            message,
+        ) {
+            progress
+                .handed_on
+                .store(view_number.saturating_add(1), Ordering::SeqCst);
+            progress.repeated.store(0, Ordering::SeqCst);
+        }
+    }
+
+    /// This replica has committed so much.
+    pub fn commit(&self, committed: u64) {
+        self.committed.store(committed, Ordering::SeqCst);
+    }
+
+    /// How much this replica has committed, or less.
+    pub fn committed(&self) -> u64 {
+        self.committed.load(Ordering::SeqCst)
+    }
+
+    /// The replica has taken a part of a long message.
+    pub fn take_part(&self, to: usize) {
+        if let Some(progress) = self.replicas.get(to) {
+            progress.taken.fetch_add(1, Ordering::SeqCst);
+        }
+    }
+
+    /// How many parts of long messages it has taken.
+    pub fn taken(&self, to: usize) -> u64 {
+        match self.replicas.get(to) {
+            Some(progress) => progress.taken.load(Ordering::SeqCst),
+            None => 0,
+        }
+    }
+
+    /// This message is being sent to the replica, or none is any more.
+    pub fn begin<P>(&self, to: usize, message: Option<&PeerMessage<P>>) {
+        if let Some(progress) = self.replicas.get(to) {
+            let word = match message {
+                Some(PeerMessage::DoViewChange { view_number, .. }) => view_number.saturating_add(
+                    1,
+                ),
+                _ => 0,
+            };
+            progress.changing.store(word, Ordering::SeqCst);
+        }
+    }
+
+    /// Whether the DOVIEWCHANGE of this view is being sent to the replica.
+    pub fn is_sending<P>(&self, to: u64, message: &PeerMessage<P>) -> bool {
+        match (self.replicas.get(to as usize), message) {
+            (Some(progress), PeerMessage::DoViewChange { view_number, .. }) => {
+                progress.changing.load(Ordering::SeqCst) == view_number.saturating_add(1)
+            }
+            _ => false,
+        }
+    }
+}
