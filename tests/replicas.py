@@ -166,11 +166,13 @@ class Cluster:
         """The same words, as the replica of this index is told them."""
         return self.places()
 
-    def greeting(self, sender: int) -> bytes:
-        """The first frame on a connection of the replica of this index, where no file of a schema is named."""
+    def greeting(self, sender: int, start: int = 1, mark: int = 0, remembers: bool = True, view: int = 0, last: int = 0, length: int = 0) -> bytes:
+        """The first frame on a connection of the replica of this index, where no file of a schema is named, and its start says this of itself."""
         clients = "".join(f"127.0.0.1:{port}\n" for port in self.ports[1::2])
         digests = bytes(32) + b"".join(hashlib.sha256(text.encode()).digest() for text in (self.suffix, clients))
-        body = bytes([2]) + self.number.to_bytes(6, "big") + bytes([14, sender]) + digests
+        numbers = [number.to_bytes(8, "big") for number in (start, mark, view, last, length)]
+        claim = numbers[0] + numbers[1] + bytes([remembers]) + b"".join(numbers[2:])
+        body = bytes([2]) + self.number.to_bytes(6, "big") + bytes([14, sender]) + digests + claim
         return len(body).to_bytes(4, "big") + body
 
     def ldap_port(self, index: int) -> int:

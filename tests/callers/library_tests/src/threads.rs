@@ -7,4 +7,5 @@ mod links;
 mod peers;
 mod reports;
 mod sessions;
+mod short;
 mod signal;

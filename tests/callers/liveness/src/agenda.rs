@@ -9,6 +9,11 @@ pub enum What {
     Deliver {
         slot: usize,
     },
+    /// A part of the long message in this slot comes to its receiver.
+    Part {
+        slot: usize,
+        arrival: u64,
+    },
     /// The clock of a replica is asked, if nothing has changed its turn since.
     Ask {
         machine: usize,

@@ -109,10 +109,10 @@ impl World {
             let out = self.link(at, other);
             self.links[out].waiting.clear();
             if self.chance.hits(500) {
-                self.links[out].stream += 1;
+                self.links[out].renew();
             }
             let into = self.link(other, at);
-            self.links[into].stream += 1;
+            self.links[into].renew();
             self.links[into].is_patient = self.chance.hits(500);
         }
         let life = self.machines[at].starts;
@@ -282,7 +282,7 @@ impl World {
     fn cut(&mut self, from: usize, to: usize, rest: u64) -> Result<(), AllocError> {
         let link = self.link(from, to);
         if self.chance.hits(500) {
-            self.links[link].stream += 1;
+            self.links[link].renew();
         }
         self.links[link].is_patient = self.chance.hits(500);
         self.close(link, self.now + rest)

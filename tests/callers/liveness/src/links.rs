@@ -15,6 +15,8 @@ pub struct Flight {
     pub to: usize,
     /// Which stream of the link carries it; a message of an earlier stream than the link's is lost.
     pub stream: u64,
+    /// When it arrives, of a long message: its parts come all the time before.
+    pub long_until: u64,
     pub message: PeerMessage<Mark>,
 }
 
@@ -74,6 +76,8 @@ pub struct Link {
     /// When the last message of an ordered link arrives.
     pub last: u64,
     pub stream: u64,
+    /// The view of the DOVIEWCHANGE that is being sent, and until when.
+    pub changing: (u64, u64),
 }
 
 impl Link {
@@ -84,7 +88,15 @@ impl Link {
             waiting: VecDeque::new(alloc),
             last: 0,
             stream: 0,
+            changing: (0, 0),
         }
+    }
+
+    /// A new stream: what was on the old one is lost, and nothing waits behind it.
+    pub fn renew(&mut self) {
+        self.stream += 1;
+        self.last = 0;
+        self.changing = (0, 0);
     }
 
     pub fn hold(&mut self, message: PeerMessage<Mark>) -> Result<(), AllocError> {

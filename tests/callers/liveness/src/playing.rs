@@ -1,10 +1,15 @@
 //! Plays one seed after another, and tells what came of them.
 
 use crate::judging::Wrong;
-use crate::setting::HANGS;
+use crate::setting::{HANGS, LONG};
 use crate::words::Wish;
 use crate::world::World;
 use std::io;
+
+/// How many lives with long logs are played, and within how many suspect periods they have to be well: a recovery, and a view change of two long messages.
+const LONG_SEEDS: u64 = 20;
+
+const LONG_BOUND: u64 = 40;
 
 /// What came of some seeds.
 #[derive(Drop)]
@@ -44,6 +49,7 @@ pub fn play(rt: &HostRuntime, wish: &Wish) -> io::Result<bool> {
     if wish.checks_itself {
         check_itself(rt, wish, &mut tally)?;
         check_hangs(rt, wish, &mut tally)?;
+        check_long(rt, wish, &mut tally)?;
     }
     for seed in wish.first..wish.first + wish.seeds {
         play_one(rt, wish, seed, &mut tally)?;
@@ -110,6 +116,34 @@ fn check_hangs(rt: &HostRuntime, wish: &Wish, tally: &mut Tally) -> io::Result<(
         }
     }
     println!(rt; "with beats for ever no seed fails")?;
+    tally.failed += 1;
+    Ok(())
+}
+
+/// Plays logs that take ten suspect periods: all has to be well in time; and where nobody takes it for a sign of life that its parts are taken, some seed has
+/// to fail.
+fn check_long(rt: &HostRuntime, wish: &Wish, tally: &mut Tally) -> io::Result<()> {
+    let mut setting = wish.setting;
+    // Primaries crash, and come back late.
+    setting.kinds = LONG | 2;
+    setting.bound = LONG_BOUND;
+    for seed in 1..=LONG_SEEDS {
+        let mut long = *wish;
+        long.setting = setting;
+        play_one(rt, &long, seed, tally)?;
+    }
+    setting.is_unheeding = true;
+    for seed in 1..=20 {
+        let mut world = World::new(rt.alloc(), setting, seed)?;
+        world.run()?;
+        let wrong = world.wrong();
+        if wrong != Wrong::Nothing {
+            println!(rt; "with parts unheeded seed {seed} fails, as it has to: {wrong:?}")?;
+            tally.passed += 1;
+            return Ok(());
+        }
+    }
+    println!(rt; "with parts unheeded no seed fails")?;
     tally.failed += 1;
     Ok(())
 }

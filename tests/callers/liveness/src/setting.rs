@@ -11,6 +11,8 @@ pub struct Setting {
     pub is_old: bool,
     /// Whether a primary whose disk hangs repeats its last beat for ever.
     pub beats_on: bool,
+    /// Whether nobody takes it for a sign of life that a part of its long message was taken.
+    pub is_unheeding: bool,
     /// Whether a replica that recovers for long asks for a view change.
     pub mends: bool,
     pub traces: bool,
@@ -50,8 +52,11 @@ pub const HANGS: u64 = 1 << 12;
 
 pub const ALL: u64 = (1 << 13) - 1;
 
+/// Logs are long: a message with one takes ten suspect periods. Not among all, since each view change takes longer than the usual bound.
+pub const LONG: u64 = 1 << 13;
+
 /// The names of the bits, in their order.
-pub const NAMES: [&str; 13] = [
+pub const NAMES: [&str; 14] = [
     "quick-crash",
     "slow-crash",
     "store-crash",
@@ -65,6 +70,7 @@ pub const NAMES: [&str; 13] = [
     "delays",
     "journals",
     "hangs",
+    "long",
 ];
 
 const KINDS: [Kind; 8] = [

@@ -24,6 +24,7 @@ pub fn wish_of(words: &Vec<String>) -> Option<Wish> {
             count: 0,
             is_old: false,
             beats_on: false,
+            is_unheeding: false,
             mends: false,
             traces: false,
             kinds: ALL,
@@ -51,6 +52,7 @@ fn take(wish: &mut Wish, word: &str, next: &str) -> Option<usize> {
     match word {
         "--old" => wish.setting.is_old = true,
         "--beat-on" => wish.setting.beats_on = true,
+        "--unheeding" => wish.setting.is_unheeding = true,
         "--mend" => wish.setting.mends = true,
         "--trace" => wish.setting.traces = true,
         "--self-check" => wish.checks_itself = true,

@@ -6,7 +6,7 @@ use crate::clients::Caller;
 use crate::links::{Flight, Flights, Link};
 use crate::machine::Machine;
 use crate::mark::Mark;
-use crate::setting::{HANGS, JOURNALS, Plan, Setting};
+use crate::setting::{HANGS, JOURNALS, LONG, Plan, Setting};
 use crate::timer::{SUSPECT, Timer};
 use replica_clock::{Due, Sign, sign_of};
 use std::alloc::{AllocError, Global};
@@ -16,6 +16,20 @@ use vr_state::message::{Outputs, PeerMessage};
 use vr_state::replica::Replica;
 use vr_state::sending::copy_message;
 use vr_state::words::Status;
+
+/// How long a long message takes, and after how long its next part comes.
+const LONG_TIME: u64 = 10 * SUSPECT;
+
+const PART_TIME: u64 = SUSPECT / 8;
+
+/// Whether a message has a log.
+fn has_log(message: &PeerMessage<Mark>) -> bool {
+    match message {
+        PeerMessage::DoViewChange { .. } | PeerMessage::StartView { .. } => true,
+        PeerMessage::RecoveryResponse { response, .. } => response.held.is_some(),
+        _ => false,
+    }
+}
 
 /// A run.
 #[derive(Drop)]
@@ -225,6 +239,7 @@ impl World {
     fn happen(&mut self, what: What) -> Result<(), AllocError> {
         match what {
             What::Deliver { slot } => self.on_arrival(slot),
+            What::Part { slot, arrival } => self.on_part(slot, arrival),
             What::Ask { machine, turn } => self.on_ask(machine, turn),
             What::Reopen { link } => self.on_reopen(link),
             What::Client { client, turn } => self.on_client(client, turn),
@@ -273,6 +288,9 @@ impl World {
         message: PeerMessage<Mark>,
     ) -> Result<(), AllocError> {
         let link = self.link(from, to);
+        if self.is_being_sent(link, &message) {
+            return Ok(());
+        }
         let is_closed = self.now < self.links[link].closed_until;
         if !self.plan.is_ordered {
             if is_closed || self.chance.hits(self.plan.loss) {
@@ -308,7 +326,7 @@ impl World {
         let link = self.link(from, to);
         let delay = self.delay();
         let arrival = (self.now + delay).max(self.links[link].last);
-        self.links[link].last = arrival;
+        self.links[link].last = arrival + self.length_of(&message);
         self.launch(from, to, message, arrival)
     }
 
@@ -321,13 +339,72 @@ impl World {
     ) -> Result<(), AllocError> {
         let link = self.link(from, to);
         let stream = self.links[link].stream;
+        let length = self.length_of(&message);
+        let until = arrival + length;
+        if let PeerMessage::DoViewChange { view_number, .. } = &message {
+            self.links[link].changing = (*view_number, until);
+        }
         let slot = self.flights.put(Flight {
             from,
             to,
             stream,
+            long_until: until,
             message,
         })?;
-        self.agenda.put(arrival, What::Deliver { slot })
+        if length > 0 {
+            let what = What::Part {
+                slot,
+                arrival: until,
+            };
+            self.agenda.put(arrival, what)?;
+        }
+        self.agenda.put(until, What::Deliver { slot })
+    }
+
+    /// How long a message takes for its length alone.
+    fn length_of(&self, message: &PeerMessage<Mark>) -> u64 {
+        if self.setting.kinds & LONG != 0 && has_log(message) {
+            LONG_TIME
+        } else {
+            0
+        }
+    }
+
+    /// Whether a message is a long DOVIEWCHANGE of a view of which one is just being sent: then it isn't sent again.
+    fn is_being_sent(&self, link: usize, message: &PeerMessage<Mark>) -> bool {
+        match message {
+            PeerMessage::DoViewChange { view_number, .. } => {
+                let (view, until) = self.links[link].changing;
+                self.length_of(message) > 0 && view == *view_number && self.now < until
+            }
+            _ => false,
+        }
+    }
+
+    /// A part of a long message comes, and its sender knows that it was taken.
+    fn on_part(&mut self, slot: usize, arrival: u64) -> Result<(), AllocError> {
+        let Some(flight) = self.flights.look(slot) else {
+            return Ok(());
+        };
+        let (from, to) = (flight.from, flight.to);
+        let link = self.link(from, to);
+        let is_lost = self.plan.is_ordered && flight.stream != self.links[link].stream;
+        if flight.long_until != arrival || is_lost {
+            return Ok(());
+        }
+        if self.machines[to].replica.is_some() && !self.is_busy(to) {
+            self.hear(to, from as u64, Sign::Part)?;
+            if !self.setting.is_unheeding
+                && self.machines[from].replica.is_some()
+                && !self.is_busy(from) {
+                self.hear(from, to as u64, Sign::Taken)?;
+            }
+        }
+        let next = self.now + PART_TIME;
+        if next < arrival {
+            self.agenda.put(next, What::Part { slot, arrival })?;
+        }
+        Ok(())
     }
 
     /// A link is tried again: what waits in it goes on its way, where it is open.

@@ -2,8 +2,8 @@
 
 use crate::threads::signal::Signal;
 use peer_link::{
-    Address, Bytes, Dial, FrameEnd, Framing, Heard, LinkTimes, Outbox, SocketDialer, read_head,
-    read_rest, send_all,
+    Address, Bytes, Dial, FrameEnd, Framing, Heard, LinkTimes, Outbox, REFUSAL, SocketDialer,
+    read_head, read_rest, send_all,
 };
 use std::alloc::{AllocError, Global};
 use std::io::Write;
@@ -43,6 +43,8 @@ impl Framing<Bytes> for AsTheyAre {
     }
 
     fn heard(&mut self) {}
+
+    fn refused(&mut self, _why: [u8; REFUSAL]) {}
 
     fn silent(&mut self) {}
 }
@@ -273,6 +275,8 @@ impl<'a, R: Wait> Framing<u8> for InTwo<'a, R> {
     }
 
     fn heard(&mut self) {}
+
+    fn refused(&mut self, _why: [u8; REFUSAL]) {}
 
     fn silent(&mut self) {}
 }

@@ -6,7 +6,7 @@ use crate::threads::signal::Signal;
 use client_link::Limits;
 use hex::decode;
 use ldap_session::{Config, Name};
-use replica_greeting::{Terms, greeting};
+use replica_greeting::{Claim, Terms, greeting};
 use schema_reader::built_in_schema;
 use server_threads::{
     Address, Build, Choices, Engine, Figures, LinkTimes, Logs, Place, Role, Server, ServerError,
@@ -29,20 +29,30 @@ const COMMIT: &str = "0000001902000000000009030100000000000000050000000000000006
 /// The first octets of what replica 0 doesn't take for a greeting: another version, another cluster, the kind of a message, itself, nobody, a longer
 /// frame and a shorter one.
 const WRONG: [&str; 7] = [
-    "00000069010000000000090e01",
-    "000000690200000000000a0e01",
-    "00000069020000000000090301",
-    "00000069020000000000090e00",
-    "00000069020000000000090e02",
-    "0000006a020000000000090e01",
+    "00000092010000000000090e01",
+    "000000920200000000000a0e01",
+    "00000092020000000000090301",
+    "00000092020000000000090e00",
+    "00000092020000000000090e02",
+    "00000093020000000000090e01",
     "00000008020000000000090e01",
 ];
+
+/// What replica 1 says of its start, and what replica 0 does.
+const CLAIM: Claim = Claim {
+    start: 1,
+    mark: 5,
+    remembers: true,
+    view: 0,
+    last_normal: 0,
+    length: 0,
+};
 
 /// How often something is tried that is to be done soon, at most: a starved machine makes some of the times long, a fault makes all of them long.
 const TRIES: usize = 5;
 
 /// The first octets of a greeting, not enough to tell who sends it.
-const BEGUN: [u8; 12] = [0, 0, 0, 0x69, 2, 0, 0, 0, 0, 0, 9, 14];
+const BEGUN: [u8; 12] = [0, 0, 0, 0x92, 2, 0, 0, 0, 0, 0, 9, 14];
 
 /// The terms of the cluster, and those of one with another schema.
 fn terms(schema: Option<&str>) -> Terms {
@@ -56,6 +66,7 @@ fn choices() -> Choices {
         terms: terms(None),
         updates: 1,
         metrics: None,
+        memory: 67_108_864,
         logs: Logs {
             connections: false,
             updates: false,
@@ -79,7 +90,7 @@ struct Ear<'a, R> {
 }
 
 impl<'a, R: Wait + Clock> Engine for Ear<'a, R> {
-    fn hear(&self, from: u64, _message: PeerMessage<Op>) -> bool {
+    fn hear(&self, from: u64, _message: PeerMessage<Op>, _noted: Option<u64>) -> bool {
         let _ = self.heard.lock(self.rt).push(from);
         self.has_heard.give(self.rt);
         true
@@ -167,6 +178,7 @@ fn run<
         engine: ear,
         cluster,
         places: &places(),
+        claim: CLAIM,
     };
     server.run(ways, gates, 1, &config)?;
     Ok(())
@@ -217,7 +229,7 @@ fn shortest_open<R: Net<Stream = TcpStream> + Clock>(
 
 /// Replica 1's greeting with these terms, and its commit-number behind it.
 fn greeting_and_commit(alloc: Global, cluster: Cluster, terms: &Terms) -> io::Result<Vec<u8>> {
-    let mut octets = greeting(alloc, cluster, 1, terms)?;
+    let mut octets = greeting(alloc, cluster, 1, terms, &CLAIM)?;
     octets.extend_from_slice(&octets_of(alloc, COMMIT)?)?;
     Ok(octets)
 }

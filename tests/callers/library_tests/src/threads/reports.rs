@@ -3,7 +3,7 @@
 use crate::threads::signal::Signal;
 use ldap_op::Update;
 use peer_link::Framing;
-use replica_greeting::{Met, Term, Terms, meet};
+use replica_greeting::{Claim, Met, Term, Terms, meet};
 use server_threads::{
     Address, Choices, Limits, LinkTimes, Logs, MessageFrames, Note, NoteWriter, Place, Reporter,
     ServerError, SharedParts, make_shared_parts,
@@ -123,12 +123,12 @@ fn of_six(alloc: Global) -> Result<PeerMessage<Op>, AllocError> {
 }
 
 /// The terms of a cluster with this suffix.
-fn terms_under(suffix: &str) -> Terms {
+pub fn terms_under(suffix: &str) -> Terms {
     Terms::of(None, suffix, "127.0.0.1:389\n")
 }
 
 /// What the threads of a replica share that listens where the system lets it.
-fn parts_under(rt: &HostRuntime, terms: Terms) -> Result<SharedParts, ServerError> {
+pub fn parts_under(rt: &HostRuntime, terms: Terms) -> Result<SharedParts, ServerError> {
     let anywhere = Address::Numbers(SocketAddr::from(([127, 0, 0, 1], 0)));
     let place = Place {
         peer_address: anywhere,
@@ -140,6 +140,7 @@ fn parts_under(rt: &HostRuntime, terms: Terms) -> Result<SharedParts, ServerErro
         terms,
         updates: 1,
         metrics: None,
+        memory: 67_108_864,
         logs: Logs {
             connections: false,
             updates: false,
@@ -158,10 +159,24 @@ fn a_greeting_tells_the_terms(rt: HostRuntime) -> Result<(), Fail> {
     let cluster = Cluster::new(9).expect(&rt, "9 is the number of a cluster");
     let terms = terms_under("dc=example,dc=com");
     let shared_parts = parts_under(&rt, terms).expect(&rt, "there are ports");
-    let mut frames = MessageFrames::new(&rt, rt.alloc(), &shared_parts, cluster, 1);
+    let claim = Claim {
+        start: 3,
+        mark: 77,
+        remembers: true,
+        view: 5,
+        last_normal: 4,
+        length: 12,
+    };
+    let mut frames = MessageFrames::new(&rt, rt.alloc(), &shared_parts, cluster, claim, 1);
     let greeting = frames.greeting().expect(&rt, "there is memory");
     let alike = meet(greeting.as_slice(), cluster, &terms);
-    assert!(rt; alike == Ok(Met::Alike { sender: 0 }));
+    assert!(rt;
+        alike
+            == Ok(Met::Alike {
+                sender: 0,
+                claim: Some(claim)
+            })
+    );
     let other = meet(greeting.as_slice(), cluster, &terms_under("dc=example"));
     assert!(rt;
         other
