@@ -1,6 +1,7 @@
 -- What each step keeps, whatever the other replicas do. In: the step of one replica. Out: the clauses of the law on steps.
 -- What holds of a whole cluster stands in the crate above, over all schedules.
 use Rattle.std.specs.Prelude.{◌≡◌, ℕ, ◌/◌, ◌<◌, ◌≤◌, ◌⊎◌, nat_le, Bool, true, false, List, [], ◌∷◌, ◌++◌, length, take, Some, slice_index}
+use Rattle.log_entry.specs.declared.words.Client.{Client}
 use Rattle.log_entry.specs.declared.words.LogEntry.{LogEntry}
 use Rattle.vr_state.specs.declared.words.Latest.{Latest}
 use Rattle.vr_state.specs.declared.words.Reply.{Reply}
@@ -52,6 +53,16 @@ LogGoesOn P = (n i : ℕ) (r : State P) (e : Event P) → brings_tail e ≡ fals
 abbrev pub LastIsKept : Type 0 → Type 0
 LastIsKept P = (n i : ℕ) (r : State P) (e : Event P) → is_normal (step n i r e).state.status ≡ false →
     ((step n i r e).state.last_normal_view ≡ r.last_normal_view) × (is_recovering (step n i r e).state.status ≡ is_recovering r.status)
+
+-- A replica that recovers after a step is in the view that it had: only the end of its recovery moves it to another.
+abbrev pub RecoversInItsView : Type 0 → Type 0
+RecoversInItsView P = (n i : ℕ) (r : State P) (e : Event P) →
+    is_recovering (step n i r e).state.status ≡ true → (step n i r e).state.view_number ≡ r.view_number
+
+-- The client table's place is that of a record of this client, with the number that the table has.
+abbrev pub LatestIsOfClient : Type 0 → Type 0
+LatestIsOfClient P = (c : Client) (log : List (LogEntry P)) (last : Latest) → latest c log ≡ Some last →
+    IsNamedIn (record { client = c; request_number = last.request_number; op_number = last.op_number }) log
 
 -- Each reply of a step names one of the records that the replica has committed after it.
 abbrev pub RepliesAreExecuted : Type 0 → Type 0
