@@ -1,5 +1,6 @@
 //! Messages to a replica that has told how much it has committed: they leave that out, behind a note. Frames are made, read back and filled.
 
+use crate::threads::peers::CLAIM;
 use crate::threads::reports::{parts_under, terms_under};
 use ldap_op::Update;
 use peer_link::Framing;
@@ -69,7 +70,7 @@ fn what_both_have_is_left_out(rt: HostRuntime) -> Result<(), Fail> {
     let cluster = Cluster::new(9).expect(&rt, "9 is the number of a cluster");
     let terms = terms_under("dc=example,dc=com");
     let shared_parts = parts_under(&rt, terms).expect(&rt, "there are ports");
-    let mut frames = MessageFrames::new(&rt, alloc, &shared_parts, cluster, 1);
+    let mut frames = MessageFrames::new(&rt, alloc, &shared_parts, cluster, CLAIM, 1);
 
     // Nothing is known of the other: it may be of an earlier version.
     frames.begin(six(alloc)?);
