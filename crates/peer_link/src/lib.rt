@@ -4,19 +4,18 @@
 //! Links between replicas. Out: a `Queue` of items, bounded by number and weight, which forgets its oldest and always keeps the newest. An
 //! `Outbox` is a queue under a lock; `put` waits for that lock alone. `send_all`, in a thread of its own, makes an item's frames outside
 //! every lock (`Framing`), once there is a stream; frames of items that wait together go out in one write. It makes the stream again when a
-//! write fails, the other end has closed, or answers nothing for too long (`keep_alive`), after rests of 50 to 500 ms (`patience`). In: `read_head` and `read_rest` take one frame off a
+//! write fails, the other end has closed, or answers nothing for too long, by the
+//! rules of `replica_clock` (`KeepAlive`, `Backoff`). In: `read_head` and `read_rest` take one frame off a
 //! reader. Memory grows in pieces of 8,192 octets with what came, not with what was announced; the caller judges lengths between the calls.
 //!
 //! Proved: an item that comes is last, and only the oldest go for it, where there was no room (`Queue::push`). Items leave in order
-//! (`pop`). An end that falls silent is given up in time, however often it is asked (`silence_is_found`). A frame's head and rest are the next octets of the stream (`read_head`, `read_rest`).
+//! (`pop`). A frame's head and rest are the next octets of the stream (`read_head`, `read_rest`).
 #![tactic(auto)]
 
 mod address;
 mod dialing;
 mod framing;
-mod keep_alive;
 mod outbox;
-mod patience;
 mod queue;
 mod reading;
 mod sending;
@@ -26,9 +25,7 @@ pub use address::Address;
 pub use bytes::Bytes;
 pub use dialing::{Dial, Heard, REFUSAL, SocketDialer};
 pub use framing::Framing;
-pub use keep_alive::{KeepAlive, silence_is_found};
 pub use outbox::{Outbox, Waited};
-pub use patience::Patience;
 pub use queue::Queue;
 pub use reading::{FrameEnd, read_head, read_more, read_rest};
 pub use sending::{LinkTimes, send_all};

@@ -1,9 +1,8 @@
 //! What waits is sent by a thread of its own: each item becomes frames here, which are written to a stream. What frames say is not here.
 use crate::dialing::{Dial, Heard};
 use crate::framing::Framing;
-use crate::keep_alive::KeepAlive;
 use crate::outbox::{Outbox, Waited};
-use crate::patience::Patience;
+use replica_clock::{Backoff, KeepAlive};
 use std::alloc::Global;
 use std::io::{BufWriter, Write};
 use std::sync::Wait;
@@ -76,12 +75,12 @@ fn dial_and_greet<R: Wait + Clock, T, F: Framing<T>, D: Dial>(
     framing: &mut F,
     dialer: &mut D,
 ) -> Option<BufWriter<D::Stream>> {
-    let mut patience = Patience::new();
+    let mut backoff = Backoff::new();
     for _ in rt.forever() {
         if let Some(stream) = dial_once(alloc, framing, dialer) {
             return Some(stream);
         }
-        if outbox.rest(rt, Duration::from_millis(patience.rest())) {
+        if outbox.rest(rt, Duration::from_millis(backoff.rest())) {
             break;
         }
     }

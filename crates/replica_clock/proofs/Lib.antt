@@ -1,3 +1,6 @@
 mod LongSteps
 mod LongMessages
 mod Commits
+mod RepeatedMessages
+mod Trust
+mod Silence

@@ -2,6 +2,7 @@
 use Rattle.std.specs.Prelude.{◌≡◌, ℕ, ◌+◌, ◌-◌, ◌*◌, ◌≤◌, Bool, false, cond, ◌==◌, nat_le, List, [], ◌∷◌, Option, Some, None}
 pub use Rattle.replica_clock.specs.declared.steps.Progress.{Progress}
 use Rattle.replica_clock.specs.declared.steps.Progress.TheVariants.{Well, Stuck, Hung}
+use Rattle.replica_clock.specs.Pace.{PaceValue, is_turn, turned}
 
 -- what is known of the step that a node is at: how many came before it, and since when it was seen; none where it is at none
 pub record StepsValue : Type 0 where
@@ -49,3 +50,25 @@ AHungStepIsTold = (s : StepsValue) (made first : ℕ) (moments : List ℕ) (now 
 abbrev pub AShortStepIsWell : Type 0
 AShortStepIsWell = (s : StepsValue) (made first : ℕ) (moments : List ℕ) (now : ℕ) → s.since ≡ None
     → now + 1 ≤ first + s.suspect → 1 ≤ s.suspect → progress (busied_at made (first ∷ moments) s) now ≡ Well
+
+-- At a step that lasts, a primary sends its last beat once more, beat by beat; where it is hung it is silent, so that the others go on without it.
+abbrev pub beats_at : Progress → PaceValue → ℕ → Bool
+beats_at Well p now = is_turn p now
+beats_at Stuck p now = is_turn p now
+beats_at Hung p now = false
+
+-- what is known of its beats then
+abbrev pub beaten_at : Progress → PaceValue → ℕ → PaceValue
+beaten_at Well p now = turned p now
+beaten_at Stuck p now = turned p now
+beaten_at Hung p now = p
+
+-- Whatever is seen of one step that never ends: a primary is silent three suspect periods after it was seen first.
+abbrev pub AHungPrimaryIsSilent : Type 0
+AHungPrimaryIsSilent = (s : StepsValue) (made first : ℕ) (moments : List ℕ) (p : PaceValue) (now : ℕ) → s.since ≡ None
+    → first + 3 * s.suspect ≤ now → beats_at (progress (busied_at made (first ∷ moments) s) now) p now ≡ false
+
+-- And before they have passed it says once a beat that it is there.
+abbrev pub ABusyPrimaryIsHeard : Type 0
+ABusyPrimaryIsHeard = (s : StepsValue) (made first : ℕ) (moments : List ℕ) (p : PaceValue) (now : ℕ) → s.since ≡ None
+    → now + 1 ≤ first + 3 * s.suspect → 1 ≤ s.suspect → beats_at (progress (busied_at made (first ∷ moments) s) now) p now ≡ is_turn p now

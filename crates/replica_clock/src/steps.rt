@@ -1,9 +1,10 @@
 //! Decides how a step of a node goes that other threads wait for: a disk that hangs and a long step look alike from outside.
 ghost use Rattle.std.specs.Prelude.{◌≡◌, ◌≤◌, None};
 ghost use Rattle.replica_clock.specs.Clock.{longest};
-ghost use Rattle.replica_clock.specs.Steps.{busied, freed, is_seen, lasted_since, progress};
-ghost use Rattle.replica_clock.specs.Steps.{AHungStepIsTold, AShortStepIsWell};
+ghost use Rattle.replica_clock.specs.Steps.{beaten_at, beats_at, busied, freed, is_seen, lasted_since, progress};
+ghost use Rattle.replica_clock.specs.Steps.{ABusyPrimaryIsHeard, AHungPrimaryIsSilent, AHungStepIsTold, AShortStepIsWell};
 
+use crate::pace::Pace;
 use crate::times::Times;
 use std::marker::Model;
 
@@ -100,10 +101,23 @@ impl Steps {
             Progress::Well
         }
     }
+
+    /// Whether a primary whose node is at this step sends its last beat once more at this moment; if so, that counts as done.
+    pub fn beats_again(&self, pace: &mut Pace, now: u64) -> bool
+        ensures beats { result ≡ beats_at (progress self.now now) pace.old now }
+        ensures beaten { pace.new ≡ beaten_at (progress self.now now) pace.old now }
+    {
+        match self.progress(now) {
+            Progress::Well | Progress::Stuck => pace.take_turn(now),
+            Progress::Hung => false,
+        }
+    }
 }
 
-/// A step that never ends is told, and a short one isn't.
+/// A step that never ends is told, and a short one isn't: a primary that makes no progress falls silent, and not before.
 pub fn long_steps_are_told()
     ensures hung { AHungStepIsTold }
     ensures well { AShortStepIsWell }
+    ensures silent { AHungPrimaryIsSilent }
+    ensures heard { ABusyPrimaryIsHeard }
 {}

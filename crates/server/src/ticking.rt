@@ -44,8 +44,8 @@ struct Watch {
     /// How many parts of long messages each had taken by then.
     taken: Vec<u64>,
     has_majority: bool,
-    /// When the file of the stored view was looked at, last.
-    looked_at: u64,
+    /// When the replica's files may be looked at again.
+    looks: Pace,
 }
 
 /// A node with its clock.
@@ -124,7 +124,7 @@ fn first_watch<'a, 'r, R: Wait, I: Identity>(
         signs: Vec::from_elem(timed.alloc, 0u64, count)?,
         taken: Vec::from_elem(timed.alloc, 0u64, count)?,
         has_majority: true,
-        looked_at: 0,
+        looks: Pace::new(times),
     })
 }
 
@@ -148,7 +148,7 @@ impl<'a, 'r, R: Wait + Clock, I: Identity> TimedNode<'a, 'r, R, I> {
     /// Sends the last beat once more, where the node is at a step for longer than a beat: the others are to know that their primary is there. It is silent
     /// where the step never seems to end, so that they go on without it.
     fn beat_again(&self, watch: &mut Watch, now: u64) {
-        if watch.progress == Progress::Hung || !watch.pace.take_turn(now) {
+        if !watch.steps.beats_again(&mut watch.pace, now) {
             return;
         }
         if let Ok(sends) = copies(self.alloc, watch.beat.as_slice()) {
@@ -332,11 +332,9 @@ impl<'a, 'r, R: Wait + Clock, I: Identity> TimedNode<'a, 'r, R, I> {
 impl<'a, 'r, R: Wait + Clock + Files<File = File>, I: Identity> TimedNode<'a, 'r, R, I> {
     /// Which file is lost, if one is, as far as that shows; they are looked at once a beat.
     fn lost_file(&self, watch: &mut Watch) -> Option<ServerError> {
-        let now = self.now();
-        if now.saturating_sub(watch.looked_at) < micros(self.times.beat) {
+        if !watch.looks.take_turn(self.now()) {
             return None;
         }
-        watch.looked_at = now;
         if self
             .view_guard
             .is_lost(self.rt, self.restarts, watch.pulse.view_number)
@@ -387,13 +385,17 @@ where
         let now = self.now();
         self.shared_parts.counters.hear(from);
         self.shared_parts.progress.hear(from, &message, noted);
-        if self.shared_parts.progress.is_repeated(from, &message) {
+        if self
+            .shared_parts
+            .progress
+            .is_held_back(self.rt, from, &message)
+        {
             return true;
         }
         let Some(message) = self.whole(message, noted) else {
             return true;
         };
-        self.shared_parts.progress.hand_on(from, &message);
+        self.shared_parts.progress.hand_on(self.rt, from, &message);
         match &message {
             PeerMessage::NewState { .. } => self.peer_queues.asking.lock(self.rt).reset(),
             PeerMessage::PrepareOk { op_number, .. } => {

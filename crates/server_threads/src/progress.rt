@@ -1,11 +1,9 @@
-//! How far other replicas are, as they have said, and what of long messages they have taken. What is made of it is not here.
+//! Keeps how far other replicas are, as they have said, and what of long messages they have taken.
+use replica_clock::Repeats;
 use replica_greeting::PeerMessage;
 use std::alloc::{AllocError, Global};
 use std::sync::atomic::{AtomicU64, Ordering};
-
-/// So many repeated DOVIEWCHANGEs in a row aren't handed on: the first counts, and each would cost the node a look at its whole log. One passes now
-/// and then, since the first may have come while the node recovered, or found no memory.
-const REPEATS: u64 = 16;
+use std::sync::{Mutex, Wait};
 
 /// What is known of one replica.
 #[derive(Drop)]
@@ -16,9 +14,8 @@ struct Progress {
     taken: AtomicU64,
     /// 0, or one more than the view of the DOVIEWCHANGE that is being sent to it.
     changing: AtomicU64,
-    /// 0, or one more than the view of its last DOVIEWCHANGE that was handed on, and how many of that view were not since.
-    handed_on: AtomicU64,
-    repeated: AtomicU64,
+    /// Which of its DOVIEWCHANGEs are handed on.
+    repeats: Mutex<Repeats>,
 }
 
 impl Progress {
@@ -27,8 +24,7 @@ impl Progress {
             said: AtomicU64::new(0),
             taken: AtomicU64::new(0),
             changing: AtomicU64::new(0),
-            handed_on: AtomicU64::new(0),
-            repeated: AtomicU64::new(0),
+            repeats: Mutex::new(Repeats::new()),
         }
     }
 }
@@ -107,35 +103,23 @@ impl PeerProgress {
         said.checked_sub(1)
     }
 
-    /// Whether a message is a DOVIEWCHANGE of the view of which one was handed on.
-    pub fn is_repeated<P>(&self, from: u64, message: &PeerMessage<P>) -> bool {
+    /// Whether a message that came is held back: a DOVIEWCHANGE that repeats one that was handed on.
+    pub fn is_held_back<R: Wait, P>(&self, rt: &R, from: u64, message: &PeerMessage<P>) -> bool {
         match (self.replicas.get(from as usize), message) {
             (Some(progress), PeerMessage::DoViewChange { view_number, .. }) => {
-                let repeated = progress.repeated.load(Ordering::SeqCst);
-                let is_known = progress.handed_on.load(Ordering::SeqCst)
-                    == view_number.saturating_add(1)
-                    && repeated < REPEATS;
-                if is_known {
-                    progress
-                        .repeated
-                        .store(repeated.saturating_add(1), Ordering::SeqCst);
-                }
-                is_known
+                !progress.repeats.lock(rt).ask(*view_number)
             }
             _ => false,
         }
     }
 
     /// A message of the replica is handed on.
-    pub fn hand_on<P>(&self, from: u64, message: &PeerMessage<P>) {
+    pub fn hand_on<R: Wait, P>(&self, rt: &R, from: u64, message: &PeerMessage<P>) {
         if let (Some(progress), PeerMessage::DoViewChange { view_number, .. }) = (
             self.replicas.get(from as usize),
             message,
         ) {
-            progress
-                .handed_on
-                .store(view_number.saturating_add(1), Ordering::SeqCst);
-            progress.repeated.store(0, Ordering::SeqCst);
+            progress.repeats.lock(rt).hand_on(*view_number);
         }
     }
 

@@ -1,7 +1,7 @@
 -- An end that is asked again and again is awaited from the first question on.
 use Rattle.std.proofs.Common.{◌≡◌, ℕ, ◌-◌, List, [], ◌∷◌, Bool, true, cond, Option, Some, refl, ap, ◌∙◌, arith}
 use Rattle.std.proofs.lemmas.Bool.{le-leb}
-use Rattle.peer_link.specs.KeepAlive.{KeepAliveValue, asked, asked_at_all, is_past, waits_from, ASilentEndIsGone}
+use Rattle.replica_clock.specs.KeepAlive.{KeepAliveValue, asked, asked_at_all, is_past, waits_from, ASilentEndIsGone}
 
 -- Once it is awaited, further questions leave since when, and how long it may take.
 awaited : (silence first : ℕ) (moments : List ℕ) (k : KeepAliveValue) → k.answers ≡ true → k.waits_since ≡ Some first → k.silence ≡ silence

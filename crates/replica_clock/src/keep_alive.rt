@@ -1,6 +1,6 @@
 //! Decides whether the other end of a stream is still there: when it is asked, and how long its answer may take.
 ghost use Rattle.std.specs.Prelude.{◌≡◌, false, None};
-ghost use Rattle.peer_link.specs.KeepAlive.{answered, asked, begun, is_due, is_gone, is_past, waits_from, ASilentEndIsGone};
+ghost use Rattle.replica_clock.specs.KeepAlive.{answered, asked, begun, is_due, is_gone, is_past, waits_from, ASilentEndIsGone};
 
 use std::marker::Model;
 
@@ -15,7 +15,7 @@ pub struct KeepAlive {
 }
 
 impl Model for KeepAlive {
-    ghost use Rattle.peer_link.specs.KeepAlive.{KeepAliveValue};
+    ghost use Rattle.replica_clock.specs.KeepAlive.{KeepAliveValue};
 
     ghost Value = { KeepAliveValue };
 
