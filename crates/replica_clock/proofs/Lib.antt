@@ -4,3 +4,4 @@ mod Commits
 mod RepeatedMessages
 mod Trust
 mod Silence
+mod Lacking

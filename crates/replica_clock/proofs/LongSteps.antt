@@ -4,6 +4,7 @@ use Rattle.std.specs.Prelude.{nat_le}
 use Rattle.std.proofs.lemmas.Bool.{eq-eqb, le-leb, lt-leb}
 use Rattle.replica_clock.specs.Pace.{PaceValue, is_turn}
 use Rattle.replica_clock.specs.Steps.{StepsValue, beats_at, progress, busied, busied_at, is_seen, AHungStepIsTold, AShortStepIsWell, AHungPrimaryIsSilent, ABusyPrimaryIsHeard}
+use Rattle.replica_clock.specs.declared.steps.Progress.{Progress}
 use Rattle.replica_clock.specs.declared.steps.Progress.TheVariants.{Well, Stuck, Hung}
 
 -- the step as it was seen first
@@ -38,15 +39,16 @@ well s made first moments now none early some =
     ∙ ap (λ (b : Bool). cond b Stuck Well) (lt-leb s.suspect (now - first) (omega (arith, early, some)))
 
 pub silent : AHungPrimaryIsSilent
-silent s made first moments p now none late = ap (λ (x : _). beats_at x p now) (hung s made first moments now none late)
+silent leads s made first moments p now none late = ap (λ (x : Progress). beats_at leads x p now) (hung s made first moments now none late)
 
 -- a step that isn't hung holds up no beat
-goes_on : (b : Bool) (p : PaceValue) (now : ℕ) → beats_at (cond b Stuck Well) p now ≡ is_turn p now
+goes_on : (b : Bool) (p : PaceValue) (now : ℕ) → beats_at true (cond b Stuck Well) p now ≡ is_turn p now
 goes_on true p now = refl
 goes_on false p now = refl
 
 pub heard : ABusyPrimaryIsHeard
 heard s made first moments p now none early some =
-    ap (λ (x : StepsValue). beats_at (progress x now) p now) (seen s made first moments none)
-    ∙ ap (λ (b : Bool). beats_at (cond b Hung (cond (nat_le s.suspect (now - first)) Stuck Well)) p now) (lt-leb (3 * s.suspect) (now - first) (omega (arith, early, some)))
+    ap (λ (x : StepsValue). beats_at true (progress x now) p now) (seen s made first moments none)
+    ∙ ap (λ (b : Bool). beats_at true (cond b Hung (cond (nat_le s.suspect (now - first)) Stuck Well)) p now)
+    (lt-leb (3 * s.suspect) (now - first) (omega (arith, early, some)))
     ∙ goes_on (nat_le s.suspect (now - first)) p now

@@ -6,3 +6,4 @@ pub mod Majority
 pub mod Repeats
 pub mod Runs
 pub mod KeepAlive
+pub mod Lack

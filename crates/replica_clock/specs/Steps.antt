@@ -1,5 +1,5 @@
 -- How long one step of a node lasts. Moments and times are numbers of one unit.
-use Rattle.std.specs.Prelude.{◌≡◌, ℕ, ◌+◌, ◌-◌, ◌*◌, ◌≤◌, Bool, false, cond, ◌==◌, nat_le, List, [], ◌∷◌, Option, Some, None}
+use Rattle.std.specs.Prelude.{◌≡◌, ℕ, ◌+◌, ◌-◌, ◌*◌, ◌≤◌, Bool, true, false, cond, ◌&&◌, ◌==◌, nat_le, List, [], ◌∷◌, Option, Some, None}
 pub use Rattle.replica_clock.specs.declared.steps.Progress.{Progress}
 use Rattle.replica_clock.specs.declared.steps.Progress.TheVariants.{Well, Stuck, Hung}
 use Rattle.replica_clock.specs.Pace.{PaceValue, is_turn, turned}
@@ -52,23 +52,24 @@ AShortStepIsWell = (s : StepsValue) (made first : ℕ) (moments : List ℕ) (now
     → now + 1 ≤ first + s.suspect → 1 ≤ s.suspect → progress (busied_at made (first ∷ moments) s) now ≡ Well
 
 -- At a step that lasts, a primary sends its last beat once more, beat by beat; where it is hung it is silent, so that the others go on without it.
-abbrev pub beats_at : Progress → PaceValue → ℕ → Bool
-beats_at Well p now = is_turn p now
-beats_at Stuck p now = is_turn p now
-beats_at Hung p now = false
+-- Any other replica is silent: only a primary's beats are awaited.
+abbrev pub beats_at : Bool → Progress → PaceValue → ℕ → Bool
+beats_at leads Well p now = leads && is_turn p now
+beats_at leads Stuck p now = leads && is_turn p now
+beats_at leads Hung p now = false
 
 -- what is known of its beats then
-abbrev pub beaten_at : Progress → PaceValue → ℕ → PaceValue
-beaten_at Well p now = turned p now
-beaten_at Stuck p now = turned p now
-beaten_at Hung p now = p
+abbrev pub beaten_at : Bool → Progress → PaceValue → ℕ → PaceValue
+beaten_at leads Well p now = cond leads (turned p now) p
+beaten_at leads Stuck p now = cond leads (turned p now) p
+beaten_at leads Hung p now = p
 
--- Whatever is seen of one step that never ends: a primary is silent three suspect periods after it was seen first.
+-- Whatever is seen of one step that never ends: a replica is silent three suspect periods after it was seen first.
 abbrev pub AHungPrimaryIsSilent : Type 0
-AHungPrimaryIsSilent = (s : StepsValue) (made first : ℕ) (moments : List ℕ) (p : PaceValue) (now : ℕ) → s.since ≡ None
-    → first + 3 * s.suspect ≤ now → beats_at (progress (busied_at made (first ∷ moments) s) now) p now ≡ false
+AHungPrimaryIsSilent = (leads : Bool) (s : StepsValue) (made first : ℕ) (moments : List ℕ) (p : PaceValue) (now : ℕ) → s.since ≡ None
+    → first + 3 * s.suspect ≤ now → beats_at leads (progress (busied_at made (first ∷ moments) s) now) p now ≡ false
 
--- And before they have passed it says once a beat that it is there.
+-- And before they have passed a primary says once a beat that it is there.
 abbrev pub ABusyPrimaryIsHeard : Type 0
 ABusyPrimaryIsHeard = (s : StepsValue) (made first : ℕ) (moments : List ℕ) (p : PaceValue) (now : ℕ) → s.since ≡ None
-    → now + 1 ≤ first + 3 * s.suspect → 1 ≤ s.suspect → beats_at (progress (busied_at made (first ∷ moments) s) now) p now ≡ is_turn p now
+    → now + 1 ≤ first + 3 * s.suspect → 1 ≤ s.suspect → beats_at true (progress (busied_at made (first ∷ moments) s) now) p now ≡ is_turn p now

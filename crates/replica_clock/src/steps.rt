@@ -102,13 +102,14 @@ impl Steps {
         }
     }
 
-    /// Whether a primary whose node is at this step sends its last beat once more at this moment; if so, that counts as done.
-    pub fn beats_again(&self, pace: &mut Pace, now: u64) -> bool
-        ensures beats { result ≡ beats_at (progress self.now now) pace.old now }
-        ensures beaten { pace.new ≡ beaten_at (progress self.now now) pace.old now }
+    /// Whether a replica whose node is at this step sends its last beat once more at this moment; if so, that counts as done. Only a primary does, since
+    /// only its beats are awaited: what others ask for would be sent to them again and again.
+    pub fn beats_again(&self, leads: bool, pace: &mut Pace, now: u64) -> bool
+        ensures beats { result ≡ beats_at leads (progress self.now now) pace.old now }
+        ensures beaten { pace.new ≡ beaten_at leads (progress self.now now) pace.old now }
     {
         match self.progress(now) {
-            Progress::Well | Progress::Stuck => pace.take_turn(now),
+            Progress::Well | Progress::Stuck => leads && pace.take_turn(now),
             Progress::Hung => false,
         }
     }

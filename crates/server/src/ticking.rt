@@ -12,7 +12,7 @@ use node_gate::{
     Arrival, Identity, Majority, NodeError, Op, Pace, PeerMessage, Progress, Pulse, Running, Send,
     Standing, Steps, Ticked, copies, send_all,
 };
-use server_threads::{Build, Engine, Figures, Role, ServerError, SharedParts, Trouble};
+use server_threads::{Build, Engine, Figures, Lack, Role, ServerError, SharedParts, Trouble};
 use std::alloc::{AllocError, Global};
 use std::fs::{File, Files};
 use std::io::Read;
@@ -33,8 +33,8 @@ struct Watch {
     /// What the last beat sent, and when that may be sent again.
     beat: Vec<Send<Op>>,
     pace: Pace,
-    /// Since when threads are missing that were to have begun, where some are.
-    short_since: Option<u64>,
+    /// Whether threads are missing that were to have begun.
+    lack: Lack,
     /// How the step goes that the node is at, and what was told of it.
     steps: Steps,
     progress: Progress,
@@ -117,7 +117,7 @@ fn first_watch<'a, 'r, R: Wait, I: Identity>(
         pulse,
         beat: Vec::new(timed.alloc),
         pace: Pace::new(times),
-        short_since: None,
+        lack: Lack::new(THREADS_LIMIT * 1_000),
         steps: Steps::new(times),
         progress: Progress::Well,
         majority: Majority::new(timed.alloc, times, own, count, now)?,
@@ -145,10 +145,11 @@ impl<'a, 'r, R: Wait + Clock, I: Identity> TimedNode<'a, 'r, R, I> {
         }
     }
 
-    /// Sends the last beat once more, where the node is at a step for longer than a beat: the others are to know that their primary is there. It is silent
-    /// where the step never seems to end, so that they go on without it.
+    /// Sends a primary's last beat once more, where the node is at a step for longer than a beat: the others are to know that it is there. It is silent where
+    /// the step never seems to end, so that they go on without it.
     fn beat_again(&self, watch: &mut Watch, now: u64) {
-        if !watch.steps.beats_again(&mut watch.pace, now) {
+        let leads = watch.pulse.standing == Standing::Primary;
+        if !watch.steps.beats_again(leads, &mut watch.pace, now) {
             return;
         }
         if let Ok(sends) = copies(self.alloc, watch.beat.as_slice()) {
@@ -314,18 +315,8 @@ impl<'a, 'r, R: Wait + Clock, I: Identity> TimedNode<'a, 'r, R, I> {
 
     /// Whether threads are missing that should have begun long ago.
     fn is_short_of_threads(&self, watch: &mut Watch) -> bool {
-        if self.shared_parts.needed_threads.is_whole() {
-            watch.short_since = None;
-            return false;
-        }
-        let now = self.now();
-        match watch.short_since {
-            None => {
-                watch.short_since = Some(now);
-                false
-            }
-            Some(since) => now.saturating_sub(since) >= THREADS_LIMIT * 1_000,
-        }
+        let is_missing = !self.shared_parts.needed_threads.is_whole();
+        watch.lack.look(is_missing, self.now())
     }
 }
 

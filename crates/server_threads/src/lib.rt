@@ -52,6 +52,7 @@ pub use needed_threads::NeededThreads;
 pub use notes::Note;
 pub use peer_link::{Address, LinkTimes};
 pub use places::Place;
+pub use replica_clock::Lack;
 pub use replica_greeting::{Claim, Terms};
 pub use reporter::{NoteWriter, Reporter, StandardError};
 pub use resident::{GROUP_MEMORY, MACHINE_MEMORY, PROCESS_STATUS, available_octets};
