@@ -7,6 +7,7 @@ pub mod Back
 pub mod RoundTrips
 pub mod Grammar
 pub mod Puts
+pub mod Growing
 pub mod TooLong
 pub mod Meanings
 pub mod Wrongs

@@ -15,16 +15,6 @@ one_more i = omega arith
 first_left : {A : Type 0} (xs : List A) (i : ℕ) (x : A) → i < length xs → x ≡ get_or xs i x → drop i xs ≡ x ∷ drop (i + 1) xs
 first_left xs i x lt is = drop-cons xs i x lt ∙ ap₂ (λ y k. y ∷ drop k xs) (sym is) (one_more i)
 
--- The values of one line more.
-pub values_next : (word : List ℕ) (vs : List ValueModel) (i : ℕ) (v : ValueModel) (before after whole : List (List ℕ)) → i < length vs → v ≡ get_or vs i v
-    → before ++ values_of word (drop i vs) ≡ whole → after ≡ before ++ values_of word (v ∷ []) → after ++ values_of word (drop (i + 1) vs) ≡ whole
-values_next word vs i v before after whole lt is put more =
-    let rest = drop (i + 1) vs in
-    let joined : values_of word (v ∷ rest) ≡ values_of word (v ∷ []) ++ values_of word rest =
-    ap (map (λ x. x.octets)) (filter-append (is_of word) (v ∷ []) rest) ∙ map-append (λ x. x.octets) (filter (is_of word) (v ∷ [])) (filter (is_of word) rest) in
-    ap (λ l. l ++ values_of word rest) more ∙ append_assoc before (values_of word (v ∷ [])) (values_of word rest)
-    ∙ ap (λ l. before ++ l) (sym joined ∙ ap (values_of word) (sym (first_left vs i v lt is))) ∙ put
-
 -- The lines of one record more.
 pub lines_next : (rs : List RecordModel) (i id : ℕ) (r : RecordModel) (before after whole : List ℕ) → i < length rs → r ≡ get_or rs i r → id ≡ i + 1
     → before ++ message_lines (adds_from (i + 1) (drop i rs)) ≡ whole → after ≡ before ++ hex_line (message_bytes (add_message id r))

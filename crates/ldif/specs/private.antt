@@ -4,3 +4,4 @@ pub mod Said
 pub mod Faults
 pub mod HexFaults
 pub mod Imports
+pub mod Adding

@@ -1,109 +1,105 @@
-//! LDIF and messages: the add that a record asks for.
-//! In: a record. Out: its add. Not here: messages, octets.
+//! The add that a record of LDIF asks for.
 
-ghost use Rattle.std.specs.Prelude.{◌≡◌, ◌++◌, map, cond, [], ◌∷◌, IfOk, OnOk};
-ghost use Rattle.std.specs.List.{list_any};
+ghost use Rattle.std.specs.Prelude.{◌≡◌, ◌++◌, ◌∷◌, [], ℕ, List, Some, cond, length, map, IfOk, OnOk};
+ghost use Rattle.std.specs.Char.{to_ascii_lowercase};
+ghost use Rattle.std.specs.Str.{bytes_eq};
 ghost use Rattle.ldap_msg.specs.View.{add_view, attribute_view};
 ghost use Rattle.ldif.specs.Adds as adds;
+ghost use Rattle.ldif.specs.private.Adding.{number_at, lower_type, has_type, joined, with_line, kept_or};
 
 use crate::record::{AttributeValue, Record};
 use ldap_msg::{AddRequest, Attribute};
+use ldap_words::lower_case;
 use std::alloc::{AllocError, Global};
+use std::collections::BTreeMap;
 
-/// Whether a line has this type, without regard to case.
-fn is_of(word: &str, value: &AttributeValue) -> bool
-    ensures { result ≡ adds.is_of word.now value.now }
-{
-    word.as_bytes()
-        .eq_ignore_ascii_case(value.description().as_bytes())
-}
+/// The indexes of attributes by their types in lower case.
+type Indexes = BTreeMap<Vec<u8>, usize>;
 
-/// Whether some line has this type.
-fn is_among(word: &str, values: &[AttributeValue]) -> bool
-    ensures { result ≡ list_any (adds.is_of word.now) values.now }
+/// The index of a type in lower case.
+fn index_of(indexes: &Indexes, folded: &[u8]) -> Option<usize>
+    ensures { result ≡ number_at indexes.now.entries folded.now }
 {
-    for value in values {
-        if is_of(word, value) {
-            return true;
-        }
+    match indexes.get(folded) {
+        Some(index) => Some(*index),
+        None => None,
     }
-    false
 }
 
-/// Puts the value of a line, if it has this type.
-fn put_value(
-    alloc: Global,
-    word: &str,
-    value: &AttributeValue,
-    octets: &mut Vec<Vec<u8>>,
-) -> Result<(), AllocError>
-    ensures { OnOk result (map (λ v. v.items) octets.new.items ≡ map (λ v. v.items) octets.old.items ++ adds.values_of word.now (value.now ∷ [])) }
+/// The index becomes that of the type.
+fn put_index(indexes: &mut Indexes, folded: Vec<u8>, index: usize) -> Result<(), AllocError>
+    ensures { OnOk result ((q : List ℕ) → number_at indexes.new.entries q ≡ cond (bytes_eq q folded.items) (Some index) (number_at indexes.old.entries q)) }
 {
-    if is_of(word, value) {
-        octets.push(Vec::from_slice(alloc, value.octets())?)?;
+    indexes.insert(folded, index)?;
+    Ok(())
+}
+
+/// Puts another value into the attribute at this index, if there is one.
+fn join(attributes: &mut Vec<Attribute>, index: usize, octets: Vec<u8>) -> Result<(), AllocError>
+    ensures { OnOk result (map attribute_view attributes.new.items ≡ joined (map attribute_view attributes.old.items) index octets.items) }
+{
+    if index < attributes.as_slice().len() {
+        attributes[index].values.push(octets)?;
     }
     Ok(())
 }
 
-/// The values of the lines that have this type.
-fn values_of(
+/// Puts an attribute with one value, and notes its index.
+fn begin(
     alloc: Global,
-    word: &str,
-    values: &[AttributeValue],
-) -> Result<Vec<Vec<u8>>, AllocError>
-    ensures { IfOk result (λ v. map (λ x. x.items) v.items ≡ adds.values_of word.now values.now) }
-{
-    let mut octets = Vec::new(alloc);
-    for value in values {
-        put_value(alloc, word, value, &mut octets)?;
-    }
-    Ok(octets)
-}
-
-/// The attribute of a line's type, with the values of all lines that have it.
-fn attribute_of(
-    alloc: Global,
-    values: &[AttributeValue],
-    first: &AttributeValue,
-) -> Result<Attribute, AllocError>
-    ensures { IfOk result (λ a. attribute_view a ≡ adds.attribute_of values.now first.now) }
-{
-    Ok(Attribute {
-        description: String::from_str(alloc, first.description())?,
-        values: values_of(alloc, first.description(), values)?,
-    })
-}
-
-/// Puts the attribute of a line, if none of the lines before it has its type.
-fn put_attribute(
-    alloc: Global,
-    values: &[AttributeValue],
-    before: &[AttributeValue],
-    value: &AttributeValue,
+    indexes: &mut Indexes,
     attributes: &mut Vec<Attribute>,
+    folded: Vec<u8>,
+    value: &AttributeValue,
+    octets: Vec<u8>,
 ) -> Result<(), AllocError>
-    ensures { OnOk result (map attribute_view attributes.new.items
-        ≡ map attribute_view attributes.old.items ++ map (adds.attribute_of values.now) (adds.if_first before.now value.now)) }
+    ensures attributes { OnOk result (map attribute_view attributes.new.items ≡ map attribute_view attributes.old.items
+        ++ record { description = value.now.description; values = octets.items ∷ [] } ∷ []) }
+    ensures indexes { OnOk result ((q : List ℕ) → number_at indexes.new.entries q ≡ cond (bytes_eq q folded.items) (Some (length attributes.old.items)) (number_at indexes.old.entries q)) }
 {
-    if !is_among(value.description(), before) {
-        attributes.push(attribute_of(alloc, values, value)?)?;
-    }
+    put_index(indexes, folded, attributes.as_slice().len())?;
+    let mut values = Vec::new(alloc);
+    values.push(octets)?;
+    let attribute = Attribute {
+        description: String::from_str(alloc, value.description())?,
+        values,
+    };
+    attributes.push(attribute)?;
     Ok(())
 }
 
-/// One attribute for each type, at the place of its first line.
+/// Puts the value of a line into the attribute of its type, which it begins where no line before it has that type.
+fn put_line(
+    alloc: Global,
+    indexes: &mut Indexes,
+    attributes: &mut Vec<Attribute>,
+    value: &AttributeValue,
+) -> Result<(), AllocError>
+    ensures attributes { OnOk result (map attribute_view attributes.new.items ≡ with_line (map attribute_view attributes.old.items) (number_at indexes.old.entries (lower_type value.now)) value.now) }
+    ensures indexes { OnOk result ((q : List ℕ) → number_at indexes.new.entries q ≡ kept_or (number_at indexes.old.entries q) (has_type q value.now) (length attributes.old.items)) }
+{
+    let folded = lower_case(alloc, value.description().as_bytes())?;
+    let octets = Vec::from_slice(alloc, value.octets())?;
+    match index_of(indexes, folded.as_slice()) {
+        Some(index) => join(attributes, index, octets),
+        None => begin(alloc, indexes, attributes, folded, value, octets),
+    }
+}
+
+/// One attribute for each type, at the place of its first line; a line costs a logarithm of the count of types.
 fn attributes_of(alloc: Global, values: &[AttributeValue]) -> Result<Vec<Attribute>, AllocError>
     ensures { IfOk result (λ v. map attribute_view v.items ≡ adds.attributes_of values.now) }
 {
+    let mut indexes = BTreeMap::new(alloc);
     let mut attributes = Vec::new(alloc);
-    for (index, value) in values.iter().enumerate() {
-        put_attribute(alloc, values, &values[..index], value, &mut attributes)?;
+    for value in values {
+        put_line(alloc, &mut indexes, &mut attributes, value)?;
     }
     Ok(attributes)
 }
 
 /// The add of the entry that a record is (RFC 4511 4.7): the lines of one type, in any case, are one attribute at the place of the
-/// first of them. Fails only for want of memory.
+/// first of them. Fails only when it runs out of memory.
 pub fn add_of(alloc: Global, item: &Record) -> Result<AddRequest, AllocError>
     ensures { IfOk result (λ a. add_view a ≡ adds.add_of item.now) }
 {
