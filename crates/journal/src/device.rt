@@ -1,5 +1,5 @@
 //! The device under a journal: what a read gives, and what a crash may leave. No format is here.
-ghost use Rattle.std.specs.Prelude.{◌≡◌, ◌≤◌, ◌+◌, ◌++◌, List, ℕ, length, take, drop, replicate, IfOk, OnOk, IsErrOf};
+ghost use Rattle.std.specs.Prelude.{◌≡◌, ◌≤◌, ◌+◌, ◌++◌, List, ℕ, length, take, drop, replicate, IfOk, OnOk, OnErr, IsErrOf};
 ghost use Rattle.journal.specs.Device.{Only, Follows, Mixed, Holds, Grown, Longer, Elapses, HasCause, HasRisen};
 
 use crate::fault::GrowthError;
@@ -53,10 +53,11 @@ pub trait Device {
         ensures later { failure_count self.old ≤ failure_count self.new };
 
     /// Writes over what is there. Until a sync, a crash may leave each octet of the range as it was or as it is written;
-    /// so may a write that failed.
+    /// so may a write that failed. After that one a read gives each octet of the range as it was or as it was to be written.
     fn write_at(&mut self, at: u64, octets: &[u8]) -> Result<(), DeviceFailure>
         requires { at + length octets.now ≤ length (seen self.old) }
         ensures written { OnOk result (Holds (seen self.old) at octets.now (seen self.new)) }
+        ensures failed { OnErr result (Mixed at octets.now (seen self.old) (seen self.new)) }
         ensures crash { Follows (Mixed at octets.now) (may_leave self.old) (may_leave self.new) }
         ensures time { Elapses (moment self.old) (moment self.new) (left_since self.old) (left_since self.new) (may_leave self.new) }
         ensures cause { HasCause (failure_count self.old) (failure_count self.new) result };

@@ -181,14 +181,15 @@ impl StringReader {
         Ok(self.take_frame())
     }
 
-    /// Clears all behind the last string, where no frame stands; nothing of the device is read again. A crash at any moment of the call leaves the same strings. What
-    /// takes memory comes before anything is written.
+    /// Clears all behind the last string, where no frame stands; nothing of the device is read again. A crash at any moment of the call leaves the same strings. Out
+    /// of memory, nothing is written.
     pub fn clear<D: Device>(&self, alloc: Global, device: &mut D) -> Result<(), JournalError>
         requires read { HasRead self.now (D.seen device.old) }
         requires none { is_whole (drop self.now.end (D.seen device.old)) ≡ false }
         requires durable { Only (D.seen device.old) (D.may_leave device.old) }
         ensures settled { OnOk result (IsSettled (D.seen device.new) (D.may_leave device.new) (recorded (D.seen device.old)) self.now.end) }
         ensures any_moment { LeavesOnly D.moment D.left_since device.old device.new (λ c. recorded c ≡ recorded (D.seen device.old)) }
+        ensures no_memory { IsErrOf result JournalError.NoMemory → D.seen device.new ≡ D.seen device.old }
         ensures later { D.failure_count device.old ≤ D.failure_count device.new }
         ensures failed { IsErrOf result JournalError.DeviceFailed → HasRisen (D.failure_count device.old) (D.failure_count device.new) }
     {

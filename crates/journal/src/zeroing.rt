@@ -65,8 +65,7 @@ fn clear_rest<D: Device>(
 }
 
 /// Clears all behind the strings of a device of this size: first the place of a header, so that no torn write of the rest can make
-/// a frame there, then the rest. A crash at any moment of the call leaves the same strings. What takes memory comes before anything
-/// is written.
+/// a frame there, then the rest. A crash at any moment of the call leaves the same strings. Out of memory, nothing is written.
 pub fn clear<D: Device>(
     alloc: Global,
     device: &mut D,
@@ -78,6 +77,7 @@ pub fn clear<D: Device>(
     requires size { size ≡ length (D.seen device.old) }
     ensures settled { OnOk result (IsSettled (D.seen device.new) (D.may_leave device.new) (recorded (D.seen device.old)) end) }
     ensures any_moment { LeavesOnly D.moment D.left_since device.old device.new (λ c. recorded c ≡ recorded (D.seen device.old)) }
+    ensures no_memory { IsErrOf result JournalError.NoMemory → device.new ≡ device.old }
     ensures later { D.failure_count device.old ≤ D.failure_count device.new }
     ensures failed { IsErrOf result JournalError.DeviceFailed → HasRisen (D.failure_count device.old) (D.failure_count device.new) }
 {
