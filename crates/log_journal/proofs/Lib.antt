@@ -11,3 +11,4 @@ pub mod Plain
 pub mod Putting
 pub mod Reading
 pub mod ToldOn
+pub mod SomeSteps

@@ -18,6 +18,12 @@ abbrev pub IsOfOpening : NoteError → Type 0
 IsOfOpening DeviceFailed = Unit {0}
 IsOfOpening e = IsOfTaking e
 
+-- Clearing what stands behind a journal's strings is refused for these alone.
+abbrev pub IsOfClearing : NoteError → Type 0
+IsOfClearing NoMemory = Unit {0}
+IsOfClearing DeviceFailed = Unit {0}
+IsOfClearing e = ⊥
+
 -- The home of a note's client fits its octet.
 abbrev pub HasHome : Note → Type 0
 HasHome (Step (journaled.Record k e)) = e.client.home < 2 ^ 8

@@ -34,6 +34,11 @@ TakesAll n i r [] [] s old new = (s ≡ r) × (new ≡ old)
 TakesAll n i r (e ∷ es) (x ∷ xs) s old new = (t : State OpValue) × (mid : List (List ℕ)) × Takes n i r e x t old mid × TakesAll n i t es xs s mid new
 TakesAll n i r _ _ s old new = ⊥
 
+-- The replica comes from r to s by some first of these events: each makes its step, or is left out.
+abbrev pub MakesSome : ℕ → ℕ → State OpValue → List (Event OpValue) → State OpValue → Type 0
+MakesSome n i r [] s = s ≡ r
+MakesSome n i r (e ∷ es) s = (s ≡ r) ⊎ ((t : State OpValue) × ((t ≡ r) ⊎ (t ≡ (step n i r e).state)) × MakesSome n i t es s)
+
 -- Events are taken or left out, whatever they note.
 pub record IsTaken (n i : ℕ) (r : State OpValue) (es : List (Event OpValue)) (xs : List (Result (Outputs OpValue) AllocError)) (s : State OpValue) : Type 0 where
   pub notes : List (List ℕ)

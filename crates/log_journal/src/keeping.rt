@@ -6,7 +6,7 @@ ghost use Rattle.journal.specs.Frames.{frames, recorded};
 ghost use Rattle.journal.specs.Journal.{IsGrown, IsSettled};
 ghost use Rattle.log_journal.specs.Kept.{IsHeld, IsMemory, IsMemoryOfTaken};
 ghost use Rattle.log_journal.specs.Refused.{HasRoom, IsOfKeeping, IsOfKeepingOne, IsOfSettling};
-ghost use Rattle.log_journal.specs.Taken.{IsTaken, given};
+ghost use Rattle.log_journal.specs.Taken.{IsTaken, MakesSome, given};
 ghost use Rattle.log_journal.specs.Told.{Told};
 ghost use Rattle.vr_state.specs.Step.{step as step_of};
 ghost use Rattle.vr_state.specs.Views.{state};
@@ -103,6 +103,8 @@ pub fn keep_event<J: Device>(
         → LeavesOnly J.moment J.left_since journal.old.device journal.new.device
         (λ c. IsMemoryOfTaken t replica.old.count replica.old.index (state replica.old) (event ∷ []) (recorded c)) }
     ensures device_failed { IsErrOf result NoteError.DeviceFailed → HasRisen (J.failure_count journal.old.device) (J.failure_count journal.new.device) }
+    // At an error the replica is as it is before the event or after it.
+    ensures late { OnErr result (MakesSome replica.old.count replica.old.index (state replica.old) (event ∷ []) (state replica.new)) }
     ensures errors { IfErr result (λ e. IsOfKeepingOne e) }
 {
     taken_is_told();
@@ -140,6 +142,8 @@ pub fn keep_events<J: Device>(
         (λ c. IsMemoryOfTaken t replica.old.count replica.old.index (state replica.old) events.items (recorded c)) }
     ensures no_memory { IsErrOf result NoteError.NoMemory → (state replica.new ≡ state replica.old) × (journal.new ≡ journal.old) }
     ensures device_failed { IsErrOf result NoteError.DeviceFailed → HasRisen (J.failure_count journal.old.device) (J.failure_count journal.new.device) }
+    // At an error the replica is as it is after some first of the events.
+    ensures late { OnErr result (MakesSome replica.old.count replica.old.index (state replica.old) events.items (state replica.new)) }
     ensures errors { IfErr result (λ e. IsOfKeeping e) }
 {
     taken_is_told();

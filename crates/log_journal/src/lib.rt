@@ -7,7 +7,7 @@
 //! settles their notes, `telling` takes them, the oldest first. `opening` takes each as it is read from the device.
 //!
 //! Proved: whatever a crash leaves of a batch, the strings tell the replica after some first of its events (`keep_events`). What strings
-//! tell is one thing (`open`, `tell`, `one_is_told`); a note's fields are read back (`read_fields`, `fields_are_read`).
+//! tell is one thing (`read`, `tell`, `one_is_told`); a note's fields are read back (`read_fields`, `fields_are_read`).
 #![tactic(auto)]
 
 mod alike;
@@ -30,11 +30,13 @@ pub use alike::count_alike;
 pub use batch::Batch;
 pub use error::NoteError;
 pub use fields::{Fields, read_fields, write_fields};
-pub use journal::{Device, DeviceFailure, GrowthError, Journal, JournalError, MemoryDevice};
+pub use journal::{
+    Device, DeviceFailure, GrowthError, Journal, JournalError, MemoryDevice, StringReader,
+};
 pub use keeping::{keep_event, keep_events, settle};
 pub use laws::{batches_are_told, fields_are_read, one_is_told, taken_is_told, told_goes_on};
 pub use notes::{put_begin, put_commit, put_start};
-pub use opening::open;
+pub use opening::{clear, read};
 pub use steps::{Before, put_step};
 pub use taking::take_events;
 pub use telling::tell;

@@ -1,4 +1,5 @@
-//! Opens a journal: each string is taken as it is read, so that no more of the journal is in memory than a window of it.
+//! Opens a journal: each string is taken as it is read, so that no more of the journal is in memory than a window of it. What stands behind them
+//! is cleared by a call of its own, once nothing else refuses the start.
 ghost use Rattle.std.specs.Prelude.{◌≡◌, ◌≢◌, ◌≤◌, [], drop, false, IfOk, IfErr, OnOk, IsErrOf};
 ghost use Rattle.journal.specs.Device.{HasRisen, LeavesOnly, Only};
 ghost use Rattle.journal.specs.Frames.{is_whole, recorded};
@@ -6,7 +7,7 @@ ghost use Rattle.journal.specs.Reading.{HasRead};
 ghost use Rattle.log_journal.specs.Found.{HasAnotherVersion, IsFound};
 ghost use Rattle.log_journal.specs.private.Found.{TellsNext};
 ghost use Rattle.log_journal.specs.Kept.{IsHeld};
-ghost use Rattle.log_journal.specs.Refused.{HasDamage, IsOfOpening};
+ghost use Rattle.log_journal.specs.Refused.{HasDamage, IsOfClearing, IsOfOpening};
 ghost use Rattle.log_journal.specs.Told.{Tells, nothing_told};
 ghost use Rattle.log_journal.specs.Views.{told_view};
 
@@ -21,7 +22,9 @@ fn note_of_reading(error: JournalError) -> NoteError
     ensures device { result ≡ NoteError.DeviceFailed → error ≡ JournalError.DeviceFailed }
     ensures version { result ≡ NoteError.AnotherVersion → ⊥ }
     ensures damaged { result ≡ NoteError.Damaged → ⊥ }
+    ensures memory { result ≡ NoteError.NoMemory → error ≡ JournalError.NoMemory }
     ensures errors { IsOfOpening result }
+    ensures clearing { IsOfClearing result }
 {
     match error {
         JournalError::NoMemory => NoteError::NoMemory,
@@ -99,16 +102,20 @@ fn tell_all<J: Device>(
     }
 }
 
-/// Opens a journal: what its strings tell; nothing, where it has none. What stands behind them is cleared, and the journal may be
-/// written to then. A crash at any moment of the call leaves the same strings. Want of memory and E21 come as the calls of the device
-/// and growths fail; E28 where a string is no note, E27 where a note of another version says whose the journal is. Nothing is written
-/// before all strings are taken.
-pub fn open<J: Device>(alloc: Global, journal: &mut Journal<J>) -> Result<Option<Told>, NoteError>
+/// Reads a journal: what its strings tell; nothing, where it has none; and a reader behind them. Nothing is written. Want of memory and
+/// E21 come as growths and calls of the device fail; E28 where a string is no note, E27 where a note of another version says whose the
+/// journal is.
+pub fn read<J: Device>(
+    alloc: Global,
+    journal: &mut Journal<J>,
+) -> Result<(Option<Told>, StringReader), NoteError>
     // After a restart, what is read is what is on the disk.
     requires { Only (J.seen journal.old.device) (J.may_leave journal.old.device) }
-    ensures told { IfOk result (λ found. IsFound found (recorded (J.seen journal.old.device))) }
-    ensures held { OnOk result (IsHeld J.seen J.may_leave journal.new) }
-    ensures strings { OnOk result (recorded (J.seen journal.new.device) ≡ recorded (J.seen journal.old.device)) }
+    ensures told { IfOk result (λ found. IsFound found.0 (recorded (J.seen journal.old.device))) }
+    ensures read { IfOk result (λ found. HasRead found.1 (J.seen journal.new.device)) }
+    ensures none { IfOk result (λ found. is_whole (drop found.1.end (J.seen journal.new.device)) ≡ false) }
+    ensures seen { J.seen journal.new.device ≡ J.seen journal.old.device }
+    ensures durable { Only (J.seen journal.new.device) (J.may_leave journal.new.device) }
     ensures any_moment { LeavesOnly J.moment J.left_since journal.old.device journal.new.device
         (λ c. recorded c ≡ recorded (J.seen journal.old.device)) }
     ensures later { J.failure_count journal.old.device ≤ J.failure_count journal.new.device }
@@ -123,14 +130,35 @@ pub fn open<J: Device>(alloc: Global, journal: &mut Journal<J>) -> Result<Option
         Ok(told) => told,
         Err(error) => return Err(error),
     };
-    match reader.clear(alloc, &mut journal.device) {
-        Ok(()) => {}
-        Err(error) => return Err(note_of_reading(error)),
-    }
-    journal.end = reader.end;
     if reader.end == 0 {
-        Ok(None)
+        Ok((None, reader))
     } else {
-        Ok(Some(told))
+        Ok((Some(told), reader))
+    }
+}
+
+/// Clears what stands behind the strings that were read; the journal may be written to then. A crash at any moment of the call leaves
+/// the same strings. Out of memory, nothing is written; E21 comes where the device fails.
+pub fn clear<J: Device>(
+    alloc: Global,
+    journal: &mut Journal<J>,
+    reader: &StringReader,
+) -> Result<(), NoteError>
+    requires read { HasRead reader.now (J.seen journal.old.device) }
+    requires none { is_whole (drop reader.now.end (J.seen journal.old.device)) ≡ false }
+    requires durable { Only (J.seen journal.old.device) (J.may_leave journal.old.device) }
+    ensures held { OnOk result (IsHeld J.seen J.may_leave journal.new) }
+    ensures strings { OnOk result (recorded (J.seen journal.new.device) ≡ recorded (J.seen journal.old.device)) }
+    ensures no_memory { IsErrOf result NoteError.NoMemory → J.seen journal.new.device ≡ J.seen journal.old.device }
+    ensures any_moment { LeavesOnly J.moment J.left_since journal.old.device journal.new.device
+        (λ c. recorded c ≡ recorded (J.seen journal.old.device)) }
+    ensures later { J.failure_count journal.old.device ≤ J.failure_count journal.new.device }
+    ensures device_failed { IsErrOf result NoteError.DeviceFailed
+        → HasRisen (J.failure_count journal.old.device) (J.failure_count journal.new.device) }
+    ensures errors { IfErr result (λ e. IsOfClearing e) }
+{
+    match journal.clear_behind(alloc, reader) {
+        Ok(()) => Ok(()),
+        Err(error) => Err(note_of_reading(error)),
     }
 }

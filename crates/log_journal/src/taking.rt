@@ -3,8 +3,9 @@ ghost use Rattle.std.specs.Prelude.{◌≡◌, ◌≤◌, ◌<◌, ◌^◌, true
 ghost use Rattle.log_journal.specs.Notes.{Puts, Step};
 ghost use Rattle.log_journal.specs.Refused.{IsOfNoting, IsOfNotingOne};
 ghost use Rattle.log_journal.specs.Steps.{notes_since};
-ghost use Rattle.log_journal.specs.Taken.{Takes, TakesAll};
+ghost use Rattle.log_journal.specs.Taken.{MakesSome, Takes, TakesAll};
 ghost use Rattle.log_journal.specs.private.Light.{HasOctets, brings, is_light};
+ghost use Rattle.vr_state.specs.Step.{step as step_of};
 ghost use Rattle.vr_state.specs.Views.{state};
 
 use crate::alike::count_alike;
@@ -36,6 +37,7 @@ fn take_light(
     ensures taken { IfOk result (λ taken. Takes replica.old.count replica.old.index (state replica.old) event taken (state replica.new) batch.old batch.new) }
     ensures index { replica.new.index ≡ replica.old.index }
     ensures count { replica.new.count ≡ replica.old.count }
+    ensures stepped { OnErr result (state replica.new ≡ (step_of replica.old.count replica.old.index (state replica.old) event).state) }
     ensures errors { IfErr result (λ e. IsOfNotingOne e) }
 {
     let before = Before::of(replica, &event);
@@ -86,6 +88,7 @@ fn take_heavy(
     ensures taken { IfOk result (λ taken. Takes replica.old.count replica.old.index (state replica.old) event taken (state replica.new) batch.old batch.new) }
     ensures index { replica.new.index ≡ replica.old.index }
     ensures count { replica.new.count ≡ replica.old.count }
+    ensures stepped { OnErr result (state replica.new ≡ (step_of replica.old.count replica.old.index (state replica.old) event).state) }
     ensures errors { IfErr result (λ e. IsOfNotingOne e) }
 {
     let before = Before::of(replica, &event);
@@ -119,6 +122,7 @@ pub fn take_event(
     ensures taken { IfOk result (λ taken. Takes replica.old.count replica.old.index (state replica.old) event taken (state replica.new) batch.old batch.new) }
     ensures index { replica.new.index ≡ replica.old.index }
     ensures count { replica.new.count ≡ replica.old.count }
+    ensures stepped { OnErr result (state replica.new ≡ (step_of replica.old.count replica.old.index (state replica.old) event).state) }
     ensures errors { IfErr result (λ e. IsOfNotingOne e) }
 {
     match light_room(replica, &event) {
@@ -138,6 +142,7 @@ pub fn take_events(
     ensures taken { IfOk result (λ taken. TakesAll replica.old.count replica.old.index (state replica.old) events.items taken.items (state replica.new) batch.old batch.new) }
     ensures index { replica.new.index ≡ replica.old.index }
     ensures count { replica.new.count ≡ replica.old.count }
+    ensures stepped { OnErr result (MakesSome replica.old.count replica.old.index (state replica.old) events.items (state replica.new)) }
     ensures errors { IfErr result (λ e. IsOfNoting e) }
     ensures no_memory { IsErrOf result NoteError.NoMemory → (state replica.new ≡ state replica.old) × (batch.new ≡ batch.old) }
 {

@@ -2,6 +2,7 @@ use Rattle.std.proofs.Common.{ℕ, List, subst}
 use Rattle.log_journal.specs.Taken.{TakesAll}
 use Rattle.vr_state.specs.Views.{state}
 use Rattle.log_journal.proofs.Along.{crash_before, crash_within, memory_after}
+use Rattle.log_journal.proofs.SomeSteps.{all_of_them, on_err}
 use Rattle.log_journal.proofs.keeping.keep_events.Goals as goal
 
 pub returns-in-Err-clause-any_moment : goal.returns-in-Err-clause-any_moment
@@ -21,3 +22,8 @@ returns-clause-memory g c = λ t m. memory_after g.J.Device.seen g.J.Device.may_
 
 pub returns-clause-taken : goal.returns-clause-taken
 returns-clause-taken g c = record { notes = c.take_events.new.batch; taken = subst (λ (l : List (List ℕ)). TakesAll c.args.replica.now.count c.args.replica.now.index (state c.args.replica.now) c.args.events.items c.in-Ok.taken.items (state c.take_events.new.replica) l c.take_events.new.batch) c.new-batch.ensures c.in-Ok.ensures.taken }
+
+pub returns-in_err-settle-clause-late : goal.returns-in_err-settle-clause-late
+returns-in_err-settle-clause-late g c =
+    let r = c.args.replica.now in
+    on_err c.from_residual.result (all_of_them r.count r.index (state r) (state c.take_events.new.replica) c.args.events.items c.in-Ok.taken.items c.new-batch.result c.take_events.new.batch c.in-Ok.ensures.taken)
