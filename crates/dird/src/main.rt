@@ -9,14 +9,29 @@ mod words;
 
 use command_line::BUILD;
 use dird_commands::{Ran, Status, SystemFiles, run};
+use server::takes_a_line;
 use serving::serve_as_replica;
-use std::io::{self, BufReader, BufWriter, Write};
+use std::io::{self, BufReader, BufWriter, Eprint, Write};
 use std::process::ExitCode;
 use words::system_words;
 
 /// What a program says first whose proofs were not checked.
 const UNPROVED: &str =
     "unproved build: the same sources, their proofs not checked; ./prove checks them and builds the proved program\n";
+
+/// How long it is waited for that standard error takes what is told at the end, in milliseconds: a program that has ended stays for nobody who doesn't read.
+const FAREWELL: i32 = 1_000;
+
+/// Tells what went wrong, where somebody reads it.
+fn tell<R: Eprint>(rt: &R, faults: &[u8]) -> io::Result<()> {
+    if faults.is_empty() || !takes_a_line(FAREWELL) {
+        return Ok(());
+    }
+    match str::from_utf8(faults) {
+        Ok(text) => rt.eprint(text),
+        Err(_) => Ok(()),
+    }
+}
 
 fn main(rt: HostRuntime) -> io::Result<ExitCode> {
     let alloc = rt.alloc();
@@ -47,8 +62,6 @@ fn main(rt: HostRuntime) -> io::Result<ExitCode> {
     };
     // The run has flushed it and told of it; what an early end left is handed on where it can be.
     let _ = output.flush();
-    if let Ok(text) = str::from_utf8(&faults) {
-        rt.eprint(text)?;
-    }
+    tell(&rt, &faults)?;
     Ok(ExitCode::from(status.code()))
 }

@@ -1,4 +1,4 @@
-//! How items become frames. Streams and queues are not here, nor what an item is.
+//! What makes frames of items.
 use crate::dialing::REFUSAL;
 use bytes::Bytes;
 
@@ -13,6 +13,9 @@ pub trait Framing<T> {
     /// The next frame of that item, where there is one more. An item that can't be made a frame of, or not all of it, is lost, and this is told
     /// by whoever makes the frames.
     fn next_frame(&mut self) -> Option<Bytes>;
+
+    /// The stream has failed that was taking frames: what is left of the item is given up, with the memory that it takes.
+    fn fail(&mut self);
 
     /// The other end is there: it has answered, or it is one that never answers and its stream is open.
     fn heard(&mut self);

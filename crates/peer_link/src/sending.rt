@@ -2,7 +2,7 @@
 use crate::dialing::{Dial, Heard};
 use crate::framing::Framing;
 use crate::outbox::{Outbox, Waited};
-use replica_clock::{Backoff, KeepAlive};
+use replica_clock::{Backoff, KeepAlive, Lack};
 use std::alloc::Global;
 use std::io::{BufWriter, Write};
 use std::sync::Wait;
@@ -67,18 +67,34 @@ fn dial_once<T, F: Framing<T>, D: Dial>(
     None
 }
 
-/// Makes a stream and greets on it, as often as it takes; none where it is stopped meanwhile.
-fn dial_and_greet<R: Wait + Clock, T, F: Framing<T>, D: Dial>(
+/// Forgets what waits. Where it is needed it comes again, as what the network loses.
+fn forget_waiting<R: Wait, T: Drop>(rt: &R, outbox: &Outbox<T>) {
+    for _ in rt.forever() {
+        let Some(_old) = outbox.take_waiting(rt) else {
+            break;
+        };
+    }
+}
+
+/// Makes a stream and greets on it, as often as it takes; none where it is stopped meanwhile. What waits for longer than the other end may be silent isn't
+/// sent first once there is a stream again: it is forgotten.
+fn dial_and_greet<R: Wait + Clock, T: Drop, F: Framing<T>, D: Dial>(
     rt: &R,
     alloc: Global,
     outbox: &Outbox<T>,
     framing: &mut F,
     dialer: &mut D,
+    silence: Duration,
 ) -> Option<BufWriter<D::Stream>> {
+    let began = Instant::now(rt).ok();
     let mut backoff = Backoff::new();
+    let mut lack = Lack::new(micros(silence));
     for _ in rt.forever() {
         if let Some(stream) = dial_once(alloc, framing, dialer) {
             return Some(stream);
+        }
+        if lack.look(true, moment(rt, began)) {
+            forget_waiting(rt, outbox);
         }
         if outbox.rest(rt, Duration::from_millis(backoff.rest())) {
             break;
@@ -200,6 +216,7 @@ fn sent<R: Wait, T, F: Framing<T>, W: Write + Drop>(
     if write_waiting(rt, outbox, framing, &mut stream, item) {
         return Some(stream);
     }
+    framing.fail();
     give_up(stream);
     None
 }
@@ -207,7 +224,8 @@ fn sent<R: Wait, T, F: Framing<T>, W: Write + Drop>(
 /// Sends what waits in a queue, item by item in the order of the queue, over a stream that is made again whenever it fails, or its other end has
 /// closed it or is silent for too long, until the queue is stopped. A stream is made before there is an item, and a greeting is first on each. Frames are
 /// made here, once there is a stream for them, and outside the queue's lock; those of items that wait together go out together. An item whose stream
-/// fails is lost, whole or in part, with those that were to go out with it, and so is the stream.
+/// fails is lost, whole or in part, with those that were to go out with it, and so is the stream. So is what waits while no stream can be made for longer
+/// than the other end may be silent.
 pub fn send_all<R: Wait + Clock, T: Drop, F: Framing<T>, D: Dial>(
     rt: &R,
     alloc: Global,
@@ -218,7 +236,7 @@ pub fn send_all<R: Wait + Clock, T: Drop, F: Framing<T>, D: Dial>(
 ) {
     let began = Instant::now(rt).ok();
     let mut keep_alive = KeepAlive::new(micros(times.beat), micros(times.silence));
-    let mut stream = dial_and_greet(rt, alloc, outbox, framing, dialer);
+    let mut stream = dial_and_greet(rt, alloc, outbox, framing, dialer, times.silence);
     keep_alive.begin(moment(rt, began));
     // A new stream is looked at before the first item goes out on it: its other end may have turned it away.
     let mut is_new = true;
@@ -234,7 +252,7 @@ pub fn send_all<R: Wait + Clock, T: Drop, F: Framing<T>, D: Dial>(
             stream = still_open(framing, dialer, &mut keep_alive, stream, now);
         }
         if stream.is_none() {
-            stream = dial_and_greet(rt, alloc, outbox, framing, dialer);
+            stream = dial_and_greet(rt, alloc, outbox, framing, dialer, times.silence);
             keep_alive.begin(moment(rt, began));
             is_new = true;
         } else if is_first {

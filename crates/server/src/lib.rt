@@ -15,5 +15,5 @@ mod ticking;
 
 pub use node_gate::{Cluster, NodeConfig};
 pub use options::{Options, Times};
-pub use server_threads::{Address, Build, Limits, Logs, Place, ServerError, Terms};
+pub use server_threads::{Address, Build, Limits, Logs, Place, ServerError, Terms, takes_a_line};
 pub use serving::serve;

@@ -1,5 +1,5 @@
-//! Messages become frames, in the thread that sends them and outside every lock. A message to a replica that reads notes leaves out what that
-//! replica has said that it has committed. Queues and streams are not here.
+//! Makes frames of messages, in the thread that sends them and outside every lock. A message to a replica that reads notes leaves out what that
+//! replica has said that it has committed.
 use crate::counters::Counters;
 use crate::links::Links;
 use crate::progress::PeerProgress;
@@ -15,6 +15,7 @@ use std::alloc::{AllocError, Global};
 use std::sync::Wait;
 use std::sync::atomic::{AtomicBool, Ordering};
 use vr_short::{note, noted};
+use vr_state::words::LogEntry;
 
 /// How many octets of a long message a part has: few enough that each part is a sign of life in time, also where a stream takes no more than a
 /// mebibyte within the shortest time after which a replica is suspected.
@@ -22,6 +23,35 @@ const PART: usize = 1_048_576;
 
 /// So many parts of a message may wait in the systems of both ends, for a replica that reads nothing: that they were written is no sign of its life.
 const UNREAD: u64 = 16;
+
+/// An answer of so many octets is sent to one replica at a time, so that no more than one copy of the log is made, however many replicas ask for it.
+const LONG: usize = 16_777_216;
+
+/// The records that an answer tells: one that a replica has asked for, and asks for again where it doesn't come.
+fn answer_in(message: &PeerMessage<Op>) -> Option<&[LogEntry<Op>]> {
+    match message {
+        PeerMessage::NewState { tail, .. } => Some(tail.log.as_slice()),
+        PeerMessage::RecoveryResponse { response, .. } => match &response.held {
+            Some(held) => Some(held.log.as_slice()),
+            None => None,
+        },
+        _ => None,
+    }
+}
+
+/// Whether records have so many octets together. No more of them are looked at than have as many.
+fn are_long(records: &[LogEntry<Op>], octets: usize) -> bool {
+    let mut count: usize = 0;
+    for record in records {
+        if count >= octets {
+            break;
+        }
+        if let Some(payload) = record.payload.octets() {
+            count = count.saturating_add(payload.len());
+        }
+    }
+    count >= octets
+}
 
 /// Makes the frames of messages to one replica: one of each message that fits in one, else its parts. A message that can't be made frames of is told of.
 pub struct MessageFrames<'a, R> {
@@ -103,10 +133,17 @@ impl<'a, R> MessageFrames<'a, R> {
 }
 
 impl<'a, R: Wait> MessageFrames<'a, R> {
-    /// Nothing more comes of a message, for this reason.
-    fn lose(&mut self, error: WireError) {
+    /// Nothing more is sent of a message: what was made of it takes no memory any more.
+    fn end(&mut self) {
         self.frames = None;
         self.noted = None;
+        self.progress.begin::<R, Op>(self.rt, self.to, None);
+        self.progress.end_answer(self.rt, self.to);
+    }
+
+    /// Nothing more comes of a message, for this reason.
+    fn lose(&mut self, error: WireError) {
+        self.end();
         tell_lost(self.rt, self.alloc, self.reporter, self.to, error);
     }
 
@@ -128,6 +165,16 @@ impl<'a, R: Wait> MessageFrames<'a, R> {
             part_size: PART,
         };
         Frames::of(alloc, cluster, sender, self.number, sizes, message)
+    }
+
+    /// Whether a message is to wait for another: it is a long answer, and one is being sent to another replica. Who asked asks again.
+    fn waits(&self, message: &PeerMessage<Op>) -> bool {
+        match answer_in(message) {
+            Some(records) => {
+                are_long(records, LONG) && !self.progress.begin_answer(self.rt, self.to)
+            }
+            None => false,
+        }
     }
 
     /// Makes ready the frames of the next message, and the note before them.
@@ -176,9 +223,13 @@ impl<'a, R: Wait> Framing<PeerMessage<Op>> for MessageFrames<'a, R> {
     }
 
     fn begin(&mut self, message: PeerMessage<Op>) {
+        self.end();
+        if self.waits(&message) {
+            return;
+        }
         self.number = self.number.wrapping_add(1);
         self.counters.send(self.to as u64);
-        self.progress.begin(self.to, Some(&message));
+        self.progress.begin(self.rt, self.to, Some(&message));
         self.handed = 0;
         if let Err(error) = self.make(message) {
             self.lose(error);
@@ -189,7 +240,7 @@ impl<'a, R: Wait> Framing<PeerMessage<Op>> for MessageFrames<'a, R> {
         let octets = match self.next_octets() {
             Ok(Some(octets)) => octets,
             Ok(None) => {
-                self.progress.begin::<Op>(self.to, None);
+                self.end();
                 return None;
             }
             Err(error) => {
@@ -204,6 +255,10 @@ impl<'a, R: Wait> Framing<PeerMessage<Op>> for MessageFrames<'a, R> {
                 None
             }
         }
+    }
+
+    fn fail(&mut self) {
+        self.end();
     }
 
     fn heard(&mut self) {

@@ -54,7 +54,7 @@ pub use peer_link::{Address, LinkTimes};
 pub use places::Place;
 pub use replica_clock::Lack;
 pub use replica_greeting::{Claim, Terms};
-pub use reporter::{NoteWriter, Reporter, StandardError};
+pub use reporter::{NoteWriter, Reporter, StandardError, takes_a_line};
 pub use resident::{GROUP_MEMORY, MACHINE_MEMORY, PROCESS_STATUS, available_octets};
 pub use serving::Server;
 pub use session_pool::{Config, Limits, NoReads, limit_of};

@@ -5,6 +5,39 @@ use std::alloc::{AllocError, Global};
 use std::sync::atomic::{AtomicU64, Ordering};
 use std::sync::{Mutex, Wait};
 
+/// A long message on its way to a replica, by what its sender would make it again for.
+#[derive(Clone, Copy, PartialEq, Eq)]
+enum Errand {
+    /// A DOVIEWCHANGE of this view.
+    Change { view_number: u64 },
+    /// A log for a replica that recovers, and asked with this nonce.
+    Recovery { nonce: u64 },
+    /// The records of this view behind so many.
+    State { view_number: u64, base: u64 },
+}
+
+/// What a message is sent for, where it would be made again for the same.
+fn errand_of<P>(message: &PeerMessage<P>) -> Option<Errand> {
+    match message {
+        PeerMessage::DoViewChange { view_number, .. } => Some(Errand::Change {
+            view_number: *view_number,
+        }),
+        PeerMessage::RecoveryResponse { nonce, response } => match &response.held {
+            Some(_) => Some(Errand::Recovery { nonce: *nonce }),
+            None => None,
+        },
+        PeerMessage::NewState {
+            view_number,
+            base,
+            ..
+        } => Some(Errand::State {
+            view_number: *view_number,
+            base: *base,
+        }),
+        _ => None,
+    }
+}
+
 /// What is known of one replica.
 #[derive(Drop)]
 struct Progress {
@@ -12,8 +45,8 @@ struct Progress {
     said: AtomicU64,
     /// How many parts of long messages it has taken.
     taken: AtomicU64,
-    /// 0, or one more than the view of the DOVIEWCHANGE that is being sent to it.
-    changing: AtomicU64,
+    /// What the message is for that is being sent to it.
+    errand: Mutex<Option<Errand>>,
     /// Which of its DOVIEWCHANGEs are handed on.
     repeats: Mutex<Repeats>,
 }
@@ -23,7 +56,7 @@ impl Progress {
         Progress {
             said: AtomicU64::new(0),
             taken: AtomicU64::new(0),
-            changing: AtomicU64::new(0),
+            errand: Mutex::new(None),
             repeats: Mutex::new(Repeats::new()),
         }
     }
@@ -34,6 +67,8 @@ impl Progress {
 pub struct PeerProgress {
     replicas: Vec<Progress>,
     committed: AtomicU64,
+    /// To which replica a long answer is being sent, if to any.
+    answered: Mutex<Option<usize>>,
 }
 
 /// How many records a message says that its sender has committed, if it says so.
@@ -62,6 +97,7 @@ impl PeerProgress {
         Ok(PeerProgress {
             replicas,
             committed: AtomicU64::new(0),
+            answered: Mutex::new(None),
         })
     }
 
@@ -149,25 +185,45 @@ impl PeerProgress {
     }
 
     /// This message is being sent to the replica, or none is any more.
-    pub fn begin<P>(&self, to: usize, message: Option<&PeerMessage<P>>) {
+    pub fn begin<R: Wait, P>(&self, rt: &R, to: usize, message: Option<&PeerMessage<P>>) {
         if let Some(progress) = self.replicas.get(to) {
-            let word = match message {
-                Some(PeerMessage::DoViewChange { view_number, .. }) => view_number.saturating_add(
-                    1,
-                ),
-                _ => 0,
+            let errand = match message {
+                Some(message) => errand_of(message),
+                None => None,
             };
-            progress.changing.store(word, Ordering::SeqCst);
+            *progress.errand.lock(rt) = errand;
         }
     }
 
-    /// Whether the DOVIEWCHANGE of this view is being sent to the replica.
-    pub fn is_sending<P>(&self, to: u64, message: &PeerMessage<P>) -> bool {
-        match (self.replicas.get(to as usize), message) {
-            (Some(progress), PeerMessage::DoViewChange { view_number, .. }) => {
-                progress.changing.load(Ordering::SeqCst) == view_number.saturating_add(1)
+    /// Whether a message is being sent to the replica for the same as this one.
+    pub fn is_sending<R: Wait, P>(&self, rt: &R, to: u64, message: &PeerMessage<P>) -> bool {
+        match (self.replicas.get(to as usize), errand_of(message)) {
+            (Some(progress), Some(errand)) => {
+                let sending = *progress.errand.lock(rt);
+                sending == Some(errand)
             }
             _ => false,
+        }
+    }
+
+    /// Whether a long answer may be sent to the replica: none is being sent to another. If so, one is.
+    pub fn begin_answer<R: Wait>(&self, rt: &R, to: usize) -> bool {
+        let mut answered = self.answered.lock(rt);
+        let is_free = match *answered {
+            None => true,
+            Some(other) => other == to,
+        };
+        if is_free {
+            *answered = Some(to);
+        }
+        is_free
+    }
+
+    /// No long answer is being sent to the replica any more.
+    pub fn end_answer<R: Wait>(&self, rt: &R, to: usize) {
+        let mut answered = self.answered.lock(rt);
+        if *answered == Some(to) {
+            *answered = None;
         }
     }
 }

@@ -1,8 +1,10 @@
-//! What a server says on standard error, a line an event: lines wait in a queue with a limit, and one thread writes them. Nobody else ever waits for
-//! whoever reads them. What the lines say is not here.
+//! Writes what a server says on standard error, a line an event: lines wait in a queue with a limit, and one thread writes them. Nobody else ever waits for
+//! whoever reads them, and that thread waits for nobody once the server ends.
 use crate::lines::Lines;
 use crate::notes::Note;
 use jiff::Timestamp;
+use libc::net::{POLLOUT, poll};
+use libc::types::pollfd;
 use std::alloc::{AllocError, Global};
 use std::io::Eprint;
 use std::sync::{Condvar, CondvarTimeouts, Mutex, Wait};
@@ -12,8 +14,20 @@ use std::time::{Clock, Duration};
 /// are written once, with their number.
 const REST: u64 = 200;
 
+/// How long it is waited for that standard error takes a line, in milliseconds, before it is looked whether the server ends.
+const WAIT: i32 = 200;
+
+/// How often that is done in vain, once nothing more is said, before what waits is lost: a second, after which the process ends all the same.
+const FAREWELLS: u32 = 5;
+
+/// The descriptor of standard error.
+const STANDARD_ERROR: i32 = 2;
+
 /// Where notes are written.
 pub trait NoteWriter {
+    /// Waits a little until a note can be written without waiting; whether one can.
+    fn is_ready(&mut self) -> bool;
+
     /// Writes one note as a line, however long that takes. One that can't be written is lost.
     fn write_note(&mut self, note: &Note);
 }
@@ -24,7 +38,22 @@ pub struct StandardError<'a, R> {
     pub rt: &'a R,
 }
 
+/// Whether standard error takes a line within so many milliseconds without waiting. One that was closed does: a write fails then, and waits for
+/// nobody.
+pub fn takes_a_line(millis: i32) -> bool {
+    let mut asked = [pollfd {
+        fd: STANDARD_ERROR,
+        events: POLLOUT,
+        revents: 0,
+    }];
+    0 < poll(&mut asked, millis)
+}
+
 impl<'a, R: Eprint + Clock> NoteWriter for StandardError<'a, R> {
+    fn is_ready(&mut self) -> bool {
+        takes_a_line(WAIT)
+    }
+
     fn write_note(&mut self, note: &Note) {
         let _ = match Timestamp::now(self.rt) {
             Ok(now) => eprintln!(self.rt; "{now:.3} {note}"),
@@ -107,24 +136,37 @@ impl Reporter {
             .wait_timeout_while(rt, self.held.lock(rt), time, |held| !held.is_stopping);
     }
 
-    /// Writes so many notes, or all, where there are fewer.
-    fn write_some<R: Wait, W: NoteWriter>(&self, rt: &R, writer: &mut W, count: usize) {
+    /// Whether nothing more is said.
+    fn is_stopping<R: Wait>(&self, rt: &R) -> bool {
+        self.held.lock(rt).is_stopping
+    }
+
+    /// Writes so many notes, or all, where there are fewer; whether none had to wait for whoever reads them.
+    fn write_some<R: Wait, W: NoteWriter>(&self, rt: &R, writer: &mut W, count: usize) -> bool {
         'each: for _ in 0..count {
+            if !writer.is_ready() {
+                return false;
+            }
             let Some(note) = self.take(rt) else {
                 break;
             };
             writer.write_note(&note);
         }
+        true
     }
 
-    /// Writes what is said, until it is stopped and all of it is written. A writer that waits makes nobody wait but this thread.
+    /// Writes what is said, until it is stopped and all of it is written, or nobody has read for a second after that. Nobody waits for whoever reads but
+    /// this thread.
     pub fn write_all<R: Wait + Clock, W: NoteWriter>(&self, rt: &R, writer: &mut W) {
+        let mut farewells: u32 = 0;
         for _ in rt.forever() {
             let count = self.wait_for_notes(rt);
-            if count == 0 {
+            if count == 0 || farewells >= FAREWELLS {
                 break;
             }
-            self.write_some(rt, writer, count);
+            if !self.write_some(rt, writer, count) && self.is_stopping(rt) {
+                farewells += 1;
+            }
             self.rest(rt);
         }
     }

@@ -50,6 +50,15 @@ pub enum What {
         machine: usize,
         life: u64,
     },
+    /// The network forgets all streams, or those of one replica.
+    Forget {
+        whom: usize,
+    },
+    /// The sender of a stream takes it for dead, if it is still the link's.
+    Gone {
+        link: usize,
+        stream: u64,
+    },
     /// The slow time of the network ends.
     Calm {
         turn: u64,

@@ -5,11 +5,14 @@ use crate::mark::Mark;
 use crate::setting::Kind;
 use crate::timer::{BEAT, SUSPECT, Timer};
 use crate::world::World;
-use replica_clock::{Progress, Steps, Times};
+use replica_clock::{KeepAlive, Progress, Steps, Times};
 use std::alloc::AllocError;
 use vr_recover::recover;
 use vr_state::message::{Change, PeerMessage, Send};
 use vr_state::replica::Replica;
+
+/// After how long the system gives up a stream whose other end answers nothing.
+const SYSTEM: u64 = 939_000_000;
 
 impl World {
     /// The next fault happens, and the one after it is put down.
@@ -171,6 +174,61 @@ impl World {
         }
         self.agenda
             .put(self.now, What::Again { machine: at, life })
+    }
+
+    /// The network forgets all streams, or those of one replica.
+    pub fn on_forget(&mut self, whom: usize) -> Result<(), AllocError> {
+        let count = self.machines.len();
+        if self.is_healed || !self.plan.is_ordered {
+            return Ok(());
+        }
+        if self.setting.traces {
+            let text = format!(in self.alloc; "the network forgets the streams of {whom} ({count}: of all)")?;
+            self.tell(&text)?;
+        }
+        for from in 0..count {
+            for to in 0..count {
+                if from != to && (whom == count || whom == from || whom == to) {
+                    let link = self.link(from, to);
+                    let stream = self.links[link].stream;
+                    self.links[link].forgotten = Some(stream);
+                    let time = self.gone_at(from);
+                    self.agenda.put(time, What::Gone { link, stream })?;
+                }
+            }
+        }
+        Ok(())
+    }
+
+    /// When a replica takes a stream for dead whose other end answers nothing from now on: by the rule of the program, or, where it never asks, when the system
+    /// gives up.
+    fn gone_at(&self, from: usize) -> u64 {
+        if self.setting.never_asks {
+            return self.now + SYSTEM;
+        }
+        let machine = &self.machines[from];
+        let mut moment = machine.local(self.now);
+        let mut keep_alive = KeepAlive::new(BEAT, SUSPECT);
+        keep_alive.begin(moment);
+        keep_alive.hear();
+        for _ in 0..100 {
+            moment += BEAT;
+            if keep_alive.is_gone(moment) {
+                break;
+            }
+            keep_alive.ask(moment);
+        }
+        machine.time_of(moment).max(self.now + 1)
+    }
+
+    /// The sender of a stream takes it for dead, and makes another one.
+    pub fn on_gone(&mut self, link: usize, stream: u64) -> Result<(), AllocError> {
+        if self.links[link].stream != stream {
+            return Ok(());
+        }
+        self.links[link].renew();
+        let until = self.now + self.dialing();
+        self.close(link, until)
     }
 
     /// A replica whose disk hangs sends its last beat again, for as long as it does so.

@@ -76,6 +76,8 @@ pub struct Link {
     /// When the last message of an ordered link arrives.
     pub last: u64,
     pub stream: u64,
+    /// The stream of which nothing passes any more, though it isn't closed.
+    pub forgotten: Option<u64>,
     /// The view of the DOVIEWCHANGE that is being sent, and until when.
     pub changing: (u64, u64),
 }
@@ -88,6 +90,7 @@ impl Link {
             waiting: VecDeque::new(alloc),
             last: 0,
             stream: 0,
+            forgotten: None,
             changing: (0, 0),
         }
     }
@@ -97,6 +100,11 @@ impl Link {
         self.stream += 1;
         self.last = 0;
         self.changing = (0, 0);
+    }
+
+    /// Whether what is under way on this stream of the link is lost.
+    pub fn loses(&self, stream: u64) -> bool {
+        stream != self.stream || self.forgotten == Some(stream)
     }
 
     pub fn hold(&mut self, message: PeerMessage<Mark>) -> Result<(), AllocError> {

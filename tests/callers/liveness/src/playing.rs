@@ -1,7 +1,7 @@
 //! Plays one seed after another, and tells what came of them.
 
 use crate::judging::Wrong;
-use crate::setting::{HANGS, LONG};
+use crate::setting::{FORGETS, HANGS, LONG};
 use crate::words::Wish;
 use crate::world::World;
 use std::io;
@@ -49,6 +49,7 @@ pub fn play(rt: &HostRuntime, wish: &Wish) -> io::Result<bool> {
     if wish.checks_itself {
         check_itself(rt, wish, &mut tally)?;
         check_hangs(rt, wish, &mut tally)?;
+        check_forgets(rt, wish, &mut tally)?;
         check_long(rt, wish, &mut tally)?;
     }
     for seed in wish.first..wish.first + wish.seeds {
@@ -116,6 +117,26 @@ fn check_hangs(rt: &HostRuntime, wish: &Wish, tally: &mut Tally) -> io::Result<(
         }
     }
     println!(rt; "with beats for ever no seed fails")?;
+    tally.failed += 1;
+    Ok(())
+}
+
+/// Plays streams that a network forgets, of which nobody asks whether their other end is there, until a seed fails, which has to come.
+fn check_forgets(rt: &HostRuntime, wish: &Wish, tally: &mut Tally) -> io::Result<()> {
+    let mut setting = wish.setting;
+    setting.never_asks = true;
+    setting.kinds = FORGETS;
+    for seed in 1..=20 {
+        let mut world = World::new(rt.alloc(), setting, seed)?;
+        world.run()?;
+        let wrong = world.wrong();
+        if wrong != Wrong::Nothing {
+            println!(rt; "with streams unasked seed {seed} fails, as it has to: {wrong:?}")?;
+            tally.passed += 1;
+            return Ok(());
+        }
+    }
+    println!(rt; "with streams unasked no seed fails")?;
     tally.failed += 1;
     Ok(())
 }

@@ -13,6 +13,8 @@ pub struct Setting {
     pub beats_on: bool,
     /// Whether nobody takes it for a sign of life that a part of its long message was taken.
     pub is_unheeding: bool,
+    /// Whether nobody asks whether the other end of a stream is there.
+    pub never_asks: bool,
     /// Whether a replica that recovers for long asks for a view change.
     pub mends: bool,
     pub traces: bool,
@@ -50,13 +52,16 @@ pub const JOURNALS: u64 = 1 << 11;
 /// Disks of some replicas hang, for good.
 pub const HANGS: u64 = 1 << 12;
 
-pub const ALL: u64 = (1 << 13) - 1;
-
 /// Logs are long: a message with one takes ten suspect periods. Not among all, since each view change takes longer than the usual bound.
 pub const LONG: u64 = 1 << 13;
 
+/// Streams are forgotten by a network that closes none of them: nothing passes any more, but new ones do.
+pub const FORGETS: u64 = 1 << 14;
+
+pub const ALL: u64 = ((1 << 13) - 1) | FORGETS;
+
 /// The names of the bits, in their order.
-pub const NAMES: [&str; 14] = [
+pub const NAMES: [&str; 15] = [
     "quick-crash",
     "slow-crash",
     "store-crash",
@@ -71,6 +76,7 @@ pub const NAMES: [&str; 14] = [
     "journals",
     "hangs",
     "long",
+    "forgets",
 ];
 
 const KINDS: [Kind; 8] = [

@@ -6,7 +6,7 @@ use crate::clients::Caller;
 use crate::links::{Flight, Flights, Link};
 use crate::machine::Machine;
 use crate::mark::Mark;
-use crate::setting::{HANGS, JOURNALS, LONG, Plan, Setting};
+use crate::setting::{FORGETS, HANGS, JOURNALS, LONG, Plan, Setting};
 use crate::timer::{SUSPECT, Timer};
 use replica_clock::{Due, Sign, sign_of};
 use std::alloc::{AllocError, Global};
@@ -90,6 +90,7 @@ impl World {
         world.agenda.put(setting.faults_time, What::Heal)?;
         world.give_journals()?;
         world.give_hangs(seed)?;
+        world.give_forgets(seed)?;
         Ok(world)
     }
 
@@ -194,6 +195,20 @@ impl World {
         Ok(())
     }
 
+    /// In a third of the runs the network forgets streams, up to three times. What says when stands by itself, as above.
+    fn give_forgets(&mut self, seed: u64) -> Result<(), AllocError> {
+        let mut forgets = Chance::new(seed ^ 0x666f_7267_6574_7321);
+        if self.setting.kinds & FORGETS == 0 || self.setting.kinds != FORGETS && forgets.hits(667) {
+            return Ok(());
+        }
+        for _ in 0..forgets.between(1, 3) {
+            let time = forgets.below(self.setting.faults_time);
+            let whom = forgets.below(self.plan.count as u64 + 1) as usize;
+            self.agenda.put(time, What::Forget { whom })?;
+        }
+        Ok(())
+    }
+
     fn add_caller(&mut self, client: usize) -> Result<(), AllocError> {
         let thinks = self.chance.spread(4_000_000, 120_000_000);
         self.callers.push(Caller {
@@ -249,6 +264,8 @@ impl World {
             What::PowerCut => self.on_power_cut(),
             What::Hang => self.on_hang(),
             What::Again { machine, life } => self.on_again(machine, life),
+            What::Forget { whom } => self.on_forget(whom),
+            What::Gone { link, stream } => self.on_gone(link, stream),
             What::Calm { turn } => {
                 if turn == self.slow_turn {
                     self.slow_delay = 0;
@@ -388,7 +405,7 @@ impl World {
         };
         let (from, to) = (flight.from, flight.to);
         let link = self.link(from, to);
-        let is_lost = self.plan.is_ordered && flight.stream != self.links[link].stream;
+        let is_lost = self.plan.is_ordered && self.links[link].loses(flight.stream);
         if flight.long_until != arrival || is_lost {
             return Ok(());
         }
@@ -427,8 +444,8 @@ impl World {
         };
         let to = flight.to;
         let from = flight.from as u64;
-        let stream = self.links.as_slice()[flight.from * self.plan.count + to].stream;
-        let is_lost = self.plan.is_ordered && flight.stream != stream;
+        let link = &self.links.as_slice()[flight.from * self.plan.count + to];
+        let is_lost = self.plan.is_ordered && link.loses(flight.stream);
         let machine = &mut self.machines.as_mut_slice()[to];
         if !is_lost && self.now < machine.busy_until {
             let until = machine.busy_until;

@@ -42,6 +42,8 @@ impl Framing<Bytes> for AsTheyAre {
         self.next.take()
     }
 
+    fn fail(&mut self) {}
+
     fn heard(&mut self) {}
 
     fn refused(&mut self, _why: [u8; REFUSAL]) {}
@@ -274,6 +276,8 @@ impl<'a, R: Wait> Framing<u8> for InTwo<'a, R> {
         Bytes::from_vec(vec![in self.alloc; first?].ok()?).ok()
     }
 
+    fn fail(&mut self) {}
+
     fn heard(&mut self) {}
 
     fn refused(&mut self, _why: [u8; REFUSAL]) {}
@@ -310,5 +314,70 @@ fn items_that_wait_go_out_in_one_write_outside_the_lock(rt: HostRuntime) -> Resu
     );
     assert!(rt; has_come);
     assert!(rt; written.lock(&rt).as_slice() == &[200u8, 255, 1, 101, 2, 102, 3, 103, 9, 109, 255][..]);
+    Ok(())
+}
+
+/// Makes no stream at first; then one, once 3 was put into the queue.
+#[derive(Drop)]
+struct LateDialer<'a, R> {
+    paper: PaperDialer<'a, R>,
+    outbox: &'a Outbox<u8>,
+    was_asked: bool,
+}
+
+impl<'a, R: Wait> Dial for LateDialer<'a, R> {
+    type Stream = Paper<'a, R>;
+
+    fn dial(&mut self) -> Option<Paper<'a, R>> {
+        if !self.was_asked {
+            self.was_asked = true;
+            return None;
+        }
+        self.outbox.put(self.paper.rt, 3, 1);
+        self.paper.dial()
+    }
+
+    fn hear(&mut self, _stream: &Paper<'a, R>) -> Heard {
+        Heard::Nothing
+    }
+}
+
+#[test]
+fn what_waits_too_long_for_a_stream_is_forgotten(rt: HostRuntime) -> Result<(), Fail> {
+    let outbox = Outbox::new(rt.alloc(), 8, 1000)?;
+    let written = Mutex::new(Vec::new(rt.alloc()));
+    let whole = Signal::new();
+    for number in [4u8, 5] {
+        outbox.put(&rt, number, 1);
+    }
+    let at_once = LinkTimes {
+        beat: Duration::from_millis(100),
+        silence: Duration::from_millis(0),
+    };
+    let (has_come, ()) = thread::join(
+        &rt,
+        || and_stop(&rt, &outbox, whole.wait(&rt, Duration::from_secs(20))),
+        || {
+            let mut dialer = LateDialer {
+                paper: PaperDialer {
+                    rt: &rt,
+                    written: &written,
+                    whole: &whole,
+                    last: 103,
+                },
+                outbox: &outbox,
+                was_asked: false,
+            };
+            let mut frames = InTwo {
+                rt: &rt,
+                alloc: rt.alloc(),
+                outbox: &outbox,
+                left: [None, None],
+            };
+            send_all(&rt, rt.alloc(), &outbox, &mut frames, &mut dialer, at_once);
+        },
+    );
+    assert!(rt; has_come);
+    assert!(rt; written.lock(&rt).as_slice() == &[200u8, 255, 3, 103, 255][..]);
     Ok(())
 }

@@ -39,7 +39,7 @@ const WRONG: [&str; 7] = [
 ];
 
 /// What replica 1 says of its start, and what replica 0 does.
-pub const CLAIM: Claim = Claim {
+const CLAIM: Claim = Claim {
     start: 1,
     mark: 5,
     remembers: true,

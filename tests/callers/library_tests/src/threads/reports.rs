@@ -31,6 +31,10 @@ struct Blocked<'a, R> {
 }
 
 impl<'a, R: Wait + Clock> NoteWriter for Blocked<'a, R> {
+    fn is_ready(&mut self) -> bool {
+        true
+    }
+
     fn write_note(&mut self, note: &Note) {
         self.entered.give(self.rt);
         let _is_free = self.free.wait(self.rt, Duration::from_secs(30));
@@ -38,6 +42,36 @@ impl<'a, R: Wait + Clock> NoteWriter for Blocked<'a, R> {
             let _ = self.written.lock(self.rt).push(line);
         }
     }
+}
+
+/// Stands for a reader that reads nothing any more: no line can be written without waiting.
+#[derive(Drop)]
+struct Unread<'a, R> {
+    rt: &'a R,
+    looks: u64,
+}
+
+impl<'a, R: Wait + Clock> NoteWriter for Unread<'a, R> {
+    fn is_ready(&mut self) -> bool {
+        self.looks += 1;
+        thread::sleep(self.rt, Duration::from_millis(1));
+        false
+    }
+
+    fn write_note(&mut self, _note: &Note) {
+        self.looks = 1_000_000;
+    }
+}
+
+#[test]
+fn a_server_that_ends_waits_for_no_reader(rt: HostRuntime) -> Result<(), Fail> {
+    let reporter = Reporter::new(rt.alloc(), 128)?;
+    reporter.say(&rt, format!(in rt.alloc(); "a"));
+    reporter.stop(&rt);
+    let mut writer = Unread { rt: &rt, looks: 0 };
+    reporter.write_all(&rt, &mut writer);
+    assert!(rt; writer.looks < 100);
+    Ok(())
 }
 
 /// Says one line, and when that is being written 312 equal ones, 200 different ones, and one that there is no memory for; then lets the writer go.
