@@ -1,1 +1,3 @@
+pub mod Owed
+pub mod Taken
 pub mod Watched

@@ -1,8 +1,7 @@
 -- While seats rest, one leads or is called: so it stays, whatever threads do.
 use Rattle.std.proofs.Common.{◌≡◌, ℕ, ◌+◌, ◌==◌, ◌||◌, Bool, true, false, cond, not, nat_le, min, List, [], ◌∷◌, refl, arith, sym, ◌∙◌}
-use Rattle.session_turns.specs.declared.resting.Was.{Was}
 use Rattle.session_turns.specs.declared.resting.Act.TheVariants.{Serve, Lead as Leads, Rest}
-use Rattle.session_turns.specs.Resting.{LeadValue, IsWatched, begun, called, calls_after, more, laid_down, left, chosen, does, is_wanted, freed, Event, begins, ends, lines_up, is_free, then, then_all, empty, WhoRestsIsWatched}
+use Rattle.session_turns.specs.Resting.{LeadValue, IsWatched, begun, called, calls_after, more, laid_down, left, chosen, does, is_wanted, Event, begins, ends, lines_up, is_free, then, then_all, empty, WhoRestsIsWatched}
 
 apart : true ≡ false → ⊥
 apart e = cc

@@ -1,2 +1,5 @@
 pub mod Following
+pub mod Owing
 pub mod Resting
+pub mod Turning
+pub mod private
