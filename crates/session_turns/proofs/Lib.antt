@@ -1,3 +1,4 @@
 pub mod Owed
+pub mod Standing
 pub mod Taken
 pub mod Watched

@@ -1,5 +1,6 @@
 pub mod Following
 pub mod Owing
+pub mod Places
 pub mod Resting
 pub mod Turning
 pub mod private

@@ -68,7 +68,7 @@ impl Turns {
     }
 
     /// Takes the session whose turn it is; none, where nobody waits.
-    pub fn take(&mut self) -> Option<usize>
+    pub fn take_next(&mut self) -> Option<usize>
         ensures next { result ≡ next_place self.old }
         ensures taken { self.new ≡ taken self.old }
         ensures none { IfNone result (how_many self.old ≡ 0) }

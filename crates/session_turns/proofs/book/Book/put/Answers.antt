@@ -1,10 +1,10 @@
 use Rattle.std.proofs.Common.{rules}
 use Rattle.std.proofs.lemmas.Option.{slice_get_within}
-use Rattle.session_table.specs.private.Listed.{place_at}
-use Rattle.session_table.specs.Places.{IsAway}
-use Rattle.session_table.specs.declared.spot.Spot.TheVariants.{Away}
-use Rattle.session_table.proofs.Standing.{all_put, all_same, has_put}
-use Rattle.session_table.proofs.book.Book.put.Goals as goal
+use Rattle.session_turns.specs.private.Listed.{place_at}
+use Rattle.session_turns.specs.Places.{IsAway}
+use Rattle.session_turns.specs.declared.spot.Spot.TheVariants.{Away}
+use Rattle.session_turns.proofs.Standing.{all_put, all_same, has_put}
+use Rattle.session_turns.proofs.book.Book.put.Goals as goal
 
 pub invariant_of-self : goal.invariant_of-self
 invariant_of-self c =

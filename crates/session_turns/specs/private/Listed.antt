@@ -2,11 +2,11 @@
 use Rattle.std.specs.Prelude.{◌≡◌, ℕ, ◌<◌, ◌≤◌, List, Bool, true, false, Option, Some}
 use Rattle.std.specs.BTreeMap.{get}
 use Rattle.std.specs.Ordering.{nat_cmp}
-use Rattle.session_table.specs.Places.{IsIn}
-use Rattle.session_table.specs.declared.queues.Queues.{Queues}
-use Rattle.session_table.specs.declared.spot.Queue.{Queue}
-use Rattle.session_table.specs.declared.spot.Queue.TheVariants.{Silent, Inside, Unsent, Leaving, Delayed}
-use Rattle.session_table.specs.declared.spot.Spot.{Spot}
+use Rattle.session_turns.specs.Places.{IsIn}
+use Rattle.session_turns.specs.declared.queues.Queues.{Queues}
+use Rattle.session_turns.specs.declared.spot.Queue.{Queue}
+use Rattle.session_turns.specs.declared.spot.Queue.TheVariants.{Silent, Inside, Unsent, Leaving, Delayed}
+use Rattle.session_turns.specs.declared.spot.Spot.{Spot}
 
 -- the place that has stood in this queue since this turn
 abbrev pub place_at : Queues → Queue → ℕ → Option ℕ

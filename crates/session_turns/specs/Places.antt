@@ -1,8 +1,8 @@
 -- The places of a table. Where each stands before and after comes in; what has become of it comes out. How a place is found is not here.
 use Rattle.std.specs.Prelude.{◌≡◌, ℕ, ◌<◌, ◌≤◌, List, slice_get, slice_set, Option, Some}
-use Rattle.session_table.specs.declared.spot.Queue.{Queue}
-use Rattle.session_table.specs.declared.spot.Spot.{Spot}
-use Rattle.session_table.specs.declared.spot.Spot.TheVariants.{Away, In}
+use Rattle.session_turns.specs.declared.spot.Queue.{Queue}
+use Rattle.session_turns.specs.declared.spot.Spot.{Spot}
+use Rattle.session_turns.specs.declared.spot.Spot.TheVariants.{Away, In}
 
 -- this place is away
 abbrev pub IsAway : List Spot → ℕ → Type 0

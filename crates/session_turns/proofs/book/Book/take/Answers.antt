@@ -1,6 +1,6 @@
-use Rattle.session_table.specs.private.Listed.{place_at}
-use Rattle.session_table.proofs.Standing.{all_taken}
-use Rattle.session_table.proofs.book.Book.take.Goals as goal
+use Rattle.session_turns.specs.private.Listed.{place_at}
+use Rattle.session_turns.proofs.Standing.{all_taken}
+use Rattle.session_turns.proofs.book.Book.take.Goals as goal
 
 pub invariant_of-self : goal.invariant_of-self
 invariant_of-self c =

@@ -1,6 +1,6 @@
-use Rattle.session_table.specs.private.Listed.{place_at}
-use Rattle.session_table.proofs.Standing.{longest, none_in}
-use Rattle.session_table.proofs.book.Book.first.Goals as goal
+use Rattle.session_turns.specs.private.Listed.{place_at}
+use Rattle.session_turns.proofs.Standing.{longest, none_in}
+use Rattle.session_turns.proofs.book.Book.first.Goals as goal
 
 pub returns-clause-some : goal.returns-clause-some
 returns-clause-some c =

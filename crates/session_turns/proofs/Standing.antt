@@ -3,12 +3,12 @@ use Rattle.std.proofs.Common.{◌≡◌, ◌≢◌, ◌⊎◌, inl, inr, ℕ, ze
 use Rattle.std.specs.Prelude.{slice_get, slice_set, nat_eq, IfSome, IfNone}
 use Rattle.std.proofs.lemmas.Bool.Decides.{eqb_tells}
 use Rattle.std.proofs.lemmas.Option.{slice_get_within}
-use Rattle.session_table.specs.Places.{IsAway, IsIn, IsLongest, NoneIn, HasPut}
-use Rattle.session_table.specs.private.Listed.{is_queue, IsFirstAt, Tells, AllTell}
-use Rattle.session_table.specs.declared.spot.Queue.{Queue}
-use Rattle.session_table.specs.declared.spot.Queue.TheVariants.{Silent, Inside, Unsent, Leaving, Delayed}
-use Rattle.session_table.specs.declared.spot.Spot.{Spot}
-use Rattle.session_table.specs.declared.spot.Spot.TheVariants.{Away, In}
+use Rattle.session_turns.specs.Places.{IsAway, IsIn, IsLongest, NoneIn, HasPut}
+use Rattle.session_turns.specs.private.Listed.{is_queue, IsFirstAt, Tells, AllTell}
+use Rattle.session_turns.specs.declared.spot.Queue.{Queue}
+use Rattle.session_turns.specs.declared.spot.Queue.TheVariants.{Silent, Inside, Unsent, Leaving, Delayed}
+use Rattle.session_turns.specs.declared.spot.Spot.{Spot}
+use Rattle.session_turns.specs.declared.spot.Spot.TheVariants.{Away, In}
 
 get_same : {X : Type 0} (xs : List X) (i : ℕ) (w : X) → i < length xs → slice_get (slice_set xs i w) i ≡ Some w
 get_same [] i w h = absurd (omega arith)

@@ -1,9 +1,9 @@
 //! Where each place of a table stands. Places come in and go out by their numbers; which one has stood longest in a queue is looked up.
 ghost use Rattle.std.specs.Prelude.{◌≡◌, ℕ, List, replicate, slice_get, IfOk, IfSome, IfNone, OnOk, OnErr};
-ghost use Rattle.session_table.specs.Places.{IsAway, IsIn, IsLongest, NoneIn, HasPut, HasTaken};
-ghost use Rattle.session_table.specs.private.Listed.{place_at, AllTell};
-ghost use Rattle.session_table.specs.declared.spot.Queue.{Queue};
-ghost use Rattle.session_table.specs.declared.spot.Spot.{Spot};
+ghost use Rattle.session_turns.specs.Places.{IsAway, IsIn, IsLongest, NoneIn, HasPut, HasTaken};
+ghost use Rattle.session_turns.specs.private.Listed.{place_at, AllTell};
+ghost use Rattle.session_turns.specs.declared.spot.Queue.{Queue};
+ghost use Rattle.session_turns.specs.declared.spot.Spot.{Spot};
 
 use crate::queues::Queues;
 use crate::spot::{Queue, Spot};

@@ -2,28 +2,28 @@
 ghost use Rattle.std.specs.Prelude.{◌≡◌, ◌&&◌, ℕ, cond, nat_eq, Some, None, IfSome, IfNone, IfOk, OnOk, OnErr};
 ghost use Rattle.std.specs.BTreeMap.{get};
 ghost use Rattle.std.specs.Ordering.{nat_cmp};
-ghost use Rattle.session_table.specs.private.Listed.{place_at, is_queue, IsFirstAt};
-ghost use Rattle.session_table.specs.declared.spot.Queue.{Queue};
+ghost use Rattle.session_turns.specs.private.Listed.{place_at, is_queue, IsFirstAt};
+ghost use Rattle.session_turns.specs.declared.spot.Queue.{Queue};
 
 use crate::spot::Queue;
 use std::alloc::{AllocError, Global};
 use std::collections::BTreeMap;
 
 /// The places of one queue, by their turns.
-pub type Turns = BTreeMap<u64, usize>;
+pub type ByTurn = BTreeMap<u64, usize>;
 
 /// All queues.
 #[derive(Drop)]
 pub struct Queues {
-    silent: Turns,
-    inside: Turns,
-    unsent: Turns,
-    leaving: Turns,
-    delayed: Turns,
+    silent: ByTurn,
+    inside: ByTurn,
+    unsent: ByTurn,
+    leaving: ByTurn,
+    delayed: ByTurn,
 }
 
 /// The place that has stood longest in a queue.
-fn first_of(turns: &Turns) -> Option<usize>
+fn first_of(turns: &ByTurn) -> Option<usize>
     ensures some { IfSome result (λ p. IsFirstAt (get nat_cmp turns.now) p) }
     ensures none { IfNone result ((t : ℕ) → get nat_cmp turns.now t ≡ None) }
 {
