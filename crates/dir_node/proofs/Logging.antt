@@ -48,6 +48,15 @@ module _ {D J : Type 0} (seen : D → List ℕ) (may_leave : D → List ℕ → 
         (subst (λ (k : ℕ). IsToldIn log_seen new (head_of views.cluster index k restarts) s) (sym f) (along.told (head_of views.cluster index count restarts) run.told)));
   }
 
+  -- a node whose journal went along, whatever became of its pair
+  pub tells_on : (views next : Stored D) (old new : Option (Journal J)) (index count i n : ℕ) (r s : State OpValue) (restarts : ℕ) → IsRunning seen may_leave log_seen log_may_leave views old index count r restarts
+      → next.cluster ≡ views.cluster → i ≡ index → n ≡ count → GoesAlong log_seen log_may_leave r s old new → LeavesTold log_may_leave new (head_of next.cluster i n restarts) s
+  tells_on views next old new index count i n r s restarts run same e f along =
+      left_told log_seen log_may_leave new (head_of next.cluster i n restarts) s along.held
+      (subst (λ (c : ℕ). IsToldIn log_seen new (head_of c i n restarts) s) (sym same)
+      (subst (λ (j : ℕ). IsToldIn log_seen new (head_of views.cluster j n restarts) s) (sym e)
+      (subst (λ (k : ℕ). IsToldIn log_seen new (head_of views.cluster index k restarts) s) (sym f) (along.told (head_of views.cluster index count restarts) run.told))))
+
   -- a running node's journal tells it after every crash
   pub left_running : (views : Stored D) (journal : Option (Journal J)) (index count : ℕ) (r : State OpValue) (restarts : ℕ) → IsRunning seen may_leave log_seen log_may_leave views journal index count r restarts
       → LeavesTold log_may_leave journal (head_of views.cluster index count restarts) r

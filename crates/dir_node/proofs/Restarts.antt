@@ -26,7 +26,7 @@ use Rattle.dir_node.specs.declared.made.Made.{Made}
 use Rattle.dir_node.specs.declared.way.Way.{Way}
 use Rattle.dir_node.specs.declared.way.Way.TheVariants.{Begin, BeginAgain, Resume}
 use Rattle.dir_node.specs.Faults.{IsEarly}
-use Rattle.dir_node.specs.private.Faults.{IsWriteFault}
+use Rattle.dir_node.specs.private.Faults.{IsClearFault, IsWriteFault}
 use Rattle.dir_node.specs.declared.error.NodeError.{NodeError}
 use Rattle.dir_node.specs.declared.error.NodeError.TheVariants.{NoMemory, Store, Journal, ForeignJournal, StaleJournal, Halted}
 use Rattle.log_journal.specs.declared.error.NoteError.TheVariants as note
@@ -73,6 +73,13 @@ module _ {J : Type 0} (seen : J → List ℕ) (may_leave : J → List ℕ → Ty
       chained moment left_since old mid new (RestartNotes seen may_leave o finding old) (read_alone old mid o finding read)
       (weaker moment left_since mid new (IsGrown (recorded (seen mid)) batch) (RestartNotes seen may_leave o finding old)
       (λ c g. inr (pair, start, is, by, begun (recorded (seen old)) start.notes batch c spelled (subst (λ (l : List (List ℕ)). IsGrown l batch c) same g))) grown)
+
+  -- it was read, and what stands behind its strings was cleared, or that failed
+  pub cleared_alone : (old mid new : J) → seen mid ≡ seen old → LogLeavesOnly moment left_since old mid (ReadsAsBefore seen may_leave old) → LogLeavesOnly moment left_since mid new (λ c. recorded c ≡ recorded (seen mid))
+      → LogLeavesOnly moment left_since old new (ReadsAsBefore seen may_leave old)
+  cleared_alone old mid new same read cleared =
+      chained moment left_since old mid new (ReadsAsBefore seen may_leave old) read
+      (weaker moment left_since mid new (λ c. recorded c ≡ recorded (seen mid)) (ReadsAsBefore seen may_leave old) (λ c e. inr (e ∙ ap recorded same)) cleared)
 
 -- After a start its journal tells its replica.
 pub restart_told : (o : Owner) (pair : Pair) (old mid now : List (List ℕ)) (way : Way) (m : Made) → IsWay o pair old way → IsMadeBy o (start_by o pair way) m → mid ≡ old → now ≡ mid ++ m.batch
@@ -124,6 +131,20 @@ not_early NoMemory w e = w
 not_early ForeignJournal w e = w
 not_early StaleJournal w e = w
 not_early Halted w e = w
+
+-- A refusal while clearing is early where it is want of memory.
+pub early_clear : (e : NodeError) → IsClearFault e → IsEarly e → e ≡ NoMemory
+early_clear NoMemory w e = refl
+early_clear (Journal note.DeviceFailed) w e = absurd e
+early_clear (Journal note.Full) w e = absurd w
+early_clear (Journal note.NoMemory) w e = absurd w
+early_clear (Journal note.Damaged) w e = absurd w
+early_clear (Journal note.AnotherVersion) w e = absurd w
+early_clear (Journal note.Unwritable) w e = absurd w
+early_clear (Store f) w e = absurd w
+early_clear ForeignJournal w e = absurd w
+early_clear StaleJournal w e = absurd w
+early_clear Halted w e = absurd w
 
 -- a fact of whatever error there is
 pub any_err : {T E : Type 0} (r : Result T E) (Q : E → Type 0) → ((e : E) → Q e) → IfErr r Q

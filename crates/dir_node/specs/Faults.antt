@@ -4,7 +4,7 @@ use Rattle.view_store.specs.declared.fault.ViewStoreError.TheVariants as view
 use Rattle.dir_node.specs.declared.error.NodeError.{NodeError}
 use Rattle.dir_node.specs.declared.error.NodeError.TheVariants.{NoMemory, Store, Journal, ForeignJournal, StaleJournal}
 
--- A start that is refused so has written nothing, but for what it cleared behind the strings of its journal.
+-- A start that is refused so has written nothing.
 abbrev pub IsEarly : NodeError → Type 0
 IsEarly NoMemory = Unit {0}
 IsEarly ForeignJournal = Unit {0}

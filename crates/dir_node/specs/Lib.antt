@@ -4,6 +4,7 @@ pub mod Logged
 pub mod NodeState
 pub mod Outcomes
 pub mod Restarting
+pub mod Returning
 pub mod private
 -- what layers above name of the crates below
 pub use Rattle.state_machine.specs as state_machine

@@ -60,6 +60,12 @@ abbrev pub RefusedLeaves : {J : Type 0} → (J → List ℕ) → (J → List ℕ
 RefusedLeaves seen may_leave None image = ⊥
 RefusedLeaves seen may_leave (Some j) image = ReadsAsBefore seen may_leave j image
 
+-- A journal's device, where there is one, gives what it gave before: nothing was written.
+abbrev pub IsUnwritten : {J : Type 0} → (J → List ℕ) → Option J → Option J → Type 0
+IsUnwritten seen None None = Unit {0}
+IsUnwritten seen (Some a) (Some b) = seen b ≡ seen a
+IsUnwritten seen _ _ = ⊥
+
 -- There is a journal, and it tells something.
 abbrev pub IsNotEmpty : {J : Type 0} → (J → List ℕ) → Option J → Type 0
 IsNotEmpty seen None = ⊥

@@ -25,6 +25,8 @@ pub fn keep_pair<D: Device>(
     ensures any_moment { IsWellPlaced (D.seen views.old.device)
         → LeavesOnly D.moment D.left_since views.old.device views.new.device
         (IsFormerOrNew views.old.cluster (own (record pair { view = former })) pair) }
+    ensures stopped { IsErrOf result ViewStoreError.DeviceFailed → IsWellPlaced (D.seen views.old.device)
+        → IsFormerOrNew views.old.cluster (own (record pair { view = former })) pair (D.seen views.new.device) }
     ensures device_failed { IsErrOf result ViewStoreError.DeviceFailed
         → HasRisen (D.failure_count views.old.device) (D.failure_count views.new.device) }
     ensures no_pair { IsErrOf result ViewStoreError.NoPair → CannotStore pair.view (D.seen views.old.device) }
@@ -67,6 +69,8 @@ pub fn follow<D: Device>(
     ensures any_moment { IsWellPlaced (D.seen views.old.device)
         → LeavesOnly D.moment D.left_since views.old.device views.new.device
         (IsFormerOrNew views.old.cluster (own (record pair { view = former })) pair) }
+    ensures stopped { IsErrOf result ViewStoreError.DeviceFailed → IsWellPlaced (D.seen views.old.device)
+        → IsFormerOrNew views.old.cluster (own (record pair { view = former })) pair (D.seen views.new.device) }
     ensures device_failed { IsErrOf result ViewStoreError.DeviceFailed
         → HasRisen (D.failure_count views.old.device) (D.failure_count views.new.device) }
     ensures no_pair { IsErrOf result ViewStoreError.NoPair → CannotStore pair.view (D.seen views.old.device) }

@@ -24,6 +24,7 @@ mod config;
 mod error;
 mod fault;
 mod keeping;
+mod laws;
 mod made;
 mod node;
 mod opening;
@@ -37,6 +38,7 @@ mod way;
 
 pub use config::{AllHandled, Handled, NodeConfig, Refused};
 pub use error::NodeError;
+pub use laws::{journals_return, restart_is_of_told};
 pub use log_journal::{Device as JournalDevice, NoteError};
 pub use node::Node;
 pub use outcome::Outcome;

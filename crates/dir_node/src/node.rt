@@ -1,12 +1,16 @@
 //! A node: a replica, what it has executed, the device of its stored pair, and its journal where it keeps one. Events flow in; outputs flow out once the
 //! journal is settled and the view is stored. Which step an event makes is decided below, who sends and who waits above.
-ghost use Rattle.std.specs.Prelude.{◌≡◌, ◌-◌, ◌==◌, ◌∷◌, [], ◌↔◌, true, false, None, is_some, not, length, slice_get, IfOk, OnOk, IsErrOf};
+ghost use Rattle.std.specs.Prelude.{◌≡◌, ◌-◌, ◌==◌, ◌∷◌, [], ◌↔◌, List, Result, true, false, None, not, length, slice_get, IfOk, OnOk, IsErrOf};
 ghost use Rattle.state_machine.specs.Executing.{directory_at, due_after, replies_at};
 ghost use Rattle.dir_node.specs.Handling.{MakesSteps, left_to_catch_up};
 ghost use Rattle.dir_node.specs.Logged.{HasRisenIn, LeavesOnlyIn, TellsSome, device_in};
 ghost use Rattle.dir_node.specs.NodeState.{CannotStore, CatchesUp, IsSameNode, KeepsLog, KeepsPair, given, head, pair_of};
 ghost use Rattle.dir_node.specs.private.NodeState.{IsRunning};
 ghost use Rattle.log_journal.specs.Refused.{IsOfKeepingOne};
+ghost use Rattle.log_journal.specs.Taken.{MakesSome};
+ghost use Rattle.std.specs.declared.alloc.AllocError.{AllocError};
+ghost use Rattle.state_machine.specs.dir_store.ldap_op.Values.{OpValue};
+ghost use Rattle.vr_state.specs.declared.message.Outputs.{Outputs};
 ghost use Rattle.dir_node.specs.Outcomes.{outcome_at, outcome_of, outcome_view, standing_of};
 ghost use Rattle.view_store.specs.Device.{HasRisen, LeavesOnly};
 ghost use Rattle.view_store.specs.Slots.{own, IsWellPlaced};
@@ -145,6 +149,12 @@ impl<D: Device, J: JournalDevice> Node<D, J> {
         // It stops where the pair can't be stored, executes nothing then, and gives nothing out: E21 only where the device has failed, E22 only where
         // the view is past the greatest number or the sequence of pairs is at its end, and then nothing is written. There is no other cause.
         ensures stops { (e : ViewStoreError) → IsErrOf result (NodeError.Store e) → (self.new.is_halted ≡ true) × (self.new.executed ≡ self.old.executed) }
+        // The journal, where there is one, is settled then, and tells the replica after the step; the device gives the pair from before the step or from after it.
+        ensures store_late { (e : ViewStoreError) → IsErrOf result (NodeError.Store e)
+            → (self.new.replica ≡ (step_of self.old.count self.old.index self.old.replica event).state) × KeepsLog J.may_leave self.new }
+        ensures stopped { IsErrOf result (NodeError.Store ViewStoreError.DeviceFailed) → IsWellPlaced (D.seen self.old.device)
+            → IsFormerOrNew self.old.cluster (own (pair_of self.old))
+            (record (pair_of self.old) { view = (step_of self.old.count self.old.index self.old.replica event).state.view_number }) (D.seen self.new.device) }
         ensures device_failed { IsErrOf result (NodeError.Store ViewStoreError.DeviceFailed)
             → HasRisen (D.failure_count self.old.device) (D.failure_count self.new.device) }
         ensures no_pair { IsErrOf result (NodeError.Store ViewStoreError.NoPair)
@@ -158,6 +168,9 @@ impl<D: Device, J: JournalDevice> Node<D, J> {
         // journal that doesn't happen.
         ensures log_stops { (e : NoteError) → IsErrOf result (NodeError.Journal e)
             → (self.new.is_halted ≡ true) × (self.new.executed ≡ self.old.executed) × (self.new.device ≡ self.old.device) }
+        // The replica is as it is before the event or after it.
+        ensures log_late { (e : NoteError) → IsErrOf result (NodeError.Journal e)
+            → MakesSome self.old.count self.old.index self.old.replica (event ∷ []) self.new.replica }
         ensures log_failed { IsErrOf result (NodeError.Journal NoteError.DeviceFailed)
             → HasRisenIn J.failure_count (device_in self.old.journal) (device_in self.new.journal) }
         ensures no_journal { (e : NoteError) → self.old.journal ≡ None → IsErrOf result (NodeError.Journal e) → ⊥ }
@@ -244,6 +257,12 @@ impl<D: Device, J: JournalDevice> Node<D, J> {
         // It stops where the pair can't be stored, executes nothing then, and gives nothing out: E21 only where the device has failed, E22 only where
         // the view is past the greatest number or the sequence of pairs is at its end, and then nothing is written. There is no other cause.
         ensures stops { (e : ViewStoreError) → IsErrOf result (NodeError.Store e) → (self.new.is_halted ≡ true) × (self.new.executed ≡ self.old.executed) }
+        // The journal, where there is one, is settled then, and tells the replica after the steps; the device gives the pair from before them or from after them.
+        ensures store_late { (e : ViewStoreError) → IsErrOf result (NodeError.Store e)
+            → ((xs : List (Result (Outputs OpValue) AllocError)) × MakesSteps self.old.count self.old.index self.old.replica events.items xs self.new.replica)
+            × KeepsLog J.may_leave self.new }
+        ensures stopped { IsErrOf result (NodeError.Store ViewStoreError.DeviceFailed) → IsWellPlaced (D.seen self.old.device)
+            → IsFormerOrNew self.old.cluster (own (pair_of self.old)) (record (pair_of self.old) { view = self.new.replica.view_number }) (D.seen self.new.device) }
         ensures device_failed { IsErrOf result (NodeError.Store ViewStoreError.DeviceFailed)
             → HasRisen (D.failure_count self.old.device) (D.failure_count self.new.device) }
         ensures no_pair { IsErrOf result (NodeError.Store ViewStoreError.NoPair)
@@ -257,6 +276,9 @@ impl<D: Device, J: JournalDevice> Node<D, J> {
         // journal that doesn't happen.
         ensures log_stops { (e : NoteError) → IsErrOf result (NodeError.Journal e)
             → (self.new.is_halted ≡ true) × (self.new.executed ≡ self.old.executed) × (self.new.device ≡ self.old.device) }
+        // The replica is as it is after some first of the events, each of which makes its step or is left out.
+        ensures log_late { (e : NoteError) → IsErrOf result (NodeError.Journal e)
+            → MakesSome self.old.count self.old.index self.old.replica events.items self.new.replica }
         ensures log_failed { IsErrOf result (NodeError.Journal NoteError.DeviceFailed)
             → HasRisenIn J.failure_count (device_in self.old.journal) (device_in self.new.journal) }
         ensures no_journal { (e : NoteError) → self.old.journal ≡ None → IsErrOf result (NodeError.Journal e) → ⊥ }
@@ -486,13 +508,6 @@ impl<D: Device, J: JournalDevice> Node<D, J> {
         ensures { result ≡ (self.now.catch_up == 0) }
     {
         self.catch_up == 0
-    }
-
-    /// Whether it keeps a journal.
-    pub fn is_journaled(&self) -> bool
-        ensures { result ≡ is_some self.now.journal }
-    {
-        self.journal.is_some()
     }
 
     /// The devices, for the node to be opened again.

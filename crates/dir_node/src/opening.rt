@@ -3,12 +3,13 @@
 ghost use Rattle.std.specs.Prelude.{◌≡◌, ◌≢◌, ◌<◌, ◌≤◌, true, Some, None, is_some, length, IfOk, OnOk, IfErr, IsErrOf};
 ghost use Rattle.dir_node.specs.Faults.{IsEarly};
 ghost use Rattle.dir_node.specs.private.Faults.{IsLogFault, IsPairFault};
-ghost use Rattle.dir_node.specs.Logged.{FirstLeaves, HasRisenIn, IsNotEmpty, LeavesOnlyIn, RefusedLeaves, device_in, head_of};
+ghost use Rattle.dir_node.specs.Logged.{FirstLeaves, HasRisenIn, IsNotEmpty, IsUnwritten, LeavesOnlyIn, RefusedLeaves, device_in, head_of};
 ghost use Rattle.dir_node.specs.private.Logged.{IsHeldIn, IsToldIn};
 ghost use Rattle.dir_node.specs.NodeState.{CannotStart, IsJournaled, IsMade, IsOwn, KeepsLog, KeepsPair, StartLeaves, given, started_pair};
 ghost use Rattle.dir_node.specs.Restarting.{CannotRestart, IsForeign, IsRestarted, IsStale, RestartLeaves, RestartNotes, owner_of, first_notes};
 ghost use Rattle.dir_node.specs.declared.error.NodeError.TheVariants as error;
 ghost use Rattle.log_journal.specs.Found.{HasAnotherVersion};
+ghost use Rattle.log_journal.specs.Refused.{HasDamage};
 ghost use Rattle.log_journal.specs.declared.error.NoteError.TheVariants as note_error;
 ghost use Rattle.log_journal.specs.journal.Frames.{recorded};
 ghost use Rattle.view_store.specs.Device.{HasRisen, LeavesOnly};
@@ -61,11 +62,13 @@ fn first_replica<J: JournalDevice>(
         (FirstLeaves J.seen J.may_leave (device_in journal.old) (first_notes owner)) }
     ensures early { IfErr result (λ e. IsEarly e
         → LeavesOnlyIn J.moment J.left_since (device_in journal.old) (device_in journal.new) (RefusedLeaves J.seen J.may_leave (device_in journal.old))) }
+    ensures early_same { IfErr result (λ e. IsEarly e → IsUnwritten J.seen (device_in journal.old) (device_in journal.new)) }
     ensures stale { IsErrOf result NodeError.StaleJournal → IsNotEmpty J.seen (device_in journal.old) }
     ensures failed { IsErrOf result (NodeError.Journal NoteError.DeviceFailed)
         → HasRisenIn J.failure_count (device_in journal.old) (device_in journal.new) }
     ensures foreign { IsErrOf result NodeError.ForeignJournal → ⊥ }
     ensures version { IsErrOf result (NodeError.Journal NoteError.AnotherVersion) → ⊥ }
+    ensures not_damaged { IsErrOf result (NodeError.Journal NoteError.Damaged) → ⊥ }
     ensures causes { IfErr result IsLogFault }
     ensures alone { (f : NoteError) → device_in journal.old ≡ None → IsErrOf result (NodeError.Journal f) → ⊥ }
 {
@@ -149,6 +152,7 @@ fn reopen_over<D: Device, J: JournalDevice>(
         (RestartNotes J.seen J.may_leave (owner_of config) (found config.cluster (D.seen device)) journal)) }
     ensures early { IfErr result (λ r. IsEarly r.error
         → LeavesOnlyIn J.moment J.left_since (Some journal) r.journal (RefusedLeaves J.seen J.may_leave (Some journal))) }
+    ensures early_same { IfErr result (λ r. IsEarly r.error → IsUnwritten J.seen (Some journal) r.journal) }
     ensures no_pair { IfErr result (λ r. r.error ≡ error.Store view_error.NoPair → CannotRestart config.cluster (D.seen device)) }
     ensures foreign_cluster { IfErr result (λ r. r.error ≡ error.Store view_error.ForeignCluster → found config.cluster (D.seen device) ≡ foreign) }
     ensures keeps_journal { IfErr result (λ r. r.error ≢ error.Store view_error.KeepsJournal) }
@@ -160,6 +164,7 @@ fn reopen_over<D: Device, J: JournalDevice>(
     ensures stale_journal { IfErr result (λ r. r.error ≡ error.StaleJournal
         → IsStale (owner_of config) (found config.cluster (D.seen device)) (recorded (J.seen journal))) }
     ensures another_version { IfErr result (λ r. r.error ≡ error.Journal note_error.AnotherVersion → HasAnotherVersion (recorded (J.seen journal))) }
+    ensures damaged { IfErr result (λ r. r.error ≡ error.Journal note_error.Damaged → HasDamage (recorded (J.seen journal))) }
     ensures log_failed { IfErr result (λ r. r.error ≡ error.Journal note_error.DeviceFailed → HasRisenIn J.failure_count (Some journal) r.journal) }
     ensures same { IfErr result (λ r. r.error ≢ error.Store view_error.DeviceFailed → D.seen r.device ≡ D.seen device) }
 {
@@ -237,6 +242,8 @@ impl<D: Device, J: JournalDevice> Node<D, J> {
             (FirstLeaves J.seen J.may_leave journal (first_notes (owner_of config)))) }
         ensures early { IfErr result (λ r. IsEarly r.error
             → LeavesOnlyIn J.moment J.left_since journal r.journal (RefusedLeaves J.seen J.may_leave journal)) }
+        // Nothing is written, cleared or grown before every other check of the start has passed.
+        ensures early_same { IfErr result (λ r. IsEarly r.error → IsUnwritten J.seen journal r.journal) }
 
         // Want of memory comes before the pair's device is called, E22 where it is longer than 64 octets, E21 where it failed; E26 where the journal isn't empty,
         // another error of the journal where it is read or written; nothing else.
@@ -252,6 +259,7 @@ impl<D: Device, J: JournalDevice> Node<D, J> {
         ensures stale_journal { IfErr result (λ r. r.error ≡ error.StaleJournal → IsNotEmpty J.seen journal × (r.device ≡ device)) }
         ensures foreign_journal { IfErr result (λ r. r.error ≢ error.ForeignJournal) }
         ensures another_version { IfErr result (λ r. r.error ≢ error.Journal note_error.AnotherVersion) }
+        ensures not_damaged { IfErr result (λ r. r.error ≢ error.Journal note_error.Damaged) }
         ensures log_failed { IfErr result (λ r. r.error ≡ error.Journal note_error.DeviceFailed
             → HasRisenIn J.failure_count journal r.journal × (r.device ≡ device)) }
         ensures no_journal { (f : NoteError) → journal ≡ None → IfErr result (λ r. r.error ≢ error.Journal f) }
@@ -342,6 +350,8 @@ impl<D: Device, J: JournalDevice> Node<D, J> {
             (RestartNotes J.seen J.may_leave (owner_of config) (found config.cluster (D.seen device)) j)) }
         ensures early { IfErr result (λ r. IsEarly r.error
             → LeavesOnlyIn J.moment J.left_since journal r.journal (RefusedLeaves J.seen J.may_leave journal)) }
+        // Nothing is written, cleared or grown before every other check of the start has passed.
+        ensures early_same { IfErr result (λ r. IsEarly r.error → IsUnwritten J.seen journal r.journal) }
 
         // Want of memory writes nothing; nor do E22, where the pair has no next start, E23, where another cluster's pair is found, and E25, where a
         // journal goes with the pair and none is given. E21 comes only where a device failed.
@@ -359,13 +369,14 @@ impl<D: Device, J: JournalDevice> Node<D, J> {
         ensures not_failed { IfErr result (λ r. r.error ≢ error.Store view_error.Failed) }
         ensures not_halted { IfErr result (λ r. r.error ≢ error.Halted) }
 
-        // Nor do E23, where the journal is another cluster's, E26, where it is another replica's or doesn't go with the pair, and E27, where a note of another
-        // version says whose it is; no refusal of the journal writes the pair.
+        // Nor do E23, where the journal is another cluster's, E26, where it is another replica's or doesn't go with the pair, E27, where a note of another
+        // version says whose it is, and E28, where a string spells no note; no refusal of the journal writes the pair.
         ensures foreign_journal { (j : J) → journal ≡ Some j → IfErr result (λ r. r.error ≡ error.ForeignJournal → IsForeign (owner_of config) (recorded (J.seen j))) }
         ensures stale_journal { (j : J) → journal ≡ Some j → IfErr result (λ r. r.error ≡ error.StaleJournal
             → IsStale (owner_of config) (found config.cluster (D.seen device)) (recorded (J.seen j))) }
         ensures another_version { (j : J) → journal ≡ Some j
             → IfErr result (λ r. r.error ≡ error.Journal note_error.AnotherVersion → HasAnotherVersion (recorded (J.seen j))) }
+        ensures damaged { (j : J) → journal ≡ Some j → IfErr result (λ r. r.error ≡ error.Journal note_error.Damaged → HasDamage (recorded (J.seen j))) }
         ensures log_failed { (j : J) → journal ≡ Some j
             → IfErr result (λ r. r.error ≡ error.Journal note_error.DeviceFailed → HasRisenIn J.failure_count journal r.journal) }
         ensures same { IfErr result (λ r. r.error ≢ error.Store view_error.DeviceFailed → D.seen r.device ≡ D.seen device) }

@@ -1,9 +1,9 @@
 //! A node with a journal at its start: what the journal tells is read, and the replica that goes with it and with the pair is made; what the start
 //! notes is settled before the pair is stored, and both before anything is handed out.
-ghost use Rattle.std.specs.Prelude.{◌≡◌, ◌≢◌, ◌⊎◌, ℕ, ◌+◌, ◌<◌, ◌≤◌, ◌∷◌, ◌++◌, ◌^◌, [], false, Some, is_some, IfOk, IfErr, OnOk, IsErrOf, IsTrue};
+ghost use Rattle.std.specs.Prelude.{◌≡◌, ◌≢◌, ◌⊎◌, ℕ, ◌+◌, ◌<◌, ◌≤◌, ◌∷◌, ◌++◌, ◌^◌, List, [], drop, false, Some, is_some, IfOk, IfErr, OnOk, IsErrOf, IsTrue};
 ghost use Rattle.dir_node.specs.Faults.{IsEarly};
-ghost use Rattle.dir_node.specs.private.Faults.{IsLogFault, IsNoteFault, IsOpenFault, IsWriteFault};
-ghost use Rattle.dir_node.specs.Logged.{FirstLeaves, HasRisenIn, IsNotEmpty, LeavesOnlyIn, ReadsAsBefore, RefusedLeaves, device_in, head_of};
+ghost use Rattle.dir_node.specs.private.Faults.{IsClearFault, IsLogFault, IsNoteFault, IsOpenFault, IsWriteFault};
+ghost use Rattle.dir_node.specs.Logged.{FirstLeaves, HasRisenIn, IsNotEmpty, IsUnwritten, LeavesOnlyIn, ReadsAsBefore, RefusedLeaves, device_in, head_of};
 ghost use Rattle.dir_node.specs.private.Logged.{IsHeldIn, IsToldIn};
 ghost use Rattle.dir_node.specs.private.NodeState.{Holds};
 ghost use Rattle.dir_node.specs.Restarting.{CannotRestart, GoTogether, IsForeign, IsOf, IsStale, RestartLeaves, RestartNotes, begins, change_of, first_notes, may_resume, recovered, resumed};
@@ -12,10 +12,12 @@ ghost use Rattle.dir_node.specs.declared.error.NodeError.TheVariants as error;
 ghost use Rattle.log_journal.specs.Found.{HasAnotherVersion, IsFound};
 ghost use Rattle.log_journal.specs.Kept.{IsHeld, IsMemory};
 ghost use Rattle.log_journal.specs.Notes.{Puts, Start};
+ghost use Rattle.log_journal.specs.Refused.{HasDamage};
 ghost use Rattle.log_journal.specs.Told.{Tells, nothing_told, Told as Telling};
 ghost use Rattle.log_journal.specs.Views.{told_view};
-ghost use Rattle.log_journal.specs.journal.Device.{HasRisen as LogHasRisen, LeavesOnly as LogLeavesOnly};
-ghost use Rattle.log_journal.specs.journal.Frames.{recorded};
+ghost use Rattle.log_journal.specs.journal.Device.{HasRisen as LogHasRisen, LeavesOnly as LogLeavesOnly, Only as LogOnly};
+ghost use Rattle.log_journal.specs.journal.Frames.{is_whole, recorded};
+ghost use Rattle.log_journal.specs.journal.Reading.{HasRead};
 ghost use Rattle.log_journal.specs.journal.Journal.{IsGrown};
 ghost use Rattle.view_store.specs.Device.{HasRisen, LeavesOnly, Only};
 ghost use Rattle.view_store.specs.Slots.{found, foreign, IsWellPlaced, sequence_of, taken_from};
@@ -29,8 +31,8 @@ use crate::made::Made;
 use crate::owner::Owner;
 use crate::way::Way;
 use log_journal::{
-    Batch, Device as JournalDevice, Journal, JournalError, NoteError, Told, open, put_begin,
-    put_start, recover, settle,
+    Batch, Device as JournalDevice, Journal, JournalError, NoteError, StringReader, Told, clear,
+    put_begin, put_start, read, recover, settle,
 };
 use state_machine::Op;
 use std::alloc::{AllocError, Global};
@@ -40,15 +42,13 @@ use vr_state::replica::Replica;
 use vr_state::sending::sending;
 
 /// A refusal of notes that a start spells.
-// prover: no device was called and no journal was read, so neither failed
+// prover: notes are refused memory, or are too long for a batch
 fn refusal_at_start(error: NoteError) -> NodeError
     ensures { IsNoteFault result }
 {
     match error {
         NoteError::NoMemory => NodeError::NoMemory,
-        NoteError::DeviceFailed => NodeError::Journal(NoteError::Damaged),
-        NoteError::AnotherVersion => NodeError::Journal(NoteError::Damaged),
-        other => NodeError::Journal(other),
+        _ => NodeError::Journal(NoteError::Full),
     }
 }
 
@@ -57,6 +57,7 @@ fn refusal_at_opening(error: NoteError) -> NodeError
     ensures fault { IsOpenFault result }
     ensures device { result ≡ NodeError.Journal NoteError.DeviceFailed → error ≡ NoteError.DeviceFailed }
     ensures version { result ≡ NodeError.Journal NoteError.AnotherVersion → error ≡ NoteError.AnotherVersion }
+    ensures damaged { result ≡ NodeError.Journal NoteError.Damaged → error ≡ NoteError.Damaged }
 {
     match error {
         NoteError::NoMemory => NodeError::NoMemory,
@@ -77,7 +78,7 @@ fn refusal_of_writing(refused: NoteError) -> NodeError
     }
 }
 
-// prover: the journal's own errors, as those of a node
+/// Why a journal that is to hold nothing wasn't read.
 fn refusal_of(error: JournalError) -> NodeError
     ensures memory { error ≡ JournalError.NoMemory → result ≡ NodeError.NoMemory }
     ensures device { error ≡ JournalError.DeviceFailed → result ≡ NodeError.Journal NoteError.DeviceFailed }
@@ -88,37 +89,45 @@ fn refusal_of(error: JournalError) -> NodeError
     }
 }
 
-/// Opens a journal: what its strings tell; nothing, where it has none. What a crash left unsettled is settled, and what stands behind
-/// the strings is cleared.
-fn open_log<J: JournalDevice>(
+/// Reads a journal: what its strings tell; nothing, where it has none; and a reader behind them. What a crash left unsettled is settled, and nothing
+/// is written.
+fn read_log<J: JournalDevice>(
     alloc: Global,
     journal: &mut Journal<J>,
-) -> Result<Option<Told>, NodeError>
-    ensures told { IfOk result (λ found. IsFound found (recorded (J.seen journal.old.device))) }
-    ensures held { OnOk result (IsHeld J.seen J.may_leave journal.new) }
-    ensures read { OnOk result (recorded (J.seen journal.new.device) ≡ recorded (J.seen journal.old.device)) }
+) -> Result<(Option<Told>, StringReader), NodeError>
+    ensures told { IfOk result (λ found. IsFound found.0 (recorded (J.seen journal.old.device))) }
+    ensures read { IfOk result (λ found. HasRead found.1 (J.seen journal.new.device)) }
+    ensures none { IfOk result (λ found. is_whole (drop found.1.end (J.seen journal.new.device)) ≡ false) }
+    ensures seen { J.seen journal.new.device ≡ J.seen journal.old.device }
+    ensures durable { OnOk result (LogOnly (J.seen journal.new.device) (J.may_leave journal.new.device)) }
     ensures any_moment { LogLeavesOnly J.moment J.left_since journal.old.device journal.new.device (ReadsAsBefore J.seen J.may_leave journal.old.device) }
     ensures later { J.failure_count journal.old.device ≤ J.failure_count journal.new.device }
     ensures failed { IsErrOf result (NodeError.Journal NoteError.DeviceFailed)
         → LogHasRisen (J.failure_count journal.old.device) (J.failure_count journal.new.device) }
     ensures version { IsErrOf result (NodeError.Journal NoteError.AnotherVersion) → HasAnotherVersion (recorded (J.seen journal.old.device)) }
+    ensures damaged { IsErrOf result (NodeError.Journal NoteError.Damaged) → HasDamage (recorded (J.seen journal.old.device)) }
     ensures causes { IfErr result IsOpenFault }
 {
     match journal.device.sync() {
         Ok(()) => {}
         Err(_) => return Err(NodeError::Journal(NoteError::DeviceFailed)),
     }
-    match open(alloc, journal) {
+    match read(alloc, journal) {
         Ok(found) => Ok(found),
         Err(error) => Err(refusal_at_opening(error)),
     }
 }
 
-/// Opens a journal that is to hold nothing; E26 where it holds something.
-fn open_first<J: JournalDevice>(alloc: Global, journal: &mut Journal<J>) -> Result<(), NodeError>
-    ensures empty { OnOk result (recorded (J.seen journal.new.device) ≡ []) }
-    ensures held { OnOk result (IsHeld J.seen J.may_leave journal.new) }
-    ensures read { OnOk result (recorded (J.seen journal.new.device) ≡ recorded (J.seen journal.old.device)) }
+/// Reads a journal that is to hold nothing, and gives a reader in front of what stands there; E26 where it holds something. Nothing is written.
+fn read_first<J: JournalDevice>(
+    alloc: Global,
+    journal: &mut Journal<J>,
+) -> Result<StringReader, NodeError>
+    ensures empty { OnOk result (recorded (J.seen journal.old.device) ≡ []) }
+    ensures read { IfOk result (λ reader. HasRead reader (J.seen journal.new.device)) }
+    ensures none { IfOk result (λ reader. is_whole (drop reader.end (J.seen journal.new.device)) ≡ false) }
+    ensures seen { J.seen journal.new.device ≡ J.seen journal.old.device }
+    ensures durable { OnOk result (LogOnly (J.seen journal.new.device) (J.may_leave journal.new.device)) }
     ensures any_moment { LogLeavesOnly J.moment J.left_since journal.old.device journal.new.device (ReadsAsBefore J.seen J.may_leave journal.old.device) }
     ensures later { J.failure_count journal.old.device ≤ J.failure_count journal.new.device }
     ensures stale { IsErrOf result NodeError.StaleJournal → recorded (J.seen journal.old.device) ≢ [] }
@@ -130,15 +139,38 @@ fn open_first<J: JournalDevice>(alloc: Global, journal: &mut Journal<J>) -> Resu
         Ok(()) => {}
         Err(_) => return Err(NodeError::Journal(NoteError::DeviceFailed)),
     }
-    match journal.open_empty(alloc) {
-        Ok(is_empty) => {
-            if is_empty {
-                Ok(())
-            } else {
-                Err(NodeError::StaleJournal)
-            }
-        }
+    match journal.read_empty(alloc) {
+        Ok(found) => match found {
+            Some(reader) => Ok(reader),
+            None => Err(NodeError::StaleJournal),
+        },
         Err(error) => Err(refusal_of(error)),
+    }
+}
+
+/// Clears what stands behind the strings of a journal that were read; it may be written to then. Out of memory, nothing is written.
+fn clear_log<J: JournalDevice>(
+    alloc: Global,
+    journal: &mut Journal<J>,
+    reader: &StringReader,
+) -> Result<(), NodeError>
+    requires read { HasRead reader.now (J.seen journal.old.device) }
+    requires none { is_whole (drop reader.now.end (J.seen journal.old.device)) ≡ false }
+    requires durable { LogOnly (J.seen journal.old.device) (J.may_leave journal.old.device) }
+    ensures held { OnOk result (IsHeld J.seen J.may_leave journal.new) }
+    ensures strings { OnOk result (recorded (J.seen journal.new.device) ≡ recorded (J.seen journal.old.device)) }
+    ensures no_memory { IsErrOf result NodeError.NoMemory → J.seen journal.new.device ≡ J.seen journal.old.device }
+    ensures any_moment { LogLeavesOnly J.moment J.left_since journal.old.device journal.new.device
+        (λ c. recorded c ≡ recorded (J.seen journal.old.device)) }
+    ensures later { J.failure_count journal.old.device ≤ J.failure_count journal.new.device }
+    ensures failed { IsErrOf result (NodeError.Journal NoteError.DeviceFailed)
+        → LogHasRisen (J.failure_count journal.old.device) (J.failure_count journal.new.device) }
+    ensures causes { IfErr result IsClearFault }
+{
+    match clear(alloc, journal, reader) {
+        Ok(()) => Ok(()),
+        Err(NoteError::NoMemory) => Err(NodeError::NoMemory),
+        Err(_) => Err(NodeError::Journal(NoteError::DeviceFailed)),
     }
 }
 
@@ -195,17 +227,34 @@ fn way_of(told: Told, pair: Pair, owner: Owner) -> Result<Way, NodeError>
     Ok(Way::Resume(told))
 }
 
-/// Opens a journal, and finds how its replica starts over it.
+/// How a replica starts over what was found in its journal.
+fn way_over(found: Option<Told>, pair: Pair, owner: Owner) -> Result<Way, NodeError>
+    requires small { pair.restarts < 2 ^ 63 }
+    ensures way { (strings : List (List ℕ)) → IsFound found strings → IfOk result (λ way. IsWay owner pair strings way) }
+    ensures foreign { (strings : List (List ℕ)) → IsFound found strings → IsErrOf result NodeError.ForeignJournal → IsForeign owner strings }
+    ensures stale { (strings : List (List ℕ)) → IsFound found strings → IsErrOf result NodeError.StaleJournal
+        → (t : Telling) × Tells nothing_told strings t × IsStaleOf owner pair t }
+    ensures causes { IfErr result (λ e. (e ≡ error.ForeignJournal) ⊎ (e ≡ error.StaleJournal)) }
+{
+    match found {
+        Some(told) => way_of(told, pair, owner),
+        None => Ok(Way::Begin),
+    }
+}
+
+/// Reads a journal, and finds how its replica starts over it; with a reader behind its strings. Nothing is written.
 fn find_way<J: JournalDevice>(
     alloc: Global,
     journal: &mut Journal<J>,
     pair: Pair,
     owner: Owner,
-) -> Result<Way, NodeError>
+) -> Result<(Way, StringReader), NodeError>
     requires small { pair.restarts < 2 ^ 63 }
-    ensures way { IfOk result (λ way. IsWay owner pair (recorded (J.seen journal.old.device)) way) }
-    ensures held { OnOk result (IsHeld J.seen J.may_leave journal.new) }
-    ensures read { OnOk result (recorded (J.seen journal.new.device) ≡ recorded (J.seen journal.old.device)) }
+    ensures way { IfOk result (λ found. IsWay owner pair (recorded (J.seen journal.old.device)) found.0) }
+    ensures read { IfOk result (λ found. HasRead found.1 (J.seen journal.new.device)) }
+    ensures none { IfOk result (λ found. is_whole (drop found.1.end (J.seen journal.new.device)) ≡ false) }
+    ensures seen { J.seen journal.new.device ≡ J.seen journal.old.device }
+    ensures durable { OnOk result (LogOnly (J.seen journal.new.device) (J.may_leave journal.new.device)) }
     ensures any_moment { LogLeavesOnly J.moment J.left_since journal.old.device journal.new.device (ReadsAsBefore J.seen J.may_leave journal.old.device) }
     ensures later { J.failure_count journal.old.device ≤ J.failure_count journal.new.device }
     ensures foreign { IsErrOf result NodeError.ForeignJournal → IsForeign owner (recorded (J.seen journal.old.device)) }
@@ -214,13 +263,12 @@ fn find_way<J: JournalDevice>(
     ensures failed { IsErrOf result (NodeError.Journal NoteError.DeviceFailed)
         → LogHasRisen (J.failure_count journal.old.device) (J.failure_count journal.new.device) }
     ensures version { IsErrOf result (NodeError.Journal NoteError.AnotherVersion) → HasAnotherVersion (recorded (J.seen journal.old.device)) }
+    ensures damaged { IsErrOf result (NodeError.Journal NoteError.Damaged) → HasDamage (recorded (J.seen journal.old.device)) }
     ensures causes { IfErr result IsLogFault }
 {
-    let found = open_log(alloc, journal)?;
-    match found {
-        Some(told) => way_of(told, pair, owner),
-        None => Ok(Way::Begin),
-    }
+    let (found, reader) = read_log(alloc, journal)?;
+    let way = way_over(found, pair, owner)?;
+    Ok((way, reader))
 }
 
 /// A batch that begins with whose the journal is, where it is new.
@@ -415,6 +463,7 @@ pub fn start_over<D: Device, J: JournalDevice>(
     ensures same { IfErr result (λ e. e ≢ error.Store ViewStoreError.DeviceFailed → D.seen views.new.device ≡ D.seen views.old.device) }
     ensures log_same { IfErr result (λ e. IsEarly e
         → LogLeavesOnly J.moment J.left_since journal.old.device journal.new.device (ReadsAsBefore J.seen J.may_leave journal.old.device)) }
+    ensures early_same { IfErr result (λ e. IsEarly e → J.seen journal.new.device ≡ J.seen journal.old.device) }
     ensures no_pair { IsErrOf result (NodeError.Store ViewStoreError.NoPair) → CannotRestart owner.cluster (D.seen views.old.device) }
     ensures foreign_cluster { IsErrOf result (NodeError.Store ViewStoreError.ForeignCluster)
         → found owner.cluster (D.seen views.old.device) ≡ foreign }
@@ -426,6 +475,7 @@ pub fn start_over<D: Device, J: JournalDevice>(
     ensures log_failed { IsErrOf result (NodeError.Journal NoteError.DeviceFailed)
         → LogHasRisen (J.failure_count journal.old.device) (J.failure_count journal.new.device) }
     ensures another_version { IsErrOf result (NodeError.Journal NoteError.AnotherVersion) → HasAnotherVersion (recorded (J.seen journal.old.device)) }
+    ensures damaged { IsErrOf result (NodeError.Journal NoteError.Damaged) → HasDamage (recorded (J.seen journal.old.device)) }
     ensures keeps_journal { IsErrOf result (NodeError.Store ViewStoreError.KeepsJournal) → ⊥ }
     ensures not_failed { IsErrOf result (NodeError.Store ViewStoreError.Failed) → ⊥ }
     ensures not_halted { IsErrOf result NodeError.Halted → ⊥ }
@@ -434,8 +484,9 @@ pub fn start_over<D: Device, J: JournalDevice>(
     if pair.restarts >= MAX_NUMBER - 1 {
         return Err(NodeError::Store(ViewStoreError::NoPair));
     }
-    let way = find_way(alloc, journal, pair, owner)?;
+    let (way, reader) = find_way(alloc, journal, pair, owner)?;
     let made = make_start(alloc, pair, owner, way)?;
+    clear_log(alloc, journal, &reader)?;
     store_start(views, journal, &made.batch, made.pair)?;
     Ok(made)
 }
@@ -452,20 +503,23 @@ fn begin_log<J: JournalDevice>(
         (FirstLeaves J.seen J.may_leave (Some journal.old.device) (first_notes owner)) }
     ensures early { IfErr result (λ e. IsEarly e
         → LeavesOnlyIn J.moment J.left_since (Some journal.old.device) (Some journal.new.device) (RefusedLeaves J.seen J.may_leave (Some journal.old.device))) }
+    ensures early_same { IfErr result (λ e. IsEarly e → J.seen journal.new.device ≡ J.seen journal.old.device) }
     ensures stale { IsErrOf result NodeError.StaleJournal → IsNotEmpty J.seen (Some journal.old.device) }
     ensures failed { IsErrOf result (NodeError.Journal NoteError.DeviceFailed)
         → HasRisenIn J.failure_count (Some journal.old.device) (Some journal.new.device) }
     ensures foreign { IsErrOf result NodeError.ForeignJournal → ⊥ }
     ensures version { IsErrOf result (NodeError.Journal NoteError.AnotherVersion) → ⊥ }
+    ensures not_damaged { IsErrOf result (NodeError.Journal NoteError.Damaged) → ⊥ }
     ensures causes { IfErr result IsLogFault }
 {
-    open_first(alloc, journal)?;
+    let reader = read_first(alloc, journal)?;
     let pair = Pair {
         view: 0,
         restarts: 1,
         journaled: true,
     };
     let batch = start_notes(alloc, owner, true, pair, true)?;
+    clear_log(alloc, journal, &reader)?;
     match settle(journal, &batch) {
         Ok(()) => Ok(()),
         Err(error) => Err(refusal_of_writing(error)),
@@ -485,11 +539,13 @@ pub fn begin_first<J: JournalDevice>(
         (FirstLeaves J.seen J.may_leave (device_in journal.old) (first_notes owner)) }
     ensures early { IfErr result (λ e. IsEarly e
         → LeavesOnlyIn J.moment J.left_since (device_in journal.old) (device_in journal.new) (RefusedLeaves J.seen J.may_leave (device_in journal.old))) }
+    ensures early_same { IfErr result (λ e. IsEarly e → IsUnwritten J.seen (device_in journal.old) (device_in journal.new)) }
     ensures stale { IsErrOf result NodeError.StaleJournal → IsNotEmpty J.seen (device_in journal.old) }
     ensures failed { IsErrOf result (NodeError.Journal NoteError.DeviceFailed)
         → HasRisenIn J.failure_count (device_in journal.old) (device_in journal.new) }
     ensures foreign { IsErrOf result NodeError.ForeignJournal → ⊥ }
     ensures version { IsErrOf result (NodeError.Journal NoteError.AnotherVersion) → ⊥ }
+    ensures not_damaged { IsErrOf result (NodeError.Journal NoteError.Damaged) → ⊥ }
     ensures causes { IfErr result IsLogFault }
     ensures alone { (f : NoteError) → device_in journal.old ≡ None → IsErrOf result (NodeError.Journal f) → ⊥ }
 {

@@ -7,6 +7,7 @@ ghost use Rattle.dir_node.specs.private.Logged.{GoesAlong, IsHeldIn, IsToldIn};
 ghost use Rattle.dir_node.specs.NodeState.{given};
 ghost use Rattle.dir_node.specs.declared.fault.Untaken.TheVariants as untaken;
 ghost use Rattle.log_journal.specs.Refused.{IsOfKeepingOne};
+ghost use Rattle.log_journal.specs.Taken.{MakesSome};
 ghost use Rattle.log_journal.specs.Told.{Told};
 ghost use Rattle.vr_state.specs.Step.{step as step_of};
 ghost use Rattle.vr_state.specs.Views.{state};
@@ -37,6 +38,8 @@ fn take_noted<J: JournalDevice>(
         → LeavesOnlyIn J.moment J.left_since (Some journal.old.device) (Some journal.new.device)
         (TellsSome t replica.old.count replica.old.index (state replica.old) (event ∷ [])) }
     ensures noted { (e : NoteError) → IsErrOf result (Untaken.Journal e) → IsOfKeepingOne e }
+    ensures late { (e : NoteError) → IsErrOf result (Untaken.Journal e)
+        → MakesSome replica.old.count replica.old.index (state replica.old) (event ∷ []) (state replica.new) }
     ensures device_failed { IsErrOf result (Untaken.Journal NoteError.DeviceFailed)
         → HasRisenIn J.failure_count (Some journal.old.device) (Some journal.new.device) }
 {
@@ -66,6 +69,8 @@ pub fn take_one<J: JournalDevice>(
         → LeavesOnlyIn J.moment J.left_since (device_in journal.old) (device_in journal.new)
         (TellsSome t replica.old.count replica.old.index (state replica.old) (event ∷ [])) }
     ensures noted { (e : NoteError) → IsErrOf result (Untaken.Journal e) → IsOfKeepingOne e }
+    ensures late { (e : NoteError) → IsErrOf result (Untaken.Journal e)
+        → MakesSome replica.old.count replica.old.index (state replica.old) (event ∷ []) (state replica.new) }
     ensures device_failed { IsErrOf result (Untaken.Journal NoteError.DeviceFailed)
         → HasRisenIn J.failure_count (device_in journal.old) (device_in journal.new) }
     ensures alone { journal.old ≡ None → IfErr result (λ e. e ≡ untaken.NoMemory) }
@@ -118,6 +123,8 @@ pub fn take_all<J: JournalDevice>(
         → LeavesOnlyIn J.moment J.left_since (device_in journal.old) (device_in journal.new)
         (TellsSome t replica.old.count replica.old.index (state replica.old) events.items) }
     ensures noted { (e : NoteError) → IsErrOf result (Untaken.Journal e) → IsOfKeepingOne e }
+    ensures late { (e : NoteError) → IsErrOf result (Untaken.Journal e)
+        → MakesSome replica.old.count replica.old.index (state replica.old) events.items (state replica.new) }
     ensures device_failed { IsErrOf result (Untaken.Journal NoteError.DeviceFailed)
         → HasRisenIn J.failure_count (device_in journal.old) (device_in journal.new) }
     ensures alone { journal.old ≡ None → IfErr result (λ e. e ≡ untaken.NoMemory) }

@@ -5,13 +5,17 @@ use Rattle.view_store.specs.declared.fault.ViewStoreError.TheVariants as view
 use Rattle.dir_node.specs.declared.error.NodeError.{NodeError}
 use Rattle.dir_node.specs.declared.error.NodeError.TheVariants.{NoMemory, Store, Journal, ForeignJournal, StaleJournal, Halted}
 
--- Want of memory, or what spelling notes may give: no device has failed, and no journal was read.
+-- Want of memory, or notes that are too long: no device has failed, and no journal was read.
 abbrev pub IsNoteFault : NodeError → Type 0
 IsNoteFault NoMemory = Unit {0}
-IsNoteFault (Journal note.DeviceFailed) = ⊥
-IsNoteFault (Journal note.AnotherVersion) = ⊥
-IsNoteFault (Journal _) = Unit {0}
+IsNoteFault (Journal note.Full) = Unit {0}
 IsNoteFault _ = ⊥
+
+-- What clearing behind a journal's strings may give.
+abbrev pub IsClearFault : NodeError → Type 0
+IsClearFault NoMemory = Unit {0}
+IsClearFault (Journal note.DeviceFailed) = Unit {0}
+IsClearFault _ = ⊥
 
 -- What opening a journal may give.
 abbrev pub IsOpenFault : NodeError → Type 0

@@ -1,4 +1,4 @@
-use Rattle.std.proofs.Common.{List, ℕ, sym, subst}
+use Rattle.std.proofs.Common.{List, ℕ, sym, ap, ◌∙◌, subst}
 use Rattle.log_journal.specs.Kept.{IsMemory}
 use Rattle.log_journal.specs.journal.Frames.{recorded}
 use Rattle.vr_state.specs.State.{first}
@@ -10,6 +10,6 @@ use Rattle.dir_node.proofs.restarting.begin_log.Goals as goal
 pub returns-in-Ok-clause-told : goal.returns-in-Ok-clause-told
 returns-in-Ok-clause-told g c =
     let o = c.args.owner in
-    let old = recorded (g.J.Device.seen c.open_first.new.journal.device) in
+    let old = recorded (g.J.Device.seen c.clear_log.new.journal.device) in
     subst (λ (l : List (List ℕ)). IsMemory (head_of o.cluster o.index o.count 1) (first o.count) l) (sym c.in-Ok.ensures.strings)
-    (first_told o old c.in_ok-batch.batch c.in_ok-open_first.ensures.empty (put_first (first_notes o) c.in_ok-batch.batch c.in_ok-batch.ensures.notes))
+    (first_told o old c.in_ok-batch.batch (c.in_ok-clear_log.ensures.strings ∙ ap recorded c.read_first.ensures.seen ∙ c.in_ok-reader.ensures.empty) (put_first (first_notes o) c.in_ok-batch.batch c.in_ok-batch.ensures.notes))

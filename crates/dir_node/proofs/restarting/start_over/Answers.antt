@@ -1,4 +1,4 @@
-use Rattle.std.proofs.Common.{◌≡◌, ◌≢◌, ℕ, subst, sym, ◌∙◌, arith, rules}
+use Rattle.std.proofs.Common.{◌≡◌, ◌≢◌, ℕ, Err, refl, subst, sym, ap, ◌∙◌, arith, rules}
 use Rattle.log_journal.specs.journal.Device.{LeavesOnly as LogLeavesOnly}
 use Rattle.log_journal.specs.journal.Frames.{recorded}
 use Rattle.view_store.specs.declared.fault.ViewStoreError.TheVariants.{DeviceFailed}
@@ -8,7 +8,7 @@ use Rattle.dir_node.specs.declared.error.NodeError.{NodeError}
 use Rattle.dir_node.specs.declared.error.NodeError.TheVariants.{Store}
 use Rattle.view_store.specs.Slots.{own, found, IsWellPlaced}
 use Rattle.dir_node.specs.private.Ways.{start_by}
-use Rattle.dir_node.proofs.Restarts.{any_err, this_err, not_called, not_early, notes_left, only_read, read_alone, restart_left, restart_told, why_no_restart}
+use Rattle.dir_node.proofs.Restarts.{any_err, cleared_alone, early_clear, this_err, not_called, not_early, notes_left, only_read, read_alone, restart_left, restart_told, why_no_restart}
 use Rattle.dir_node.proofs.Starts.{put_first, way_is}
 use Rattle.dir_node.proofs.restarting.start_over.Goals as goal
 
@@ -74,6 +74,48 @@ returns-in_err-made-clause-any_log_moment g c =
     let o = c.args.owner in
     read_alone g.J.Device.seen g.J.Device.may_leave g.J.Device.moment g.J.Device.left_since j c.find_way.new.journal.device o (found o.cluster (g.D.Device.seen d)) c.find_way.ensures.any_moment
 
+-- what stands behind the strings wasn't cleared
+pub returns-in_err-clear_log-clause-any_moment : goal.returns-in_err-clear_log-clause-any_moment
+returns-in_err-clear_log-clause-any_moment g c = λ placed.
+    let d = c.args.views.now.device in
+    let j = c.args.journal.now.device in
+    let o = c.args.owner in
+    only_read g.D.Device.seen g.D.Device.may_leave g.D.Device.moment g.D.Device.left_since d c.load.new.self.device o (recorded (g.J.Device.seen j)) (c.load.ensures.any_moment c.requires.new)
+
+pub returns-in_err-clear_log-clause-any_log_moment : goal.returns-in_err-clear_log-clause-any_log_moment
+returns-in_err-clear_log-clause-any_log_moment g c =
+    let d = c.args.views.now.device in
+    let j = c.args.journal.now.device in
+    let o = c.args.owner in
+    read_alone g.J.Device.seen g.J.Device.may_leave g.J.Device.moment g.J.Device.left_since j c.clear_log.new.journal.device o (found o.cluster (g.D.Device.seen d))
+    (cleared_alone g.J.Device.seen g.J.Device.may_leave g.J.Device.moment g.J.Device.left_since j c.find_way.new.journal.device c.clear_log.new.journal.device c.find_way.ensures.seen c.find_way.ensures.any_moment c.clear_log.ensures.any_moment)
+
+pub returns-in_err-clear_log-clause-log_same : goal.returns-in_err-clear_log-clause-log_same
+returns-in_err-clear_log-clause-log_same g c =
+    let j = c.args.journal.now.device in
+    any_err c.from_residual-in_err-clear_log.result (λ (x : NodeError). IsEarly x → LogLeavesOnly g.J.Device.moment g.J.Device.left_since j c.clear_log.new.journal.device (ReadsAsBefore g.J.Device.seen g.J.Device.may_leave j)) (λ e early.
+    (cleared_alone g.J.Device.seen g.J.Device.may_leave g.J.Device.moment g.J.Device.left_since j c.find_way.new.journal.device c.clear_log.new.journal.device c.find_way.ensures.seen c.find_way.ensures.any_moment c.clear_log.ensures.any_moment))
+
+pub returns-in_err-clear_log-clause-early_same : goal.returns-in_err-clear_log-clause-early_same
+returns-in_err-clear_log-clause-early_same g c =
+    this_err c.from_residual-in_err-clear_log.result c.in_err-clear_log.field-0.0 (λ (x : NodeError). IsEarly x → g.J.Device.seen c.clear_log.new.journal.device ≡ g.J.Device.seen c.args.journal.now.device) (search rules)
+    (λ early. c.in_err-clear_log.ensures.no_memory (ap (λ (x : NodeError). Err x) (early_clear c.in_err-clear_log.field-0.0 c.in_err-clear_log.ensures.causes early)) ∙ c.find_way.ensures.seen)
+
+-- nothing was written
+pub returns-in_err-pair-clause-early_same : goal.returns-in_err-pair-clause-early_same
+returns-in_err-pair-clause-early_same g c = any_err c.from_residual.result (λ (x : NodeError). IsEarly x → g.J.Device.seen c.args.journal.now.device ≡ g.J.Device.seen c.args.journal.now.device) (λ e early. refl)
+
+pub returns-in_err-way-clause-early_same : goal.returns-in_err-way-clause-early_same
+returns-in_err-way-clause-early_same g c = any_err c.from_residual-in_err-way.result (λ (x : NodeError). IsEarly x → g.J.Device.seen c.find_way.new.journal.device ≡ g.J.Device.seen c.args.journal.now.device) (λ e early. c.find_way.ensures.seen)
+
+pub returns-in_err-made-clause-early_same : goal.returns-in_err-made-clause-early_same
+returns-in_err-made-clause-early_same g c = any_err c.from_residual-in_err-made.result (λ (x : NodeError). IsEarly x → g.J.Device.seen c.find_way.new.journal.device ≡ g.J.Device.seen c.args.journal.now.device) (λ e early. c.find_way.ensures.seen)
+
+pub returns-in_err-store_start-clause-early_same : goal.returns-in_err-store_start-clause-early_same
+returns-in_err-store_start-clause-early_same g c =
+    this_err c.from_residual-in_err-store_start.result c.in_err-store_start.field-0.0 (λ (x : NodeError). IsEarly x → g.J.Device.seen c.store_start.new.journal.device ≡ g.J.Device.seen c.args.journal.now.device) (search rules)
+    (λ early. absurd (not_early c.in_err-store_start.field-0.0 c.in_err-store_start.ensures.causes early))
+
 -- the notes and the pair were written, or one of them wasn't
 pub store_start-requires-clause-settled : goal.store_start-requires-clause-settled
 store_start-requires-clause-settled g c =
@@ -100,8 +142,8 @@ returns-in_err-store_start-clause-any_log_moment g c =
     let strings = recorded (g.J.Device.seen j) in
     let way = c.in_ok-way.way in
     let is : found o.cluster (g.D.Device.seen d) ≡ own pair = subst (λ (k : ℕ). found k (g.D.Device.seen d) ≡ own pair) c.requires.cluster c.in_ok-pair.ensures.found in
-    notes_left g.J.Device.seen g.J.Device.may_leave g.J.Device.moment g.J.Device.left_since j c.find_way.new.journal.device c.store_start.new.journal.device o (found o.cluster (g.D.Device.seen d)) pair (start_by o pair way) c.in_ok-made.made.batch is (way_is o pair strings way c.in_ok-way.ensures.way)
-    (put_first (start_by o pair way).notes c.in_ok-made.made.batch c.in_ok-made.ensures.made.notes) c.in_ok-way.ensures.read c.find_way.ensures.any_moment c.store_start.ensures.any_log_moment
+    notes_left g.J.Device.seen g.J.Device.may_leave g.J.Device.moment g.J.Device.left_since j c.clear_log.new.journal.device c.store_start.new.journal.device o (found o.cluster (g.D.Device.seen d)) pair (start_by o pair way) c.in_ok-made.made.batch is (way_is o pair strings way c.in_ok-way.ensures.way)
+    (put_first (start_by o pair way).notes c.in_ok-made.made.batch c.in_ok-made.ensures.made.notes) (c.in_ok-clear_log.ensures.strings ∙ ap recorded c.find_way.ensures.seen) (cleared_alone g.J.Device.seen g.J.Device.may_leave g.J.Device.moment g.J.Device.left_since j c.find_way.new.journal.device c.clear_log.new.journal.device c.find_way.ensures.seen c.find_way.ensures.any_moment c.clear_log.ensures.any_moment) c.store_start.ensures.any_log_moment
 
 pub returns-in_err-store_start-clause-same : goal.returns-in_err-store_start-clause-same
 returns-in_err-store_start-clause-same g c =
@@ -146,7 +188,7 @@ returns-clause-told g c =
     let strings = recorded (g.J.Device.seen j) in
     let way = c.in_ok-way.way in
     let is : found o.cluster (g.D.Device.seen d) ≡ own pair = subst (λ (k : ℕ). found k (g.D.Device.seen d) ≡ own pair) c.requires.cluster c.in_ok-pair.ensures.found in
-    restart_told o pair strings (recorded (g.J.Device.seen c.find_way.new.journal.device)) (recorded (g.J.Device.seen c.store_start.new.journal.device)) way c.in_ok-made.made c.in_ok-way.ensures.way c.in_ok-made.ensures.made c.in_ok-way.ensures.read c.in_ok-store_start.ensures.strings
+    restart_told o pair strings (recorded (g.J.Device.seen c.clear_log.new.journal.device)) (recorded (g.J.Device.seen c.store_start.new.journal.device)) way c.in_ok-made.made c.in_ok-way.ensures.way c.in_ok-made.ensures.made (c.in_ok-clear_log.ensures.strings ∙ ap recorded c.find_way.ensures.seen) c.in_ok-store_start.ensures.strings
 
 pub returns-clause-any_moment : goal.returns-clause-any_moment
 returns-clause-any_moment g c =
@@ -169,5 +211,5 @@ returns-clause-any_log_moment g c =
     let strings = recorded (g.J.Device.seen j) in
     let way = c.in_ok-way.way in
     let is : found o.cluster (g.D.Device.seen d) ≡ own pair = subst (λ (k : ℕ). found k (g.D.Device.seen d) ≡ own pair) c.requires.cluster c.in_ok-pair.ensures.found in
-    notes_left g.J.Device.seen g.J.Device.may_leave g.J.Device.moment g.J.Device.left_since j c.find_way.new.journal.device c.store_start.new.journal.device o (found o.cluster (g.D.Device.seen d)) pair (start_by o pair way) c.in_ok-made.made.batch is (way_is o pair strings way c.in_ok-way.ensures.way)
-    (put_first (start_by o pair way).notes c.in_ok-made.made.batch c.in_ok-made.ensures.made.notes) c.in_ok-way.ensures.read c.find_way.ensures.any_moment c.store_start.ensures.any_log_moment
+    notes_left g.J.Device.seen g.J.Device.may_leave g.J.Device.moment g.J.Device.left_since j c.clear_log.new.journal.device c.store_start.new.journal.device o (found o.cluster (g.D.Device.seen d)) pair (start_by o pair way) c.in_ok-made.made.batch is (way_is o pair strings way c.in_ok-way.ensures.way)
+    (put_first (start_by o pair way).notes c.in_ok-made.made.batch c.in_ok-made.ensures.made.notes) (c.in_ok-clear_log.ensures.strings ∙ ap recorded c.find_way.ensures.seen) (cleared_alone g.J.Device.seen g.J.Device.may_leave g.J.Device.moment g.J.Device.left_since j c.find_way.new.journal.device c.clear_log.new.journal.device c.find_way.ensures.seen c.find_way.ensures.any_moment c.clear_log.ensures.any_moment) c.store_start.ensures.any_log_moment

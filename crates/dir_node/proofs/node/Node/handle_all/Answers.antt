@@ -1,13 +1,15 @@
 use Rattle.std.proofs.Common.{◌≡◌, Bool, false, is_some, ◌∙◌, subst, rules}
+use Rattle.log_journal.specs.Taken.{MakesSome}
 use Rattle.vr_state.specs.Views.{state}
 use Rattle.view_store.specs.Device.{LeavesOnly}
 use Rattle.view_store.specs.Slots.{own, IsWellPlaced}
 use Rattle.view_store.specs.Store.{IsFormerOrNew}
+use Rattle.dir_node.specs.Handling.{MakesSteps}
 use Rattle.dir_node.specs.Logged.{LeavesOnlyIn, TellsSome, device_in, head_of}
 use Rattle.dir_node.specs.NodeState.{NodeValue, head, pair_of}
 use Rattle.dir_node.specs.private.NodeState.{Holds}
-use Rattle.dir_node.proofs.Logging.{left_running, runs_on}
-use Rattle.dir_node.proofs.Views.{left_pair, untouched}
+use Rattle.dir_node.proofs.Logging.{left_running, runs_on, tells_on}
+use Rattle.dir_node.proofs.Views.{left_pair, stored_error, untouched}
 use Rattle.dir_node.proofs.node.Node.handle_all.Goals as goal
 
 -- the batch was refused memory: the pair's device isn't called
@@ -88,3 +90,30 @@ returns-in-Ok-follow-clause-logged g c =
     left_running g.D.Device.seen g.D.Device.may_leave g.J.Device.seen g.J.Device.may_leave c.follow.new.views c.take_all.new.journal c.take_all.new.replica.index c.take_all.new.replica.count (state c.take_all.new.replica) i.restarts
     (runs_on g.D.Device.seen g.D.Device.may_leave g.J.Device.seen g.J.Device.may_leave i.views c.follow.new.views i.journal c.take_all.new.journal i.replica.index i.replica.count c.take_all.new.replica.index c.take_all.new.replica.count
     (state i.replica) (state c.take_all.new.replica) i.restarts (c.self.invariant c.if-self.false) c.follow.ensures.cluster c.take_all.ensures.index c.take_all.ensures.count (subst (λ (b : Bool). Holds g.D.Device.seen g.D.Device.may_leave c.follow.new.views (record { view = c.take_all.new.replica.view_number; restarts = c.self.inside.restarts; journaled = b })) told c.in-Ok-follow.ensures.held) c.in-Ok.ensures.kept)
+
+-- the pair wasn't stored: the journal tells the replica after the steps, and the device gives one of the two pairs
+pub returns-in-Err-clause-store_late : goal.returns-in-Err-clause-store_late
+returns-in-Err-clause-store_late g c = λ e is.
+    let i = c.self.inside in (
+      (
+        c.in-Ok.outputs.items,
+        subst (λ (n : NodeValue g.row.D.Denot g.row.J.Denot). MakesSteps n.count n.index n.replica c.args.events.items c.in-Ok.outputs.items (state c.take_all.new.replica)) c.self.view_is c.in-Ok.ensures.taken,
+      ),
+      tells_on g.D.Device.seen g.D.Device.may_leave g.J.Device.seen g.J.Device.may_leave i.views c.follow.new.views i.journal c.take_all.new.journal i.replica.index i.replica.count c.take_all.new.replica.index c.take_all.new.replica.count
+          (state i.replica) (state c.take_all.new.replica) i.restarts (c.self.invariant c.if-self.false) c.follow.ensures.cluster c.take_all.ensures.index c.take_all.ensures.count c.in-Ok.ensures.kept,
+    )
+
+pub returns-in-Err-clause-stopped : goal.returns-in-Err-clause-stopped
+returns-in-Err-clause-stopped g c = λ is.
+    let s = g.D.Device.seen in
+    let r = c.self.inside.replica in
+    let restarts = c.self.inside.restarts in
+    let views = c.self.inside.views in
+    let told : c.is_some.result ≡ is_some c.take_all.new.journal = search rules in
+    subst (λ (n : NodeValue g.row.D.Denot g.row.J.Denot). IsWellPlaced (s n.device) → IsFormerOrNew n.cluster (own (pair_of n)) (record (pair_of n) { view = c.take_all.new.replica.view_number }) (s c.follow.new.views.device)) c.self.view_is
+    (λ placed. subst (λ (b : Bool). IsFormerOrNew views.cluster (own (record { view = r.view_number; restarts = restarts; journaled = b })) (record { view = c.take_all.new.replica.view_number; restarts = restarts; journaled = b }) (s c.follow.new.views.device)) (told ∙ c.take_all.ensures.journaled) (c.in-Err.ensures.stopped (stored_error c.in-Err.error _ is) placed))
+
+-- the notes weren't settled: the replica is as it is after some first of the events
+pub returns-in-Err-Journal-clause-log_late : goal.returns-in-Err-Journal-clause-log_late
+returns-in-Err-Journal-clause-log_late g c = λ e is.
+    subst (λ (n : NodeValue g.row.D.Denot g.row.J.Denot). MakesSome n.count n.index n.replica c.args.events.items (state c.take_all.new.replica)) c.self.view_is (c.in-Err-Journal.ensures.late c.in-Err-Journal.error (search rules))
