@@ -37,7 +37,7 @@ on_true true e h = h
 on_true false e h = cc
 
 pub same_then : (g h k : PooledSession) → IsSame g h → IsSame h k → IsSame g k
-same_then g h k a b = record { place = b.place ∙ a.place; number = b.number ∙ a.number }
+same_then g h k a b = record { place = b.place ∙ a.place; number = b.number ∙ a.number; debt = b.debt ∙ a.debt }
 
 drop_none : (n : ℕ) → drop {A = ℕ} n [] ≡ []
 drop_none zero = refl

@@ -18,7 +18,8 @@ use Rattle.client_link.below.ldap_filter.proofs.tree.Filter.TheLaws.TheKnot as f
 use Rattle.client_link.below.ldap_framer.specs.contracts.framer.Framer as Framer
 use Rattle.client_link.proofs.Config.TheSendSync as config
 use Rattle.client_link.proofs.Door.TheSendSync as door
-use Rattle.session_table.proofs.Book.TheSendSync as book
+use Rattle.session_turns.proofs.Book.TheSendSync as book
+use Rattle.session_turns.proofs.Turns.TheSendSync as turns
 use Rattle.session_memory.proofs.Budget.TheSendSync as budget
 use Rattle.session_memory.proofs.Holders.TheSendSync as holders
 use Rattle.session_turns.proofs.Lead.TheSendSync as lead
@@ -34,7 +35,7 @@ session_send : IsSend PooledSession.the_row
 session_send = search (framer_send, octets.the_send, stream.the_field_send, instant.the_field_send, duration.the_field_send, crosses, sendable) depth 60 fits 20000
 
 table_send : IsSend Table.the_row
-table_send = search (session_send, book.the_send, holders.the_send, lead.the_send, instant.the_send, crosses, sendable) depth 60 fits 20000
+table_send = search (session_send, book.the_send, turns.the_send, holders.the_send, lead.the_send, instant.the_send, crosses, sendable) depth 60 fits 20000
 
 -- A pool is shared by its threads where its runtime and whoever is told of its sessions are.
 pub pool_sync : (a : NamedLft) (R T : RattleType) → IsSync R → IsSync T → IsSync (SessionPool.the_row a R T)

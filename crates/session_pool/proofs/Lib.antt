@@ -5,3 +5,4 @@ pub mod Lined
 pub mod Posted
 pub mod Rows
 pub mod Standing
+pub mod Turned

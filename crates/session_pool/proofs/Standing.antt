@@ -7,9 +7,9 @@ use Rattle.std.proofs.lemmas.Bool.{ltb-true, lt-ltb}
 use Rattle.std.proofs.lemmas.Option.{slice_get_within}
 use Rattle.std.proofs.lemmas.Map.Steps.{length-le_from_distinct_below}
 use Rattle.session_pool.specs.private.Stands.{times, once, is_free, is_ready, is_updates, is_waiting, is_in_queue, is_made, is_here, has_some}
-use Rattle.session_table.specs.declared.spot.Queue.{Queue}
-use Rattle.session_table.specs.declared.spot.Spot.{Spot}
-use Rattle.session_table.specs.declared.spot.Spot.TheVariants.{Away as SpotAway, In}
+use Rattle.session_turns.specs.declared.spot.Queue.{Queue}
+use Rattle.session_turns.specs.declared.spot.Spot.{Spot}
+use Rattle.session_turns.specs.declared.spot.Spot.TheVariants.{Away as SpotAway, In}
 use Rattle.session_pool.specs.declared.place_state.PlaceState.{PlaceState}
 use Rattle.session_pool.specs.declared.place_state.PlaceState.TheVariants.{New, Free, Away, Waits, Ready, Updates}
 
@@ -81,7 +81,7 @@ push_each P xs x here each q = by (eqb_tells q (length xs))
     by (inl e) = subst (λ (r : ℕ). P r (slice_get (xs ++ x ∷ []) r)) (sym e.1) (subst (P (length xs)) (sym (get_pushed xs x)) here)
     by (inr e) = subst (P q) (sym (get_before xs q x e.1)) (each q)
 
-times_append : (q : ℕ) (xs ys : List ℕ) → times q (xs ++ ys) ≡ times q xs + times q ys
+pub times_append : (q : ℕ) (xs ys : List ℕ) → times q (xs ++ ys) ≡ times q xs + times q ys
 times_append q [] ys = omega arith
 times_append q (x ∷ xs) ys = omega (arith, times_append q xs ys)
 
@@ -112,6 +112,24 @@ module _ (is : PlaceState → Bool) (stands : List PlaceState) (p : ℕ) (was no
           let l = listed q in
           let j : times q ys ≡ times q xs = omega arith in
           j ∙ l ∙ ap (once is) (sym (get_other stands p q now e.1))
+
+  -- it is in a list once more, of what it stands for now
+  pub joins_list : (xs ys : List ℕ) → is was ≡ false → is now ≡ true → ((q : ℕ) → times q ys ≡ times q xs + cond (nat_eq q p) 1 0) →
+      ((q : ℕ) → times q xs ≡ once is (slice_get stands q)) → (q : ℕ) → times q ys ≡ once is (slice_get (slice_set stands p now) q)
+  joins_list xs ys f g more listed = moves xs ys listed (λ q. rw (f, g) (change q (nat_eq q p) refl))
+    where
+      change : (q : ℕ) (b : Bool) → nat_eq q p ≡ b → times q ys + cond b 0 0 ≡ times q xs + cond b 1 0
+      change q true e = let t : times q ys ≡ times q xs + 1 = rw e at (more q) in omega arith
+      change q false e = let t : times q ys ≡ times q xs + 0 = rw e at (more q) in omega arith
+
+  -- or once less, of what it stood for
+  pub leaves_list : (xs ys : List ℕ) → is was ≡ true → is now ≡ false → ((q : ℕ) → times q ys + cond (nat_eq q p) 1 0 ≡ times q xs) →
+      ((q : ℕ) → times q xs ≡ once is (slice_get stands q)) → (q : ℕ) → times q ys ≡ once is (slice_get (slice_set stands p now) q)
+  leaves_list xs ys f g less listed = moves xs ys listed (λ q. rw (f, g) (change q (nat_eq q p) refl))
+    where
+      change : (q : ℕ) (b : Bool) → nat_eq q p ≡ b → times q ys + cond b 1 0 ≡ times q xs + cond b 0 0
+      change q true e = let t : times q ys + 1 ≡ times q xs = rw e at (less q) in omega arith
+      change q false e = let t : times q ys + 0 ≡ times q xs = rw e at (less q) in omega arith
 
   -- a list of what it neither stood nor stands for stays
   pub stays : (xs : List ℕ) → is was ≡ false → is now ≡ false → ((q : ℕ) → times q xs ≡ once is (slice_get stands q)) →
@@ -194,7 +212,7 @@ stands_new (Ready ∷ ss) zero h e = cc
 stands_new (Updates ∷ ss) zero h e = cc
 stands_new (s ∷ ss) (suc p) h e = stands_new ss p (omega arith) e
 
-same_number : (p : ℕ) → nat_eq p p ≡ true
+pub same_number : (p : ℕ) → nat_eq p p ≡ true
 same_number p = by (eqb_tells p p)
   where
     by : ((nat_eq p p ≡ true) × (p ≡ p)) ⊎ ((nat_eq p p ≡ false) × (p ≢ p)) → nat_eq p p ≡ true
@@ -210,8 +228,8 @@ last_listed p ps = let t = times_append p ps (p ∷ []) in let f = first_listed 
 pub last_is_free : (stands : List PlaceState) (free left : List ℕ) (p : ℕ) → free ≡ left ++ p ∷ [] → ((q : ℕ) → times q free ≡ once is_free (slice_get stands q)) → slice_get stands p ≡ Some Free
 last_is_free stands free left p e listed = let f : 0 < times p free = rw e (last_listed p left) in let l = listed p in stands_free (slice_get stands p) (omega arith)
 
-pub first_is_ready : (stands : List PlaceState) (ready left : List ℕ) (p : ℕ) → ready ≡ p ∷ left → ((q : ℕ) → times q ready ≡ once is_ready (slice_get stands q)) → slice_get stands p ≡ Some Ready
-first_is_ready stands ready left p e listed = let f : 0 < times p ready = rw e (first_listed p left) in let l = listed p in stands_ready (slice_get stands p) (omega arith)
+pub listed_is_ready : (stands : List PlaceState) (ready : List ℕ) (p : ℕ) → 0 < times p ready → ((q : ℕ) → times q ready ≡ once is_ready (slice_get stands q)) → slice_get stands p ≡ Some Ready
+listed_is_ready stands ready p f listed = let l = listed p in stands_ready (slice_get stands p) (omega arith)
 
 pub first_is_updates : (stands : List PlaceState) (updates left : List ℕ) (p : ℕ) → updates ≡ p ∷ left → ((q : ℕ) → times q updates ≡ once is_updates (slice_get stands q)) → slice_get stands p ≡ Some Updates
 first_is_updates stands updates left p e listed = let f : 0 < times p updates = rw e (first_listed p left) in let l = listed p in stands_updates (slice_get stands p) (omega arith)

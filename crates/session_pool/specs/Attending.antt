@@ -25,10 +25,11 @@ talk g = conversation_view g.conversation
 abbrev pub due_next : ConversationValue → Due
 due_next v = due v.end v.session
 
--- it is the same session, at the same place
+-- it is the same session, at the same place, and owes the same
 pub record IsSame (g h : PooledSession) : Type 0 where
   pub place : h.place ≡ g.place
   pub number : h.number ≡ g.number
+  pub debt : h.debt ≡ g.debt
 
 -- A front of a buffer was heard, which isn't empty: what was read of an input.
 pub record HearsSome (input left : Option (List ℕ)) (v : ConversationValue) (buffer : List ℕ) (w : ConversationValue) : Type 0 where

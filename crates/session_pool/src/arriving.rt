@@ -3,7 +3,7 @@ use crate::pool::SessionPool;
 use crate::pooled::PooledSession;
 use crate::tells::{Away, Tells};
 use libc::EMFILE;
-use session_table::Queue;
+use session_turns::Queue;
 use std::net::{SocketAddr, TcpListener, TcpStream};
 use std::sync::Wait;
 use std::time::{Clock, Duration, Instant};

@@ -1,5 +1,5 @@
 //! A session at a seat: its messages are answered, and it is parked, queued or ended. Which session comes next is not here.
-ghost use Rattle.std.specs.Prelude.{◌≡◌, None, IsFalse};
+ghost use Rattle.std.specs.Prelude.{◌≡◌, ◌+◌, ◌-◌, min, false, None, IsFalse};
 ghost use Rattle.std.specs.Bool.{OnTrue, OnFalse};
 ghost use Rattle.client_link.specs.session_handler.View.{config_view};
 ghost use Rattle.client_link.specs.Served.{config_of};
@@ -11,8 +11,7 @@ use crate::pool::SessionPool;
 use crate::pooled::{Heard, PooledSession, Then};
 use crate::tells::Tells;
 use client_link::{Config, Directory, Due};
-use session_table::Queue;
-use session_turns::{After, Seen, follows};
+use session_turns::{After, Queue, Seen, follows};
 use std::sync::Wait;
 use std::sync::atomic::Ordering;
 use std::time::{Clock, Duration, Instant};
@@ -47,6 +46,36 @@ struct Stay {
     turns: u32,
     /// Whether it ends with the message that was answered last, since others are ready.
     is_over: bool,
+    /// For how many microseconds the thread has done nothing for the session: it waited for its next message, or looked at the sockets of others.
+    apart: u64,
+}
+
+impl Stay {
+    /// A stay that begins at this moment.
+    fn new(begun: u64) -> Stay
+        ensures { result ≡ record { begun = begun; turns = 0; is_over = false; apart = 0 } }
+    {
+        Stay {
+            begun,
+            turns: 0,
+            is_over: false,
+            apart: 0,
+        }
+    }
+
+    /// The thread has done nothing for the session since this moment.
+    fn set_apart(&mut self, since: u64, now: u64)
+        ensures { self.new ≡ record self.old { apart = min (self.old.apart + (now - since)) 18446744073709551615 } }
+    {
+        self.apart = self.apart.saturating_add(now.saturating_sub(since));
+    }
+
+    /// For how many microseconds the thread has served the session.
+    fn spent(&self, now: u64) -> u64
+        ensures { result ≡ now - self.now.begun - self.now.apart }
+    {
+        now.saturating_sub(self.begun).saturating_sub(self.apart)
+    }
 }
 
 /// Whether less than this many microseconds have gone by.
@@ -59,21 +88,24 @@ fn is_within<R: Clock>(rt: &R, since: Instant, limit: u64) -> bool {
 
 impl<'a, R: Wait + Clock, T: Tells> SessionPool<'a, R, T> {
     /// What a thread does behind a message of its stay.
-    fn what_follows(&self, stay: &Stay) -> After {
+    fn what_follows(&self, stay: &Stay, now: u64) -> After {
         let seen = Seen {
             ready: self.queued.load(Ordering::SeqCst),
             is_led: self.is_led.load(Ordering::SeqCst),
             looked: self.looked.load(Ordering::SeqCst),
         };
-        follows(seen, self.micros(), stay.begun)
+        follows(seen, now, stay.begun)
     }
 
     /// Behind a message: looks which sockets are ready where that is due, and ends the stay where others are.
     fn look_around(&self, stay: &mut Stay) {
-        let mut after = self.what_follows(stay);
+        let now = self.micros();
+        let mut after = self.what_follows(stay, now);
         if after == After::Looks {
             self.look();
-            after = self.what_follows(stay);
+            let looked = self.micros();
+            stay.set_apart(now, looked);
+            after = self.what_follows(stay, looked);
         }
         if after == After::Ends {
             stay.is_over = true;
@@ -168,16 +200,18 @@ impl<'a, R: Wait + Clock, T: Tells> SessionPool<'a, R, T> {
     }
 
     /// Waits for the next octets of a quick session.
-    fn linger(&self, pooled: &mut PooledSession, buffer: &mut [u8]) -> Heard
+    fn linger(&self, pooled: &mut PooledSession, buffer: &mut [u8], stay: &mut Stay) -> Heard
         ensures same { IsSame pooled.old pooled.new }
         ensures heard { HasHeard None None (talk pooled.old) buffer.new (talk pooled.new) result }
     {
-        let since = Instant::now(self.rt);
+        let since = self.micros();
         let heard = pooled.hear(buffer, self);
         self.lingering.fetch_sub(1, Ordering::SeqCst);
-        pooled.is_quick = match (since, heard) {
-            (Ok(since), Heard::Octets) => is_within(self.rt, since, SOON_HEARD),
-            _ => false,
+        let now = self.micros();
+        stay.set_apart(since, now);
+        pooled.is_quick = match heard {
+            Heard::Octets => now.saturating_sub(since) < SOON_HEARD,
+            Heard::Nothing | Heard::Ends(_) => false,
         };
         heard
     }
@@ -199,7 +233,7 @@ impl<'a, R: Wait + Clock, T: Tells> SessionPool<'a, R, T> {
         if is_ready {
             pooled.hear(buffer, self)
         } else if self.may_linger(pooled, stay) {
-            self.linger(pooled, buffer)
+            self.linger(pooled, buffer, stay)
         } else {
             Heard::Nothing
         }
@@ -211,24 +245,20 @@ impl<'a, R: Wait + Clock, T: Tells> SessionPool<'a, R, T> {
         pooled: &mut PooledSession,
         directory: &mut D,
         buffer: &mut [u8],
+        stay: &mut Stay,
     ) -> Then
         ensures same { IsSame pooled.old pooled.new }
         ensures attends { Attends D.allows (config_of (config_view self.now.config) pooled.old.number) (talk pooled.old)
             (talk pooled.new) directory.old directory.new result }
     {
-        let mut stay = Stay {
-            begun: self.micros(),
-            turns: 0,
-            is_over: false,
-        };
         let mut is_ready = pooled.is_silent();
-        let mut then = self.sit_once(pooled, directory, &mut stay);
+        let mut then = self.sit_once(pooled, directory, stay);
         for _sitting in 1..SITTINGS {
             let Then::Listens = then else {
                 return then;
             };
-            match self.hear_on(pooled, buffer, is_ready, &mut stay) {
-                Heard::Octets => then = self.sit_once(pooled, directory, &mut stay),
+            match self.hear_on(pooled, buffer, is_ready, stay) {
+                Heard::Octets => then = self.sit_once(pooled, directory, stay),
                 Heard::Nothing => return Then::Listens,
                 Heard::Ends(end) => return Then::Ends(end),
             }
@@ -262,7 +292,10 @@ impl<'a, R: Wait + Clock, T: Tells> SessionPool<'a, R, T> {
                 return directory;
             };
             pooled.is_quick = is_within(self.rt, pooled.since, SOON_PARKED);
-            let then = self.attend(&mut pooled, &mut directory, &mut buffer);
+            let mut stay = Stay::new(self.micros());
+            let then = self.attend(&mut pooled, &mut directory, &mut buffer, &mut stay);
+            let now = self.micros();
+            pooled.charge(stay.spent(now), now);
             self.dismiss(pooled, then);
         }
         directory

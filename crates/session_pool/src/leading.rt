@@ -11,8 +11,7 @@ use client_link::SessionEnd;
 use mio::event::Event;
 use mio::unix::SourceFd;
 use mio::{Interest, Token};
-use session_table::Queue;
-use session_turns::{Act, Call, Was};
+use session_turns::{Act, Call, Queue, Was};
 use std::os::fd::AsRawFd;
 use std::sync::Wait;
 use std::sync::atomic::Ordering;
@@ -120,13 +119,16 @@ impl<'a, R: Wait + Clock, T: Tells> SessionPool<'a, R, T> {
         }
     }
 
+    /// For how many microseconds the pool had been there at this moment.
+    fn micros_at(&self, now: Instant) -> u64 {
+        let time = now.saturating_duration_since(self.start).as_micros();
+        u64::try_from(time).unwrap_or(u64::MAX)
+    }
+
     /// For how many microseconds the pool has been there; 0, where the clock can't be read.
     pub fn micros(&self) -> u64 {
         match Instant::now(self.rt) {
-            Ok(now) => {
-                let time = now.saturating_duration_since(self.start).as_micros();
-                u64::try_from(time).unwrap_or(u64::MAX)
-            }
+            Ok(now) => self.micros_at(now),
             Err(_) => 0,
         }
     }
@@ -148,14 +150,15 @@ impl<'a, R: Wait + Clock, T: Tells> SessionPool<'a, R, T> {
         }
     }
 
-    /// Queues a session of which a whole message stands next.
+    /// Queues a session of which a whole message stands next, in its class.
     pub fn queue(&self, mut pooled: PooledSession) {
         if !self.admits(&mut pooled) {
             return self.end_for_memory(pooled);
         }
         let (place, holder) = (pooled.place, pooled.holder());
+        let now = self.micros();
         let mut table = self.table.lock(self.rt);
-        if let Err(pooled) = table.places.line_up(pooled, Turn::Seat) {
+        if let Err(pooled) = table.places.line_up(pooled, Turn::Seat, now) {
             drop(table);
             return self.end(pooled, SessionEnd::NoMemory);
         }
@@ -178,7 +181,8 @@ impl<'a, R: Wait + Clock, T: Tells> SessionPool<'a, R, T> {
         let (place, holder) = (pooled.place, pooled.holder());
         let (fd, token) = (pooled.stream.as_raw_fd(), token_of(place, pooled.number));
         let mut table = self.table.lock(self.rt);
-        if let Err(pooled) = table.places.line_up(pooled, Turn::Update) {
+        let micros = self.micros_at(now);
+        if let Err(pooled) = table.places.line_up(pooled, Turn::Update, micros) {
             drop(table);
             return self.end(pooled, SessionEnd::NoMemory);
         }
@@ -190,7 +194,7 @@ impl<'a, R: Wait + Clock, T: Tells> SessionPool<'a, R, T> {
 
     /// The session of a place no longer waits for its socket, which is ready, but for its turn. Whether one waited there.
     fn rouse(&self, table: &mut Table, place: usize, now: Instant) -> bool {
-        let Some((fd, turn)) = table.places.rouse(place, now) else {
+        let Some((fd, turn)) = table.places.rouse(place, now, self.micros_at(now)) else {
             return false;
         };
         let _ = self.registry.deregister(&mut SourceFd(&fd));

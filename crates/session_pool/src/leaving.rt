@@ -8,7 +8,7 @@ use crate::tells::Tells;
 use client_link::SessionEnd;
 use mio::Interest;
 use mio::unix::SourceFd;
-use session_table::Queue;
+use session_turns::Queue;
 use std::os::fd::AsRawFd;
 use std::sync::Wait;
 use std::time::{Clock, Instant};

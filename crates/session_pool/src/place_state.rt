@@ -1,4 +1,6 @@
-//! Where the session of a place is. Plain enums.
+//! Where the session of a place is. Plain types.
+use session_turns::Class;
+use std::os::fd::RawFd;
 
 /// Where the session of a place is.
 #[derive(Clone, Copy, Debug)]
@@ -33,4 +35,12 @@ pub enum Turn {
     Seat,
     /// A thread that updates.
     Update,
+}
+
+/// A session that waits for its client no more: its socket, for what it waits now, and in which class.
+#[derive(Clone, Copy, Debug)]
+pub struct Roused {
+    pub fd: RawFd,
+    pub turn: Turn,
+    pub class: Class,
 }

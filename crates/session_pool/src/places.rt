@@ -2,17 +2,18 @@
 //! thread at a time.
 ghost use Rattle.std.specs.Prelude.{◌≡◌, ◌≤◌, ◌<◌, ◌++◌, ◌∷◌, [], ℕ, List, Option, Some, None, IsTrue, IsFalse, ◌↔◌, IfSome, IfNone, OnOk, OnErr, Err, IfErr, IfOk, IsOk, slice_get, replicate, nat_lt, length, vec_len, vec_capacity};
 ghost use Rattle.std.specs.VecDeque.{deque_capacity};
-ghost use Rattle.session_table.specs.Places.{IsIn, NoneIn};
-ghost use Rattle.session_table.specs.declared.spot.Queue.{Queue};
-ghost use Rattle.session_pool.specs.private.Stands.{times, once, is_made, is_free, is_ready, is_updates, is_waiting, is_in_queue, is_here, has_some};
+ghost use Rattle.session_turns.specs.Places.{IsIn, NoneIn};
+ghost use Rattle.session_turns.specs.Turning.{nobody, how_many};
+ghost use Rattle.session_turns.specs.declared.spot.Queue.{Queue};
+ghost use Rattle.session_pool.specs.private.Stands.{times, places_in, once, is_made, is_free, is_ready, is_updates, is_waiting, is_in_queue, is_here, has_some};
 ghost use Rattle.session_pool.specs.private.Attending.{RousesAt, NotesAt};
 ghost use Rattle.session_pool.specs.declared.pooled.PooledSession.{PooledSession};
 ghost use Rattle.session_pool.specs.declared.place_state.PlaceState.{PlaceState};
 
-use crate::place_state::{NoPlace, PlaceState, Turn};
+use crate::place_state::{NoPlace, PlaceState, Roused, Turn};
 use crate::pooled::{Notice, PooledSession};
 use crate::updaters::is_past;
-use session_table::{Book, Queue, Spot};
+use session_turns::{Book, Queue, Spot, Turns};
 use std::alloc::{AllocError, Global};
 use std::collections::VecDeque;
 use std::os::fd::{AsRawFd, RawFd};
@@ -30,11 +31,11 @@ pub struct Places {
     /// The places that were given and are free again.
     free: Vec<usize>,
     /// The places of sessions that wait for a seat, and of those that wait for a thread that updates.
-    ready: VecDeque<usize>,
+    ready: Turns,
     updates: VecDeque<usize>,
     // A place is in each list once where it stands so, and never where it doesn't.
     ghost frees: { (p : ℕ) → times p free.items ≡ once is_free (slice_get stands.items p) },
-    ghost readies: { (p : ℕ) → times p ready.items ≡ once is_ready (slice_get stands.items p) },
+    ghost readies: { (p : ℕ) → times p (places_in ready.queues) ≡ once is_ready (slice_get stands.items p) },
     ghost updating: { (p : ℕ) → times p updates.items ≡ once is_updates (slice_get stands.items p) },
     ghost waits: { (p : ℕ) → is_in_queue (slice_get book p) ≡ is_waiting (slice_get stands.items p) },
     // A session is at each place that says so, and at its own.
@@ -44,18 +45,22 @@ pub struct Places {
     ghost booked: { length book ≡ length stands.items },
     // The lists have room for all places.
     ghost room_free: { length stands.items ≤ vec_capacity free },
-    ghost room_ready: { length stands.items ≤ deque_capacity ready },
+    ghost room_ready: { length stands.items ≤ ready.room },
     ghost room_updates: { length stands.items ≤ deque_capacity updates },
 }
 
-/// The session at a place waits for its client no more: its socket, and for what it waits.
-fn roused(pooled: &mut Option<PooledSession>, now: Instant) -> Option<(RawFd, Turn)>
-    ensures { RousesAt pooled.old pooled.new result }
+/// The session at a place waits for its client no more.
+fn roused(pooled: &mut Option<PooledSession>, now: Instant, micros: u64) -> Option<Roused>
+    ensures { RousesAt pooled.old micros pooled.new result }
 {
     match pooled {
         Some(pooled) => {
             pooled.rouse(now);
-            Some((pooled.stream.as_raw_fd(), pooled.turn()))
+            Some(Roused {
+                fd: pooled.stream.as_raw_fd(),
+                turn: pooled.turn(),
+                class: pooled.class(micros),
+            })
         }
         None => None,
     }
@@ -89,7 +94,7 @@ impl Places {
     /// Places, all free. Room for sessions is made as they come.
     pub fn new(alloc: Global, size: usize) -> Result<Places, AllocError>
         ensures stands { IfOk result (λ t. (tabled t).stands ≡ replicate size PlaceState.New) }
-        ensures ready { IfOk result (λ t. (tabled t).ready ≡ []) }
+        ensures ready { IfOk result (λ t. (tabled t).ready ≡ nobody size) }
         ensures updates { IfOk result (λ t. (tabled t).updates ≡ []) }
     {
         Ok(Places {
@@ -97,7 +102,7 @@ impl Places {
             stands: vec![in alloc; PlaceState::New; size]?,
             sessions: Vec::new(alloc),
             free: Vec::with_capacity(alloc, size)?,
-            ready: VecDeque::with_capacity(alloc, size)?,
+            ready: Turns::new(alloc, size)?,
             updates: VecDeque::with_capacity(alloc, size)?,
         })
     }
@@ -184,9 +189,15 @@ impl Places {
         }
     }
 
-    /// Puts a session at its place, where it waits for its turn behind all others; it comes back where the place isn't its own.
-    pub fn line_up(&mut self, pooled: PooledSession, turn: Turn) -> Result<(), PooledSession>
-        ensures ok { OnOk result (LinesUp (tabled self.old) pooled turn (tabled self.new)) }
+    /// Puts a session at its place, where it waits for its turn: for a seat behind all others of its class at this moment, in microseconds. It comes
+    /// back where the place isn't its own.
+    pub fn line_up(
+        &mut self,
+        pooled: PooledSession,
+        turn: Turn,
+        now: u64,
+    ) -> Result<(), PooledSession>
+        ensures ok { OnOk result (LinesUp (tabled self.old) pooled turn now (tabled self.new)) }
         ensures err { IfErr result (λ back. (back ≡ pooled) × (tabled self.new ≡ tabled self.old)) }
         ensures succeeds { IsAt (tabled self.old) pooled.place PlaceState.Away → IsOk result }
     {
@@ -194,11 +205,12 @@ impl Places {
         if !self.is_away(place) {
             return Err(pooled);
         }
+        let class = pooled.class(now);
         self.sessions[place] = Some(pooled);
         match turn {
             Turn::Seat => {
                 self.stands[place] = PlaceState::Ready;
-                self.ready.push_back_reserved(place);
+                self.ready.line_up(place, class);
                 Ok(())
             }
             Turn::Update => {
@@ -220,13 +232,13 @@ impl Places {
         self.sessions[place].take()
     }
 
-    /// Takes the next session that waits for a seat: the one that has waited longest.
+    /// Takes the next session that waits for a seat: the one whose turn it is.
     pub fn next_ready(&mut self) -> Option<PooledSession>
         ensures some { IfSome result (λ g. Sits (tabled self.old) g (tabled self.new)) }
-        ensures none { IfNone result ((tabled self.old).ready ≡ []) }
+        ensures none { IfNone result (how_many (tabled self.old).ready ≡ 0) }
         ensures left { IfNone result (tabled self.new ≡ tabled self.old) }
     {
-        let place = self.ready.pop_front()?;
+        let place = self.ready.take_next()?;
         self.stands[place] = PlaceState::Away;
         self.sessions[place].take()
     }
@@ -309,19 +321,19 @@ impl Places {
         self.sessions[place].as_ref()
     }
 
-    /// The session of a place that waits for its client waits for its turn, behind all others; its socket, and for what it waits. None, where no
-    /// session waits for its client there.
-    pub fn rouse(&mut self, place: usize, now: Instant) -> Option<(RawFd, Turn)>
-        ensures some { IfSome result (λ r. Rouses (tabled self.old) place r.1 (tabled self.new)) }
+    /// The session of a place that waits for its client waits for its turn, for a seat behind all others of its class; its socket, and for what it
+    /// waits. The moment comes as the system and as the pool tell it, in microseconds. None, where no session waits for its client there.
+    pub fn rouse(&mut self, place: usize, now: Instant, micros: u64) -> Option<(RawFd, Turn)>
+        ensures some { IfSome result (λ r. Rouses (tabled self.old) place r.1 micros (tabled self.new)) }
         ensures none { IfNone result (IsAt (tabled self.old) place PlaceState.Waits → ⊥) }
         ensures left { IfNone result (tabled self.new ≡ tabled self.old) }
     {
         self.book.take(place)?;
-        let (fd, turn) = roused(&mut self.sessions[place], now)?;
+        let Roused { fd, turn, class } = roused(&mut self.sessions[place], now, micros)?;
         match turn {
             Turn::Seat => {
                 self.stands[place] = PlaceState::Ready;
-                self.ready.push_back_reserved(place);
+                self.ready.line_up(place, class);
                 Some((fd, Turn::Seat))
             }
             Turn::Update => {
@@ -360,7 +372,7 @@ impl Places {
 
     /// How many sessions wait for a seat.
     pub fn ready(&self) -> usize
-        ensures { result ≡ length (tabled self.now).ready }
+        ensures { result ≡ how_many (tabled self.now).ready }
     {
         self.ready.len()
     }

@@ -2,6 +2,7 @@
 ghost use Rattle.std.specs.Prelude.{◌≡◌, ◌↔◌, ◌+◌, [], length, min, cond, true, false, IsTrue, IsSome, None, IfOk, OnOk, OnErr};
 ghost use Rattle.client_link.specs.ldap_session.Conversing.{IsFresh};
 ghost use Rattle.client_link.specs.ldap_session.View.{conversation_view};
+ghost use Rattle.session_turns.specs.Owing.{nothing_owed, charged, class_of};
 ghost use Rattle.session_pool.specs.declared.place_state.Turn.{Turn};
 ghost use Rattle.session_pool.specs.Attending.{talk, due_next, IsSame, HasSent, Becomes};
 ghost use Rattle.session_pool.specs.private.Attending.{HasHeard, began_while, began_in, HasPaused, IsLate, SendsTo, HasToWrite, IsSlow, HasCause, WaitsFor, HasWaited, Counts, IsSilent, IsUpdateNext, IsDelayed, HasNoted, HasGivenUp};
@@ -11,7 +12,7 @@ use crate::place_state::Turn;
 use crate::updaters::is_past;
 use client_link::{Conversation, Due, SessionEnd, stretch};
 use session_memory::Holder;
-use session_table::Queue;
+use session_turns::{Class, Debt, Queue};
 use std::alloc::Global;
 use std::io;
 use std::io::{ErrorKind, Read, Write};
@@ -39,6 +40,8 @@ pub struct PooledSession {
     pub is_quick: bool,
     /// Whether its socket doesn't wait, since the client lets octets wait.
     pub is_stuck: bool,
+    /// What it owes of the time of seats.
+    debt: Debt,
     /// Since when it waits.
     pub since: Instant,
     /// How long its client has let the octets wait that are unsent, and how many it has taken meanwhile.
@@ -236,6 +239,7 @@ impl PooledSession {
         ensures place { IfOk result (λ g. g.place ≡ place) }
         ensures number { IfOk result (λ g. g.number ≡ number) }
         ensures fresh { IfOk result (λ g. IsFresh (talk g)) }
+        ensures owes_nothing { IfOk result (λ g. g.debt ≡ nothing_owed) }
     {
         stream.set_nodelay(true)?;
         stream.set_read_timeout(Some(Duration::from_millis(LINGER)))?;
@@ -247,6 +251,7 @@ impl PooledSession {
             stream,
             is_quick: false,
             is_stuck: false,
+            debt: Debt::new(),
             since,
             waited: Duration::from_secs(0),
             taken: 0,
@@ -259,6 +264,23 @@ impl PooledSession {
             over: None,
             is_refused: false,
         })
+    }
+
+    /// A seat has spent so many microseconds on its messages until now.
+    pub fn charge(&mut self, used: u64, now: u64)
+        ensures place { self.new.place ≡ self.old.place }
+        ensures number { self.new.number ≡ self.old.number }
+        ensures kept { talk self.new ≡ talk self.old }
+        ensures charged { self.new.debt ≡ charged self.old.debt used now }
+    {
+        self.debt.charge(used, now);
+    }
+
+    /// The class in which it waits for a seat, at a moment.
+    pub fn class(&self, now: u64) -> Class
+        ensures { result ≡ class_of self.now.debt now }
+    {
+        self.debt.class(now)
     }
 
     /// Reads once. What is heard is put into the conversation. Where that makes a message whole, the next one has not begun.

@@ -13,10 +13,13 @@ use Rattle.client_link.specs.ldap_session.Waiting.{bind_next}
 use Rattle.client_link.specs.ldap_session.declared.due.Due.{Due}
 use Rattle.client_link.specs.ldap_session.declared.due.Due.TheVariants.{Nothing as DueNothing, Update as DueUpdate, Other as DueOther}
 use Rattle.client_link.specs.ldap_session.declared.end.SessionEnd.TheVariants.{WriteFailed}
-use Rattle.session_table.specs.declared.spot.Queue.{Queue}
-use Rattle.session_table.specs.declared.spot.Queue.TheVariants.{Silent, Inside, Unsent, Leaving, Delayed}
+use Rattle.session_turns.specs.Owing.{class_of}
+use Rattle.session_turns.specs.declared.owing.Class.{Class}
+use Rattle.session_turns.specs.declared.spot.Queue.{Queue}
+use Rattle.session_turns.specs.declared.spot.Queue.TheVariants.{Silent, Inside, Unsent, Leaving, Delayed}
 use Rattle.session_pool.specs.private.Posting.{IsPast}
 use Rattle.session_pool.specs.declared.place_state.Turn.{Turn}
+use Rattle.session_pool.specs.declared.place_state.Roused.{Roused}
 use Rattle.session_pool.specs.declared.place_state.Turn.TheVariants.{Update}
 use Rattle.session_pool.specs.declared.pooled.PooledSession.{PooledSession}
 use Rattle.session_pool.specs.declared.pooled.Heard.{Heard}
@@ -124,19 +127,21 @@ pub record HasRoused (g h : PooledSession) (turn : Turn) : Type 0 where
   pub waited : HasWaited g h
   pub turn_is : (turn ≡ Update) ↔ IsUpdateNext h
 
--- the session at a place is roused, if one is there
-pub record RousesOne (g : PooledSession) (after : Option PooledSession) (told : Option (ℤ × Turn)) : Type 0 where
+-- the session at a place is roused, if one is there; it waits for its turn in the class of what it owes now
+pub record RousesOne (g : PooledSession) (now : ℕ) (after : Option PooledSession) (told : Option Roused) : Type 0 where
   pub pooled : PooledSession
   pub fd : ℤ
   pub turn : Turn
+  pub class : Class
   pub after_is : after ≡ Some pooled
-  pub told_is : told ≡ Some (fd, turn)
+  pub told_is : told ≡ Some (record { fd = fd; turn = turn; class = class })
+  pub class_is : class ≡ class_of pooled.debt now
   pub roused : HasRoused g pooled turn
 
 -- nothing where no session waits there, else what rousing that one does
-abbrev pub RousesAt : Option PooledSession → Option PooledSession → Option (ℤ × Turn) → Type 0
-RousesAt None after told = (after ≡ None) × (told ≡ None)
-RousesAt (Some g) after told = RousesOne g after told
+abbrev pub RousesAt : Option PooledSession → ℕ → Option PooledSession → Option Roused → Type 0
+RousesAt None now after told = (after ≡ None) × (told ≡ None)
+RousesAt (Some g) now after told = RousesOne g now after told
 
 -- what it waits for in a stream that is none but messages: the rest of a message only inside one
 abbrev pub WaitsFor : SessionValue → Queue → Type 0

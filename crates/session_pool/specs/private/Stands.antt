@@ -1,9 +1,20 @@
 -- Where the sessions of places are, and the lists of places beside that. Plain lists come in; whether they agree comes out.
-use Rattle.std.specs.Prelude.{ℕ, ◌+◌, List, [], ◌∷◌, Bool, true, false, cond, nat_eq, Option, None, Some}
-use Rattle.session_table.specs.declared.spot.Spot.{Spot}
-use Rattle.session_table.specs.declared.spot.Spot.TheVariants.{In}
+use Rattle.std.specs.Prelude.{ℕ, ◌+◌, List, [], ◌∷◌, ◌++◌, Bool, true, false, cond, nat_eq, Option, None, Some}
+use Rattle.session_turns.specs.Turning.{Queues}
+use Rattle.session_turns.specs.declared.class_queues.Waiting.{Waiting}
+use Rattle.session_turns.specs.declared.spot.Spot.{Spot}
+use Rattle.session_turns.specs.declared.spot.Spot.TheVariants.{In}
 use Rattle.session_pool.specs.declared.place_state.PlaceState.{PlaceState}
 use Rattle.session_pool.specs.declared.place_state.PlaceState.TheVariants.{New, Free, Waits, Ready, Updates}
+
+-- the places of those that wait in a queue
+abbrev pub places_of : List Waiting → List ℕ
+places_of [] = []
+places_of (w ∷ ws) = w.place ∷ places_of ws
+
+-- and in all queues of those that wait for a seat
+abbrev pub places_in : Queues → List ℕ
+places_in q = places_of q.first ++ (places_of q.second ++ (places_of q.third ++ places_of q.last))
 
 -- how often a place is in a list
 abbrev pub times : ℕ → List ℕ → ℕ

@@ -5,10 +5,13 @@ use Rattle.std.specs.Duration.{as_nanos}
 use Rattle.std.specs.Time.{instant_nanos}
 use Rattle.std.specs.declared.time.Duration.{Duration}
 use Rattle.std.specs.declared.time.Instant.{Instant}
-use Rattle.session_table.specs.Places.{IsIn, HasPut, HasTaken, IsLongest, NoneIn}
-use Rattle.session_table.specs.declared.spot.Queue.{Queue}
-use Rattle.session_table.specs.declared.spot.Queue.TheVariants.{Leaving}
-use Rattle.session_table.specs.declared.spot.Spot.{Spot}
+use Rattle.session_turns.specs.Places.{IsIn, HasPut, HasTaken, IsLongest, NoneIn}
+use Rattle.session_turns.specs.Owing.{class_of}
+use Rattle.session_turns.specs.Turning.{TurnsValue, next_place, taken, lined_up as turns_lined_up}
+use Rattle.session_turns.specs.declared.owing.Class.{Class}
+use Rattle.session_turns.specs.declared.spot.Queue.{Queue}
+use Rattle.session_turns.specs.declared.spot.Queue.TheVariants.{Leaving}
+use Rattle.session_turns.specs.declared.spot.Spot.{Spot}
 use Rattle.session_pool.specs.Attending.{IsSame}
 use Rattle.session_pool.specs.private.Attending.{HasRoused, HasNoted}
 use Rattle.session_pool.specs.declared.pooled.Notice.{Notice}
@@ -21,17 +24,17 @@ use Rattle.session_pool.specs.declared.place_state.Turn.{Turn}
 use Rattle.session_pool.specs.declared.place_state.Turn.TheVariants.{Seat, Update}
 
 -- A table: where the session of each place is, the sessions that are at their places, which of them wait for their clients in which queue, and
--- the places of those that wait for a seat, or for a thread that updates, first in, first out.
+-- the places of those that wait for a seat, each in its class, or for a thread that updates, first in, first out.
 pub record Tabled : Type 0 where
   pub stands : List PlaceState
   pub sessions : List (Option PooledSession)
   pub spots : List Spot
-  pub ready : List ℕ
+  pub ready : TurnsValue
   pub updates : List ℕ
 
 -- the value that a table stands for
 abbrev pub tabled : Places → Tabled
-tabled t = record { stands = t.stands.items; sessions = t.sessions.items; spots = t.book; ready = t.ready.items; updates = t.updates.items }
+tabled t = record { stands = t.stands.items; sessions = t.sessions.items; spots = t.book; ready = t.ready; updates = t.updates.items }
 
 -- the session of a place stands so
 abbrev pub IsAt : Tabled → ℕ → PlaceState → Type 0
@@ -74,15 +77,15 @@ pub record Parks (t : Tabled) (g : PooledSession) (queue : Queue) (u : Tabled) :
   pub put : HasPut t.spots g.place queue u.spots
   pub after : u ≡ record t { stands = slice_set t.stands g.place Waits; sessions = slice_set t.sessions g.place (Some g); spots = u.spots }
 
--- the session of a place is behind all others that wait for their turn
-abbrev pub lined_up : Tabled → ℕ → Turn → Tabled
-lined_up t p Seat = record t { stands = slice_set t.stands p Ready; ready = t.ready ++ p ∷ [] }
-lined_up t p Update = record t { stands = slice_set t.stands p Updates; updates = t.updates ++ p ∷ [] }
+-- the session of a place is behind all others that wait for their turn: for a seat, in its class
+abbrev pub lined_up : Tabled → ℕ → Turn → Class → Tabled
+lined_up t p Seat class = record t { stands = slice_set t.stands p Ready; ready = turns_lined_up t.ready p class }
+lined_up t p Update class = record t { stands = slice_set t.stands p Updates; updates = t.updates ++ p ∷ [] }
 
--- a session that a thread had is at its place, where it waits for its turn behind all others
-pub record LinesUp (t : Tabled) (g : PooledSession) (turn : Turn) (u : Tabled) : Type 0 where
+-- a session that a thread had is at its place, where it waits for its turn behind all others: for a seat, in the class of what it owes now
+pub record LinesUp (t : Tabled) (g : PooledSession) (turn : Turn) (now : ℕ) (u : Tabled) : Type 0 where
   pub away : IsAt t g.place Away
-  pub after : u ≡ lined_up (record t { sessions = slice_set t.sessions g.place (Some g) }) g.place turn
+  pub after : u ≡ lined_up (record t { sessions = slice_set t.sessions g.place (Some g) }) g.place turn (class_of g.debt now)
 
 -- a thread has the session of a place
 abbrev pub without : Tabled → ℕ → Tabled
@@ -95,12 +98,12 @@ pub record Wakes (t : Tabled) (p : ℕ) (g : PooledSession) (u : Tabled) : Type 
   pub taken : HasTaken t.spots p queue u.spots
   pub after : u ≡ record (without t p) { spots = u.spots }
 
--- a seat takes the session that has waited longest for one
+-- a seat takes the session whose turn it is
 pub record Sits (t : Tabled) (g : PooledSession) (u : Tabled) : Type 0 where
   pub place : ℕ
   pub home : IsHome t g place
-  pub first : t.ready ≡ place ∷ u.ready
-  pub after : u ≡ record (without t place) { ready = u.ready }
+  pub next : next_place t.ready ≡ Some place
+  pub after : u ≡ record (without t place) { ready = taken t.ready }
 
 -- a thread that updates takes the session that has waited longest for one
 pub record Works (t : Tabled) (g : PooledSession) (u : Tabled) : Type 0 where
@@ -136,15 +139,15 @@ pub record IsLeaving (t : Tabled) (p : ℕ) (g : PooledSession) : Type 0 where
   pub is_in : IsIn t.spots p Leaving turn
 
 -- the session of a place that waited for its client waits for its turn behind all others: for a thread that updates, where its next message may
--- be an update
-pub record Rouses (t : Tabled) (p : ℕ) (turn : Turn) (u : Tabled) : Type 0 where
+-- be an update; else for a seat, in the class of what it owes now
+pub record Rouses (t : Tabled) (p : ℕ) (turn : Turn) (now : ℕ) (u : Tabled) : Type 0 where
   pub before : PooledSession
   pub after : PooledSession
   pub queue : Queue
   pub home : IsHome t before p
   pub taken : HasTaken t.spots p queue u.spots
   pub roused : HasRoused before after turn
-  pub lined : u ≡ lined_up (record t { sessions = slice_set t.sessions p (Some after); spots = u.spots }) p turn
+  pub lined : u ≡ lined_up (record t { sessions = slice_set t.sessions p (Some after); spots = u.spots }) p turn (class_of after.debt now)
 
 -- none waits in a queue, or one that has waited longest has not waited for so long
 pub record IsPatient (t : Tabled) (queue : Queue) (limit : Duration) (now : Instant) : Type 0 where

@@ -8,6 +8,8 @@ returns-in-Some c =
       fd = _;
       turn = c.turn.result;
       after_is = refl;
+      class = c.class.result;
       told_is = refl;
+      class_is = c.class.ensures;
       roused = record { waited = c.rouse.ensures.waited; turn_is = c.turn.ensures };
     })

@@ -1,6 +1,6 @@
 use Rattle.std.proofs.Common.{◌≡◌, refl, sym, ap, ◌∙◌, Some, slice_get, nat_lt, inr, arith, length, rules}
 use Rattle.std.proofs.lemmas.Option.{slice_get_within}
-use Rattle.session_pool.specs.private.Stands.{times, is_free, is_ready, is_updates, is_waiting, is_in_queue, is_made, is_here, has_some}
+use Rattle.session_pool.specs.private.Stands.{places_in, times, is_free, is_ready, is_updates, is_waiting, is_in_queue, is_made, is_here, has_some}
 use Rattle.session_pool.specs.declared.place_state.PlaceState.TheVariants.{Free, Away}
 use Rattle.session_pool.proofs.Standing.{last_is_free, leaves_back, stays, same_of}
 use Rattle.session_pool.proofs.places.Places.claim.Goals as goal
@@ -19,7 +19,7 @@ invariant_of-self c =
     let stood : slice_get s.stands.items p ≡ Some Free = last_is_free s.stands.items s.free.items c.pop.new.self.items p c.in-Some.ensures.items s.frees in
     record {
       frees = leaves_back is_free s.stands.items p Free Away stood c.pop.new.self.items refl refl (λ q. ap (times q) (sym c.in-Some.ensures.items) ∙ s.frees q);
-      readies = stays is_ready s.stands.items p Free Away stood s.ready.items refl refl s.readies;
+      readies = stays is_ready s.stands.items p Free Away stood (places_in s.ready.queues) refl refl s.readies;
       updating = stays is_updates s.stands.items p Free Away stood s.updates.items refl refl s.updating;
       waits = same_of is_waiting (λ q. is_in_queue (slice_get s.book q)) s.stands.items p Free Away stood refl s.waits;
       here = same_of is_here (λ q. has_some (slice_get s.sessions.items q)) s.stands.items p Free Away stood refl s.here;

@@ -1,6 +1,6 @@
 use Rattle.std.proofs.Common.{◌≡◌, ℕ, List, refl, sym, subst, Some, slice_get, nat_lt, arith, length, rules}
 use Rattle.std.specs.Prelude.{slice_set}
-use Rattle.session_pool.specs.private.Stands.{times, once, is_free, is_ready, is_updates, is_waiting, is_in_queue, is_made, is_here, has_some}
+use Rattle.session_pool.specs.private.Stands.{places_in, times, once, is_free, is_ready, is_updates, is_waiting, is_in_queue, is_made, is_here, has_some}
 use Rattle.session_pool.specs.declared.place_state.PlaceState.TheVariants.{Free, Away}
 use Rattle.session_pool.proofs.Standing.{joins, stays, same_of, has_room}
 use Rattle.session_pool.proofs.places.Places.free.Goals as goal
@@ -20,7 +20,7 @@ invariant_of-self c =
     record {
       frees = subst (λ (ps : List ℕ). (q : ℕ) → times q ps ≡ once is_free (slice_get (slice_set s.stands.items p Free) q)) (sym c.push_reserved.ensures.items)
           (joins is_free s.stands.items p Away Free stood s.free.items refl refl s.frees);
-      readies = stays is_ready s.stands.items p Away Free stood s.ready.items refl refl s.readies;
+      readies = stays is_ready s.stands.items p Away Free stood (places_in s.ready.queues) refl refl s.readies;
       updating = stays is_updates s.stands.items p Away Free stood s.updates.items refl refl s.updating;
       waits = same_of is_waiting (λ q. is_in_queue (slice_get s.book q)) s.stands.items p Away Free stood refl s.waits;
       here = same_of is_here (λ q. has_some (slice_get s.sessions.items q)) s.stands.items p Away Free stood refl s.here;

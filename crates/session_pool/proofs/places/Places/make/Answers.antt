@@ -1,7 +1,7 @@
 use Rattle.std.proofs.Common.{◌≡◌, ℕ, ◌<◌, List, [], ◌∷◌, ◌++◌, refl, sym, ap, ◌∙◌, subst, Some, None, slice_get, nat_lt, inl, arith, length, rules}
 use Rattle.std.specs.Prelude.{slice_set, Option}
 use Rattle.std.proofs.lemmas.Option.{slice_get_past}
-use Rattle.session_pool.specs.private.Stands.{is_free, is_ready, is_updates, is_waiting, is_in_queue, is_made, is_here, has_some}
+use Rattle.session_pool.specs.private.Stands.{places_in, is_free, is_ready, is_updates, is_waiting, is_in_queue, is_made, is_here, has_some}
 use Rattle.session_pool.specs.private.Tabling.{flat}
 use Rattle.session_pool.specs.declared.pooled.PooledSession.{PooledSession}
 use Rattle.session_pool.specs.declared.place_state.PlaceState.TheVariants.{New, Away}
@@ -21,7 +21,7 @@ invariant_of-self-2 c =
     same_of is_here (λ q. has_some (slice_get s.sessions.items q)) s.stands.items p New Away stood refl s.here in
     record {
       frees = stays is_free s.stands.items p New Away stood s.free.items refl refl s.frees;
-      readies = stays is_ready s.stands.items p New Away stood s.ready.items refl refl s.readies;
+      readies = stays is_ready s.stands.items p New Away stood (places_in s.ready.queues) refl refl s.readies;
       updating = stays is_updates s.stands.items p New Away stood s.updates.items refl refl s.updating;
       waits = same_of is_waiting (λ q. is_in_queue (slice_get s.book q)) s.stands.items p New Away stood refl s.waits;
       here = subst (λ (gs : List (Option PooledSession)). (q : ℕ) → has_some (slice_get gs q) ≡ is_here (slice_get (slice_set s.stands.items p Away) q)) (sym grown)

@@ -1,7 +1,7 @@
 use Rattle.std.proofs.Common.{◌≡◌, ℕ, List, ◌∷◌, refl, sym, ap, ◌∙◌, subst, Some, None, slice_get, nat_lt, arith, length, rules}
 use Rattle.std.specs.Prelude.{slice_set, Option}
 use Rattle.std.proofs.lemmas.Option.{slice_get_within, get_or_from_slice_get}
-use Rattle.session_pool.specs.private.Stands.{times, is_free, is_ready, is_updates, is_waiting, is_in_queue, is_made, is_here, has_some}
+use Rattle.session_pool.specs.private.Stands.{places_in, times, is_free, is_ready, is_updates, is_waiting, is_in_queue, is_made, is_here, has_some}
 use Rattle.session_pool.specs.declared.pooled.PooledSession.{PooledSession}
 use Rattle.session_pool.specs.declared.place_state.PlaceState.TheVariants.{Away, Updates}
 use Rattle.session_pool.proofs.Standing.{first_is_updates, leaves, stays, same_of, set_each, set_both, below_made, length_set, session_there}
@@ -39,7 +39,7 @@ invariant_of-self-2 c =
     let gone : c.take.new.self ≡ None = c.take.ensures.after in
     record {
       frees = stays is_free s.stands.items p Updates Away stood s.free.items refl refl s.frees;
-      readies = stays is_ready s.stands.items p Updates Away stood s.ready.items refl refl s.readies;
+      readies = stays is_ready s.stands.items p Updates Away stood (places_in s.ready.queues) refl refl s.readies;
       updating = leaves is_updates s.stands.items p Updates Away stood left refl refl (λ q. ap (times q) (sym out) ∙ s.updating q);
       waits = same_of is_waiting (λ q. is_in_queue (slice_get s.book q)) s.stands.items p Updates Away stood refl s.waits;
       here = set_both (λ q a b. has_some a ≡ is_here b) s.sessions.items s.stands.items p c.take.new.self Away wg ws (ap (λ (x : Option PooledSession). has_some (Some x)) gone) s.here;

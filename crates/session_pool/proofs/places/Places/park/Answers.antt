@@ -1,9 +1,9 @@
 use Rattle.std.proofs.Common.{◌≡◌, ℕ, List, refl, sym, ap, ◌∙◌, subst, Some, slice_get, nat_lt, arith, length, rules}
 use Rattle.std.specs.Prelude.{slice_set}
 use Rattle.std.proofs.lemmas.Option.{slice_get_within}
-use Rattle.session_table.specs.declared.spot.Spot.{Spot}
-use Rattle.session_table.specs.declared.spot.Spot.TheVariants.{Away as SpotAway, In}
-use Rattle.session_pool.specs.private.Stands.{is_free, is_ready, is_updates, is_waiting, is_in_queue, is_made, is_here, has_some}
+use Rattle.session_turns.specs.declared.spot.Spot.{Spot}
+use Rattle.session_turns.specs.declared.spot.Spot.TheVariants.{Away as SpotAway, In}
+use Rattle.session_pool.specs.private.Stands.{places_in, is_free, is_ready, is_updates, is_waiting, is_in_queue, is_made, is_here, has_some}
 use Rattle.session_pool.specs.declared.pooled.PooledSession.{PooledSession}
 use Rattle.session_pool.specs.declared.place_state.PlaceState.TheVariants.{Away, Waits}
 use Rattle.session_pool.proofs.Standing.{stays, same_of, set_each, set_both, below_made, away_in_book, length_set, own_place}
@@ -20,7 +20,7 @@ invariant_of-self c =
     let put = c.in-Ok.ensures.ok away in
     record {
       frees = stays is_free s.stands.items p Away Waits stood s.free.items refl refl s.frees;
-      readies = stays is_ready s.stands.items p Away Waits stood s.ready.items refl refl s.readies;
+      readies = stays is_ready s.stands.items p Away Waits stood (places_in s.ready.queues) refl refl s.readies;
       updating = stays is_updates s.stands.items p Away Waits stood s.updates.items refl refl s.updating;
       waits = subst (λ (xs : List Spot). (q : ℕ) → is_in_queue (slice_get xs q) ≡ is_waiting (slice_get (slice_set s.stands.items p Waits) q)) (sym put.put)
           (set_both (λ q a b. is_in_queue a ≡ is_waiting b) s.book s.stands.items p (In c.args.queue put.turn) Waits (slice_get_within s.book p SpotAway away) ws refl s.waits);

@@ -1,9 +1,9 @@
 use Rattle.std.proofs.Common.{◌≡◌, ℕ, List, refl, sym, ap, ◌∙◌, subst, Some, None, slice_get, nat_lt, length, rules}
 use Rattle.std.specs.Prelude.{slice_set, Option}
 use Rattle.std.proofs.lemmas.Option.{slice_get_within, get_or_from_slice_get}
-use Rattle.session_table.specs.declared.spot.Spot.{Spot}
-use Rattle.session_table.specs.declared.spot.Spot.TheVariants.{Away as SpotAway, In}
-use Rattle.session_pool.specs.private.Stands.{is_free, is_ready, is_updates, is_waiting, is_in_queue, is_made, is_here, has_some}
+use Rattle.session_turns.specs.declared.spot.Spot.{Spot}
+use Rattle.session_turns.specs.declared.spot.Spot.TheVariants.{Away as SpotAway, In}
+use Rattle.session_pool.specs.private.Stands.{places_in, is_free, is_ready, is_updates, is_waiting, is_in_queue, is_made, is_here, has_some}
 use Rattle.session_pool.specs.declared.pooled.PooledSession.{PooledSession}
 use Rattle.session_pool.specs.declared.place_state.PlaceState.TheVariants.{Away, Waits}
 use Rattle.session_pool.proofs.Standing.{stays, same_of, set_each, set_both, below_made, length_set, waits_in_book, session_there}
@@ -20,7 +20,7 @@ invariant_of-self-2 c =
     let gone : c.take-2.new.self ≡ None = c.take-2.ensures.after in
     record {
       frees = stays is_free s.stands.items p Waits Away stood s.free.items refl refl s.frees;
-      readies = stays is_ready s.stands.items p Waits Away stood s.ready.items refl refl s.readies;
+      readies = stays is_ready s.stands.items p Waits Away stood (places_in s.ready.queues) refl refl s.readies;
       updating = stays is_updates s.stands.items p Waits Away stood s.updates.items refl refl s.updating;
       waits = subst (λ (xs : List Spot). (q : ℕ) → is_in_queue (slice_get xs q) ≡ is_waiting (slice_get (slice_set s.stands.items p Away) q)) (sym taken.taken)
           (set_both (λ q a b. is_in_queue a ≡ is_waiting b) s.book s.stands.items p SpotAway Away (slice_get_within s.book p (In c.in_ok-take.field-0 taken.turn) taken.was_in) ws refl s.waits);

@@ -4,7 +4,7 @@ use Rattle.session_pool.proofs.pool.SessionPool.answer_some.Goals as goal
 
 pub loop-count-init : goal.loop-count-init
 loop-count-init g c = record {
-  same = record { place = refl; number = refl };
+  same = record { place = refl; number = refl; debt = refl };
   answers = answers_none _ _ _ _;
 }
 
