@@ -1,5 +1,5 @@
 -- A table after the session of a place is roused. What has become of its parts comes in; what has become of the table comes out.
-use Rattle.std.proofs.Common.{◌≡◌, ℕ, List, [], ◌∷◌, ◌++◌, Option, None, Some, refl, sym, ap, ◌∙◌}
+use Rattle.std.proofs.Common.{◌≡◌, ℕ, List, [], ◌∷◌, ◌++◌, Option, Some, refl}
 use Rattle.std.specs.Prelude.{slice_set}
 use Rattle.session_turns.specs.Owing.{class_of}
 use Rattle.session_turns.specs.Turning.{TurnsValue, lined_up as turns_lined_up}

@@ -1,10 +1,10 @@
 -- The places of those that wait for a seat, after one lined up, and after one was taken.
-use Rattle.std.proofs.Common.{◌≡◌, ℕ, ◌+◌, ◌<◌, List, [], ◌∷◌, ◌++◌, length, drop, slice_get, cond, Option, Some, None, refl, sym, ap, ◌∙◌, arith, length-append}
+use Rattle.std.proofs.Common.{◌≡◌, ℕ, ◌+◌, ◌<◌, List, [], ◌∷◌, ◌++◌, length, drop, slice_get, cond, Option, Some, None, refl, ap, ◌∙◌, arith, length-append}
 use Rattle.std.specs.Prelude.{nat_eq, slice_set}
 use Rattle.session_turns.specs.declared.owing.Class.{Class}
 use Rattle.session_turns.specs.declared.owing.Class.TheVariants.{First, Second, Third, Last}
 use Rattle.session_turns.specs.declared.class_queues.Waiting.{Waiting}
-use Rattle.session_turns.specs.Turning.{Queues, queue, put, how_many_in, TurnsValue, lined_up, chosen, next_one, place_of, next_place, taken_of, taken_if, taken}
+use Rattle.session_turns.specs.Turning.{Queues, queue, put, how_many_in, TurnsValue, lined_up, chosen, next_one, place_of, next_place, taken_if, taken}
 use Rattle.session_pool.specs.private.Stands.{times, places_of, places_in}
 use Rattle.session_pool.specs.private.Tabling.{Tabled, without}
 use Rattle.session_pool.specs.declared.pooled.PooledSession.{PooledSession}

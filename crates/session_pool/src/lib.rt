@@ -11,10 +11,13 @@
 //!   looks at events. So no event finds an empty place. The heads of the queues say who has waited for too long.
 //! - *Staying.* A thread waits up to 5 ms for the next message of a session whose messages come within a millisecond. It
 //!   does so if a seat is left to lead and no other session is ready. A busy client then costs two system calls a message.
-//! - *Fairness.* 16 messages or 64 KiB of unsent octets are one sitting; then the session goes to the back of the queue.
+//! - *Fairness.* 16 messages or 64 KiB of unsent octets are one sitting; then the session goes to the back of its queue.
 //!   After 16 of these the sockets are looked at again, although sessions are ready. After each message a seat asks
 //!   `session_turns`: it looks itself where no seat leads and the last look is 1 ms old, and its stay ends after 1 ms
 //!   where other sessions are ready.
+//! - *Classes.* A session owes the time that seats spent on it, without what they spent waiting for its next message or
+//!   looking at sockets. Sessions that are ready wait in four classes by what they owe (`session_turns::Turns`): those
+//!   that take little go before those that take much.
 //! - *Patience.* A message has to be whole within a limit after its first octet, which is looked at whenever its session is parked. No
 //!   session has more than 256 sittings in a row.
 //!   One whose client doesn't take its octets is written to once a sitting, and not read. It may let them wait for longer the
@@ -32,8 +35,9 @@
 //! Proved: a session hears what its socket gave, and has sent a front of what it had to send, in order (`PooledSession::hear`, `say`, `queue`). A
 //! seat answers at most 16 of its messages in a row, no update among them, and goes on with it only where no whole message is left over,
 //! 256 times at most (`SessionPool::attend`, `sit`). How long a client takes over one message is counted from its beginning (`PooledSession::hear`, `pause`). A place
-//! has one session at a time, and turns are first in, first out (`Places`); a client's end is told once (`Updaters`). That each session is served,
-//! and soon, is tested (`tests/cluster`, `tests/streams`).
+//! has one session at a time. Each lines up in the class of what it owes at that moment, and seats take the one whose turn it is (`Places`). What a
+//! session owes changes by `PooledSession::charge` alone. A client's end is told once (`Updaters`). That each session is served, and soon, is
+//! tested (`tests/cluster`, `tests/streams`, `tests/hostile`).
 #![tactic(auto)]
 
 mod arriving;

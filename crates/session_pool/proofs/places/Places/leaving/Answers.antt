@@ -1,8 +1,6 @@
-use Rattle.std.proofs.Common.{◌≡◌, ℕ, refl, ap, sym, ◌∙◌, subst, Some, slice_get, arith, length}
+use Rattle.std.proofs.Common.{◌≡◌, ℕ, refl, ap, sym, ◌∙◌, Some, slice_get, arith, length}
 use Rattle.session_turns.specs.Places.{IsIn}
-use Rattle.session_turns.specs.declared.spot.Queue.{Queue}
 use Rattle.session_turns.specs.declared.spot.Queue.TheVariants.{Leaving}
-use Rattle.session_turns.specs.declared.spot.Spot.{Spot}
 use Rattle.session_turns.specs.declared.spot.Spot.TheVariants.{In}
 use Rattle.session_pool.specs.declared.place_state.PlaceState.TheVariants.{Waits}
 use Rattle.session_pool.proofs.Standing.{below_made, waits_in_book}
