@@ -6,7 +6,8 @@ use Rattle.session_turns.specs.declared.owing.Class.TheVariants.{First, Second, 
 use Rattle.session_turns.specs.declared.class_queues.Waiting.{Waiting}
 use Rattle.session_turns.specs.declared.class_queues.ClassQueues.{ClassQueues}
 use Rattle.session_turns.specs.Turning.{Queues, queue, put, no_queues, is_class, is_before, older, oldest, is_empty, least, TurnsValue, nobody, how_many_in, lined_up, chosen, next_one, taken_of, taken_if, TurnEvent, lines_up, takes, turned, turned_all, how_many_takes, Waits, up_to, up_to_in_all, EachIsTakenInTime, FirstOnesAreTakenSoon}
-use Rattle.session_turns.specs.private.Queued.{queued, room_in, AreKept}
+use Rattle.session_turns.specs.Queued.{queued}
+use Rattle.session_turns.specs.private.Queued.{room_in, AreKept}
 
 -- what holds of each queue holds after one is put
 put_each : (P : Class → List Waiting → Type 0) (q : Queues) (k : Class) (ws : List Waiting) → P k ws → ((d : Class) → P d (queue q d)) → (d : Class) → P d (queue (put q k ws) d)

@@ -1,7 +1,8 @@
 //! Keeps the sessions that wait for a seat: for each class those that wait in it, first in, first out.
 ghost use Rattle.std.specs.Prelude.{◌≡◌, ◌<◌, ◌≤◌, ◌++◌, ◌∷◌, [], List, length, drop, slice_get, IfOk};
 ghost use Rattle.session_turns.specs.Turning.{queue, put, no_queues, is_before, older, oldest, least, is_class};
-ghost use Rattle.session_turns.specs.private.Queued.{queued, room_in};
+ghost use Rattle.session_turns.specs.Queued.{queued};
+ghost use Rattle.session_turns.specs.private.Queued.{room_in};
 ghost use Rattle.session_turns.specs.declared.owing.Class.{Class};
 
 use crate::owing::Class;

@@ -26,7 +26,8 @@ pub struct Turns {
 
 impl Model for Turns {
     ghost use Rattle.session_turns.specs.Turning.{TurnsValue};
-    ghost use Rattle.session_turns.specs.private.Queued.{queued, AreKept};
+    ghost use Rattle.session_turns.specs.Queued.{queued};
+    ghost use Rattle.session_turns.specs.private.Queued.{AreKept};
 
     ghost Value = { TurnsValue };
 

@@ -1,14 +1,11 @@
--- The queues of classes as lists, and the room in them.
+-- The room in the queues of classes, and what is kept of those that wait.
 use Rattle.std.specs.Prelude.{◌≡◌, ◌≤◌, ℕ}
 use Rattle.std.specs.VecDeque.{deque_capacity}
-use Rattle.session_turns.specs.Turning.{Queues, how_many_in}
+use Rattle.session_turns.specs.Turning.{how_many_in}
+use Rattle.session_turns.specs.Queued.{queued}
 use Rattle.session_turns.specs.declared.owing.Class.{Class}
 use Rattle.session_turns.specs.declared.owing.Class.TheVariants.{First, Second, Third, Last}
 use Rattle.session_turns.specs.declared.class_queues.ClassQueues.{ClassQueues}
-
--- those that wait in each class
-abbrev pub queued : ClassQueues → Queues
-queued q = record { first = q.first.items; second = q.second.items; third = q.third.items; last = q.last.items }
 
 -- for how many there is room in a class
 abbrev pub room_in : ClassQueues → Class → ℕ

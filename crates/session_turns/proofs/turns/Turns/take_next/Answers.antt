@@ -1,6 +1,6 @@
 use Rattle.std.proofs.Common.{◌≡◌, ◌≤◌, false, cond, nat_le, sym, ◌∙◌, arith}
 use Rattle.session_turns.specs.Turning.{is_class, oldest, least}
-use Rattle.session_turns.specs.private.Queued.{queued}
+use Rattle.session_turns.specs.Queued.{queued}
 use Rattle.session_turns.proofs.Taken.{nobody_waits, kept_none, kept_some, same_class, chosen_oldest, chosen_least}
 use Rattle.session_turns.proofs.turns.Turns.take_next.Goals as goal
 use Rattle.session_turns.proofs.turns.Turns.take_next.Goals.{then-self-ge-PASSED, else-self-ge-PASSED, then-is_class, else-is_class}
