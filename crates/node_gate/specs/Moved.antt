@@ -1,5 +1,5 @@
 -- What an event makes of the node that threads share: the node before it and after it, and what is handed over of it to the other replicas.
-use Rattle.std.specs.Prelude.{◌≡◌, ◌⊎◌, ℕ, true, false, List, length, Option, Some, None, Result, Ok, Err}
+use Rattle.std.specs.Prelude.{◌≡◌, ◌⊎◌, ℕ, true, false, List, [], ◌∷◌, length, Option, Some, None, Result, Ok, Err}
 use Rattle.std.specs.declared.alloc.AllocError.{AllocError}
 use Rattle.dir_node.specs.dir_store.ldap_op.Values.{OpValue}
 use Rattle.dir_node.specs.state_machine.Executing.{due_after}
@@ -15,6 +15,7 @@ use Rattle.dir_node.specs.declared.error.NodeError.{NodeError}
 use Rattle.dir_node.specs.declared.error.NodeError.TheVariants as error
 use Rattle.dir_node.specs.Handling.{MakesSteps}
 use Rattle.dir_node.specs.NodeState.{NodeValue, CatchesUp}
+use Rattle.dir_node.specs.log_journal.Taken.{MakesSome}
 use Rattle.node_gate.specs.Batches.{sends_of}
 use Rattle.node_gate.specs.Identities.{NodeIdentity, identity_of}
 use Rattle.node_gate.specs.Sent.{TakesAll}
@@ -50,19 +51,23 @@ pub record HasSteppedAll {P D J : Type 0} (takes : P → ℕ → PeerMessage OpV
   pub executed : ExecutesDue b a
   pub taken : TakesAll takes before (sends_of outputs) after
 
--- What a refused event leaves of the node: for want of memory all as it was; where its device or its journal failed it has stopped, and executed nothing;
--- a node that had stopped is as it was.
-abbrev pub IsLeftBy : {D J : Type 0} → NodeError → (before after : NodeValue D J) → Type 0
-IsLeftBy error.NoMemory b a = a ≡ b
-IsLeftBy (error.Store e) b a = (a.is_halted ≡ true) × (a.executed ≡ b.executed)
-IsLeftBy (error.Journal e) b a = (a.is_halted ≡ true) × (a.executed ≡ b.executed) × (a.device ≡ b.device)
-IsLeftBy error.ForeignJournal b a = ⊥
-IsLeftBy error.StaleJournal b a = ⊥
-IsLeftBy error.Halted b a = (b.is_halted ≡ true) × (a ≡ b)
+-- The replica is as it is after some first of these events, each of which made its step or was left out.
+abbrev pub ComesBySome : {D J : Type 0} → List (Event OpValue) → (before after : NodeValue D J) → Type 0
+ComesBySome events b a = MakesSome b.count b.index b.replica events a.replica
 
--- The node refused an event, and nothing was handed over.
-pub record HasRefused {P D J : Type 0} (e : NodeError) (b a : NodeValue D J) (before after : P) : Type 0 where
-  pub left : IsLeftBy e b a
+-- What refused events leave of the node: for want of memory all as it was; where its device or its journal failed it has stopped, executed nothing, and
+-- its replica is as it is after some first of the events; a node that had stopped is as it was.
+abbrev pub IsLeftBy : {D J : Type 0} → List (Event OpValue) → NodeError → (before after : NodeValue D J) → Type 0
+IsLeftBy events error.NoMemory b a = a ≡ b
+IsLeftBy events (error.Store e) b a = (a.is_halted ≡ true) × (a.executed ≡ b.executed) × ComesBySome events b a
+IsLeftBy events (error.Journal e) b a = (a.is_halted ≡ true) × (a.executed ≡ b.executed) × (a.device ≡ b.device) × ComesBySome events b a
+IsLeftBy events error.ForeignJournal b a = ⊥
+IsLeftBy events error.StaleJournal b a = ⊥
+IsLeftBy events error.Halted b a = (b.is_halted ≡ true) × (a ≡ b)
+
+-- The node refused events, and nothing was handed over.
+pub record HasRefused {P D J : Type 0} (events : List (Event OpValue)) (e : NodeError) (b a : NodeValue D J) (before after : P) : Type 0 where
+  pub left : IsLeftBy events e b a
   pub nothing : after ≡ before
 
 -- what is due, as an event, if anything is
@@ -76,7 +81,7 @@ abbrev pub HasActed : {P D J A : Type 0} → (P → ℕ → PeerMessage OpValue 
     → (b a : NodeValue D J) → (before after : P) → Type 0
 HasActed takes None done b a before after = (a ≡ b) × (after ≡ before)
 HasActed takes (Some e) (Ok x) b a before after = HasStepped takes e b a before after
-HasActed takes (Some e) (Err f) b a before after = HasRefused f b a before after
+HasActed takes (Some e) (Err f) b a before after = HasRefused (e ∷ []) f b a before after
 
 -- These messages are what a beat of the node of this identity sends, in some state of its replica.
 abbrev pub IsBeatOf : NodeIdentity → List (Send OpValue) → Type 0

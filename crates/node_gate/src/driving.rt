@@ -1,6 +1,6 @@
 //! A node with a journal, driven by one thread: it takes all events that wait at once, so that one sync settles them all, and only
 //! then shows the seats what was executed and hands over what is sent.
-ghost use Rattle.std.specs.Prelude.{◌≡◌, IfErr, IfNone, IfOk, IfSome, MatchOption, OnOk, Some};
+ghost use Rattle.std.specs.Prelude.{◌≡◌, ◌∷◌, [], IfErr, IfNone, IfOk, IfSome, MatchOption, OnOk, Some};
 ghost use Rattle.dir_node.specs.vr_state.declared.event.Event.TheVariants as event;
 ghost use Rattle.node_gate.specs.Batches.{left_out, left_out_in, sends_at, sends_in, sends_of};
 ghost use Rattle.node_gate.specs.Moved.{AreOf, HasRefused, HasStepped, HasSteppedAll, IsBeatOf};
@@ -103,7 +103,7 @@ fn take_all<R: Wait, D: Device, J: JournalDevice, I: Identity, P: Peers>(
 ) -> Result<(Batched, Option<LastBeat<I>>), NodeError>
     ensures stepped { IfOk result (λ done. HasSteppedAll P.takes events.items done.0.outputs.value.items held.old.published.node held.new.published.node peers.old peers.new) }
     ensures left_out { IfOk result (λ done. done.0.left_out ≡ left_out done.0.outputs.value.items) }
-    ensures refused { IfErr result (λ e. HasRefused e held.old.published.node held.new.published.node peers.old peers.new) }
+    ensures refused { IfErr result (λ e. HasRefused events.items e held.old.published.node held.new.published.node peers.old peers.new) }
 {
     let place = place_of_beat(events.as_slice(), beat_at);
     let handled = held.handle_all(alloc, events)?;
@@ -149,7 +149,7 @@ impl<'a, R: Wait, D: Device, J: JournalDevice, I: Identity> Running<'a, R, D, J,
         ensures given { result.1.event.value ≡ event }
         ensures own { IfSome result.1.moved (λ m. AreOf I.own m.before.value m.after.value) }
         ensures stepped { OnOk result.0 (IfSome result.1.moved (λ m. HasStepped P.takes event m.before.value m.after.value peers.old peers.new)) }
-        ensures refused { IfErr result.0 (λ e. IfSome result.1.moved (λ m. HasRefused e m.before.value m.after.value peers.old peers.new)) }
+        ensures refused { IfErr result.0 (λ e. IfSome result.1.moved (λ m. HasRefused (event ∷ []) e m.before.value m.after.value peers.old peers.new)) }
         ensures posted { MatchOption result.1.moved (peers.new ≡ peers.old) (λ m. IfOk result.0 (λ number. number ≡ 0)) }
     {
         let given = Snapshot::of(&event);
@@ -190,7 +190,7 @@ impl<'a, R: Wait, D: Device, J: JournalDevice, I: Identity> Running<'a, R, D, J,
         ensures own { IfSome result.1 (λ m. AreOf I.own m.before.value m.after.value) }
         ensures stepped { OnOk result.0 (IfSome result.1
             (λ m. HasStepped P.takes (event.Message arrival.from arrival.message) m.before.value m.after.value peers.old peers.new)) }
-        ensures refused { IfErr result.0 (λ e. IfSome result.1 (λ m. HasRefused e m.before.value m.after.value peers.old peers.new)) }
+        ensures refused { IfErr result.0 (λ e. IfSome result.1 (λ m. HasRefused (event.Message arrival.from arrival.message ∷ []) e m.before.value m.after.value peers.old peers.new)) }
         ensures posted { IfNone result.1 (peers.new ≡ peers.old) }
     {
         match &self.inbox {
@@ -257,7 +257,7 @@ impl<'a, R: Wait, D: Device, J: JournalDevice, I: Identity> Running<'a, R, D, J,
         ensures own { AreOf I.own result.1.before.value result.1.after.value }
         ensures stepped { IfOk result.0 (λ done. HasSteppedAll P.takes batch.events.items done.outputs.value.items result.1.before.value result.1.after.value peers.old peers.new) }
         ensures left_out { IfOk result.0 (λ done. done.left_out ≡ left_out done.outputs.value.items) }
-        ensures refused { IfErr result.0 (λ e. HasRefused e result.1.before.value result.1.after.value peers.old peers.new) }
+        ensures refused { IfErr result.0 (λ e. HasRefused batch.events.items e result.1.before.value result.1.after.value peers.old peers.new) }
     {
         let Batch {
             events,

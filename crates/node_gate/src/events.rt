@@ -1,6 +1,6 @@
 // An event at a node, as a publisher needs it told: what was executed before is a beginning of what is after. What must not be here: who is
 // shown it.
-ghost use Rattle.std.specs.Prelude.{◌≡◌, IfOk, IfErr, length};
+ghost use Rattle.std.specs.Prelude.{◌≡◌, ◌∷◌, [], IfOk, IfErr, length};
 ghost use Rattle.dir_node.specs.state_machine.Executing.{due_after};
 ghost use Rattle.dir_node.specs.NodeState.{CatchesUp, IsSameNode, given};
 ghost use Rattle.dir_node.specs.Handling.{MakesSteps};
@@ -22,7 +22,7 @@ pub fn handle_node<D: Device, J: JournalDevice>(
     ensures executed { IfOk result (λ h. CatchesUp h.behind node.old.executed.records
         (due_after (length node.old.executed.records) node.new.replica.commit_number node.new.replica.log) node.new.executed.records) }
     ensures same { IsSameNode node.old node.new }
-    ensures refused { IfErr result (λ e. IsLeftBy e node.old node.new) }
+    ensures refused { IfErr result (λ e. IsLeftBy (event ∷ []) e node.old node.new) }
 {
     node.handle(alloc, event)
 }
@@ -38,7 +38,7 @@ pub fn handle_node_all<D: Device, J: JournalDevice>(
     ensures executed { IfOk result (λ h. CatchesUp h.behind node.old.executed.records
         (due_after (length node.old.executed.records) node.new.replica.commit_number node.new.replica.log) node.new.executed.records) }
     ensures same { IsSameNode node.old node.new }
-    ensures refused { IfErr result (λ e. IsLeftBy e node.old node.new) }
+    ensures refused { IfErr result (λ e. IsLeftBy events.items e node.old node.new) }
 {
     node.handle_all(alloc, events)
 }

@@ -1,5 +1,5 @@
 // What the lock holds: the node that threads share, its clock, and whether those who wait are to go on. Locks and threads are above.
-ghost use Rattle.std.specs.Prelude.{◌≡◌, IfOk, IfErr};
+ghost use Rattle.std.specs.Prelude.{◌≡◌, ◌∷◌, [], IfOk, IfErr};
 ghost use Rattle.dir_node.specs.vr_state.declared.event.Event.TheVariants as event;
 ghost use Rattle.node_gate.specs.Moved.{IsLeftBy};
 ghost use Rattle.node_gate.specs.private.Batches.{HasHandledAll};
@@ -130,7 +130,7 @@ impl<'a, R: Wait, D: Device, J: JournalDevice, I: Identity> Held<'a, R, D, J, I>
     /// Hands an event to the node, and shows its seats what it then has executed. It is behind too where there was no memory to show all.
     pub fn handle(&mut self, alloc: Global, event: Event<Op>) -> Result<Handled, NodeError>
         ensures handled { IfOk result (λ h. HasHandled self.old.published.node event h self.new.published.node self.new.published.publisher) }
-        ensures refused { IfErr result (λ e. IsLeftBy e self.old.published.node self.new.published.node) }
+        ensures refused { IfErr result (λ e. IsLeftBy (event ∷ []) e self.old.published.node self.new.published.node) }
     {
         let handled = self.published.handle(alloc, event)?;
         self.told = self.told.max(told_by_step(&handled.outputs));
@@ -145,7 +145,7 @@ impl<'a, R: Wait, D: Device, J: JournalDevice, I: Identity> Held<'a, R, D, J, I>
         events: Vec<Event<Op>>,
     ) -> Result<AllHandled, NodeError>
         ensures handled { IfOk result (λ h. HasHandledAll self.old.published.node events.items h self.new.published.node self.new.published.publisher) }
-        ensures refused { IfErr result (λ e. IsLeftBy e self.old.published.node self.new.published.node) }
+        ensures refused { IfErr result (λ e. IsLeftBy events.items e self.old.published.node self.new.published.node) }
     {
         let handled = self.published.handle_all(alloc, events)?;
         self.told = self.told.max(told_by_steps(handled.outputs.as_slice()));
@@ -165,7 +165,7 @@ impl<'a, R: Wait, D: Device, J: JournalDevice, I: Identity> Held<'a, R, D, J, I>
     /// Hands the message of another replica to the node, and tells its clock of it.
     pub fn hear(&mut self, alloc: Global, arrival: Arrival) -> Result<Handled, NodeError>
         ensures handled { IfOk result (λ h. HasHandled self.old.published.node (event.Message arrival.from arrival.message) h self.new.published.node self.new.published.publisher) }
-        ensures refused { IfErr result (λ e. IsLeftBy e self.old.published.node self.new.published.node) }
+        ensures refused { IfErr result (λ e. IsLeftBy (event.Message arrival.from arrival.message ∷ []) e self.old.published.node self.new.published.node) }
     {
         let Arrival { from, message, at } = arrival;
         let sign = sign_of(&message);

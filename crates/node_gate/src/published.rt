@@ -1,5 +1,5 @@
 // A node and what its seats see of it. Takes events to the node, and shows the seats what it then has executed. Locks and clocks are above.
-ghost use Rattle.std.specs.Prelude.{◌≡◌, IsTrue, IfOk, IfErr};
+ghost use Rattle.std.specs.Prelude.{◌≡◌, ◌∷◌, [], IsTrue, IfOk, IfErr};
 ghost use Rattle.dir_node.specs.NodeState.{IsSameNode};
 ghost use Rattle.node_gate.specs.Moved.{IsLeftBy};
 ghost use Rattle.node_gate.specs.private.Given.{IsGiven, HasAll};
@@ -51,7 +51,7 @@ impl<'a, R: Wait, D: Device, J: JournalDevice> PublishedNode<'a, R, D, J> {
     pub fn handle(&mut self, alloc: Global, event: Event<Op>) -> Result<Handled, NodeError>
         ensures handled { IfOk result (λ h. HasHandled self.old.node event h self.new.node self.new.publisher) }
         ensures same { IsSameNode self.old.node self.new.node }
-        ensures refused { IfErr result (λ e. IsLeftBy e self.old.node self.new.node) }
+        ensures refused { IfErr result (λ e. IsLeftBy (event ∷ []) e self.old.node self.new.node) }
     {
         let Handled { outputs, behind } = handle_node(alloc, &mut self.node, event)?;
         let is_shown = self.show();
@@ -70,7 +70,7 @@ impl<'a, R: Wait, D: Device, J: JournalDevice> PublishedNode<'a, R, D, J> {
     ) -> Result<AllHandled, NodeError>
         ensures handled { IfOk result (λ h. HasHandledAll self.old.node events.items h self.new.node self.new.publisher) }
         ensures same { IsSameNode self.old.node self.new.node }
-        ensures refused { IfErr result (λ e. IsLeftBy e self.old.node self.new.node) }
+        ensures refused { IfErr result (λ e. IsLeftBy events.items e self.old.node self.new.node) }
     {
         let AllHandled { outputs, behind } = handle_node_all(alloc, &mut self.node, events)?;
         let sees_all = self.show();

@@ -1,6 +1,6 @@
 // A node that threads share. Events flow in, one at a time; messages to other replicas flow out, and who waits is told of each change. What
 // must not be here: sessions, sockets, reads.
-ghost use Rattle.std.specs.Prelude.{◌≡◌, IfErr, IfNone, IfOk, IfSome, MatchOption, OnOk};
+ghost use Rattle.std.specs.Prelude.{◌≡◌, ◌∷◌, [], IfErr, IfNone, IfOk, IfSome, MatchOption, OnOk};
 ghost use Rattle.dir_node.specs.vr_state.declared.event.Event.TheVariants as event;
 ghost use Rattle.dir_seats.specs.directory_api.View.{ended_view};
 ghost use Rattle.node_gate.specs.Identities.{identity_of};
@@ -119,7 +119,7 @@ fn take<R: Wait, D: Device, J: JournalDevice, I: Identity, P: Peers>(
     event: Event<Op>,
 ) -> Result<(), NodeError>
     ensures stepped { OnOk result (HasStepped P.takes event held.old.published.node held.new.published.node peers.old peers.new) }
-    ensures refused { IfErr result (λ e. HasRefused e held.old.published.node held.new.published.node peers.old peers.new) }
+    ensures refused { IfErr result (λ e. HasRefused (event ∷ []) e held.old.published.node held.new.published.node peers.old peers.new) }
 {
     let handled = held.handle(alloc, event)?;
     send_outputs(peers, handled.outputs);
@@ -134,7 +134,7 @@ fn take_message<R: Wait, D: Device, J: JournalDevice, I: Identity, P: Peers>(
     arrival: Arrival,
 ) -> Result<(), NodeError>
     ensures stepped { OnOk result (HasStepped P.takes (event.Message arrival.from arrival.message) held.old.published.node held.new.published.node peers.old peers.new) }
-    ensures refused { IfErr result (λ e. HasRefused e held.old.published.node held.new.published.node peers.old peers.new) }
+    ensures refused { IfErr result (λ e. HasRefused (event.Message arrival.from arrival.message ∷ []) e held.old.published.node held.new.published.node peers.old peers.new) }
 {
     let handled = held.hear(alloc, arrival)?;
     send_outputs(peers, handled.outputs);
@@ -148,7 +148,7 @@ fn beat<R: Wait, D: Device, J: JournalDevice, I: Identity, P: Peers>(
     peers: &mut P,
 ) -> (Result<(), NodeError>, Option<Vec<Send<Op>>>)
     ensures stepped { OnOk result.0 (HasStepped P.takes event.Beat held.old.published.node held.new.published.node peers.old peers.new) }
-    ensures refused { IfErr result.0 (λ e. HasRefused e held.old.published.node held.new.published.node peers.old peers.new) }
+    ensures refused { IfErr result.0 (λ e. HasRefused (event.Beat ∷ []) e held.old.published.node held.new.published.node peers.old peers.new) }
     ensures copied { IfSome result.1 (λ c. c.items ≡ (step_at held.old.published.node event.Beat).sends) }
 {
     match held.handle(alloc, Event::Beat) {
@@ -228,7 +228,7 @@ impl<'a, R: Wait, D: Device, J: JournalDevice, I: Identity> Running<'a, R, D, J,
     ) -> (Result<(), NodeError>, Moved<D, J>)
         ensures own { AreOf I.own result.1.before.value result.1.after.value }
         ensures stepped { OnOk result.0 (HasStepped P.takes event result.1.before.value result.1.after.value peers.old peers.new) }
-        ensures refused { IfErr result.0 (λ e. HasRefused e result.1.before.value result.1.after.value peers.old peers.new) }
+        ensures refused { IfErr result.0 (λ e. HasRefused (event ∷ []) e result.1.before.value result.1.after.value peers.old peers.new) }
     {
         let mut held = self.held.lock(rt);
         let before = Snapshot::of(held.node());
@@ -250,7 +250,7 @@ impl<'a, R: Wait, D: Device, J: JournalDevice, I: Identity> Running<'a, R, D, J,
     ) -> (Result<(), NodeError>, Moved<D, J>)
         ensures own { AreOf I.own result.1.before.value result.1.after.value }
         ensures stepped { OnOk result.0 (HasStepped P.takes (event.Message arrival.from arrival.message) result.1.before.value result.1.after.value peers.old peers.new) }
-        ensures refused { IfErr result.0 (λ e. HasRefused e result.1.before.value result.1.after.value peers.old peers.new) }
+        ensures refused { IfErr result.0 (λ e. HasRefused (event.Message arrival.from arrival.message ∷ []) e result.1.before.value result.1.after.value peers.old peers.new) }
     {
         let mut held = self.held.lock(rt);
         let ask_at = held.ask_at();
