@@ -1,5 +1,4 @@
--- Sessions that one directory served, one after the other. The directory before and after and what the sessions share flow in; whose sessions
--- they were flows out. Threads and channels are not here.
+-- Sessions that one directory served, one after the other.
 use Rattle.std.specs.Prelude.{ℕ, List, [], ◌∷◌, ◌++◌}
 use Rattle.ldap_session.specs.directory_api.Talk.{Exchange, Along}
 use Rattle.ldap_session.specs.session_handler.ldap_msg.Messages.{MessageValue}

@@ -1,4 +1,4 @@
-//! Connections taken from a listener. A listener flows in; numbered connections flow out by a channel. What is done with them is not here.
+//! Takes connections from a listener and numbers them.
 use crate::door::Door;
 use crossbeam_channel::{SendTimeoutError, Sender};
 use std::alloc::Global;

@@ -1,5 +1,4 @@
-//! A client's stream, in both directions. A connection flows in; its two ends are lent out, and it is told how its session ended. Sockets and
-//! sessions are not here.
+//! A client's connection: both ends of its stream.
 use ldap_session::SessionEnd;
 use std::io::{Read, Write};
 

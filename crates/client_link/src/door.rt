@@ -1,5 +1,5 @@
-//! What those who take connections and those who serve them know of each other: who waits for a place, and whether the server closes. Counts
-//! flow in and out. Sockets are not here.
+//! What those who take connections and those who serve them know of each other: who waits for a place, and whether the
+//! server closes.
 use crate::limits::Limits;
 use crate::seats::Seats;
 use std::sync::atomic::{AtomicBool, Ordering};

@@ -1,5 +1,4 @@
-//! Where the messages of a stream end, as far as a clock has to know it. Octets flow in; whether the stream stands inside a message flows out.
-//! What a message says, and whether it is one, is not here.
+//! Where the messages of a stream end, as far as a clock has to know it.
 ghost use Rattle.std.specs.Prelude.{◌≡◌, ◌<◌, ◌≤◌, length};
 
 use std::marker::PhantomData;

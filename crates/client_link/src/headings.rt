@@ -1,4 +1,4 @@
-//! How the frames of replicas begin: reads from the first octets how many follow. What follows is not here.
+//! How the frames of replicas begin: reads from the first octets how many follow.
 use crate::gauge::{Heading, Rest};
 
 /// The four octets of length that a frame of replicas begins with.

@@ -1,5 +1,4 @@
-//! Laws of directories that serve one session after the other. Nothing flows in; what holds of all of them flows out. Code that runs is not
-//! here.
+//! Laws of directories that serve one session after the other.
 ghost use Rattle.client_link.specs.Served.{GoesAlong};
 
 use ldap_session::Directory;

@@ -1,4 +1,4 @@
-//! How much patience a server has with a client. Times flow in and out. Clocks and sockets are not here.
+//! How patient a server is with a client: its limits.
 use std::time::Duration;
 
 /// Within how many seconds a message has to be whole, where nothing else is said.

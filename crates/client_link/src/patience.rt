@@ -1,4 +1,4 @@
-//! How long a client may let an answer wait. Octets and times come in, a time goes out. Clocks and sockets are not here.
+//! Decides how long a client may let an answer wait.
 ghost use Rattle.std.specs.Prelude.{◌≡◌, ◌+◌, ◌/◌, min};
 
 /// For each so many octets of an answer that a client has taken it may let the rest wait once more for the same time.

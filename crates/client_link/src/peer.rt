@@ -1,4 +1,4 @@
-//! Another replica's stream, of which frames are read. A socket flows in; a reader of it flows out. What a frame says is not here.
+//! Another replica's stream, of which frames are read.
 use crate::accepting::Arrives;
 use crate::door::Door;
 use crate::headings::FrameHeading;

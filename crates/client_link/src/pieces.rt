@@ -1,4 +1,4 @@
-//! A socket that is read with a server's patience. Octets flow in from the socket and out to whoever reads. Sessions and links are not here.
+//! Reads a socket with a server's patience.
 ghost use Rattle.std.specs.Prelude.{◌≤◌};
 
 use crate::door::Door;

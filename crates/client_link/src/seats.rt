@@ -1,4 +1,4 @@
-//! How many clients wait for a place, and how many places are being given up for them. Counts flow in and out. Locks and clocks are not here.
+//! How many clients wait for a place, and how many places are being given up for them.
 ghost use Rattle.std.specs.Prelude.{◌≡◌, ◌+◌, ◌-◌, ◌<◌, ◌≤◌, IsTrue, IsFalse, min};
 
 /// Who waits. No more places are given up than clients wait for one.

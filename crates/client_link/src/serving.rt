@@ -1,5 +1,4 @@
-//! Sessions in threads. Numbered connections flow in by a channel, and directories by a list; the directories flow out. What a session does is
-//! not here.
+//! Serves sessions in threads.
 ghost use Rattle.std.specs.Prelude.{◌≡◌, ℕ, ◌<◌, IfOk, vec_len, length, slice_index_or};
 ghost use denote.Param.Send.{IsSend, IsSync};
 ghost use Rattle.ldap_session.specs.session_handler.View.{config_view};

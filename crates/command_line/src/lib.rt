@@ -1,8 +1,7 @@
-//! Reads the command line: a command with its settings, or a text for the user. What a name or a
-//! filter in it means is not here.
+//! Reads the command line: a command with its settings, or a text for the user.
 //!
-//! Reads the program's words by `clap`. A command is a row of data with a row for each of its words (`rows`); `words` has all commands but
-//! `serve`, which has its own (`serving`). No clause but safety.
+//! Reads the program's words by `clap`. A command is a row of data with a row for each of its words (`rows`); `words`
+//! has all commands but `serve`, which has its own (`serving`). No clause but safety.
 #![tactic(auto)]
 
 mod build;

@@ -1,4 +1,4 @@
-//! The words behind `--log`: they flow in, and what is logged flows out, or that one of them is none. What a line of a log says is not here.
+//! Reads the words behind `--log`: which lines a server logs.
 
 /// What is logged beside what is always told.
 #[derive(Clone, Copy, Debug, PartialEq, Eq)]

@@ -1,5 +1,4 @@
-//! Where the replicas of a cluster are found, by the words of the command line. A word flows in, and what it names flows out, or that it names
-//! nothing. Look-ups are not here.
+//! Where the replicas of a cluster are found, by the words of the command line.
 use std::net::SocketAddr;
 
 /// Where a socket is found.

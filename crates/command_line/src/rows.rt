@@ -1,5 +1,4 @@
-//! Words of commands as rows of data, and those that several commands take. A row flows in, a command that takes its words flows out.
-//! The words of one command alone are not here.
+//! Words of commands as rows of data, and those that several commands take.
 use clap::error::ErrorKind;
 use clap::{Arg, ArgAction, Command, Error, value_parser};
 use std::alloc::{AllocError, Global};

@@ -1,5 +1,4 @@
-//! The words of `serve`: what a replica is told. Matched words flow in, and a replica's settings flow out, or why they are none. What a
-//! replica does with them is not here.
+//! Reads the words of `serve` as a replica's settings.
 use crate::build::BUILD;
 use crate::logs::{Logs, logs_of};
 use crate::places::{Peer, is_of_this_machine, peer_of};

@@ -1,4 +1,4 @@
-//! The words of the command line: they flow in, a job flows out, or a text for the user. What a job does is not here.
+//! Reads the words of the command line: makes a job of them, or a text for the user.
 use crate::build::BUILD;
 use crate::rows::{INDEX_WORD, Order, SCHEMA_WORD, Takes, Word, command_of, refusal_by};
 use crate::serving::{SERVE, Serving, serving_in};

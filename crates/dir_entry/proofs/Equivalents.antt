@@ -1,4 +1,4 @@
--- Equal keys and equivalent values. Facts on lists flow in and out; no value of the program is here.
+-- Equal keys and equivalent values.
 use Rattle.std.proofs.Common.{ℕ, List, [], ◌∷◌, Bool, true, false, ◌||◌, Option, None, Some, ◌≡◌, refl, ap, ap₂, sym, subst, ◌∙◌, map}
 use Rattle.std.specs.List.{list_any}
 use Rattle.std.specs.Str.{bytes_eq}

@@ -1,4 +1,4 @@
--- Keys of values, and entries with one attribute more. Facts on lists flow in and out; no value of the program is here.
+-- Keys of values, and entries with one attribute more.
 use Rattle.std.proofs.Common.{ℕ, List, [], ◌∷◌, ◌++◌, Bool, ◌&&◌, Option, None, Some, ◌≡◌, refl, ap, ap₂, sym, subst, ◌∙◌, map}
 use Rattle.std.specs.List.{list_all}
 use Rattle.ldap_match.specs.ldap_words.declared.rule.Rule.{Rule}

@@ -1,4 +1,4 @@
--- Marked elements. Facts on lists flow in and out; no value of the program is here.
+-- Marked elements.
 use Rattle.std.proofs.Common.{List, [], ◌∷◌, Bool, true, false, ◌≡◌, refl, ap, map}
 use Rattle.dir_entry.specs.Picked.{picked}
 

@@ -1,4 +1,4 @@
--- Tests on attributes with their keys, as tests without them. Facts on lists flow in and out; no value of the program is here.
+-- Tests on attributes with their keys, as tests without them.
 use Rattle.std.proofs.Common.{ℕ, List, [], ◌∷◌, Bool, ◌||◌, ◌≡◌, refl, ap, map, nat_eq}
 use Rattle.std.specs.List.{list_any}
 use Rattle.dir_entry.specs.Entry.{AttributeModel, KeyedAttribute, shown, attributes_of}

@@ -1,4 +1,4 @@
--- What stands twice in a list, an element at a time. Facts on lists flow in and out; no value of the program is here.
+-- What stands twice in a list, an element at a time.
 use Rattle.std.proofs.Common.{ℕ, ◌+◌, ◌<◌, List, [], ◌∷◌, ◌++◌, Bool, true, false, cond, ◌||◌, ◌≡◌, refl, ap, ap₂, sym, ◌∙◌, map, length, take, drop, get_or}
 use Rattle.std.specs.List.{list_any}
 use Rattle.std.proofs.lemmas.List.{take_more, take-append-drop}

@@ -1,5 +1,4 @@
--- One attribute more: RFC 4511 4.7. A schema, an attribute and an entry flow in; the entry with it, or the code of a refusal, flows out.
--- What an entry's classes demand is not here.
+-- One attribute more: RFC 4511 4.7.
 use Rattle.std.specs.Prelude.{◌≡◌, ℕ, List, [], ◌∷◌, ◌++◌, Bool, false, cond, not, ◌||◌, nat_eq, Result, Ok, Err}
 use Rattle.std.specs.List.{list_any}
 use Rattle.ldap_match.specs.ldap_schema.Schema.{SchemaModel}

@@ -1,5 +1,4 @@
--- Entries as the standard sees them, and with the keys that are kept beside the values. RFC 4512 2.2. Names of entries and
--- classes are not here.
+-- Entries as the standard sees them, and with the keys that are kept beside the values. RFC 4512 2.2.
 use Rattle.std.specs.Prelude.{ℕ, List, [], ◌∷◌, Bool, map}
 use Rattle.std.specs.List.{list_all}
 use Rattle.ldap_match.specs.ldap_schema.Schema.{SchemaModel}

@@ -1,4 +1,4 @@
--- What is kept of an attribute's values. How it is laid out flows in; the values and their keys, as lists, flow out.
+-- What is kept of an attribute's values.
 use Rattle.std.specs.Prelude.{ℕ, List, [], ◌∷◌}
 use Rattle.dir_entry.specs.declared.kept.Held.{Held}
 use Rattle.dir_entry.specs.declared.kept.Held.TheVariants.{One, Many}

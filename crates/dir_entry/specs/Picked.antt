@@ -1,4 +1,4 @@
--- Elements that are marked. A list and a mark for each element flow in; the marked ones, in order, flow out.
+-- Elements that are marked.
 use Rattle.std.specs.Prelude.{List, [], ◌∷◌, Bool, cond}
 
 -- the elements that are marked

@@ -1,4 +1,4 @@
--- When two values of an attribute are one: RFC 4512 2.2. Values flow in, a yes or no flows out; entries and classes are not here.
+-- When two values of an attribute are one: RFC 4512 2.2.
 use Rattle.std.specs.Prelude.{ℕ, List, [], ◌∷◌, Bool, false, ◌||◌, Option, None, Some}
 use Rattle.std.specs.List.{list_any}
 use Rattle.std.specs.Str.{bytes_eq}

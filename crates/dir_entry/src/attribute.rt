@@ -1,5 +1,4 @@
-// An attribute with its keys. A type and values flow in; they and their keys flow out.
-// What must not be here: other attributes of an entry.
+// An attribute: a type, its values and their keys.
 
 ghost use Rattle.std.specs.Prelude.{◌≡◌, ◌++◌, map, true, false, Some, is_some, IfOk, OnOk, IsErrOf};
 ghost use Rattle.std.specs.List.{list_all};

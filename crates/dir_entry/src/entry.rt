@@ -1,5 +1,4 @@
-// An entry: a list of attributes. Attributes flow in and out.
-// What must not be here: the entry's name and number.
+// An entry: a list of attributes, without its name.
 
 ghost use Rattle.std.specs.Prelude.{◌≡◌, ◌<◌, ◌++◌, ◌∷◌, [], length, map, nat_eq, slice_get, true, Ok, Some, IfOk, IfErr, OnOk, OnErr};
 ghost use Rattle.std.specs.List.{list_any};

@@ -1,5 +1,4 @@
-// Why an entry is not changed or made. Nothing flows in; what an edit or a check refuses flows out.
-// What must not be here: refusals that name the entry's place in the directory.
+// Why an entry is not changed or made.
 
 ghost use Rattle.std.specs.Prelude.{◌≡◌};
 ghost use Rattle.dir_entry.specs.declared.fault.EntryError.TheVariants.{NoMemory};

@@ -1,5 +1,4 @@
-// What an attribute keeps of its values: one in place, or lists. Values with their keys and texts flow in and out.
-// What must not be here: types, schemas.
+// What an attribute keeps of its values: one in place, or lists.
 
 ghost use Rattle.std.specs.Prelude.{◌≡◌, ◌++◌, ◌∷◌, [], IfOk};
 ghost use Rattle.dir_entry.specs.Kept.{values_in, keys_in};

@@ -1,9 +1,9 @@
-//! Entries: attributes with the keys of their values. What changes make of an entry, what its classes demand, names and filters are not here.
+//! Entries: attributes with the keys of their values.
 //!
 //! Refuses what an attribute may not be (`entry`, `repeats`).
 //!
-//! Proved: an attribute is added with its keys, or refused with the code of the first check that fails (21, 20), and then nothing changes
-//! (`Entry::add`).
+//! Proved: an attribute is added with its keys, or refused with the code of the first check that fails (21, 20), and
+//! then nothing changes (`Entry::add`).
 #![tactic(auto)]
 
 mod attribute;

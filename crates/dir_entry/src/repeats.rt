@@ -1,5 +1,4 @@
-// What is given twice. Octets flow in, a yes or no flows out.
-// What must not be here: what makes two values one, attributes.
+// Finds what is given twice.
 
 ghost use Rattle.std.specs.Prelude.{◌≡◌, IfOk, map};
 ghost use Rattle.std.specs.Ordering.{eq_by_cmp};

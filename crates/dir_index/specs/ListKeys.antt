@@ -1,4 +1,4 @@
--- What posting lists are kept by, and its order. The lists are not here.
+-- What posting lists are kept by, and its order.
 use Rattle.std.specs.Prelude.{Bool, ◌&&◌, nat_eq}
 use Rattle.std.specs.declared.cmp.Ordering.{Ordering}
 use Rattle.std.specs.Ordering.{nat_cmp, on, then_cmp}

@@ -1,4 +1,4 @@
--- The order in which posting lists are kept: by type, then by kind of index, then by octets. Lists of numbers are not here.
+-- The order in which posting lists are kept: by type, then by kind of index, then by octets.
 use Rattle.std.specs.Prelude.{ℕ, List, [], Bool, ◌&&◌, nat_eq}
 use Rattle.std.specs.declared.cmp.Ordering.{Ordering}
 use Rattle.std.specs.Ordering.{nat_cmp, on, then_cmp}

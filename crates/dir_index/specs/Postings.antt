@@ -1,5 +1,4 @@
--- The posting lists of entries. Entries by number and an index choice flow in, lists of numbers flow out: each list is a function of the
--- entries. How lists are kept and changed is not here.
+-- The posting lists of entries.
 use Rattle.std.specs.Prelude.{ℕ, List, [], ◌∷◌, Bool, true, ◌&&◌, ◌||◌, map, filter, length, nat_eq, nat_lt, false, Option, None, Some}
 use Rattle.std.specs.List.{list_any}
 use Rattle.index_choice.specs.dir_entry.ldap_match.Keyed.{is_same_key, is_key_at_least, is_key_at_most}

@@ -1,4 +1,4 @@
--- What is kept of posting lists, without its memory. What entries they are of is not here.
+-- What is kept of posting lists, without its memory.
 use Rattle.std.specs.Prelude.{ℕ, List, []}
 use Rattle.std.specs.Map.{lookup}
 use Rattle.std.specs.BTreeMap.{is_at}

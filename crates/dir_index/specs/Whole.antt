@@ -1,4 +1,4 @@
--- What is kept as a whole, and which entries it is of. How it is changed is not here.
+-- What is kept as a whole, and which entries it is of.
 use Rattle.std.specs.Prelude.{◌≡◌, ℕ, ◌<◌, List, [], ◌∷◌, cond, map, filter, not, nat_eq, ◌⊎◌}
 use Rattle.std.specs.List.{AllByRecursion}
 use Rattle.index_choice.specs.dir_entry.Entry.{KeyedAttribute}

@@ -1,5 +1,4 @@
 // An index choice that is cheap to share.
-// What must not be here: posting lists.
 
 ghost use Rattle.std.specs.Prelude.{◌≡◌, IfOk};
 

@@ -1,5 +1,4 @@
-// What keeps posting lists, as plans ask it. A posting or a range flows in; numbers, or whether a number is there, flow out.
-// What must not be here: how the lists are kept and changed.
+// Posting lists, as plans ask for them. A trait.
 
 ghost use Rattle.std.specs.Prelude.{◌≡◌, ◌||◌, ℕ, map, IfOk, OnOk};
 ghost use Rattle.dir_index.specs.Postings.{Lists, has_number};

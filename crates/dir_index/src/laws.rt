@@ -1,5 +1,4 @@
-// Posting lists in several threads.
-// What must not be here: what runs.
+// Laws of posting lists that several threads share.
 
 use crate::postings::Postings;
 use std::marker::{Send, Sync};

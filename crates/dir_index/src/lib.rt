@@ -1,15 +1,14 @@
-//! Posting lists: for each index the numbers of the entries that it lists, in rising order. They are
-//! told of entries before and after an update, and asked for lists of numbers. A change makes new
-//! lists that share most of the old ones. Which entries a search wants, and names of entries, are not
-//! here.
+//! Posting lists: for each index the numbers of the entries that it lists, in rising order. They are told of entries
+//! before and after an update, and asked for lists of numbers. A change makes new lists that share most of the old
+//! ones.
 //!
-//! The posting lists of a directory's entries: one `SharedMap` from posting to set of numbers, in which the keys of a type are neighbours
-//! (`list_order`). A change makes a new map. It computes the entry's postings as a set (`marks`). The number leaves the lists that only the
-//! old set has, and joins those that only the new set has (`lists`). A range is a walk from its first key to its last (`ranges`). Plans ask
-//! the trait `Kept`.
+//! The posting lists of a directory's entries: one `SharedMap` from posting to set of numbers, in which the keys of a
+//! type are neighbours (`list_order`). A change makes a new map. It computes the entry's postings as a set (`marks`).
+//! The number leaves the lists that only the old set has, and joins those that only the new set has (`lists`). A range
+//! is a walk from its first key to its last (`ranges`). Plans ask the trait `Kept`.
 //!
-//! Proved: the lists of presence, equality, order and runs of three octets are those of the entries, after each change; out of memory,
-//! nothing has changed (`Postings::add`, `remove`, `replace`, `push_range`).
+//! Proved: the lists of presence, equality, order and runs of three octets are those of the entries, after each change;
+//! out of memory, nothing has changed (`Postings::add`, `remove`, `replace`, `push_range`).
 #![tactic(auto)]
 
 mod choice;

@@ -1,5 +1,4 @@
-// What posting lists are kept by. Plain data.
-// What must not be here: its order, the lists.
+// The keys of posting lists. Plain data.
 
 use index_choice::{Octets, TypeId};
 

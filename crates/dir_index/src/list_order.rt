@@ -1,5 +1,4 @@
 // The order of the keys of lists, and look-ups by what stands for a key. It takes no memory.
-// What must not be here: lists of numbers.
 
 ghost use Rattle.std.specs.Prelude.{◌≡◌, Some, refl};
 ghost use Rattle.std.specs.Cmp.{partial_equiv_from_equiv, partial_order_from_agreeing_total};

@@ -1,5 +1,4 @@
 // The map of posting lists. A change makes a new map that shares most of the old one.
-// What must not be here: entries, ranges.
 
 ghost use Rattle.std.specs.Prelude.{◌≡◌, ◌||◌, ◌&&◌, ℕ, [], not, cond, nat_eq, IfOk, option_copied};
 ghost use Rattle.std.specs.Option.{unwrap_or};

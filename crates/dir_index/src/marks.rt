@@ -1,5 +1,4 @@
 // The postings that list an entry. Made of an index choice and attributes, as a set of keys.
-// What must not be here: lists of numbers.
 
 ghost use Rattle.std.specs.Prelude.{◌≡◌, ◌||◌, ◌∷◌, [], IfOk, OnOk};
 ghost use Rattle.std.specs.List.{list_any};

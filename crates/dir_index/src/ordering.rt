@@ -1,5 +1,4 @@
 // The order of postings, by which they are keys of a map. It takes no memory.
-// What must not be here: lists of numbers.
 
 ghost use Rattle.std.specs.Prelude.{◌≡◌, Some, refl};
 ghost use Rattle.std.specs.Cmp.{partial_equiv_from_equiv, partial_order_from_agreeing_total};

@@ -1,5 +1,4 @@
 // What posting lists are asked by. Plain data, made by plans.
-// What must not be here: the lists.
 
 use index_choice::{Key, TypeId};
 

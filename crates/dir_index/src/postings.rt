@@ -1,5 +1,4 @@
 // The posting lists of entries, changed entry by entry and asked by plans.
-// What must not be here: which entries there are, and which a search wants.
 
 ghost use Rattle.std.specs.Prelude.{◌≡◌, ◌||◌, ℕ, [], ◌∷◌, ◌++◌, List, map, nat_eq, cond, IfOk, OnOk, OnErr, unwrap_or, option_copied};
 ghost use Rattle.dir_index.specs.declared.posting.Posting.{Posting};

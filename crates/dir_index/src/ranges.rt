@@ -1,5 +1,4 @@
 // The lists of a range: their numbers, about how many there are, and whether an entry is in one.
-// What must not be here: changes of lists.
 
 ghost use Rattle.std.specs.Prelude.{◌≡◌, ◌≤◌, ◌||◌, ◌&&◌, ◌++◌, ℕ, OnOk};
 ghost use Rattle.std.specs.List.{list_any};

@@ -1,4 +1,4 @@
--- What is committed after a schedule is one list. The law on worlds flows in; its clauses for one schedule flow out.
+-- What is committed after a schedule is one list.
 use Rattle.std.proofs.Common.{ℕ, List}
 use Rattle.vr_world.specs.Law.{IsSize}
 use Rattle.vr_world.proofs.Laws.{chosen_lists_agree, committed_is_longest, replicas_agree, commits_are_held, numbers_rise}

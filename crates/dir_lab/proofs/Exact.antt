@@ -1,4 +1,4 @@
--- Success shows exactly what was asked for. The definition of answers flows in; the plain sentence on it flows out.
+-- Success shows exactly what was asked for.
 use Rattle.std.proofs.Common.{◌≡◌, ℕ, suc, arith, List, [], ◌∷◌, map, filter, length, take, nat_lt, Bool, true, false, cond, ◌&&◌, inl, inr, Option, Some, refl, sym, ap, ◌∙◌, subst, true≢false}
 use Rattle.std.proofs.lemmas.Bool.{and_from, and_parts}
 use Rattle.state_machine.specs.dir_store.ldap_dn.Names.{RdnModel, rdns}

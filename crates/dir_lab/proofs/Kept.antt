@@ -1,5 +1,4 @@
--- What is kept of replicas, place by place. One place that is written, and all of them one after the other, flow in; what each place has flows out.
--- Nothing of what a record asks for is here.
+-- What is kept of replicas, place by place.
 use Rattle.std.proofs.Common.{◌≡◌, ◌≢◌, ℕ, zero, suc, ◌+◌, ◌<◌, ◌≤◌, ◌==◌, Bool, true, false, ◌⊎◌, inl, inr, List, [], ◌∷◌, length, replicate, get_or, set, slice_get, Option, Some, None, refl, sym, ap, ◌∙◌, subst, arith, eqb-true, eq-eqb, true≢false}
 use Rattle.std.proofs.lemmas.Bool.{cases_lt}
 use Rattle.std.proofs.lemmas.List.{length-set}

@@ -1,4 +1,4 @@
--- A whole schedule. What one event keeps flows in; that a lab shows what the definition of a schedule has flows out, and how what is shown is cut.
+-- A whole schedule.
 use Rattle.std.proofs.lemmas.List.{map-append}
 use Rattle.std.proofs.Common.{◌≡◌, ℕ, Bool, true, cond, map, List, [], ◌∷◌, ◌++◌, refl, sym, ap, ap₂, ◌∙◌, subst, append_assoc, append-nil}
 use Rattle.vr_state.specs.Words.{LogEntry}

@@ -1,4 +1,4 @@
--- Each search of each schedule. The law on worlds and the law on answers flow in; what is told at a search flows out.
+-- Each search of each schedule.
 use Rattle.std.proofs.Common.{◌≡◌, ℕ, nat_lt, false, cond, List, [], ◌∷◌, ◌++◌, take, Option, Some, None, refl, sym, ap, ◌∙◌, subst, lt-ltb, le-ltb}
 use Rattle.std.proofs.lemmas.List.{length-take-le}
 use Rattle.vr_state.proofs.Laws.{prefix_trans}

@@ -1,5 +1,4 @@
--- What a lab keeps is what its replicas have committed. A schedule of a world flows in; the lists that are kept, which only grow, flow out as the
--- beginnings of the logs that the commit-numbers name. Nothing of how they are kept is here.
+-- What a lab keeps is what its replicas have committed.
 use Rattle.std.proofs.Common.{◌≡◌, ℕ, nat_lt, Bool, true, false, cond, List, [], ◌∷◌, ◌++◌, length, take, drop, Option, Some, None, refl, ap, subst}
 use Rattle.std.proofs.Math.Seq.{drop-append_seam}
 use Rattle.vr_state.specs.Lists.{IsPrefix}

@@ -1,5 +1,5 @@
--- What an answer with success shows, in plain words: exactly the entries that were asked for, each once, in order of number, with just the selected
--- attributes. A directory, a search request and its answer flow in; whether it is so flows out. How an answer is made is above.
+-- What an answer with success shows, in plain words: exactly the entries that were asked for, each once, in order of
+-- number, with just the selected attributes. How an answer is made is above.
 use Rattle.std.specs.Prelude.{◌≡◌, List, [], ◌∷◌, map, Bool, true, false, ◌&&◌, ◌⊎◌, Some}
 use Rattle.state_machine.specs.dir_store.ldap_schema.Schema.{SchemaModel}
 use Rattle.state_machine.specs.dir_store.ldap_dn.Names.{RdnModel, rdns}

@@ -1,5 +1,4 @@
--- What every search of every schedule is promised, and every reply: replicas that are 2f + 1, a schema, the name of the root, a schedule and what
--- it shows flow in; the promises flow out. No index choice is named here: they hold for each.
+-- No index choice is named here: they hold for each.
 use Rattle.std.specs.Prelude.{◌≡◌, ℕ, ◌<◌, ◌≤◌, ◌-◌, ◌⊎◌, List, [], ◌∷◌, ◌++◌, length, take, true, false, Option, Some, None, slice_get}
 use Rattle.vr_state.specs.Lists.{IsPrefix, In, IsNamedIn, Rising}
 use Rattle.vr_state.specs.State.{State, is_recovering}

@@ -1,5 +1,4 @@
--- Schedules with searches, and what they show: a schema, the name of the root, a number of replicas and a list of events flow in; what is shown,
--- in order, flows out. How a lab keeps its replicas, and which indexes it has, is not here: what is shown doesn't depend on it.
+-- Schedules with searches, and what they show.
 use Rattle.std.specs.Prelude.{ℕ, List, [], ◌∷◌, ◌++◌, cond, map, nat_lt, length, take, drop, reverse, Option, Some, None}
 use Rattle.vr_state.specs.State.{State, is_recovering}
 use Rattle.vr_state.specs.Words.{LogEntry}

@@ -1,5 +1,4 @@
--- What a lab shows: replies to updates with their codes, answers of searches, states of replicas. What is in memory flows in; plain values flow
--- out. What is shown when is not here.
+-- What a lab shows: replies to updates with their codes, answers of searches, states of replicas.
 use Rattle.std.specs.Prelude.{ℕ, ◌-◌, List, length, Option, Some, None, slice_get}
 use Rattle.std.specs.Option.{option_map_or}
 use Rattle.vr_state.specs.State.{State}

@@ -1,4 +1,4 @@
-//! All replicas of a cluster execute what they have committed. A cluster flows in; what each has executed flows out. Nothing is shown here.
+//! All replicas of a cluster execute what they have committed.
 ghost use Rattle.std.specs.Prelude.{◌≡◌, ◌<◌, None, IfOk, OnOk, length, replicate};
 ghost use Rattle.std.specs.Arc.{arc_value};
 ghost use Rattle.vr_world.specs.Cluster.{world};

@@ -1,4 +1,4 @@
-//! A question for a replica's state. A replica flows in; what is shown of it flows out. Nothing happens here.
+//! Shows a replica's state.
 ghost use Rattle.std.specs.Prelude.{◌≡◌};
 ghost use Rattle.std.specs.Option.{option_map};
 ghost use Rattle.vr_state.specs.Views.{state};

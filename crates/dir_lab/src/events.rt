@@ -1,5 +1,4 @@
-//! What is asked of a lab, and what it shows. Events, requests and indices flow in; one thing that is shown, each, flows out. No rule of a world is
-//! here.
+//! The events of a lab, and what it shows of each.
 use dir_search::{ResultCode, SearchAnswer, SearchRequest};
 use state_machine::Op;
 use vr_state::words::Status;

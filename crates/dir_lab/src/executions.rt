@@ -1,5 +1,4 @@
-//! What each replica has executed, by index. Replicas flow in as they stand; the directory of each and the replies to its records flow out. Which
-//! event made a replica's state is not here.
+//! What each replica has executed, by index.
 ghost use Rattle.std.specs.Prelude.{◌≡◌, [], Some, IfOk};
 ghost use Rattle.std.specs.Option.{option_map};
 ghost use Rattle.std.specs.Arc.{arc_value};

@@ -1,5 +1,5 @@
-//! The lab: a schedule is played with real replicas of a directory, from the first world on. Events, searches and questions flow in; what the
-//! replicas answer flows out, in order. How one event is played stands in `running`.
+//! The lab: a schedule is played with real replicas of a directory, from the first world on. How one event is played
+//! stands in `running`.
 ghost use Rattle.std.specs.Prelude.{◌≡◌, map, IfOk};
 ghost use Rattle.std.specs.Arc.{arc_value};
 ghost use Rattle.vr_world.specs.Law.{IsSize};

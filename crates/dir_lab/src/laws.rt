@@ -1,4 +1,4 @@
-//! Laws on the definition of answers. Nothing flows in; proofs flow out. Code is not here.
+//! Laws on the definition of answers.
 ghost use Rattle.dir_lab.specs.Exact.{SuccessIsExact};
 
 /// An answer with success shows exactly the entries in scope whose filter value is True, each once, in order of number, with just the selected

@@ -1,5 +1,4 @@
-//! A run of a lab: one event after the other. Events flow in; the cluster after them, what its replicas have executed, and what is shown flow out.
-//! What is promised of a whole schedule is not here.
+//! Runs a lab: one event after the other.
 ghost use Rattle.std.specs.Prelude.{◌≡◌, ◌<◌, [], IfOk, OnOk};
 ghost use Rattle.std.specs.Arc.{arc_value};
 ghost use Rattle.vr_world.specs.Cluster.{world};

@@ -1,4 +1,4 @@
-//! A search at one replica. What it has executed, its state and a request flow in; what is shown flows out. How a search finds entries is not here.
+//! Asks one replica a search.
 ghost use Rattle.std.specs.Prelude.{◌≡◌, IfOk};
 ghost use Rattle.std.specs.Arc.{arc_value};
 ghost use Rattle.std.specs.Option.{option_map};

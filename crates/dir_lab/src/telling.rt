@@ -1,5 +1,4 @@
-//! Replies to updates, as they are shown. Replies of the protocol and what was executed flow in; the same replies with their result codes flow out.
-//! What an update is answered with is not decided here.
+//! Shows replies to updates with their result codes.
 ghost use Rattle.std.specs.Prelude.{◌≡◌, ◌++◌, drop, map, OnOk};
 ghost use Rattle.std.specs.Arc.{arc_value};
 ghost use Rattle.std.specs.Option.{option_map};

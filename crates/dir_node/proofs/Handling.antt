@@ -1,4 +1,4 @@
--- What a batch of events makes of a replica. How a journal notes each flows in; the steps alone flow out.
+-- What a batch of events makes of a replica.
 use Rattle.std.proofs.Common.{◌≡◌, ℕ, List, [], ◌∷◌, Result, Ok, Err, IfOk, IfErr, refl, sym, subst}
 use Rattle.std.specs.declared.alloc.AllocError.{AllocError}
 use Rattle.state_machine.specs.dir_store.ldap_op.Values.{OpValue}

@@ -1,4 +1,4 @@
--- A journal goes along with its node. A journal before and after, and what it tells, flow in; what it then tells, and what a crash leaves of it, flows out.
+-- A journal goes along with its node.
 use Rattle.std.proofs.Common.{◌≡◌, ℕ, List, Bool, Option, Some, None, is_some, sym, subst}
 use Rattle.state_machine.specs.dir_store.ldap_op.Values.{OpValue}
 use Rattle.log_journal.specs.Kept.{IsMemory}

@@ -1,4 +1,4 @@
--- A later start over a journal. What its parts leave of either device and what they note flow in; what the whole leaves, and tells, flows out.
+-- A later start over a journal.
 use Rattle.std.proofs.Common.{◌≡◌, ◌⊎◌, ◌<◌, ◌≤◌, ◌+◌, ◌^◌, ℕ, true, Some, List, ◌++◌, inl, inr, Result, Ok, Err, IfErr, refl, sym, ap, ◌∙◌, subst, arith}
 use Rattle.state_machine.specs.dir_store.ldap_op.Values.{OpValue}
 use Rattle.log_journal.specs.Kept.{IsHeld, IsMemory}

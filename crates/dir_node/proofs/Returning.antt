@@ -1,5 +1,4 @@
--- A start over strings that tell a replica goes on as that replica. In: that strings tell one thing. Out: the laws of specs/Returning.
--- Nothing of devices is here.
+-- A start over strings that tell a replica goes on as that replica.
 use Rattle.std.proofs.Common.{◌≡◌, ℕ, ◌==◌, cond, min, true, false, List, Option, Some, take, inl, inr, refl, sym, ap, ◌∙◌, subst, arith, true≢false}
 use Rattle.state_machine.specs.dir_store.ldap_op.Values.{OpValue}
 use Rattle.log_journal.specs.Batches.{OneIsTold}

@@ -1,4 +1,4 @@
--- What a start notes is told. A way over a journal, and strings that spell what it notes, flow in; that the journal then tells the replica flows out.
+-- What a start notes is told.
 use Rattle.std.proofs.Common.{◌≡◌, ◌+◌, ◌≤◌, ℕ, min, Bool, true, false, cond, not, nat_lt, ◌==◌, List, [], ◌∷◌, ◌++◌, inl, inr, Result, Ok, Err, IfOk, refl, sym, ap, ◌∙◌, subst, arith}
 use Rattle.std.proofs.lemmas.Bool.{and_parts}
 use Rattle.log_journal.specs.Kept.{IsMemory}

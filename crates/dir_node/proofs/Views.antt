@@ -1,4 +1,4 @@
--- What is stored is the replica's view. A pair flows in; what a crash leaves of it, and why it isn't stored, flows out.
+-- What is stored is the replica's view.
 use Rattle.std.proofs.Common.{◌≡◌, ◌+◌, ◌^◌, ◌≤◌, ◌≢◌, ◌⊎◌, ℕ, false, Result, Ok, Err, IsErrOf, List, refl, sym, ap, ◌∙◌, subst, arith, inl, inr}
 use Rattle.view_store.specs.Device.{Only, LeavesOnly}
 use Rattle.view_store.specs.Slots.{Finding, own, found, taken_from, sequence_of, IsWellPlaced}

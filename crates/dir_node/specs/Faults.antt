@@ -1,4 +1,4 @@
--- Which refusals the parts of a node's start may give. A refusal flows in.
+-- Which refusals the parts of a node's start may give.
 use Rattle.log_journal.specs.declared.error.NoteError.TheVariants as note
 use Rattle.view_store.specs.declared.fault.ViewStoreError.TheVariants as view
 use Rattle.dir_node.specs.declared.error.NodeError.{NodeError}

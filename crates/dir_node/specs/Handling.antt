@@ -1,4 +1,4 @@
--- What a batch of events makes of a replica. Events and what each gave flow in; the replica's state before and after is related.
+-- What a batch of events makes of a replica.
 use Rattle.std.specs.Prelude.{◌≡◌, ℕ, min, cond, nat_le, List, [], ◌∷◌, length, Result, Ok, Err}
 use Rattle.std.specs.declared.alloc.AllocError.{AllocError}
 use Rattle.state_machine.specs.dir_store.ldap_op.Values.{OpValue}

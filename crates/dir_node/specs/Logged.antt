@@ -1,5 +1,4 @@
--- What the journal of a node tells, now and after a crash. A journal, or none, and a replica's state flow in. What strings tell is defined in
--- log_journal.
+-- What the journal of a node tells, now and after a crash. What strings tell is defined in log_journal.
 use Rattle.std.specs.Prelude.{◌≡◌, ◌≢◌, ◌⊎◌, ℕ, true, Option, Some, None, List, []}
 use Rattle.state_machine.specs.dir_store.ldap_op.Values.{OpValue}
 use Rattle.log_journal.specs.Kept.{IsMemory, IsMemoryOfTaken}

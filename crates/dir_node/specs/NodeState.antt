@@ -1,6 +1,5 @@
--- A node as its callers see it, and what an event makes of it. The state of a replica, what it has executed, a device and a journal flow in; what a
--- crash leaves and what is handed out flow out. Steps are defined in vr_state, pairs on a device in view_store, what a journal tells in log_journal,
--- what is executed in state_machine.
+-- A node as its callers see it, and what an event makes of it. Steps are defined in vr_state, pairs on a device in
+-- view_store, what a journal tells in log_journal, what is executed in state_machine.
 use Rattle.std.specs.Prelude.{◌≡◌, ◌⊎◌, ℕ, ◌+◌, ◌≤◌, ◌^◌, ◌++◌, List, [], Bool, true, false, Option, is_some}
 use Rattle.std.specs.Arc.{arc_value}
 use Rattle.state_machine.specs.dir_store.ldap_op.Values.{OpValue}

@@ -1,5 +1,5 @@
--- What became of a client's request at a node, and where the node stands. A node flows in; one of four outcomes, or one of four standings, flows out.
--- The client table and the reply to each record are defined below.
+-- What became of a client's request at a node, and where the node stands. The client table and the reply to each record
+-- are defined below.
 use Rattle.std.specs.Prelude.{ℕ, ◌-◌, ◌&&◌, not, cond, nat_lt, ◌==◌, Option, Some, None, slice_get}
 use Rattle.state_machine.specs.Executing.{replies_at}
 use Rattle.state_machine.specs.directory_api.Answers.{ReplyModel}

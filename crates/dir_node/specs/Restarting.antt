@@ -1,5 +1,4 @@
--- A later start of a node that keeps a journal. The pair on the device and what the journal's strings tell flow in; what the start stores, notes and
--- sends flows out. Steps and recovery are defined in vr_state, notes in log_journal.
+-- A later start of a node that keeps a journal. Steps and recovery are defined in vr_state, notes in log_journal.
 use Rattle.std.specs.Prelude.{◌≡◌, ◌≢◌, ◌⊎◌, ℕ, ◌+◌, ◌<◌, ◌≤◌, ◌^◌, ◌&&◌, nat_lt, Bool, true, false, List, [], ◌∷◌, ◌++◌, length}
 use Rattle.state_machine.specs.dir_store.ldap_op.Values.{OpValue}
 use Rattle.log_journal.specs.Notes.{Note, Begin, Start}

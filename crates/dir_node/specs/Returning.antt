@@ -1,5 +1,4 @@
--- A replica that comes back from its journal: strings that tell it, as a crash leaves them, and a start over these flow in; the replica after the
--- start flows out.
+-- A replica that comes back from its journal.
 use Rattle.std.specs.Prelude.{◌≡◌, ◌≤◌, ℕ, false, List, take, Some}
 use Rattle.state_machine.specs.dir_store.ldap_op.Values.{OpValue}
 use Rattle.log_journal.specs.Kept.{IsMemory, IsMemoryOfTaken}

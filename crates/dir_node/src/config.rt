@@ -1,4 +1,4 @@
-//! What a node is made with, and what its calls give out. Plain data flows in and out. What a node does is not here.
+//! The settings of a node, and the outputs of its calls. Plain data.
 
 use crate::error::NodeError;
 use log_journal::Device as JournalDevice;

@@ -1,4 +1,4 @@
-//! Why a call of a node gives no outputs. Nothing flows in; plain data flows out. What a device does is not here.
+//! Why a call of a node gives no outputs. Plain data.
 ghost use Rattle.std.specs.Prelude.{◌≡◌};
 ghost use Rattle.dir_node.specs.declared.error.NodeError.TheVariants.{NoMemory, Store};
 

@@ -1,4 +1,4 @@
-//! Why a replica didn't take an event. Plain data. What is made of it is not here.
+//! Why a replica didn't take an event. Plain data.
 ghost use Rattle.std.specs.Prelude.{◌≡◌};
 ghost use Rattle.dir_node.specs.declared.fault.Untaken.TheVariants.{NoMemory};
 

@@ -1,4 +1,4 @@
-//! What follows the steps of a replica: the stored pair goes along with the view, and committed records are executed. Why the view grew is not here.
+//! What follows the steps of a replica: the stored pair goes along with the view, and committed records are executed.
 ghost use Rattle.std.specs.Prelude.{◌≡◌, ◌⊎◌, length, IfOk, OnOk, OnErr, IsErrOf};
 ghost use Rattle.state_machine.specs.Executing.{due_after};
 ghost use Rattle.dir_node.specs.NodeState.{CatchesUp, CannotStore};

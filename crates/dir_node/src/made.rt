@@ -1,4 +1,4 @@
-//! What a start over a journal hands out, and what is to be settled before. Plain data. How it is made is not here.
+//! What a start over a journal hands out, and what is to be settled before. Plain data.
 
 use log_journal::Batch;
 use state_machine::Op;

@@ -1,5 +1,5 @@
-//! A node: a replica, what it has executed, the device of its stored pair, and its journal where it keeps one. Events flow in; outputs flow out once the
-//! journal is settled and the view is stored. Which step an event makes is decided below, who sends and who waits above.
+//! A node: a replica, what it has executed, the device of its stored pair, and its journal where it keeps one. Which
+//! step an event makes is decided below, who sends and who waits above.
 ghost use Rattle.std.specs.Prelude.{◌≡◌, ◌-◌, ◌==◌, ◌∷◌, [], ◌↔◌, List, Result, true, false, None, not, length, slice_get, IfOk, OnOk, IsErrOf};
 ghost use Rattle.state_machine.specs.Executing.{directory_at, due_after, replies_at};
 ghost use Rattle.dir_node.specs.Handling.{MakesSteps, left_to_catch_up};

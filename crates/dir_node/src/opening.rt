@@ -1,5 +1,4 @@
-//! Nodes at their start, without a journal or with one. Devices flow in; a node flows out, with what its start sends, or a refusal with the devices.
-//! What is stored and noted is decided below.
+//! Nodes at their start, without a journal or with one. What is stored and noted is decided below.
 ghost use Rattle.std.specs.Prelude.{◌≡◌, ◌≢◌, ◌<◌, ◌≤◌, true, Some, None, is_some, length, IfOk, OnOk, IfErr, IsErrOf};
 ghost use Rattle.dir_node.specs.Faults.{IsEarly};
 ghost use Rattle.dir_node.specs.private.Faults.{IsLogFault, IsPairFault};

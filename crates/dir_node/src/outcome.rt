@@ -1,4 +1,4 @@
-//! What became of a client's request. Nothing flows in; plain data flows out. How it is found is not here.
+//! The outcome of a client's request. Plain data.
 
 use state_machine::Reply;
 

@@ -1,4 +1,4 @@
-//! Whose a journal is: which replica of which cluster. Plain data. How that is noted is not here.
+//! Whose a journal is: which replica of which cluster. Plain data.
 
 /// Whose a journal is.
 #[derive(Clone, Copy, Debug, PartialEq, Eq)]

@@ -1,4 +1,4 @@
-//! Where a node stands among the replicas. Nothing flows in; plain data flows out. How a replica comes to stand there is not here.
+//! Where a node stands among the replicas. Plain data.
 
 /// Where a node stands among the replicas.
 #[derive(Clone, Copy, Debug, PartialEq, Eq)]

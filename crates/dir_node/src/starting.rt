@@ -1,5 +1,5 @@
-//! A node without a journal at its start: the device's pair and the replica that goes with it. A device flows in; the pair on it, a replica and its first outputs flow
-//! out. What is asked of the other replicas is decided below.
+//! A node without a journal at its start: the device's pair and the replica that goes with it. What is asked of the
+//! other replicas is decided below.
 ghost use Rattle.std.specs.Prelude.{◌≡◌, ◌≢◌, ◌<◌, ◌≤◌, false, length, IfOk, OnOk, IsErrOf};
 ghost use Rattle.dir_node.specs.NodeState.{CannotStart, IsJournaled, IsOwn, StartLeaves, started_pair};
 ghost use Rattle.dir_node.specs.private.NodeState.{Holds};

@@ -1,4 +1,4 @@
-//! How a replica starts over its journal. Plain data. How the way is found is not here.
+//! How a replica starts over its journal. Plain data.
 
 use log_journal::Told;
 

@@ -1,4 +1,4 @@
--- A compare of the entry that a name has, known by its attributes. Facts on lists flow in and out; no value of the program is here.
+-- A compare of the entry that a name has, known by its attributes.
 use Rattle.std.proofs.Common.{◌≡◌, List, Option, None, Some, refl, ap, is_some, ℕ}
 use Rattle.std.specs.Option.{option_map}
 use Rattle.indexed_tree.specs.ldap_dn.Names.{RdnModel, rdns}

@@ -1,4 +1,4 @@
--- Few evaluations over the numbers of entries are few over the entries. Numbers and entries flow in and out; no value of the program is here.
+-- Few evaluations over the numbers of entries are few over the entries.
 use Rattle.std.proofs.Common.{◌≡◌, ◌≤◌, ℕ, suc, Bool, true, false, cond, List, [], ◌∷◌, Option, Some, None, length, map, filter, nat_eq, nat_lt, refl, sym, ap, ◌∙◌, subst, eqb-true, eq-eqb}
 use Rattle.std.specs.Prelude.{is_some, nat_le}
 use Rattle.std.specs.Option.{option_map}

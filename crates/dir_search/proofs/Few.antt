@@ -1,4 +1,4 @@
--- From what plans leave open to how few evaluations there are. Numbers and tests of them flow in and out; no value of the program is here.
+-- From what plans leave open to how few evaluations there are.
 use Rattle.std.proofs.Common.{◌≡◌, ◌<◌, ◌≤◌, ℕ, length, Bool, true, false, cond, ◌||◌, List, [], ◌∷◌, Option, Some, None, map, nat_eq, nat_lt, refl, sym, ap, ◌∙◌, subst, eq-eqb, arith}
 use Rattle.std.specs.Prelude.{is_some, filter, nat_le}
 use Rattle.std.specs.List.{AllByRecursion, slice_get}

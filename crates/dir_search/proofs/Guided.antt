@@ -1,5 +1,4 @@
--- Plans over the posting lists of a tree's entries guide a run over the numbers of some of them, and leave few open. Facts on lists and
--- entries flow in and out; no value of the program is here.
+-- Plans over the posting lists of a tree's entries guide a run over the numbers of some of them, and leave few open.
 use Rattle.std.proofs.Common.{◌≡◌, ◌<◌, ℕ, Bool, true, false, cond, not, ◌||◌, ◌&&◌, List, [], ◌∷◌, Some, Vec, Global, map, nat_eq, refl, sym, ap, ap₂, ◌∙◌, subst, inl, inr, eqb-true}
 use Rattle.std.specs.List.{AllByRecursion}
 use Rattle.indexed_tree.specs.ldap_match.declared.truth.Truth.TheVariants.{True}

@@ -1,4 +1,4 @@
--- Names read relative name by relative name, from their ends. Facts on lists flow in and out; no value of the program is here.
+-- Names read relative name by relative name, from their ends.
 use Rattle.std.proofs.Common.{◌≡◌, ◌<◌, ◌-◌, ℕ, List, [], ◌∷◌, ◌++◌, length, reverse, Option, None, Some, refl, sym, ap, ◌∙◌, arith}
 use Rattle.std.specs.Prelude.{option_copied, get_or, is_some, map, true}
 use Rattle.std.specs.Option.{option_map, option_and_then}

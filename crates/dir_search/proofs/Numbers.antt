@@ -1,4 +1,4 @@
--- The entries of the numbers that the tree keeps. Facts on lists flow in and out; no value of the program is here.
+-- The entries of the numbers that the tree keeps.
 use Rattle.std.proofs.Common.{◌≡◌, ◌<◌, ℕ, List, [], ◌∷◌, refl, ap, ◌∙◌, arith, Bool, true, false, cond, filter, map, Option, None, Some, nat_eq}
 use Rattle.std.specs.Option.{option_map}
 use Rattle.indexed_tree.specs.ldap_schema.Schema.{SchemaModel}

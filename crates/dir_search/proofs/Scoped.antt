@@ -1,4 +1,4 @@
--- The numbers that a tree keeps for a scope are those of the entries in it. Facts on lists flow in and out; no value of the program is here.
+-- The numbers that a tree keeps for a scope are those of the entries in it.
 use Rattle.std.proofs.Common.{◌≡◌, ℕ, suc, length, Bool, true, false, cond, List, [], ◌∷◌, Option, Some, None, map, filter, refl, sym, ap, ◌∙◌}
 use Rattle.std.specs.Prelude.{is_some}
 use Rattle.std.specs.Option.{option_map}

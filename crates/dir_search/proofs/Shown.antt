@@ -1,4 +1,4 @@
--- What a search shows once it ends: all, or up to the size limit. A run's progress flows in as plain numbers; no value of the program is here.
+-- What a search shows once it ends: all, or up to the size limit.
 use Rattle.std.proofs.Common.{◌≡◌, ◌<◌, ℕ, zero, suc, Bool, true, List, [], ◌∷◌, length, cond, Option, None, nat_lt, refl, sym, ap, ◌∙◌, arith}
 use Rattle.std.specs.Prelude.{filter, nat_le}
 use Rattle.std.specs.List.{slice_get}

@@ -1,5 +1,4 @@
--- The answer of a search: RFC 4511 4.5.1, 4.5.2 and 4.1.9. A directory and a search request flow in; the result code, matchedDN and what is
--- shown of each entry flow out.
+-- The answer of a search: RFC 4511 4.5.1, 4.5.2 and 4.1.9.
 use Rattle.std.specs.Prelude.{ℕ, List, [], ◌∷◌, Bool, true, false, ◌&&◌, ◌||◌, cond, map, filter, take, length, nat_lt, Option, None, Some, is_some}
 use Rattle.indexed_tree.specs.ldap_schema.Schema.{SchemaModel}
 use Rattle.ldap_filter.specs.Tree.{Tree}

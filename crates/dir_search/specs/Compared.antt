@@ -1,4 +1,4 @@
--- The reply to a compare: RFC 4511 4.10. A directory and a request flow in; a code and matchedDN flow out.
+-- The reply to a compare: RFC 4511 4.10.
 use Rattle.std.specs.Prelude.{ℕ, List, Bool, cond, not, Option, None, Some, Result, Ok, Err}
 use Rattle.std.specs.List.{list_any}
 use Rattle.indexed_tree.specs.ldap_schema.Schema.{SchemaModel, find, is_under}

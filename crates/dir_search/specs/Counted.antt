@@ -1,5 +1,4 @@
--- On just how many entries a search evaluates its filter. What a store has, a request and a count flow in; a statement flows out, by plans of the
--- filter. Bound filters, and numbers in posting lists, are not here.
+-- On just how many entries a search evaluates its filter.
 use Rattle.std.specs.Prelude.{◌≡◌, ℕ, true, ◌&&◌, not, cond, Bool, List, length, map, filter, nat_le, nat_lt, Option, None, Some}
 use Rattle.std.specs.List.{slice_get}
 use Rattle.indexed_tree.specs.ldap_dn.Names.{RdnModel, rdns}

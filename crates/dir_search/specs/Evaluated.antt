@@ -1,5 +1,4 @@
--- On how many entries a search evaluates its filter. What a store has, a request and a count flow in; a statement flows out. Bound filters,
--- plans and numbers in posting lists are not here.
+-- On how many entries a search evaluates its filter.
 use Rattle.std.specs.Prelude.{◌≡◌, ◌<◌, ◌≤◌, ℕ, true, ◌&&◌, not, Bool, List, length, filter, nat_le, Option, None, Some}
 use Rattle.std.specs.List.{slice_get}
 use Rattle.indexed_tree.specs.ldap_schema.Schema.{SchemaModel}

@@ -1,5 +1,4 @@
--- How many entries a search evaluates its bound filter on, by their numbers. Numbers, entries, an index choice and a bound filter flow in; bounds
--- on a count flow out. Requests, and how plans are made, are not here.
+-- How many entries a search evaluates its bound filter on, by their numbers.
 use Rattle.std.specs.Prelude.{ℕ, List, Option, None, Some}
 use Rattle.indexed_tree.specs.ldap_match.declared.truth.Truth.{Truth}
 use Rattle.indexed_tree.specs.ldap_match.declared.truth.Truth.TheVariants.{Undefined}

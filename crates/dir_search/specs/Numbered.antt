@@ -1,5 +1,4 @@
--- Entries by their numbers. Numbers and entries flow in; the entries of the numbers flow out, and what a search shows of them. Scopes are not
--- here.
+-- Entries by their numbers.
 use Rattle.std.specs.Prelude.{List, [], Option, None, Some}
 use Rattle.indexed_tree.specs.ldap_dn.Names.{RdnModel}
 use Rattle.indexed_tree.specs.dir_tree.Directory.{Entered}

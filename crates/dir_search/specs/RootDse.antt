@@ -1,4 +1,4 @@
--- The root DSE: RFC 4512 5.1. A directory flows in; what a search of the empty name finds flows out. It is no entry of the directory.
+-- The root DSE: RFC 4512 5.1. It is no entry of the directory.
 use Rattle.std.specs.Prelude.{ℕ, List, [], ◌∷◌, ◌++◌, Bool, cond, codes, Result, Ok, Err, Option, Some, None}
 use Rattle.std.specs.List.{list_any}
 use Rattle.std.specs.Str.{str_eq_ignore_ascii_case}

@@ -1,4 +1,4 @@
--- Which entries a search looks at: RFC 4511 4.5.1.2. A base, a scope and a name flow in; whether the name is in scope flows out.
+-- Which entries a search looks at: RFC 4511 4.5.1.2.
 use Rattle.std.specs.Prelude.{Bool, false, [], ◌∷◌}
 use Rattle.indexed_tree.specs.directory_api.ldap_msg.ldap_requests.declared.search.Scope.{Scope}
 use Rattle.indexed_tree.specs.directory_api.ldap_msg.ldap_requests.declared.search.Scope.TheVariants.{BaseObject, SingleLevel, WholeSubtree, SubordinateSubtree}

@@ -1,5 +1,4 @@
--- What is shown of an entry: RFC 4511 4.5.1.8. A schema, selectors and an entry flow in; its printed name and what is shown of its attributes
--- flow out. Which attributes are selected, `found_entry` says.
+-- What is shown of an entry: RFC 4511 4.5.1.8. Which attributes are selected, `found_entry` says.
 use Rattle.std.specs.Prelude.{ℕ, List, Bool}
 use Rattle.indexed_tree.specs.ldap_schema.Schema.{SchemaModel}
 use Rattle.indexed_tree.specs.directory_api.ldap_msg.Messages.{SearchResultEntryValue}

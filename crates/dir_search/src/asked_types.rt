@@ -1,5 +1,4 @@
-//! The types whose attributes a filter asks about, by which entries are read ahead. A bound filter flows in, and a set of types flows out, which decides
-//! cost alone. What a filter says of an entry is not here.
+//! Finds the types that a filter asks about, by which entries are read ahead. It decides cost alone.
 use indexed_tree::TypesAhead;
 use ldap_eval::BoundFilter;
 

@@ -1,5 +1,5 @@
-//! A search whose filter is bound: the numbers in scope of the entries whose filter value is True are drawn from plans, in order, up to the size
-//! limit. A tree and a request flow in, what is shown of the entries flows out. How a filter is bound, and how plans are made, is not here.
+//! A search whose filter is bound: the numbers in scope of the entries whose filter value is True are drawn from plans,
+//! in order, up to the size limit.
 ghost use Rattle.std.specs.Prelude.{◌≡◌, ℕ, List, [], true, false, IfOk};
 ghost use Rattle.indexed_tree.specs.ldap_schema.Schema.{SchemaModel};
 ghost use Rattle.ldap_filter.specs.Tree.{Tree as FilterTree};

@@ -1,4 +1,4 @@
-//! Compares. A directory and a request flow in; a reply flows out, and the directory stays. Octets of messages are not here.
+//! Answers compares.
 ghost use Rattle.std.specs.Prelude.{◌≡◌, Ok, Some, IfOk, string_bytes};
 ghost use Rattle.ldap_filter.specs.Item.{comparison, equal as equal_to};
 ghost use Rattle.ldap_filter.specs.Tree.{item};

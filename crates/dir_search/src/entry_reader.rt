@@ -1,5 +1,5 @@
-//! Entries read off a tree as they are shown: their attributes, and their printed names. Numbers flow in, one after the other. What is printed
-//! behind the relative name of an entry stays for the next one, which mostly has the same superior. Which attributes are selected is not here.
+//! Entries read off a tree as they are shown: their attributes, and their printed names. What is printed behind the
+//! relative name of an entry stays for the next one, which mostly has the same superior.
 ghost use Rattle.std.specs.Prelude.{◌≡◌, Some, IfOk, IsTrue, string_bytes, reverse};
 ghost use Rattle.std.specs.Option.{option_map};
 ghost use Rattle.indexed_tree.specs.ldap_dn.Printed.{printed_behind, printed_name};

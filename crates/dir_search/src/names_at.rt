@@ -1,5 +1,4 @@
 // The names of a tree's entries as evaluation asks for them: read off relative name by relative name, without memory.
-// Filters, and which entries are asked for, are not here.
 
 ghost use Rattle.std.specs.Prelude.{◌≡◌, ◌<◌, ◌-◌, ◌++◌, [], ◌∷◌, IfSome, length, slice_get};
 ghost use Rattle.std.specs.Option.{option_map};

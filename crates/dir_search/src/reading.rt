@@ -1,5 +1,4 @@
-// Reads of one state of a directory, as whoever holds a store answers them. A directory, its number and a request flow in; the answer flows
-// out. What must not be here: updates, which state it is.
+// Reads of one state of a directory, as whoever holds a store answers them.
 ghost use Rattle.indexed_tree.specs.directory_api.ldap_msg.View.{search_view, compare_view};
 ghost use Rattle.dir_search.specs.Answer.{answer};
 ghost use Rattle.dir_search.specs.Compared.{compared};

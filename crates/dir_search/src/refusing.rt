@@ -1,4 +1,4 @@
-// Searches with nothing to find. A reply flows in; the answer that says so flows out. What must not be here: which search that is.
+// Answers a search that has nothing to find.
 ghost use Rattle.indexed_tree.specs.directory_api.View.{reply_view};
 ghost use Rattle.indexed_tree.specs.directory_api.Answers.{refused as refused_answer};
 ghost use Rattle.dir_search.specs.private.View.{Finds};

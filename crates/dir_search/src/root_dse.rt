@@ -1,5 +1,4 @@
-//! The root DSE: what a search of the empty name alone finds. A directory and a request flow in; at most one entry that is shown flows out. It is no
-//! entry of the directory.
+//! The root DSE: what a search of the empty name alone finds. It is no entry of the directory.
 ghost use Rattle.std.specs.Prelude.{◌≡◌, ◌++◌, ◌∷◌, [], Some, map, codes, IfOk, OnOk};
 ghost use Rattle.ldap_filter.specs.View.{view as filter_view};
 ghost use Rattle.ldap_eval.specs.Value.{filter_value};

@@ -1,5 +1,4 @@
-//! The numbers of the entries that a search looks at: sets that the tree keeps. A tree and a base flow in; numbers in rising order flow
-//! out. Entries and filters are not here.
+//! The numbers of the entries that a search looks at: sets that the tree keeps.
 ghost use Rattle.std.specs.Prelude.{◌≡◌, [], true, false, is_some};
 ghost use Rattle.indexed_tree.specs.ldap_dn.Names.{rdns};
 ghost use Rattle.indexed_tree.specs.dir_tree.Directory.{begins, find, numbers};

@@ -1,5 +1,4 @@
-//! The search itself: what a request's base stands for, the root DSE, entries or nothing, and the answer. A directory and a request flow in, the
-//! result code and what is shown of the entries flow out. How the entries in scope are gone over is not here.
+//! The search itself: what a request's base stands for, the root DSE, entries or nothing, and the answer.
 ghost use Rattle.std.specs.Prelude.{◌≡◌, ◌≤◌, ◌&&◌, length, true, IfOk};
 ghost use Rattle.indexed_tree.specs.ldap_schema.Schema.{SchemaModel};
 ghost use Rattle.ldap_filter.specs.Tree.{Tree as FilterTree};

@@ -1,5 +1,4 @@
-//! What is shown of an entry that was found: its printed name, and a second owner of its attributes. A directory, a request and an entry flow in.
-//! Filters, and which attributes are selected, are not here.
+//! What is shown of an entry that was found: its printed name, and a second owner of its attributes.
 ghost use Rattle.std.specs.Prelude.{◌≡◌, string_bytes, IfOk};
 ghost use Rattle.std.specs.Arc.{arc_value};
 ghost use Rattle.indexed_tree.specs.ldap_dn.Printed.{printed_name};

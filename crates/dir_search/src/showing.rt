@@ -1,5 +1,4 @@
-//! What is shown of the entries that are found. The numbers that a run gives flow in, one by one; an answer, up to the size limit, flows
-//! out. Which numbers are found is not told here.
+//! Shows the entries that are found, up to the size limit.
 ghost use Rattle.std.specs.Prelude.{◌≡◌, ◌<◌, ◌++◌, ◌∷◌, [], map, IfOk, OnOk};
 ghost use Rattle.std.specs.Bool.{OnTrue, OnFalse};
 ghost use Rattle.std.specs.Arc.{arc_value};

@@ -1,5 +1,4 @@
-//! The values of a filter on the entries of a tree, each asked for by its number. A tree and a bound filter flow in; values flow
-//! out, and each look is counted. Plans are not here.
+//! The values of a filter on the entries of a tree, each asked for by its number.
 use crate::names_at::NameAt;
 use indexed_tree::{Truth, Visit};
 use ldap_eval::{BoundFilter, value};

@@ -1,4 +1,4 @@
--- Beginnings of lists of executed records, and how they go together. The rule is not here.
+-- Beginnings of lists of executed records, and how they go together.
 use Rattle.std.proofs.Common.{◌≡◌, ℕ, List, [], ◌∷◌, ◌++◌, length, drop, true, refl, ap, sym, subst, ◌∙◌, append_assoc, append-nil, arith, Result, Ok, Err, MatchResult}
 use Rattle.std.proofs.Math.Seq.{drop-append_seam}
 use Rattle.std.proofs.lemmas.List.{length-append}

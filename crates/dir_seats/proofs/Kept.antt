@@ -1,4 +1,4 @@
--- Each step keeps the rule. What is published and what readers know flows in; that the rule still holds flows out. Code is not here.
+-- Each step keeps the rule.
 use Rattle.std.proofs.Common.{◌≡◌, ℕ, ◌≢◌, List, true, set, refl, subst, ⊎_elim}
 use Rattle.std.proofs.lemmas.Bool.{false≢true}
 use mathlib.Core.Option.{some}

@@ -1,5 +1,4 @@
--- Lists of executed records, and beginnings of them. A directory that was executed flows in, with further records; what it then is, and whether
--- one begins another, flows out. Who reads them is not here.
+-- Lists of executed records, and beginnings of them.
 use Rattle.std.specs.Prelude.{◌≡◌, List, [], ◌++◌, length, cond, nat_lt}
 use mathlib.Core.List.{IsPrefix}
 use Rattle.vr_state.specs.Words.{LogEntry}

@@ -1,5 +1,4 @@
--- What a read through a seat comes to, and what a session may be told by one. A seat's floor before and after, a question and its answer flow in;
--- whether they go together flows out. How a seat comes to its list is not here.
+-- What a read through a seat comes to, and what a session may be told by one.
 use Rattle.std.specs.Prelude.{◌≡◌, ℕ, length, Option, Some, None}
 use Rattle.dir_search.specs.Answer.{answer}
 use Rattle.dir_search.specs.Compared.{compared as compared_reply}

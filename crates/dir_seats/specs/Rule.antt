@@ -1,5 +1,4 @@
--- The rule of what is published: what each reader saw or was told of is a beginning of it. A published value and what readers know flow in; whether
--- the rule holds, and what a step of a reader or of the publisher tells, flows out. What is searched is not here.
+-- The rule of what is published: what each reader saw or was told of is a beginning of it.
 use Rattle.std.specs.Prelude.{◌≡◌, ℕ, List, [], Bool, true, false}
 use mathlib.Core.Option.{some}
 use lib.ListN.{get_elem?}

@@ -1,4 +1,4 @@
-//! Makes a publisher and its seats at the start of a node, over a directory without entries. Records are not here.
+//! Makes a publisher and its seats at the start of a node, over a directory without entries.
 ghost use Rattle.std.specs.Prelude.{◌≡◌, ◌<◌, ◌≤◌, [], drop as without_first, true, length, IfOk, All};
 ghost use Rattle.std.specs.Arc.{arc_value};
 ghost use Rattle.left_right.specs.Sides.{view};

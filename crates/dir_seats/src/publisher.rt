@@ -1,4 +1,4 @@
-//! A publisher: shows its seats what a node has executed. Which records are committed, and when it is published, is not here.
+//! A publisher: shows its seats what a node has executed.
 ghost use Rattle.std.specs.Prelude.{◌≡◌, ◌↔◌, ◌<◌, [], drop, true, length, IsTrue, IfOk, MatchResult};
 ghost use Rattle.left_right.specs.Sides.{view as known};
 ghost use Rattle.dir_seats.specs.Lists.{with_records, IsBeginning};

@@ -1,4 +1,4 @@
-//! The rule over what is published, and what its steps tell: types that clauses name. Code is not here.
+//! The rule over what is published, and what its steps tell: types that clauses name.
 ghost use Rattle.dir_seats.specs.Rule.{Keeps, Sees, newcomer};
 
 use crate::shown::Shown;

@@ -1,5 +1,4 @@
-//! A seat: a reader of what one node publishes, and what it is told. Questions flow in; answers flow out, each of one published list. No call
-//! of a seat takes a lock or waits. Who publishes is not here.
+//! A seat: a reader of what one node publishes, and what it is told. No call of a seat takes a lock or waits.
 ghost use Rattle.std.specs.Prelude.{◌≡◌, true, length};
 ghost use Rattle.left_right.specs.Sides.{view as known};
 ghost use Rattle.dir_search.specs.directory_api.ldap_msg.View.{search_view, compare_view};

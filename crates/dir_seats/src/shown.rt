@@ -1,5 +1,5 @@
-//! The published value: one version of the directory, which has as many owners as it is shared with, and how many records made it. Who reads it, and
-//! the records themselves, are not here.
+//! The published value: one version of the directory, which has as many owners as it is shared with, and how many
+//! records made it.
 ghost use Rattle.std.specs.Prelude.{◌≡◌, length, IfOk};
 ghost use Rattle.state_machine.specs.Executing.{directory_at};
 

@@ -1,4 +1,4 @@
-//! The steps of the writer: shows what was appended, and tells a reader the whole of what is shown. Who holds writers is not here.
+//! The steps of the writer: shows what was appended, and tells a reader the whole of what is shown.
 ghost use Rattle.std.specs.Prelude.{◌≡◌, [], drop, true, IfOk, MatchResult};
 ghost use Rattle.left_right.specs.Sides.{view};
 ghost use Rattle.dir_seats.specs.Lists.{IsBeginning};

@@ -1,4 +1,4 @@
--- Numbers once an update is made: all stay below the number after its own. Facts on definitions flow in and out; no value of the program is here.
+-- Numbers once an update is made: all stay below the number after its own.
 use Rattle.std.proofs.Common.{◌≡◌, ◌<◌, ◌+◌, ℕ, List, [], ◌∷◌, ◌++◌, Bool, true, false, cond, Result, Ok, Err, nat_eq, arith, sym, ap, subst}
 use Rattle.std.specs.Prelude.{IfOk}
 use Rattle.indexed_tree.specs.ldap_dn.Names.{RdnModel, rdns}

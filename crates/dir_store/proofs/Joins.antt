@@ -1,4 +1,4 @@
--- Lists of updates, one behind the other. Facts on definitions flow in and out; no value of the program is here.
+-- Lists of updates, one behind the other.
 use Rattle.std.proofs.Common.{◌≡◌, ℕ, suc, ◌+◌, List, [], ◌∷◌, ◌++◌, length, ap, ◌∙◌, arith}
 use Rattle.entry_updates.specs.ldap_op.Values.{OpValue}
 use Rattle.indexed_tree.specs.Directory.{Directory}

@@ -1,4 +1,4 @@
--- Where an entry may move to. Facts on names and lists flow in and out; no value of the program is here.
+-- Where an entry may move to.
 use Rattle.std.proofs.Common.{◌≡◌, ◌-◌, ℕ, suc, List, [], ◌∷◌, ◌++◌, map, length, take, refl, sym, ap, ◌∙◌, subst, arith, Bool, true, false, not, ◌&&◌, ◌||◌, Option, None, Some, nat_eq, is_some}
 use Rattle.std.specs.Option.{option_map}
 use Rattle.indexed_tree.specs.ldap_dn.Names.{TypeAndKey, RdnModel, rdns, are_same_keys}

@@ -1,4 +1,4 @@
--- Whether another entry has a name. Facts on lists flow in and out; no value of the program is here.
+-- Whether another entry has a name.
 use Rattle.std.proofs.Common.{◌≡◌, ℕ, List, map, refl, ap, ◌∙◌, false, not, Option, None, Some, nat_eq}
 use Rattle.std.specs.Option.{option_map}
 use Rattle.indexed_tree.specs.dir_tree.Directory.{NameKey, Entered, find}

@@ -1,4 +1,4 @@
--- Replies by place. Facts on definitions flow in and out; no value of the program is here.
+-- Replies by place.
 use Rattle.std.proofs.Common.{◌≡◌, ℕ, zero, suc, ◌+◌, [], ◌∷◌, ◌++◌, length, refl, ap, ap₂, ◌∙◌, arith}
 use Rattle.std.proofs.lemmas.Option.{slice_get_past}
 use Rattle.dir_store.specs.Updates.{applied, directory_after}

@@ -1,4 +1,4 @@
--- Numbers rise from entry to entry, whatever the updates. Facts on definitions flow in and out; no value of the program is here.
+-- Numbers rise from entry to entry, whatever the updates.
 use Rattle.std.proofs.Common.{◌<◌, ◌+◌, ℕ, List, [], ◌∷◌, ◌++◌, Bool, true, false, cond, Result, Ok, Err, nat_eq}
 use Rattle.indexed_tree.specs.ldap_dn.Names.{RdnModel, rdns}
 use Rattle.entry_updates.specs.ldap_op.Values.{OpValue, add, delete, modify, modify_dn, noop}

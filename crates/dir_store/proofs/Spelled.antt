@@ -1,4 +1,4 @@
--- New names are placed as they are spelled. Facts on names and lists flow in and out; no value of the program is here.
+-- New names are placed as they are spelled.
 use Rattle.std.proofs.Common.{◌≡◌, ◌-◌, ℕ, suc, List, [], ◌∷◌, ◌++◌, length, drop, map, refl, sym, ap, ◌∙◌, subst, arith, Bool, true, false, cond, Option, None, Some}
 use Rattle.std.specs.Option.{option_map}
 use Rattle.indexed_tree.specs.ldap_dn.Names.{RdnModel, rdns}

@@ -1,4 +1,4 @@
--- Lists of updates, one behind the other. Lists flow in; what both together come to flows out. What one update comes to is above.
+-- Lists of updates, one behind the other. What one update comes to is above.
 use Rattle.std.specs.Prelude.{◌≡◌, ℕ, ◌+◌, List, ◌++◌, length}
 use Rattle.entry_updates.specs.ldap_op.Values.{OpValue}
 use Rattle.indexed_tree.specs.Directory.{Directory}

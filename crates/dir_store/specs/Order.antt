@@ -1,4 +1,4 @@
--- The order of a directory's entries: by number, each once. Entries flow in; whether their numbers rise flows out. What updates do is above.
+-- The order of a directory's entries: by number, each once. What updates do is above.
 use Rattle.std.specs.Prelude.{◌<◌, ℕ, List, [], ◌∷◌}
 use Rattle.indexed_tree.specs.ldap_dn.Names.{RdnModel}
 use Rattle.indexed_tree.specs.ldap_schema.Schema.{SchemaModel}

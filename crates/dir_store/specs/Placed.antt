@@ -1,4 +1,4 @@
--- The reply at a place of a list of updates. A directory and updates flow in; a reply flows out, and laws of it. What one update comes to is above.
+-- The reply at a place of a list of updates. What one update comes to is above.
 use Rattle.std.specs.Prelude.{◌≡◌, ℕ, zero, suc, ◌+◌, List, [], ◌∷◌, ◌++◌, length, Option, None, Some}
 use Rattle.std.specs.List.{slice_get}
 use Rattle.entry_updates.specs.ldap_op.Values.{OpValue}

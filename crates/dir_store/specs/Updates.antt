@@ -1,5 +1,5 @@
--- Updates of the directory: RFC 4511 4.6 to 4.9. A directory, a number and an update flow in; the directory after it and its reply flow out.
--- Each is the list of its checks in order. What is asked of attributes is below; messages are above.
+-- Updates of the directory: RFC 4511 4.6 to 4.9. Each is the list of its checks in order. What is asked of attributes
+-- is below; messages are above.
 use Rattle.std.specs.Prelude.{ℕ, ◌+◌, List, [], ◌∷◌, ◌++◌, Bool, false, cond, not, ◌||◌, nat_eq, Option, None, Some, is_some, Result, Ok, Err}
 use Rattle.indexed_tree.specs.ldap_dn.Names.{TypeAndValue, RdnModel, rdns}
 use Rattle.indexed_tree.specs.ldap_dn.Texts.{name_of_text}

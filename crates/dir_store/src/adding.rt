@@ -1,5 +1,4 @@
-//! What an add asks for. A schema, a tree and a request flow in; the new entry with its whole name, or a refusal, flows out. The tree stays
-//! as it is.
+//! Judges an add and makes its entry. The tree stays as it is.
 ghost use Rattle.std.specs.Prelude.{◌≡◌, ◌++◌, Ok, true, false, is_some, IfOk, IfErr, OnOk, map};
 ghost use Rattle.indexed_tree.specs.ldap_dn.Names.{rdns};
 ghost use Rattle.entry_updates.specs.ldap_op.ldap_parts.View.{attribute_view};

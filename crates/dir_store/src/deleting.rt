@@ -1,5 +1,4 @@
-//! What a delete asks for. A schema, a tree and a name flow in; the number of the entry that goes, or a refusal, flows out. The tree stays
-//! as it is.
+//! Judges a delete. The tree stays as it is.
 ghost use Rattle.std.specs.Prelude.{◌≡◌, Ok, Some, false, IfOk, IfErr, OnOk};
 ghost use Rattle.std.specs.Option.{option_map};
 ghost use Rattle.indexed_tree.specs.ldap_dn.Names.{rdns};

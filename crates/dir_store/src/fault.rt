@@ -1,4 +1,4 @@
-//! Why an update changes nothing: within this crate alone, since what flows out of it is a reply.
+//! Says why an update changes nothing; within this crate alone, since users get a reply.
 ghost use Rattle.std.specs.Prelude.{◌≡◌, ℕ, List, Result, IfOk};
 ghost use Rattle.indexed_tree.specs.dir_entry.Entry.{AttributeModel};
 ghost use Rattle.entry_updates.specs.Refused.{RefusedAs};

@@ -1,4 +1,4 @@
-//! Entries that updates ask for. A tree and names flow in; entries, or the refusal that there is none, flow out. Texts are not here.
+//! Finds the entries that updates name.
 ghost use Rattle.std.specs.Prelude.{◌≡◌, Ok, Some, IfOk, IfErr};
 ghost use Rattle.indexed_tree.specs.ldap_dn.Names.{rdns};
 ghost use Rattle.indexed_tree.specs.dir_entry.Entry.{IsKeyedBy};

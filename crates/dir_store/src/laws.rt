@@ -1,4 +1,4 @@
-//! Laws on the definitions of updates. Nothing flows in; proofs flow out. Code is not here.
+//! Laws on the definitions of updates.
 ghost use Rattle.dir_store.specs.Joins.{DirectoriesJoin, RepliesJoin};
 ghost use Rattle.dir_store.specs.Order.{EntriesRise};
 ghost use Rattle.dir_store.specs.Placed.{PlacesJoin, RepliesArePlaced};

@@ -1,5 +1,4 @@
-//! What a modify asks for. A schema, a tree and a request flow in; the changed entry with its number, or a refusal, flows out. The tree
-//! stays as it is.
+//! Judges a modify and makes the changed entry. The tree stays as it is.
 ghost use Rattle.std.specs.Prelude.{◌≡◌, Ok, IfOk, IfErr, map};
 ghost use Rattle.entry_updates.specs.ldap_updates.View.{change_view, modify_view};
 ghost use Rattle.indexed_tree.specs.dir_entry.Entry.{IsKeyedBy};

@@ -1,4 +1,4 @@
-//! Names that updates say. A schema and texts flow in; names, or a refusal, flow out. Entries are not here.
+//! Reads the names that updates give.
 ghost use Rattle.std.specs.Prelude.{◌≡◌, Ok, None, IfOk, IfErr, string_bytes};
 ghost use Rattle.std.specs.Option.{option_map};
 ghost use Rattle.indexed_tree.specs.ldap_dn.Texts.{name_of_text};

@@ -1,5 +1,4 @@
-//! What a modifyDN asks for. A schema, a tree and a request flow in; the entry under its new name, or a refusal, flows out. The tree stays
-//! as it is.
+//! Judges a modifyDN and makes the renamed entry. The tree stays as it is.
 ghost use Rattle.std.specs.Prelude.{◌≡◌, ◌++◌, ◌∷◌, [], true, false, Ok, Some, IfOk, IfErr, OnOk, is_some, map};
 ghost use Rattle.std.specs.Option.{option_map};
 ghost use Rattle.indexed_tree.specs.ldap_dn.Names.{rdns};

@@ -1,5 +1,5 @@
-//! The directory: a schema and a tree of entries, whose keys are those of the schema. Updates flow in; replies flow out, and the
-//! directory after them stays. What each update asks for is judged before anything changes.
+//! The directory: a schema and a tree of entries, whose keys are those of the schema. What each update asks for is
+//! judged before anything changes.
 ghost use Rattle.std.specs.Prelude.{◌≡◌, ◌+◌, [], Ok, IfOk, IfErr, OnOk, OnErr};
 ghost use Rattle.std.specs.Arc.{arc_value};
 ghost use Rattle.indexed_tree.specs.Stored.{directory, AreKeyedBy, NumbersBelow};

@@ -1,5 +1,4 @@
--- A directory, as the list of its entries in rising order of number, and what is asked of it: RFC 4512 2.1 to 2.3. How entries
--- are kept, and what an update checks, are not here.
+-- A directory, as the list of its entries in rising order of number, and what is asked of it: RFC 4512 2.1 to 2.3.
 use Rattle.std.specs.Prelude.{◌≡◌, ℕ, zero, suc, ◌+◌, ◌-◌, ◌<◌, Bool, true, false, cond, ◌&&◌, ◌||◌, List, [], ◌∷◌, ◌++◌, length, take, drop, map, nat_eq, nat_lt, Option, None, Some, is_some}
 use Rattle.std.specs.List.{list_any}
 use Rattle.dir_entry.specs.ldap_dn.Names.{TypeAndKey, RdnModel, rdns, are_same_keys}

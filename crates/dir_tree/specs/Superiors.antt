@@ -1,5 +1,4 @@
--- Entries that know their superior: where each stands, and what is read off by going up. RFC 4512 2.1, 2.3.2. How they are kept, and
--- what an update changes, are not here.
+-- Entries that know their superior: where each stands, and what is read off by going up. RFC 4512 2.1, 2.3.2.
 use Rattle.std.specs.Prelude.{ℕ, zero, suc, List, [], ◌∷◌, ◌++◌, map, Option, None, Some}
 use Rattle.std.specs.Option.{option_map}
 use Rattle.std.specs.Ordering.{nat_cmp}

@@ -1,5 +1,4 @@
 // Compares names, whatever their spelling; takes no memory.
-// Entries are not here.
 
 ghost use Rattle.std.specs.Prelude.{◌≡◌};
 ghost use Rattle.dir_entry.specs.ldap_dn.Names.{rdns};

@@ -1,6 +1,5 @@
 // Relative names with digests: the keys of the maps below entries, and what a look-up seeks there. A node of the map
 // holds the digests of its keys, so a look-up reads a relative name in other memory only where digests are equal.
-// Numbers, and where entries stand, are not here.
 
 ghost use Rattle.std.specs.Prelude.{◌≡◌, Some, refl};
 ghost use Rattle.std.specs.Cmp.{partial_equiv_from_equiv, partial_order_from_agreeing_total};

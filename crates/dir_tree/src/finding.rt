@@ -1,5 +1,4 @@
 // Numbers by name: goes down from the root, relative name by relative name. Takes no memory.
-// Entries, and how maps change, are not here.
 
 ghost use Rattle.std.specs.Prelude.{◌≡◌, ◌≤◌, ◌-◌, ◌||◌, None, Some, cond, drop, length, is_some};
 ghost use Rattle.std.specs.Option.{option_and_then, option_map, option_map_or};

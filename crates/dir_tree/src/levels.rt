@@ -1,6 +1,5 @@
-// What stands below entries, by number. Takes numbers and relative names; hands out numbers and
-// sets of numbers, and what is kept once a number has come or gone.
-// Where entries stand, and which ones are over which, are not here.
+// What stands below entries, by number. Takes numbers and relative names; hands out numbers and sets of numbers, and
+// what is kept once a number has come or gone.
 
 ghost use Rattle.std.specs.Prelude.{◌≡◌, ◌&&◌, ◌||◌, ◌∷◌, ℕ, List, [], IfOk, IfSome, Some, None, cond, false, nat_eq, not};
 ghost use Rattle.std.specs.Option.{option_map, option_map_or};

@@ -1,22 +1,25 @@
-//! The directory's tree: finds entries by number and by name, and the numbers of those right under a name or at or below it. Each entry has its
-//! relative name and its superior's number. A tree is a value: a change makes new maps. What an update checks, and filters, are not here.
+//! The directory's tree: finds entries by number and by name, and the numbers of those right under a name or at or
+//! below it. Each entry has its relative name and its superior's number. A tree is a value: a change makes new maps.
 //!
-//! Entries by number: attributes, own relative name, superior's number (`place`); the root's entry keeps its name whole. For each number with
-//! entries below it, `levels` has their relative names with their numbers, the numbers right under it, and those at or below it. All are maps
-//! and sets of `shared_map`, so a tree is a value, and versions share an entry behind a counted pointer (`shared`). A change (`updating`, over
-//! `roots`) makes new maps in locals and assigns them last; out of memory nothing has changed.
+//! Entries by number: attributes, own relative name, superior's number (`place`); the root's entry keeps its name
+//! whole. For each number with entries below it, `levels` has their relative names with their numbers, the numbers
+//! right under it, and those at or below it. All are maps and sets of `shared_map`, so a tree is a value, and versions
+//! share an entry behind a counted pointer (`shared`). A change (`updating`, over `roots`) makes new maps in locals and
+//! assigns them last; out of memory nothing has changed.
 //!
-//! A look-up by name takes two look-ups a relative name, from the root down (`finding`). It digests the relative name once and compares
-//! digests; a relative name that is kept is read only where its digest is equal (`digested_names`). A name is read off by going up, without
-//! memory, or made where it is shown (`reading`). A `visit` reads many entries in turn, with one look-up for those of a leaf; entries that
-//! come next are read some at a time, so that the processor waits for memory once for all of them (`reading_ahead`). A scope is a set that
-//! lies ready. An add or a delete changes the sets of each entry above by one number.
-//! A rename changes one place, two relative names, and the sets of the entries above one of the two places alone. `reach` bounds every way up.
-//! Ways up end at the root, ways down are those up, and the sets are those of the entries: that is the type's invariant (`Superiors`, `Kept`).
+//! A look-up by name takes two look-ups a relative name, from the root down (`finding`). It digests the relative name
+//! once and compares digests; a relative name that is kept is read only where its digest is equal (`digested_names`). A
+//! name is read off by going up, without memory, or made where it is shown (`reading`). A `visit` reads many entries in
+//! turn, with one look-up for those of a leaf; entries that come next are read some at a time, so that the processor
+//! waits for memory once for all of them (`reading_ahead`). A scope is a set that lies ready. An add or a delete
+//! changes the sets of each entry above by one number. A rename changes one place, two relative names, and the sets of
+//! the entries above one of the two places alone. `reach` bounds every way up. Ways up end at the root, ways down are
+//! those up, and the sets are those of the entries: that is the type's invariant (`Superiors`, `Kept`).
 //!
-//! Proved: each look-up and scope is that of the list of entries (`Tree::find`, `entry`, `name`, `front`, `children`, `subtree`). An entry is
-//! added, taken out, changed, or moved with all below it, or nothing changes (`add`, `delete`, `replace`, `rename`). A second owner has the
-//! same tree (`share`). Entries are at or below the root, and a name has one or none (`is_directory`, `is_within`, `is_rooted`, `is_single`).
+//! Proved: each look-up and scope is that of the list of entries (`Tree::find`, `entry`, `name`, `front`, `children`,
+//! `subtree`). An entry is added, taken out, changed, or moved with all below it, or nothing changes (`add`, `delete`,
+//! `replace`, `rename`). A second owner has the same tree (`share`). Entries are at or below the root, and a name has
+//! one or none (`is_directory`, `is_within`, `is_rooted`, `is_single`).
 #![tactic(auto)]
 
 mod comparing;

@@ -1,5 +1,4 @@
 // Sets of numbers, with the numbers of another set or without them.
-// What the numbers stand for is not here.
 
 ghost use Rattle.std.specs.Prelude.{◌≡◌, ◌&&◌, ◌||◌, ℕ, IfOk, not};
 ghost use Rattle.dir_entry.specs.shared_map.Sets.{has_number};

@@ -1,5 +1,4 @@
 // What is kept of each number: where its entry stands, and what stands below it.
-// How it changes is not here.
 
 ghost use Rattle.std.specs.Prelude.{◌≡◌, ◌∷◌, []};
 

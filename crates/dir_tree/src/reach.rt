@@ -1,5 +1,4 @@
 // The bound on ways up, which is far above what memory holds, so that counts of what stands on a way always fit.
-// What a way is, and how it is gone, is not here.
 
 ghost use Rattle.std.specs.Prelude.{◌≡◌, ◌+◌, ◌≤◌, IfOk};
 

@@ -1,5 +1,4 @@
 // Names by number: goes up from an entry, superior by superior.
-// How numbers are found by name is not here.
 
 ghost use Rattle.std.specs.Prelude.{◌≡◌, ◌++◌, [], IfOk, IfSome, OnOk, Some, None, is_some, length, map, reverse, slice_get, option_copied, true, IsTrue, ◌↔◌};
 ghost use Rattle.std.specs.Option.{option_map};

@@ -1,7 +1,6 @@
-// Entries that will be asked about, read ahead. What stands at numbers goes in; the sum of what was read comes out, which says nothing.
-// An entry is in several pieces of memory, each of which tells where the next one is. Read one after the other, each is waited for where no cache
-// has it. Here the first pieces of several entries are read, then the further ones: the processor waits for all of a kind at once.
-// What an entry says is not here.
+// Entries that will be asked about, read ahead. An entry is in several pieces of memory, each of which tells where the
+// next one is. Read one after the other, each is waited for where no cache has it. Here the first pieces of several
+// entries are read, then the further ones: the processor waits for all of a kind at once.
 
 use crate::place::{Place, Standing};
 use dir_entry::{Attribute, TypeId};

@@ -1,6 +1,5 @@
-// A tree's maps, and how they change: a change makes new ones, which share with the old ones all
-// that stays. Takes numbers, places and attributes.
-// Which changes are refused, and how names are read, are not here.
+// A tree's maps, and how they change: a change makes new ones, which share with the old ones all that stays. Takes
+// numbers, places and attributes.
 
 ghost use Rattle.std.specs.Prelude.{◌≡◌, ◌∷◌, [], ℕ, IfOk, Some, None, nat_eq};
 ghost use Rattle.std.specs.Option.{option_map_or};

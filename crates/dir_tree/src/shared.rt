@@ -1,5 +1,4 @@
 // An entry's attributes in memory that is shared. Takes and hands out attributes.
-// Names, numbers, and who shares them, are not here.
 
 ghost use Rattle.std.specs.Prelude.{◌≡◌, IfOk};
 

@@ -1,5 +1,4 @@
 // Names and relative names in memory that is shared. Takes and hands out names.
-// Numbers, entries, where names stand, and the order of relative names are not here.
 
 ghost use Rattle.std.specs.Prelude.{◌≡◌, ◌≤◌, length, IfOk};
 

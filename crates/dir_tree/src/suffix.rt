@@ -1,5 +1,4 @@
 // The name that the root is to have. Takes and hands out a name.
-// Entries are not here.
 
 ghost use Rattle.std.specs.Prelude.{◌≡◌, IfOk};
 

@@ -1,5 +1,4 @@
 // The directory's tree. Takes names, numbers and attributes; hands out entries, numbers, sets of numbers and names.
-// Which updates are refused, with which code, and what a filter says of an entry, are not here.
 
 ghost use Rattle.std.specs.Prelude.{◌≡◌, ◌++◌, ◌∷◌, [], ℕ, None, Some, true, false, IfOk, IfSome, OnOk, OnErr, IsTrue, ◌↔◌, is_some, length, map, option_copied, reverse, slice_get};
 ghost use Rattle.std.specs.Option.{option_and_then, option_map};

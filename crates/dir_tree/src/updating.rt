@@ -1,5 +1,4 @@
 // Adds, deletes and renames: makes the maps of the directory that a change is to make.
-// How maps change, and which changes are refused, are not here.
 
 ghost use Rattle.std.specs.Prelude.{◌≡◌, ◌++◌, ◌∷◌, [], IfOk, Some, true, false, is_some};
 ghost use Rattle.std.specs.Option.{option_map};

@@ -1,7 +1,6 @@
-// A tree that is asked about many numbers, one after the other. Numbers flow in; attributes, superiors and relative names flow out. Numbers
-// that stand near each other cost one look-up for each leaf. Of numbers that follow one another, and of those that are told beforehand, entries
-// are read ahead (`reading_ahead`).
-// Which numbers are asked about is not here.
+// A tree that is asked about many numbers, one after the other. Numbers that stand near each other cost one look-up for
+// each leaf. Of numbers that follow one another, and of those that are told beforehand, entries are read ahead
+// (`reading_ahead`).
 
 ghost use Rattle.std.specs.Prelude.{◌≡◌, ◌++◌, ◌∷◌, [], ℕ, List, IfSome, Some, is_some, option_copied, true};
 ghost use Rattle.std.specs.Ordering.{nat_cmp};

@@ -1,5 +1,5 @@
-//! What the words of `serve` ask for becomes a running replica: the settings flow on to the server, and why it ended flows back. What a word or
-//! a file means is not here.
+//! What the words of `serve` ask for becomes a running replica: the settings flow on to the server, and why it ended
+//! flows back.
 use command_line::{Address as Told, BUILD};
 use dird_commands::Service;
 use server::{

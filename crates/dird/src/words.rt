@@ -1,4 +1,4 @@
-//! The words that the system starts the program with: octets flow in, texts flow out. What a word means is not here.
+//! Turns the words that the system starts the program with from octets into texts.
 use std::alloc::{AllocError, Global};
 use std::env::{Env, FillError};
 

@@ -1,4 +1,4 @@
--- A session that begins as it is to begin. Facts on definitions flow in and out; no value of the program is here.
+-- A session that begins as it is to begin.
 use Rattle.std.proofs.Common.{◌≡◌, ℕ, List, Bool, Option, subst}
 use Rattle.local_directory.specs.ldap_schema.Schema.{SchemaModel}
 use Rattle.hex_session.specs.session_handler.Session.{ConfigValue}

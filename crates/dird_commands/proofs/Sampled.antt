@@ -1,4 +1,4 @@
--- How a directory begins: the sample's adds, one after the other. Facts on definitions flow in and out; no value of the program is here.
+-- How a directory begins: the sample's adds, one after the other.
 use Rattle.std.proofs.Common.{◌≡◌, ap, ◌∙◌}
 use Rattle.local_directory.specs.ldap_op.Values.{add}
 use Rattle.local_directory.specs.indexed_tree.Directory.{Directory}

@@ -1,4 +1,4 @@
--- How a session begins: its directory, and who may change it. A schema flows in; the directory and what its sessions share flow out.
+-- How a session begins: its directory, and who may change it.
 use Rattle.std.specs.Prelude.{◌≡◌, ◌⊎◌, ℕ, List, [], Bool, true, false, codes, Option, None, Some}
 use Rattle.local_directory.specs.ldap_schema.Schema.{SchemaModel}
 use Rattle.local_directory.specs.ldap_dn.Names.{RdnModel}

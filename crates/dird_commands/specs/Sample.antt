@@ -1,4 +1,4 @@
--- The built-in sample, as adds in their order. Nothing flows in; the adds flow out. How an add is judged is not here.
+-- The built-in sample, as adds in their order.
 use Rattle.std.specs.Prelude.{ℕ, List, [], ◌∷◌, codes, map}
 use Rattle.local_directory.specs.ldap_msg.Messages.{PartialAttributeValue, AddRequestValue}
 use Rattle.local_directory.specs.ldap_op.Values.{OpValue, add}

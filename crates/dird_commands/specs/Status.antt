@@ -1,4 +1,4 @@
--- Exit statuses. What a run does is not here.
+-- Exit statuses.
 use Rattle.std.specs.Prelude.{ℕ}
 use Rattle.dird_commands.specs.declared.status.Status.{Status}
 use Rattle.dird_commands.specs.declared.status.Status.TheVariants.{Done, Refused, BadCommandLine}

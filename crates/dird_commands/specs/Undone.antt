@@ -1,5 +1,4 @@
--- What a job leaves that ends with a fault, and which fault it is, by an input and an output before and after. What is
--- made of a text is not here.
+-- What a job leaves that ends with a fault, and which fault it is, by an input and an output before and after.
 use Rattle.hex_session.specs.declared.fault.LineFault.{LineFault}
 use Rattle.hex_session.specs.declared.fault.LineFault.TheVariants as line_error
 use Rattle.local_directory.specs.ldif.declared.refusals.ImportError.{ImportError}

@@ -1,5 +1,4 @@
-//! Faults of texts get their explanations: a fault and the text that it is of come in, a refusal with both lines goes out. What is
-//! refused was decided before; nothing here changes it.
+//! What is refused was decided before; nothing here changes it.
 ghost use Rattle.std.specs.Prelude.{◌≡◌};
 ghost use Rattle.dird_commands.specs.Undone.{import_fault, export_fault, search_fault};
 

@@ -1,4 +1,4 @@
-//! Named files: a name flows in, the file's text flows out. What a text means is not here.
+//! Reads named files as texts.
 
 use crate::reasons::{open_to_others, read_refusal};
 use crate::refusal::Refusal;

@@ -1,5 +1,4 @@
-//! The lab: the lines of a script flow in, what real replicas answer flows out. No rule of replication or of the directory is here, and no line's
-//! meaning: those stand in the crates below.
+//! Runs a lab: reads the lines of a script and prints what real replicas answer.
 ghost use Rattle.std.specs.Prelude.{map, IfOk, IfErr, IfSome, OnOk};
 ghost use Rattle.std.specs.Arc.{arc_value};
 ghost use Rattle.lab_script.specs.dir_lab.Shown.{shown_view};

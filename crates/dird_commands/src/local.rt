@@ -1,4 +1,4 @@
-//! One session over a local directory: an input flows in, an output flows out. The words of a command line are not here.
+//! Runs one session over a local directory, from an input to an output.
 ghost use Rattle.std.specs.Prelude.{◌≡◌, ◌+◌, codes, IfOk, IfErr};
 ghost use Rattle.std.specs.Arc.{arc_value};
 ghost use Rattle.local_directory.specs.indexed_tree.Stored.{NumbersBelow};

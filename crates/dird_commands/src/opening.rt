@@ -1,4 +1,4 @@
-//! What a directory begins with: the names of files flow in, a schema and an index choice flow out. What their texts mean is below.
+//! Reads what a directory begins with: a schema and an index choice from named files.
 ghost use Rattle.std.specs.Prelude.{◌≡◌, IfOk, string_bytes};
 ghost use Rattle.std.specs.Option.{option_map};
 ghost use Rattle.std.specs.Arc.{arc_value};

@@ -1,4 +1,4 @@
-//! Why the system refuses a file or a stream: a kind of error comes in, words for it go out, with the file's name.
+//! Words for why the system refuses a file or a stream.
 ghost use Rattle.std.specs.Prelude.{◌≡◌, ◌⊎◌};
 
 use crate::fault::Fault;

@@ -1,5 +1,4 @@
-//! One run: words, a system of named files, an input and two outputs come in, the exit status goes out, or what is to be served. Nothing else here
-//! touches the system.
+//! Nothing else here touches the system.
 use crate::checking::check_file;
 use crate::cost::explain_input;
 use crate::explaining::opening_refusal;

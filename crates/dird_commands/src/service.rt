@@ -1,5 +1,4 @@
-//! What a replica is to serve: the words of `serve` and named files flow in; a schema, an index choice and names flow out beside them, to who
-//! called the program. Sockets, threads and the stored view are not here.
+//! Gathers what a replica is to serve: the words of `serve`, a schema, an index choice and names.
 
 use crate::explaining::name_refusal;
 use crate::fault::Fault;

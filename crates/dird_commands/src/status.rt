@@ -1,4 +1,4 @@
-//! How a run ends. Nothing flows in; the exit status flows out. What a run does is not here.
+//! The exit status of a run.
 ghost use Rattle.std.specs.Prelude.{◌≡◌};
 
 /// How a run ended.

@@ -1,4 +1,4 @@
--- A look and a gate along a talk with both. Facts on definitions flow in and out.
+-- A look and a gate along a talk with both.
 use Rattle.std.proofs.Common.{◌≡◌, ◌≤◌, ℕ, ◌+◌, min, arith, List, [], ◌∷◌, ap, subst}
 use Rattle.directory_api.specs.Talk.{Exchange, asked_role, learned, searched, compared, updated, Along, ends, goes}
 use Rattle.directory_api.specs.Pairs.{both, reads_of, asked_of_gate, PairGoesAlong}

@@ -1,5 +1,4 @@
--- What a directory answers, as values: RFC 4511 4.1.9 and 4.5.2. Nothing flows in; codes, names and shown entries flow out. Which question has which
--- answer is not here.
+-- What a directory answers, as values: RFC 4511 4.1.9 and 4.5.2.
 use Rattle.std.specs.Prelude.{ℕ, List, []}
 use Rattle.found_entry.specs.ldap_msg.Messages.{SearchResultEntryValue}
 

@@ -1,4 +1,4 @@
--- Who asks for an update. Numbers flow in; a client flows out.
+-- Who asks for an update.
 use Rattle.std.specs.Prelude.{ℕ, ◌+◌, min}
 use Rattle.ldap_op.specs.log_entry.declared.words.Client.{Client}
 

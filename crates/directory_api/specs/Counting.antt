@@ -1,4 +1,4 @@
--- How many updates a talk asks for. Talks flow in; numbers flow out. What is answered is not here.
+-- How many updates a talk asks for.
 use Rattle.std.specs.Prelude.{◌≡◌, ◌≤◌, ℕ, ◌+◌, min, List, [], ◌∷◌}
 use Rattle.directory_api.specs.Talk.{Exchange, asked_role, learned, searched, compared, updated, Along}
 use Rattle.directory_api.specs.Pairs.{both}

@@ -1,4 +1,4 @@
--- A look and a gate as one directory. What each allows flows in; what both allow flows out. How either answers is not here.
+-- A look and a gate as one directory.
 use Rattle.std.specs.Prelude.{◌≡◌, List, [], ◌∷◌}
 use Rattle.directory_api.specs.Talk.{Exchange, asked_role, learned, searched, compared, updated, Along}
 

@@ -1,5 +1,4 @@
--- What a read of one state comes to, by the state's number. A number, the number that a read names and the answer of that state flow in;
--- what the read may be told flows out. Which state is read is not here.
+-- What a read of one state comes to, by the state's number.
 use Rattle.std.specs.Prelude.{◌≡◌, ℕ, ◌<◌, ◌≤◌}
 use Rattle.directory_api.specs.Talk.{Looked, found, not_yet, gone, no_memory}
 

@@ -1,5 +1,4 @@
--- What is asked of a directory and what it answers, in turn. A session's questions and the answers to them flow in; which of them a
--- directory allows is its own.
+-- What is asked of a directory and what it answers, in turn.
 use Rattle.std.specs.Prelude.{ℕ, List, [], ◌∷◌, Result, Ok, Err}
 use Rattle.found_entry.specs.ldap_msg.Messages.{SearchRequestValue, CompareRequestValue}
 use Rattle.ldap_op.specs.Values.{OpValue}

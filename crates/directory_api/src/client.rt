@@ -1,4 +1,4 @@
-// Who asks for an update. Numbers flow in; a client flows out. What must not be here: what a client asks for.
+// The client of an update: who asks for it.
 ghost use Rattle.std.specs.Prelude.{◌≡◌};
 ghost use Rattle.directory_api.specs.Clients.{named_client as client_named, session_client as client_of_session};
 

@@ -1,5 +1,4 @@
-// A directory, as a session asks it: what is read of it and what is updated in it, one question at a time. Requests and updates flow in;
-// answers flow out. What must not be here: messages, how a directory answers.
+// A directory, as a session asks it: what is read of it and what is updated in it, one question at a time.
 ghost use Rattle.std.specs.Prelude.{Result};
 ghost use Rattle.found_entry.specs.ldap_msg.View.{search_view, compare_view};
 ghost use Rattle.ldap_op.specs.View.{update_view};

@@ -1,5 +1,4 @@
-// A gate: the way that updates take into a directory. An update flows in, with who asks for it; how it ended flows out, and what a reader
-// is told. What must not be here: reads, messages, how replicas agree.
+// A gate: the way that updates take into a directory. A trait.
 ghost use Rattle.std.specs.Prelude.{◌≡◌, ℕ};
 ghost use Rattle.ldap_op.specs.View.{update_view};
 ghost use Rattle.directory_api.specs.Counting.{Counts};

@@ -1,5 +1,4 @@
-// Reads of a directory, as a session asks for them. Requests flow in; answers flow out, each of one state of the directory.
-// What must not be here: updates, messages.
+// Reads of a directory, as a session asks for them. A trait.
 ghost use Rattle.std.specs.Prelude.{Result};
 ghost use Rattle.found_entry.specs.ldap_msg.View.{search_view, compare_view};
 ghost use Rattle.directory_api.specs.View.{answer_view, reply_view};

@@ -1,4 +1,4 @@
-// What a read comes to. Nothing flows in; plain data flows out. What must not be here: how it is found.
+// The outcome of a read. Plain data.
 
 /// What a read found, and the number of the last update that it saw.
 #[derive(Drop)]

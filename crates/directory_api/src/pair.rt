@@ -1,4 +1,4 @@
-// A look and a gate as one directory: reads go to the one, updates to the other. What must not be here: how either answers.
+// A look and a gate as one directory: reads go to the one, updates to the other.
 ghost use Rattle.directory_api.specs.Counting.{PairCounts};
 ghost use Rattle.directory_api.specs.Pairs.{PairGoesAlong};
 

@@ -1,4 +1,4 @@
-//! Replies of updates and compares. Nothing flows in; plain data flows out. Which check gives which reply is not here.
+//! Replies to updates and compares. Plain data.
 ghost use Rattle.std.specs.Prelude.{◌≡◌, IfOk};
 ghost use Rattle.directory_api.specs.Answers.{only as only_code};
 ghost use Rattle.directory_api.specs.View.{reply_view};

@@ -1,4 +1,4 @@
-//! What a search finds. Nothing flows in; plain data flows out. How it is found is not here.
+//! The answer to a search. Plain data.
 use found_entry::{FoundEntry, ResultCode};
 
 /// What a search finds.

@@ -1,4 +1,4 @@
--- Changes put together from their steps. Facts on lists flow in and out; no value of the program is here.
+-- Changes put together from their steps.
 use Rattle.std.proofs.Common.{ℕ, ◌+◌, List, [], ◌∷◌, ◌++◌, Bool, true, false, not, Option, None, Result, Ok, Err, IfErr, IfOk, OnOk, ◌≡◌, refl, ap, ap₂, sym, subst, ◌∙◌, map, take, drop, length}
 use Rattle.std.specs.List.{list_any, list_all}
 use Rattle.std.specs.Bool.{◌==◌}

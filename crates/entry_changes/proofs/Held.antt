@@ -1,4 +1,4 @@
--- Values that are held, by their keys or their octets. Facts on lists flow in and out; no value of the program is here.
+-- Values that are held, by their keys or their octets.
 use Rattle.std.proofs.Common.{ℕ, List, [], ◌∷◌, Bool, false, Option, None, Some, ◌≡◌, refl, ap, ap₂, sym, subst, ◌∙◌, map}
 use Rattle.std.specs.List.{list_any}
 use Rattle.std.specs.Str.{bytes_eq}

@@ -1,4 +1,4 @@
--- Values of relative names, a step at a time. Facts on lists flow in and out; no value of the program is here.
+-- Values of relative names, a step at a time.
 use Rattle.std.proofs.Common.{ℕ, List, [], ◌∷◌, Bool, true, false, cond, not, ◌||◌, Result, Ok, Err, IfOk, IfErr, ◌≡◌, ap, ap₂, sym, subst, ◌∙◌}
 use Rattle.std.specs.List.{list_any}
 use Rattle.dir_entry.specs.ldap_schema.Schema.{SchemaModel}

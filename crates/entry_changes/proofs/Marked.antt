@@ -1,4 +1,4 @@
--- Marks that are a test's answers. Facts on lists flow in and out; no value of the program is here.
+-- Marks that are a test's answers.
 use Rattle.std.proofs.Common.{List, [], ◌∷◌, Bool, false, cond, not, ◌&&◌, ◌||◌, ◌≡◌, refl, ap, ◌∙◌, map, filter}
 use Rattle.std.specs.List.{list_any, list_all}
 use Rattle.dir_entry.specs.Picked.{picked}

@@ -1,4 +1,4 @@
--- Attributes by their place. Facts on lists flow in and out; no value of the program is here.
+-- Attributes by their place.
 use Rattle.std.proofs.Common.{ℕ, ◌+◌, zero, suc, List, [], ◌∷◌, ◌++◌, Bool, true, false, cond, not, ◌||◌, nat_eq, is_some, Option, None, Some, ◌≡◌, refl, ap, ap₂, sym, subst, ◌∙◌, map, take, drop, slice_get, arith}
 use Rattle.std.specs.List.{prefix_len, list_any}
 use Rattle.dir_entry.specs.Adding.{has_type}

@@ -1,4 +1,4 @@
--- Since which place values are held, after a change of the map. Facts on lists flow in and out; no value of the program is here.
+-- Since which place values are held, after a change of the map.
 use Rattle.std.proofs.Common.{zero, suc, Result, Ok, Err, OnOk, map, ◌≡◌, ◌<◌, ◌+◌, ℕ, Bool, true, false, cond, ◌||◌, List, [], ◌∷◌, Option, Some, None, refl, sym, ap, ◌∙◌, Vec, Global, take, length, get_or}
 use Rattle.std.specs.List.{list_any, list_all}
 use Rattle.dir_entry.proofs.Shown.{any_of_map}

@@ -1,5 +1,4 @@
--- Values in their places, and since which place those of some octets are held. Facts on lists flow in and out; no value of the program is
--- here.
+-- Values in their places, and since which place those of some octets are held.
 use Rattle.std.proofs.Common.{◌≡◌, ◌≤◌, ◌<◌, ◌+◌, ℕ, suc, Bool, true, false, cond, not, ◌||◌, List, [], ◌∷◌, ◌++◌, Option, Some, None, refl, sym, ap, ap₂, ◌∙◌, map, length, arith}
 use Rattle.std.specs.List.{list_any}
 use Rattle.std.specs.Bool.{nat_le}

@@ -1,5 +1,4 @@
--- Changes of an entry's attributes: RFC 4511 4.6. A schema, a type, values and an entry flow in; the changed entry, or the code of a
--- refusal, flows out. What its classes and its name demand is not here.
+-- Changes of an entry's attributes: RFC 4511 4.6.
 use Rattle.std.specs.Prelude.{ℕ, ◌+◌, List, [], ◌∷◌, ◌++◌, Bool, true, false, not, nat_eq, take, drop, filter, Option, None, Some, slice_get, Result, Ok}
 use Rattle.std.specs.List.{list_all, list_any, prefix_len}
 use Rattle.dir_entry.specs.ldap_schema.Schema.{SchemaModel}

@@ -1,5 +1,4 @@
--- What an entry's relative name demands of it: RFC 4512 2.3.2 and RFC 4511 4.7, 4.9. A schema, the types and values of a relative name
--- and an entry flow in; the changed entry, or the code of a refusal, flows out. Whole names and classes are not here.
+-- What an entry's relative name demands of it: RFC 4512 2.3.2 and RFC 4511 4.7, 4.9.
 use Rattle.std.specs.Prelude.{ℕ, List, [], ◌∷◌, Bool, cond, not, ◌&&◌, ◌||◌, nat_eq, Result, Ok, Err}
 use Rattle.std.specs.List.{list_all, list_any}
 use Rattle.dir_entry.specs.ldap_schema.Schema.{SchemaModel}

@@ -1,5 +1,4 @@
-// Changes of an entry's attributes (RFC 4511 4.6). A schema, a type and values flow in with the entry; the changed entry, or a refusal,
-// flows out. What must not be here: what classes and the entry's name demand.
+// Changes an entry's attributes (RFC 4511 4.6).
 
 ghost use Rattle.std.specs.Prelude.{◌≡◌, ◌++◌, map, false, true, not, Ok, Some, None, take, drop, IfOk, IfErr, OnOk, OnErr};
 ghost use Rattle.std.specs.List.{list_any, list_all};

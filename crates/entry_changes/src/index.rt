@@ -1,5 +1,4 @@
-// Which values of an attribute are held, found by what they are compared by. Attributes and places flow in; marks flow out.
-// What must not be here: schemas, entries.
+// Which values of an attribute are held, found by what they are compared by.
 
 ghost use Rattle.std.specs.Prelude.{◌≡◌, ℕ, List, Some, None, cond, false, map, is_some, IfOk, OnOk, OnErr};
 ghost use Rattle.std.specs.List.{list_any, list_all};

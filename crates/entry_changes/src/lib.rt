@@ -1,11 +1,13 @@
-//! Changes an entry's values, or refuses the change. What its classes demand, and what a request says, are not here.
+//! Changes an entry's values, or refuses the change.
 //!
-//! An entry while it is modified (`working`): the changes of an attribute (`changing` over `placing`) and what a relative name asks (`naming`).
-//! An attribute whose values are changed one by one is `opened`. What is deleted from it keeps its place until the modify is over; `index` maps
-//! keys to the place `since` which they are held. So a change costs a look-up for each value that it names, whatever the attribute holds.
+//! An entry while it is modified (`working`): the changes of an attribute (`changing` over `placing`) and what a
+//! relative name asks (`naming`). An attribute whose values are changed one by one is `opened`. What is deleted from it
+//! keeps its place until the modify is over; `index` maps keys to the place `since` which they are held. So a change
+//! costs a look-up for each value that it names, whatever the attribute holds.
 //!
-//! Proved: changes of values and of a relative name's values are their definitions, or give the code of the first failing check: 16, 19, 20, 21
-//! (`Working`, `add_values`, `delete_values`, `replace_values`, `add_rdn`, `delete_rdn`, `holds_rdn`).
+//! Proved: changes of values and of a relative name's values are their definitions, or give the code of the first
+//! failing check: 16, 19, 20, 21 (`Working`, `add_values`, `delete_values`, `replace_values`, `add_rdn`, `delete_rdn`,
+//! `holds_rdn`).
 #![tactic(auto)]
 
 mod changing;

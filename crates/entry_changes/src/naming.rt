@@ -1,5 +1,4 @@
-// The values of an entry's relative name (RFC 4512 2.3.2). A schema, types and values flow in with the entry; the changed entry, or a
-// refusal, flows out. What must not be here: whole names, what classes demand.
+// Puts the values of an entry's relative name in and out (RFC 4512 2.3.2).
 
 ghost use Rattle.std.specs.Prelude.{◌≡◌, ◌∷◌, [], ℕ, List, option_map, slice_get, false, not, nat_eq, map, Some, None, Ok, IfOk, IfErr};
 ghost use Rattle.std.specs.List.{list_any, list_all, prefix_len};

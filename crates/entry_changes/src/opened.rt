@@ -1,5 +1,4 @@
-// An attribute whose values may be changed one by one. Attributes flow in and out; what is asked of values costs their own number, not that
-// of those that are held. What must not be here: other attributes of an entry.
+// An attribute whose values are changed one by one.
 
 ghost use Rattle.std.specs.Prelude.{◌≡◌, ◌++◌, map, true, false, not, is_some, length, IfOk, OnOk, IfErr};
 ghost use Rattle.std.specs.List.{list_any, list_all};

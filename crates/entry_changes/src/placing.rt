@@ -1,5 +1,4 @@
-// Where the attribute of a type stands among others. Attributes flow in and out.
-// What must not be here: what values an attribute has.
+// Finds where the attribute of a type stands among others.
 
 ghost use Rattle.std.specs.Prelude.{◌≡◌, ◌++◌, ◌+◌, ◌∷◌, not, nat_eq, take, drop, slice_get, IfOk, Some, is_some};
 ghost use Rattle.std.specs.List.{prefix_len};

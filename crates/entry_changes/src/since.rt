@@ -1,5 +1,4 @@
-// Since which place values are held. Octets and places flow in and out.
-// What must not be here: what octets stand for, attributes.
+// Keeps for each value the place since which it is held.
 
 ghost use Rattle.std.specs.Prelude.{◌≡◌, ℕ, List, Some, None, cond, false, map, is_some, IfOk, OnOk, OnErr};
 ghost use Rattle.std.specs.List.{list_any, list_all};

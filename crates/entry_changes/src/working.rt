@@ -1,5 +1,4 @@
-// An entry while it is modified. An entry flows in and, when the modify is over, flows out again.
-// What must not be here: what a change asks for.
+// An entry while it is modified.
 
 ghost use Rattle.std.specs.Prelude.{◌≡◌, IfOk};
 

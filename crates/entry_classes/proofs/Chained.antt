@@ -1,4 +1,4 @@
--- Structural classes in line form one chain. Facts on lists flow in and out; no value of the program is here.
+-- Structural classes in line form one chain.
 use Rattle.std.proofs.Common.{ℕ, List, Bool, true, ◌&&◌, ◌≡◌, ap, sym, ◌∙◌}
 use Rattle.std.specs.List.{list_any}
 use Rattle.dir_entry.specs.ldap_schema.Schema.{SchemaModel}

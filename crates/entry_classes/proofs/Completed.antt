@@ -1,4 +1,4 @@
--- Attributes completed one after the other. Facts on lists flow in and out; no value of the program is here.
+-- Attributes completed one after the other.
 use Rattle.std.proofs.Common.{ℕ, List, [], ◌∷◌, ◌++◌, Bool, true, false, not, nat_eq, ◌≡◌, refl, ap, sym, subst, ◌∙◌, map, arith}
 use Rattle.std.proofs.lemmas.Bool.Decides.{nat_tests}
 use Rattle.dir_entry.specs.ldap_schema.Schema.{SchemaModel}

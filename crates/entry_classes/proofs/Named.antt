@@ -1,4 +1,4 @@
--- Names of classes as values of objectClass. Facts on lists flow in and out; no value of the program is here.
+-- Names of classes as values of objectClass.
 use Rattle.std.proofs.Common.{ℕ, ◌+◌, suc, List, [], ◌∷◌, Bool, true, false, cond, ◌&&◌, Option, None, Some, is_some, option_map, ◌≡◌, refl, ap, sym, ◌∙◌, map, arith}
 use Rattle.std.specs.List.{list_all, position_from, slice_get}
 use Rattle.std.specs.Option.{option_and_then}

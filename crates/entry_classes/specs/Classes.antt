@@ -1,5 +1,4 @@
--- What the classes of an entry demand of it: RFC 4512 2.4 and 3.3. A schema and an entry flow in; the entry with its superclasses, or
--- the code of a refusal, flows out. Names of entries are not here.
+-- What the classes of an entry demand of it: RFC 4512 2.4 and 3.3.
 use Rattle.std.specs.Prelude.{ℕ, List, [], ◌∷◌, ◌++◌, Bool, true, false, cond, not, ◌&&◌, ◌||◌, nat_eq, nat_lt, map, filter, length, Option, None, Some, is_some, slice_get, Result, Ok}
 use Rattle.std.specs.List.{list_all, list_any}
 use Rattle.dir_entry.specs.ldap_schema.Schema.{ClassModel, SchemaModel, class_named, class_name, type_at}

@@ -1,5 +1,4 @@
--- The structural object class: RFC 4512 2.4.2. A schema, and an entry before and after changes, flow in; the class, or the code of a refusal,
--- flows out. Names of entries are not here.
+-- The structural object class: RFC 4512 2.4.2.
 use Rattle.std.specs.Prelude.{ℕ, List, Bool, true, false, cond, not, nat_eq, Option, None, Some, Result, Ok, filter}
 use Rattle.std.specs.List.{list_all}
 use Rattle.dir_entry.specs.ldap_schema.Schema.{SchemaModel}

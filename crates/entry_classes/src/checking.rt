@@ -1,5 +1,4 @@
-// What classes demand of an entry when it is made or changed. A schema and an entry flow in; the entry as it is kept, or a refusal, flows
-// out. What must not be here: single changes, names.
+// Judges an entry by what its classes demand, when it is made or changed.
 
 ghost use Rattle.std.specs.Prelude.{◌≡◌, Ok, IfOk, IfErr};
 ghost use Rattle.dir_entry.specs.Entry.{attributes_of, IsKeyedBy};

@@ -1,5 +1,4 @@
-// Classes by the values that name them. Values flow in; classes, and the names of those that are missing, flow out.
-// What must not be here: what classes demand of an entry.
+// Finds classes by the values that name them.
 
 ghost use Rattle.std.specs.Prelude.{◌≡◌, IfOk, true, map, is_some};
 ghost use Rattle.std.specs.List.{list_all};

@@ -1,5 +1,4 @@
-// Superclasses that are missing. An entry's attributes flow in; they flow out, with the missing ones at the end of objectClass.
-// What must not be here: what classes demand of an entry.
+// Adds the superclasses that are missing to objectClass.
 
 ghost use Rattle.std.specs.Prelude.{◌≡◌, IfOk};
 ghost use Rattle.dir_entry.specs.ldap_match.Keyed.{AreKeysOf};

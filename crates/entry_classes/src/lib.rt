@@ -1,10 +1,10 @@
-//! Judges an entry by its object classes, and adds their superclasses. How values of an entry are changed, and its name, are not here.
+//! Judges an entry by its object classes, and adds their superclasses.
 //!
-//! Adds the superclasses that are missing (`classes`, `completing`), judges what classes demand (`obeying`), finds the structural class
-//! (`structural`), and says how an entry is kept (`checking`).
+//! Adds the superclasses that are missing (`classes`, `completing`), judges what classes demand (`obeying`), finds the
+//! structural class (`structural`), and says how an entry is kept (`checking`).
 //!
-//! Proved: a new entry has its superclasses and obeys its classes, or is refused (`settle`: 19, 65). A changed one keeps its structural class
-//! too (`keep`: 19, 69, 65).
+//! Proved: a new entry has its superclasses and obeys its classes, or is refused (`settle`: 19, 65). A changed one
+//! keeps its structural class too (`keep`: 19, 69, 65).
 #![tactic(auto)]
 
 mod checking;

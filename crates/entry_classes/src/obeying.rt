@@ -1,5 +1,4 @@
-// What classes demand of an entry's attributes. A schema, classes and attributes flow in, a yes or no flows out.
-// What must not be here: how an entry is made or changed.
+// Decides whether an entry's attributes obey its classes.
 
 ghost use Rattle.std.specs.Prelude.{◌≡◌, IfOk, map, is_some};
 ghost use Rattle.dir_entry.specs.Entry.{attributes_of, shown};

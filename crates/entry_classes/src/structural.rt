@@ -1,5 +1,4 @@
-// The structural object class (RFC 4512 2.4.2). A schema, classes and entries flow in; the lowest class of the one chain, or whether it is
-// another one than before, flows out. What must not be here: what classes demand.
+// Finds the structural object class (RFC 4512 2.4.2).
 
 ghost use Rattle.std.specs.Prelude.{◌≡◌, IfOk};
 ghost use Rattle.dir_entry.specs.Entry.{attributes_of};

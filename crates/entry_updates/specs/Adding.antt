@@ -1,5 +1,4 @@
--- What an add gives: RFC 4511 4.7. A schema, a relative name and attributes flow in; the attributes of the new entry, or the code of a
--- refusal, flow out. Where the entry is to stand is not here.
+-- What an add gives: RFC 4511 4.7.
 use Rattle.std.specs.Prelude.{ℕ, List, [], ◌∷◌, Option, None, Some, Result, Ok, Err}
 use Rattle.entry_changes.specs.ldap_schema.Schema.{SchemaModel, find}
 use Rattle.entry_changes.specs.ldap_dn.Names.{TypeAndValue}

@@ -1,5 +1,4 @@
--- What is demanded of an entry at the end of an update: RFC 4511 4.6, 4.7, 4.9. A schema, the types and values of relative names and an
--- entry flow in; the attributes that are kept, or the code of a refusal, flow out. Whole names are not here.
+-- What is demanded of an entry at the end of an update: RFC 4511 4.6, 4.7, 4.9.
 use Rattle.std.specs.Prelude.{List, Bool, true, false, not, Result, Ok, ℕ}
 use Rattle.entry_changes.specs.ldap_schema.Schema.{SchemaModel}
 use Rattle.entry_changes.specs.ldap_dn.Names.{TypeAndValue}

@@ -1,5 +1,4 @@
--- What a modify does: RFC 4511 4.6. A schema, a relative name, changes and an entry flow in; the attributes after them, or the code of the
--- first check that fails, flow out. Where the entry stands is not here.
+-- What a modify does: RFC 4511 4.6.
 use Rattle.std.specs.Prelude.{ℕ, List, [], ◌∷◌, Bool, true, false, Result, Ok, Err}
 use Rattle.std.specs.Option.{ok_or}
 use Rattle.entry_changes.specs.ldap_schema.Schema.{SchemaModel, find}

@@ -1,5 +1,4 @@
-//! What an add asks for. A schema, a relative name and the attributes that are given flow in; the new entry, or a refusal, flows out.
-//! The directory is not here.
+//! Makes the entry that an add asks for, or refuses it.
 ghost use Rattle.std.specs.Prelude.{◌≡◌, [], Ok, map, IfOk, IfErr, OnOk, OnErr};
 ghost use Rattle.entry_changes.specs.dir_entry.Entry.{attributes_of, IsKeyedBy};
 ghost use Rattle.ldap_op.specs.ldap_updates.ldap_parts.View.{attribute_view};

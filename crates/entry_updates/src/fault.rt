@@ -1,5 +1,4 @@
-//! Why an entry is not made or changed. Refusals of an entry flow in; a result code, or want of memory, flows out.
-//! Not here: refusals that come from where entries stand.
+//! Why an entry is not made or changed.
 ghost use Rattle.std.specs.Prelude.{◌≡◌, IfOk};
 ghost use Rattle.entry_updates.specs.declared.fault.UpdateError.TheVariants.{NoMemory};
 

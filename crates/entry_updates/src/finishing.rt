@@ -1,5 +1,4 @@
-//! The checks at the end of an update (RFC 4511 4.6, 4.7, 4.9). A schema, the relative name's values and the changed entry flow in; the
-//! entry as it is kept, or a refusal, flows out. What must not be here: single changes, the directory.
+//! Judges the end of an update (RFC 4511 4.6, 4.7, 4.9).
 ghost use Rattle.std.specs.Prelude.{◌≡◌, Ok, IfOk, IfErr};
 ghost use Rattle.entry_changes.specs.dir_entry.Entry.{attributes_of, IsKeyedBy};
 ghost use Rattle.entry_changes.specs.dir_entry.Adding.{Refuses};

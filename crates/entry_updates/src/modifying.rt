@@ -1,5 +1,4 @@
-//! What a modify asks for. A schema, a relative name, changes and an entry flow in; the changed entry, or a refusal, flows out. The entry
-//! that is changed stays as it is. The directory is not here.
+//! Makes the entry that a modify asks for, or refuses it. The old entry stays as it is.
 ghost use Rattle.std.specs.Prelude.{◌≡◌, Ok, map, IfOk, IfErr};
 ghost use Rattle.entry_changes.specs.dir_entry.Entry.{attributes_of, IsKeyedBy};
 ghost use Rattle.ldap_op.specs.ldap_updates.View.{change_view};

@@ -1,5 +1,4 @@
-//! What a modifyDN asks of the entry that is renamed. A schema, both relative names and an entry flow in; the entry under its new relative
-//! name, or a refusal, flows out. The entry that is renamed stays as it is. Whole names are not here.
+//! Makes the entry that a modifyDN asks for, or refuses it. The old entry stays as it is.
 ghost use Rattle.std.specs.Prelude.{◌≡◌, Ok, IfOk, IfErr};
 ghost use Rattle.entry_changes.specs.dir_entry.Entry.{attributes_of, IsKeyedBy};
 ghost use Rattle.entry_updates.specs.Finishing.{renamed};

@@ -1,4 +1,4 @@
-//! Lines of LDIF (RFC 2849): a text comes in, its lines go out, unfolded, with the records that they are in.
+//! Unfolds the lines of LDIF (RFC 2849), with the records that they are in.
 ghost use Rattle.std.specs.Prelude.{◌≡◌, ◌++◌, ◌∷◌, ◌+◌, IfOk, List, MatchOption, OnOk, drop, false, map, nat_eq, true, ◌||◌, ℕ};
 ghost use Rattle.std.specs.List.{position};
 ghost use Rattle.schema_meaning.specs.schema_text.Words.{ends_with};

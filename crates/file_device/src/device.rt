@@ -1,4 +1,4 @@
-//! The calls of a device, made of a file. Octets flow to and from a file. What is stored there is not here, nor what a crash leaves.
+//! The calls of a device, made of a file. Octets flow to and from a file.
 ghost use Rattle.std.specs.Prelude.{◌≡◌, ◌+◌, ◌≤◌, length, take, drop, ◌∷◌, true, IfOk};
 ghost use Rattle.journal.specs.Memory.{write};
 ghost use Rattle.view_store.specs.Device.{Holds};

@@ -1,4 +1,4 @@
-//! Why a file can't be a device. Nothing of a file's octets is here.
+//! Why a file can't be a device.
 ghost use Rattle.std.specs.Prelude.{◌≡◌};
 ghost use Rattle.file_device.specs.declared.fault.FileDeviceError.TheVariants as fault;
 

@@ -1,4 +1,4 @@
-//! A file that is opened as a device. A path flows in, a device flows out. What the calls of a device do is not here.
+//! Opens a file as a device.
 ghost use Rattle.std.specs.Prelude.{◌≡◌, ◌≤◌, [], length, true, IfOk, IfSome, IsTrue};
 ghost use Rattle.view_store.specs.Memory.{seen_after};
 ghost use Rattle.file_device.specs.History.{view_events};

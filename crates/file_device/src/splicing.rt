@@ -1,4 +1,4 @@
-//! Octets written over others. Octets flow in and out. Files are not here.
+//! Writes octets over others.
 ghost use Rattle.std.specs.Prelude.{◌≤◌, length, IfOk};
 ghost use Rattle.view_store.specs.Device.{Holds};
 

@@ -1,5 +1,5 @@
-//! Looks at the file of a stored view while its replica runs: an administrator may have removed it, put another in its place or written over it.
-//! What a replica stores there is not here.
+//! Looks at the file of a stored view while its replica runs: an administrator may have removed it, put another in its
+//! place or written over it.
 ghost use Rattle.std.specs.Prelude.{◌↔◌, IsTrue};
 ghost use Rattle.view_store.specs.Slots.{found};
 ghost use Rattle.file_device.specs.private.Guarded.{IsOfStart};

@@ -1,5 +1,4 @@
--- Filter texts: the words that stand before a value.
--- In: octets. Out: whether they are a description, a rule, or `dn`. Not here: values, filters.
+-- The words that stand before a value.
 use Rattle.std.specs.Prelude.{ℕ, List, [], ◌∷◌, map, Bool}
 use Rattle.std.specs.Char.{to_ascii_lowercase}
 use Rattle.std.specs.Str.{bytes_eq}

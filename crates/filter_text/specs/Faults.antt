@@ -1,5 +1,4 @@
--- Filter texts: what a refusal says.
--- In: a refusal, and a tree or a text. Out: what is so where it comes. Not here: the grammar.
+-- What a refusal says.
 use Rattle.std.specs.Prelude.{◌≡◌, ℕ, List}
 use Rattle.ldap_filter.specs.Tree.{Tree}
 use Rattle.filter_text.specs.Grammar.{IsFilterText}

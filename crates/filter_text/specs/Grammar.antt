@@ -1,5 +1,4 @@
--- Filter texts: the grammar (RFC 4515 3; RFC 4526 for `(&)` and `(|)`).
--- In: a filter's tree and a text. Out: whether the text spells it, and the one text that is printed. Not here: limits.
+-- The grammar (RFC 4515 3; RFC 4526 for `(&)` and `(|)`).
 use Rattle.std.specs.Prelude.{◌≡◌, ℕ, List, [], ◌∷◌, ◌++◌, Bool, true, ◌&&◌}
 use Rattle.ldap_filter.specs.Tree.{Tree, conj, disj, negation, item, Trees, no_trees, tree}
 use Rattle.filter_text.specs.Items.{IsItemText, printed_item, has_item_text}

@@ -1,6 +1,4 @@
--- Filter texts: items (RFC 4515 3, item).
--- In: an item and the text between its parentheses. Out: whether the text spells it, and the one text that is printed.
--- Not here: filters round filters.
+-- Items (RFC 4515 3, item).
 use Rattle.std.specs.Prelude.{◌≡◌, ◌≢◌, ℕ, List, [], ◌∷◌, ◌++◌, Bool, true, false, not, ◌&&◌, ◌||◌, Option, Some, None}
 use Rattle.std.specs.List.{list_all}
 use Rattle.ldap_filter.specs.Item.{Comparison, equal, at_least, at_most, approximate, SubstringsValue, ExtensibleValue, Item, comparison, substrings, presence, extensible}

@@ -1,5 +1,4 @@
--- Filter texts: how far a text is one.
--- In: a text. Out: the length of its longest front that begins a filter text. Not here: how it is found.
+-- How far a text is one.
 use Rattle.std.specs.Prelude.{◌<◌, ◌≤◌, ℕ, List, ◌++◌, length, take}
 use Rattle.ldap_filter.specs.Tree.{Tree}
 use Rattle.filter_text.specs.Grammar.{IsFilterText}

@@ -1,5 +1,4 @@
--- Filter texts, reading: why no filter is read.
--- In: a refusal and a text. Out: what is so where it comes. Not here: how it is found.
+-- Why no filter is read.
 use Rattle.std.specs.Prelude.{ℕ, List, ◌<◌}
 use Rattle.ldap_filter.specs.Tree.{Tree, depth, count}
 use Rattle.filter_text.specs.Grammar.{IsFilterText}

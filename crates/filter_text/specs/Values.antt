@@ -1,5 +1,4 @@
--- Filter texts: values and the octets that spell them (RFC 4515 3, valueencoding).
--- In: a value and a text. Out: whether the text spells it, and the one text that is printed. Not here: descriptions, filters.
+-- Values and the octets that spell them (RFC 4515 3, valueencoding).
 use Rattle.std.specs.Prelude.{ℕ, zero, suc, ◌+◌, ◌-◌, ◌/◌, ◌%◌, List, [], ◌∷◌, ◌++◌, length, take, Bool, true, cond, ◌&&◌, ◌||◌, Some, nat_le, nat_lt, ◌≡◌}
 use Rattle.std.specs.List.{list_all}
 use Rattle.std.specs.Str.{is_utf8}

@@ -1,5 +1,4 @@
-//! Filter texts: which filters have a text.
-//! In: a filter. Out: whether some text spells it. Not here: the text.
+//! Decides which filters have a text.
 
 ghost use Rattle.std.specs.Prelude.{◌≡◌, ◌&&◌, map, string_bytes};
 ghost use Rattle.std.specs.Option.{option_map};

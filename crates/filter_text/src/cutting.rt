@@ -1,5 +1,4 @@
-//! Filter texts, reading: texts cut.
-//! In: a text. Out: its front up to an octet, or what follows. Not here: what the parts spell.
+//! Cuts texts at an octet.
 
 ghost use Rattle.std.specs.Prelude.{◌≡◌, ◌∷◌, ◌≤◌, length, List, ℕ, true, MatchOption};
 ghost use Rattle.std.specs.List.{list_all, prefix_len};

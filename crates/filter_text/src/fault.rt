@@ -1,5 +1,4 @@
-//! Filter texts: why there is none, or none is read.
-//! In: nothing. Out: the refusals E18, E9 and E10, and want of memory. Not here: faults of messages.
+//! Why a filter has no text, or a text is no filter: E18, E9 and E10.
 
 ghost use Rattle.std.specs.Prelude.{◌≡◌};
 ghost use Rattle.filter_text.specs.declared.fault.FilterTextError.TheVariants.{NoMemory};

@@ -1,5 +1,4 @@
-//! Filter texts, scanning: where a scanner stands.
-//! In: nothing. Out: the types. Not here: how a text is scanned.
+//! Where a scanner stands. Types alone.
 
 /// Where a scanner of an oid stands.
 #[derive(Clone, Copy)]

@@ -1,5 +1,4 @@
-//! Filter texts: the one text that is printed.
-//! In: a filter. Out: its text, or E18 where it has none. Not here: limits, how texts are read.
+//! Prints the one text of a filter, or refuses it (E18).
 
 ghost use Rattle.std.specs.Prelude.{◌≡◌, ◌++◌, drop, length, ◌∷◌, [], List, ℕ, true, string_bytes, IfOk, IfErr, OnOk};
 ghost use Rattle.ldap_filter.specs.Tree.{Tree};

@@ -1,5 +1,4 @@
-//! Filter texts: items printed.
-//! In: an item. Out: its text at the end of a buffer. Not here: filters round filters.
+//! Prints one item at the end of a buffer.
 
 ghost use Rattle.std.specs.Prelude.{◌≡◌, ◌++◌, drop, length, ◌∷◌, [], map, string_bytes, OnOk};
 ghost use Rattle.std.specs.Option.{option_map};

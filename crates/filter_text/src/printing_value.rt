@@ -1,5 +1,4 @@
-//! Filter texts: values printed.
-//! In: octets. Out: their text at the end of a buffer. Not here: descriptions, filters.
+//! Prints one value at the end of a buffer.
 
 ghost use Rattle.std.specs.Prelude.{◌≡◌, ◌++◌, ◌∷◌, [], ◌<◌, ◌≤◌, false, true, take, drop, length, string_bytes, IfOk, OnOk, MatchOption};
 ghost use Rattle.std.specs.List.{list_all};

@@ -1,6 +1,4 @@
-//! Filter texts, reading: filters round filters, within the limits of depth and count.
-//! In: a text. Out: the filter that it spells, or E18 where it spells none, E9 or E10 where it passes a limit.
-//! Not here: how a text is found bad, which the scanner does before.
+//! Filters round filters, within the limits of depth and count.
 
 ghost use Rattle.std.specs.Prelude.{◌≡◌, ◌≤◌, ◌<◌, ◌∷◌, ℕ, suc, List, true, IfOk, IfErr, MatchResult};
 ghost use Rattle.ldap_filter.specs.Tree.{Tree, conj, disj, negation, depth as depth_of, count};

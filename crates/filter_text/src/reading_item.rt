@@ -1,6 +1,4 @@
-//! Filter texts, reading: items.
-//! In: the text between an item's parentheses. Out: the item that it spells.
-//! Not here: whether it spells one, which the scanner found; filters round filters.
+//! Reads the item that stands between parentheses; the scanner has found that there is one.
 
 ghost use Rattle.std.specs.Prelude.{◌≡◌, ◌∷◌, Option, Some, None, true, map, string_bytes, IfOk, IfErr, IfSome};
 ghost use Rattle.std.specs.List.{list_all};

@@ -1,5 +1,4 @@
-//! Filter texts, reading: values and names.
-//! In: a text. Out: the value that it spells, or the text in memory. Not here: items, filters.
+//! Reads values and names.
 
 ghost use Rattle.std.specs.Prelude.{◌≡◌, ◌<◌, ◌++◌, ◌∷◌, [], None, Some, true, string_bytes, IfOk, IfErr, OnOk};
 ghost use Rattle.std.specs.List.{list_all};

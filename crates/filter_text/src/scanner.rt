@@ -1,5 +1,4 @@
-//! Filter texts, scanning: the scanner.
-//! In: nothing. Out: the type. Not here: how a text is scanned.
+//! The states of the scanner. Types alone.
 
 use crate::place::{Around, Place};
 

@@ -1,6 +1,4 @@
-//! Filter texts, scanning: whether a text is a filter's, and where it stops being one; no recursion, however deep.
-//! In: a text. Out: nothing, or E18 with the length of the longest front that begins some filter's text.
-//! Not here: limits, what a text spells.
+//! Whether a text is a filter's, and where it stops being one; no recursion, however deep.
 
 ghost use Rattle.std.specs.Prelude.{◌≡◌, ◌∷◌, [], List, reverse, None, IfOk, IfErr, OnOk};
 ghost use Rattle.std.specs.Option.{option_map};

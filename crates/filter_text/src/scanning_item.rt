@@ -1,6 +1,4 @@
-//! Filter texts, scanning: what stands between an item's parentheses.
-//! In: a place and an octet. Out: the place behind it, where some item's text goes on so.
-//! Not here: filters round filters.
+//! Scans what stands between an item's parentheses.
 
 ghost use Rattle.std.specs.Prelude.{◌≡◌};
 ghost use Rattle.std.specs.Option.{option_map};

@@ -1,5 +1,4 @@
-//! Filter texts, reading: where a reader of a value's text stands.
-//! In: nothing. Out: the types. Not here: how a text is read.
+//! Where a reader of a value's text stands. Types alone.
 
 /// Where a reader of octets stands.
 #[derive(Clone, Copy)]

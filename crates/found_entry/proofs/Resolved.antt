@@ -1,5 +1,4 @@
--- What is looked up among the types that selectors name: a step of a chain of SUPs, one more type, one more selector. Facts on lists and questions flow
--- in and out; no value of the program is here.
+-- What is looked up among the types that selectors name: a step of a chain of SUPs, one more type, one more selector.
 use Rattle.std.proofs.Common.{ℕ, ◌+◌, ◌-◌, ◌<◌, zero, suc, List, [], ◌∷◌, Bool, true, false, ◌||◌, cond, None, Some, ◌≡◌, refl, ap, ap₂, ◌∙◌, nat_eq, arith}
 use Rattle.std.specs.List.{list_any}
 use Rattle.std.specs.Ordering.{is_eq, nat_cmp}

@@ -1,4 +1,4 @@
--- Selectors one after another. Facts on lists flow in and out; no value of the program is here.
+-- Selectors one after another.
 use Rattle.std.proofs.Common.{◌≡◌, ◌<◌, ◌||◌, ℕ, zero, suc, Bool, true, List, [], ◌∷◌, length, map, ap, ◌∙◌, subst, refl, slice_index_or, string_bytes, String, Global, arith}
 use Rattle.std.specs.List.{list_any}
 use Rattle.std.specs.Prelude.{◌↔◌}

@@ -1,4 +1,4 @@
--- Octet strings, one more at the end: what they take, and what is written of them. Facts on lists flow in and out; no value of the program is here.
+-- Octet strings, one more at the end: what they take, and what is written of them.
 use Rattle.std.proofs.Common.{◌≡◌, ℕ, ◌+◌, ◌<◌, ◌≤◌, List, ◌++◌, length, min, get_or, take, sym, subst}
 use Rattle.std.proofs.lemmas.List.{map-id}
 use Rattle.ldap_msg.specs.ldap_ber.Element.{element_bytes}

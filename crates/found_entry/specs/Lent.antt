@@ -1,4 +1,4 @@
--- What an attribute that is lent stands for. A value in memory flows in; the attribute flows out.
+-- What an attribute that is lent stands for.
 use Rattle.ldap_msg.specs.ldap_parts.Values.{PartialAttributeValue}
 use Rattle.found_entry.specs.declared.shown_attribute.ShownAttribute.{ShownAttribute}
 

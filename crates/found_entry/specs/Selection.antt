@@ -1,5 +1,4 @@
--- Which attributes of an entry are shown: RFC 4511 4.5.1.8. A schema, selectors and the entry's attributes flow in; what is shown of them flows
--- out. Names of entries are not here.
+-- Which attributes of an entry are shown: RFC 4511 4.5.1.8.
 use Rattle.std.specs.Prelude.{ℕ, List, [], ◌∷◌, Bool, true, false, not, ◌&&◌, ◌||◌, if◌then◌else◌, map, filter, codes, Option, Some, None}
 use Rattle.std.specs.List.{list_any}
 use Rattle.std.specs.Str.{bytes_eq}

@@ -1,4 +1,4 @@
--- What an entry that a search found stands for in memory. Values in memory flow in; what is shown of the entry flows out.
+-- What an entry that a search found stands for in memory.
 use Rattle.std.specs.Prelude.{List, map, string_bytes}
 use Rattle.std.specs.Arc.{arc_value}
 use Rattle.dir_tree.specs.dir_entry.Entry.{attributes_of}

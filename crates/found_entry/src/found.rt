@@ -1,5 +1,4 @@
-//! An entry that a search found, as it is shown. A name and a stored entry, or attributes that were made, flow in; copies and octets of the
-//! message that shows it flow out. What is found is not told here.
+//! An entry that a search found, as it is shown.
 ghost use Rattle.std.specs.Prelude.{◌≡◌, ◌≤◌, ◌^◌, ◌++◌, [], drop, map, length, string_bytes, IfOk, OnOk, IsErrOf};
 ghost use Rattle.std.specs.Arc.{arc_value};
 ghost use Rattle.dir_tree.specs.dir_entry.Entry.{attributes_of};

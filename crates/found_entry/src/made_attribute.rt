@@ -1,4 +1,4 @@
-//! Attributes that were made, and stand with no entry. They flow in; copies flow out. Attributes that an entry keeps are not here.
+//! Attributes that were made for a search and stand with no entry.
 ghost use Rattle.std.specs.Prelude.{◌≡◌, map, IfOk};
 ghost use Rattle.ldap_msg.specs.ldap_parts.View.{attribute_view};
 

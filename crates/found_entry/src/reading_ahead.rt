@@ -1,6 +1,6 @@
-//! Entries that will be written, read ahead. Found entries flow in; the sum of what was read flows out, which says nothing. An entry and its
-//! values are in several pieces of memory, each of which tells where the next one is. Here the first pieces of several entries are read, then
-//! their second ones, so that the processor waits for all of a kind at once. What is written is not told here.
+//! Entries that will be written, read ahead. An entry and its values are in several pieces of memory, each of which
+//! tells where the next one is. Here the first pieces of several entries are read, then their second ones, so that the
+//! processor waits for all of a kind at once.
 use crate::found::FoundEntry;
 use dir_tree::Attribute;
 

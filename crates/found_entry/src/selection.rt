@@ -1,5 +1,4 @@
-//! Which types the selectors of a search select. A schema and selectors flow in, each looked up once for a whole search; a yes or no for a type
-//! flows out. What is shown of an entry is not here.
+//! Decides which types the selectors of a search select.
 ghost use Rattle.std.specs.Prelude.{◌≡◌, ◌||◌, ℕ, length, map, IfOk, OnOk, string_bytes};
 ghost use Rattle.std.specs.List.{list_any};
 ghost use Rattle.dir_tree.specs.ldap_schema.Schema.{find, superior_of, superiors};

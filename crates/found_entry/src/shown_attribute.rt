@@ -1,5 +1,4 @@
-//! An attribute as it is shown: a description and values, lent by who keeps them. Lent attributes flow in; copies flow out. What is selected is
-//! not told here.
+//! An attribute as it is shown: a description and values, lent by who keeps them.
 ghost use Rattle.std.specs.Prelude.{◌≡◌, map, IfOk};
 ghost use Rattle.ldap_msg.specs.ldap_parts.View.{attribute_view};
 ghost use Rattle.found_entry.specs.Lent.{lent_view};

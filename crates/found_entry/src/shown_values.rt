@@ -1,5 +1,5 @@
-//! Values that an entry keeps, as they are shown: measured, written and copied where they lie. Octet strings flow in; how many octets their
-//! elements take, these elements, or copies flow out. Whose values they are is not told here. A length of 2^32 stands for each that is greater.
+//! Values that an entry keeps, as they are shown: measured, written and copied where they lie. A length of 2^32 stands
+//! for each that is greater.
 ghost use Rattle.std.specs.Prelude.{◌≡◌, ◌^◌, ◌≤◌, ◌++◌, drop, length, map, min, IfOk, OnOk, IsErrOf};
 ghost use Rattle.ldap_msg.specs.ldap_ber.Element.{element_bytes};
 ghost use Rattle.ldap_msg.specs.ldap_fields.Rows.{row_bytes};

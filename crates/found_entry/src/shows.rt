@@ -1,5 +1,4 @@
-//! What is shown of attributes: the selected ones in their order, each by its type's first name. A schema, selectors and attributes flow in;
-//! what is shown is lent, and flows out. Entries' names are not here.
+//! What is shown of attributes: the selected ones in their order, each by its type's first name.
 ghost use Rattle.std.specs.Prelude.{◌≡◌, map, string_bytes, IfOk};
 ghost use Rattle.std.specs.Arc.{arc_value};
 ghost use Rattle.std.specs.List.{list_any};

@@ -1,4 +1,4 @@
--- Output that grows line by line, and input that is read line by line. Facts on octets flow in and out; no value of the program is here.
+-- Output that grows line by line, and input that is read line by line.
 use Rattle.std.proofs.Common.{◌≡◌, ℕ, ◌+◌, ◌<◌, ◌≤◌, arith, List, [], ◌∷◌, ◌++◌, Option, None, Some, refl, ap, sym, subst, ◌∙◌, map, length, take, drop, get_or, append_assoc, take-append-drop}
 use Rattle.std.proofs.lemmas.List.{drop_more, get_or-map, length-append, length-map, take_more}
 use Rattle.std.proofs.Math.Seq.{drop-append_seam, take-append_seam}

@@ -1,4 +1,4 @@
--- Sessions over lines, a line at a time. Facts on octets and sessions flow in and out; no value of the program is here.
+-- Sessions over lines, a line at a time.
 use Rattle.std.proofs.Common.{◌≡◌, ◌⊎◌, inl, inr, ℕ, suc, ◌+◌, List, Vec, Global, arith, [], ◌∷◌, ◌++◌, Option, None, Some, Result, Ok, Err, IfOk, IfErr, IfSome, refl, ap, sym, subst, ◌∙◌, append_assoc, append-nil}
 use Rattle.std.specs.Io.KnownBytes.{Appends}
 use Rattle.ldap_session.specs.ldap_framer.Framed.{ending_of, HasSeen}

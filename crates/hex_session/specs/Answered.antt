@@ -1,5 +1,4 @@
--- What a session over lines of hex comes to. An input, an output and a directory before and after flow in. What a session makes of its stream
--- is below.
+-- What a session over lines of hex comes to. What a session makes of its stream is below.
 use Rattle.std.specs.Prelude.{◌≡◌, ℕ, suc, List, [], ◌++◌, Option, Some, IfSome}
 use Rattle.ldap_session.specs.directory_api.Talk.{Exchange}
 use Rattle.ldap_session.specs.session_handler.Session.{ConfigValue}

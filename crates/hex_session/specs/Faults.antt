@@ -1,5 +1,4 @@
--- What ends a session over lines early: which fault comes of what, and how far an output has grown then. Octets of an input and of an output
--- flow in.
+-- What ends a session over lines early: which fault comes of what, and how far an output has grown then.
 use Rattle.std.specs.Prelude.{◌≡◌, ℕ, List, false}
 use Rattle.ldap_session.specs.declared.end.SessionEnd.{SessionEnd}
 use Rattle.ldap_session.specs.declared.end.SessionEnd.TheVariants.{ReadFailed, WriteFailed, NoMemory as NoMemoryEnd}

@@ -1,5 +1,4 @@
--- Lines of hex: the octets of an input and of an output flow in; the pieces that lines spell, and the lines of responses, flow out.
--- What a message means is not here.
+-- Lines of hex.
 use Rattle.std.specs.Prelude.{◌≡◌, ℕ, zero, suc, List, [], ◌∷◌, true, false, Ok, Option, None, Some}
 use Rattle.std.specs.Io.BufRead.{take_through, drop_through, strip_last}
 use Rattle.hex.specs.Hex.{decode_of}

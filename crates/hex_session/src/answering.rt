@@ -1,4 +1,4 @@
-//! A session over lines of hex: lines flow in and out, a session answers. No rule of LDAP is here.
+//! Answers a session over lines of hex.
 ghost use Rattle.std.specs.Prelude.{◌≡◌, IfOk, IfErr};
 ghost use Rattle.std.specs.Io.KnownBytes.{Appends};
 ghost use Rattle.ldap_session.specs.session_handler.View.{config_view};

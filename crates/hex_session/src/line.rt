@@ -1,4 +1,4 @@
-//! What an input's next line is: plain data. How it is read is not here.
+//! The next line of an input. Plain data.
 
 /// What an input begins with.
 #[derive(Debug, Drop)]

@@ -1,4 +1,4 @@
-//! Lines of hex. Octets of an input flow in line by line, octets of responses flow out, each response as a line. Messages are not here.
+//! Reads an input line by line as hex, and writes each response as a line.
 ghost use Rattle.std.specs.Prelude.{◌≡◌, option_map, string_bytes, IfOk, IfErr, OnOk, IfSome};
 ghost use Rattle.std.specs.Io.KnownBytes.{Appends};
 ghost use Rattle.std.specs.Io.BufRead.{strip_last};

@@ -1,4 +1,4 @@
--- Which indexes a type has. A choice and a type's number flow in, its kinds flow out; texts and posting lists are not here.
+-- Which indexes a type has.
 use Rattle.std.specs.Prelude.{ℕ, List, Option, None, Some, false, slice_get}
 use Rattle.index_choice.specs.declared.kinds.Kinds.{Kinds}
 

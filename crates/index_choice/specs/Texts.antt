@@ -1,5 +1,5 @@
--- The text of an index choice, line by line: a name or an object identifier (RFC 4512 1.4), a colon, and the kinds of index that its
--- type has, with a space before each. A schema and a text flow in, a choice or the first thing that is wrong flows out.
+-- The text of an index choice, line by line: a name or an object identifier (RFC 4512 1.4), a colon, and the kinds of
+-- index that its type has, with a space before each.
 use Rattle.std.specs.Prelude.{ℕ, ◌+◌, ◌-◌, List, [], ◌∷◌, ◌++◌, length, take, Bool, true, false, cond, not, ◌&&◌, ◌||◌, Option, None, Some, is_some, Result, Ok, Err, nat_eq, nat_lt, codes, ◌≡◌}
 use Rattle.std.specs.List.{list_any, list_all, slice_split, find as find_first}
 use Rattle.std.specs.Option.{option_map}

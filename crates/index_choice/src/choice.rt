@@ -1,5 +1,4 @@
-// The index choice. The kinds of each type flow in; a type's kinds flow out.
-// What must not be here: the choice's text, posting lists.
+// The index choice: which kinds of index each type has.
 
 ghost use Rattle.std.specs.Prelude.{◌≡◌, [], IfOk, IfErr};
 ghost use Rattle.index_choice.specs.Choice.{kinds_of};

@@ -1,5 +1,4 @@
-// The indexes of each type, of all lines together. Lines flow in, the choice flows out.
-// What must not be here: texts.
+// Puts together the indexes of each type, of all lines.
 
 ghost use Rattle.std.specs.Prelude.{◌≡◌, ◌<◌, ◌||◌, ℕ, cond, length, nat_eq, IfOk, OnOk, OnErr};
 ghost use Rattle.index_choice.specs.Choice.{kinds_of};

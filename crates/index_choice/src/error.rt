@@ -1,5 +1,4 @@
-// Why a text is no index choice. Nothing flows in; the fault with its line flows out.
-// What must not be here: faults of schemas, of values, of entries.
+// Why a text is no index choice, with the line.
 
 ghost use Rattle.std.specs.Prelude.{◌≡◌};
 ghost use Rattle.index_choice.specs.declared.error.IndexError.TheVariants.{NoMemory};

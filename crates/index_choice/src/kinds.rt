@@ -1,5 +1,4 @@
 // The kinds of index that a type may have. Plain data, for what keeps posting lists and what plans by them.
-// What must not be here: which type has which.
 
 /// Which indexes a type has.
 #[derive(Clone, Copy, Debug, PartialEq, Eq)]

@@ -1,11 +1,10 @@
-//! Index choices: which indexes each attribute type has. A schema and a text flow in, the choice flows out. Posting lists, entries and
-//! filters are not here.
+//! Index choices: which indexes each attribute type has.
 //!
-//! Reads which indexes each type has; the lines are cut as a schema's. `reading` (over `words`) finds what each line says, or the first
-//! that is wrong; `choosing` puts the kinds of each type together.
+//! Reads which indexes each type has; the lines are cut as a schema's. `reading` (over `words`) finds what each line
+//! says, or the first that is wrong; `choosing` puts the kinds of each type together.
 //!
-//! Proved: a text is read as the index choice that it means, or refused as E12, E13 or E16 with the first line that the order names
-//! (`Indexes::read`).
+//! Proved: a text is read as the index choice that it means, or refused as E12, E13 or E16 with the first line that the
+//! order names (`Indexes::read`).
 #![tactic(auto)]
 
 mod choice;

@@ -1,5 +1,4 @@
 // What a line of an index choice says. Plain data, made by the reader of lines.
-// What must not be here: other lines, and whether the type may have such indexes.
 
 use crate::kinds::Kinds;
 use dir_entry::TypeId;

@@ -1,5 +1,4 @@
-// What the lines of an index choice say. A schema and a text flow in; lines, or the first thing that is wrong, flow out.
-// What must not be here: the indexes of a type, all lines together.
+// Reads the lines of an index choice, or says what is wrong first.
 
 ghost use Rattle.std.specs.Prelude.{◌≡◌, ℕ, List, Result, map, Ok, Err, None, Some, IfOk, IfErr, OnOk, OnErr};
 ghost use Rattle.index_choice.specs.declared.line.IndexLine.{IndexLine};

@@ -1,5 +1,4 @@
-// Words of an index choice. Octets flow in, a yes or no flows out.
-// What must not be here: lines, types.
+// Recognizes the words of an index choice.
 
 ghost use Rattle.std.specs.Prelude.{◌≡◌, map, nat_eq, IfOk};
 ghost use Rattle.std.specs.List.{slice_split};

@@ -1,5 +1,4 @@
--- The tree's entries as indexes see them: each change of the tree is a change of what is listed. Facts on lists flow in and out; no value
--- of the program is here.
+-- The tree's entries as indexes see them: each change of the tree is a change of what is listed.
 use Rattle.std.proofs.Common.{◌≡◌, ◌<◌, ℕ, List, [], ◌∷◌, ◌++◌, refl, sym, ap, ◌∙◌, subst, arith, Bool, true, false, cond, not, Option, None, Some, nat_eq, inl, inr}
 use Rattle.std.specs.Option.{option_map}
 use Rattle.std.proofs.lemmas.Bool.{eqb-true, eq-eqb, ne_eqb}

@@ -1,4 +1,4 @@
--- An entry that is found by its name: its number, its name and its keys. Facts on lists flow in and out; no value of the program is here.
+-- An entry that is found by its name: its number, its name and its keys.
 use Rattle.std.proofs.Common.{◌≡◌, ◌<◌, ◌≤◌, ℕ, zero, suc, List, [], ◌∷◌, ◌++◌, length, take, drop, refl, sym, ap, ap₂, ◌∙◌, subst, arith, Bool, true, false, cond, ◌&&◌, Option, Some, None, nat_eq, is_some}
 use Rattle.std.specs.Option.{option_map}
 use Rattle.std.specs.Str.{bytes_eq}

@@ -1,5 +1,4 @@
--- What the tree keeps, seen without keys: each word of the directory on what is shown is the tree's word. Facts on lists flow in and out;
--- no value of the program is here.
+-- What the tree keeps, seen without keys: each word of the directory on what is shown is the tree's word.
 use Rattle.std.proofs.Common.{◌≡◌, ℕ, zero, suc, List, [], ◌∷◌, ◌++◌, map, length, take, refl, sym, ap, ap₂, ◌∙◌, Bool, true, false, cond, ◌||◌, Ok, Err, Option, None, Some, nat_eq, is_some}
 use Rattle.std.specs.Option.{option_map}
 use Rattle.dir_index.specs.ldap_schema.Schema.{SchemaModel}

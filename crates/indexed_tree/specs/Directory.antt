@@ -1,5 +1,5 @@
--- The directory as everything above sees it: its schema, the name of its root, and its entries in order of number, each with its name and
--- its attributes. RFC 4512 2. How entries are kept is not here.
+-- The directory as everything above sees it: its schema, the name of its root, and its entries in order of number, each
+-- with its name and its attributes. RFC 4512 2.
 use Rattle.std.specs.Prelude.{ℕ, List}
 use Rattle.dir_index.specs.ldap_schema.Schema.{SchemaModel}
 use Rattle.dir_index.specs.ldap_dn.Names.{RdnModel}

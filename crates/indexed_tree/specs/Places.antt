@@ -1,5 +1,4 @@
--- Where entries stand: RFC 4512 2.1 to 2.3. Names and entries flow in; entries flow out. Names are one whatever their spelling. What an
--- update checks is not here.
+-- Where entries stand: RFC 4512 2.1 to 2.3. Names are one whatever their spelling.
 use Rattle.std.specs.Prelude.{ℕ, zero, suc, ◌-◌, List, [], ◌∷◌, length, take, drop, map, Bool, cond, ◌&&◌, nat_eq, nat_lt, Option, None, Some, is_some}
 use Rattle.std.specs.List.{list_any}
 use Rattle.dir_index.specs.ldap_dn.Names.{TypeAndValue, RdnModel, rdns}

@@ -1,4 +1,4 @@
--- Replies of updates and compares: RFC 4511 4.1.9. Checks flow in; what passes them, or the reply to the first that fails, flows out.
+-- Replies of updates and compares: RFC 4511 4.1.9.
 use Rattle.std.specs.Prelude.{ℕ, List, [], Bool, cond, Option, None, Some, Result, Ok, Err}
 use Rattle.std.specs.Option.{option_map_or}
 use Rattle.dir_index.specs.ldap_dn.Names.{RdnModel, rdns}

@@ -1,4 +1,4 @@
--- What is kept stands for: entries with keys, as the tree has them, for entries without. Checks of updates are not here.
+-- What is kept stands for: entries with keys, as the tree has them, for entries without.
 use Rattle.std.specs.Prelude.{◌<◌, ℕ, List, [], ◌∷◌, map}
 use Rattle.dir_index.specs.ldap_schema.Schema.{SchemaModel}
 use Rattle.dir_index.specs.dir_entry.Entry.{attributes_of, IsKeyedBy}

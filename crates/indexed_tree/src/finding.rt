@@ -1,4 +1,4 @@
-//! Entries by name. A tree and names flow in; entries, or the reply that there is none, flow out. Texts are not here.
+//! Finds entries by name, or replies that there is none.
 ghost use Rattle.std.specs.Prelude.{◌≡◌, ◌≤◌, [], length, IfOk, is_some, take, string_bytes};
 ghost use Rattle.std.specs.Option.{option_map, option_map_or};
 ghost use Rattle.dir_index.specs.ldap_dn.Names.{rdns};

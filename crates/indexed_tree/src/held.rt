@@ -1,5 +1,4 @@
 // An entry where it is. It is made for whoever asks: the tree keeps relative names alone.
-// How it is found is not here.
 
 use dir_index::Name;
 use directory_api::SharedEntry;

@@ -1,5 +1,4 @@
-//! A tree and the posting lists of its entries, which change together. Entries flow in; they, and the numbers that an
-//! index lists, flow out. What an update checks is not here.
+//! A tree and the posting lists of its entries, which change together.
 ghost use Rattle.std.specs.Prelude.{◌≡◌, ◌++◌, ◌∷◌, [], false, true, Some, IfOk, OnOk, OnErr, is_some};
 ghost use Rattle.std.specs.Option.{option_map};
 ghost use Rattle.dir_index.specs.ldap_dn.Names.{rdns};

@@ -1,5 +1,4 @@
-//! Posting lists kept with a tree, one function a step. A tree and its entries' lists flow in; the lists of the entries after an update flow out,
-//! and those before it stay as they were. What an update checks is not here.
+//! Keeps the posting lists of a tree as its entries change.
 ghost use Rattle.std.specs.Prelude.{◌≡◌, ◌++◌, ◌∷◌, [], IfOk};
 ghost use Rattle.directory_api.specs.dir_tree.Directory.{AllBelow, unnumbered, replaced};
 ghost use Rattle.dir_index.specs.Whole.{AreOf};

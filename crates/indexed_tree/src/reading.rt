@@ -1,5 +1,5 @@
-//! The directory as searches read it: its schema, and its entries in a tree with their posting lists, whose keys are those of the schema. Names flow
-//! in; entries, or the reply that there is none, flow out. Nothing is changed here.
+//! The directory as searches read it: its schema, and its entries in a tree with their posting lists, whose keys are
+//! those of the schema.
 ghost use Rattle.std.specs.Prelude.{◌≡◌, IfOk, IfSome, string_bytes};
 ghost use Rattle.std.specs.Arc.{arc_value};
 ghost use Rattle.std.specs.Option.{option_map};

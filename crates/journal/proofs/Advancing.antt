@@ -1,5 +1,4 @@
--- A reader goes over an image. In: the octets ahead of it, of which more stand behind. Out: the frame at their front is the one at the image's end that
--- the reader knows. Nothing of devices is here.
+-- A reader goes over an image.
 use Rattle.std.proofs.Common.{◌≡◌, ℕ, zero, suc, ◌+◌, ◌-◌, ◌<◌, ◌≤◌, ◌==◌, nat_le, Bool, true, false, cond, ◌&&◌, List, [], ◌∷◌, ◌++◌, length, take, drop, min, refl, sym, ap, ap₂, ◌∙◌, subst, arith, leb-true, le-leb, append_assoc, length-append, length-drop, take-append-drop}
 use Rattle.std.proofs.lemmas.List.{append-nil, drop_at, take-append-le, drop-append-le, drop-drop, length-take-le}
 use Rattle.journal.specs.Frames.{are_digits, nonzeros, head_length, head_count, body_at, after, is_whole, bodies, recorded}

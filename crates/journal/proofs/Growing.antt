@@ -1,4 +1,4 @@
--- Zeros that join the end of an image. In: an image that is read up to a place, a device's calls. Out: it is read as the same strings.
+-- Zeros that join the end of an image.
 use Rattle.std.proofs.Common.{◌≡◌, ℕ, ◌+◌, List, ◌++◌, replicate, sym, ap, ◌∙◌, subst, append_assoc}
 use Rattle.std.proofs.lemmas.List.{replicate-append-replicate}
 use Rattle.journal.specs.Device.{Only, Follows, Grown, Longer}

@@ -1,4 +1,4 @@
-//! The device under a journal: what a read gives, and what a crash may leave. No format is here.
+//! The device under a journal: what a read gives, and what a crash may leave.
 ghost use Rattle.std.specs.Prelude.{◌≡◌, ◌≤◌, ◌+◌, ◌++◌, List, ℕ, length, take, drop, replicate, IfOk, OnOk, OnErr, IsErrOf};
 ghost use Rattle.journal.specs.Device.{Only, Follows, Mixed, Holds, Grown, Longer, Elapses, HasCause, HasRisen};
 

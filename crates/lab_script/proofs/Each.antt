@@ -1,5 +1,4 @@
--- Words of a line that are read one by one. In: what is read so far, and what is left. Out: the same with one more.
--- Nothing of octets is here.
+-- Words of a line that are read one by one.
 use Rattle.std.proofs.Common.{◌≡◌, ℕ, ◌+◌, ◌<◌, ◌≤◌, Bor, List, [], ◌∷◌, ◌++◌, map, length, drop, get_or, Option, Some, None, refl, sym, ap, ◌∙◌, arith}
 use Rattle.std.proofs.lemmas.List.{map-append}
 use Rattle.dir_lab.specs.declared.events.LabEvent.{LabEvent}

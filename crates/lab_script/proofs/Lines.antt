@@ -1,5 +1,4 @@
--- Lines, one by one. In: what is read so far, and what is left. Out: the same with one more line.
--- Nothing of words is here.
+-- Lines, one by one.
 use Rattle.std.proofs.Common.{◌≡◌, ℕ, suc, ◌+◌, ◌<◌, List, [], ◌∷◌, ◌++◌, Vec, Global, map, length, take, drop, get_or, inr, refl, sym, ap, ◌∙◌, subst, arith, append_assoc, append-nil, add-one, drop-cons}
 use Rattle.std.proofs.lemmas.List.{map-append, take_more}
 use Rattle.dir_lab.specs.declared.events.LabEvent.{LabEvent}

@@ -1,4 +1,4 @@
--- What no text writes. In: that a part of it writes none. Out: that all of it writes none. Code is not here.
+-- What no text writes.
 use Rattle.std.proofs.Common.{◌≡◌, ℕ, List, Some, None, Ok, ap, ◌∙◌, subst}
 use Rattle.hex.specs.Hex.{decode_of}
 use Rattle.ldif.specs.ldap_msg.Messages.{MessageValue, SearchRequestValue}

@@ -1,4 +1,4 @@
--- A list that is read one by one. In: what is read so far, and what is left. Out: the same with one more. Octets are not here.
+-- A list that is read one by one.
 use Rattle.std.proofs.Common.{◌≡◌, ℕ, suc, ◌+◌, ◌<◌, ◌≤◌, Bor, List, [], ◌∷◌, ◌++◌, map, length, drop, get_or, Option, Some, None, option_map, refl, sym, ap, ◌∙◌, append_assoc, append-nil, add-one, drop-cons}
 use Rattle.std.proofs.lemmas.List.{drop_all}
 use Rattle.lab_script.specs.Each.{before, all_of}

@@ -1,4 +1,4 @@
--- The first colon with a space behind it, octet by octet. In: the octets that are left. Out: what stands before and behind. Lines are not here.
+-- The first colon with a space behind it, octet by octet.
 use Rattle.std.proofs.Common.{◌≡◌, ℕ, suc, ◌+◌, ◌-◌, ◌<◌, ◌≤◌, List, [], ◌∷◌, ◌++◌, length, take, drop, get_or, Bool, cond, true, false, Option, Some, None, option_map, refl, sym, ap, ap₂, ◌∙◌, arith, add-one, drop-cons, length-drop, append_assoc, append-nil}
 use Rattle.std.proofs.Math.Seq.{take-suc}
 use Rattle.std.proofs.lemmas.List.{drop_all, take_all}

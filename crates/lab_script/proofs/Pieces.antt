@@ -1,4 +1,4 @@
--- The lines of an add, one by one. In: what is read so far, and what is left. Out: the same with one more. Octets are not here.
+-- The lines of an add, one by one.
 use Rattle.std.proofs.Common.{◌≡◌, ℕ, ◌+◌, ◌<◌, Bor, List, [], ◌∷◌, ◌++◌, length, drop, get_or, Option, Some, None}
 use Rattle.ldif.specs.Records.{ValueModel}
 use Rattle.lab_script.specs.Each.{all_of}

@@ -1,4 +1,4 @@
--- What no line names. In: that a part of it names nothing. Out: that all of it names nothing. Code is not here.
+-- What no line names.
 use Rattle.std.proofs.Common.{◌≡◌, ℕ, List, Some, subst}
 use Rattle.dir_lab.specs.dir_search.ldap_msg.Messages.{SearchRequestValue}
 use Rattle.lab_script.specs.Searches.{IsSearchText}

@@ -1,4 +1,4 @@
--- Worked rows. In: texts. Out: what they write, by computation. Nothing is proved over all texts here.
+-- Worked rows. Nothing is proved over all texts here.
 use Rattle.std.proofs.Common.{◌≡◌, Some, None, codes, refl}
 use Rattle.ldif.specs.ldap_msg.ldap_requests.declared.search.Scope.TheVariants.{SingleLevel}
 use Rattle.lab_script.specs.Updates.{line_in, kind_of, add_kind}

@@ -1,4 +1,4 @@
--- How many replicas a script names. In: a script's schedule. Out: that they are 2f + 1. Events are not here.
+-- How many replicas a script names.
 use Rattle.std.proofs.Common.{◌≡◌, ℕ, ◌==◌, ◌||◌, Bool, true, false, cond, List, [], ◌∷◌, Option, Some, None, option_and_then, refl, sym, subst, arith}
 use Rattle.std.proofs.lemmas.Bool.{eqb-true}
 use Rattle.dir_lab.specs.vr_world.Law.{IsSize}

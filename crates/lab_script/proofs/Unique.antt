@@ -1,4 +1,4 @@
--- A text writes one thing at most. In: two that it writes. Out: they are one. Code is not here.
+-- A text writes one thing at most.
 use Rattle.std.proofs.Common.{◌≡◌, ℕ, List, [], ◌++◌, Some, Ok, refl, sym, ap, ◌∙◌, subst}
 use Rattle.hex.specs.Hex.{decode_of}
 use Rattle.ldap_filter.specs.Tree.{Tree}

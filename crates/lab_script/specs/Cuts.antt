@@ -1,5 +1,4 @@
--- Texts in scripts: texts cut in two.
--- In: a text. Out: what stands before the first of an octet, or of a colon and a space, and what stands behind. Not here: what the parts say.
+-- Texts cut in two.
 use Rattle.std.specs.Prelude.{ℕ, ◌+◌, List, [], ◌∷◌, ◌++◌, take, drop, position, Bool, false, ◌&&◌, cond, nat_eq, Option, None, Some, option_map}
 
 -- a text cut in two, without what it was cut at

@@ -1,5 +1,4 @@
--- Texts in scripts: a list whose elements each say something.
--- In: a list, and what an element says. Out: what all of them say. Not here: texts.
+-- A list whose elements each say something.
 use Rattle.std.specs.Prelude.{List, [], ◌∷◌, Option, None, Some}
 
 -- one more in front, where both are there

@@ -1,4 +1,4 @@
--- Lab scripts: events without where they lie in memory. What is in memory flows in; plain values flow out. Lines are not here.
+-- Lab scripts: events without where they lie in memory.
 use Rattle.std.specs.Prelude.{ℕ}
 use Rattle.dir_lab.specs.ldap_op.Values.{OpValue}
 use Rattle.dir_lab.specs.dir_search.ldap_msg.Messages.{SearchRequestValue}

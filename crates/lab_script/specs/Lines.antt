@@ -1,5 +1,4 @@
--- Lab scripts: which line is which event. In: the octets of a line, without its end. Out: the events that it names.
--- Nothing of what an event does is here, and nothing of how an update or a search is written.
+-- Lab scripts: which line is which event.
 use Rattle.std.specs.Prelude.{◌≡◌, ℕ, ◌==◌, ◌||◌, cond, List, [], ◌∷◌, Option, Some, None, option_map, option_and_then, codes, bytes_eq}
 use Rattle.dir_lab.specs.ldap_op.Values.{OpValue}
 use Rattle.dir_lab.specs.dir_search.ldap_msg.Messages.{SearchRequestValue}

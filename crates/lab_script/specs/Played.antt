@@ -1,5 +1,4 @@
--- Lab scripts: what a script shows. A schema, the name of the root and the lines of a script flow in; what is promised of what it shows flows out.
--- What a schedule shows is not defined here.
+-- Lab scripts: what a script shows. What a schedule shows is not defined here.
 use Rattle.std.specs.Prelude.{◌≡◌, ℕ, List, map}
 use Rattle.dir_lab.specs.dir_search.ldap_schema.Schema.{SchemaModel}
 use Rattle.dir_lab.specs.dir_search.ldap_dn.Names.{RdnModel}

@@ -1,5 +1,4 @@
--- Lab scripts: whole scripts. In: the octets of each line. Out: the schedule that they name, or the first line that isn't in the language.
--- Nothing of what a schedule shows is here.
+-- Lab scripts: whole scripts.
 use Rattle.std.specs.Prelude.{◌≡◌, ◌⊎◌, ℕ, ◌+◌, List, [], ◌∷◌, ◌++◌, map, Vec, Option, Some, None}
 use Rattle.lab_script.specs.Events.{EventValue}
 use Rattle.lab_script.specs.Lines.{first_line, IsLine}

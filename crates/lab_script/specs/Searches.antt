@@ -1,5 +1,4 @@
--- Texts in scripts: the search that a text writes.
--- In: a text. Out: whether it writes a search request. Not here: the grammar of filters, what a search finds.
+-- The search that a text writes.
 use Rattle.std.specs.Prelude.{◌≡◌, ◌≤◌, ℕ, List, [], cond, codes, Bool, true, false, Option, None, Some, option_map}
 use Rattle.std.specs.Str.{bytes_eq, is_utf8}
 use Rattle.ldap_filter.specs.Tree.{Tree, depth, count}

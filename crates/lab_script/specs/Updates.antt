@@ -1,5 +1,4 @@
--- Texts in scripts: the update that a text writes.
--- In: a text. Out: whether it writes an update. Not here: what an update does, how octets spell a message.
+-- The update that a text writes.
 use Rattle.std.specs.Prelude.{◌≡◌, ℕ, List, [], cond, codes, nat_eq, Option, None, Some, option_map, Result, Ok}
 use Rattle.std.specs.List.{slice_split}
 use Rattle.std.specs.Str.{bytes_eq, is_utf8}

@@ -1,5 +1,4 @@
--- Lab scripts: words of lines. In: the octets of a line, without its end. Out: its words, and the numbers at its front.
--- Nothing of what a word asks for is here.
+-- Lab scripts: words of lines.
 use Rattle.std.specs.Prelude.{ℕ, ◌==◌, cond, List, Option, Some, None, option_map, codes, bytes_eq}
 use Rattle.std.specs.List.{slice_split}
 use Rattle.lab_script.specs.Cuts.{Cut, cut}

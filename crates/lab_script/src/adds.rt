@@ -1,5 +1,4 @@
-//! Texts in scripts: the entry that an add's text writes, and the name of a delete.
-//! In: a text. Out: the record of the entry; a name. Not here: which add a record asks for.
+//! The entry that an add's text writes, and the name of a delete.
 
 ghost use Rattle.std.specs.Prelude.{◌≡◌, false, map, nat_eq, true, IfOk, IsErrOf, string_bytes};
 ghost use Rattle.std.specs.List.{slice_split};

@@ -1,5 +1,4 @@
-//! Texts in scripts: texts cut in two.
-//! In: a text. Out: what stands before the first of an octet, or of a colon and a space, and what stands behind. Not here: what the parts say.
+//! Cuts a text in two, at the first of an octet or of a colon and a space.
 
 ghost use Rattle.std.specs.Prelude.{◌≡◌, nat_eq, position, drop, false, true, MatchOption};
 ghost use Rattle.std.specs.Str.{is_utf8};

@@ -1,6 +1,4 @@
-// Numbers at the front of a line.
-// In: what stands behind a line's first word. Out: its numbers, and the text behind them.
-// What that text writes isn't here.
+// Numbers at the front of a line. What that text writes isn't here.
 
 ghost use Rattle.std.specs.Prelude.{◌≡◌, MatchOption};
 ghost use Rattle.lab_script.specs.Lines as lines;

@@ -1,6 +1,4 @@
-// Why a line names no event, or a script isn't played.
-// In: what went wrong. Out: an error, with the number of the line.
-// Where a script's lines come from isn't here.
+// Why a line names no event, or a script isn't played. Where a script's lines come from isn't here.
 
 ghost use Rattle.std.specs.Prelude.{◌≡◌};
 ghost use Rattle.lab_script.specs.declared.fault.LineError.TheVariants.{NoMemory};

@@ -1,5 +1,4 @@
-//! Texts in scripts: which kind of update a text writes.
-//! In: a text. Out: its kind by its first word, and what stands behind that. Not here: what that says.
+//! Tells which kind of update a text writes.
 
 ghost use Rattle.std.specs.Prelude.{◌≡◌, bytes_eq};
 ghost use Rattle.lab_script.specs.Updates as updates;

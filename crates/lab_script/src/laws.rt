@@ -1,5 +1,4 @@
-//! Texts in scripts: a text writes one thing at most.
-//! In: nothing. Out: what holds of all texts. Not here: code that runs.
+//! The law that a text writes one thing at most.
 
 ghost use Rattle.std.specs.Prelude.{◌≡◌, ℕ, List};
 ghost use Rattle.ldif.specs.ldap_msg.Messages.{SearchRequestValue};

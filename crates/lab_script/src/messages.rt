@@ -1,5 +1,4 @@
-//! Texts in scripts: the update that a message in hex asks for.
-//! In: hexadecimal digits. Out: the update of the message that they spell. Not here: how octets spell a message.
+//! Reads the update that a message in hex asks for.
 
 ghost use Rattle.std.specs.Prelude.{◌≡◌, ℕ, List, Ok, Some, IfOk, IsErrOf, MatchOption};
 ghost use Rattle.hex.specs.Hex.{decode_of};

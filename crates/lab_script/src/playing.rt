@@ -1,6 +1,4 @@
 // A whole script: its lines become events, and a lab plays them.
-// In: the octets of each line, without its end. Out: what the script shows, or the first line that isn't in the language.
-// Nothing is played before all lines are read.
 ghost use Rattle.std.specs.Prelude.{◌≡◌, ℕ, List, map, IfOk};
 ghost use Rattle.std.specs.Arc.{arc_value};
 ghost use Rattle.dir_lab.specs.Shown.{shown_view};

@@ -1,6 +1,4 @@
-// Lines that ask for an update.
-// In: what stands behind the line's first word. Out: the event.
-// How an update is written isn't here.
+// Lines that ask for an update. How an update is written isn't here.
 
 ghost use Rattle.std.specs.Prelude.{◌≡◌, IfOk, IsErrOf};
 ghost use Rattle.dir_lab.specs.ldap_op.Values.{OpValue};

@@ -1,6 +1,4 @@
-// Lines of lab scripts.
-// In: the octets of a line, without its end. Out: the events that it names.
-// What an event does isn't here.
+// Lines of lab scripts. What an event does isn't here.
 ghost use Rattle.std.specs.Prelude.{◌≡◌, List, [], ◌∷◌, map, IfOk, IsErrOf, MatchOption};
 ghost use Rattle.lab_script.specs.Events.{EventValue, event_view, happens};
 ghost use Rattle.lab_script.specs.Lines.{IsLine, IsOne, IsRequest, IsSearch, deliveries_of, delivery_of, events_by_words, events_of, first_line, replicas_of, resumes};

@@ -1,5 +1,4 @@
-//! Texts in scripts: the search that a text writes.
-//! In: a text. Out: a search request. Not here: the grammar of filters, what a search finds.
+//! Reads the search that a text writes.
 
 ghost use Rattle.std.specs.Prelude.{◌≡◌, ◌≤◌, IfOk, IsErrOf, MatchOption};
 ghost use Rattle.ldap_filter.specs.Tree.{Tree};

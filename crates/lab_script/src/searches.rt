@@ -1,6 +1,4 @@
-// Lines that ask a search.
-// In: what stands behind the line's first word. Out: the event.
-// How a search is written isn't here.
+// Lines that ask a search. How a search is written isn't here.
 
 ghost use Rattle.std.specs.Prelude.{◌≡◌, IfOk, IsErrOf};
 ghost use Rattle.dir_lab.specs.dir_search.ldap_msg.Messages.{SearchRequestValue};

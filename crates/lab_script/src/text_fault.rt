@@ -1,5 +1,4 @@
-//! Texts in scripts: why a text writes nothing.
-//! In: what went wrong. Out: an error. Not here: which line a text stands on.
+//! Why a text writes nothing.
 
 ghost use Rattle.std.specs.Prelude.{◌≡◌};
 ghost use Rattle.lab_script.specs.declared.text_fault.TextError.TheVariants.{NoMemory};

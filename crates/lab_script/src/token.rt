@@ -1,6 +1,4 @@
-// The words of lab scripts.
-// In: the octets of a line, without its end. Out: its words, each a word of the language or a number.
-// What a line of them means isn't here.
+// The words of lab scripts. What a line of them means isn't here.
 
 ghost use Rattle.std.specs.Prelude.{◌≡◌, ◌==◌, bytes_eq, map, IfOk};
 ghost use Rattle.lab_script.specs.Words.{token_of, words_of};

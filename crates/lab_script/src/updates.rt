@@ -1,5 +1,4 @@
-//! Texts in scripts: the update that a text writes.
-//! In: a text. Out: the update. Not here: what an update does.
+//! Reads the update that a text writes.
 
 ghost use Rattle.std.specs.Prelude.{◌≡◌, IfOk, IsErrOf};
 ghost use Rattle.dir_lab.specs.ldap_op.Values.{OpValue};

@@ -1,4 +1,4 @@
--- What goes type by type against what goes attribute by attribute, or pair by pair. Facts on lists flow in and out; no value of the program is here.
+-- What goes type by type against what goes attribute by attribute, or pair by pair.
 use Rattle.std.proofs.Common.{ℕ, ◌+◌, ◌<◌, ◌≤◌, List, [], ◌∷◌, ◌++◌, Bool, true, false, cond, ◌≡◌, refl, ap, ap₂, sym, subst, ◌∙◌, map, filter, length, nat_eq, nat_lt, arith}
 use Rattle.dir_entry.specs.ldap_schema.Schema.{TypeModel}
 use Rattle.dir_entry.specs.ldap_match.Truth.{truth_or, disjunction}

@@ -1,4 +1,4 @@
--- Bound items and filters. Facts on trees and lists flow in and out; no value of the program is here.
+-- Bound items and filters.
 use Rattle.std.proofs.Common.{ℕ, ◌+◌, ◌<◌, List, [], ◌∷◌, ◌++◌, Bool, true, false, cond, Option, Some, Vec, Global, ◌≡◌, refl, ap, ap₂, sym, ◌∙◌, map, length, drop, suc, zero, arith, add-one, append_assoc}
 use Rattle.dir_entry.specs.ldap_schema.Schema.{TypeModel, SchemaModel, find, is_under}
 use Rattle.dir_entry.specs.ldap_match.Truth.{disjunction}

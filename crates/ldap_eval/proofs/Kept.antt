@@ -1,4 +1,4 @@
--- The rules that a type supports, against its EQUALITY rule. Facts on types flow in and out; no value of the program is here.
+-- The rules that a type supports, against its EQUALITY rule.
 use Rattle.std.proofs.Common.{ℕ, List, Bool, true, false, cond, ◌&&◌, ◌||◌, not, Option, None, Some, slice_get, ◌≡◌, refl, ap, ap₂, sym, ◌∙◌}
 use Rattle.std.specs.Option.{option_map_or}
 use Rattle.dir_entry.specs.ldap_words.Families.{is_used_on, is_textual, is_ordering}

@@ -1,5 +1,4 @@
--- The leaves of an item against the item on the attributes under its type. Facts on lists flow in and out; no value of the
--- program is here.
+-- The leaves of an item against the item on the attributes under its type.
 use Rattle.std.proofs.Common.{ℕ, ◌+◌, ◌<◌, ◌≤◌, zero, suc, List, [], ◌∷◌, Bool, true, false, cond, ◌||◌, Option, Some, Vec, Global, ◌≡◌, ◌≢◌, refl, ap, ap₂, sym, subst, ◌∙◌, map, drop, length, slice_get, nat_eq, nat_lt, arith}
 use Rattle.std.specs.List.{list_any, position_from}
 use Rattle.std.proofs.lemmas.Option.{slice_get_past}

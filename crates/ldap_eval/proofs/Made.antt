@@ -1,4 +1,4 @@
--- What binding makes of a filter, arm by arm. Facts on trees and lists flow in and out; no value of the program is here.
+-- What binding makes of a filter, arm by arm.
 use Rattle.std.proofs.Common.{ℕ, ◌+◌, ◌<◌, List, [], ◌∷◌, ◌++◌, Bool, true, false, Option, Some, None, Vec, Box, Global, ◌≡◌, refl, ap, sym, subst, ◌∙◌, length, take, get_or}
 use Rattle.std.proofs.lemmas.List.{take_more}
 use Rattle.ldap_filter.specs.Item.{ExtensibleValue}

@@ -1,4 +1,4 @@
--- Tests made of items that name a rule, against the items. Facts on lists flow in and out; no value of the program is here.
+-- Tests made of items that name a rule, against the items.
 use Rattle.std.proofs.Common.{ℕ, List, [], ◌∷◌, Bool, true, false, cond, ◌||◌, Option, None, Some, is_some, ◌≡◌, refl, ap, ap₂, sym, subst, ◌∙◌, map}
 use Rattle.std.specs.List.{list_any}
 use Rattle.std.specs.Option.{option_map_or}

@@ -1,5 +1,4 @@
--- Extensible items: matches type by type against the item on attributes and on pairs of a name. Facts on lists flow in and out; no value of the
--- program is here.
+-- Extensible items: matches type by type against the item on attributes and on pairs of a name.
 use Rattle.std.proofs.Common.{ℕ, ◌+◌, ◌<◌, ◌≤◌, suc, zero, List, [], ◌∷◌, ◌++◌, Bool, true, false, cond, not, ◌&&◌, ◌||◌, Option, None, Some, is_some, Vec, Global, ◌≡◌, refl, ap, ap₂, sym, ◌∙◌, map, filter, length, drop, slice_get, arith, add-one, append_assoc, option_map}
 use Rattle.std.proofs.lemmas.Option.{slice_get_past}
 use Rattle.std.specs.List.{list_any}

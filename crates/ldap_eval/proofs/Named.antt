@@ -1,4 +1,4 @@
--- The pairs of a name, relative name by relative name. Facts on lists flow in and out; no value of the program is here.
+-- The pairs of a name, relative name by relative name.
 use Rattle.std.proofs.Common.{ℕ, ◌<◌, zero, suc, List, [], ◌∷◌, ◌++◌, append_assoc, Some, ◌≡◌, refl, ap, sym, ◌∙◌, map, length, drop, slice_get, arith}
 use Rattle.dir_entry.specs.ldap_dn.Names.{RdnModel}
 use Rattle.dir_entry.specs.ldap_dn.Pairs.{PairModel, pairs_in, pairs_of}

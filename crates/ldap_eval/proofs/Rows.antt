@@ -1,4 +1,4 @@
--- Rows of filters, bound one by one. Facts on trees and lists flow in and out; no value of the program is here.
+-- Rows of filters, bound one by one.
 use Rattle.std.proofs.Common.{ℕ, ◌+◌, ◌<◌, List, [], ◌∷◌, ◌++◌, Vec, Global, ◌≡◌, refl, ap, ap₂, sym, subst, ◌∙◌, map, length, take, get_or, String, string_bytes}
 use Rattle.std.proofs.lemmas.List.{take_more}
 use Rattle.ldap_filter.specs.Item as filter_item

@@ -1,4 +1,4 @@
--- The algebra of three-valued `or` that the leaves need. Truths flow in and out; entries are not here.
+-- The algebra of three-valued `or` that the leaves need.
 use Rattle.std.proofs.Common.{◌≡◌, refl, ap, sym, ◌∙◌}
 use Rattle.dir_entry.specs.ldap_match.Truth.{truth_or}
 use Rattle.dir_entry.specs.ldap_match.declared.truth.Truth.{Truth}

@@ -1,5 +1,5 @@
--- What a bound filter is made of. A schema and a filter's tree flow in, a statement flows out. Only the plans that are made of bound filters,
--- and those who count what they leave open, look at it.
+-- What a bound filter is made of. Only the plans that are made of bound filters, and those who count what they leave
+-- open, look at it.
 use Rattle.std.specs.Prelude.{◌≡◌, ℕ, List, [], ◌∷◌, Bool, true, false, not, cond, ◌&&◌, Option, None, Some, is_some, Vec, Box}
 use Rattle.std.specs.Global.{Global}
 use Rattle.dir_entry.specs.ldap_schema.Schema.{SchemaModel, find}

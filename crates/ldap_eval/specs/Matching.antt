@@ -1,5 +1,4 @@
--- An item that names a rule, on one attribute and on one pair of a name: RFC 4511 4.5.1.7.7. A rule, a type, an assertion and values flow in, a truth
--- flows out; which attributes an item looks at is not here.
+-- An item that names a rule, on one attribute and on one pair of a name: RFC 4511 4.5.1.7.7.
 use Rattle.std.specs.Prelude.{ℕ, List, Bool, true, false, not, cond, ◌&&◌, ◌||◌, Option, None, Some, option_map, slice_get}
 use Rattle.std.specs.Option.{option_or, option_map_or}
 use Rattle.dir_entry.specs.ldap_words.Families.{is_ordering, is_textual, is_used_on}

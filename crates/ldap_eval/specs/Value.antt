@@ -1,5 +1,4 @@
--- The three-valued value of a filter on an entry: RFC 4511 4.5.1.7. A schema, a filter's tree, an entry's name and its
--- attributes flow in, a truth flows out; indexes and memory are not here.
+-- The three-valued value of a filter on an entry: RFC 4511 4.5.1.7.
 use Rattle.std.specs.Prelude.{ℕ, List, Bool, false, cond, Option, None, Some, is_some, option_map, filter, map}
 use Rattle.std.specs.Option.{option_map_or}
 use Rattle.std.specs.List.{list_any}

@@ -1,5 +1,4 @@
-// What an item asks. Plain data.
-// What must not be here: descriptions, entries.
+// The question that an item asks. Plain data.
 
 use crate::naming_rules::How;
 use dir_entry::TypeId;

@@ -1,5 +1,4 @@
-// Binding a filter to a schema. A schema and a filter flow in; a bound filter, with the keys of its assertions made once,
-// flows out. What must not be here: entries.
+// Binds a filter to a schema: makes the keys of its assertions once.
 
 ghost use Rattle.std.specs.Prelude.{◌≡◌, ◌<◌, ◌++◌, ℕ, true, false, IfOk, OnOk, List, length, None, Some, string_bytes};
 ghost use Rattle.ldap_filter.specs.View.{view};

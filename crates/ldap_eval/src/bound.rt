@@ -1,5 +1,4 @@
-// Bound filters. Plain data, for evaluation and for plans.
-// What must not be here: how a filter is bound, and what it says of an entry.
+// Bound filters, for evaluation and for plans. Plain data.
 
 use crate::matching::MatchTest;
 use dir_entry::{Test, TypeId};

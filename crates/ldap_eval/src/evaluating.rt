@@ -1,5 +1,4 @@
-// The value of a bound filter. A bound filter, an entry and its name flow in, a truth flows out; no memory is taken.
-// What must not be here: schemas, descriptions, syntaxes.
+// Evaluates a bound filter on an entry. It takes no memory.
 
 ghost use Rattle.std.specs.Prelude.{◌≡◌, ◌<◌, length, map, Some, slice_get};
 ghost use Rattle.dir_entry.specs.ldap_schema.Schema.{SchemaModel};

@@ -1,5 +1,4 @@
-// Items that name a rule, made into tests, and tests on the keys and texts of values. A schema, a rule and an assertion flow in once; then tests and
-// values flow in, truths flow out, and no memory is taken. What must not be here: entries, filters, which attributes an item looks at.
+// Makes items that name a rule into tests, and runs these on the keys and texts of values.
 
 ghost use Rattle.std.specs.Prelude.{◌≡◌, ℕ, List, IfOk, map};
 ghost use Rattle.std.specs.List.{list_any};

@@ -1,5 +1,5 @@
-// The pairs of a name, as evaluation asks for them: relative name by relative name, the last one first, as the names above it are kept.
-// Filters, and how names are kept, are not here.
+// The pairs of a name, as evaluation asks for them: relative name by relative name, the last one first, as the names
+// above it are kept.
 
 ghost use Rattle.std.specs.Prelude.{◌≡◌, ◌++◌, ℕ, List, [], ◌∷◌, IfSome, length, slice_get};
 ghost use Rattle.std.specs.Option.{option_map};

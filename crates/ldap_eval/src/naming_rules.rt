@@ -1,5 +1,4 @@
-// The rules that items name. A word flows in, a rule flows out; a schema, a type and a rule flow in, the rule on the type's values flows out.
-// What must not be here: values, keys, entries.
+// Looks up the matching rules that items name.
 
 ghost use Rattle.std.specs.Prelude.{◌≡◌, ◌&&◌};
 ghost use Rattle.dir_entry.specs.ldap_words.Families.{is_textual, is_used_on as is_family_used_on};

@@ -1,5 +1,4 @@
--- Wire, streams: what a framer holds, and what a piece makes of it.
--- In: a stream that comes in pieces. Out: messages that wait, and what is left. Not here: memory.
+-- What a framer holds, and what a piece makes of it.
 use Rattle.std.specs.Prelude.{◌≡◌, ℕ, List, ◌++◌, Option, Some, None}
 use Rattle.ldap_msg.specs.ldap_fields.declared.fault.MsgFault.{MsgFault}
 use Rattle.ldap_msg.specs.Messages.{MessageValue}

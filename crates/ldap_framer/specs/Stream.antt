@@ -1,5 +1,4 @@
--- Wire, streams: the messages of a stream, and how it ends.
--- In: the octets of a stream so far. Out: its messages in their order, and what stands behind them. Not here: pieces, memory.
+-- The messages of a stream, and how it ends.
 use Rattle.std.specs.Prelude.{◌≡◌, ◌⊎◌, ℕ, ◌+◌, ◌<◌, ◌≤◌, List, [], ◌∷◌, ◌++◌, length}
 use Rattle.ldap_msg.specs.ldap_ber.Element.{IsElement}
 use Rattle.ldap_msg.specs.ldap_ber.Header.{IsHeader, IsHeaderFront}

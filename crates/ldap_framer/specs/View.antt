@@ -1,5 +1,4 @@
--- Wire, streams: the value that a framer stands for.
--- In: a framer. Out: what it holds. Not here: memory.
+-- The value that a framer stands for.
 use Rattle.std.specs.Prelude.{ℕ, ◌+◌, map, length}
 use Rattle.ldap_msg.specs.View.{view}
 use Rattle.ldap_framer.specs.Framed.{Framed}

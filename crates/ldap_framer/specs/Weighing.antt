@@ -1,4 +1,4 @@
--- What messages take in memory that are about to become whole. Octets come in; what is begun comes out. Memory is not here.
+-- What messages take in memory that are about to become whole. Octets come in; what is begun comes out.
 use Rattle.std.specs.Prelude.{◌≡◌, ℕ, ◌+◌, ◌<◌, List, ◌++◌, length}
 use Rattle.ldap_msg.specs.ldap_ber.Header.{IsHeader}
 

@@ -1,6 +1,4 @@
-//! Wire, streams: the whole messages at the front of octets.
-//! In: octets. Out: their messages, how many octets these take, and the fault where they stop.
-//! Not here: what came before, what comes next.
+//! Cuts the whole messages at the front of octets.
 
 ghost use Rattle.std.specs.Prelude.{◌≡◌, ◌≤◌, ℕ, List, length, map, take, drop, IfOk, IfErr};
 ghost use Rattle.ldap_msg.specs.View.{view};

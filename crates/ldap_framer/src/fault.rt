@@ -1,5 +1,4 @@
-//! Wire, streams: why a stream goes no further.
-//! In: nothing. Out: the faults. Not here: what a session says then.
+//! Why a stream goes no further.
 
 ghost use Rattle.std.specs.Prelude.{◌≡◌};
 ghost use Rattle.ldap_framer.specs.declared.fault.FrameFault.TheVariants.{NoMemory};

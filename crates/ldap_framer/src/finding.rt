@@ -1,5 +1,4 @@
-//! Wire, streams: what stands where a message is to begin.
-//! In: nothing. Out: the types. Not here: octets.
+//! What stands where a message is to begin. Types alone.
 
 use ldap_msg::{Message, MsgFault};
 use std::collections::VecDeque;

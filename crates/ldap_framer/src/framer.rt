@@ -1,6 +1,4 @@
-//! Wire, streams: a framer, which takes a stream in pieces.
-//! In: pieces of a stream. Out: its messages, one after the other, or the fault where it stops.
-//! Not here: sockets, what a message asks for.
+//! A framer: takes a stream in pieces and gives its messages.
 
 ghost use Rattle.std.specs.Prelude.{◌≡◌, ◌⊎◌, ◌+◌, ◌≤◌, min, length, ℕ, List, [], ◌∷◌, ◌++◌, OnOk, IfErr, IfSome, IfNone, None, is_some, slice_get};
 ghost use Rattle.std.specs.Option.{option_map};

@@ -1,5 +1,4 @@
-//! Wire, streams: laws of a stream.
-//! In: nothing. Out: what holds of all streams. Not here: code that runs.
+//! Laws of a stream, however it is cut.
 
 ghost use Rattle.std.specs.Prelude.{◌≡◌, ◌++◌, ℕ, List};
 ghost use Rattle.ldap_msg.specs.Messages.{MessageValue};

@@ -1,4 +1,4 @@
--- How many updates a session asks for. Facts on definitions flow in and out; no value of the program is here.
+-- How many updates a session asks for.
 use Rattle.std.proofs.Common.{◌≡◌, ◌≤◌, ℕ, ◌+◌, suc, arith, length, List, [], ◌∷◌, ◌++◌, ap, ◌∙◌}
 use Rattle.session_handler.specs.ldap_msg.Messages.{MessageValue}
 use Rattle.session_handler.specs.directory_api.Talk.{Exchange}

@@ -1,4 +1,4 @@
--- Sessions that go on message by message. Facts on definitions flow in and out; no value of the program is here.
+-- Sessions that go on message by message.
 use Rattle.std.proofs.Common.{◌≡◌, ◌≤◌, ℕ, arith, length, List, [], ◌∷◌, ◌++◌, Option, refl, ap, sym, subst, ◌∙◌, append_assoc, append-nil}
 use Rattle.session_handler.specs.ldap_msg.Messages.{MessageValue}
 use Rattle.ldap_framer.specs.Stream.{Reads}

@@ -1,4 +1,4 @@
--- Octets that are written bit by bit. Facts on octets flow in and out; no value of the program is here.
+-- Octets that are written bit by bit.
 use Rattle.std.proofs.Common.{◌≡◌, ℕ, List, [], ◌∷◌, ◌++◌, Bool, true, false, Option, refl, ap, sym, subst, ◌∙◌, map, append_assoc, append-nil}
 use Rattle.std.proofs.KnownBytes.{Appends-nil, Appends-trans}
 use Rattle.std.specs.Io.KnownBytes.{Appends}

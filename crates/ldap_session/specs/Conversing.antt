@@ -1,5 +1,5 @@
--- Conversations: the octets that were heard and given out, and the directories before and after each message, come in; whose conversation
--- they are comes out. Threads and sockets are not here.
+-- Conversations: the octets that were heard and given out, and the directories before and after each message, come in;
+-- whose conversation they are comes out.
 use Rattle.std.specs.Prelude.{◌≡◌, ◌⊎◌, ℕ, take, drop, List, [], ◌∷◌, ◌++◌, None, Some}
 use Rattle.session_handler.specs.ldap_msg.Messages.{MessageValue}
 use Rattle.ldap_framer.specs.Stream.{Ending, Reads}

@@ -1,4 +1,4 @@
--- How many updates a session asks for. Messages and talks flow in; a bound flows out. What is answered is not here.
+-- How many updates a session asks for.
 use Rattle.std.specs.Prelude.{◌≤◌, length, List}
 use Rattle.session_handler.specs.ldap_msg.Messages.{MessageValue}
 use Rattle.session_handler.specs.directory_api.Talk.{Exchange}

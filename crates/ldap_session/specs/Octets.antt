@@ -1,5 +1,4 @@
--- Octets that are written. Lists of octets and a writer's contents flow in; how far they were taken flows out. Messages are here only as
--- their octets.
+-- Octets that are written. Messages are here only as their octets.
 use Rattle.std.specs.Prelude.{◌≡◌, ℕ, List, [], ◌∷◌, ◌++◌, Bool, true, Option}
 use Rattle.std.specs.Io.KnownBytes.{Appends}
 use Rattle.session_handler.specs.ldap_msg.Messages.{MessageValue}

@@ -1,4 +1,4 @@
--- How a session goes on. A session and a directory before and after flow in, with what was answered.
+-- How a session goes on.
 use Rattle.std.specs.Prelude.{◌≡◌, ◌⊎◌, ℕ, List, [], ◌∷◌, map, Option, None, Some, Result, Ok, Err}
 use Rattle.session_handler.specs.ldap_msg.Messages.{MessageValue}
 use Rattle.session_handler.specs.ldap_msg.Written.{message_bytes}

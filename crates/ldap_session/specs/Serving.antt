@@ -1,5 +1,4 @@
--- A whole session, octets to octets: RFC 4511 3.1 and 5. The octets that were read and written, the directory before and after and the end
--- flow in.
+-- A whole session, octets to octets: RFC 4511 3.1 and 5.
 use Rattle.std.specs.Prelude.{◌≡◌, ◌⊎◌, ◌≤◌, ℕ, length, List, [], ◌∷◌, ◌++◌, Option, None}
 use Rattle.std.specs.Io.KnownBytes.{Appends, Consumes, IsAtEnd}
 use Rattle.session_handler.specs.ldap_msg.Messages.{MessageValue}

@@ -1,5 +1,5 @@
--- Sessions whose messages are served by directories in turn. What is asked for each message, and the directories before and after it, come
--- in; whose session that is comes out. Octets are not here.
+-- Sessions whose messages are served by directories in turn. What is asked for each message, and the directories before
+-- and after it, come in; whose session that is comes out.
 use Rattle.std.specs.Prelude.{List, [], ◌∷◌, ◌++◌}
 use Rattle.session_handler.specs.ldap_msg.Messages.{MessageValue}
 use Rattle.session_handler.specs.directory_api.Talk.{Exchange, Along}

@@ -1,5 +1,4 @@
--- Which messages may have to wait for others. The messages that are to be answered come in; what stands next comes out. How long it waits
--- is not here.
+-- Which messages may have to wait for others. The messages that are to be answered come in; what stands next comes out.
 use Rattle.std.specs.Prelude.{ℕ, List, [], ◌∷◌, Bool, true, false, Option, Some, None, cond}
 use Rattle.session_handler.specs.ldap_msg.Messages.{MessageValue, OperationValue, request, response, RequestValue, bind, unbind, search, modify, add, delete, modify_dn, compare, abandon, extended_request}
 use Rattle.session_handler.specs.ldap_fields.declared.fault.MsgFault.{MsgFault}

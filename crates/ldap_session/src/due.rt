@@ -1,4 +1,4 @@
-//! What stands next in a conversation, and what it came to. Plain enums. How a message is answered is not here.
+//! What stands next in a conversation, and what it came to. Plain enums.
 use crate::end::SessionEnd;
 
 /// What stands next in a conversation.

@@ -1,4 +1,4 @@
-// How a session ends. Nothing flows in; a plain enum flows out. What must not be here: how it comes to its end.
+// Why a session ends. A plain enum.
 
 /// How a session ended.
 #[derive(Clone, Copy, Debug, PartialEq, Eq)]

@@ -1,4 +1,4 @@
-//! Laws of what sessions ask for. Nothing flows in; what holds of all talks flows out. Code that runs is not here.
+//! Laws of what sessions ask for.
 ghost use Rattle.ldap_session.specs.Conversing.{Begins, Listens, Speaks, IsWithOne};
 ghost use Rattle.ldap_session.specs.Counting.{OneUpdateAMessage};
 ghost use Rattle.ldap_session.specs.Visits.{IsSession};

@@ -1,5 +1,4 @@
-//! Sessions served. A reader, a writer and a directory flow in; octets flow through, and how it ended flows out. What a message asks for is
-//! not here.
+//! Serves a session from a reader's octets to a writer's.
 ghost use Rattle.std.specs.Prelude.{◌≡◌, ◌<◌, [], length};
 ghost use Rattle.std.specs.Bool.{OnTrue};
 ghost use Rattle.session_handler.specs.View.{config_view};

@@ -1,5 +1,4 @@
-//! A session. Pieces of its stream flow in; the octets of the responses to each message flow out. What a message asks of the directory is
-//! below; readers and writers are above.
+//! A session. What a message asks of the directory is below; readers and writers are above.
 ghost use Rattle.std.specs.Prelude.{◌≡◌, ◌≤◌, ◌↔◌, ◌++◌, [], ℕ, List, None, OnOk, OnErr, IsFalse, length, min};
 ghost use Rattle.std.specs.Option.{option_map};
 ghost use Rattle.session_handler.specs.ldap_msg.Messages.{MessageValue};

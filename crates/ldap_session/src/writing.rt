@@ -1,4 +1,4 @@
-// Octets written. Octets and a writer flow in; whether they were all taken flows out. What must not be here: messages.
+// Writes octets to a writer, and says whether it took them all.
 ghost use Rattle.std.specs.Prelude.{◌≡◌, [], IfSome, IfNone};
 ghost use Rattle.std.specs.Io.KnownBytes.{Appends};
 ghost use Rattle.ldap_session.specs.Octets.{is_empty, HasWritten};

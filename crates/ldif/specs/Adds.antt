@@ -1,5 +1,4 @@
--- LDIF and messages: the adds that records ask for.
--- In: records. Out: their adds, and the messages that carry them. Not here: octets of messages, texts of records.
+-- The adds that records ask for.
 use Rattle.std.specs.Prelude.{ℕ, ◌+◌, List, [], ◌∷◌, ◌++◌, map, filter, Bool, cond}
 use Rattle.std.specs.List.{list_any}
 use Rattle.ldif.specs.Descriptions.{is_same_word}

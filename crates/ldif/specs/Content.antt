@@ -1,5 +1,4 @@
--- LDIF: the grammar of a text's lines.
--- In: what the lines of a text say. Out: the records that they are. Not here: how they are found.
+-- The grammar of a text's lines.
 use Rattle.std.specs.Prelude.{◌≡◌, ◌↔◌, ℕ, List, [], ◌∷◌, map, true}
 use Rattle.std.specs.declared.result.Result.TheVariants.{Ok}
 use Rattle.ldif.specs.Records.{ValueModel, RecordModel}

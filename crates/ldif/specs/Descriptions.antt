@@ -1,5 +1,4 @@
--- LDIF: attribute descriptions (RFC 4512).
--- In: octets. Out: whether they are a description, or a word in any case. Not here: values, lines.
+-- Attribute descriptions (RFC 4512).
 use Rattle.std.specs.Prelude.{ℕ, List, Bool, not, ◌&&◌, ◌||◌, codes}
 pub use Rattle.ldap_words.specs.Words.{is_same_word, is_description}
 

@@ -1,5 +1,4 @@
--- LDIF and messages: the records that are written of entries.
--- In: entries that a search shows. Out: their records. Not here: octets of messages, texts of records.
+-- The records that are written of entries.
 use Rattle.std.specs.Prelude.{ℕ, List, [], ◌∷◌, ◌++◌, map}
 use Rattle.ldif.specs.Records.{ValueModel, RecordModel}
 use Rattle.ldap_msg.specs.Messages.{PartialAttributeValue, SearchResultEntryValue}

@@ -1,5 +1,4 @@
--- LDIF and messages: exports, from lines of hex of a search's responses to a text of LDIF.
--- In: a text. Out: what is written of it, or why nothing is. Not here: how messages and LDIF are spelled.
+-- Exports, from lines of hex of a search's responses to a text of LDIF.
 use Rattle.std.specs.Prelude.{◌≡◌, ◌≤◌, ℕ, List, [], ◌∷◌, length, Bool, cond, nat_eq, Option, None, Some, Ok, Err}
 use Rattle.std.specs.List.{list_all}
 use Rattle.ldif.specs.Descriptions.{is_type}

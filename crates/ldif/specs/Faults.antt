@@ -1,5 +1,4 @@
--- LDIF: what a refusal says.
--- In: a refusal, and a line or a text. Out: what is so where it comes. Not here: what lines say.
+-- What a refusal says.
 use Rattle.std.specs.Prelude.{◌≡◌, ℕ, List}
 use Rattle.std.specs.declared.result.Result.{Result}
 use Rattle.std.specs.declared.result.Result.TheVariants.{Err}

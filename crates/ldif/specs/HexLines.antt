@@ -1,5 +1,4 @@
--- LDIF and messages: lines of hex.
--- In: octets of messages, or a text. Out: the lines of messages, or the octets that lines spell. Not here: what messages mean.
+-- Lines of hex.
 use Rattle.std.specs.Prelude.{ℕ, ◌+◌, List, [], ◌∷◌, ◌++◌, length, nat_eq, cond, Option, None, Some, Result, Ok, Err}
 use Rattle.std.specs.Result.{result_ok}
 use Rattle.hex.specs.Hex.{decode_of}

@@ -1,5 +1,4 @@
--- LDIF and messages: imports, from a text of LDIF to lines of hex.
--- In: a text. Out: what is written of it, or why nothing is. Not here: which add a record asks for, how LDIF is read.
+-- Imports, from a text of LDIF to lines of hex.
 use Rattle.std.specs.Prelude.{◌≡◌, ◌≤◌, ◌<◌, ◌^◌, ℕ, List, length, Ok, Err}
 use Rattle.ldif.specs.Records.{RecordModel}
 use Rattle.ldif.specs.Reading.{records_of}

@@ -1,5 +1,4 @@
--- LDIF: the lines of a text, unfolded, with their numbers.
--- In: octets. Out: lines. Not here: what a line says.
+-- The lines of a text, unfolded, with their numbers.
 use Rattle.std.specs.Prelude.{ℕ, ◌+◌, ◌-◌, List, [], ◌∷◌, ◌++◌, length, map, take, drop, Bool, false, cond, nat_eq, slice_index}
 use Rattle.std.specs.List.{slice_split}
 

@@ -1,5 +1,4 @@
--- LDIF: records from what the lines of a text say.
--- In: octets. Out: records, or the number of the first line that is wrong. Not here: how a line is taken apart.
+-- Records from what the lines of a text say.
 use Rattle.std.specs.Prelude.{ℕ, List, [], ◌∷◌, ◌++◌, Bool, true, false, cond, ◌&&◌, Option, None, Some, nat_eq, codes}
 use Rattle.std.specs.declared.result.Result.{Result}
 use Rattle.std.specs.declared.result.Result.TheVariants.{Ok, Err}

@@ -1,5 +1,4 @@
--- LDIF: records of entries, as contracts see them.
--- In: nothing. Out: what a record and a value are. Not here: their text.
+-- Records of entries, as contracts see them.
 use Rattle.std.specs.Prelude.{ℕ, List}
 
 -- a value: its attribute description and its octets (RFC 2849, attrval-spec)

@@ -1,5 +1,4 @@
--- LDIF: what is written is read back.
--- In: nothing. Out: the law, and of which records it speaks. Not here: its proof.
+-- What is written is read back.
 use Rattle.std.specs.Prelude.{◌≡◌, List, Bool, true, ◌&&◌}
 use Rattle.std.specs.declared.result.Result.TheVariants.{Ok}
 use Rattle.std.specs.List.{list_all}

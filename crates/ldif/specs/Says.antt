@@ -1,5 +1,4 @@
--- LDIF: what one line says.
--- In: a line's octets, unfolded. Out: a name, a value, nothing, or that it is wrong. Not here: records.
+-- What one line says.
 use Rattle.std.specs.Prelude.{ℕ, ◌+◌, List, [], ◌∷◌, take, drop, position, Bool, false, cond, Option, None, Some, nat_eq}
 use Rattle.std.specs.Result.{result_ok}
 use Rattle.std.specs.Str.{is_utf8}

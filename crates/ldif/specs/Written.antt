@@ -1,5 +1,4 @@
--- LDIF: the one written form.
--- In: records. Out: the text that is written of them. Not here: how texts are read.
+-- The one written form.
 use Rattle.std.specs.Prelude.{ℕ, ◌-◌, List, [], ◌∷◌, ◌++◌, length, map, Bool, true, not, cond, ◌&&◌, ◌||◌, nat_eq, nat_le, slice_index, codes}
 use Rattle.std.specs.List.{list_all}
 use Rattle.base64.specs.Engines.{standard}

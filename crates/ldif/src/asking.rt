@@ -1,5 +1,4 @@
-//! LDIF and messages: the lines that ask for the adds of records.
-//! In: records. Out: their adds' messages, each a line of hex. Not here: which add a record asks for, texts of LDIF.
+//! Writes the messages that ask for the adds of records.
 
 ghost use Rattle.std.specs.Prelude.{◌≡◌, ◌≤◌, ◌<◌, ◌+◌, ◌^◌, ◌++◌, ◌∷◌, [], length, IfOk, IfErr, OnOk, MatchOption};
 ghost use Rattle.ldap_msg.specs.Written.{message_bytes, message_content};

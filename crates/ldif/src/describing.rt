@@ -1,5 +1,4 @@
-//! LDIF: attribute descriptions.
-//! In: octets. Out: whether they are a description, or a word in any case. Not here: values, lines.
+//! Recognizes attribute descriptions (RFC 4512 2.5), and words in any case.
 
 ghost use Rattle.std.specs.Prelude.{◌≡◌};
 ghost use Rattle.ldif.specs.Descriptions as descriptions;

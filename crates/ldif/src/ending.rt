@@ -1,5 +1,4 @@
-//! LDIF and messages: the responses to a search, up to its end.
-//! In: what messages mean. Out: the records of the entries, or what is wrong first. Not here: octets.
+//! Reads the responses to a search, up to its end.
 
 ghost use Rattle.std.specs.Prelude.{◌≡◌, ◌++◌, ◌∷◌, [], IfOk, OnOk};
 ghost use Rattle.ldif.specs.Exports.{entries_in, wrong_at_end as wrong_with_end, first_wrong as wrong_first};

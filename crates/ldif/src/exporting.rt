@@ -1,5 +1,4 @@
-//! LDIF and messages: an export, whole.
-//! In: lines of hex. Out: a text of LDIF, or why there is none. Not here: where the lines come from.
+//! Makes LDIF of lines of hex, which are the responses to a search.
 
 ghost use Rattle.std.specs.Prelude.{◌≡◌, IfOk, IfErr};
 ghost use Rattle.ldif.specs.private.HexFaults.{IsHexFault};

@@ -1,5 +1,4 @@
-//! LDIF: why a text gives no records.
-//! In: nothing. Out: the refusal E19 with its line, and want of memory. Not here: faults of names, of entries.
+//! Why a text gives no records: E19 with its line.
 
 ghost use Rattle.std.specs.Prelude.{◌≡◌};
 ghost use Rattle.ldif.specs.declared.fault.LdifError.TheVariants.{NoMemory};

@@ -1,5 +1,4 @@
-//! LDIF and messages: lines of hex.
-//! In: octets, or a text. Out: their line, or the octets that lines spell. Not here: what messages mean.
+//! Writes octets as a line of hex, and reads such lines.
 
 ghost use Rattle.std.specs.Prelude.{◌≡◌, ◌++◌, ℕ, List, Result, map, string_bytes, IfOk, IfErr, OnOk, OnErr};
 ghost use Rattle.std.specs.Option.{option_map};

@@ -1,5 +1,4 @@
-//! LDIF and messages: an import, whole.
-//! In: a text of LDIF. Out: lines of hex, or why there are none. Not here: where the text comes from.
+//! Makes lines of hex of LDIF: an add for each record.
 
 ghost use Rattle.std.specs.Prelude.{◌≡◌, Ok, IfOk, IfErr};
 ghost use Rattle.ldif.specs.Reading.{records_of};

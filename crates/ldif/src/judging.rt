@@ -1,5 +1,4 @@
-//! LDIF and messages: what messages are among the responses to a search.
-//! In: octets of messages. Out: what each means there. Not here: what comes of them together.
+//! Judges messages as the responses to a search.
 
 ghost use Rattle.std.specs.Prelude.{◌≡◌, ◌≢◌, map, IfOk};
 ghost use Rattle.std.specs.List.{list_all};

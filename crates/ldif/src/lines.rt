@@ -1,5 +1,4 @@
-//! LDIF: the lines of a text, unfolded, with their numbers.
-//! In: octets. Out: lines. Not here: what a line says.
+//! Unfolds the lines of a text, and numbers them.
 
 ghost use Rattle.std.specs.Prelude.{◌≡◌, ◌++◌, map, drop, length, nat_eq, true, false, IfOk, OnOk, OnErr, MatchOption};
 ghost use Rattle.std.specs.List.{slice_split};

@@ -1,5 +1,4 @@
-//! LDIF and messages: what a message is among the responses to a search.
-//! In: nothing. Out: the type. Not here: which octets mean it.
+//! What a message is among the responses to a search. A type.
 
 use crate::record::Record;
 

@@ -1,5 +1,4 @@
-//! LDIF: records that a text has.
-//! In: octets. Out: records, or E19 with the first line that is wrong. Not here: how a line is taken apart.
+//! Reads the records of a text, or names the first line that is wrong (E19).
 
 ghost use Rattle.std.specs.Prelude.{◌≡◌, Ok, Some, IfOk, IfErr, OnOk, OnErr, string_bytes};
 ghost use Rattle.ldif.specs.Reading as specs;

@@ -1,5 +1,4 @@
-//! LDIF: what was read so far.
-//! In: what lines say, one after the other. Out: records. Not here: how a line is taken apart.
+//! Puts records together from what lines say, one after the other.
 
 ghost use Rattle.std.specs.Prelude.{◌≡◌, Some, IfOk, IfErr, OnOk, OnErr, string_bytes};
 ghost use Rattle.ldif.specs.Reading as specs;

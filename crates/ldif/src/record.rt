@@ -1,5 +1,4 @@
-//! LDIF: records of entries.
-//! In: names, descriptions, octets. Out: records, and their parts. Not here: their text.
+//! A record: a name, and types with values.
 
 ghost use Rattle.std.specs.Prelude.{◌≡◌, ◌++◌, ◌∷◌, [], string_bytes, OnOk, OnErr};
 

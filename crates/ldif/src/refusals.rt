@@ -1,5 +1,4 @@
-//! LDIF and messages: why a text gives nothing.
-//! In: nothing. Out: the refusals, with the texts that the program prints, and want of memory. Not here: when they come.
+//! Why a text gives nothing: the refusals, as the program prints them.
 
 ghost use Rattle.std.specs.Prelude.{◌≡◌};
 ghost use Rattle.ldif.specs.declared.refusals.ImportError.TheVariants.{NoMemory as NoMemoryToImport};

@@ -1,5 +1,4 @@
-//! LDIF: what one line says.
-//! In: a line's octets, unfolded. Out: a name, a value, nothing, or that it is wrong. Not here: records.
+//! Takes one unfolded line apart: a name, a value, nothing, or a fault.
 
 ghost use Rattle.std.specs.Prelude.{◌≡◌, ◌+◌, option_map, nat_eq, position, false, true, IfOk, MatchOption};
 ghost use Rattle.std.specs.Result.{result_ok};

@@ -1,5 +1,4 @@
-//! LDIF and messages: the records that are written of entries.
-//! In: entries that a search shows. Out: their records. Not here: octets of messages, texts of records.
+//! Makes records of the entries that a search shows.
 
 ghost use Rattle.std.specs.Prelude.{◌≡◌, ◌++◌, map, IfOk, OnOk};
 ghost use Rattle.ldap_msg.specs.View.{attribute_view, entry_view};

@@ -1,5 +1,4 @@
-//! LDIF: the one text that is written.
-//! In: records. Out: their text. Not here: when a value is base64, how texts are read.
+//! Writes records as LDIF.
 
 ghost use Rattle.std.specs.Prelude.{◌≡◌, ◌++◌, drop, length, map, IfOk, OnOk};
 ghost use Rattle.ldif.specs.Written as written;

@@ -1,5 +1,4 @@
-//! LDIF: lines of a type and a value, written.
-//! In: octets. Out: their line at the end of a buffer. Not here: records.
+//! Writes the line of a type and a value.
 
 ghost use Rattle.std.specs.Prelude.{◌≡◌, ◌++◌, drop, length, ◌∷◌, [], string_bytes, IfOk, OnOk};
 ghost use Rattle.std.specs.List.{list_all};

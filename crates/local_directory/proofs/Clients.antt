@@ -1,4 +1,4 @@
--- A map from clients, kept in their order, is a finite map. Entries of a map flow in; what the map has at each client flows out.
+-- A map from clients, kept in their order, is a finite map.
 use Rattle.std.proofs.Common.{◌≡◌, Bool, true, false, cond, List, [], ◌∷◌, Option, Some, None, is_some, refl, sym, ap, ◌∙◌, true≢false}
 use Rattle.std.specs.Option.{option_map, option_copied}
 use Rattle.std.specs.Borrow.{Bor}

@@ -1,4 +1,4 @@
--- Ends of updates, told apart. Facts on definitions flow in and out; no value of the program is here.
+-- Ends of updates, told apart.
 use Rattle.std.proofs.Common.{◌≡◌, ℕ, Bool, true, false, ap, true≢false}
 use Rattle.dir_store.specs.directory_api.Answers.{ReplyModel}
 use Rattle.dir_store.specs.directory_api.Talk.{EndedValue, done, stale, lost, refused_memory}

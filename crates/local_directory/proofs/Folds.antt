@@ -1,4 +1,4 @@
--- A directory of one server alone is the fold of what was made along a talk. Facts on definitions flow in and out; no value of the program is here.
+-- A directory of one server alone is the fold of what was made along a talk.
 use Rattle.std.proofs.Common.{◌≡◌, ℕ, suc, ◌+◌, ◌≤◌, Bool, true, false, cond, nat_eq, nat_lt, List, [], ◌∷◌, ◌++◌, map, length, Option, Some, None, is_some, refl, sym, ap, ◌∙◌, subst, arith, true≢false}
 use Rattle.std.specs.List.{slice_get}
 use Rattle.std.specs.FinMap as fin

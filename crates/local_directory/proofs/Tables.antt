@@ -1,4 +1,4 @@
--- A table of clients after changes at one client. Maps and clients flow in; what the changed map is flows out. How a map is kept is not here.
+-- A table of clients after changes at one client.
 use Rattle.std.proofs.Common.{◌≡◌, Bool, true, false, cond, Option, Some, None, is_some, refl, sym, ap, ◌∙◌, true≢false}
 use Rattle.std.specs.declared.cmp.Ordering.{Ordering}
 use Rattle.std.specs.declared.cmp.Ordering.TheVariants.{Less, Equal, Greater}

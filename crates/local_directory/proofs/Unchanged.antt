@@ -1,4 +1,4 @@
--- An update that is refused changes nothing. Facts on definitions flow in and out; no value of the program is here.
+-- An update that is refused changes nothing.
 use Rattle.std.proofs.Common.{◌≡◌, ℕ, List, Result, Ok, Err, refl}
 use Rattle.dir_store.specs.directory_api.ldap_op.Values.{OpValue}
 use Rattle.dir_store.specs.indexed_tree.Directory.{Directory, NamedEntry}

@@ -1,5 +1,4 @@
--- LDIF and the directory: records added to a directory.
--- In: a directory and records. Out: their adds, and the first that is refused. Not here: how an add is judged, texts.
+-- Records added to a directory.
 use Rattle.std.specs.Prelude.{ℕ, ◌+◌, List, [], ◌∷◌, cond, nat_eq, Option, None, Some}
 use Rattle.ldif.specs.Records.{RecordModel}
 use Rattle.ldif.specs.Adds.{add_of}

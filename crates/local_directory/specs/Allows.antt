@@ -1,6 +1,4 @@
--- What a directory of one server alone answers to each exchange, and what it is after that. A directory and an exchange
--- flow in; which answers and which directory are allowed flows out. What is asked in an exchange is below, how a
--- directory is kept is not here.
+-- What a directory of one server alone answers to each exchange, and what it is after that.
 use Rattle.std.specs.Prelude.{◌≡◌, ℕ, ◌+◌, cond, nat_lt}
 use Rattle.std.specs.FinMap as map
 use Rattle.dir_store.specs.directory_api.ldap_op.Values.{OpValue}

@@ -1,5 +1,4 @@
--- What is kept of each client's latest request, and how a further request stands to it. Numbers of requests flow in;
--- what was answered, and how a request stands to it, flows out.
+-- What is kept of each client's latest request, and how a further request stands to it.
 use Rattle.std.specs.Prelude.{ℕ, cond, nat_lt, Option, Some, None}
 use Rattle.dir_store.specs.directory_api.Answers.{ReplyModel}
 

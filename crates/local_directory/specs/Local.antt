@@ -1,4 +1,4 @@
--- The directory of one server alone, as it is seen from above. How it is kept is not here.
+-- The directory of one server alone, as it is seen from above.
 use Rattle.std.specs.Prelude.{ℕ}
 use Rattle.std.specs.FinMap as map
 use Rattle.dir_store.specs.indexed_tree.Directory.{Directory}

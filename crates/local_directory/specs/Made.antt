@@ -1,5 +1,4 @@
--- What a talk with a directory of one server alone comes to. Exchanges flow in; the updates that they made flow out,
--- and the directory after them is the fold of those. How each exchange is answered is below.
+-- What a talk with a directory of one server alone comes to. How each exchange is answered is below.
 use Rattle.std.specs.Prelude.{◌≡◌, ℕ, ◌+◌, ◌≤◌, List, [], ◌∷◌, ◌++◌, map, length, cond, nat_eq, Some}
 use Rattle.std.specs.List.{slice_get}
 use Rattle.std.specs.FinMap as fin

@@ -1,5 +1,4 @@
--- LDIF and the directory: searches of what a text adds.
--- In: a directory, a text, a search. Out: what is written, or why nothing is. Not here: what a search finds, how LDIF is spelled.
+-- Searches of what a text adds.
 use Rattle.std.specs.Prelude.{◌≡◌, ◌≢◌, ℕ, List, map, None, Some, Ok, Err}
 use Rattle.ldif.specs.Records.{RecordModel}
 use Rattle.ldif.specs.Reading.{records_of}

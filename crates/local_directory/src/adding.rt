@@ -1,5 +1,4 @@
-//! LDIF and the directory: records are added.
-//! In: a directory and records. Out: the directory with their entries, or the first that is refused. Not here: how an add is judged.
+//! Adds records to a directory, up to the first that it refuses.
 
 ghost use Rattle.std.specs.Prelude.{◌≡◌, ◌+◌, None, IfOk, IfErr, OnOk};
 ghost use Rattle.dir_store.specs.directory_api.ldap_op.Values.{add as add_op};

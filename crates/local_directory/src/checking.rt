@@ -1,4 +1,4 @@
-//! LDIF and the directory: which records of a text a directory refuses. Nothing is answered or kept.
+//! Finds which records of a text a directory refuses.
 
 ghost use Rattle.std.specs.Prelude.{◌≡◌, ◌+◌, List, ◌++◌, Ok, IfOk, IfErr, OnOk};
 ghost use Rattle.ldif.specs.Reading.{records_of as records_of_text};

@@ -1,5 +1,4 @@
-// What is kept of each client's latest request, found without a walk. What a request was answered with flows in, by
-// client, and flows out again. What must not be here: what it is kept for.
+// What is kept of each client's latest request, found without a walk.
 ghost use Rattle.std.specs.Prelude.{◌≡◌, IfOk, OnOk, OnErr, Some, is_some, true};
 ghost use Rattle.std.specs.Option.{option_map};
 ghost use Rattle.std.specs.FinMap as map;

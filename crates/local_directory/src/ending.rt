@@ -1,5 +1,4 @@
-// How a request ends that is not new. The table of clients and a request's number flow in; what it was answered with
-// flows out, or that it is stale. What must not be here: updates that are made.
+// Answers a request that is not new.
 ghost use Rattle.std.specs.Prelude.{◌≡◌, IfSome, IfNone};
 ghost use Rattle.std.specs.FinMap as map;
 ghost use Rattle.dir_store.specs.directory_api.ldap_op.Values.{OpValue};

@@ -1,5 +1,4 @@
-//! LDIF and the directory: why a search gives no text.
-//! In: nothing. Out: the refusals, with the texts that the program prints, and want of memory. Not here: when they come.
+//! Why a search gives no text: the refusals, as the program prints them.
 
 ghost use Rattle.std.specs.Prelude.{◌≡◌};
 ghost use Rattle.local_directory.specs.declared.fault.SearchError.TheVariants.{NoMemory};

@@ -1,5 +1,4 @@
-// What is kept of a client's latest request. Replies flow in and out.
-// What must not be here: which client it is, what makes an update.
+// What is kept of a client's latest request.
 ghost use Rattle.std.specs.Prelude.{◌≡◌, ◌↔◌, IsTrue};
 ghost use Rattle.dir_store.specs.directory_api.Answers.{only as only_code};
 ghost use Rattle.dir_store.specs.directory_api.View.{reply_view};

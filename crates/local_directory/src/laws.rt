@@ -1,4 +1,4 @@
-// Laws on the definitions. Nothing flows in; proofs flow out. What must not be here: code.
+// Laws on the definitions of a local directory.
 ghost use Rattle.local_directory.specs.Made.{DirectoryIsFold, MadeOnce};
 
 /// After any talk the directory is the fold of the updates that the talk made, and their replies are those of their

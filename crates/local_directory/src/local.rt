@@ -1,5 +1,4 @@
-// One store in memory, with no replicas. What sessions ask flows in; what they are answered flows out, and the
-// directory after each update stays. What must not be here: messages, what a search finds, what an update changes.
+// A directory of one server alone: one store in memory, with no replicas.
 ghost use Rattle.std.specs.Prelude.{◌≡◌, ◌+◌};
 ghost use Rattle.std.specs.FinMap as map;
 ghost use Rattle.dir_store.specs.indexed_tree.Stored.{NumbersBelow};

@@ -1,5 +1,4 @@
-// An update that is made next. A directory, a table of clients and an update flow in; the reply flows out, and the
-// directory after the update and the table that keeps the reply stay. What must not be here: which requests are new.
+// Makes the next update, and keeps its reply for the client that asked.
 ghost use Rattle.std.specs.Prelude.{◌≡◌, ◌+◌, Some, IfOk, OnOk, OnErr};
 ghost use Rattle.std.specs.FinMap as map;
 ghost use Rattle.dir_store.specs.directory_api.Answers.{only as only_code};

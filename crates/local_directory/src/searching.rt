@@ -1,5 +1,4 @@
-//! LDIF and the directory: a search, whole.
-//! In: a directory, a text of LDIF, a search request. Out: a text of LDIF, or why there is none. Not here: where the text comes from.
+//! Searches a text of LDIF: makes a directory of it, asks it, and writes what it finds as LDIF.
 
 ghost use Rattle.std.specs.Prelude.{◌≡◌, Ok, IfOk, IfErr, OnOk, length, map};
 ghost use Rattle.ldif.specs.Reading.{records_of as records_of_text};

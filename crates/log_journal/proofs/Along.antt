@@ -1,4 +1,4 @@
--- A journal goes along with its replica. In: what is told, a batch that is taken. Out: what is told after the batch, and after a crash in it.
+-- A journal goes along with its replica.
 use Rattle.std.proofs.Common.{◌≡◌, ◌++◌, inl, inr, ⊎_elim, ℕ, List, [], ◌∷◌, take, Result, refl, sym, ap, ◌∙◌, subst, arith}
 use Rattle.std.specs.declared.alloc.AllocError.{AllocError}
 use Rattle.journal.specs.Device.{Elapses, LeavesOnly, Only}

@@ -1,4 +1,4 @@
--- One string more in a batch. In: octets that are the frames of their strings. Out: the same with a frame more, and what they are read as.
+-- One string more in a batch.
 use Rattle.std.proofs.Common.{◌≡◌, ◌<◌, ◌+◌, ◌^◌, ℕ, List, [], ◌∷◌, ◌++◌, length, refl, sym, ap, ◌∙◌, subst, arith, append_assoc, length-append}
 use Rattle.std.proofs.lemmas.List.{append-nil}
 use Rattle.journal.specs.Frames.{frame, frames, recorded, FramesAreRead}

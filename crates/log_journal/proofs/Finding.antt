@@ -1,5 +1,4 @@
--- What a journal tells as its strings are read. In: what the strings behind a place tell goes on from what those before it told. Out: what all of them tell.
--- Nothing of devices is here.
+-- What a journal tells as its strings are read.
 use Rattle.std.proofs.Common.{◌≡◌, ◌≢◌, ◌⊎◌, inl, inr, ⊎_elim, ◌<◌, ℕ, zero, suc, List, [], ◌∷◌, ◌++◌, length, map, take, drop, get_or, refl, sym, ap, ◌∙◌, subst, arith}
 use Rattle.journal.specs.Frames.{recorded}
 use Rattle.journal.specs.Reading.{ReadsNext, ReadsNone, string_read}

@@ -1,4 +1,4 @@
--- Octets that are put one behind the other. In: what stands after each. Out: what stands there in all.
+-- Octets that are put one behind the other.
 use Rattle.std.proofs.Common.{◌≡◌, ℕ, List, [], ◌∷◌, ◌++◌, ap, ap₂, ◌∙◌, append_assoc}
 use Rattle.log_journal.specs.Fields.{numeral, sum_of}
 

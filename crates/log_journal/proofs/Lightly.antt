@@ -1,4 +1,4 @@
--- What a step notes at an event that can't have the replica adopt a log. In: the rules of each event. Out: one string at most.
+-- What a step notes at an event that can't have the replica adopt a log.
 use Rattle.std.proofs.Common.{◌≡◌, ◌≤◌, ℕ, ◌+◌, ◌/◌, ◌<◌, ◌==◌, nat_lt, nat_le, Bool, true, false, cond, not, ◌&&◌, ◌||◌, ◌⊎◌, inl, inr, List, [], ◌∷◌, ◌++◌, length, drop, get_or, Option, Some, None, arith, refl, sym, ap, ◌∙◌, subst, ltb-true, true≢false}
 use Rattle.std.specs.List.{list_any}
 use Rattle.ldap_op.specs.Values.{OpValue}

@@ -1,4 +1,4 @@
--- Fields that are of no record, and so of no note. In: their kind, and that they are of no record. Out: that they are of no note.
+-- Fields that are of no record, and so of no note.
 use Rattle.std.proofs.Common.{◌≡◌, ◌<◌, ◌^◌, arith}
 use Rattle.ldap_op.specs.Values.{OpValue}
 use Rattle.vr_state.specs.Words.{LogEntry}

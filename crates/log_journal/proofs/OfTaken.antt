@@ -1,4 +1,4 @@
--- Batches that are taken are told. In: how each event was taken. Out: that law, from the law on batches.
+-- Batches that are taken are told.
 use Rattle.std.proofs.Common.{◌≡◌, inl, inr, ℕ, List, [], ◌∷◌, ◌++◌, map, take, Option, Some, None, IfSome, MatchOption, Result, Ok, Err, refl, sym, ap, ◌∙◌, subst, append_assoc}
 use Rattle.std.proofs.lemmas.List.{append-nil, map-append}
 use Rattle.std.specs.declared.alloc.AllocError.{AllocError}

@@ -1,4 +1,4 @@
--- Strings tell one thing: each spells one note at most. In: that octets spell one update. Out: that law.
+-- Strings tell one thing: each spells one note at most.
 use Rattle.std.proofs.Common.{◌≡◌, ℕ, zero, suc, ◌≤◌, Bool, true, false, List, [], ◌∷◌, Some, refl, sym, ap, ◌∙◌, subst, arith}
 use Rattle.ldap_op.specs.Grammar.{IsOp}
 use Rattle.ldap_op.specs.Values.{OpValue}

@@ -1,4 +1,4 @@
--- Updates whose octets differ. In: their spellings. Out: that they are apart.
+-- Updates whose octets differ.
 use Rattle.std.proofs.Common.{◌≡◌, inl, ℕ, Bool, true, false, List, sym, ap, ◌∙◌}
 use Rattle.std.proofs.lemmas.Bool.{OnFalse_from}
 use Rattle.std.proofs.lemmas.Slice.Eq.{bytes_eq-Decides}

@@ -1,4 +1,4 @@
--- Fields of five numbers. In: what each is. Out: the fields.
+-- Fields of five numbers.
 use Rattle.std.proofs.Common.{◌≡◌, ℕ, [], ◌∙◌}
 use Rattle.log_journal.specs.Fields.{Fields}
 use Rattle.log_journal.specs.Notes.{plain}

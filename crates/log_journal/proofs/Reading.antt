@@ -1,4 +1,4 @@
--- The string of fields is read as these fields. In: fields in range. Out: that law. Nothing of what a note means is here.
+-- The string of fields is read as these fields.
 use Rattle.std.proofs.Common.{◌≡◌, ◌+◌, ◌-◌, ℕ, Bool, true, cond, ◌&&◌, List, length, drop, Some, None, refl, ap, ap₂, ◌∙◌, arith, le-leb, length-append}
 use Rattle.std.specs.Int.{w64, to_be_bytes, from_be_bytes}
 use Rattle.std.specs.Str.{bytes_eq}

@@ -1,5 +1,4 @@
--- A replica that took some of its events. In: how events are taken or left out. Out: that the replica made the steps of some first of them.
--- Nothing of notes is here.
+-- A replica that took some of its events.
 use Rattle.std.proofs.Common.{◌≡◌, ◌⊎◌, inl, inr, ℕ, List, [], ◌∷◌, Result, Ok, Err, refl, sym, ap, subst}
 use Rattle.std.specs.Prelude.{OnErr}
 use Rattle.std.specs.declared.alloc.AllocError.{AllocError}

@@ -1,5 +1,4 @@
--- What strings tell. In: strings that spell notes. Out: the laws on them; each strings' notes are the only ones.
--- Which notes a step makes isn't looked into here.
+-- What strings tell. Which notes a step makes isn't looked into here.
 use Rattle.std.proofs.Common.{◌≡◌, ℕ, zero, suc, ◌+◌, ◌<◌, length, get_or, List, [], ◌∷◌, ◌++◌, map, take, refl, sym, ap, ◌∙◌, subst}
 use Rattle.std.proofs.lemmas.List.{take-map, map_more}
 use Rattle.ldap_op.specs.Values.{OpValue}

@@ -1,5 +1,5 @@
--- Laws on a journal's strings: they tell one thing, and a batch of events is told after some first of its strings as it is after some first of its
--- events. In: definitions alone.
+-- Laws on a journal's strings: they tell one thing, and a batch of events is told after some first of its strings as it
+-- is after some first of its events.
 use Rattle.std.specs.Prelude.{◌≡◌, ℕ, List, [], ◌++◌, map, take}
 use Rattle.ldap_op.specs.Values.{OpValue}
 use Rattle.vr_state.specs.State.{State}

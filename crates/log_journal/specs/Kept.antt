@@ -1,4 +1,4 @@
--- What a journal on a device holds of a replica. In: a journal, a replica's state. Out: whether its strings tell that state, now and after a crash.
+-- What a journal on a device holds of a replica.
 use Rattle.std.specs.Prelude.{◌≡◌, ℕ, List, []}
 use Rattle.journal.specs.Frames.{recorded}
 use Rattle.journal.specs.Journal.{IsSettled}

@@ -1,5 +1,4 @@
--- How a replica takes a batch of events: each makes its step and is noted, or is left out. In: a replica's state before and after, events, what
--- each gave, and the strings of a batch before and after.
+-- How a replica takes a batch of events: each makes its step and is noted, or is left out.
 use Rattle.std.specs.Prelude.{◌≡◌, ◌⊎◌, ℕ, List, [], ◌∷◌, ◌++◌, map, take, Result, Ok, Err}
 use Rattle.std.specs.declared.alloc.AllocError.{AllocError}
 use Rattle.ldap_op.specs.Values.{OpValue}

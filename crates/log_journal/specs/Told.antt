@@ -1,4 +1,4 @@
--- What a journal's notes stand for: whose it is, the last start, and what is kept of the replica. In: notes or strings, the oldest first.
+-- What a journal's notes stand for: whose it is, the last start, and what is kept of the replica.
 use Rattle.std.specs.Prelude.{◌≡◌, ℕ, max, Bool, true, false, List, [], ◌∷◌}
 use Rattle.ldap_op.specs.Values.{OpValue}
 use Rattle.vr_state.specs.Journaled as journaled

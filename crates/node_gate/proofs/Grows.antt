@@ -1,5 +1,4 @@
--- An event at a node: what was executed before is a beginning of what is after. The clauses of the call flow in; a beginning flows out. What a publisher
--- makes of it is not here.
+-- An event at a node: what was executed before is a beginning of what is after.
 use Rattle.std.proofs.Common.{◌≡◌, ◌⊎◌, inl, inr, ℕ, List, [], ◌∷◌, Bool, Result, Ok, Err, IfErr, IfOk, IsErrOf, true, refl, ap}
 use Rattle.std.specs.declared.alloc.AllocError.{AllocError}
 use Rattle.dir_node.specs.vr_state.Outcome.{Outcome}

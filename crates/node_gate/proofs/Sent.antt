@@ -1,4 +1,4 @@
--- What a step sends is what was handed over. An event at a node and what was taken flow in; that it is the step's flows out.
+-- What a step sends is what was handed over.
 use Rattle.std.proofs.Common.{◌≡◌, ℕ, List, ◌++◌, Bool, true, false, length, Result, subst, sym, ap, inl, inr}
 use Rattle.std.specs.declared.alloc.AllocError.{AllocError}
 use Rattle.dir_node.specs.dir_store.ldap_op.Values.{OpValue}

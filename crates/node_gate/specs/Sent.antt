@@ -1,5 +1,4 @@
--- What is handed to the way to the other replicas. Messages and that way flow in; what the way has taken flows out. What is lost on it is not said
--- here.
+-- What is handed to the way to the other replicas. What is lost on it is not said here.
 use Rattle.std.specs.Prelude.{ℕ, List, [], ◌∷◌}
 use Rattle.dir_node.specs.dir_store.ldap_op.Values.{OpValue}
 use Rattle.dir_node.specs.vr_state.declared.message.PeerMessage.{PeerMessage}

@@ -1,5 +1,4 @@
--- What a session is told by a node that threads share. Updates and how they ended flow in; what that may be flows out. Reads are the seats', and are
--- not here.
+-- What a session is told by a node that threads share.
 use Rattle.std.specs.Prelude.{◌≡◌, ◌⊎◌, ℕ}
 use Rattle.dir_seats.specs.directory_api.Answers.{ReplyModel}
 use Rattle.dir_seats.specs.directory_api.Talk.{EndedValue}

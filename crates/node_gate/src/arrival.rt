@@ -1,4 +1,4 @@
-// A message of another replica as it arrives. Plain data. What a node makes of it is not here.
+// A message of another replica as it arrives. Plain data.
 use dir_node::{Op, PeerMessage};
 
 /// A message of another replica, and when it came.

@@ -1,5 +1,4 @@
-// How a request for an update ended at a node. A node, a client and a request's number flow in; the end flows out. What must not be here:
-// locks, how long somebody waits.
+// Tells how a request for an update ended at a node.
 ghost use Rattle.dir_seats.specs.directory_api.View.{ended_view};
 ghost use Rattle.dir_node.specs.Outcomes.{outcome_of};
 ghost use Rattle.node_gate.specs.Shared.{EndsAs};

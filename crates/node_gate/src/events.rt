@@ -1,5 +1,4 @@
-// An event at a node, as a publisher needs it told: what was executed before is a beginning of what is after. What must not be here: who is
-// shown it.
+// An event at a node, as a publisher needs it told: what was executed before is a beginning of what is after.
 ghost use Rattle.std.specs.Prelude.{◌≡◌, ◌∷◌, [], IfOk, IfErr, length};
 ghost use Rattle.dir_node.specs.state_machine.Executing.{due_after};
 ghost use Rattle.dir_node.specs.NodeState.{CatchesUp, IsSameNode, given};

@@ -1,4 +1,4 @@
-// A session's gate to a running node. Updates flow in; how they ended flows out. What must not be here: reads, how replicas agree.
+// A session's gate to a running node: its updates and their outcomes.
 ghost use Rattle.std.specs.Prelude.{◌≡◌, None, Some};
 ghost use Rattle.std.specs.Option.{option_map};
 ghost use Rattle.dir_seats.specs.directory_api.View.{ended_view};

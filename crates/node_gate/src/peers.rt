@@ -1,4 +1,4 @@
-// The way to the other replicas. Messages flow in. What must not be here: sockets, what is lost on the way.
+// The way to the other replicas. A trait.
 ghost use Rattle.std.specs.Prelude.{ℕ};
 ghost use Rattle.dir_node.specs.dir_store.ldap_op.Values.{OpValue};
 ghost use Rattle.dir_node.specs.vr_state.declared.message.PeerMessage.{PeerMessage};

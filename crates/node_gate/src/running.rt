@@ -1,5 +1,4 @@
-// A node that threads share. Events flow in, one at a time; messages to other replicas flow out, and who waits is told of each change. What
-// must not be here: sessions, sockets, reads.
+// A node that threads share: takes events one at a time, sends messages, and wakes whoever waits.
 ghost use Rattle.std.specs.Prelude.{◌≡◌, ◌∷◌, [], IfErr, IfNone, IfOk, IfSome, MatchOption, OnOk};
 ghost use Rattle.dir_node.specs.vr_state.declared.event.Event.TheVariants as event;
 ghost use Rattle.dir_seats.specs.directory_api.View.{ended_view};

@@ -1,4 +1,4 @@
-// A standing in one word, which is read without a lock. Standings flow in and out. What must not be here: locks.
+// Keeps a standing in one word, which is read without a lock.
 ghost use Rattle.std.specs.Prelude.{◌≡◌, ◌<◌, ◌^◌};
 
 use dir_node::Standing;

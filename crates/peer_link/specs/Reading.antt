@@ -1,4 +1,4 @@
--- What is read of a stream of frames. The octets that a stream has and those that were read flow in. What a frame says is not here.
+-- What is read of a stream of frames.
 use Rattle.std.specs.Prelude.{◌≡◌, ℕ, List, [], ◌++◌, length, Option}
 use Rattle.std.specs.Io.KnownBytes.{Consumes, IsAtEnd}
 

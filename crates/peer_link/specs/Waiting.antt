@@ -1,4 +1,4 @@
--- What waits to be sent: items, each with its weight, and limits. What an item is, is not here.
+-- What waits to be sent: items, each with its weight, and limits.
 use Rattle.std.specs.Prelude.{◌≡◌, ◌⊎◌, ℕ, ◌+◌, ◌<◌, ◌≤◌, List, [], ◌∷◌, ◌++◌, length, drop}
 use Rattle.peer_link.specs.declared.weighted.Weighted.{Weighted}
 

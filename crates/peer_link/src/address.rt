@@ -1,4 +1,4 @@
-//! Where a socket is found: an address, or a name that is looked up. Streams are not here.
+//! Where a socket is found: an address, or a name that is looked up.
 use std::fmt::{self, Display, Formatter, Write};
 use std::net::{Net, SocketAddr, ToSocketAddrs};
 

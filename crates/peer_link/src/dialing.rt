@@ -1,4 +1,4 @@
-//! How a stream to another replica is made. A stream flows out, where one can be made. Frames are not here.
+//! Dials another replica.
 use crate::address::Address;
 use std::io;
 use std::io::{ErrorKind, Read, Write};

@@ -1,4 +1,4 @@
-//! A queue that threads share: items come in from any thread, and one thread takes them. What an item is, and streams, are not here.
+//! A queue that threads share: items come in from any thread, and one thread takes them.
 ghost use Rattle.std.specs.Prelude.{◌<◌};
 
 use crate::queue::Queue;

@@ -1,4 +1,4 @@
-//! Items that wait to be sent. They come in at the back and leave at the front, or are forgotten. What an item is, threads and streams are not here.
+//! Items that wait to be sent. They come in at the back and leave at the front, or are forgotten.
 ghost use Rattle.std.specs.Prelude.{◌≡◌, ◌<◌, ◌∷◌, [], length, drop, IfSome, IfNone, IfOk, IsTrue, IsFalse};
 ghost use Rattle.peer_link.specs.Waiting.{HaveRoom, HasForgotten, IsReadyFor, HasCome};
 

@@ -1,5 +1,4 @@
-//! Frames of a stream: four octets that say how many follow, and those. Octets flow in, frames flow out. What a frame says, and how long one
-//! may be, is not here.
+//! Frames of a stream: four octets that say how many follow, and those.
 ghost use Rattle.std.specs.Prelude.{◌<◌, ◌≤◌, length, IfOk, OnOk, IsErrOf};
 ghost use Rattle.std.specs.Io.KnownBytes.{Consumes};
 ghost use Rattle.peer_link.specs.Reading.{HasRead, IsEnded};

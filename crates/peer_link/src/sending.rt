@@ -1,4 +1,4 @@
-//! What waits is sent by a thread of its own: each item becomes frames here, which are written to a stream. What frames say is not here.
+//! What waits is sent by a thread of its own: each item becomes frames here, which are written to a stream.
 use crate::dialing::{Dial, Heard};
 use crate::framing::Framing;
 use crate::outbox::{Outbox, Waited};

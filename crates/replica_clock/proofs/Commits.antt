@@ -1,4 +1,4 @@
--- A commit is told soon. In: the clock's rules. Out: the law of specs/Clock on beats that hurry.
+-- A commit is told soon.
 use Rattle.std.proofs.Common.{ℕ, ◌+◌, ◌≤◌, min, arith}
 use Rattle.std.specs.Prelude.{nat_le}
 use Rattle.std.proofs.lemmas.Bool.{and_from, le-leb}

@@ -1,4 +1,4 @@
--- Who is refused. In: what a replica said, and a start of it. Out: a start that comes after all of it is taken, and a refusal has its cause.
+-- Who is refused.
 use Rattle.std.proofs.Common.{◌≡◌, ℕ, ◌≤◌, ◌<◌, max, ◌⊎◌, inl, inr, ⊎_elim, Bool, true, false, cond, ◌&&◌, ◌||◌, ◌==◌, nat_lt, nat_le, List, [], ◌∷◌, Option, Some, None, arith, refl, sym, ◌∙◌, subst, ltb-true, leb-true, true≢false}
 use Rattle.std.proofs.lemmas.Bool.{le-ltb}
 use Rattle.std.proofs.lemmas.Bool.Decides.{leb_tells}

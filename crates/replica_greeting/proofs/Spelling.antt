@@ -1,4 +1,4 @@
--- Octets of claims and refusals. In: one in range. Out: its octets are read as it.
+-- Octets of claims and refusals.
 use Rattle.std.proofs.Common.{◌≡◌, Bool, true, false, nat_lt, Some, refl, ◌∙◌}
 use Rattle.std.specs.Int.{w64, to_be_bytes, from_be_bytes}
 use Rattle.std.proofs.lemmas.Nat.{from_be_bytes-to_be_bytes_8}

@@ -1,4 +1,4 @@
-//! What another replica's greeting says, beside one's own terms. Octets flow in; whether its terms are alike flows out, or the first that isn't.
+//! What another replica's greeting says, beside one's own terms.
 ghost use Rattle.std.specs.Prelude.{◌≡◌, length};
 ghost use Rattle.replica_greeting.specs.Meeting.{HasClaim, HasFirst, HasMet, Heads, MeetsSender};
 

@@ -1,4 +1,4 @@
-//! What the replicas of a cluster must have alike. Texts flow in, as they were given; digests of them flow out.
+//! The terms that the replicas of a cluster must share, as digests.
 ghost use Rattle.std.specs.Prelude.{◌≡◌};
 ghost use Rattle.replica_greeting.specs.Terms.{lent_text, terms_of, text_digest};
 

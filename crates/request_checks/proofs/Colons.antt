@@ -1,5 +1,4 @@
--- Where the first colon stands, octet by octet. In: the octets that are left. Out: what stands before the colon and behind it. Numbers are not
--- here.
+-- Where the first colon stands, octet by octet.
 use Rattle.std.proofs.Common.{◌≡◌, ℕ, suc, ◌+◌, ◌<◌, List, [], ◌∷◌, ◌++◌, length, take, drop, get_or, Bool, cond, nat_eq, true, false, sym, ap, ◌∙◌, add-one, drop-cons, append_assoc, append-nil}
 use Rattle.std.proofs.Math.Seq.{take-suc}
 use Rattle.request_checks.specs.Numbers.{before_colon, behind_colon}

@@ -1,4 +1,4 @@
--- Controls, one after the other. In: the controls that are left. Out: whether one of them has a property. Values are not here.
+-- Controls, one after the other.
 use Rattle.std.proofs.Common.{◌≡◌, ℕ, suc, ◌+◌, ◌<◌, List, ◌∷◌, length, map, drop, get_or, Bool, false, sym, ap, ◌∙◌, add-one, drop-cons, ◌||◌}
 use Rattle.std.specs.List.{list_any}
 use Rattle.ldap_msg.specs.ldap_parts.Values.{ControlValue}

@@ -1,4 +1,4 @@
--- What a bind comes to: RFC 4513 5.1. The manager's name and password and a bind flow in; who is bound and a result code flow out.
+-- What a bind comes to: RFC 4513 5.1.
 use Rattle.std.specs.Prelude.{ℕ, pos, List, Bool, false, ◌&&◌, cond, Option, None, Some}
 use Rattle.std.specs.Str.{bytes_eq}
 use Rattle.std.specs.Ordering.{int_eq}

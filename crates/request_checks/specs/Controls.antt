@@ -1,5 +1,4 @@
--- The controls of a request: RFC 4511 4.1.11. A kind of request and its controls flow in; what they name, or the code that refuses the
--- request, flows out.
+-- The controls of a request: RFC 4511 4.1.11.
 use Rattle.std.specs.Prelude.{ℕ, List, [], ◌∷◌, Bool, false, ◌&&◌, ◌||◌, not, cond, filter, codes, Option, None, Some, Result, Ok, Err}
 use Rattle.std.specs.List.{list_any}
 use Rattle.std.specs.Str.{bytes_eq}

@@ -1,4 +1,4 @@
--- The messages that carry a response: RFC 4511 4.1.1 and 4.1.9. Responses, numbers and codes flow in; messages flow out.
+-- The messages that carry a response: RFC 4511 4.1.1 and 4.1.9.
 use Rattle.std.specs.Prelude.{ℕ, List, [], ◌∷◌, map, decimal, false, Option, None, Some}
 use Rattle.ldap_msg.specs.ldap_parts.Values.{ControlValue}
 use Rattle.ldap_msg.specs.Messages.{SearchResultEntryValue, LdapResultValue, ResponseValue, search_entry, response, MessageValue}

@@ -1,4 +1,4 @@
--- Numbers as text: decimal digits without a leading zero. Octets flow in; numbers flow out.
+-- Numbers as text: decimal digits without a leading zero.
 use Rattle.std.specs.Prelude.{ℕ, List, [], ◌∷◌, Bool, false, cond, nat_eq, Option, None, Some}
 use Rattle.std.specs.Option.{option_and_then}
 pub use Rattle.dir_entry.specs.ldap_words.Numbers.{greatest, with_digit, number_after, number_of_digits}

@@ -1,5 +1,4 @@
--- Requests by what they ask for: RFC 4511 4.2 to 4.12. A request flows in; the update that it is, its kind and the kind of its response flow
--- out.
+-- Requests by what they ask for: RFC 4511 4.2 to 4.12.
 use Rattle.std.specs.Prelude.{ℕ, List, Bool, cond, codes, Option, None, Some}
 use Rattle.std.specs.Str.{bytes_eq}
 use Rattle.ldap_msg.specs.Messages.{ExtendedRequestValue, LdapResultValue, RequestValue, bind, unbind, search, modify, add, delete, modify_dn, compare, abandon, extended_request, ResponseValue, bind_response, search_done, modify_response, add_response, delete_response, modify_dn_response, compare_response, extended}

@@ -1,5 +1,4 @@
-//! Binds judged. The manager's name and password and a bind flow in; who is bound and a result code flow out.
-//! Messages are not here.
+//! Judges a bind by the manager's name and password.
 ghost use Rattle.std.specs.Prelude.{◌≡◌, IfOk};
 ghost use Rattle.dir_entry.specs.ldap_dn.Texts.{name_of_text};
 ghost use Rattle.ldap_msg.specs.View.{bind_view};

@@ -1,4 +1,4 @@
-//! What a bind comes to. Nothing flows in; plain data flows out. How a bind is judged is not here.
+//! The outcome of a bind. Plain data.
 
 use crate::identity::Identity;
 use ldap_msg::ResultCode;

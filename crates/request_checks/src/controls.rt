@@ -1,5 +1,4 @@
-//! The controls of a request, judged. A kind of request and its controls flow in; what they name, or the code that refuses the request, flows
-//! out. What is named is not looked up here.
+//! Judges the controls of a request: takes what they name, or refuses the request.
 ghost use Rattle.std.specs.Prelude.{◌≡◌, ◌∷◌, [], ◌&&◌, not, filter, map, Result, MatchResult};
 ghost use Rattle.std.specs.Option.{option_map, option_copied, option_to_list};
 ghost use Rattle.request_checks.specs.Numbers.{number_of, pair_of};

@@ -1,4 +1,4 @@
-//! Who a session is bound as. Nothing flows in; a plain enum flows out. How a bind is judged is not here.
+//! Who a session is bound as. A plain enum.
 
 /// Who a session is bound as (RFC 4513 4).
 #[derive(Clone, Copy, Debug, PartialEq, Eq)]

@@ -1,4 +1,4 @@
-//! Numbers as text. Octets flow in; numbers flow out. What names them is not here.
+//! Reads and writes numbers as text.
 ghost use Rattle.std.specs.Prelude.{◌≡◌, ◌+◌, ◌≤◌, length, take, drop};
 ghost use Rattle.request_checks.specs.Numbers.{is_padded, number_of, positive_of, before_colon, behind_colon, pair_of};
 

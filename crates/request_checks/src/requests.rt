@@ -1,5 +1,4 @@
-//! Requests by what they ask for. A request flows in; its kind, the kind of its response and the update that it is flow out. What comes of it
-//! is not here.
+//! Sorts requests by what they ask for: their kind, their response's kind, and the update.
 ghost use Rattle.std.specs.Prelude.{◌≡◌, IfOk, IfErr, is_some};
 ghost use Rattle.ldap_msg.specs.View.{request_view, extended_request_view};
 ghost use Rattle.ldap_msg.specs.Messages.{extended_request};

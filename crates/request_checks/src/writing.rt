@@ -1,5 +1,4 @@
-//! Responses as messages, written. Responses, numbers and codes flow in; octets flow out, one `Vec` a message. What answers a request is not
-//! here.
+//! Writes responses as messages, a vector of octets each.
 ghost use Rattle.std.specs.Prelude.{◌≡◌, ◌≤◌, ◌^◌, ◌∷◌, [], map, length, decimal, string_bytes, Some, IfOk, IsErrOf};
 ghost use Rattle.std.specs.Option.{option_map};
 ghost use Rattle.ldap_msg.specs.View.{response_view, result_view, control_view};

@@ -1,4 +1,4 @@
--- The first line with a fault: E12, E13 and E15. Texts of schemas flow in; loops and names of entries are not here.
+-- The first line with a fault: E12, E13 and E15.
 use Rattle.std.proofs.Common.{ℕ, ◌+◌, ◌≤◌, zero, suc, List, [], ◌∷◌, Bool, true, false, cond, not, ◌&&◌, ◌||◌, Option, None, Some, Err, is_some, nat_lt, ◌≡◌, ◌⊎◌, inl, inr, refl, sym, ap, ◌∙◌, subst, slice_get, arith}
 use Rattle.ldap_match.specs.ldap_words.declared.rule.Family.{Family}
 use Rattle.schema_reader.specs.schema_text.Descriptions.{DescriptionModel, first_text_at, texts_at}

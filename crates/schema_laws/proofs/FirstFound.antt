@@ -1,4 +1,4 @@
--- Each type of a schema that is read from a text is found by its first name. Descriptions flow in; names of entries are not here.
+-- Each type of a schema that is read from a text is found by its first name.
 use Rattle.std.proofs.Common.{ℕ, ◌+◌, ◌<◌, ◌≤◌, zero, suc, List, [], ◌∷◌, Bool, true, false, cond, not, ◌&&◌, ◌||◌, Option, None, Some, Ok, nat_eq, nat_lt, nat_le, ◌≡◌, refl, sym, ap, ap₂, ◌∙◌, subst, map, length, IsUtf8, arith}
 use Rattle.std.proofs.lemmas.Bool.{eq-eqb, ltb-true}
 use Rattle.std.proofs.lemmas.Bool.Decides.{nat_tests}

@@ -1,4 +1,4 @@
--- The first line with a loop. Texts of schemas flow in; rules and names are not here.
+-- The first line with a loop.
 use Rattle.std.proofs.Common.{ℕ, ◌+◌, ◌<◌, ◌≤◌, zero, suc, List, [], ◌∷◌, Bool, true, false, cond, Option, None, Some, Err, nat_lt, ◌≡◌, ◌⊎◌, inl, inr, refl, sym, ap, ◌∙◌, slice_get, arith}
 use Rattle.std.proofs.lemmas.Bool.{ltb-true, ltb-false}
 use Rattle.std.specs.List.{AllByRecursion}

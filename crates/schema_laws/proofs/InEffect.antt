@@ -1,4 +1,4 @@
--- What is in effect for a type, along its chain of SUPs. Descriptions of a text without faults flow in; names are not here.
+-- What is in effect for a type, along its chain of SUPs.
 use Rattle.std.proofs.Common.{ℕ, ◌+◌, ◌<◌, zero, suc, List, [], ◌∷◌, ◌++◌, Bool, true, false, not, ◌&&◌, Option, None, Some, Ok, is_some, ◌≡◌, refl, sym, ap, ap₂, ◌∙◌, subst, length, reverse, slice_get, append-nil, arith}
 use Rattle.std.proofs.lemmas.List.{reverse-append}
 use Rattle.ldap_match.specs.ldap_words.declared.rule.Family.{Family}

@@ -1,4 +1,4 @@
--- Types with values that are printed, and parts with a separator between them. Tokens and texts flow in and out; names are not here.
+-- Types with values that are printed, and parts with a separator between them.
 use Rattle.std.proofs.Common.{ℕ, ◌+◌, ◌<◌, suc, List, [], ◌∷◌, ◌++◌, Bool, true, false, cond, not, ◌&&◌, ◌||◌, None, Some, nat_eq, nat_lt, ◌≡◌, refl, sym, ap, ap₂, ◌∙◌, subst, map, length, take, drop, append-nil, flat_map, arith}
 use Rattle.std.proofs.lemmas.Bool.{eqb-true}
 use Rattle.std.proofs.lemmas.Bool.Decides.{nat_tests}

@@ -1,4 +1,4 @@
--- A character that is printed, and the tokens that it is read as. Characters and tokens flow in and out; names are not here.
+-- A character that is printed, and the tokens that it is read as.
 use Rattle.std.proofs.Common.{ℕ, ◌<◌, ◌≤◌, suc, List, [], ◌∷◌, Bool, true, false, cond, not, ◌&&◌, ◌||◌, nat_eq, ◌≡◌, refl, sym, ap, ◌∙◌, subst, map, length, get_or, append-nil, inl, inr, arith}
 use Rattle.std.proofs.lemmas.Bool.{eqb-true, cases_lt}
 use Rattle.std.proofs.lemmas.Bool.Decides.{nat_tests}

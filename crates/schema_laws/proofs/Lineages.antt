@@ -1,5 +1,4 @@
--- The classes above classes: what is filled in, and the chain of superclasses. Numbers of classes flow in and out; descriptions are not
--- here.
+-- The classes above classes: what is filled in, and the chain of superclasses.
 use Rattle.std.proofs.Common.{ℕ, ◌+◌, ◌<◌, ◌≤◌, zero, suc, List, [], ◌∷◌, ◌++◌, Bool, true, false, cond, ◌||◌, Option, None, Some, Ok, ◌≡◌, refl, ap, sym, subst, ◌∙◌, length, take, drop, slice_get, nat_eq, nat_lt, append_assoc, append-nil, length-append, add-one, arith}
 use Rattle.std.specs.List.{IsDistinct, flat_map, list_all}
 use Rattle.std.specs.Cmp.{nat_eq_equiv}

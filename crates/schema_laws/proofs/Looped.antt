@@ -1,4 +1,4 @@
--- The types of a text whose chains of SUPs come back. Descriptions flow in; rules are not here.
+-- The types of a text whose chains of SUPs come back.
 use Rattle.std.proofs.Common.{ℕ, ◌+◌, ◌<◌, suc, List, Option, None, Some, ◌≡◌, sym, ap, ◌∙◌, length, slice_get, arith}
 use Rattle.ldap_match.specs.ldap_schema.Schema.{superior_in, superior_of}
 use Rattle.schema_reader.specs.schema_text.Descriptions.{DescriptionModel}

@@ -1,4 +1,4 @@
--- The keys of a relative name, and what its types and values mean. Names flow in and out; octets of texts are not here.
+-- The keys of a relative name, and what its types and values mean.
 use Rattle.std.proofs.Common.{ℕ, ◌<◌, List, [], ◌∷◌, ◌++◌, Bool, true, false, cond, Option, None, Some, ◌≡◌, ◌⊎◌, inl, inr, refl, sym, ap, ap₂, ◌∙◌, subst, take, drop, insert, slice_get, nat_lt, append-nil, arith}
 use Rattle.std.specs.Option.{option_and_then}
 use Rattle.std.proofs.lemmas.Bool.{ltb-true}

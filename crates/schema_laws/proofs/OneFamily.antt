@@ -1,4 +1,4 @@
--- The rules in effect for the types of a text without faults are of one family. Descriptions flow in; names are not here.
+-- The rules in effect for the types of a text without faults are of one family.
 use Rattle.std.proofs.Common.{ℕ, ◌+◌, ◌<◌, zero, suc, List, [], ◌∷◌, Bool, true, false, cond, not, ◌&&◌, Option, None, Some, ◌≡◌, refl, sym, ap, ◌∙◌, subst, length, reverse, slice_get, nat_eq, arith}
 use Rattle.std.proofs.lemmas.Bool.{eqb-true}
 use Rattle.std.specs.List.{AllByRecursion}

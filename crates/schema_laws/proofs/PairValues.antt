@@ -1,4 +1,4 @@
--- Pairs of names that were read, and their keys. Names flow in and out; the entries that have them are not here.
+-- Pairs of names that were read, and their keys.
 use Rattle.std.proofs.Common.{ℕ, zero, suc, ◌<◌, List, [], ◌∷◌, ◌++◌, Bool, true, false, cond, Option, None, Some, ◌≡◌, inl, inr, refl, sym, ap, ap₂, ◌∙◌, subst, map, slice_get, nat_eq, nat_lt, arith}
 use Rattle.std.proofs.Math.Bool.{or-false}
 use Rattle.std.proofs.lemmas.Bool.{ne_eqb}

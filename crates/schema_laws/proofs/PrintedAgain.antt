@@ -1,4 +1,4 @@
--- What is printed of a name is read as the name. A name and a schema flow in; octets are not here.
+-- What is printed of a name is read as the name.
 use Rattle.std.proofs.Common.{ℕ, ◌<◌, suc, List, [], ◌∷◌, ◌++◌, Bool, true, false, ◌&&◌, ◌≡◌, refl, sym, ap, ◌∙◌, subst, map, length, reverse, append_assoc, flat_map, arith}
 use Rattle.std.proofs.lemmas.List.{reverse-append, reverse-reverse}
 use Rattle.std.proofs.lemmas.List.Folds.{list_all-append}

@@ -1,4 +1,4 @@
--- Names of a directory's entries are made of relative names that were read. Updates and entries flow in and out; keys are not here.
+-- Names of a directory's entries are made of relative names that were read.
 use Rattle.std.proofs.Common.{ℕ, zero, suc, ◌+◌, ◌-◌, List, [], ◌∷◌, ◌++◌, Bool, true, false, cond, Option, None, Some, Result, Ok, Err, ◌≡◌, refl, sym, ap, ◌∙◌, subst, take, drop, length, map, nat_eq, is_some, slice_get}
 use Rattle.std.specs.Prelude.{IfOk}
 use Rattle.ldap_match.specs.ldap_schema.Schema.{SchemaModel}

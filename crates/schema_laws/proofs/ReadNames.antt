@@ -1,4 +1,4 @@
--- A name that was read is of the schema's types, and is read again as it is printed. Names flow in and out; octets are not here.
+-- A name that was read is of the schema's types, and is read again as it is printed.
 use Rattle.std.proofs.Common.{ℕ, ◌+◌, ◌<◌, zero, suc, List, [], ◌∷◌, Bool, true, false, cond, not, ◌||◌, Option, None, Some, ◌≡◌, refl, sym, ap, ◌∙◌, subst, map, length, take, drop, arith}
 use Rattle.std.proofs.lemmas.Bool.{eqb-true}
 use Rattle.std.specs.List.{AllByRecursion, list_all, position_from, position}

@@ -1,5 +1,4 @@
--- What each description of a schema's text has: a numericoid, names that are words, a line behind those before it. Texts flow in;
--- names of entries are not here.
+-- What each description of a schema's text has: a numericoid, names that are words, a line behind those before it.
 use Rattle.std.proofs.Common.{ℕ, ◌+◌, ◌<◌, List, [], ◌∷◌, ◌++◌, Bool, true, false, cond, Option, None, Some, nat_eq, ◌≡◌, refl, sym, ap, ◌∙◌, subst, length, drop, arith}
 use Rattle.std.specs.List.{AllByRecursion}
 use Rattle.schema_reader.specs.schema_text.Words.{is_descr, is_numericoid}

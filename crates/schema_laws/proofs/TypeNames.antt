@@ -1,4 +1,4 @@
--- Types that go by their first names. A schema flows in; where it comes from is not here.
+-- Types that go by their first names.
 use Rattle.std.proofs.Common.{ℕ, ◌+◌, List, [], ◌∷◌, Bool, true, false, ◌&&◌, Option, None, Some, nat_eq, ◌≡◌}
 use Rattle.std.specs.List.{list_all}
 use Rattle.ldap_match.specs.ldap_schema.Schema.{SchemaModel, TypeModel, find}

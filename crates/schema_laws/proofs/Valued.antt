@@ -1,4 +1,4 @@
--- A value that is printed, and the tokens that it is read as. Values and tokens flow in and out; types and names are not here.
+-- A value that is printed, and the tokens that it is read as.
 use Rattle.std.proofs.Common.{ℕ, ◌+◌, ◌-◌, ◌<◌, List, [], ◌∷◌, ◌++◌, Bool, true, false, cond, not, ◌&&◌, ◌||◌, None, Some, nat_eq, ◌≡◌, refl, sym, ap, ap₂, ◌∙◌, subst, map, length, take, drop, reverse, append-nil, append_assoc, encode_utf8_all, arith}
 use Rattle.std.proofs.lemmas.List.{map-append, reverse-append}
 use Rattle.std.proofs.lemmas.Slice.Eq.{bytes_eq-Decides}

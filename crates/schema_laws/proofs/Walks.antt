@@ -1,5 +1,4 @@
--- How far a chain of SUPs goes: it comes back before it has as many steps as there are types. Numbers of types flow in and out;
--- descriptions are not here.
+-- How far a chain of SUPs goes: it comes back before it has as many steps as there are types.
 use Rattle.std.proofs.Common.{ℕ, ◌+◌, ◌-◌, ◌<◌, ◌≤◌, zero, suc, List, [], ◌∷◌, Bool, true, false, ◌||◌, Option, None, Some, ◌≡◌, ◌⊎◌, inl, inr, refl, sym, ap, ap₂, ◌∙◌, subst, length, nat_eq, arith}
 use Rattle.std.proofs.lemmas.Bool.{eqb-true, eq-eqb, cases_lt}
 use Rattle.std.proofs.lemmas.Bool.Decides.{nat_tests}

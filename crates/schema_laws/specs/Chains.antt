@@ -1,4 +1,4 @@
--- Chains of SUPs: RFC 4512 2.5.1, 4.1.1 and 4.1.2. Texts of schemas flow in, statements flow out; how far a chain is followed is not here.
+-- Chains of SUPs: RFC 4512 2.5.1, 4.1.1 and 4.1.2.
 use Rattle.std.specs.Prelude.{ℕ, List, ◌++◌, flat_map, ◌≤◌, None, Some, Ok, Err, slice_get, nat_eq, true, false, ◌≡◌, ◌↔◌}
 use Rattle.std.specs.List.{IsDistinct}
 use Rattle.ldap_match.specs.ldap_schema.Schema.{SchemaModel, IsUnder}

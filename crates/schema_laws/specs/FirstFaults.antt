@@ -1,5 +1,4 @@
--- Lines with a fault, and the first of them: RFC 4512 2.5.1 and 4.1. Texts of schemas flow in, statements flow out; loops, and how faults
--- are found, are not here.
+-- Lines with a fault, and the first of them: RFC 4512 2.5.1 and 4.1.
 use Rattle.std.specs.Prelude.{ℕ, List, ◌≤◌, None, Some, Err, slice_get, true, ◌≡◌}
 use Rattle.schema_reader.specs.schema_text.Descriptions.{DescriptionModel, first_text_at, texts_at}
 use Rattle.schema_reader.specs.schema_text.Texts.{SchemaTextModel, read_text}

@@ -1,4 +1,4 @@
--- Names by what they mean: RFC 4517 4.2.15, RFC 4512 2.3.1. Names and a schema flow in, a statement flows out; keys and texts are not here.
+-- Names by what they mean: RFC 4517 4.2.15, RFC 4512 2.3.1.
 use Rattle.std.specs.Prelude.{ℕ, List, [], ◌∷◌, Option, None, Some, ◌≡◌, ◌↔◌}
 use Rattle.ldap_match.specs.ldap_syntax.Meaning.{Meaning}
 use Rattle.ldap_match.specs.ldap_words.declared.rule.Rule.{Rule}

@@ -1,4 +1,4 @@
--- What is printed of a name is read as the name: RFC 4514 2 and 3. A schema and a name flow in; how either is done is not here.
+-- What is printed of a name is read as the name: RFC 4514 2 and 3.
 use Rattle.std.specs.Prelude.{ℕ, List, [], true, All, Some, Ok, nat_eq, Bool, ◌||◌, ◌≡◌, length, ◌<◌}
 use Rattle.std.specs.List.{list_all}
 use Rattle.std.specs.Str.{is_utf8}

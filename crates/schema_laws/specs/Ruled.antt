@@ -1,4 +1,4 @@
--- Types whose rules are of one family: RFC 4512 4.1.2, RFC 4517 4.2. Types flow in, a statement flows out; values are not here.
+-- Types whose rules are of one family: RFC 4512 4.1.2, RFC 4517 4.2.
 use Rattle.std.specs.Prelude.{ℕ, List, Option, None, Some, Ok, ◌≡◌}
 use Rattle.std.specs.List.{AllByRecursion}
 use Rattle.ldap_match.specs.ldap_words.Families.{is_ordering, has_substrings}

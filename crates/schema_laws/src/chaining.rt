@@ -1,5 +1,4 @@
-// Laws of chains of SUPs, of types and of classes. Nothing flows in or out.
-// What must not be here: how far a chain is followed, values.
+// Laws of chains of SUPs, of types and of classes.
 
 ghost use Rattle.schema_laws.specs.Chains.{
   EffectsAreInherited,

@@ -1,5 +1,4 @@
-// Laws of texts that are refused as schemas. Nothing flows in or out.
-// What must not be here: loops, how texts are read.
+// Laws of texts that are refused as schemas.
 
 ghost use Rattle.schema_laws.specs.FirstFaults.{RefusedAtFirstBadLine, RefusedAtFirstLack, RefusedAtFirstUnknown};
 

@@ -1,5 +1,4 @@
-// Laws of names: printed and read again, and told apart by what they mean. Nothing flows in or out.
-// What must not be here: how names are printed and read.
+// Laws of names: printed and read again, and told apart by what they mean.
 
 ghost use Rattle.schema_laws.specs.MeaningNames.{NamesAreOneByMeaning};
 ghost use Rattle.schema_laws.specs.NamePairs.{EntriesHaveReadNames, NamesAreAttributes, PairsAreAttributes};

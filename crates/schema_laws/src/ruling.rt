@@ -1,5 +1,4 @@
-// Laws of the rules of types. Nothing flows in or out.
-// What must not be here: values, filters.
+// Laws of the rules of types.
 
 ghost use Rattle.schema_reader.specs.BuiltIn.{built_in};
 ghost use Rattle.schema_laws.specs.Ruled.{HaveRulesOfOneFamily, ReadTypesAreOfOneFamily};

@@ -1,5 +1,4 @@
--- First lines by octets, after a change of the map, and what they say of descriptions. Facts on lists flow in and out; no value of the
--- program is here.
+-- First lines by octets, after a change of the map, and what they say of descriptions.
 use Rattle.std.proofs.Common.{◌≡◌, ◌<◌, ◌+◌, ℕ, Bool, true, false, cond, ◌||◌, ◌&&◌, List, [], ◌∷◌, Option, Some, None, is_some, refl, sym, ap, ◌∙◌, drop, length, get_or, map, nat_lt, arith}
 use Rattle.std.specs.List.{list_any}
 use Rattle.std.specs.Char.{to_ascii_lowercase}

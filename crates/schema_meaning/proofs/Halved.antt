@@ -1,4 +1,4 @@
--- What halving finds among octets in order. Facts on lists flow in and out; no value of the program is here.
+-- What halving finds among octets in order.
 use Rattle.std.proofs.Common.{ℕ, zero, suc, ◌+◌, ◌<◌, ◌≤◌, List, [], ◌∷◌, false, cond, None, Some, ◌≡◌, refl, ap, sym, subst, ◌∙◌, Vec, Global, length, get_or, ◌⊎◌, inl, inr, arith}
 use Rattle.std.specs.List.{AllByRecursion}
 use Rattle.std.specs.List.Sorted.{IsNonDecreasingBy, IsPartitionPoint, IsStrictlySortedBy}

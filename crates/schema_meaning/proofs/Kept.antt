@@ -1,4 +1,4 @@
--- Numbers kept one after the other, and what is found in them. Facts on lists flow in and out; no value of the program is here.
+-- Numbers kept one after the other, and what is found in them.
 use Rattle.std.proofs.Common.{ℕ, List, Bool, true, false, cond, Option, None, Some, ◌≡◌, refl, ap, sym, ◌∙◌, map}
 use Rattle.std.specs.List.{list_any, position_from}
 use Rattle.std.specs.Char.{to_ascii_lowercase}

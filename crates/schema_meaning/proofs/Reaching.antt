@@ -1,5 +1,4 @@
--- What a table of what is in effect tells of types is so, and where it tells nothing new it has all. Lists flow in and out; no value of
--- the program is here.
+-- What a table of what is in effect tells of types is so, and where it tells nothing new it has all.
 use Rattle.std.proofs.Common.{ℕ, ◌<◌, ◌≤◌, zero, suc, List, [], ◌∷◌, Option, None, Some, ◌≡◌, ◌⊎◌, inl, inr, refl, ap, sym, ◌∙◌, length, set, slice_get, arith}
 use Rattle.std.proofs.Math.ListN.{length-set}
 use Rattle.std.proofs.lemmas.Option.{slice_get_past}

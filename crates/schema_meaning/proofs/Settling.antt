@@ -1,4 +1,4 @@
--- Chains of SUPs a step at a time: more steps than there are types find nothing more. Lists flow in and out; no value of the program is here.
+-- Chains of SUPs a step at a time: more steps than there are types find nothing more.
 use Rattle.std.proofs.Common.{ℕ, ◌<◌, ◌≤◌, zero, suc, List, [], ◌∷◌, ◌++◌, Bool, true, false, ◌||◌, Option, None, Some, is_some, ◌≡◌, ◌⊎◌, inl, inr, refl, ap, sym, subst, ◌∙◌, length, reverse, nat_eq, arith}
 use Rattle.std.specs.List.{IsDistinct, AllByRecursion, list_any}
 use Rattle.std.proofs.lemmas.List.{reverse-append}

@@ -1,4 +1,4 @@
--- Where the SUP of a type leads, in a list of all ways. Lists flow in and out; no value of the program is here.
+-- Where the SUP of a type leads, in a list of all ways.
 use Rattle.std.proofs.Common.{◌≡◌, ℕ, zero, suc, List, [], ◌∷◌, Option, None, Some, map, slice_get, refl}
 use Rattle.schema_text.specs.Descriptions.{DescriptionModel}
 use Rattle.schema_meaning.specs.Naming.{superior_text}

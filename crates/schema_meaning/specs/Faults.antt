@@ -1,5 +1,4 @@
--- What is wrong with the descriptions of a text: RFC 4512 4.1. Descriptions flow in, numbers of lines flow out; the schema that they
--- make is not here.
+-- What is wrong with the descriptions of a text: RFC 4512 4.1.
 use Rattle.std.specs.Prelude.{ℕ, ◌+◌, List, [], ◌∷◌, Bool, true, not, cond, ◌||◌, ◌&&◌, Option, None, Some, is_some}
 use Rattle.std.specs.List.{list_all}
 use Rattle.schema_text.specs.Descriptions.{DescriptionModel, first_text_at, texts_at}

@@ -1,5 +1,4 @@
--- The chain of SUPs, and the rules and the syntax that are in effect for a type: RFC 4512 2.5.1 and 4.1.2. Descriptions flow in,
--- rules flow out; faults are not here.
+-- The chain of SUPs, and the rules and the syntax that are in effect for a type: RFC 4512 2.5.1 and 4.1.2.
 use Rattle.std.specs.Prelude.{ℕ, List, [], ◌∷◌, ◌++◌, reverse, slice_get, Bool, true, false, not, ◌&&◌, ◌||◌, Option, None, Some, is_some, nat_eq}
 use Rattle.schema_text.specs.Descriptions.{DescriptionModel, first_text_at}
 use Rattle.schema_text.specs.ldap_words.RulesByName.{equality_family, ordering_family, substrings_family, syntax_of, family_number}

@@ -1,5 +1,4 @@
--- What the words of descriptions stand for among the descriptions of a text: RFC 4512 1.4 and 4.1. Descriptions and words flow in,
--- numbers of descriptions flow out; rules are not here.
+-- What the words of descriptions stand for among the descriptions of a text: RFC 4512 1.4 and 4.1.
 use Rattle.std.specs.Prelude.{ℕ, List, [], ◌∷◌, Bool, false, ◌||◌, ◌&&◌, Option, None, Some, nat_lt}
 use Rattle.std.specs.List.{list_any, position_from}
 use Rattle.std.specs.Str.{bytes_eq}

@@ -1,6 +1,4 @@
-// The numbers of descriptions by the words that call them. Descriptions flow in once, and then words; numbers flow out, in as many
-// steps as a logarithm of their count, and without memory.
-// What must not be here: how octets are ordered, rules, lines.
+// Finds descriptions by the words that call them, in as many steps as a logarithm of their count. It takes no memory.
 
 ghost use Rattle.std.specs.Prelude.{◌≡◌, ℕ, List, map, IfOk, OnOk};
 ghost use Rattle.std.specs.Str.{bytes_eq};

@@ -1,6 +1,4 @@
-// What is in effect for all types, each found once from what is in effect for its superior. Types flow in once, and then their numbers;
-// rules and syntaxes flow out.
-// What must not be here: where SUPs lead, what a type inherits, lines.
+// What is in effect for all types, each found once from what is in effect for its superior.
 
 ghost use Rattle.std.specs.Prelude.{◌≡◌, None, Some, IfOk};
 ghost use Rattle.schema_meaning.specs.Inheriting as inheriting;

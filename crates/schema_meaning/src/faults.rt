@@ -1,5 +1,4 @@
-// The first faulty lines. Descriptions flow in, numbers of lines flow out.
-// What must not be here: the reading of lines, schemas.
+// Finds the first faulty line of each kind.
 
 ghost use Rattle.std.specs.Prelude.{◌≡◌, not, map, is_some, IfOk};
 ghost use Rattle.std.specs.List.{list_all};

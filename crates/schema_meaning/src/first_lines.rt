@@ -1,6 +1,4 @@
-// The first lines in which names and object identifiers stand. Descriptions flow in, and then descriptions; whether they repeat what
-// stands earlier flows out, in as many steps as a logarithm of their count for each name.
-// What must not be here: rules, numbers of descriptions.
+// The first lines in which names and object identifiers stand.
 
 ghost use Rattle.std.specs.Prelude.{◌≡◌, ◌||◌, ℕ, List, Some, cond, is_some, map, IfOk, OnOk};
 ghost use Rattle.std.specs.Char.{to_ascii_lowercase};

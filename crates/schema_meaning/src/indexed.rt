@@ -1,6 +1,4 @@
-// A text's descriptions, found by the words that call them. The descriptions of a text flow in; its types and its classes flow out,
-// ready to be found.
-// What must not be here: how they are found, rules, faults.
+// Indexes the descriptions of a text by the words that call them.
 
 ghost use Rattle.std.specs.Prelude.{◌≡◌, IfOk};
 

@@ -1,5 +1,4 @@
-// Where SUPs lead, and what a type inherits. Descriptions flow in; numbers of types, rules and syntaxes flow out.
-// What must not be here: the effects of all types, lines, schemas.
+// Follows SUPs, and finds what a type inherits.
 
 ghost use Rattle.std.specs.Prelude.{◌≡◌, IfOk};
 ghost use Rattle.schema_text.specs.Descriptions.{first_text_at};

@@ -1,9 +1,10 @@
-//! Works out what a schema's descriptions say together: the numbers of their words, the rules in effect, the first faulty lines. Reading text,
-//! and schemas, are not here.
+//! Works out what a schema's descriptions say together: the numbers of their words, the rules in effect, the first
+//! faulty lines.
 //!
-//! Names are resolved in any case, chains of SUP followed, rules and syntax in effect worked out, and the first line of each kind of fault.
-//! Names are found in an index that is made once (`called`, `indexed`), repetitions by each name's first line (`first_lines`). Where each SUP
-//! leads is looked up once (`inheriting`); what is in effect for a type is made of what is in effect for its superior (`effects`).
+//! Names are resolved in any case, chains of SUP followed, rules and syntax in effect worked out, and the first line of
+//! each kind of fault. Names are found in an index that is made once (`called`, `indexed`), repetitions by each name's
+//! first line (`first_lines`). Where each SUP leads is looked up once (`inheriting`); what is in effect for a type is
+//! made of what is in effect for its superior (`effects`).
 //!
 //! Proved: faults and what a type inherits are found as defined (`bad_line`, `unknown_line`, `Effects::of_type`).
 #![tactic(auto)]

@@ -1,5 +1,4 @@
-// Words and the descriptions that they call. Descriptions and words flow in, numbers of descriptions flow out.
-// What must not be here: rules, syntaxes.
+// Finds the descriptions that words call.
 
 ghost use Rattle.std.specs.Prelude.{◌≡◌, map};
 ghost use Rattle.schema_meaning.specs.Naming as naming;

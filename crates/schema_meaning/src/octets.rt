@@ -1,5 +1,4 @@
-// Numbers that are kept at octets. Octets and numbers flow in, numbers flow out, in as many steps as a logarithm of their count.
-// What must not be here: descriptions, what a number stands for.
+// Keeps numbers by octets. A look-up takes as many steps as a logarithm of their count.
 
 ghost use Rattle.std.specs.Prelude.{◌≡◌, ℕ, List, Some, cond, OnOk};
 ghost use Rattle.std.specs.Str.{bytes_eq};

@@ -1,6 +1,4 @@
-// Octets in order, each with a number, found by a word in any case. Numbers by octets flow in once, and then words; numbers flow
-// out, in as many steps as a logarithm of their count, and without memory.
-// What must not be here: descriptions, what a number stands for.
+// Octets in order, each with a number, found by a word in any case.
 
 ghost use Rattle.std.specs.Prelude.{◌≡◌, map, IfOk};
 ghost use Rattle.std.specs.Char.{to_ascii_lowercase};

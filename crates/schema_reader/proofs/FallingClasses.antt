@@ -1,4 +1,4 @@
--- A class from which ranks fall at once, where they never rise, is on no loop. Facts on lists flow in and out; no value of the program is here.
+-- A class from which ranks fall at once, where they never rise, is on no loop.
 use Rattle.std.proofs.Common.{ℕ, ◌+◌, ◌<◌, ◌≤◌, zero, suc, List, [], ◌∷◌, ◌++◌, Bool, true, false, cond, ◌&&◌, ◌||◌, Option, None, Some, ◌≡◌, ◌⊎◌, inl, inr, refl, ap, sym, subst, ◌∙◌, length, slice_get, nat_eq, nat_le, nat_lt, arith}
 use Rattle.std.specs.List.{list_all}
 use Rattle.std.proofs.lemmas.Bool.{cases_lt}

@@ -1,4 +1,4 @@
--- What follows where nothing is wrong with a text. Facts on lists flow in and out; no value of the program is here.
+-- What follows where nothing is wrong with a text.
 use Rattle.std.proofs.Common.{ℕ, ◌+◌, ◌<◌, zero, suc, List, [], ◌∷◌, Bool, true, false, cond, ◌&&◌, Option, None, Some, is_some, ◌≡◌, refl, ap, subst, ◌∙◌, length, map, nat_lt, arith, codes}
 use Rattle.std.specs.List.{list_all, position_from, slice_get}
 use Rattle.std.proofs.lemmas.List.{length-map}

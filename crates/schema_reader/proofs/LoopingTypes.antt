@@ -1,5 +1,4 @@
--- A type is on a loop of SUPs where more SUPs than there are types lead to it. Facts on lists flow in and out; no value of the program is
--- here.
+-- A type is on a loop of SUPs where more SUPs than there are types lead to it.
 use Rattle.std.proofs.Common.{ℕ, ◌+◌, ◌*◌, ◌/◌, ◌<◌, ◌≤◌, zero, suc, List, [], ◌∷◌, Bool, true, false, ◌||◌, Option, None, Some, ◌≡◌, ◌⊎◌, inl, inr, refl, ap, sym, subst, ◌∙◌, length, map, set, replicate, nat_eq, arith}
 use Rattle.std.specs.List.{IsDistinct, list_any}
 use Rattle.std.proofs.Math.Nat.{mul-le-mul_left}

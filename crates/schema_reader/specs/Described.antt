@@ -1,4 +1,4 @@
--- The types and classes that descriptions stand for: RFC 4512 4.1. Descriptions flow in, a schema flows out; faults are not here.
+-- The types and classes that descriptions stand for: RFC 4512 4.1.
 use Rattle.std.specs.Prelude.{ℕ, ◌+◌, List, [], ◌∷◌, map, cond, Option, None, Some}
 use Rattle.std.specs.Str.{is_utf8}
 use Rattle.schema_meaning.specs.ldap_words.declared.rule.Family.{Family}

@@ -1,5 +1,4 @@
--- A schema's text and its schema, or the first thing that is wrong with it: RFC 4512 4.1. A text flows in, a schema or a fault
--- flows out; how it is read is not here.
+-- A schema's text and its schema, or the first thing that is wrong with it: RFC 4512 4.1.
 use Rattle.std.specs.Prelude.{ℕ, List, length, Bool, true, false, cond, not, Option, None, Some, is_some, Result, Ok, Err, nat_eq, slice_get, codes, ◌≡◌}
 use Rattle.std.specs.List.{list_any, position_from}
 use Rattle.schema_meaning.specs.ldap_words.declared.rule.Family.{Family}

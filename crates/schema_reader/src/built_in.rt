@@ -1,5 +1,4 @@
-// The text of the built-in schema. Nothing flows in; the text flows out, which is read as any other is.
-// What must not be here: how texts are read, questions to the schema.
+// The text of the built-in schema.
 
 /// The types of RFC 4519 2 that the built-in schema has, this server's own types, and their classes (RFC 4512 4.1).
 pub const BUILT_IN: &str =

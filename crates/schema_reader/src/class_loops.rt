@@ -1,7 +1,6 @@
-// Classes whose superclasses lead back to them. Classes and descriptions flow in, the number of a line flows out. Classes get ranks that
-// never rise on a way up; where they fall at once from a class, no way leads back to it. Only other classes are searched one by one, and the
-// first of them mostly is on a loop.
-// What must not be here: the reading of descriptions, types, how ranks are found.
+// Classes whose superclasses lead back to them. Classes get ranks that never rise on a way up; where they fall at once
+// from a class, no way leads back to it. Only other classes are searched one by one, and the first of them mostly is on
+// a loop.
 
 ghost use Rattle.std.specs.Prelude.{◌≡◌, IfOk, IsTrue, nat_le, nat_lt};
 ghost use Rattle.std.specs.List.{list_all};

@@ -1,5 +1,4 @@
-// Descriptions become types and classes. Descriptions flow in, types and classes flow out.
-// What must not be here: the reading of descriptions, faults.
+// Makes types and classes of descriptions.
 
 ghost use Rattle.std.specs.Prelude.{◌≡◌, IfOk, map, string_bytes};
 ghost use Rattle.schema_meaning.specs.Naming as naming;

@@ -1,5 +1,4 @@
-// Why a text is no schema. Nothing flows in; the fault with its line flows out.
-// What must not be here: faults of values, of names, of entries.
+// Why a text is no schema, with the line.
 
 ghost use Rattle.std.specs.Prelude.{◌≡◌};
 ghost use Rattle.schema_reader.specs.declared.error.SchemaError.TheVariants.{NoMemory};

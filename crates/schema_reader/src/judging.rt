@@ -1,5 +1,4 @@
-// The first thing that is wrong with a text. A text, its types and its classes flow in, the type objectClass or a fault flows out.
-// What must not be here: how each fault is found.
+// Finds the first thing that is wrong with a text.
 
 ghost use Rattle.std.specs.Prelude.{◌≡◌, None, Some, IfOk, IfErr};
 ghost use Rattle.schema_meaning.specs.Faults as faults;

@@ -1,5 +1,4 @@
-// What is wrong with the types and classes of a text. Types, classes and descriptions flow in, numbers of lines flow out.
-// What must not be here: the reading of descriptions, loops of types and of classes.
+// Finds what is wrong with the types and classes of a text.
 
 ghost use Rattle.std.specs.Prelude.{◌≡◌, slice_get};
 ghost use Rattle.schema_meaning.specs.Faults.{first_of_types};

@@ -1,6 +1,5 @@
-// Ranks of classes by a walk up: classes that lead to each other get one rank, and a class gets a greater one than the others that it leads
-// to. A table of classes flows in, a rank for each class flows out. The walk is trusted with nothing: what it finds is tested.
-// What must not be here: what ranks are for, descriptions.
+// Ranks of classes by a walk up: classes that lead to each other get one rank, and a class gets a greater one than the
+// others that it leads to. The walk is trusted with nothing: what it finds is tested.
 
 use ldap_schema::{ClassId, ObjectClass, superclasses_of};
 use std::alloc::{AllocError, Global};

@@ -1,5 +1,4 @@
-// Schemas of texts. A text flows in; a schema, or the first thing that is wrong, flows out.
-// What must not be here: how descriptions are read, judged and numbered.
+// Reads a schema from a text, or says what is wrong first.
 
 ghost use Rattle.std.specs.Prelude.{◌≡◌, Ok, IfOk, IfErr};
 ghost use Rattle.schema_reader.specs.Reading.{schema_of_text, schema_of_lines, IsRefusalOf};

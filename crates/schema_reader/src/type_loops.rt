@@ -1,6 +1,5 @@
-// Types whose SUP leads back to them. Types and descriptions flow in, the number of a line flows out. A type is on a loop where more SUPs
-// than there are types lead to it: SUPs are taken twice as many at a time.
-// What must not be here: the reading of descriptions, classes.
+// Types whose SUP leads back to them. A type is on a loop where more SUPs than there are types lead to it: SUPs are
+// taken twice as many at a time.
 
 ghost use Rattle.std.specs.Prelude.{◌≡◌, ℕ, IfOk, length, map, replicate, false};
 ghost use Rattle.schema_meaning.specs.Faults.{first_of_types};

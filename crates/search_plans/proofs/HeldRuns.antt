@@ -1,4 +1,4 @@
--- What a test on keys asks for is what its item asks for of values. Facts on lists flow in and out; no value of the program is here.
+-- What a test on keys asks for is what its item asks for of values.
 use Rattle.std.proofs.Common.{◌≡◌, ℕ, Bool, true, false, not, ◌&&◌, ◌||◌, List, [], ◌∷◌, cond, nat_eq, Option, None, Some, is_some, map, encode_utf8_all, refl, sym, ap, ap₂, subst, ◌∙◌, eqb-true, slice_get}
 use Rattle.std.specs.Option.{option_and_then}
 use Rattle.std.specs.List.{list_any, list_all}

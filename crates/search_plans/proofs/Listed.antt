@@ -1,4 +1,4 @@
--- Plans that are the same `or` of posting lists. Facts of their parts flow in, facts of the plans flow out.
+-- Plans that are the same `or` of posting lists.
 use Rattle.std.proofs.Common.{◌≡◌, ◌<◌, ◌≤◌, ◌+◌, ℕ, Bool, true, false, ◌||◌, List, [], ◌∷◌, ◌++◌, map, drop, Vec, Global, Result, Ok, Err, IfOk, length, take, get_or, refl, sym, ap, ◌∙◌}
 use Rattle.std.proofs.lemmas.List.{append-nil, drop_all, take_more, take_all}
 use Rattle.std.proofs.lemmas.List.Folds.{list_any-append}

@@ -1,5 +1,4 @@
--- What it is to bound a filter from both sides. An index choice, a filter and two plans flow in, a statement flows
--- out. How plans are made is not here.
+-- What it is to bound a filter from both sides.
 use Rattle.std.specs.Prelude.{◌≡◌, ℕ, Bool, true, false, ◌||◌, List}
 use Rattle.std.specs.List.{list_all, AllByRecursion}
 use Rattle.ldap_eval.specs.ldap_match.declared.truth.Truth.{Truth}

@@ -1,5 +1,4 @@
--- Which filters the indexes decide. A schema, an index choice and a filter flow in; yes or no flows out. Keys, bound filters, and how plans are
--- made, are not here.
+-- Which filters the indexes decide.
 use Rattle.std.specs.Prelude.{ℕ, ◌+◌, List, [], ◌∷◌, Bool, true, false, not, cond, ◌&&◌, ◌||◌, Option, None, Some}
 use Rattle.std.specs.List.{list_all}
 use Rattle.ldap_eval.specs.dir_entry.ldap_schema.Schema.{SchemaModel, TypeModel, find, is_under}

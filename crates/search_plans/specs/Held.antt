@@ -1,5 +1,4 @@
--- Which entries hold the runs of octets that a filter asks for. A schema, an index choice, a filter and an entry's values flow in; yes or no
--- flows out. Keys, bound filters, and how plans are made, are not here.
+-- Which entries hold the runs of octets that a filter asks for.
 use Rattle.std.specs.Prelude.{ℕ, List, Bool, true, false, not, cond, ◌&&◌, ◌||◌, nat_eq, map, encode_utf8_all, Option, None, Some}
 use Rattle.std.specs.List.{list_any, list_all}
 use Rattle.ldap_eval.specs.ldap_syntax.Meaning.{Meaning, number, text, truth, octets, identifier, name}

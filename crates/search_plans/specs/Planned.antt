@@ -1,5 +1,4 @@
--- What the plans of a filter are, by the filter's own value. A schema, an index choice, a filter and two plans flow in, a statement flows out.
--- Bound filters, and how plans are made, are not here.
+-- What the plans of a filter are, by the filter's own value.
 use Rattle.std.specs.Prelude.{◌≡◌, ℕ, Bool, true, List}
 use Rattle.ldap_eval.specs.dir_entry.ldap_schema.Schema.{SchemaModel}
 use Rattle.ldap_eval.specs.dir_entry.ldap_dn.Names.{RdnModel}

@@ -1,5 +1,4 @@
--- What a run of plans is given, and how far it has come. Numbers, tests of them and values flow in and out; what
--- keeps the posting lists is not here.
+-- What a run of plans is given, and how far it has come.
 use Rattle.std.specs.Prelude.{ℕ, Bool, true, false, ◌&&◌, not, List, filter}
 use Rattle.dir_index.specs.ldap_match.declared.truth.Truth.{Truth}
 use Rattle.dir_index.specs.ldap_match.declared.truth.Truth.TheVariants.{True}

@@ -1,4 +1,4 @@
--- The numbers of a scope. What it borrows flows in, a list flows out.
+-- The numbers of a scope.
 use Rattle.std.specs.Prelude.{ℕ, List}
 use Rattle.search_plans.specs.declared.scope.Source.{Source}
 use Rattle.search_plans.specs.declared.scope.Source.TheVariants.{Slice, Set}

@@ -1,5 +1,4 @@
--- The sets that plans mean. A plan flows in, with what is kept and a scope, or with one entry; a set, or a yes or
--- no, flows out. Filters are not here.
+-- The sets that plans mean.
 use Rattle.std.specs.Prelude.{◌≡◌, ℕ, ◌<◌, Bool, true, false, ◌&&◌, not, List, [], ◌∷◌}
 use Rattle.std.specs.List.{list_any, list_all, AllByRecursion}
 use Rattle.dir_index.specs.ldap_match.declared.truth.Truth.{Truth}

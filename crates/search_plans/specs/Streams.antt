@@ -1,4 +1,4 @@
--- Rising lists seen as one. Lists of numbers flow in, one rising list flows out; plans and entries are not here.
+-- Rising lists seen as one.
 use Rattle.std.specs.Prelude.{◌≡◌, ℕ, List, [], ◌∷◌, Bool, true, cond, nat_eq, nat_lt, ◌&&◌, filter}
 use Rattle.dir_index.specs.Postings.{has_number}
 

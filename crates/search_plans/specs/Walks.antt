@@ -1,4 +1,4 @@
--- What a walk still has to give. What it goes through flows in, a list flows out.
+-- What a walk still has to give.
 use Rattle.std.specs.Prelude.{ℕ, List, drop}
 use Rattle.search_plans.specs.declared.walking.Rest.{Rest}
 use Rattle.search_plans.specs.declared.walking.Rest.TheVariants.{OfSlice, OfSet, Gathered}

@@ -1,5 +1,4 @@
-// What a plan's set says of a number is what the plan says of the entry. A law, with no code.
-// What must not be here: filters.
+// Shows that what a plan's set says of a number is what the plan says of the entry. A law, with no code.
 
 ghost use Rattle.search_plans.specs.Sets.{SetsAreOfEntries};
 

@@ -1,5 +1,4 @@
-// The recursion over a bound filter. A filter and the wanted value flow in, two plans flow out.
-// What must not be here: which index serves which test.
+// Compiles a bound filter into plans, by recursion.
 
 ghost use Rattle.std.specs.Prelude.{◌≡◌, true, List, IfOk, Vec};
 ghost use Rattle.std.specs.Global.{Global};

@@ -1,5 +1,4 @@
-// Membership in plans. A plan, what is kept and a number go in, a yes or no comes out, without memory.
-// What must not be here: lists that are made of a plan's set.
+// Membership in plans: whether a number is in what a plan allows. It takes no memory.
 
 ghost use Rattle.std.specs.Prelude.{◌≡◌};
 ghost use Rattle.std.specs.List.{list_any, list_all};

@@ -1,5 +1,5 @@
-// What it costs to draw candidates from a plan's posting lists. Plans and what is kept go in, numbers come
-// out that decide the cost of a run and never what it gives. What must not be here: lists that are made.
+// Estimates what it costs to draw candidates from a plan's posting lists. It decides a run's cost and never what it
+// gives.
 
 use crate::plan::Plan;
 use crate::scope::Scope;

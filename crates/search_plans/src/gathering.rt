@@ -1,5 +1,4 @@
-// Candidates of a plan: walks that together have at least the numbers of its set within the scope. A plan
-// and what is kept go in, a stream comes out. What must not be here: whether a candidate is in the set.
+// Gathers the candidates of a plan: walks that together have at least the numbers of its set within the scope.
 
 ghost use Rattle.std.specs.Prelude.{◌≡◌, ℕ, false, IfOk, OnOk};
 ghost use Rattle.std.specs.List.{list_any, list_all};

@@ -1,5 +1,4 @@
-// Rising lists of numbers, searched. A list and a number flow in, a yes or no flows out.
-// What must not be here: plans.
+// Searches rising lists of numbers.
 
 ghost use Rattle.std.specs.Prelude.{◌≡◌};
 ghost use Rattle.dir_index.specs.Postings.{has_number, IsRising};

@@ -1,5 +1,5 @@
-// Two bounds on one type are one range. The plans of an `and`'s parts go in, more plans come out that hold
-// wherever all of those hold, and that fewer candidates are drawn from. What must not be here: filters.
+// Joins two bounds on one type into one range: more plans that hold wherever all plans of an `and` hold, from which
+// fewer candidates are drawn.
 
 ghost use Rattle.std.specs.Prelude.{◌≡◌, ◌<◌, ◌≤◌, true, List, length, IfOk, OnOk};
 ghost use Rattle.std.specs.Option.{IfSome};

@@ -1,5 +1,4 @@
-// Plans of one leaf: a test on the attributes of one type and the type's indexes flow in, two plans flow out.
-// What must not be here: filters with parts.
+// Makes the two plans of one leaf: a test on the attributes of one type with indexes.
 
 ghost use Rattle.std.specs.Prelude.{◌≡◌, true, false, not, List, IfOk};
 ghost use Rattle.ldap_eval.specs.ldap_match.Truth.{truth_of};

@@ -1,5 +1,5 @@
-// Candidates that need not be asked about: where what must be and what may be are the same `or` of posting lists, what these hold is the
-// answer. Two plans and what is kept go in, walks come out. What must not be here: plans of other forms, what a run costs.
+// Candidates that need not be asked about: where what must be and what may be are the same `or` of posting lists, what
+// these hold is the answer.
 
 ghost use Rattle.std.specs.Prelude.{◌≡◌, ◌||◌, ℕ, List, true, IfOk, IfSome};
 ghost use Rattle.std.specs.List.{list_any};

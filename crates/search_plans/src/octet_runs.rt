@@ -1,5 +1,4 @@
 // Chooses the runs of three octets that a plan asks a substrings assertion's candidates for.
-// What must not be here: what the plans bound.
 
 ghost use Rattle.std.specs.Prelude.{◌≡◌, OnOk, IfOk};
 ghost use Rattle.std.specs.Option.{option_copied};

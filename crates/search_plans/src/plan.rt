@@ -1,5 +1,4 @@
 // Plans: the sets of numbers that are made of posting lists and a scope. Plain data.
-// What must not be here: how a plan is made, and how it is run.
 
 use dir_index::{Posting, Range};
 

@@ -1,5 +1,4 @@
-// Posting lists that are asked about rising numbers. A set goes in, and whether a number is in it comes out, without memory.
-// What must not be here: plans, and what a yes or no is used for.
+// Asks posting lists about rising numbers: whether each is in a set. It takes no memory.
 
 ghost use Rattle.std.specs.Prelude.{◌≡◌, slice_get};
 ghost use Rattle.dir_index.specs.shared_map.Ahead.{ahead};

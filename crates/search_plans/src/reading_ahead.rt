@@ -1,6 +1,5 @@
-// Posting lists of an intersection, read ahead. A resolved plan goes in; what comes out says nothing. A run goes over the shortest list, and goes
-// forward in another to each of its numbers; where no cache has their leaves, each is waited for. Here the leaves of both are read at once.
-// What must not be here: what a run finds.
+// Posting lists of an intersection, read ahead. A run goes over the shortest list, and goes forward in another to each
+// of its numbers; where no cache has their leaves, each is waited for. Here the leaves of both are read at once.
 
 use crate::resolved::ResolvedPlan;
 use dir_index::NumberSet;

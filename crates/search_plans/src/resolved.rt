@@ -1,7 +1,6 @@
-// Plans whose posting lists were looked up. A plan and what is kept go in, and a tree of walks over borrowed lists comes out. The tree tells
-// whether a number in scope is in the plan's set, without memory, and looks no list up again. It is asked about rising numbers: each question
-// takes the lists that it asks forward to its number, and a list that it doesn't ask stays behind until a later question.
-// What must not be here: where candidates come from, and what a yes or no is used for.
+// Plans whose posting lists were looked up. The tree tells whether a number in scope is in the plan's set, without
+// memory, and looks no list up again. It is asked about rising numbers: each question takes the lists that it asks
+// forward to its number, and a list that it doesn't ask stays behind until a later question.
 
 ghost use Rattle.std.specs.Prelude.{◌≡◌, IfOk};
 ghost use Rattle.std.specs.List.{list_any, list_all};

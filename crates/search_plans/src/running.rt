@@ -1,5 +1,4 @@
-// Runs of plans. Candidates of the plan that has all that may be found flow in, the numbers that are found flow out.
-// What must not be here: how one candidate is told.
+// Runs plans: takes each candidate and keeps those that are found.
 
 ghost use Rattle.std.specs.Prelude.{◌≡◌, ◌+◌, ◌^◌, ◌<◌, ◌≤◌, [], ◌∷◌, filter, length, nat_le, IfOk, MatchOption};
 ghost use Rattle.search_plans.specs.Runs.{AreGuides, left_open, true_set};

@@ -1,6 +1,4 @@
-// Scopes: the numbers that a run is asked of. Borrowed numbers go in; whether a number is there, how many
-// there are, and a walk through them come out.
-// What must not be here: plans.
+// A scope: the numbers that a run is asked of.
 
 ghost use Rattle.std.specs.Prelude.{◌≡◌, length};
 ghost use Rattle.dir_index.specs.Postings.{has_number, IsRising};

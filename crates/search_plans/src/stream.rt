@@ -1,6 +1,4 @@
-// Candidates: walks through rising numbers, seen as one rising list. Walks go in, numbers come out, one a
-// call, without memory.
-// What must not be here: plans, entries.
+// Candidates: walks through rising numbers, seen as one rising list. It takes no memory.
 
 ghost use Rattle.std.specs.Prelude.{◌≡◌, ◌∷◌, [], map, MatchOption};
 ghost use Rattle.search_plans.specs.Streams.{together};

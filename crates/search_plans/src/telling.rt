@@ -1,5 +1,4 @@
-// One candidate of a run. Resolved plans and a number go in; whether the number is found comes out, and the plans are taken forward to it.
-// What must not be here: where candidates come from.
+// Decides one candidate of a run, and takes the plans forward to it.
 
 ghost use Rattle.std.specs.Prelude.{◌≡◌, ℕ, ◌+◌, ◌^◌, ◌<◌, true, cond};
 ghost use Rattle.dir_index.specs.Postings.{has_number};

@@ -1,5 +1,4 @@
-// Where the values of entries come from. A number flows in, the value of its entry flows out.
-// What must not be here: plans.
+// The values of entries. A trait.
 
 ghost use Rattle.std.specs.Prelude.{◌≡◌, ℕ, ◌+◌, ◌^◌, ◌<◌};
 ghost use Rattle.dir_index.specs.ldap_match.declared.truth.Truth.{Truth};

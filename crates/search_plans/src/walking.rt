@@ -1,6 +1,4 @@
-// Walks through rising numbers: of a slice, of a set, or of numbers that were gathered for it. Numbers go in,
-// numbers come out, one a call, without memory.
-// What must not be here: walks through several lists at once, plans.
+// Walks through rising numbers: of a slice, of a set, or of numbers that were gathered for it. It takes no memory.
 
 ghost use Rattle.std.specs.Prelude.{◌≡◌, slice_get};
 ghost use Rattle.search_plans.specs.private.Streams.{behind as left_behind};

@@ -1,9 +1,8 @@
-//! Puts one replica together and runs it: a node, its clock and its files, under the threads of
-//! `server_threads`.
+//! Puts one replica together and runs it: a node, its clock and its files, under the threads of `server_threads`.
 //!
-//! One replica put together: `opening` opens the node over its files, `ticking` is the node with its clock behind `Engine`, `serving` joins
-//! them to the threads. `peer_queues` queues what the node sends, but for a GETSTATE while the answer to an earlier one may be on its way. No
-//! rule of the protocol or of the directory is here, and no clause but those of safety.
+//! One replica put together: `opening` opens the node over its files, `ticking` is the node with its clock behind
+//! `Engine`, `serving` joins them to the threads. `peer_queues` queues what the node sends, but for a GETSTATE while
+//! the answer to an earlier one may be on its way.
 #![tactic(auto)]
 
 mod opening;

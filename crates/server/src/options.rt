@@ -1,4 +1,4 @@
-//! What a server is told. Plain data flows in and out. What is done with it is not here.
+//! The settings of a server. Plain data.
 use node_gate::{Name, NodeConfig};
 use server_threads::{Build, Limits, Logs, Place, Terms};
 use std::net::SocketAddr;

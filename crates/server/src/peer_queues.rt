@@ -1,4 +1,4 @@
-//! Messages on their way from the node to other replicas: each goes into the queue of its receiver. How one becomes a frame is not here.
+//! Messages on their way from the node to other replicas: each goes into the queue of its receiver.
 use node_gate::{Cluster, Op, Pace, PeerMessage, Peers, Send};
 use server_threads::SharedParts;
 use std::sync::{Mutex, Wait};

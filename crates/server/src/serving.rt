@@ -1,5 +1,4 @@
-//! A replica put together: its node, its queues and its clock, handed to its threads. Settings flow in; clients and replicas are served until the
-//! node has stopped for good. Listeners and threads are not here.
+//! A replica put together: its node, its queues and its clock, handed to its threads.
 ghost use Rattle.std.specs.Prelude.{◌≡◌};
 ghost use Rattle.node_gate.specs.Identities.{identity_of};
 

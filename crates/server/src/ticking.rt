@@ -1,5 +1,4 @@
-//! A node with its clock: what other replicas sent, and what a replica does by itself. Messages and time flow in; events flow to the node. What is due,
-//! and when, is decided by `replica_clock`; what an event makes is not here.
+//! A node with its clock: what other replicas sent, and what a replica does by itself.
 use crate::opening::fault_of_node;
 use crate::options::Times;
 use crate::peer_queues::{PeerQueues, PeerQueuesAt};

@@ -1,4 +1,4 @@
--- Lines that are said and the notes that stand for them until they are written. What a line says, and threads, are not here.
+-- Lines that are said and the notes that stand for them until they are written.
 use Rattle.std.specs.Prelude.{◌≡◌, ℕ, ◌+◌, ◌<◌, ◌≤◌, min, List, [], ◌∷◌, ◌++◌, length, All, string_bytes, cond, ◌==◌}
 use Rattle.server_threads.specs.declared.notes.Note.{Note}
 use Rattle.server_threads.specs.declared.notes.Note.TheVariants.{Line, Dropped}

@@ -1,4 +1,4 @@
-//! The address of each session's client, from the session's begin to its end, where sessions are logged. What is logged is not here.
+//! The address of each session's client, from the session's begin to its end, where sessions are logged.
 use std::alloc::Global;
 use std::collections::BTreeMap;
 use std::net::SocketAddr;

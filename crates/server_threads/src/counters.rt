@@ -1,4 +1,4 @@
-//! Counts of what a server answers, for monitors. All of its threads count, and none takes a lock for it. What the figures say is not here.
+//! Counts of what a server answers, for monitors. All of its threads count, and none takes a lock for it.
 use session_pool::{Budget, Ended, Found, LookError, Reply, SearchAnswer};
 use status_page::{ClientCounts, Counts, Labelled};
 use std::alloc::{AllocError, Global};

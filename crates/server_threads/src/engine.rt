@@ -1,4 +1,4 @@
-//! What the threads of a server ask of its node. Messages of other replicas flow in; what the node makes of them is not here, nor what a node is.
+//! What the threads of a server ask of its node. A trait.
 use crate::fault::ServerError;
 use replica_greeting::{Op, PeerMessage};
 use status_page::Figures;

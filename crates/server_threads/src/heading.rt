@@ -1,4 +1,4 @@
-//! The first octets of a frame: whether it may be one that another replica of this cluster sends. What a frame says is not here.
+//! The first octets of a frame: whether it may be one that another replica of this cluster sends.
 use replica_greeting::{
     Cluster, HEADING as GREETING_HEADING, Heading, WireError, greeting_heading,
     heading as kind_and_sender, rest,

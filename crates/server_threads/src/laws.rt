@@ -1,4 +1,4 @@
-//! Laws of lines that are said. Code that runs is not here.
+//! Laws of lines that are logged.
 ghost use Rattle.server_threads.specs.Lines.{CountsAll};
 
 /// Notes that wait stand for all lines that were said since the last that was taken, whatever was said: a law on the definitions, so its body is

@@ -1,5 +1,5 @@
-//! Lines that wait to be written. They come in at the back, equal ones in a row as one note, and leave as notes at the front. Threads and standard
-//! error are not here.
+//! Lines that wait to be written. They come in at the back, equal ones in a row as one note, and leave as notes at the
+//! front.
 ghost use Rattle.std.specs.Prelude.{◌≡◌, ◌↔◌, ◌<◌, ◌≤◌, ℕ, List, ◌∷◌, ◌++◌, [], length, IfSome, IfNone, IfOk, IsTrue, IsFalse, string_bytes};
 ghost use Rattle.server_threads.specs.Lines.{HasSaid, HasDropped, EndsWith, NoteValue, note_of, line, one_more};
 

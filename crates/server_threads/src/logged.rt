@@ -1,5 +1,5 @@
-//! A directory whose answers are counted, and whose updates and slow searches are logged. Each request goes on to it, and its answer comes back as it is. What a line says is not
-//! here.
+//! A directory whose answers are counted, and whose updates and slow searches are logged. Each request goes on to it,
+//! and its answer comes back as it is.
 ghost use Rattle.std.specs.Prelude.{◌≡◌};
 
 use crate::counters::Counters;

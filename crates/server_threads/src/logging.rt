@@ -1,4 +1,4 @@
-//! What is logged of updates and of slow searches, a line an event. Whether it is logged is not decided here.
+//! What is logged of updates and of slow searches, a line an event.
 use crate::reporter::Reporter;
 use crate::showing::shown;
 use explanations::code_word;

@@ -1,4 +1,4 @@
-//! What is logged where it is asked for, beside what is always told. Plain data. What a line says is not here.
+//! What is logged where it is asked for, beside what is always told. Plain data.
 
 /// What is logged beside what is always told.
 #[derive(Clone, Copy)]

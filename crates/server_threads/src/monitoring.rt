@@ -1,4 +1,5 @@
-//! Answers monitors over HTTP/1.1, each once, sixteen beside one another. One thread looks at all of them, and waits for none. What the pages say is not here.
+//! Answers monitors over HTTP/1.1, each once, sixteen beside one another. One thread looks at all of them, and waits
+//! for none.
 use crate::engine::Engine;
 use crate::resident::resident_octets;
 use crate::shared_parts::SharedParts;

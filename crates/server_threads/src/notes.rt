@@ -1,4 +1,4 @@
-//! What is written on standard error: notes, each of which stands for lines that were said. Queues and threads are not here.
+//! What is written on standard error: notes, each of which stands for lines that were said.
 ghost use Rattle.std.specs.Prelude.{◌≡◌, ℕ, IsTrue, IsFalse};
 ghost use Rattle.server_threads.specs.Lines.{note_of, line, one_more, IsLineOf};
 

@@ -1,4 +1,4 @@
-//! Where replicas are found. Plain data flows in and out. What is done with it is not here.
+//! Where replicas are found: their addresses. Plain data.
 use crate::fault::ServerError;
 use peer_link::Address;
 use std::alloc::{AllocError, Global};

@@ -1,5 +1,6 @@
-//! Strangers at the port for peers: connections that have shown no greeting yet. They are looked at without waiting, all by one thread, and those
-//! whose first octets may begin another replica's greeting are handed to a thread that reads. Frames are not here.
+//! Strangers at the port for peers: connections that have shown no greeting yet. They are looked at without waiting,
+//! all by one thread, and those whose first octets may begin another replica's greeting are handed to a thread that
+//! reads.
 use crate::heading::{HEADING, Senders};
 use crate::reporter::Reporter;
 use crate::telling::tell_peer_went;

@@ -1,4 +1,4 @@
-//! What other replicas send: a greeting, and then frames, which become messages that the node hears. What a message makes of it is not here.
+//! What other replicas send: a greeting, and then frames, which become messages that the node hears.
 use crate::counters::Counters;
 use crate::engine::Engine;
 use crate::heading::{BEHIND_LENGTH, HEADING, Senders, refusal_of};

@@ -1,5 +1,4 @@
-//! The threads of a server, and how they end. What they share flows in, with a directory for each seat; clients and replicas are served until the
-//! node behind them ends. What the node does is not here.
+//! Starts the threads of a server, and ends them.
 ghost use denote.Param.Send.{IsSend, IsSync};
 
 use crate::engine::Engine;

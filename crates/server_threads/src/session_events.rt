@@ -1,4 +1,4 @@
-//! What is told of a server's sessions, a line an event. What a session answers is not here.
+//! Logs the events of sessions, a line each.
 use crate::addresses::Addresses;
 use crate::counters::Counters;
 use crate::engine::Engine;

@@ -1,5 +1,4 @@
--- The responses of a search, one after the other. Responses flow in; that one of them is too long, or what they are together, flows out. Octets
--- are not read here.
+-- The responses of a search, one after the other. Octets are not read here.
 use Rattle.std.proofs.Common.{◌≡◌, ◌+◌, ◌-◌, ◌<◌, ◌≤◌, ◌^◌, inl, inr, arith, ℕ, List, [], ◌∷◌, ◌++◌, append_assoc, drop, get_or, map, length, sym, ap, ◌∙◌, subst, Result, Ok, Err}
 use Rattle.std.specs.Prelude.{IfOk, IsErrOf}
 use Rattle.request_checks.specs.ldap_msg.Messages.{MessageValue}

@@ -1,4 +1,4 @@
--- Sessions that go on, and what is asked first. Facts on definitions flow in and out; no value of the program is here.
+-- Sessions that go on, and what is asked first.
 use Rattle.std.proofs.Common.{◌≡◌, inl, inr, ℕ, List, ◌∷◌, ◌++◌, refl, sym, subst, append_assoc}
 use Rattle.request_checks.specs.ldap_msg.Messages.{RequestValue, MessageValue}
 use Rattle.directory_api.specs.Talk.{Exchange}

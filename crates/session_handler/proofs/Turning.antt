@@ -1,5 +1,4 @@
--- What is done, step by step. Facts on results and talks flow in; the fact one step further out flows out. Octets and messages are not read
--- here.
+-- What is done, step by step. Octets and messages are not read here.
 use Rattle.std.proofs.Common.{◌≡◌, inl, ℕ, List, [], ◌∷◌, ◌++◌, refl, subst, Result, Ok, Err}
 use Rattle.std.specs.Prelude.{OnOk, OnErr}
 use Rattle.request_checks.specs.ldap_msg.Messages.{SearchRequestValue, CompareRequestValue, RequestValue, MessageValue}

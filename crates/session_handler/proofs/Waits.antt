@@ -1,4 +1,4 @@
--- What asks for an update, and what asks for none. Facts on definitions flow in and out; no value of the program is here.
+-- What asks for an update, and what asks for none.
 use Rattle.std.proofs.Common.{◌≡◌, ℕ, ◌+◌, Bool, true, false, cond, ◌&&◌, List, [], ◌∷◌, Option, None, Some, Result, Ok, Err, is_some, is_ok, refl, sym, ap, ap₂, ◌∙◌, arith}
 use Rattle.request_checks.specs.ldap_msg.Messages.{RequestValue, bind, unbind, search, modify, add, delete, modify_dn, compare, abandon, extended_request, ControlValue, OperationValue, request, response, MessageValue}
 use Rattle.directory_api.specs.ldap_op.Values.{OpValue}

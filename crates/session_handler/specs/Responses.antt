@@ -1,4 +1,4 @@
--- The messages that answer a request: RFC 4511 4.1.1 and 4.1.9. Results flow in; messages flow out.
+-- The messages that answer a request: RFC 4511 4.1.1 and 4.1.9.
 use Rattle.std.specs.Prelude.{ℕ, List, [], ◌∷◌, ◌++◌, codes, Option, None, Some}
 use Rattle.request_checks.specs.ldap_msg.Messages.{LdapResultValue, extended, MessageValue}
 use Rattle.directory_api.specs.Answers.{ReplyModel, only, Answer}

@@ -1,5 +1,4 @@
--- What a session has seen never gets lost. A talk flows in; whether its reads go on from what was seen before flows out. Which directory
--- answers is not here: it may be another one for each message.
+-- What a session has seen never gets lost.
 use Rattle.std.specs.Prelude.{◌≡◌, ℕ, ◌≤◌, max, List, [], ◌∷◌}
 use Rattle.request_checks.specs.ldap_msg.Messages.{MessageValue}
 use Rattle.directory_api.specs.Talk.{Looked, found, not_yet, gone, no_memory, EndedValue, done, stale, lost, refused_memory, Exchange, asked_role, learned, searched, compared, updated}

@@ -1,4 +1,4 @@
--- Octets that stand one after the other. Octets and lengths flow in, the rows that they are flow out. What the octets mean is not here.
+-- Octets that stand one after the other.
 use Rattle.std.specs.Prelude.{ℕ, ◌+◌, List, [], ◌∷◌, ◌++◌, take, drop}
 
 -- octets, one after the other

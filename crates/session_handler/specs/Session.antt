@@ -1,5 +1,4 @@
--- What each request makes of a session, what it asks of the directory, and what answers it: RFC 4511 4.1.1 to 4.12. A session's state, a
--- message and what the directory answered flow in; the state after it and the responses flow out. Octets are not here.
+-- What each request makes of a session, what it asks of the directory, and what answers it: RFC 4511 4.1.1 to 4.12.
 use Rattle.std.specs.Prelude.{ℕ, ◌+◌, max, List, [], ◌∷◌, Bool, false, true, cond, nat_lt, Option, None, Some, Result, Ok, Err}
 use Rattle.request_checks.specs.ldap_schema.Schema.{SchemaModel}
 use Rattle.request_checks.specs.ldap_dn.Names.{RdnModel}

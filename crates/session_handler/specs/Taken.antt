@@ -1,5 +1,4 @@
--- What a message was taken for. What the code answered, and the state and the directory after it, flow in; which turn of a session that was
--- flows out.
+-- What a message was taken for.
 use Rattle.std.specs.Prelude.{◌≡◌, ◌⊎◌, List, map, Result, IfOk, OnOk, OnErr, IsErrOf}
 use Rattle.request_checks.specs.ldap_msg.Messages.{MessageValue}
 use Rattle.request_checks.specs.ldap_msg.Written.{message_bytes}

@@ -1,4 +1,4 @@
--- Sessions along a talk. Messages and the questions with their answers flow in, in turn; the session after them and all responses flow out.
+-- Sessions along a talk.
 use Rattle.std.specs.Prelude.{◌≡◌, ◌⊎◌, ℕ, List, [], ◌∷◌, ◌++◌}
 use Rattle.request_checks.specs.ldap_msg.Messages.{SearchRequestValue, CompareRequestValue, RequestValue, MessageValue}
 use Rattle.directory_api.specs.ldap_op.Values.{OpValue}

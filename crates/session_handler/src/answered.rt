@@ -1,4 +1,4 @@
-//! What one message is answered with. Octets of responses, and whether the session goes on. How they come about is not here.
+//! What one message is answered with. Octets of responses, and whether the session goes on.
 ghost use Rattle.std.specs.Prelude.{◌≡◌};
 ghost use Rattle.session_handler.specs.Rows.{joined};
 

@@ -1,4 +1,4 @@
-//! What all sessions of a server share. Parts flow in; a session's own client flows out. What a session does with them is not here.
+//! What all sessions of a server share.
 ghost use Rattle.std.specs.Prelude.{◌≡◌};
 ghost use Rattle.session_handler.specs.View.{config_view};
 

@@ -1,5 +1,4 @@
-//! What a message is before anything is asked. A message flows in; a reaction that needs no question, or a request that has passed its
-//! controls, flows out. Questions are not here.
+//! Judges a message before anything is asked of a directory.
 ghost use Rattle.std.specs.Prelude.{◌≡◌, None, map};
 ghost use Rattle.request_checks.specs.ldap_msg.Messages.{request as request_operation};
 ghost use Rattle.request_checks.specs.ldap_msg.View.{view, request_view, control_view};

@@ -1,4 +1,4 @@
-//! Laws of sessions. Nothing flows in; what holds of all sessions flows out. Code that runs is not here.
+//! Laws of sessions.
 ghost use Rattle.session_handler.specs.Rising.{ReadsRise};
 ghost use Rattle.session_handler.specs.Turns.{SessionsJoin, RoleIsFirst};
 ghost use Rattle.session_handler.specs.Waiting.{OthersDoNotUpdate};

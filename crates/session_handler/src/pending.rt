@@ -1,4 +1,4 @@
-//! A request that waits for its answer. Nothing flows in; plain data flows out. What it asks for is not here.
+//! A request that waits for its answer. Plain data.
 
 use request_checks::{Answering, Named};
 

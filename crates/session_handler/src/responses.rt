@@ -1,5 +1,4 @@
-//! Responses, as a session gives them. What answers a request flows in; octets flow out, a message behind the other. What a session does is not
-//! here.
+//! Writes the responses to a request, one behind the other.
 ghost use Rattle.std.specs.Prelude.{◌≡◌, ◌≤◌, ◌^◌, ◌++◌, ◌∷◌, [], map, length, None, Ok, IfOk, OnOk, IsErrOf};
 ghost use Rattle.request_checks.specs.ldap_msg.View.{response_view, result_view};
 ghost use Rattle.request_checks.specs.ldap_msg.Written.{message_bytes, message_content};

@@ -1,5 +1,4 @@
-//! Responses that are written, one after the other in one row of octets. Octets flow in, these and the length of each response flow out. What
-//! a response says is not here.
+//! Responses that are written, one after the other in one row of octets.
 ghost use Rattle.std.specs.Prelude.{◌≡◌, ◌++◌, ◌∷◌, [], length, map, IfOk, OnOk};
 ghost use Rattle.session_handler.specs.Rows.{joined, cut, total};
 

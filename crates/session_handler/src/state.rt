@@ -1,4 +1,4 @@
-//! A session's state from message to message. Nothing flows in; plain data flows out. What changes it is not here.
+//! A session's state from message to message. Plain data.
 ghost use Rattle.std.specs.Prelude.{◌≡◌};
 ghost use Rattle.session_handler.specs.Session.{at_first, named_number, reading_from};
 

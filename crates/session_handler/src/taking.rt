@@ -1,5 +1,4 @@
-//! A message taken: what a session makes of it. A message and a directory flow in; the octets of the responses flow out, and the session's
-//! state and the directory after it stay. Streams of octets are not here.
+//! Takes a message: asks the directory and writes the responses.
 ghost use Rattle.std.specs.Prelude.{◌≡◌, ◌∷◌, [], true, None};
 ghost use Rattle.request_checks.specs.ldap_msg.View.{view, request_view, bind_view, search_view, compare_view};
 ghost use Rattle.directory_api.specs.Talk.{RoleValue, Along, asked_role, learned, looked, recovering};

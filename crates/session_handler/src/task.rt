@@ -1,5 +1,4 @@
-//! A request that a session answers: what each step of the answer needs. A request that waits for its answer flows in; the octets of a
-//! response that refuses it flow out. What is asked of a directory is not here.
+//! A request that a session answers: what each step of the answer needs.
 ghost use Rattle.std.specs.Prelude.{◌≡◌, string_bytes};
 ghost use Rattle.request_checks.specs.Messages.{referral_to};
 ghost use Rattle.session_handler.specs.Session.{refused, refused_with, identity_refused};

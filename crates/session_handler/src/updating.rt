@@ -1,5 +1,4 @@
-//! An update, asked for and answered. An update and the role of the replica flow in; the octets of the response flow out, and the session's
-//! state after it stays. Reads are not here.
+//! Asks for an update and answers it.
 ghost use Rattle.std.specs.Prelude.{◌≡◌, ◌∷◌, [], None};
 ghost use Rattle.directory_api.specs.View.{reply_view};
 ghost use Rattle.directory_api.specs.ldap_op.View.{update_view};

@@ -1,5 +1,5 @@
--- What becomes of a session in the hands of a thread. The session before and after come in, with the directory that served it; what was heard,
--- said and answered comes out. Sockets and clocks are not here.
+-- What becomes of a session in the hands of a thread. The session before and after come in, with the directory that
+-- served it; what was heard, said and answered comes out.
 use Rattle.std.specs.Prelude.{◌≡◌, ◌⊎◌, ◌≤◌, ℕ, suc, List, [], take, length, Option, Some, None}
 use Rattle.std.specs.Io.KnownBytes.{Consumes}
 use Rattle.client_link.specs.directory_api.Talk.{Exchange}

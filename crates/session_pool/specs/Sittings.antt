@@ -1,5 +1,5 @@
--- Sessions in the hands of a thread, sitting after sitting. A session and a directory before and after come in; what the thread may do with them
--- before another session has its turn comes out. Sockets, clocks and queues are not here.
+-- Sessions in the hands of a thread, sitting after sitting. A session and a directory before and after come in; what
+-- the thread may do with them before another session has its turn comes out.
 use Rattle.std.specs.Prelude.{◌⊎◌, ◌≤◌, ℕ, suc, List, None}
 use Rattle.client_link.specs.directory_api.Talk.{Exchange}
 use Rattle.client_link.specs.session_handler.Session.{ConfigValue}

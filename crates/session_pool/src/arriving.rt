@@ -1,4 +1,4 @@
-//! Connections taken from a listener, and places found for them. What is done with them is not here.
+//! Connections taken from a listener, and places found for them.
 use crate::pool::SessionPool;
 use crate::pooled::PooledSession;
 use crate::tells::{Away, Tells};

@@ -1,4 +1,4 @@
-//! A session at a seat: its messages are answered, and it is parked, queued or ended. Which session comes next is not here.
+//! A session at a seat: its messages are answered, and it is parked, queued or ended.
 ghost use Rattle.std.specs.Prelude.{◌≡◌, ◌+◌, ◌-◌, min, false, None, IsFalse};
 ghost use Rattle.std.specs.Bool.{OnTrue, OnFalse};
 ghost use Rattle.client_link.specs.session_handler.View.{config_view};

@@ -1,5 +1,4 @@
-//! Seats that take turns: of those that are free one waits for all sessions that wait. Sockets that are ready come in; sessions go out, to
-//! whoever is free. What is done with a session is not here.
+//! Seats that take turns: of those that are free one waits for all sessions that wait.
 use crate::leaving::FAREWELL;
 use crate::place_state::Turn;
 use crate::pool::{SessionPool, Watch};

@@ -1,5 +1,5 @@
-//! The places of a pool's table, and the sessions at them: each waits for its client, or for its turn. What a session says is not here. One
-//! thread at a time.
+//! The places of a pool's table, and the sessions at them: each waits for its client, or for its turn. One thread at a
+//! time.
 ghost use Rattle.std.specs.Prelude.{◌≡◌, ◌≤◌, ◌<◌, ◌++◌, ◌∷◌, [], ℕ, List, Option, Some, None, IsTrue, IsFalse, ◌↔◌, IfSome, IfNone, OnOk, OnErr, Err, IfErr, IfOk, IsOk, slice_get, replicate, nat_lt, length, vec_len, vec_capacity};
 ghost use Rattle.std.specs.VecDeque.{deque_capacity};
 ghost use Rattle.session_turns.specs.Places.{IsIn, NoneIn};

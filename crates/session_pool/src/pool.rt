@@ -1,4 +1,4 @@
-//! What the threads of a pool share. Parts come in; a pool comes out. What the threads do is not here.
+//! A pool: what its threads share.
 use crate::table::Table;
 use client_link::{Config, Door};
 use mio::{Events, Poll, Registry, Token, Waker};

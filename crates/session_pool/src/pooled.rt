@@ -1,4 +1,4 @@
-//! A session with its socket. Octets come from the socket into its conversation, and go back. Whose turn it is is not here.
+//! A session with its socket. Octets come from the socket into its conversation, and go back.
 ghost use Rattle.std.specs.Prelude.{◌≡◌, ◌↔◌, ◌+◌, [], length, min, cond, true, false, IsTrue, IsSome, None, IfOk, OnOk, OnErr};
 ghost use Rattle.client_link.specs.ldap_session.Conversing.{IsFresh};
 ghost use Rattle.client_link.specs.ldap_session.View.{conversation_view};

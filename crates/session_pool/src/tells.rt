@@ -1,4 +1,4 @@
-//! What is told of sessions. Plain data and a trait; where it is written is not here.
+//! What a pool reports of sessions, and to whom.
 use client_link::SessionEnd;
 use std::alloc::AllocError;
 use std::net::SocketAddr;

@@ -1,4 +1,4 @@
--- The places of a table. Where each stands before and after comes in; what has become of it comes out. How a place is found is not here.
+-- The places of a table. Where each stands before and after comes in; what has become of it comes out.
 use Rattle.std.specs.Prelude.{◌≡◌, ℕ, ◌<◌, ◌≤◌, List, slice_get, slice_set, Option, Some}
 use Rattle.session_turns.specs.declared.spot.Queue.{Queue}
 use Rattle.session_turns.specs.declared.spot.Spot.{Spot}

@@ -1,4 +1,4 @@
-//! Where each place of a table stands. Places come in and go out by their numbers; which one has stood longest in a queue is looked up.
+//! Where each place of a table stands.
 ghost use Rattle.std.specs.Prelude.{◌≡◌, ℕ, List, replicate, slice_get, IfOk, IfSome, IfNone, OnOk, OnErr};
 ghost use Rattle.session_turns.specs.Places.{IsAway, IsIn, IsLongest, NoneIn, HasPut, HasTaken};
 ghost use Rattle.session_turns.specs.private.Listed.{place_at, AllTell};

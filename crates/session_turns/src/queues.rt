@@ -1,4 +1,4 @@
-//! The queues of a table: by the turn since which it stands there, each place. Which place stands where is not here.
+//! The queues of a table: by the turn since which it stands there, each place.
 ghost use Rattle.std.specs.Prelude.{◌≡◌, ◌&&◌, ℕ, cond, nat_eq, Some, None, IfSome, IfNone, IfOk, OnOk, OnErr};
 ghost use Rattle.std.specs.BTreeMap.{get};
 ghost use Rattle.std.specs.Ordering.{nat_cmp};

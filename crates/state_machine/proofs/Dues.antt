@@ -1,4 +1,4 @@
--- Which records come next. A log and numbers flow in; what is taken of it, and how a loop over it goes on, flows out. Directories are not here.
+-- Which records come next.
 use Rattle.std.proofs.Common.{◌≡◌, ◌≢◌, ℕ, ◌<◌, ◌≤◌, min, List, [], ◌++◌, length, take, drop, Result, Ok, Err, ap, ◌∙◌, arith, take-append-drop}
 use Rattle.std.specs.Prelude.{OnErr}
 use Rattle.std.proofs.lemmas.List.{length-take, length-drop, take_all}

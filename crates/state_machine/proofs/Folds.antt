@@ -1,4 +1,4 @@
--- One more record: the directory and the replies go on as those of the records with it. Definitions flow in; the fold's step flows out.
+-- One more record: the directory and the replies go on as those of the records with it.
 use Rattle.std.proofs.Common.{◌≡◌, ℕ, suc, ◌+◌, List, [], ◌∷◌, ◌++◌, length, Result, Ok, Err, refl, sym, ap, ◌∙◌, subst, arith}
 use Rattle.std.proofs.lemmas.List.{map-append}
 use Rattle.dir_store.specs.directory_api.log_entry.declared.words.LogEntry.{LogEntry}

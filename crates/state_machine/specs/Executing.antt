@@ -1,5 +1,4 @@
--- What was executed. Records in their order and a directory flow in; what the directory and the replies then are, and which records come next,
--- flows out. How records come to be committed is not here.
+-- What was executed.
 use Rattle.std.specs.Prelude.{◌≡◌, ◌≢◌, ℕ, List, [], ◌++◌, map, take, drop}
 use Rattle.dir_store.specs.directory_api.log_entry.declared.words.LogEntry.{LogEntry}
 use Rattle.dir_store.specs.ldap_schema.Schema.{SchemaModel}

@@ -1,4 +1,4 @@
-//! The committed records that come next. A log and a commit number flow in; a piece of the log flows out. What records ask for is not here.
+//! Finds the committed records that come next.
 ghost use Rattle.std.specs.Prelude.{◌≡◌};
 ghost use Rattle.state_machine.specs.Executing.{due_after};
 

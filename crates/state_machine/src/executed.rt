@@ -1,5 +1,4 @@
-//! Records executed: they flow in, one after the other; the directory after them and the reply to each flow out. Which records are committed
-//! is not decided here.
+//! Executes records one after the other, and keeps the directory after them and the reply to each.
 ghost use Rattle.std.specs.Prelude.{◌≡◌, [], ◌∷◌, ◌++◌, length, slice_get, OnOk, OnErr};
 ghost use Rattle.std.specs.Option.{option_map};
 ghost use Rattle.state_machine.specs.Executing.{IsFront, directory_at, replies_at, due_after};

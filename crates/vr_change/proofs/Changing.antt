@@ -1,5 +1,4 @@
--- A step of the view change from its parts. In: what each part of a handler made. Out: the outcome that the definition has.
--- Nothing of code is here.
+-- A step of the view change from its parts.
 use Rattle.std.proofs.Common.{◌≡◌, ◌≢◌, ℕ, ◌+◌, ◌/◌, ◌<◌, ◌≤◌, ◌==◌, nat_lt, nat_le, Bool, true, false, cond, not, ◌&&◌, ◌||◌, List, [], ◌∷◌, ◌++◌, length, refl, sym, ap, ap₂, ◌∙◌, append-nil, length-append, ne_eqb, eq-eqb, lt-ltb, le-ltb}
 use Rattle.std.specs.List.{list_any}
 use Rattle.std.proofs.Common.{Option}

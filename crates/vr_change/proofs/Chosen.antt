@@ -1,5 +1,4 @@
--- The best and the most, one sender at a time. In: what is noted of the senders so far. Out: the same with one more.
--- Nothing of replicas is here.
+-- The best and the most, one sender at a time.
 use Rattle.std.proofs.Common.{◌≡◌, ℕ, zero, suc, ◌+◌, ◌<◌, ◌≤◌, ◌⊎◌, inl, inr, max, List, [], ◌∷◌, ◌++◌, length, drop, Option, Some, None, refl, sym, ap, ◌∙◌, arith}
 use Rattle.std.proofs.Math.Seq.{drop-append_seam, drop-append-add, drop-length}
 use Rattle.std.proofs.lemmas.Bool.{cases_lt}

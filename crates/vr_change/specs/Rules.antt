@@ -1,5 +1,4 @@
--- The rules of the view change, at a replica with its count and index. In: a replica and what comes. Out: the step that the
--- definition of vr_state has. No rule is made here.
+-- The rules of the view change, at a replica with its count and index. No rule is made here.
 use Rattle.std.specs.Prelude.{ℕ}
 use Rattle.vr_state.specs.declared.replica.Replica.{Replica}
 use Rattle.vr_state.specs.declared.message.Change.{Change}

@@ -1,5 +1,5 @@
-// The beat of a replica that changes: its timer says that it is time to send again.
-// In: a replica. Out: the sends. Nothing of the replica changes here.
+// The beat of a replica that changes: its timer says that it is time to send again. Nothing of the replica changes
+// here.
 ghost use Rattle.std.specs.Prelude.{◌≡◌, ◌/◌, cond, nat_le, [], length, IfOk};
 ghost use Rattle.vr_change.specs.Rules.{beat_changing_at};
 ghost use Rattle.vr_change.specs.private.Rules.{send_change_at};

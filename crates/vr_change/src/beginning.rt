@@ -1,6 +1,5 @@
-// The new view begins: its primary has f + 1 DOVIEWCHANGEs, takes the best log, tells the others and answers the clients.
-// In: a replica that changes, and a DOVIEWCHANGE. Out: the replica's step by VRR 4.2, steps 3 and 4, after what is sent before.
-// Nothing of how a replica came into this view is here.
+// The new view begins: its primary has f + 1 DOVIEWCHANGEs, takes the best log, tells the others and answers the
+// clients.
 ghost use Rattle.std.specs.Prelude.{◌≡◌, ◌++◌, IfOk, OnErr};
 ghost use Rattle.vr_change.specs.private.Rules.{begin_view_at, best_at, may_begin_at, note_change_at, start_view_sends_at, try_begin_at};
 ghost use Rattle.vr_state.specs.Outcome.{after_sends};

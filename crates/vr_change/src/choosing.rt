@@ -1,6 +1,4 @@
 // What a new primary begins with: the best of the logs that the others bring, and the greatest commit-number.
-// In: the DOVIEWCHANGEs that are noted. Out: the best one, by VRR 4.2, step 3, and the most that any says is committed.
-// Nothing of a replica is here.
 ghost use Rattle.std.specs.Prelude.{◌≡◌, option_copied};
 ghost use Rattle.vr_state.specs.Outcome.{indices};
 ghost use Rattle.vr_state.specs.ViewChange.{at_least, best, most, prefer};

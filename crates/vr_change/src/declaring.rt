@@ -1,6 +1,4 @@
 // The DOVIEWCHANGE: what a replica brings into the new view.
-// In: a replica that changes. Out: the replica's step by VRR 4.2, step 2, after what is sent before.
-// Nothing of when it is time for it is here.
 ghost use Rattle.std.specs.Prelude.{◌≡◌, IfOk, OnErr};
 ghost use Rattle.vr_change.specs.private.Rules.{declare_at, send_change_at};
 ghost use Rattle.vr_state.specs.Outcome.{after_sends};

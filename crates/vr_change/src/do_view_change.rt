@@ -1,6 +1,4 @@
-// DOVIEWCHANGE: another replica brings what it has into a view.
-// In: the sender, its view and what it tells. Out: the replica's step by VRR 4.2, steps 1 and 3.
-// How the view begins stands in `beginning`.
+// DOVIEWCHANGE: another replica brings what it has into a view. How the view begins stands in `beginning`.
 ghost use Rattle.std.specs.Prelude.{◌≡◌, IfOk, OnErr};
 ghost use Rattle.vr_change.specs.Rules.{do_view_change_at};
 ghost use Rattle.vr_change.specs.private.Rules.{do_entering_at, do_in_view_at, note_change_in_at};

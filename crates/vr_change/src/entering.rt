@@ -1,6 +1,4 @@
 // Entering a view: the replica leaves its last view and waits for the next to begin.
-// In: a replica and a view. Out: the replica in that view, and what it left, to put it back where a sequel is refused memory.
-// What is sent then is a STARTVIEWCHANGE; no other message is here.
 ghost use Rattle.std.specs.Prelude.{◌≡◌, length, IfOk, OnOk, OnErr};
 ghost use Rattle.vr_change.specs.private.Rules.{put_back};
 ghost use Rattle.vr_state.specs.Outcome.{to_all};

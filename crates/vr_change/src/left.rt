@@ -1,5 +1,4 @@
 // What a replica leaves as it enters a view.
-// In: the fields that entering changes. Out: the same, kept until the sequel has its memory. No rule of the protocol is here.
 
 use vr_state::message::Change;
 use vr_state::words::Status;

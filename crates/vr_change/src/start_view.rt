@@ -1,6 +1,4 @@
 // STARTVIEW: a view has begun, with this log.
-// In: the view, its log and how much of it is committed. Out: the replica's step by VRR 4.2, step 5.
-// No reply is here: only a primary answers clients.
 ghost use Rattle.std.specs.Prelude.{◌≡◌, IfOk, OnErr};
 ghost use Rattle.vr_change.specs.Rules.{start_view_at};
 ghost use Rattle.vr_change.specs.private.Rules.{take_over_at};

@@ -1,5 +1,4 @@
-// STARTVIEWCHANGE: another replica changes to a view.
-// In: the sender and its view. Out: the replica's step by VRR 4.2, steps 1 and 2. No record of a log is looked at here.
+// STARTVIEWCHANGE: another replica changes to a view. No record of a log is looked at here.
 ghost use Rattle.std.specs.Prelude.{◌≡◌, IfOk, OnErr};
 ghost use Rattle.vr_change.specs.Rules.{start_view_change_at};
 ghost use Rattle.vr_change.specs.private.Rules.{note_start_at, start_entering_at, start_in_view_at};

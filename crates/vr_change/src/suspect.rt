@@ -1,5 +1,4 @@
-// A suspicion: the replica's timer says that the primary may have failed.
-// In: a replica. Out: the replica's step by VRR 4.2, step 1. Nothing of the log is looked at here.
+// A suspicion: the replica's timer says that the primary may have failed. Nothing of the log is looked at here.
 ghost use Rattle.std.specs.Prelude.{◌≡◌, ◌<◌, ◌||◌, not, nat_le, IfOk, OnErr, IsTrue};
 ghost use Rattle.vr_change.specs.Rules.{suspect_at};
 ghost use Rattle.vr_state.specs.State.{greatest_view, is_recovering};

@@ -1,5 +1,4 @@
--- A request, and the primary's beat, from their parts. In: what each way of the handler made. Out: the outcome that the definition has.
--- Nothing of code is here.
+-- A request, and the primary's beat, from their parts.
 use Rattle.std.proofs.Common.{◌≡◌, ◌≢◌, ℕ, ◌<◌, ◌≤◌, ◌==◌, nat_lt, nat_le, Bool, true, false, cond, ◌&&◌, ◌-◌, List, [], length, slice_get, Option, Some, Result, Ok, Err, refl, sym, ap, ap₂, ◌∙◌, eq-eqb, ne_eqb, le-ltb, lt-ltb}
 use Rattle.std.proofs.lemmas.Bool.{le-leb, lt-leb}
 use Rattle.std.specs.Result.{IfOk}

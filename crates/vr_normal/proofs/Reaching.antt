@@ -1,5 +1,4 @@
--- What f others have acknowledged, one by one. In: acknowledgements by index. Out: the count, and the most, with one more index.
--- Nothing of messages is here.
+-- What f others have acknowledged, one by one.
 use Rattle.std.proofs.Common.{◌≡◌, ◌≢◌, ℕ, ◌+◌, ◌<◌, ◌≤◌, max, nat_le, Bool, true, false, cond, List, [], ◌∷◌, ◌++◌, slice_index, refl, sym, ap, ◌∙◌, subst, arith, le-leb}
 use Rattle.std.proofs.lemmas.Bool.{lt-leb}
 use Rattle.vr_state.specs.Outcome.{count, tick, others}

@@ -1,5 +1,4 @@
--- A step from its parts. In: what each part of a handler made. Out: the outcome that the definition has.
--- Nothing of code is here.
+-- A step from its parts.
 use Rattle.std.proofs.Common.{◌≡◌, ℕ, ◌+◌, ◌==◌, ◌/◌, nat_le, min, max, Bool, true, false, cond, List, [], ◌∷◌, length, refl, sym, ap, ◌∙◌, arith, eqb-true, length-append}
 use Rattle.vr_state.specs.Words.{LogEntry}
 use Rattle.vr_state.specs.declared.words.Reply.{Reply}

@@ -1,6 +1,4 @@
 // How much the others have acknowledged.
-// In: by index, how many records each replica has. Out: how many records f of the others have.
-// Nothing of logs or clients is here.
 ghost use Rattle.std.specs.Prelude.{◌≡◌, IfOk};
 ghost use Rattle.vr_normal.specs.Rules.{acknowledging, reached_beside, with_acknowledgement};
 

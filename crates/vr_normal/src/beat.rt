@@ -1,5 +1,4 @@
-// The primary's beat: its timer says that it is time to send again.
-// In: a replica. Out: the sends by VRR 4.1, step 6. Nothing of the replica changes here.
+// The primary's beat: its timer says that it is time to send again. Nothing of the replica changes here.
 ghost use Rattle.std.specs.Prelude.{◌≡◌, IfOk};
 ghost use Rattle.vr_normal.specs.Rules.{beat_at};
 ghost use Rattle.vr_normal.specs.private.Rules.{prepare_again_at, tell_commit_at};

@@ -1,6 +1,4 @@
 // COMMIT: a backup learns how much is committed.
-// In: the sender, its view and its commit-number. Out: the replica's step by VRR 4.1, steps 6 and 7.
-// No reply is here: only a primary answers clients.
 ghost use Rattle.std.specs.Prelude.{◌≡◌, IfOk, OnErr};
 ghost use Rattle.vr_normal.specs.Rules.{on_commit_at};
 ghost use Rattle.vr_normal.specs.private.Rules.{ask_if_short_at};

@@ -1,6 +1,4 @@
 // PREPARE: a backup takes a record in and says how much it has.
-// In: the sender, its view, a record, its place and a commit-number. Out: the replica's step by VRR 4.1, steps 4 and 7.
-// No reply is here: only a primary answers clients.
 ghost use Rattle.std.specs.Prelude.{◌≡◌, ◌+◌, ◌==◌, cond, length, IfOk, OnOk, OnErr};
 ghost use Rattle.vr_normal.specs.Rules.{on_prepare_at};
 ghost use Rattle.vr_normal.specs.private.Rules.{acknowledge_or_ask, taken_in_at};

@@ -1,6 +1,4 @@
 // PREPAREOK: the primary hears how much a backup has, commits what f of them have, and answers the clients.
-// In: the sender, its view and how many records it has. Out: the replica's step by VRR 4.1, step 5.
-// No message to another replica is here.
 ghost use Rattle.std.specs.Prelude.{◌≡◌, IfOk, OnErr};
 ghost use Rattle.vr_normal.specs.Rules.{on_prepare_ok_at};
 ghost use Rattle.vr_normal.specs.private.Rules.{acknowledged_at};

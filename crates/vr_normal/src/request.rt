@@ -1,6 +1,5 @@
-// A client's request: the primary gives it a place and prepares it, or answers it again.
-// In: a request. Out: the replica's step by VRR 4.1, steps 1 to 3.
-// Nothing new is answered here: a reply waits until its record is committed.
+// A client's request: the primary gives it a place and prepares it, or answers it again. Nothing new is answered here:
+// a reply waits until its record is committed.
 ghost use Rattle.std.specs.Prelude.{◌≡◌, [], IfOk, OnErr};
 ghost use Rattle.vr_normal.specs.Rules.{request_at};
 ghost use Rattle.vr_normal.specs.private.Rules.{prepare_at, reply_again};

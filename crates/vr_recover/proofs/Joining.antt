@@ -1,5 +1,4 @@
--- How long a joined log is. In: a log, a place in it, and a tail. Out: the length of both.
--- Nothing of messages is here.
+-- How long a joined log is.
 use Rattle.std.proofs.Common.{◌≡◌, ℕ, ◌+◌, min, length, take, arith, length-append, length-take}
 use Rattle.vr_state.specs.declared.message.Snapshot.{Snapshot}
 use Rattle.vr_state.specs.State.{State}

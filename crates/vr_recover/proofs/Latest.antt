@@ -1,5 +1,4 @@
--- The latest view, one sender at a time. In: what is noted of the senders so far. Out: the same with one more.
--- Nothing of replicas is here.
+-- The latest view, one sender at a time.
 use Rattle.std.proofs.Common.{◌≡◌, ℕ, ◌+◌, max, List, [], ◌∷◌, ◌++◌, Some, None, refl, sym, ap, ◌∙◌, arith}
 use Rattle.vr_state.specs.declared.message.Response.{Response}
 use Rattle.vr_state.specs.Outcome.{indices, noted}

@@ -1,5 +1,5 @@
--- The rules of recovery and state transfer, and the whole step, at a replica with its count and index. In: a replica and what
--- comes. Out: the step that the definition of vr_state has. No rule is made here.
+-- The rules of recovery and state transfer, and the whole step, at a replica with its count and index. No rule is made
+-- here.
 use Rattle.std.specs.Prelude.{ℕ}
 use Rattle.vr_state.specs.declared.event.Event.{Event}
 use Rattle.vr_state.specs.declared.message.PeerMessage.TheVariants.{Recovery}

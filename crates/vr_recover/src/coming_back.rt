@@ -1,6 +1,5 @@
-// A replica comes back after a crash: it has its stored view and a nonce, and asks all others for the state.
-// In: its index, the count, the stored view and a nonce, later a beat or a suspicion. Out: the replica and what it sends, by VRR 4.3, step 1.
-// Where the view and the nonce come from isn't said here.
+// A replica comes back after a crash: it has its stored view and a nonce, and asks all others for the state. Where the
+// view and the nonce come from isn't said here.
 ghost use Rattle.std.specs.Prelude.{◌≡◌, ◌<◌, IfOk, None};
 ghost use Rattle.vr_recover.specs.Rules.{beat_recovering_at, recovers, remind_at};
 ghost use Rattle.vr_recover.specs.private.Rules.{is_ahead_at};

@@ -1,5 +1,4 @@
 // What keeping a response has changed.
-// In: the list of responses before. Out: what it takes to have it back. No rule of the protocol is here.
 
 use vr_state::message::Response;
 

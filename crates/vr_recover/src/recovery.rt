@@ -1,5 +1,4 @@
-// RECOVERY: another replica has crashed and asks for the state.
-// In: the sender and its nonce. Out: the sends by VRR 4.3, step 2. Nothing of the replica changes here.
+// RECOVERY: another replica has crashed and asks for the state. Nothing of the replica changes here.
 ghost use Rattle.std.specs.Prelude.{◌≡◌, IfOk};
 ghost use Rattle.vr_recover.specs.Rules.{recovery_at};
 ghost use Rattle.vr_recover.specs.private.Rules.{held_at};

@@ -1,6 +1,5 @@
-// RECOVERYRESPONSE: another replica answers the recovery.
-// In: the sender, the nonce and what it tells. Out: the replica's step by VRR 4.3, step 3.
-// How responses are kept stands in `responses`. No message is sent here, and no client answered.
+// RECOVERYRESPONSE: another replica answers the recovery. How responses are kept stands in `responses`. No message is
+// sent here, and no client answered.
 ghost use Rattle.std.specs.Prelude.{◌≡◌, IfOk, Some, OnErr};
 ghost use Rattle.vr_recover.specs.Rules.{recovery_response_at};
 ghost use Rattle.vr_recover.specs.private.Rules.{answered_at, end_recovery_at, kept_at, may_end_at, try_recovery_at};

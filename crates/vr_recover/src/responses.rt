@@ -1,6 +1,4 @@
-// The responses to a recovery: of each sender the first of its greatest view.
-// In: a response. Out: the list with it, and the list before it where the sequel is refused memory.
-// When a recovery ends isn't said here.
+// The responses to a recovery: of each sender the first of its greatest view. When a recovery ends isn't said here.
 ghost use Rattle.std.specs.Prelude.{◌≡◌, ◌<◌, length, IfOk, OnErr};
 ghost use Rattle.vr_recover.specs.private.Responses.{place_of, taken_back};
 ghost use Rattle.vr_state.specs.Outcome.{indices};

@@ -1,6 +1,4 @@
 // State transfer: GETSTATE asks for the records of a view from a place on, NEWSTATE brings them.
-// In: the sender, the view, a place, and the records after it. Out: the replica's step by VRR 5.2.
-// No reply is here: only a primary answers clients.
 ghost use Rattle.std.specs.Prelude.{◌≡◌, ◌≤◌, ◌+◌, ◌&&◌, ◌==◌, length, nat_lt, IfOk, OnErr};
 ghost use Rattle.vr_recover.specs.Rules.{get_state_at, new_state_at};
 ghost use Rattle.vr_recover.specs.private.Rules.{can_answer_at, is_news_at, take_joined_at, take_news_at};

@@ -1,6 +1,4 @@
 // One event at one replica: each kind of event and message has its handler.
-// In: a replica and an event. Out: the replica after it, the view to store, what it sends and what it answers.
-// No rule is here: each stands with its handler.
 ghost use Rattle.std.specs.Prelude.{◌≡◌, ◌==◌, ◌&&◌, not, nat_lt, IfOk, OnErr};
 ghost use Rattle.vr_recover.specs.Rules.{step_at};
 ghost use Rattle.vr_recover.specs.private.Rules.{beat_at, message_at, peer_message_at, suspicion_at};

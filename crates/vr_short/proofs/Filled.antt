@@ -1,4 +1,4 @@
--- A message that was shortened and filled. In: that the records are the same that were left out. Out: the message.
+-- A message that was shortened and filled.
 use Rattle.std.proofs.Common.{◌≡◌, ℕ, List, ◌++◌, take, drop, refl, ap, ◌∙◌, take-append-drop}
 use Rattle.vr_state.specs.Words.{LogEntry}
 use Rattle.vr_state.specs.declared.message.PeerMessage.{PeerMessage}

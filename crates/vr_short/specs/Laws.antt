@@ -1,4 +1,4 @@
--- What holds of messages that were shortened. In: the world. Out: laws, which the crate proves.
+-- What holds of messages that were shortened.
 use Rattle.std.specs.Prelude.{◌≡◌, ◌<◌, ◌≤◌, ◌^◌, ℕ, List, ◌++◌, length, take, drop, Some}
 use Rattle.std.specs.Int.{w64, from_be_bytes}
 use Rattle.ldap_op.specs.Values.{OpValue}

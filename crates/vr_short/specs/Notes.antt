@@ -1,6 +1,6 @@
--- Notes: a number that goes with the next message of its sender on one connection. In: a cluster, a sender, a number. Out: the octets.
--- What the number says depends on that message: with a DOVIEWCHANGE or a STARTVIEW, how many records are left out of its log; with a
--- STARTVIEWCHANGE, how many its sender has committed.
+-- Notes: a number that goes with the next message of its sender on one connection. What the number says depends on that
+-- message: with a DOVIEWCHANGE or a STARTVIEW, how many records are left out of its log; with a STARTVIEWCHANGE, how
+-- many its sender has committed.
 use Rattle.std.specs.Prelude.{◌≡◌, ℕ, List, [], ◌∷◌, ◌++◌, Option, Some, None}
 use Rattle.view_store.specs.Cluster.{cluster_octets}
 use Rattle.vr_wire.specs.Frames.{number}

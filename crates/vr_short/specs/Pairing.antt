@@ -1,5 +1,4 @@
--- Notes and the messages that they go with, on one connection. In: messages in the order in which they are sent, of which some may be lost
--- behind their notes. Out: what a receiver takes for the note of each. How notes are spelled is not here.
+-- Notes and the messages that they go with, on one connection.
 use Rattle.std.specs.Prelude.{◌≡◌, ℕ, Bool, true, false, cond, List, [], ◌∷◌, Option, Some, None}
 use Rattle.vr_state.specs.declared.message.PeerMessage.{PeerMessage}
 use Rattle.vr_state.specs.declared.message.PeerMessage.TheVariants.{StartViewChange, DoViewChange, StartView}

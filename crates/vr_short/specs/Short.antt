@@ -1,5 +1,4 @@
--- Messages without the first records of their logs. In: a message, what its sender and its receiver have committed. Out: the message
--- without these records, and with a receiver's own in their place. How messages are spelled is not here.
+-- Messages without the first records of their logs.
 use Rattle.std.specs.Prelude.{ℕ, min, nat_le, Bool, true, false, cond, not, ◌&&◌, ◌||◌, List, ◌++◌, length, take, drop, Option, Some, None}
 use Rattle.vr_state.specs.Words.{LogEntry}
 use Rattle.vr_state.specs.declared.message.PeerMessage.{PeerMessage}

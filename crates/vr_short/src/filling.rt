@@ -1,4 +1,4 @@
-//! A message with the receiver's own first records in the place of those that were left out. What was left out is not decided here.
+//! A message with the receiver's own first records in the place of those that were left out.
 ghost use Rattle.std.specs.Prelude.{◌≡◌, ◌≤◌, ◌++◌, length, take, IfOk};
 ghost use Rattle.vr_short.specs.Short.{has_first, taken_as};
 

@@ -1,4 +1,4 @@
-//! The laws of messages that were shortened. Code that shortens them is not here.
+//! The laws of shortened messages.
 ghost use Rattle.vr_short.specs.Pairing.{NotesArePaired};
 ghost use Rattle.vr_short.specs.Laws.{FilledIsSent, NotesAreRead, ReadIsSent};
 

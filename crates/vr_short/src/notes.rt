@@ -1,4 +1,4 @@
-//! Notes: a number that goes with the next message of its sender on one connection. What it says of that message is not here.
+//! Notes: a number that goes with the next message of its sender on one connection.
 ghost use Rattle.std.specs.Prelude.{◌≡◌, ◌++◌};
 ghost use Rattle.std.specs.Int.{w64, from_be_bytes};
 ghost use Rattle.vr_short.specs.Notes.{BeginsNote, note_heading, note_octets};

@@ -1,4 +1,4 @@
-//! The number that goes with a message, and the message as it goes with it. How the number is spelled is not here.
+//! Notes a message: finds the number that goes with it.
 ghost use Rattle.std.specs.Prelude.{◌≡◌, IfOk};
 ghost use Rattle.vr_short.specs.Pairing.{note_of};
 ghost use Rattle.vr_short.specs.private.Kinds.{GoesWith};

@@ -1,4 +1,4 @@
-//! A message without the first records of its log. What its receiver has is not decided here.
+//! A message without the first records of its log.
 ghost use Rattle.std.specs.Prelude.{◌≡◌, ◌≤◌, min, length, drop, IfOk};
 ghost use Rattle.vr_short.specs.Short.{left_out, shortened};
 

@@ -1,4 +1,4 @@
--- Frames: octets put one after the other. In: results of parts. Out: the result of the whole.
+-- Octets put one after the other.
 use Rattle.std.proofs.Common.{◌≡◌, ℕ, zero, suc, ◌<◌, ◌≤◌, List, [], ◌∷◌, ◌++◌, length, take, drop, slice_set, get_or, refl, sym, ap}
 use Rattle.std.proofs.Common.{subst, ◌∙◌, append_assoc, append-nil, arith, length-append, Result, Ok, Err}
 use Rattle.ldap_op.specs.Values.{OpValue, add, delete, modify, modify_dn, noop}

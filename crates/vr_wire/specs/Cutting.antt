@@ -1,6 +1,4 @@
--- Frames: what is cut from the front of octets.
--- In: octets. Out: a number, a record or a message whose payloads are octets, and what follows it; none where there is none.
--- Not here: how frames are spelled (that the one is the inverse of the other is proved), which updates payloads spell.
+-- What is cut from the front of octets.
 use Rattle.std.specs.Prelude.{◌≡◌, ◌+◌, ◌<◌, ◌≤◌, ℕ}
 use Rattle.std.specs.Prelude.{Result, Ok, Err}
 use Rattle.vr_wire.specs.Frames.{limit}

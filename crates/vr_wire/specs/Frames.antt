@@ -1,6 +1,4 @@
--- Frames: the octets of what replicas say to one another, version 2.
--- In: a cluster's number, a sender's index and a message whose payloads are octets. Out: the one spelling of it, and what has one.
--- Not here: which updates payloads spell, how octets are read.
+-- The octets of what replicas say to one another, version 2.
 use Rattle.std.specs.Prelude.{◌≡◌, ◌<◌, ◌^◌, ℕ, List, [], ◌∷◌, ◌++◌, length, Option, Some, None}
 use Rattle.std.specs.Int.{w32, w64, to_be_bytes}
 use Rattle.view_store.specs.Cluster.{cluster_octets}

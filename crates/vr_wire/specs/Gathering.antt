@@ -1,5 +1,4 @@
--- Frames: parts put together.
--- In: what was gathered, and a frame. Out: what comes of it, and what is gathered then. Not here: how frames are spelled.
+-- Parts put together.
 use Rattle.std.specs.Prelude.{◌≡◌, ◌≢◌, ◌⊎◌, ◌+◌, ◌==◌, ◌&&◌, cond, nat_lt, Bool, ℕ, List, [], ◌∷◌, ◌++◌, Option, Some, None, Result, Ok, Err}
 use Rattle.std.specs.Bool.{MatchBool}
 use Rattle.vr_wire.specs.declared.error.WireError.{WireError}

@@ -1,5 +1,4 @@
--- Frames: the first octets behind a frame's length.
--- In: nine octets. Out: the kind and the sender, or why no frame of a cluster begins so. Not here: what follows them.
+-- The first octets behind a frame's length.
 use Rattle.std.specs.Prelude.{◌≡◌, ◌⊎◌, ◌||◌, ◌&&◌, nat_le, Bool, true, ℕ, List, [], ◌∷◌, ◌++◌, take, drop, Result, Ok, Err}
 use Rattle.ldap_op.specs.Values.{OpValue}
 use Rattle.view_store.specs.Cluster.{cluster_octets}

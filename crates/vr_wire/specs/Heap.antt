@@ -1,5 +1,4 @@
--- Frames: what is gathered of a message.
--- In: nothing. Out: whose message it is, how many of its parts came, and their octets, joined. Not here: what a part makes of it.
+-- What is gathered of a message.
 use Rattle.std.specs.Prelude.{ℕ, List}
 use Rattle.vr_wire.specs.declared.gathering.Begun.{Begun}
 use Rattle.vr_wire.specs.declared.labels.Label.{Label}

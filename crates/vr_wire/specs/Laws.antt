@@ -1,5 +1,4 @@
--- Frames: what holds of all of them.
--- In: frames and messages. Out: three laws, which the crate proves. Not here: how frames are spelled or read.
+-- What holds of all of them.
 use Rattle.std.specs.Prelude.{◌≡◌, ◌≤◌, ℕ, List, [], ◌∷◌, ◌++◌, length, Option, Some, None}
 use Rattle.ldap_op.specs.Values.{OpValue}
 use Rattle.ldap_op.specs.Written.{IsOpInRange}

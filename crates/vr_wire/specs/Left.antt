@@ -1,5 +1,4 @@
--- Frames: the parts of a message that are still to come.
--- In: a message's octets, and how many of its parts were handed out. Out: the frames of the others. Not here: how a message is spelled.
+-- The parts of a message that are still to come.
 use Rattle.std.specs.Prelude.{◌-◌, ℕ, List, [], ◌∷◌, drop, Option, Some, None}
 use Rattle.std.specs.Prelude.{Vec}
 use Rattle.std.specs.declared.alloc.Global.{Global}

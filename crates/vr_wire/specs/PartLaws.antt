@@ -1,5 +1,4 @@
--- Frames: what holds of messages in parts.
--- In: frames taken one after the other. Out: three laws, which the crate proves. Not here: what comes of one frame.
+-- What holds of messages in parts.
 use Rattle.std.specs.Prelude.{◌≡◌, ◌≢◌, ◌<◌, ◌^◌, ℕ, List, [], ◌∷◌, ◌++◌, Option, None, Result, Ok, Err}
 use Rattle.std.specs.List.{AllByRecursion}
 use Rattle.ldap_op.specs.Values.{OpValue}

@@ -1,5 +1,4 @@
--- Frames: a message that one frame can't hold, in parts.
--- In: a message whose payloads are octets, or octets. Out: the frames of its parts, and the part that a frame is. Not here: what is gathered.
+-- A message that one frame can't hold, in parts.
 use Rattle.std.specs.Prelude.{◌≡◌, ◌<◌, ◌≤◌, ◌+◌, ◌^◌, ℕ, zero, suc, List, [], ◌∷◌, ◌++◌, length}
 use Rattle.std.specs.Prelude.{take, drop, Option, Some, None, Result, Ok, Err}
 use Rattle.std.specs.Prelude.{Vec}

@@ -1,6 +1,4 @@
--- Frames: payloads as updates.
--- In: a message whose payloads are octets, and one whose payloads are updates. Out: whether the one stands for the other; the one spelling
--- that is written; which octets are frames. Not here: how frames are cut.
+-- Payloads as updates.
 use Rattle.std.specs.Prelude.{◌≡◌, ◌≢◌, ◌≤◌, ℕ, List, [], ◌∷◌, length, map, Option, Some, None, Result, Ok, Err}
 use Rattle.ldap_op.specs.Values.{OpValue}
 use Rattle.ldap_op.specs.Grammar.{IsOp}

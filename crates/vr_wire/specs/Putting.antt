@@ -1,5 +1,4 @@
--- Frames: octets put at the end of others.
--- In: a result, what was there and is there now, and what was to be put. Out: that it was put, or why not. Not here: what is put.
+-- Octets put at the end of others.
 use Rattle.std.specs.Prelude.{◌≡◌, ◌<◌, ℕ, List, length, Result, Ok, Err}
 use Rattle.vr_wire.specs.declared.error.WireError.{WireError}
 use Rattle.vr_wire.specs.declared.error.WireError.TheVariants as error

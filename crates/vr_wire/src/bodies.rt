@@ -1,5 +1,4 @@
-//! Frames: their bodies, by kind. Octets flow in; messages whose payloads are not read yet flow out. Versions, clusters, senders and lengths
-//! are not here.
+//! Reads the bodies of frames, by kind.
 ghost use Rattle.std.specs.Prelude.{◌≡◌};
 ghost use Rattle.vr_wire.specs.private.Cutting.{Gives, only_number, only_two, only_state, cut_body, cut_prepare, cut_prepare_ok, cut_commit};
 ghost use Rattle.vr_wire.specs.private.Cutting.{cut_start_view_change, cut_do_view_change, cut_start_view, cut_get_state, cut_new_state, cut_recovery};

@@ -1,5 +1,4 @@
-//! Frames: fields cut from the front of octets, which are numbers, clusters, clients, payloads and records. Octets flow in; a value and
-//! what follows it flow out. Messages are not here. No memory is taken.
+//! Fields cut from the front of octets, which are numbers, clusters, clients, payloads and records. No memory is taken.
 ghost use Rattle.std.specs.Prelude.{◌≡◌, ◌∷◌, length};
 ghost use Rattle.std.specs.Int.{w64, from_be_bytes};
 ghost use Rattle.vr_wire.specs.private.Cutting.{Gives, cut_octet, cut_octets, cut_number, cut_short, cut_cluster, known_cluster, cut_client, cut_payload};

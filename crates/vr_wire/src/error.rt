@@ -1,4 +1,4 @@
-//! Frames: why octets are none of a cluster, or a message has none. Nothing flows in; plain data flows out. What frames are is not here.
+//! Why octets are none of a cluster's frames, or a message has none.
 
 ghost use Rattle.std.specs.Prelude.{◌≡◌};
 

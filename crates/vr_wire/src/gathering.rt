@@ -1,5 +1,5 @@
-//! Frames: parts are put together. Takes the frames of one connection, one after the other; gives the message of each that completes one. What
-//! the message makes of a replica is not here.
+//! Parts are put together. Takes the frames of one connection, one after the other; gives the message of each that
+//! completes one.
 ghost use Rattle.std.specs.Prelude.{◌≡◌, ◌<◌, ◌^◌, ◌+◌, None};
 ghost use Rattle.std.specs.Option.{option_map};
 ghost use Rattle.vr_wire.specs.Gathering.{is_next, begun, with_part, gathered, ComesOfPart, ComesOfFrame, Takes};

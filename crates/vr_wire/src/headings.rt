@@ -1,5 +1,5 @@
-//! Frames: the first octets behind a frame's length. Takes nine octets and a cluster; gives the kind and the sender, before memory is taken for
-//! the rest. What follows them is not here.
+//! The first octets behind a frame's length. Takes nine octets and a cluster; gives the kind and the sender, before
+//! memory is taken for the rest.
 ghost use Rattle.std.specs.Prelude.{◌≡◌, length};
 ghost use Rattle.vr_wire.specs.Heading.{Heads, is_kind};
 ghost use Rattle.vr_wire.specs.private.Heading.{Tells, heading_of};

@@ -1,4 +1,4 @@
-//! Frames: what a part of a message tells beside the message's octets. Plain data; how it is spelled is not here.
+//! What a part of a message tells beside the message's octets.
 
 /// Whose message it is, and how many parts it has.
 #[derive(Clone, Copy, Drop)]

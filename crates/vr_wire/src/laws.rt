@@ -1,5 +1,4 @@
-//! Frames: laws of the grammar.
-//! In: nothing. Out: what holds of all frames. Not here: code that runs.
+//! Laws of the grammar of frames.
 
 ghost use Rattle.vr_wire.specs.Laws.{FramesHaveOneMessage, NoFrameBeginsAnother, WrittenIsFrame};
 

@@ -1,4 +1,4 @@
-//! Frames: logs cut from the front of octets. Octets flow in; records whose payloads are not read yet flow out. Messages are not here.
+//! Cuts logs from the front of octets.
 ghost use Rattle.std.specs.Prelude.{◌≡◌};
 ghost use Rattle.vr_wire.specs.private.Cutting.{Gives, cut_entries, cut_log, cut_held, cut_perhaps};
 

@@ -1,4 +1,4 @@
-//! Frames: a payload that is not read yet. Borrowed octets flow in; a contract sees them as a list. What they spell is not here.
+//! A payload that is not read yet: borrowed octets.
 
 use std::marker::Model;
 

@@ -1,5 +1,4 @@
-//! Frames: laws of messages in parts.
-//! In: nothing. Out: what holds of all of them. Not here: code that runs.
+//! Laws of messages in parts.
 
 ghost use Rattle.vr_wire.specs.PartLaws.{WrittenIsSaying, PartsGiveMessage, OnlyPartsGiveMessage};
 

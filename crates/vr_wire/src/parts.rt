@@ -1,5 +1,4 @@
-//! Frames: a message that one frame can't hold is cut in parts. Takes a message; gives its frames one at a time. How parts are put together
-//! is not here.
+//! A message that one frame can't hold is cut in parts. Takes a message; gives its frames one at a time.
 ghost use Rattle.std.specs.Prelude.{◌≡◌, ◌≤◌, ◌<◌, ◌+◌, ◌-◌, ◌*◌, ◌^◌, ◌∷◌, [], ◌++◌, length, take, drop, min, max, slice_index};
 ghost use Rattle.vr_wire.specs.Frames.{limit, number, short};
 ghost use Rattle.vr_wire.specs.Payloads.{written};

@@ -1,4 +1,4 @@
-//! Frames: payloads become updates. Messages whose payloads are octets flow in; messages of updates flow out. How frames are cut is not here.
+//! Reads the updates in the payloads of messages.
 ghost use Rattle.ldap_op.specs.Grammar.{IsOp};
 ghost use Rattle.vr_wire.specs.Payloads.{IsEntryOf, AreEntriesOf, IsHeldOf, IsChangeOf, IsResponseOf, IsMessageOf};
 ghost use Rattle.vr_wire.specs.private.Payloads.{Reads, ReadsAs};

@@ -1,5 +1,5 @@
-//! Frames: parts of messages, cut from octets. Takes the octets of a frame; gives whose part it is and what of the message it holds. What is
-//! gathered is not here. No memory is taken.
+//! Parts of messages, cut from octets. Takes the octets of a frame; gives whose part it is and what of the message it
+//! holds. No memory is taken.
 ghost use Rattle.vr_wire.specs.private.Cutting.{Gives};
 ghost use Rattle.vr_wire.specs.private.Parts.{cut_long, cut_place, portion_of, cut_portion, cut_part_said, cut_part_rest, cut_part};
 

@@ -1,4 +1,4 @@
-//! Frames: fields put at the end of octets. Numbers, clusters, clients, records and logs flow in; octets flow out. Messages are not here.
+//! Puts fields at the end of octets.
 ghost use Rattle.std.specs.Prelude.{◌≡◌, ◌∷◌, [], ◌++◌, ◌^◌, ◌<◌, drop, length};
 ghost use Rattle.view_store.specs.Cluster.{cluster_octets};
 ghost use Rattle.vr_wire.specs.Frames.{number, short, client_octets, payload_octets, entry_octets, entries_octets, log_octets, held_octets};

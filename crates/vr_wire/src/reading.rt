@@ -1,5 +1,4 @@
-//! Frames: whole ones are read. Octets and a cluster flow in; a sender's index and a message flow out. What the message makes of a replica is
-//! not here.
+//! Reads whole frames.
 ghost use Rattle.std.specs.Prelude.{◌≡◌};
 ghost use Rattle.std.specs.Int.{w32, from_be_bytes};
 ghost use Rattle.vr_wire.specs.Cutting.{rest_by};

@@ -1,4 +1,4 @@
-//! Frames: they are written. A cluster, a sender's index and a message flow in; the one spelling flows out. What a message means is not here.
+//! Writes frames.
 ghost use Rattle.std.specs.Prelude.{◌≡◌, ◌≤◌, ◌-◌, ◌∷◌, [], ◌++◌, length, drop, IfOk};
 ghost use Rattle.view_store.specs.Cluster.{cluster_octets};
 ghost use Rattle.vr_state.specs.declared.message.PeerMessage.TheVariants as kind;

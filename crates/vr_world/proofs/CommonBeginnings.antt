@@ -1,5 +1,4 @@
--- The records that a message's sender and a replica both count as committed are the same. In: the invariant. Out: that law.
--- Nothing else is proved here.
+-- The records that a message's sender and a replica both count as committed are the same. Nothing else is proved here.
 use Rattle.std.proofs.Common.{◌≡◌, ℕ, ◌≤◌, ◌⊎◌, inl, inr, List, [], ◌∷◌, length, take, Some, refl, sym, ap, ◌∙◌, subst, arith, le_refl}
 use Rattle.std.proofs.lemmas.List.{length-take-le}
 use Rattle.vr_state.proofs.Laws.{prefix_trans, prefix_nil, prefix_take, prefix_full, prefix_shorter, take_prefix}

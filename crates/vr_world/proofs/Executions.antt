@@ -1,5 +1,4 @@
--- The replies of one event. In: a world and what happens. Out: each reply that is given names what its replica has committed by then.
--- What one step answers is the law on steps.
+-- The replies of one event. What one step answers is the law on steps.
 use Rattle.std.proofs.Common.{◌≡◌, ℕ, nat_lt, ◌⊎◌, inl, inr, List, [], ◌∷◌, ◌++◌, reverse, Option, Some, None, refl, ap, ◌∙◌, subst}
 use Rattle.std.proofs.lemmas.List.{reverse-append}
 use Rattle.vr_state.proofs.Laws.{Right, request_right, message_right, suspect_right, beat_right, by_test}

@@ -1,5 +1,4 @@
--- Of any majority that takes part one has all that is committed. In: the invariant of a world. Out: that clause of the law.
--- Nothing of events is here.
+-- Of any majority that takes part one has all that is committed.
 use Rattle.std.proofs.Common.{◌≡◌, ℕ, suc, ◌/◌, ◌<◌, ◌≤◌, ◌==◌, Bool, true, false, ◌||◌, ◌⊎◌, inl, inr, List, [], length, take, Some, refl, sym, subst, arith, eqb-true, leb-true, mod-lt, true≢false}
 use Rattle.vr_state.proofs.Laws.{quorums, count_some, either_true, prefix_nil, prefix_trans, prefix_take, prefix_shorter, take_prefix}
 use Rattle.vr_state.specs.Lists.{IsPrefix, In}

@@ -1,5 +1,5 @@
--- What holds of each world: n replicas, stored views, the messages ms. In: the definitions. Out: the invariant, as records
--- over components. It is explained in docs/REPLICATION.md, section 4. Nothing is proved here.
+-- What holds of each world: n replicas, stored views, the messages ms. It is explained in docs/REPLICATION.md, section
+-- 4. Nothing is proved here.
 use Rattle.std.proofs.Common.{◌≡◌, ℕ, suc, ◌/◌, ◌<◌, ◌≤◌, ◌≢◌, ◌==◌, Bool, true, ◌⊎◌, List, [], ◌∷◌, length, drop, Option, Some, None, slice_index}
 use Rattle.std.specs.List.{list_any}
 use Rattle.vr_state.specs.Lists.{IsPrefix, In, Rising, EntryAt}

@@ -1,5 +1,4 @@
--- A replica goes on from its journal as it was. In: a schedule. Out: that clause of the law.
--- Nothing of messages is here.
+-- A replica goes on from its journal as it was.
 use Rattle.std.proofs.Common.{◌≡◌, ◌≢◌, ℕ, ◌<◌, ◌==◌, nat_lt, Bool, true, false, cond, List, [], ◌∷◌, ◌++◌, Option, Some, None, refl, sym, ap, ap₂, ◌∙◌, subst, eq-eqb, eqb-true, lt-ltb, true≢false}
 use Rattle.vr_state.proofs.Laws.{by_test}
 use Rattle.vr_state.specs.Outcome.{Outcome, idle, to_all}

@@ -1,5 +1,4 @@
--- A replica comes back after a crash. In: the invariant of a world, and a nonce that wasn't used. Out: the invariant after it.
--- How a recovery ends is an event of its own, in ChangeEvents.
+-- A replica comes back after a crash. How a recovery ends is an event of its own, in ChangeEvents.
 use Rattle.std.proofs.Common.{◌≡◌, ℕ, ◌≤◌, ◌==◌, false, ◌||◌, List, [], ◌∷◌, map, Option, Some, None, refl, sym, ap, ◌∙◌, subst, le_refl, eq-eqb, true≢false}
 use Rattle.std.specs.List.{list_any}
 use Rattle.vr_state.proofs.Laws.{by_test, or_right}

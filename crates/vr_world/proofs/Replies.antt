@@ -1,5 +1,4 @@
--- Each reply names a committed record. In: a schedule. Out: every reply ever given names a record of the committed list.
--- What one step answers is the law on steps.
+-- Each reply names a committed record. What one step answers is the law on steps.
 use Rattle.std.proofs.Common.{◌≡◌, ℕ, nat_lt, ◌⊎◌, inl, inr, List, [], ◌∷◌, take, Option, Some, None, refl, ap, subst}
 use Rattle.vr_state.proofs.Laws.{Right, named_more, request_right, message_right, suspect_right, beat_right, by_test}
 use Rattle.vr_state.specs.Lists.{In, IsNamedIn}

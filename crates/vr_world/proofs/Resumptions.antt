@@ -1,5 +1,5 @@
--- A replica crashes, and goes on from its journal. In: the invariant of a world. Out: the invariant after it.
--- A replica that is down and has a journal is looked at as it would go on: so its crash changes little, and its return less.
+-- A replica crashes, and goes on from its journal. A replica that is down and has a journal is looked at as it would go
+-- on: so its crash changes little, and its return less.
 use Rattle.std.proofs.Common.{◌≡◌, ℕ, ◌≤◌, ◌==◌, min, Bool, true, false, cond, inl, List, Option, Some, None, refl, sym, ap, ◌∙◌, subst, arith, le_refl, eqb-true, eq-eqb}
 use mathlib.Core.Path.{fun_ext}
 use Rattle.vr_state.proofs.Laws.{by_test}

@@ -1,5 +1,4 @@
--- The invariant holds of every world. In: what each event keeps. Out: it holds after every schedule.
--- No rule of the protocol is looked into here.
+-- The invariant holds of every world. No rule of the protocol is looked into here.
 use Rattle.std.proofs.Common.{◌≡◌, ℕ, zero, suc, ◌-◌, ◌==◌, nat_lt, nat_le, Bool, true, false, not, ◌&&◌, inl, inr, List, [], ◌∷◌, length, Option, Some, None, refl, sym, ap, subst, le_refl, le_of_eq, eq-eqb, slice_get, true≢false}
 use Rattle.vr_state.proofs.Laws.{by_test, both_true}
 use Rattle.vr_state.specs.Lists.{IsPrefix}

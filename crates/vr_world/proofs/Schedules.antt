@@ -1,5 +1,4 @@
--- Worked schedules: what a lab over n replicas prints, by computing. In: a script of events and looks at replicas.
--- Out: its lines in order, one refl a script. Nothing else is proved here.
+-- Worked schedules: what a lab over n replicas prints, by computing. Nothing else is proved here.
 use Rattle.std.proofs.Common.{◌≡◌, ℕ, ◌-◌, List, [], ◌∷◌, ◌++◌, length, take, Option, Some, None, refl}
 use Rattle.vr_state.specs.State.{State}
 use Rattle.vr_state.specs.declared.message.PeerMessage.{PeerMessage}

@@ -1,5 +1,4 @@
--- A step keeps the records that its replica has committed. In: the invariant, and the law on steps. Out: that clause of the law.
--- Nothing else is proved here.
+-- A step keeps the records that its replica has committed. Nothing else is proved here.
 use Rattle.std.proofs.Common.{◌≡◌, ℕ, ◌≤◌, ◌==◌, nat_lt, List, [], ◌∷◌, length, Option, Some, None, arith, refl, ap, subst, eqb-true, le_of_eq, length-take}
 use Rattle.vr_state.proofs.Laws.{prefix_trans, prefix_shorter, by_test, commits_rise}
 use Rattle.vr_state.specs.Outcome.{Outcome}

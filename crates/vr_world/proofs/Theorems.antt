@@ -1,5 +1,4 @@
--- What goes on from a sound world. In: the invariant of a world. Out: what was said, chosen and committed stays; a replica has
--- committed a beginning of it. The clauses of the law are made of these in Promises.
+-- What goes on from a sound world. The clauses of the law are made of these in Promises.
 use Rattle.std.proofs.Common.{◌≡◌, ℕ, ◌≤◌, ◌==◌, nat_lt, true, false, ◌&&◌, ◌⊎◌, inl, inr, List, [], ◌∷◌, ◌++◌, length, take, Option, Some, None, refl, sym, ap, ◌∙◌, subst, arith, le_refl, leb-true, le-leb, le_trans, true≢false}
 use Rattle.std.proofs.lemmas.List.{length-take-le}
 use Rattle.vr_state.proofs.Laws.{prefix_refl, prefix_nil, prefix_is, take_prefix, count_le, by_test, or_right}

@@ -1,5 +1,5 @@
--- What logs in messages and logs of replicas have in common. In: the world. Out: a law of its own.
--- What is committed is defined elsewhere: here stand the numbers that replicas and messages have of it.
+-- What logs in messages and logs of replicas have in common. What is committed is defined elsewhere: here stand the
+-- numbers that replicas and messages have of it.
 use Rattle.std.specs.Prelude.{◌≡◌, ℕ, ◌≤◌, List, [], take, length, Some}
 use Rattle.vr_state.specs.Lists.{In}
 use Rattle.vr_state.specs.State.{State}

@@ -1,5 +1,5 @@
--- What replication promises, for every schedule. In: the world, and what is committed. Out: the clauses of the law.
--- Safety alone: that anything is ever committed, or a recovery ever ends, is said nowhere.
+-- What replication promises, for every schedule. Safety alone: that anything is ever committed, or a recovery ever
+-- ends, is said nowhere.
 use Rattle.std.specs.Prelude.{◌≡◌, ◌≢◌, ℕ, ◌*◌, ◌+◌, ◌/◌, ◌<◌, ◌≤◌, ◌⊎◌, Bool, true, false, List, [], ◌∷◌, ◌++◌, take, length, Some}
 use Rattle.vr_state.specs.Lists.{IsPrefix, In, Rising, IsNamedIn}
 use Rattle.vr_state.specs.Outcome.{indices, count}

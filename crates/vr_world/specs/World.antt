@@ -1,5 +1,5 @@
--- Replicas and all messages that were ever sent, under every schedule. In: the step of one replica. Out: the world after a list
--- of events. Nothing of what is committed is said here: a world knows no more than its replicas and its network do.
+-- Replicas and all messages that were ever sent, under every schedule. Nothing of what is committed is said here: a
+-- world knows no more than its replicas and its network do.
 use Rattle.std.specs.Prelude.{ℕ, ◌-◌, ◌==◌, nat_lt, nat_le, Bool, cond, ◌&&◌, List, [], ◌∷◌, length, Option, Some, None, slice_get}
 use Rattle.std.specs.List.{list_any}
 use Rattle.vr_state.specs.Outcome.{Outcome, to_all, idle}

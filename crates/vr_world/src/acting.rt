@@ -1,6 +1,5 @@
-// One event at a cluster: a replica makes a step, crashes or comes back, and what it sends is posted.
-// In: an index and an event, or a message's number. Out: the cluster after it, its replies with it.
-// The order of events is not made here.
+// One event at a cluster: a replica makes a step, crashes or comes back, and what it sends is posted. The order of
+// events is not made here.
 ghost use Rattle.std.specs.Prelude.{◌≡◌, ◌<◌, reverse, IfOk, OnOk, slice_index, unwrap_or};
 ghost use Rattle.vr_state.specs.Views.{outcome};
 ghost use Rattle.vr_world.specs.private.Acts.{crashed_at, delivered_at, stepped_at, told};

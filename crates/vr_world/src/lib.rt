@@ -1,12 +1,13 @@
-//! Replicas under every schedule: what replication promises, whatever the network and crashes do. Events flow in, and a cluster of
-//! real replicas after them flows out, with all that was ever sent and answered. The definitions of a world and of what is committed
-//! are in `specs/`; here stands the law over them. Schedules, and what is asked of replicas between events, are not here.
+//! Replicas under every schedule: what replication promises, whatever the network and crashes do. The definitions of a
+//! world and of what is committed are in `specs/`; here stands the law over them.
 //!
-//! The world of replicas and messages, the law, and `Cluster`: vectors of real replicas, whose `world` is the definitions' (`happening`:
-//! one event). A message is delivered by its index, and copied; a copy of a log copies pointers to its updates.
+//! The world of replicas and messages, the law, and `Cluster`: vectors of real replicas, whose `world` is the
+//! definitions' (`happening`: one event). A message is delivered by its index, and copied; a copy of a log copies
+//! pointers to its updates.
 //!
-//! Proved: for every odd number of replicas from 3 on and every list of events there is one committed list. It only grows, and what each
-//! replica has committed begins it (`one_committed_list`). The cluster makes the definitions' events (`Cluster::happen`).
+//! Proved: for every odd number of replicas from 3 on and every list of events there is one committed list. It only
+//! grows, and what each replica has committed begins it (`one_committed_list`). The cluster makes the definitions'
+//! events (`Cluster::happen`).
 #![tactic(auto)]
 
 ghost use Rattle.vr_world.specs.Law.{ChosenAgree, CommittedIsLongest, CommittedGrows, ReplicasAgree, CommitsAreHeld};

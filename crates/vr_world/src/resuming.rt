@@ -1,6 +1,5 @@
-// A replica that is down goes on from its journal: in its stored view, with the log that it had.
-// In: an index, and how much of the log is known to be committed. Out: the cluster with the replica up. It sends nothing at first.
-// How a journal is written isn't said here.
+// A replica that is down goes on from its journal: in its stored view, with the log that it had. It sends nothing at
+// first. How a journal is written isn't said here.
 ghost use Rattle.std.specs.Prelude.{◌≡◌, OnOk};
 ghost use Rattle.vr_state.specs.Views.{state};
 ghost use Rattle.vr_world.specs.private.Acts.{resumed_at};

@@ -1,4 +1,4 @@
--- The types of an entry's first attributes, as they stand together. Types and attributes flow in; that they agree flows out.
+-- The types of an entry's first attributes, as they stand together.
 use Rattle.std.specs.Prelude.{◌≡◌, ℕ, ◌<◌, List, Some, slice_get}
 use Rattle.std.specs.Option.{option_map}
 use Rattle.dir_entry.specs.Entry.{KeyedAttribute}

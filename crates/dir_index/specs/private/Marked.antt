@@ -1,4 +1,4 @@
--- The postings that list an entry, as a set of keys. Lists of numbers are not here.
+-- The postings that list an entry, as a set of keys.
 use Rattle.std.specs.Prelude.{ℕ, List, Bool, false, ◌&&◌, ◌||◌, nat_eq, nat_lt, length}
 use Rattle.std.specs.List.{list_any}
 use Rattle.index_choice.specs.dir_entry.ldap_match.Keyed.{is_same_key}

@@ -1,5 +1,5 @@
--- How a lab keeps what its replicas have executed: a list each, which only grows while its replica is up. Lists before an event and the world after
--- it flow in; the lists after it, and what is shown from them, flow out. That they are what the replicas have committed is proved, and not said here.
+-- How a lab keeps what its replicas have executed: a list each, which only grows while its replica is up. That they are
+-- what the replicas have committed is proved, and not said here.
 use Rattle.std.specs.Prelude.{◌≡◌, ◌≢◌, ℕ, List, [], ◌∷◌, ◌++◌, map, length, Option, Some, None, slice_get}
 use Rattle.vr_state.specs.State.{State}
 use Rattle.vr_state.specs.Words.{LogEntry}

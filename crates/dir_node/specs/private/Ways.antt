@@ -1,5 +1,4 @@
--- How a later start is made over a journal: the way it takes, the replica with what it sends, and what it notes. A pair, what the journal tells and
--- values in memory flow in; the start that they are of flows out.
+-- How a later start is made over a journal: the way it takes, the replica with what it sends, and what it notes.
 use Rattle.std.specs.Prelude.{◌≡◌, ◌≢◌, ◌⊎◌, ℕ, true, false, List, []}
 use Rattle.log_journal.specs.Notes.{Puts}
 use Rattle.log_journal.specs.Told.{Told, Tells, nothing_told}

@@ -1,5 +1,4 @@
--- What a search finds whose filter is bound. The search, and numbers or a test of names, flow in; whether an answer is what it finds among the entries
--- of these flows out. Only this crate's own contracts speak of it.
+-- What a search finds whose filter is bound. Only this crate's own contracts speak of it.
 use Rattle.std.specs.Prelude.{ℕ, List, Bool}
 use Rattle.indexed_tree.specs.ldap_dn.Names.{rdns}
 use Rattle.indexed_tree.specs.directory_api.ldap_msg.View.{search_view}

@@ -1,4 +1,4 @@
--- What a directory begins with: texts flow in, whether a schema or an index choice is theirs flows out. What their lines mean is not here.
+-- What a directory begins with.
 use Rattle.std.specs.Prelude.{◌≡◌, ℕ, List, [], Option, None, Some, Ok}
 use Rattle.local_directory.specs.ldap_schema.Schema.{SchemaModel}
 use Rattle.schema_reader.specs.BuiltIn.{built_in}

@@ -1,4 +1,4 @@
--- Jobs on whole texts: an input and an output before and after flow in, whether the job was done flows out. What is made of a text is not here.
+-- Jobs on whole texts.
 use Rattle.std.specs.Prelude.{◌≡◌, ℕ, List, false, Option, IfSome}
 use Rattle.std.specs.Io.KnownBytes.{Appends}
 use Rattle.filter_text.specs.Grammar.{IsFilterText}

@@ -1,6 +1,4 @@
--- Filter texts, reading: an item's text, cut into what it says.
--- In: the text between an item's parentheses. Out: the item, if the text spells one.
--- Not here: whether it does, which the scanner finds.
+-- An item's text, cut into what it says.
 use Rattle.std.specs.Prelude.{ℕ, List, [], ◌∷◌, ◌++◌, take, drop, Bool, true, false, not, cond, ◌&&◌, ◌||◌, Option, None, Some, nat_eq}
 use Rattle.std.specs.List.{prefix_len, slice_split}
 use Rattle.std.specs.Option.{option_map, option_and_then}

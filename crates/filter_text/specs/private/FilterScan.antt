@@ -1,5 +1,4 @@
--- Filter texts, scanning: filters round filters (RFC 4515 3, filter).
--- In: a place in a text and an octet. Out: the place behind it, where some filter's text goes on so. Not here: items.
+-- Filters round filters (RFC 4515 3, filter).
 use Rattle.std.specs.Prelude.{ℕ, List, [], ◌∷◌, Bool, true, false, cond, ◌||◌, Option, None, Some, nat_eq}
 use Rattle.std.specs.Option.{option_map}
 use Rattle.filter_text.specs.private.ItemScan.{item_step, item_ends}

@@ -1,6 +1,4 @@
--- Filter texts, scanning: what stands between an item's parentheses (RFC 4515 3, item).
--- In: a place in an item and an octet. Out: the place behind it, where some item's text goes on so.
--- Not here: filters round filters.
+-- What stands between an item's parentheses (RFC 4515 3, item).
 use Rattle.std.specs.Prelude.{ℕ, Bool, true, false, cond, ◌&&◌, ◌||◌, Option, None, Some, nat_eq}
 use Rattle.std.specs.Option.{option_map, is_some}
 use Rattle.std.specs.Char.{to_ascii_lowercase}

@@ -1,5 +1,4 @@
--- Filter texts, scanning: machines that take a text octet by octet.
--- In: a machine, a place of it and a text. Out: its place behind the text, or where it stops. Not here: which machines.
+-- Machines that take a text octet by octet.
 use Rattle.std.specs.Prelude.{ℕ, ◌+◌, List, [], ◌∷◌, Bool, false, cond, Option, None, Some}
 use Rattle.std.specs.Option.{option_and_then}
 

@@ -1,5 +1,4 @@
--- Filter texts, reading: what reading finds at the front of a text within the limits, and what each fault means there.
--- In: a text and limits. Out: what is found, and why nothing is. Not here: whole texts.
+-- What reading finds at the front of a text within the limits, and what each fault means there.
 use Rattle.std.specs.Prelude.{◌≡◌, ℕ, ◌+◌, ◌≤◌, ◌<◌, List, ◌∷◌, Option, Some}
 use Rattle.std.specs.Option.{option_map}
 use Rattle.ldap_filter.specs.Item.{Item}

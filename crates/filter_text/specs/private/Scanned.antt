@@ -1,5 +1,4 @@
--- Filter texts, reading: the value of a text, octet by octet (RFC 4515 3, valueencoding).
--- In: a text. Out: the value that it spells. Not here: what is printed.
+-- The value of a text, octet by octet (RFC 4515 3, valueencoding).
 use Rattle.std.specs.Prelude.{ℕ, List, [], ◌∷◌, ◌++◌, cond, Option, None, Some, nat_eq}
 use Rattle.filter_text.specs.Values.{is_normal, hex_octet}
 use Rattle.filter_text.specs.declared.value_reading.Reading.{Reading}

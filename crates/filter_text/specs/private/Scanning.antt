@@ -1,5 +1,4 @@
--- Filter texts, scanning: what a scanner stands for, and what its refusals say.
--- In: a scanner, a text. Out: its place in the text. Not here: the machine.
+-- What a scanner stands for, and what its refusals say.
 use Rattle.std.specs.Prelude.{◌≡◌, ℕ, List, [], reverse, Option, Some}
 use Rattle.filter_text.specs.declared.fault.FilterTextError.{FilterTextError}
 use Rattle.filter_text.specs.declared.fault.FilterTextError.TheVariants.{BadFilterText, TooDeep, TooManyItems, NoMemory}

@@ -1,5 +1,5 @@
--- What selectors select that were looked up once for a whole search. Sets of numbers of types flow in; a yes or no for a type flows out. Only this
--- crate's own contracts speak of it: what a search selects, `Selection` says.
+-- What selectors select that were looked up once for a whole search. Only this crate's own contracts speak of it: what
+-- a search selects, `Selection` says.
 use Rattle.std.specs.Prelude.{ℕ, List, [], ◌∷◌, Bool, true, false, ◌||◌, ◌≡◌, length}
 use Rattle.std.specs.List.{list_any}
 use Rattle.std.specs.Ordering.{nat_cmp}

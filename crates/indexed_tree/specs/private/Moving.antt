@@ -1,4 +1,4 @@
--- A modifyDN once its names are read: what is asked of which entry, and what a rename needs. The checks and their replies are not here.
+-- A modifyDN once its names are read: what is asked of which entry, and what a rename needs.
 use Rattle.std.specs.Prelude.{◌≡◌, ℕ, Bool, true, false, Some, is_some}
 use Rattle.std.specs.Option.{option_map}
 use Rattle.indexed_tree.specs.ldap_dn.Names.{RdnModel, rdns}

@@ -1,5 +1,4 @@
--- Texts in scripts: the kind of an update's text, as code has it.
--- In: what code has. Out: the kind. Not here: which text is of which kind.
+-- The kind of an update's text, as code has it.
 use Rattle.lab_script.specs.Updates as updates
 use Rattle.lab_script.specs.declared.kinds.Kind.{Kind}
 use Rattle.lab_script.specs.declared.kinds.Kind.TheVariants.{Noop, Add, Delete, Hex, Other}

@@ -1,4 +1,4 @@
--- Lab scripts: the kind of a line, as code has it. In: what code has. Out: the kind. Which line is of which kind isn't here.
+-- Lab scripts: the kind of a line, as code has it. Which line is of which kind isn't here.
 use Rattle.lab_script.specs.Lines as lines
 use Rattle.lab_script.specs.declared.cutting.LineKind.{LineKind}
 use Rattle.lab_script.specs.declared.cutting.LineKind.TheVariants.{Request, Search, Plain}

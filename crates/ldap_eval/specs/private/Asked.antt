@@ -1,4 +1,4 @@
--- The item that the code asks. Plain data flows in, the definition's item flows out.
+-- The item that the code asks.
 use Rattle.ldap_filter.specs.Item.{SubstringsValue}
 use Rattle.ldap_filter.specs.ItemView.{substrings_view}
 use Rattle.dir_entry.specs.ldap_match.Item.{Item, present, equal, at_least, at_most, substrings}

@@ -1,5 +1,4 @@
--- Wire, streams: what stands at the front of octets, as a framer finds it.
--- In: a finding and octets. Out: whether it is true of them. Not here: the whole of a stream.
+-- What stands at the front of octets, as a framer finds it.
 use Rattle.std.specs.Prelude.{◌≡◌, ℕ, ◌≤◌, List, [], ◌∷◌, length, take}
 use Rattle.ldap_msg.specs.View.{view}
 use Rattle.ldap_framer.specs.Stream.{IsWhole, IsAwaited, IsStop}

@@ -1,5 +1,4 @@
--- The steps of a session that is served: reads, writes, pieces. What was read and written before and after flows in. The whole session is
--- above.
+-- The steps of a session that is served: reads, writes, pieces. The whole session is above.
 use Rattle.std.specs.Prelude.{◌≡◌, ◌⊎◌, ◌≤◌, ℕ, length, take, List, [], ◌++◌, Option, None}
 use Rattle.std.specs.Io.KnownBytes.{Appends, Consumes, IsAtEnd}
 use Rattle.session_handler.specs.directory_api.Talk.{Exchange}

@@ -1,5 +1,4 @@
--- LDIF: lines while they are unfolded.
--- In: lines, parts. Out: what a part does to the lines before it. Not here: numbers of lines, what lines say.
+-- Lines while they are unfolded.
 use Rattle.std.specs.Prelude.{◌≡◌, List, [], ◌∷◌}
 use Rattle.ldif.specs.Lines.{LineModel, before}
 

@@ -1,5 +1,4 @@
--- LDIF and messages: why lines of hex spell nothing.
--- In: a refusal and lines. Out: what is so where it comes. Not here: what messages mean.
+-- Why lines of hex spell nothing.
 use Rattle.std.specs.Prelude.{◌≡◌, ℕ, List, Result, Err}
 use Rattle.ldif.specs.HexLines.{octets_of_lines}
 use Rattle.ldif.specs.declared.refusals.ExportError.{ExportError}

@@ -1,5 +1,4 @@
--- LDIF: what a line says, as code has it.
--- In: what code has. Out: what a line says. Not here: which line says it.
+-- What a line says, as code has it.
 use Rattle.std.specs.Prelude.{string_bytes}
 use Rattle.ldif.specs.Says.{Says, blank, comment, named, valued, encoded, wrong}
 use Rattle.ldif.specs.declared.saying.Said.{Said}

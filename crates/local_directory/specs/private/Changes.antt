@@ -1,5 +1,4 @@
--- What a table of clients keeps after a change. A table and what is kept of one client flow in; the table after it
--- flows out.
+-- What a table of clients keeps after a change.
 use Rattle.std.specs.Prelude.{Option, Some, None}
 use Rattle.std.specs.FinMap as map
 use Rattle.dir_store.specs.directory_api.log_entry.declared.words.Client.{Client}

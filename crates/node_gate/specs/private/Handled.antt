@@ -1,5 +1,4 @@
--- What an event makes of a node that threads share. The node before it, the event, and what the seats see flow in; what is after it flows out. Locks
--- and clocks are not here.
+-- What an event makes of a node that threads share.
 use Rattle.std.specs.Prelude.{◌≡◌, Bool, false, length}
 use Rattle.dir_node.specs.dir_store.ldap_op.Values.{OpValue}
 use Rattle.dir_node.specs.state_machine.Executing.{due_after}

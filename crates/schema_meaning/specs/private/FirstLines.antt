@@ -1,5 +1,4 @@
--- The first lines in which names and object identifiers stand, found by octets. Descriptions flow in, numbers of lines flow out; what is
--- wrong with a description is not here, and no contract above names it.
+-- The first lines in which names and object identifiers stand, found by octets.
 use Rattle.std.specs.Prelude.{ℕ, List, [], ◌∷◌, ◌≡◌, Bool, false, cond, Option, None, Some, Vec, nat_lt}
 use Rattle.std.specs.Str.{bytes_eq}
 use Rattle.std.specs.declared.alloc.Global.{Global}

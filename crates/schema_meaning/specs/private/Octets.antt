@@ -1,4 +1,4 @@
--- Numbers that are kept at octets, and what is found by a word in any case. Octets flow in, numbers flow out; descriptions are not here.
+-- Numbers that are kept at octets, and what is found by a word in any case.
 use Rattle.std.specs.Prelude.{ℕ, List, [], ◌∷◌, ◌≡◌, Option, Vec, map}
 use Rattle.std.specs.declared.cmp.Ordering.TheVariants.{Less}
 use Rattle.std.specs.List.{AllByRecursion}

@@ -1,5 +1,4 @@
--- What is in effect for the types whose chain of SUPs ends, a step of the chain at a time. Descriptions flow in, rules flow out; how a
--- program walks along the chains is not here, and no contract of another crate names it.
+-- What is in effect for the types whose chain of SUPs ends, a step of the chain at a time.
 use Rattle.std.specs.Prelude.{ℕ, ◌<◌, zero, suc, List, ◌≡◌, length, reverse, slice_get, Option, None, Some}
 use Rattle.schema_text.specs.Descriptions.{DescriptionModel}
 use Rattle.schema_meaning.specs.declared.inheriting.Way.{Way}

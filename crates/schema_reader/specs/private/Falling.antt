@@ -1,5 +1,4 @@
--- Ranks of classes that never rise on a way up. Classes flow in by their numbers; how a program finds ranks is not here, and no contract above
--- names them.
+-- Ranks of classes that never rise on a way up.
 use Rattle.std.specs.Prelude.{ℕ, List, ◌≡◌, ◌<◌, ◌≤◌, true}
 use Rattle.ldap_schema.specs.Schema.{ClassModel}
 use Rattle.ldap_schema.specs.Superclasses.{is_among, direct_superclasses}

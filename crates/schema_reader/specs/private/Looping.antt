@@ -1,4 +1,4 @@
--- Types that many SUPs lead to. Types flow in by their numbers; how a program finds them is not here, and no contract above names it.
+-- Types that many SUPs lead to.
 use Rattle.std.specs.Prelude.{ℕ, ◌*◌, ◌+◌, ◌<◌, zero, suc, List, [], ◌∷◌, ◌≡◌, Bool, true, false, map, length, slice_get, slice_set, Option, None, Some}
 use Rattle.ldap_schema.specs.Schema.{TypeModel, superior_of}
 use Rattle.std.specs.Option.{option_flatten}

@@ -1,5 +1,5 @@
--- The sets of plans whose posting lists were looked up: whether a number in scope is in one, by what its lists still have to give.
--- Candidates are not here.
+-- The sets of plans whose posting lists were looked up: whether a number in scope is in one, by what its lists still
+-- have to give.
 use Rattle.std.specs.Prelude.{◌≡◌, ℕ, ◌≤◌, Bool, true, false, ◌&&◌, not, List, map}
 use Rattle.std.specs.List.{list_any, list_all}
 use Rattle.dir_index.specs.Postings.{Lists, has_number}

@@ -1,4 +1,4 @@
--- What a message was heard as. What the code made of a message flows in; which part of a session's rules that is flows out.
+-- What a message was heard as.
 use Rattle.std.specs.Prelude.{◌≡◌}
 use Rattle.request_checks.specs.ldap_msg.Messages.{RequestValue, MessageValue}
 use Rattle.request_checks.specs.ldap_msg.View.{request_view}

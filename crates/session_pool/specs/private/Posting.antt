@@ -1,5 +1,4 @@
--- The sessions whose updates wait in threads of their own. Which waits where comes in; whose client is gone comes out. What a thread does is
--- not here.
+-- The sessions whose updates wait in threads of their own. Which waits where comes in; whose client is gone comes out.
 use Rattle.std.specs.Prelude.{◌≡◌, ◌≤◌, ◌-◌, ℕ, List, slice_get, Option, Some, None}
 use Rattle.std.specs.Duration.{as_nanos}
 use Rattle.std.specs.Time.{instant_nanos}

@@ -1,5 +1,4 @@
--- The sessions of a table. The table before and after a call comes in, with a session; what has become of it comes out. How places are kept is
--- not here.
+-- The sessions of a table. The table before and after a call comes in, with a session; what has become of it comes out.
 use Rattle.std.specs.Prelude.{◌≡◌, ◌⊎◌, ◌-◌, ℕ, List, [], ◌∷◌, ◌++◌, slice_get, slice_set, Option, Some, None}
 use Rattle.std.specs.Duration.{as_nanos}
 use Rattle.std.specs.Time.{instant_nanos}

@@ -1,5 +1,4 @@
--- How a response is kept, and taken back. In: the responses that are noted. Out: their list after one more, and before it.
--- No rule of recovery is made here.
+-- How a response is kept, and taken back. No rule of recovery is made here.
 use Rattle.std.specs.Prelude.{ℕ, suc, ◌-◌, ◌==◌, cond, List, [], ◌∷◌, length, take, slice_set}
 use Rattle.vr_state.specs.declared.message.Response.{Response}
 use Rattle.vr_recover.specs.declared.kept.Kept.{Kept}

@@ -1,4 +1,4 @@
--- What goes with a message. In: a kind, a message. Out: whether the message is of that kind.
+-- What goes with a message.
 use Rattle.std.specs.Prelude.{◌≡◌, Bool, true, false}
 use Rattle.vr_state.specs.declared.message.PeerMessage.{PeerMessage}
 use Rattle.vr_state.specs.declared.message.PeerMessage.TheVariants.{StartViewChange, DoViewChange, StartView}

@@ -1,5 +1,4 @@
--- Frames: worked octets.
--- In: messages. Out: their octets, as the definitions compute them. Not here: new definitions.
+-- Worked octets.
 use Rattle.std.specs.Prelude.{◌≡◌, refl, ℕ, List, [], ◌∷◌, take, drop, Some, None}
 use Rattle.vr_state.specs.Words.{LogEntry}
 use Rattle.vr_state.specs.declared.message.PeerMessage.{PeerMessage}
