@@ -4,7 +4,7 @@
 //! The directory that updates change: a schema and a tree with its lists. A module for each update (`adding`, `deleting`, `modifying`,
 //! `renaming`, over `names` and `finding`) gives what is to change or the reply that refuses it, and changes nothing. Then `store` changes
 //! tree and lists in one call. A store is a value; `share` gives a second owner. `Updates` lists each update's checks in order, `Placed`
-//! the reply at each place of a list of updates. `sharing` and `apply_beside` have no caller.
+//! the reply at each place of a list of updates.
 //!
 //! Proved: each update gives the directory and the reply of its definition, its checks in order: 34, 32, 53, 66, 68, then what is asked of
 //! attributes. A refusal or want of memory changes nothing, and no update the index choice (`Store::apply`). Searches are lent just what
@@ -19,11 +19,9 @@ mod laws;
 mod modifying;
 mod names;
 mod renaming;
-mod sharing;
 mod store;
 
 pub use entry_updates::{LogEntry, Op, Update};
 pub use indexed_tree::{Indexes, Name, Reading, Reply, Schema, SharedEntry, Tree};
 pub use laws::{entries_rise, replies_are_placed, updates_join};
-pub use sharing::Beside;
 pub use store::Store;

@@ -15,7 +15,6 @@ use crate::fault::{StoreError, reply_of_refusal};
 use crate::modifying::{Kept, asked_change};
 use crate::names::asked_name;
 use crate::renaming::{Moved, asked_move};
-use crate::sharing::Beside;
 use entry_updates::{AddRequest, ModifyDnRequest, ModifyRequest, Op, ResultCode, Update};
 use indexed_tree::{IndexedTree, Indexes, Name, Reading, Reply, Schema, SharedEntry, Tree};
 use std::alloc::{AllocError, Global};
@@ -106,25 +105,6 @@ impl Store {
             Ok(()) => Ok(Reply::only(alloc, ResultCode::SUCCESS)),
             Err(error) => reply_of_refusal(error),
         }
-    }
-
-    /// The same. What else is known of the entry that the update makes isn't looked at.
-    pub fn apply_beside(
-        &mut self,
-        alloc: Global,
-        number: u64,
-        op: &Op,
-        beside: Beside<'_>,
-    ) -> Result<Reply, AllocError>
-        requires above { NumbersBelow number self.old.directory.entries }
-        ensures directory { IfOk result (λ reply. self.new.directory ≡ applied self.old.directory number op.now) }
-        ensures reply { IfOk result (λ reply. reply_view reply ≡ reply_to self.old.directory number op.now) }
-        ensures indexes { self.new.indexes ≡ self.old.indexes }
-        ensures below { IfOk result (λ reply. NumbersBelow (number + 1) self.new.directory.entries) }
-        ensures err { OnErr result (self.new ≡ self.old) }
-    {
-        let _ = beside;
-        self.apply(alloc, number, op)
     }
 
     /// Makes an update, or refuses it and changes nothing.

@@ -13,7 +13,7 @@ use crate::roots::Roots;
 use crate::shared::SharedEntry;
 use crate::suffix::Suffix;
 use crate::visit::Visit;
-use dir_entry::{Name, NumberSet, Rdn, SharedMap, are_same};
+use dir_entry::{Name, NumberSet, Rdn, SharedMap};
 use std::alloc::{AllocError, Global};
 use std::marker::Model;
 
@@ -101,20 +101,6 @@ impl Tree {
         ensures { result ≡ is_some (find (rdns name.now) self.now.entries) }
     {
         self.find(name).is_some()
-    }
-
-    /// Whether the name right above a name has an entry.
-    pub fn has_parent(&self, name: &[Rdn]) -> bool
-        ensures { result ≡ is_some (find (above (rdns name.now)) self.now.entries) }
-    {
-        self.roots.number_over(name).is_some()
-    }
-
-    /// Whether a name is the root's.
-    pub fn is_root(&self, name: &[Rdn]) -> bool
-        ensures { result ≡ name_eq (rdns name.now) (rdns self.now.suffix) }
-    {
-        are_same(name, self.suffix().rdns())
     }
 
     /// Whether a number is above all.

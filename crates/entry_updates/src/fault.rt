@@ -1,5 +1,5 @@
 //! Why an entry is not made or changed.
-ghost use Rattle.std.specs.Prelude.{◌≡◌, IfOk};
+ghost use Rattle.std.specs.Prelude.{◌≡◌};
 ghost use Rattle.entry_updates.specs.declared.fault.UpdateError.TheVariants.{NoMemory};
 
 use entry_changes::EntryError;
@@ -12,16 +12,6 @@ pub enum UpdateError {
     /// A check fails, with this code (RFC 4511 Appendix A).
     Refused(ResultCode),
     NoMemory,
-}
-
-/// The code that a refusal answers with; want of memory stays an error.
-pub fn code_of_refusal(error: UpdateError) -> Result<ResultCode, AllocError>
-    ensures { IfOk result (λ code. error ≡ UpdateError.Refused code) }
-{
-    match error {
-        UpdateError::Refused(code) => Ok(code),
-        UpdateError::NoMemory => Err(AllocError),
-    }
 }
 
 impl From<EntryError> for UpdateError {

@@ -15,7 +15,7 @@ mod modifying;
 mod renaming;
 
 pub use adding::entry_asked;
-pub use fault::{UpdateError, code_of_refusal};
+pub use fault::UpdateError;
 pub use ldap_op::{
     AddRequest, Change, LogEntry, ModifyDnRequest, ModifyRequest, Op, PartialAttribute, ResultCode,
     Update,

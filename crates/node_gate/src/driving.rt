@@ -117,11 +117,6 @@ fn take_all<R: Wait, D: Device, J: JournalDevice, I: Identity, P: Peers>(
 }
 
 impl<'a, R: Wait, D: Device, J: JournalDevice, I: Identity> Running<'a, R, D, J, I> {
-    /// Whether a thread drives the node, so that events are posted.
-    pub fn is_driven(&self) -> bool {
-        self.inbox.is_some()
-    }
-
     /// How many records the journal told of the log, where the node is still to catch up with them.
     pub fn resumed(&self, rt: &R) -> Option<u64> {
         let held = self.held.lock(rt);

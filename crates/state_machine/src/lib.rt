@@ -10,5 +10,5 @@ mod coming;
 mod executed;
 
 pub use coming::due;
-pub use dir_store::{Beside, Indexes, Name, Op, Reply, Schema, SharedEntry, Store, Update};
+pub use dir_store::{Indexes, Name, Op, Reply, Schema, SharedEntry, Store, Update};
 pub use executed::Executed;
