@@ -75,7 +75,7 @@ impl Attribute {
         let lists = lists_of(alloc, schema, type_id, values)?;
         Ok(Attribute {
             type_id,
-            held: lists.held(),
+            held: lists.held(alloc)?,
         })
     }
 
@@ -98,7 +98,7 @@ impl Attribute {
         let lists = held.into_lists(alloc)?.joined(more)?;
         Ok(Attribute {
             type_id,
-            held: lists.held(),
+            held: lists.held(alloc)?,
         })
     }
 
@@ -117,7 +117,7 @@ impl Attribute {
         let lists = held.into_lists(alloc)?.joined(more)?;
         Ok(Attribute {
             type_id,
-            held: lists.held(),
+            held: lists.held(alloc)?,
         })
     }
 
@@ -131,7 +131,7 @@ impl Attribute {
         let lists = held.into_lists(alloc)?.picked(alloc, marks)?;
         Ok(Attribute {
             type_id,
-            held: lists.held(),
+            held: lists.held(alloc)?,
         })
     }
 

@@ -1,6 +1,7 @@
 // What an attribute keeps of its values: one in place, or lists.
 
 ghost use Rattle.std.specs.Prelude.{◌≡◌, ◌++◌, ◌∷◌, [], IfOk};
+ghost use Rattle.std.specs.Arc.{arc_value};
 ghost use Rattle.dir_entry.specs.Kept.{values_in, keys_in};
 ghost use Rattle.dir_entry.specs.private.Kept.{forms_in};
 ghost use Rattle.dir_entry.specs.Picked.{picked as picked_by};
@@ -9,6 +10,7 @@ use ldap_match::{Form, Key};
 use shared_map::{Octets, Shared};
 use std::alloc::{AllocError, Global};
 use std::slice;
+use std::sync::Arc;
 
 /// Lists of so few values give back the room that they don't fill, since a copy of them costs little.
 const FEW: usize = 8;
@@ -36,7 +38,8 @@ impl Drop for Lists {
 pub enum Held {
     /// One value with its key, as most attributes have: it stands in place.
     One(Octets, Key, Form),
-    Many(Lists),
+    /// Owners in common, so that a copy of an entry costs nothing for attributes that stay as they are.
+    Many(Arc<Lists>),
 }
 
 // Not derived: see "What the gate takes" in docs/ARCHITECTURE.md.
@@ -95,10 +98,10 @@ impl Lists {
     }
 
     /// Them as they are kept: one value with a key in place.
-    pub fn held(self) -> Held
-        ensures values { values_in result ≡ self.values.items }
-        ensures keys { keys_in result ≡ self.keys.items }
-        ensures forms { forms_in result ≡ self.forms.items }
+    pub fn held(self, alloc: Global) -> Result<Held, AllocError>
+        ensures values { IfOk result (λ h. values_in h ≡ self.values.items) }
+        ensures keys { IfOk result (λ h. keys_in h ≡ self.keys.items) }
+        ensures forms { IfOk result (λ h. forms_in h ≡ self.forms.items) }
     {
         let Lists {
             mut values,
@@ -107,7 +110,7 @@ impl Lists {
         } = self;
         if values.len() == 1 && keys.len() == 1 && forms.len() == 1 {
             if let (Some(value), Some(key), Some(form)) = (values.pop(), keys.pop(), forms.pop()) {
-                return Held::One(value, key, form);
+                return Ok(Held::One(value, key, form));
             }
             unreachable!()
         }
@@ -116,11 +119,14 @@ impl Lists {
             keys.shrink_to_fit();
             forms.shrink_to_fit();
         }
-        Held::Many(Lists {
-            values,
-            keys,
-            forms,
-        })
+        Ok(Held::Many(Arc::new(
+            alloc,
+            Lists {
+                values,
+                keys,
+                forms,
+            },
+        )?))
     }
 
     /// A copy.
@@ -180,7 +186,7 @@ impl Held {
                 keys: list_of(alloc, key)?,
                 forms: list_of(alloc, form)?,
             }),
-            Held::Many(lists) => Ok(lists),
+            Held::Many(lists) => owned(alloc, lists),
         }
     }
 
@@ -196,8 +202,20 @@ impl Held {
                 key.copy(alloc)?,
                 form.copy(alloc)?,
             )),
-            Held::Many(lists) => Ok(Held::Many(lists.copy(alloc)?)),
+            Held::Many(lists) => Ok(Held::Many(Arc::try_clone(lists)?)),
         }
+    }
+}
+
+/// The lists themselves, where nobody else has them; else a copy.
+fn owned(alloc: Global, lists: Arc<Lists>) -> Result<Lists, AllocError>
+    ensures values { IfOk result (λ l. l.values.items ≡ (arc_value lists).values.items) }
+    ensures keys { IfOk result (λ l. l.keys.items ≡ (arc_value lists).keys.items) }
+    ensures forms { IfOk result (λ l. l.forms.items ≡ (arc_value lists).forms.items) }
+{
+    match Arc::try_unwrap(lists) {
+        Ok(lists) => Ok(lists),
+        Err(shared) => shared.copy(alloc),
     }
 }
 

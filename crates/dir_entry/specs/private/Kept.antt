@@ -1,10 +1,11 @@
 -- The texts of values that are kept, for contracts that aren't public. What public contracts say is in specs/Kept.
 use Rattle.std.specs.Prelude.{List, [], ◌∷◌}
 use Rattle.ldap_match.specs.ldap_syntax.Forms.{FormModel}
+use Rattle.std.specs.Arc.{arc_value}
 use Rattle.dir_entry.specs.declared.kept.Held.{Held}
 use Rattle.dir_entry.specs.declared.kept.Held.TheVariants.{One, Many}
 
 -- the texts of each value
 abbrev pub forms_in : Held → List FormModel
 forms_in (One value key form) = form ∷ []
-forms_in (Many lists) = lists.forms.items
+forms_in (Many lists) = (arc_value lists).forms.items
