@@ -18,6 +18,14 @@ impl Build {
         matches!(self, Build::Proved)
     }
 
+    /// The program's version, without how it was built.
+    pub fn number(self) -> &'static str {
+        match self.version().split_once(' ') {
+            Some((number, _)) => number,
+            None => self.version(),
+        }
+    }
+
     /// The program's version, as `--version` prints it.
     pub fn version(self) -> &'static str {
         match self {

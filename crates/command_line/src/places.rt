@@ -1,4 +1,5 @@
 //! Where the replicas of a cluster are found, by the words of the command line.
+use std::fmt::{self, Display, Formatter, Write};
 use std::net::SocketAddr;
 
 /// Where a socket is found.
@@ -46,19 +47,65 @@ fn is_host(text: &str) -> bool {
         && last_part(text).starts_with(|first: char| first.is_ascii_alphabetic())
 }
 
-/// Where a socket is found, by its word; none, where that is neither an address nor a host's name, with a port.
-fn address_of(word: &str) -> Option<Address<'_>> {
+/// What is wrong with the word of a PEER.
+#[derive(Clone, Copy, Debug, PartialEq, Eq)]
+pub enum PeerFault<'a> {
+    /// There is no comma.
+    OneAddress,
+    /// An address has no port.
+    NoPort(&'a str),
+    /// What stands for its port is none.
+    BadPort(&'a str),
+    /// It is neither an address nor a host's name.
+    BadHost(&'a str),
+    /// What stands for the URI isn't one.
+    BadUri(&'a str),
+}
+
+impl<'a> Display for PeerFault<'a> {
+    fn fmt<W: Write>(&self, f: &mut Formatter<W>) -> fmt::Result {
+        match self {
+            PeerFault::OneAddress => f.write_str(
+                "it has one address: write that for replicas, a comma, and that for clients",
+            ),
+            PeerFault::NoPort(word) => {
+                write!(
+                    f,
+                    "'{word}' has no port: write ADDRESS:PORT, and IPv6 as [ADDRESS]:PORT"
+                )
+            }
+            PeerFault::BadPort(word) => write!(f, "the port of '{word}' is no number up to 65535"),
+            PeerFault::BadHost(word) => {
+                write!(
+                    f,
+                    "'{word}' begins with neither an address nor a host's name"
+                )
+            }
+            PeerFault::BadUri(word) => {
+                write!(
+                    f,
+                    "'{word}' is no URI: write ldap:// or ldaps://, and a host"
+                )
+            }
+        }
+    }
+}
+
+/// Where a socket is found, by its word; or why that is neither an address nor a host's name, with a port.
+fn address_of(word: &str) -> Result<Address<'_>, PeerFault<'_>> {
     if let Ok(address) = word.parse::<SocketAddr>() {
-        return Some(Address::Numbers(address));
+        return Ok(Address::Numbers(address));
     }
-    let (host, port) = word.rsplit_once(':')?;
+    let Some((host, port)) = word.rsplit_once(':') else {
+        return Err(PeerFault::NoPort(word));
+    };
+    let Ok(port) = port.parse::<u16>() else {
+        return Err(PeerFault::BadPort(word));
+    };
     if !is_host(host) {
-        return None;
+        return Err(PeerFault::BadHost(word));
     }
-    Some(Address::Name {
-        host,
-        port: port.parse::<u16>().ok()?,
-    })
+    Ok(Address::Name { host, port })
 }
 
 /// Whether only this machine reaches an address, as far as its spelling shows.
@@ -130,22 +177,26 @@ fn uri_of(word: &str) -> Option<&str> {
 }
 
 /// The second address of a PEER, and the URI behind it, where there is one.
-fn clients_of(word: &str) -> Option<(Address<'_>, Option<&str>)> {
-    match word.split_once(',') {
-        Some((address, uri)) => {
-            let uri = uri_of(uri)?;
-            Some((address_of(address)?, Some(uri)))
-        }
-        None => Some((address_of(word)?, None)),
+fn clients_of(word: &str) -> Result<(Address<'_>, Option<&str>), PeerFault<'_>> {
+    let Some((address, uri)) = word.split_once(',') else {
+        return Ok((address_of(word)?, None));
+    };
+    let address = address_of(address)?;
+    match uri_of(uri) {
+        Some(uri) => Ok((address, Some(uri))),
+        None => Err(PeerFault::BadUri(uri)),
     }
 }
 
-/// Where a replica is found, by its word; none, where that isn't two addresses, and a URI or none, with commas between them.
-pub fn peer_of(word: &str) -> Option<Peer<'_>> {
-    let (peer, clients) = word.split_once(',')?;
+/// Where a replica is found, by its word; or why that isn't two addresses, and a URI or none, with commas between them.
+pub fn peer_of(word: &str) -> Result<Peer<'_>, PeerFault<'_>> {
+    let Some((peer, clients)) = word.split_once(',') else {
+        return Err(PeerFault::OneAddress);
+    };
+    let peer_address = address_of(peer)?;
     let (ldap_address, uri) = clients_of(clients)?;
-    Some(Peer {
-        peer_address: address_of(peer)?,
+    Ok(Peer {
+        peer_address,
         ldap_address,
         uri,
     })

@@ -300,12 +300,10 @@ fn peers_in<'a>(alloc: Global, words: &[&'a str]) -> Result<Vec<Peer<'a>>, Error
     let mut peers = Vec::new(alloc);
     for word in words {
         match peer_of(word) {
-            Some(peer) => peers.push(peer)?,
-            None => {
-                return Err(refusal(
-                    alloc,
-                    "a PEER is two addresses, or names of hosts, with their ports and a comma between them, and behind a further comma the URI that clients are referred to, where it is another",
-                ));
+            Ok(peer) => peers.push(peer)?,
+            Err(fault) => {
+                let message = format!(in alloc; "PEER {word}: {fault}")?;
+                return Err(refusal(alloc, &message));
             }
         }
     }
