@@ -4,6 +4,7 @@ use crate::reasons::{open_to_others, read_refusal};
 use crate::refusal::Refusal;
 use std::alloc::Global;
 use std::fs;
+use std::io::ErrorKind;
 use std::os::unix::fs::PermissionsExt;
 use std::rt::Files;
 
@@ -36,6 +37,9 @@ impl<R: Files + AllocGlobal> ReadFiles for SystemFiles<'_, R> {
     fn read_secret(&self, alloc: Global, path: &str) -> Result<String, Refusal> {
         match fs::metadata(self.0, path) {
             Ok(metadata) => {
+                if metadata.is_dir() {
+                    return Err(read_refusal(alloc, path, ErrorKind::IsADirectory));
+                }
                 if is_open_to_others(metadata.permissions().mode()) {
                     return Err(open_to_others(alloc, path));
                 }
