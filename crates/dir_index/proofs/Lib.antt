@@ -1,3 +1,4 @@
+mod Changed
 pub mod Crossing
 mod Keys
 mod Listed

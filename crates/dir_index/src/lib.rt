@@ -3,21 +3,28 @@
 //! ones.
 //!
 //! The posting lists of a directory's entries: one `SharedMap` from posting to set of numbers, in which the keys of a
-//! type are neighbours (`list_order`). A change makes a new map. It computes the entry's postings as a set (`marks`).
-//! The number leaves the lists that only the old set has, and joins those that only the new set has (`lists`). A range
-//! is a walk from its first key to its last (`ranges`). Plans ask the trait `Kept`.
+//! type are neighbours (`list_order`). A change makes a new map: the number leaves the lists that list the entry before
+//! and not after, and joins those that list it after and not before (`lists`). Where an entry comes or goes, all its
+//! postings are computed as a set (`marks`). Where its attributes change (`moves`), only postings that may differ are
+//! looked at: those of types that one side lacks, and of keys that the two sides don't have in common at the front or at
+//! the end (`apart`, `key_changes`). Each of them is looked for on both sides (`membership`). A range is a walk from its
+//! first key to its last (`ranges`). Plans ask the trait `Kept`.
 //!
 //! Proved: the lists of presence, equality, order and runs of three octets are those of the entries, after each change;
 //! out of memory, nothing has changed (`Postings::add`, `remove`, `replace`, `push_range`).
 #![tactic(auto)]
 
+mod apart;
 mod choice;
 mod kept;
+mod key_changes;
 mod laws;
 mod list_key;
 mod list_order;
 mod lists;
 mod marks;
+mod membership;
+mod moves;
 mod ordering;
 mod posting;
 mod postings;

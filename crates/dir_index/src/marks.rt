@@ -27,7 +27,7 @@ fn short_number(type_id: TypeId) -> Result<u32, AllocError>
 }
 
 /// Puts a key to the others.
-fn mark(
+pub fn mark(
     alloc: Global,
     marks: &mut Marks,
     type_id: TypeId,
@@ -112,7 +112,7 @@ fn mark_key(
 }
 
 /// Puts the postings of an attribute's keys to the others.
-fn mark_keys(
+pub fn mark_keys(
     alloc: Global,
     marks: &mut Marks,
     kinds: Kinds,
@@ -129,7 +129,7 @@ fn mark_keys(
 
 /// Puts the posting of an attribute's presence to the others, if there is such an index.
 #[tactic(auto, using(crate::proofs::Marking::same_presence, crate::proofs::Marking::no_presence))]
-fn mark_presence(
+pub fn mark_presence(
     alloc: Global,
     marks: &mut Marks,
     kinds: Kinds,
@@ -144,7 +144,7 @@ fn mark_presence(
 }
 
 /// Whether there is an attribute of the type.
-fn has_type(attributes: &[Attribute], type_id: TypeId) -> bool
+pub fn has_type(attributes: &[Attribute], type_id: TypeId) -> bool
     ensures { result ≡ is_type_in type_id attributes.now }
 {
     attributes
@@ -154,7 +154,7 @@ fn has_type(attributes: &[Attribute], type_id: TypeId) -> bool
 
 /// Whether an attribute before others makes the entry one that may have several values of its
 /// type.
-fn may_have_several(attribute: &Attribute, others: &[Attribute]) -> bool
+pub fn may_have_several(attribute: &Attribute, others: &[Attribute]) -> bool
     ensures { result ≡ makes_several attribute.now others.now }
 {
     attribute.keys().len() > 1 || has_type(others, attribute.type_id())

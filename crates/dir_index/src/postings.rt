@@ -11,7 +11,7 @@ ghost use Rattle.dir_index.specs.private.Whole.{moved};
 
 use crate::choice::Choice;
 use crate::lists::{Lists, enlisted_in, struck_from};
-use crate::marks::marks_of;
+use crate::moves::{Moves, moves_between};
 use crate::posting::{Posting, Range};
 use crate::ranges::{about_lists, push_lists};
 use index_choice::{Attribute, Entry, Indexes, NumberSet, SharedMap};
@@ -99,8 +99,7 @@ impl Postings {
         ensures rising { IfOk result (λ m. AllRise self.now.lists → AllRise m) }
     {
         let indexes = self.choice.indexes();
-        let was = marks_of(self.alloc, indexes, before)?;
-        let is = marks_of(self.alloc, indexes, after)?;
+        let Moves { was, is } = moves_between(self.alloc, indexes, before, after)?;
         let more = enlisted_in(self.alloc, &self.lists, &is, &was, number)?;
         let now = struck_from(self.alloc, &more, &was, &is, number)?;
         Ok(now)

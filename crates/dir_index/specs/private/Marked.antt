@@ -1,5 +1,5 @@
 -- The postings that list an entry, as a set of keys.
-use Rattle.std.specs.Prelude.{ℕ, List, Bool, false, ◌&&◌, ◌||◌, nat_eq, nat_lt, length}
+use Rattle.std.specs.Prelude.{ℕ, List, Bool, false, cond, ◌&&◌, ◌||◌, nat_eq, nat_lt, length}
 use Rattle.std.specs.List.{list_any}
 use Rattle.index_choice.specs.dir_entry.ldap_match.Keyed.{is_same_key}
 use Rattle.index_choice.specs.dir_entry.ldap_match.Parts.{is_at_start}
@@ -9,7 +9,7 @@ use Rattle.index_choice.specs.Choice.{kinds_of}
 use Rattle.dir_index.specs.declared.posting.Posting.{Posting}
 use Rattle.dir_index.specs.declared.posting.Posting.TheVariants.{Present, Several, Equal, Run}
 use Rattle.dir_index.specs.declared.list_key.ListKey.{ListKey}
-use Rattle.dir_index.specs.Postings.{is_kept, is_listed, has_type, stands_in}
+use Rattle.dir_index.specs.Postings.{is_kept, is_listed, has_type, has_several, some_key, stands_in}
 use Rattle.dir_index.specs.ListKeys.{key_of, is_same_list}
 
 -- whether a key is among these
@@ -72,3 +72,12 @@ abbrev pub is_from_attribute : List Kinds → KeyedAttribute → List KeyedAttri
 is_from_attribute ix a e p =
     let ks = kinds_of ix a.kind in
     is_from_presence ks a.kind p || (is_from_several ks a.kind (makes_several a e) p || list_any (is_from_key ks a.kind p) a.keys)
+
+-- whether the list of a key is one that is kept and lists the entry
+abbrev pub lists_by : List Kinds → List KeyedAttribute → ListKey → Bool
+lists_by ix e k =
+    let ks = kinds_of ix k.type_id in
+    cond (nat_eq k.rank 0) (ks.presence && has_type k.type_id e)
+    (cond (nat_eq k.rank 1) (ks.ordering && has_several k.type_id e)
+    (cond (nat_eq k.rank 2) ((ks.equality || ks.ordering) && some_key k.type_id (is_same_key k.octets) e)
+    ((ks.substrings && nat_eq (length k.octets) 3) && some_key k.type_id (stands_in k.octets) e)))

@@ -13,15 +13,13 @@ pub returns-clause-has : goal.returns-clause-has
 returns-clause-has c = λ rise p n.
     let choice = c.indexes-indexes.ensures ∙ ap (λ m. m.indexes) c.self.view_is in
     let lists : c.self.inside.lists ≡ c.args.self.now.lists = ap (λ m. m.lists) c.self.view_is in
-    let before = c.in_ok-was.ensures p ∙ ap (λ (ix : List Kinds). lists_entry ix c.args.before.now p) choice in
-    let after = c.in_ok-is.ensures p ∙ ap (λ (ix : List Kinds). lists_entry ix c.args.after.now p) choice in
-    let b : Bool = has_posting c.in_ok-was.was'.keys p in
-    let a : Bool = has_posting c.in_ok-is.is'.keys p in
+    let b : Bool = has_posting c.in_ok-was.field-0.was.keys p in
+    let a : Bool = has_posting c.in_ok-was.field-0.is.keys p in
     c.in_ok-now.ensures.has (c.in_ok-more.ensures.rising (subst AllRise (sym lists) rise)) p n
     ∙ ap (λ (i : Bool). i && not (nat_eq n c.args.number && (b && not a))) (c.in_ok-more.ensures.has p n)
     ∙ both_steps (nat_eq n c.args.number) b a (is_in c.self.inside.lists (key_of p) n)
-    ∙ ap (λ (x : Bool). cond (nat_eq n c.args.number) (moved x a (is_in c.self.inside.lists (key_of p) n)) (is_in c.self.inside.lists (key_of p) n)) before
-    ∙ ap (λ (x : Bool). cond (nat_eq n c.args.number) (moved (lists_entry c.args.self.now.indexes c.args.before.now p) x (is_in c.self.inside.lists (key_of p) n)) (is_in c.self.inside.lists (key_of p) n)) after
+    ∙ ap (λ (x : Bool). cond (nat_eq n c.args.number) x (is_in c.self.inside.lists (key_of p) n)) (c.in_ok-was.ensures p (is_in c.self.inside.lists (key_of p) n))
+    ∙ ap (λ (ix : List Kinds). cond (nat_eq n c.args.number) (moved (lists_entry ix c.args.before.now p) (lists_entry ix c.args.after.now p) (is_in c.self.inside.lists (key_of p) n)) (is_in c.self.inside.lists (key_of p) n)) choice
     ∙ ap (λ (ls : ListRows). cond (nat_eq n c.args.number) (moved (lists_entry c.args.self.now.indexes c.args.before.now p) (lists_entry c.args.self.now.indexes c.args.after.now p) (is_in ls (key_of p) n)) (is_in ls (key_of p) n)) lists
 
 pub returns-clause-rising : goal.returns-clause-rising
