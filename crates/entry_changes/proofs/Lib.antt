@@ -6,3 +6,4 @@ pub mod Joined
 pub mod Reached
 pub mod Slots
 pub mod Indexing
+pub mod Looked

@@ -36,7 +36,7 @@ pub struct Indexed {
 }
 
 /// What the values are compared by.
-fn octets_by<'a>(
+pub fn octets_by<'a>(
     alloc: Global,
     by_keys: bool,
     attribute: &'a Attribute,

@@ -84,7 +84,7 @@ fn has_key(keys: &[Key], key: &Key) -> bool
 }
 
 /// Whether one of the values has these octets.
-fn has_octets(values: &[Octets], octets: &[u8]) -> bool
+pub fn has_octets(values: &[Octets], octets: &[u8]) -> bool
     ensures { result ≡ list_any (bytes_eq octets.now) values.now }
 {
     values.iter().any(|value| octets == value.as_slice())

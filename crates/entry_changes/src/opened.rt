@@ -12,16 +12,22 @@ ghost use Rattle.entry_changes.specs.Opening.{since, octets_by, held_in};
 ghost use Rattle.entry_changes.specs.private.Opening.{Fits, IsIndexed};
 
 use crate::index::{Index, Indexed, hold, holds_all_of, holds_some_of, index_of, let_go, marks_of};
+use crate::searched::{has_all_of, has_some_of, marks_without};
 use dir_entry::{Attribute, EntryError, Schema, TypeId, equality_rule, tests_are_items};
 use std::alloc::{AllocError, Global};
 use std::marker::Model;
+
+/// The first change of an attribute looks for so few values among all that it has. An index costs as much as some dozens of such looks.
+const FEW: usize = 8;
 
 /// An attribute whose values may be changed one by one: a value that is deleted stays in its place, and the index says which are held.
 #[derive(Drop)]
 pub struct Opened {
     attribute: Attribute,
-    /// Made by the first change that asks which values are held; without it all are.
+    /// Made by the first change of many values, or by the second one; without it all values are held.
     index: Option<Index>,
+    /// Whether a change has looked at each value: the next one makes an index.
+    is_searched: bool,
 }
 
 impl Model for Opened {
@@ -77,7 +83,11 @@ fn indexed_by(alloc: Global, by_keys: bool, opened: Opened) -> Result<Indexed, A
     requires { length (octets_by by_keys opened) ≡ length opened.values }
     ensures { IfOk result (λ x. IsIndexed by_keys opened x) }
 {
-    let Opened { attribute, index } = opened;
+    let Opened {
+        attribute,
+        index,
+        ..
+    } = opened;
     match index {
         Some(index) => indexed_again(alloc, by_keys, attribute, index),
         None => newly_indexed(alloc, by_keys, attribute),
@@ -121,6 +131,7 @@ fn extended(
     Ok(Opened {
         attribute,
         index: Some(index),
+        is_searched: true,
     })
 }
 
@@ -145,11 +156,12 @@ fn lessened(
     Ok(Opened {
         attribute,
         index: Some(index),
+        is_searched: true,
     })
 }
 
-/// The attribute with the given values after its own, if none of them is held.
-pub fn joined(
+/// The attribute with the given values after its own, if none of them is held: asked of an index.
+fn joined_by_index(
     alloc: Global,
     schema: &Schema,
     held: Opened,
@@ -172,8 +184,60 @@ pub fn joined(
     Ok(extended(alloc, attribute, index, given)?)
 }
 
-/// The attribute with the values that are not among the given ones, if all of these are held.
-pub fn left(
+/// The same, asked by a look at each value.
+fn joined_by_search(
+    alloc: Global,
+    schema: &Schema,
+    held: Attribute,
+    given: Attribute,
+) -> Result<Opened, EntryError>
+    requires kind { held.kind ≡ given.kind }
+    requires held { AreKeysOf schema.now held.kind held.values held.keys }
+    requires given { AreKeysOf schema.now given.kind given.values given.keys }
+    ensures kind { IfOk result (λ a. a.kind ≡ given.kind) }
+    ensures values { IfOk result (λ a. a.values ≡ held.values ++ given.values) }
+    ensures keyed { IfOk result (λ a. AreKeysOf schema.now a.kind a.values a.keys) }
+    ensures fresh { OnOk result (list_any (holds schema.now given.kind held.values) given.values ≡ false) }
+    ensures refused { IfErr result (λ e. RefusesFor 20 (list_any (holds schema.now given.kind held.values) given.values) e) }
+{
+    tests_are_items();
+    let by_keys = is_by_keys(schema, held.type_id());
+    if has_some_of(alloc, by_keys, &held, &given)? {
+        return Err(EntryError::AttributeOrValueExists);
+    }
+    let attribute = held.joined(alloc, given)?;
+    Ok(Opened {
+        attribute,
+        index: None,
+        is_searched: true,
+    })
+}
+
+/// The attribute with the given values after its own, if none of them is held.
+pub fn joined(
+    alloc: Global,
+    schema: &Schema,
+    held: Opened,
+    given: Attribute,
+) -> Result<Opened, EntryError>
+    requires kind { held.kind ≡ given.kind }
+    requires held { AreKeysOf schema.now held.kind held.values held.keys }
+    requires given { AreKeysOf schema.now given.kind given.values given.keys }
+    ensures kind { IfOk result (λ a. a.kind ≡ given.kind) }
+    ensures values { IfOk result (λ a. a.values ≡ held.values ++ given.values) }
+    ensures keyed { IfOk result (λ a. AreKeysOf schema.now a.kind a.values a.keys) }
+    ensures fresh { OnOk result (list_any (holds schema.now given.kind held.values) given.values ≡ false) }
+    ensures refused { IfErr result (λ e. RefusesFor 20 (list_any (holds schema.now given.kind held.values) given.values) e) }
+{
+    if held.is_to_search(&given) {
+        let attribute = held.into_attribute(alloc)?;
+        return joined_by_search(alloc, schema, attribute, given);
+    }
+    joined_by_index(alloc, schema, held, given)
+}
+
+/// The attribute with the values that are not among the given ones, if all of these are held: asked of an index.
+fn left_by_index(
     alloc: Global,
     schema: &Schema,
     held: Opened,
@@ -196,6 +260,59 @@ pub fn left(
     Ok(lessened(alloc, attribute, index, given)?)
 }
 
+/// The same, asked by a look at each value.
+fn left_by_search(
+    alloc: Global,
+    schema: &Schema,
+    held: Attribute,
+    given: &Attribute,
+) -> Result<Opened, EntryError>
+    requires kind { held.kind ≡ given.now.kind }
+    requires held { AreKeysOf schema.now held.kind held.values held.keys }
+    requires given { AreKeysOf schema.now given.now.kind given.now.values given.now.keys }
+    ensures kind { IfOk result (λ a. a.kind ≡ held.kind) }
+    ensures values { IfOk result (λ a. a.values ≡ values_left schema.now held.kind given.now.values held.values) }
+    ensures keyed { IfOk result (λ a. AreKeysOf schema.now a.kind a.values a.keys) }
+    ensures held { OnOk result (list_all (holds schema.now held.kind held.values) given.now.values ≡ true) }
+    ensures refused { IfErr result (λ e. RefusesFor 16 (not (list_all (holds schema.now held.kind held.values) given.now.values)) e) }
+{
+    tests_are_items();
+    let by_keys = is_by_keys(schema, held.type_id());
+    if !has_all_of(alloc, by_keys, &held, given)? {
+        return Err(EntryError::NoSuchAttribute);
+    }
+    let marks = marks_without(alloc, by_keys, &held, given)?;
+    let attribute = held.kept(alloc, marks.as_slice())?;
+    Ok(Opened {
+        attribute,
+        index: None,
+        is_searched: true,
+    })
+}
+
+/// The attribute with the values that are not among the given ones, if all of these are held.
+pub fn left(
+    alloc: Global,
+    schema: &Schema,
+    held: Opened,
+    given: &Attribute,
+) -> Result<Opened, EntryError>
+    requires kind { held.kind ≡ given.now.kind }
+    requires held { AreKeysOf schema.now held.kind held.values held.keys }
+    requires given { AreKeysOf schema.now given.now.kind given.now.values given.now.keys }
+    ensures kind { IfOk result (λ a. a.kind ≡ held.kind) }
+    ensures values { IfOk result (λ a. a.values ≡ values_left schema.now held.kind given.now.values held.values) }
+    ensures keyed { IfOk result (λ a. AreKeysOf schema.now a.kind a.values a.keys) }
+    ensures held { OnOk result (list_all (holds schema.now held.kind held.values) given.now.values ≡ true) }
+    ensures refused { IfErr result (λ e. RefusesFor 16 (not (list_all (holds schema.now held.kind held.values) given.now.values)) e) }
+{
+    if held.is_to_search(given) {
+        let attribute = held.into_attribute(alloc)?;
+        return left_by_search(alloc, schema, attribute, given);
+    }
+    left_by_index(alloc, schema, held, given)
+}
+
 impl Opened {
     /// The attribute, whose values may be changed from now on.
     pub fn of(attribute: Attribute) -> Opened
@@ -204,6 +321,7 @@ impl Opened {
         Opened {
             attribute,
             index: None,
+            is_searched: false,
         }
     }
 
@@ -211,7 +329,11 @@ impl Opened {
     pub fn into_attribute(self, alloc: Global) -> Result<Attribute, AllocError>
         ensures { IfOk result (λ a. a ≡ self) }
     {
-        let Opened { attribute, index } = self;
+        let Opened {
+            attribute,
+            index,
+            ..
+        } = self;
         match index {
             Some(index) => held(alloc, attribute, &index),
             None => Ok(attribute),
@@ -233,5 +355,10 @@ impl Opened {
             Some(index) => index.held.is_empty(),
             None => self.attribute.values().is_empty(),
         }
+    }
+
+    /// Whether the given values are looked for among all: they are few, and no change has looked at each value yet.
+    fn is_to_search(&self, given: &Attribute) -> bool {
+        !self.is_searched && (self.index.is_none() && given.values().len() <= FEW)
     }
 }

@@ -1,6 +1,6 @@
 use Rattle.std.proofs.Common.{refl, sym, ◌∙◌}
 use Rattle.entry_changes.proofs.Indexing.{some_held, long_given, joined_keyed}
-use Rattle.entry_changes.proofs.opened.joined.Goals as goal
+use Rattle.entry_changes.proofs.opened.joined_by_index.Goals as goal
 
 pub returns-then-branch-clause-refused : goal.returns-then-branch-clause-refused
 returns-then-branch-clause-refused c = (

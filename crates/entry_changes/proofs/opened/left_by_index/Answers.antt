@@ -1,6 +1,6 @@
 use Rattle.std.proofs.Common.{not, refl, ap, sym, ◌∙◌}
 use Rattle.entry_changes.proofs.Indexing.{all_held, left_values, left_keyed}
-use Rattle.entry_changes.proofs.opened.left.Goals as goal
+use Rattle.entry_changes.proofs.opened.left_by_index.Goals as goal
 
 pub returns-then-not-branch-clause-refused : goal.returns-then-not-branch-clause-refused
 returns-then-not-branch-clause-refused c = (
