@@ -1,0 +1,226 @@
+-- What a process stands for after it was given events, or ended.
+use Rattle.std.proofs.Common.{◌≡◌, ◌≢◌, ℕ, ◌<◌, ◌≤◌, ◌==◌, Bool, cond, inl, inr, List, [], ◌∷◌, take, Some, None, Result, slice_get, Vec, refl, sym, ap, ◌∙◌, subst, eq-eqb}
+use Rattle.std.specs.Arc.{arc_value}
+use Rattle.std.specs.Global.{Global}
+use Rattle.std.specs.declared.alloc.AllocError.{AllocError}
+use Rattle.dir_node.specs.Handling.{MakesSteps}
+use Rattle.dir_node.specs.NodeState.{pair_of}
+use Rattle.dir_node.specs.declared.error.NodeError.TheVariants.{NoMemory}
+use Rattle.state_machine.specs.dir_store.ldap_op.Values.{OpValue}
+use Rattle.view_store.specs.Slots.{found}
+use Rattle.vr_state.proofs.Laws.{prefix_trans}
+use Rattle.vr_state.specs.State.{State}
+use Rattle.vr_state.specs.declared.event.Event.{Event}
+use Rattle.vr_state.specs.declared.message.Outputs.{Outputs}
+use Rattle.vr_world.specs.Law.{IsSize}
+use Rattle.vr_world.specs.World.{World, has_used, happens, kept_of, put, run}
+use Rattle.vr_world.specs.declared.events.WorldEvent.{WorldEvent}
+use Rattle.vr_world.specs.declared.events.WorldEvent.TheVariants.{Crash}
+use Rattle.dir_machine.proofs.Processes.{Moved}
+use Rattle.dir_machine.proofs.Taking.{Ran, caught_up, ran}
+use Rattle.dir_machine.proofs.Worlds.{IsLater, IsReached, crashed_is, later_refl, not_eqb, put_here, put_there}
+use Rattle.dir_machine.specs.Happening.{MayHappen, TakesEach}
+use Rattle.dir_machine.specs.Shown.{Stage, unborn, up, down, gone, message_in, stage}
+use Rattle.dir_machine.specs.private.Givens.{AreAsked}
+use Rattle.dir_machine.specs.private.Processes.{IsEnded, IsGiven, MemoryNode, Took}
+use Rattle.dir_machine.specs.private.Running.{AreSent, IsDown, IsUp, StandsFor}
+use Rattle.dir_machine.specs.declared.events.Given.{Given}
+use Rattle.dir_machine.specs.declared.events.MachineEvent.TheVariants as event
+use Rattle.dir_machine.specs.declared.machine.Machine.{Machine}
+use Rattle.dir_machine.specs.declared.process.Process.{Process}
+use Rattle.dir_machine.specs.declared.process.Process.TheVariants.{Unborn, Up, Down, Gone}
+use Rattle.dir_machine.specs.declared.replies.MachineReply.{MachineReply}
+use Rattle.dir_machine.specs.declared.replies.MachineReply.TheVariants as reply
+
+-- two stages differ
+pub unborn_not_up : {s : Stage} → s ≡ unborn → s ≢ up
+unborn_not_up e f = absurd (cc)
+
+pub down_not_up : {s : Stage} → s ≡ down → s ≢ up
+down_not_up e f = absurd (cc)
+
+pub gone_not_up : {s : Stage} → s ≡ gone → s ≢ up
+gone_not_up e f = absurd (cc)
+
+-- What may happen where replica i is given these, one or a batch.
+abbrev pub MayBeGiven : ℕ → List MachineReply → ℕ → List Given → MachineReply → List (WorldEvent OpValue) → World OpValue → Type 0
+MayBeGiven n before i gs reply.Nothing h w = (h ≡ []) × (stage before i ≢ up)
+MayBeGiven n before i gs (reply.Handled j outs behind) h w = (j ≡ i) × TakesEach n before i gs outs.items h w
+MayBeGiven n before i gs (reply.Refused j e) h w = (j ≡ i) × (e ≡ NoMemory) × (h ≡ [])
+MayBeGiven n before i gs (reply.Stopped j e) h w = (j ≡ i) × (e ≢ NoMemory) × (h ≡ Crash i ∷ [])
+MayBeGiven n before i gs _ h w = ⊥
+
+-- one event
+pub may_one : (m : Machine) (before : List MachineReply) (i : ℕ) (g : Given) (x : MachineReply) (h : List (WorldEvent OpValue)) (w : World OpValue) → MayBeGiven m.count before i (g ∷ []) x h w
+    → MayHappen (arc_value m.schema) m.suffix m.count before (event.Give i g) x h w
+may_one m before i g reply.Nothing h w may = (may.0, inl (inr may.1))
+may_one m before i g (reply.Handled j outs behind) h w may = may
+may_one m before i g (reply.Refused j e) h w may = may
+may_one m before i g (reply.Stopped j e) h w may = may
+may_one m before i g _ h w may = absurd may
+
+-- a batch
+pub may_all : (m : Machine) (before : List MachineReply) (i : ℕ) (gs : Vec Given Global) (x : MachineReply) (h : List (WorldEvent OpValue)) (w : World OpValue) → MayBeGiven m.count before i gs.items x h w
+    → MayHappen (arc_value m.schema) m.suffix m.count before (event.GiveAll i gs) x h w
+may_all m before i gs reply.Nothing h w may = (may.0, inl (inr may.1))
+may_all m before i gs (reply.Handled j outs behind) h w may = may
+may_all m before i gs (reply.Refused j e) h w may = may
+may_all m before i gs (reply.Stopped j e) h w may = may
+may_all m before i gs _ h w may = absurd may
+
+-- what happened, and what stands for it
+pub record Acted (m : Machine) (w : World OpValue) (i : ℕ) (shown : List MachineReply) (x : MachineReply) (p : Process) (May : List (WorldEvent OpValue) → Type 0) : Type 0 where
+  pub happened : List (WorldEvent OpValue)
+  pub may : May happened
+  pub moved : Moved m w (run m.count happened w) i shown x p
+
+-- a crash leaves the other replicas, and each message
+crash_later : (n i : ℕ) (w : World OpValue) (r : State OpValue) → i < n → w.replicas i ≡ Some r → IsLater w (happens n w (Crash i)) i
+crash_later n i w r lt up_is =
+    subst (λ (u : World OpValue). IsLater w u i) (sym (crashed_is n i w r lt up_is))
+    (record { others = λ j ne. record { replica = put_there i j None w.replicas ne; stored = refl; nonces = refl }; sent = λ k x h. h })
+
+-- another replica's stage stays
+pub stage_apart : (i j k : ℕ) (t s : Stage) → j ≡ i → k ≢ i → cond (j == k) t s ≡ s
+stage_apart i j k t s is ne = ap (λ b. cond b t s) (not_eqb k j (λ e. ne (sym e ∙ is)))
+
+-- its own is what the reply says
+pub stage_own : (i j : ℕ) (t s : Stage) → j ≡ i → cond (j == i) t s ≡ t
+stage_own i j t s is = ap (λ b. cond b t s) (eq-eqb j i is)
+
+module _ (m : Machine) (size : IsSize m.count) (w : World OpValue) (i : ℕ) (lt : i < m.count) (shown : List MachineReply) (reached : IsReached m.count w) (sent : AreSent shown w) where
+  -- a node that took events
+  took : (gs : List Given) (es : List (Event OpValue)) (old new : MemoryNode) (outs : List (Result (Outputs OpValue) AllocError)) (behind : Bool) → AreAsked shown i gs es → IsUp m w i old
+      → Took es old new outs behind → Ran m.count i shown gs outs w old.replica new.replica
+  took gs es old new outs behind asked u t =
+      ran m.count i size lt shown gs es outs w old.replica new.replica reached sent asked u.replica u.stored
+      (subst (λ (k : ℕ). MakesSteps m.count k old.replica es outs new.replica) u.index (subst (λ (k : ℕ). MakesSteps k old.index old.replica es outs new.replica) u.count t.steps))
+
+  -- is up still
+  took_up : (gs : List Given) (es : List (Event OpValue)) (old new : MemoryNode) (outs : List (Result (Outputs OpValue) AllocError)) (behind : Bool) → IsUp m w i old → Took es old new outs behind
+      → (r : Ran m.count i shown gs outs w old.replica new.replica) → IsUp m (run m.count r.happened w) i new
+  took_up gs es old new outs behind u t r = record {
+    index = t.same.index ∙ u.index;
+    count = t.same.count ∙ u.count;
+    cluster = t.same.cluster ∙ u.cluster;
+    alone = t.same.journaled ∙ u.alone;
+    running = t.running;
+    replica = r.replica;
+    stored = r.stored;
+    nonces = λ x h. subst (λ (k : ℕ). x ≤ k) (sym t.same.restarts) (u.nonces x (ap (λ l. has_used x l) (sym r.nonces) ∙ h));
+    schema = t.same.schema ∙ u.schema;
+    suffix = t.same.suffix ∙ u.suffix;
+    executed = caught_up behind old.executed.records new.executed.records (take new.replica.commit_number new.replica.log) (prefix_trans u.executed r.committed) t.executed;
+    pair = t.pair;
+  }
+
+  -- Replica i is given events.
+  pub given_on : (gs : List Given) (es : List (Event OpValue)) (old new : Process) (x : MachineReply) → AreAsked shown i gs es → StandsFor m w i (stage shown i) old → IsGiven i es old new x
+      → Acted m w i shown x new (λ h. MayBeGiven m.count shown i gs x h w)
+  given_on gs es (Up old) (Up new) (reply.Handled j outs behind) asked stands is = go (took gs es old new outs.items behind asked stands.1 is.1)
+    where
+      go : Ran m.count i shown gs outs.items w old.replica new.replica → Acted m w i shown (reply.Handled j outs behind) (Up new) (λ h. MayBeGiven m.count shown i gs (reply.Handled j outs behind) h w)
+      go r = record {
+        happened = r.happened;
+        may = (is.0, r.each);
+        moved = record {
+          later = r.later;
+          apart = λ k ne s. refl;
+          stands = (stands.0, took_up gs es old new outs.items behind stands.1 is.1 r);
+          sent = λ part at y h. r.sent part at y (ap (λ (k : ℕ). message_in k (slice_get outs.items part) at) (sym is.0) ∙ h);
+        };
+      }
+  given_on gs es (Up old) (Up new) (reply.Refused j e) asked stands is = record {
+    happened = [];
+    may = (is.0, is.1, refl);
+    moved = record {
+      later = later_refl w i;
+      apart = λ k ne s. refl;
+      stands = (stands.0, subst (λ (n : MemoryNode). IsUp m w i n) (sym is.2) stands.1);
+      sent = λ part at y h. absurd (cc);
+    };
+  }
+  given_on gs es (Up old) Gone (reply.Stopped j e) asked stands is = record {
+    happened = Crash i ∷ [];
+    may = (is.0, is.1, refl);
+    moved = record {
+      later = crash_later m.count i w old.replica lt stands.1.replica;
+      apart = λ k ne s. stage_apart i j k gone s is.0 ne;
+      stands = stage_own i j gone (stage shown i) is.0;
+      sent = λ part at y h. absurd (cc);
+    };
+  }
+  given_on gs es (Down old) (Down new) reply.Nothing asked stands is = record {
+    happened = [];
+    may = (refl, down_not_up stands.0);
+    moved = record {
+      later = later_refl w i;
+      apart = λ k ne s. refl;
+      stands = subst (λ (l : List ℕ). (stage shown i ≡ down) × IsDown m w i l) (sym is) stands;
+      sent = λ part at y h. absurd (cc);
+    };
+  }
+  given_on gs es Unborn Unborn reply.Nothing asked stands is = record {
+    happened = [];
+    may = (refl, unborn_not_up stands.0);
+    moved = record { later = later_refl w i; apart = λ k ne s. refl; stands = stands; sent = λ part at y h. absurd (cc) };
+  }
+  given_on gs es Gone Gone reply.Nothing asked stands is = record {
+    happened = [];
+    may = (refl, gone_not_up stands);
+    moved = record { later = later_refl w i; apart = λ k ne s. refl; stands = stands; sent = λ part at y h. absurd (cc) };
+  }
+  given_on gs es _ _ _ asked stands is = absurd is
+
+  -- what may happen where replica i's process is to end
+  abbrev pub MayEnd : MachineReply → List (WorldEvent OpValue) → Type 0
+  MayEnd reply.Nothing h = (h ≡ []) × (stage shown i ≢ up)
+  MayEnd (reply.Crashed j) h = (j ≡ i) × (h ≡ Crash i ∷ [])
+  MayEnd _ h = ⊥
+
+  -- Replica i's process ends.
+  pub ended_on : (old new : Process) (x : MachineReply) → StandsFor m w i (stage shown i) old → IsEnded i old new x → Acted m w i shown x new (λ h. MayEnd x h)
+  ended_on (Up old) (Down image) (reply.Crashed j) stands is = record {
+    happened = Crash i ∷ [];
+    may = (is.0, refl);
+    moved = record {
+      later = crash_later m.count i w old.replica lt stands.1.replica;
+      apart = λ k ne s. stage_apart i j k down s is.0 ne;
+      stands = (
+        stage_own i j down (stage shown i) is.0,
+        record {
+          pair = pair_of old;
+          found_is = ap (λ (c : ℕ). found c image.items) (sym stands.1.cluster) ∙ stands.1.pair image.items is.1;
+          alone = stands.1.alone;
+          down = ap (λ (u : World OpValue). u.replicas i) to ∙ put_here i None w.replicas;
+          stored = ap (λ (u : World OpValue). u.stored i) to ∙ stands.1.stored;
+          nonces = λ x h. stands.1.nonces x (ap (λ (u : World OpValue). has_used x (u.nonces i)) (sym to) ∙ h);
+        },
+      );
+      sent = λ part at y h. absurd (cc);
+    };
+  }
+    where
+      to : happens m.count w (Crash i) ≡ record w { replicas = put i None w.replicas; kept = put i (kept_of old.replica) w.kept }
+      to = crashed_is m.count i w old.replica lt stands.1.replica
+  ended_on (Down old) (Down new) reply.Nothing stands is = record {
+    happened = [];
+    may = (refl, down_not_up stands.0);
+    moved = record {
+      later = later_refl w i;
+      apart = λ k ne s. refl;
+      stands = subst (λ (l : List ℕ). (stage shown i ≡ down) × IsDown m w i l) (sym is) stands;
+      sent = λ part at y h. absurd (cc);
+    };
+  }
+  ended_on Unborn Unborn reply.Nothing stands is = record {
+    happened = [];
+    may = (refl, unborn_not_up stands.0);
+    moved = record { later = later_refl w i; apart = λ k ne s. refl; stands = stands; sent = λ part at y h. absurd (cc) };
+  }
+  ended_on Gone Gone reply.Nothing stands is = record {
+    happened = [];
+    may = (refl, gone_not_up stands);
+    moved = record { later = later_refl w i; apart = λ k ne s. refl; stands = stands; sent = λ part at y h. absurd (cc) };
+  }
+  ended_on _ _ _ stands is = absurd is

@@ -1,0 +1,10 @@
+pub mod Worlds
+pub mod Shown
+pub mod Turns
+pub mod Taking
+pub mod Processes
+pub mod Gives
+pub mod Starts
+pub mod Asks
+pub mod Played
+pub mod Asked

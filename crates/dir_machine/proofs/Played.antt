@@ -1,0 +1,224 @@
+-- A run goes on by one event of each kind, from none to a whole schedule.
+use Rattle.std.proofs.Common.{◌≡◌, ℕ, zero, suc, ◌<◌, ◌≤◌, cond, inr, List, [], ◌∷◌, ◌++◌, length, replicate, set, take, drop, Some, None, Vec, slice_get, refl, sym, ap, ◌∙◌, subst, arith, lt-ltb, append-nil, append_assoc, take-append-drop}
+use Rattle.std.specs.Arc.{arc_value}
+use Rattle.std.specs.Global.{Global}
+use Rattle.std.proofs.lemmas.List.{length-set}
+use Rattle.state_machine.specs.dir_store.ldap_op.Values.{OpValue}
+use Rattle.vr_state.specs.Lists.{IsPrefix}
+use Rattle.vr_state.specs.State.{first}
+use Rattle.vr_state.specs.StepLaw.{LatestIsOfClient}
+use Rattle.vr_state.specs.Words.{Client}
+use Rattle.vr_state.specs.declared.event.Event.{Event}
+use Rattle.vr_world.proofs.Laws.{chosen_lists_agree, committed_grows, committed_is_longest, commits_are_held, numbers_rise, replicas_agree}
+use Rattle.vr_world.specs.Law.{IsSize}
+use Rattle.vr_world.specs.World.{World, after, run, start}
+use Rattle.vr_world.specs.declared.events.WorldEvent.{WorldEvent}
+use Rattle.view_store.specs.declared.crashing.Fate.{Fate}
+use Rattle.dir_machine.proofs.Asks.{answered_on, told_on}
+use Rattle.dir_machine.proofs.Gives.{Acted, MayEnd, ended_on, given_on, may_all, may_one}
+use Rattle.dir_machine.proofs.Processes.{IsQuiet, played_on, stands_on, stands_still}
+use Rattle.dir_machine.proofs.Starts.{MayStart, started_on}
+use Rattle.dir_machine.proofs.Worlds.{IsReached}
+use Rattle.dir_machine.specs.Happening.{IsMissing, IsOneMissing, MayHappen}
+use Rattle.dir_machine.specs.Headline.{CommittedIsOneList, IsWhole, committed_after, joined}
+use Rattle.dir_machine.specs.Shown.{stage}
+use Rattle.dir_machine.specs.private.Givens.{AreAsked, IsAsked}
+use Rattle.dir_machine.specs.private.Processes.{IsAnswered, IsEnded, IsGiven, IsStarted, IsToldOf}
+use Rattle.dir_machine.specs.private.Running.{AreSent, GoesOn, IsNothingShown, IsPlayed, Stands, StandsFor}
+use Rattle.dir_machine.specs.declared.events.Given.{Given}
+use Rattle.dir_machine.specs.declared.events.MachineEvent.{MachineEvent}
+use Rattle.dir_machine.specs.declared.events.MachineEvent.TheVariants as event
+use Rattle.dir_machine.specs.declared.machine.Machine.{Machine}
+use Rattle.dir_machine.specs.declared.process.Process.{Process}
+use Rattle.dir_machine.specs.declared.process.Process.TheVariants.{Unborn}
+use Rattle.dir_machine.specs.declared.replies.MachineReply.{MachineReply}
+use Rattle.dir_machine.specs.declared.replies.MachineReply.TheVariants as reply
+use Rattle.dir_machine.specs.declared.running.Running.{Running}
+
+-- what may happen, said another way
+acted_as : (m : Machine) (w : World OpValue) (i : ℕ) (shown : List MachineReply) (x : MachineReply) (p : Process) (May Might : List (WorldEvent OpValue) → Type 0) → ((h : List (WorldEvent OpValue)) → May h → Might h)
+    → Acted m w i shown x p May → Acted m w i shown x p Might
+acted_as m w i shown x p May Might f a = record { happened = a.happened; may = f a.happened a.may; moved = a.moved }
+
+-- a process that is to end
+may_end : (m : Machine) (size : IsSize m.count) (w : World OpValue) (i : ℕ) (lt : i < m.count) (shown : List MachineReply) (reached : IsReached m.count w) (sent : AreSent shown w) (fate : Fate) (x : MachineReply) (h : List (WorldEvent OpValue))
+    → MayEnd m size w i lt shown reached sent x h → MayHappen (arc_value m.schema) m.suffix m.count shown (event.Crash i fate) x h w
+may_end m size w i lt shown reached sent fate reply.Nothing h may = (may.0, inr may.1)
+may_end m size w i lt shown reached sent fate (reply.Crashed j) h may = may
+may_end m size w i lt shown reached sent fate _ h may = absurd may
+
+-- a process that is to start
+may_start : (m : Machine) (w : World OpValue) (i : ℕ) (lt : i < m.count) (shown : List MachineReply) (x : MachineReply) (h : List (WorldEvent OpValue))
+    → MayStart m w i lt shown x h → MayHappen (arc_value m.schema) m.suffix m.count shown (event.Start i) x h w
+may_start m w i lt shown reply.Nothing h may = (may.0, inr may.1)
+may_start m w i lt shown (reply.Started j restarts out) h may = may
+may_start m w i lt shown (reply.Refused j e) h may = may
+may_start m w i lt shown (reply.Stopped j e) h may = may
+may_start m w i lt shown _ h may = absurd may
+
+-- one process was taken out and put back
+pub record Turned (m : Machine) (i : ℕ) (old new : Running) (before after : Process) (x : MachineReply) : Type 0 where
+  pub hole : Process
+  pub counted : length old.processes.items ≡ m.count
+  pub within : i < m.count
+  pub was : slice_get old.processes.items i ≡ Some before
+  pub processes : new.processes.items ≡ set (set old.processes.items i hole) i after
+  pub shown : new.shown.items ≡ old.shown.items ++ x ∷ []
+
+module _ (m : Machine) (e : MachineEvent) (old new : Running) where
+  -- so the run goes on, where that was an act of the process
+  turned_on : (i : ℕ) (before after : Process) (x : MachineReply) → Turned m i old new before after x
+      → (IsSize m.count → (w : World OpValue) → IsReached m.count w → AreSent old.shown.items w → StandsFor m w i (stage old.shown.items i) before
+      → Acted m w i old.shown.items x after (λ h. MayHappen (arc_value m.schema) m.suffix m.count old.shown.items e x h w)) → GoesOn m e old new
+  turned_on i before after x t act = record {
+    counted = ap length t.processes ∙ length-set (set old.processes.items i t.hole) i after ∙ length-set old.processes.items i t.hole;
+    played = λ size es p. go size es p (act size (run m.count (joined p.happened) (start m.count)) (record { past = joined p.happened; is = refl }) p.stands.sent (p.stands.each i before t.was));
+  }
+    where
+      go : IsSize m.count → (es : List MachineEvent) (p : IsPlayed m es old.processes.items old.shown.items)
+          → Acted m (run m.count (joined p.happened) (start m.count)) i old.shown.items x after (λ h. MayHappen (arc_value m.schema) m.suffix m.count old.shown.items e x h (run m.count (joined p.happened) (start m.count)))
+          → IsPlayed m (es ++ e ∷ []) new.processes.items new.shown.items
+      go size es p a =
+          subst (λ (l : List MachineReply). IsPlayed m (es ++ e ∷ []) new.processes.items l) (sym t.shown)
+          (played_on m es old.processes.items new.processes.items old.shown.items e x a.happened p a.may
+          (stands_on m (run m.count (joined p.happened) (start m.count)) (run m.count a.happened (run m.count (joined p.happened) (start m.count))) i old.shown.items x old.processes.items new.processes.items t.hole after p.stands
+          (omega (arith, t.counted, t.within)) t.processes a.moved))
+
+  -- so it does where something is shown and nothing happens
+  still_on : (x : MachineReply) → new.processes.items ≡ old.processes.items → new.shown.items ≡ old.shown.items ++ x ∷ []
+      → (IsSize m.count → (w : World OpValue) → IsReached m.count w → Stands m w old.processes.items old.shown.items
+      → MayHappen (arc_value m.schema) m.suffix m.count old.shown.items e x [] w × IsQuiet x) → GoesOn m e old new
+  still_on x same shown act = record {
+    counted = ap length same;
+    played = λ size es p. go size es p (act size (run m.count (joined p.happened) (start m.count)) (record { past = joined p.happened; is = refl }) p.stands);
+  }
+    where
+      go : IsSize m.count → (es : List MachineEvent) (p : IsPlayed m es old.processes.items old.shown.items)
+          → MayHappen (arc_value m.schema) m.suffix m.count old.shown.items e x [] (run m.count (joined p.happened) (start m.count)) × IsQuiet x → IsPlayed m (es ++ e ∷ []) new.processes.items new.shown.items
+      go size es p a =
+          subst (λ (l : List MachineReply). IsPlayed m (es ++ e ∷ []) new.processes.items l) (sym shown)
+          (subst (λ (l : List Process). IsPlayed m (es ++ e ∷ []) l (old.shown.items ++ x ∷ [])) (sym same)
+          (played_on m es old.processes.items old.processes.items old.shown.items e x [] p a.0
+          (stands_still m (run m.count (joined p.happened) (start m.count)) old.shown.items x old.processes.items p.stands a.1)))
+
+-- nothing is quiet
+quiet_nothing : IsQuiet reply.Nothing
+quiet_nothing = record { stages = λ j s. refl; silent = λ part at y h. absurd (cc) }
+
+module _ (m : Machine) (old new : Running) where
+  -- A node that is up handles one event, or a batch.
+  pub give_on : (i : ℕ) (g : Given) (e : Event OpValue) (before after : Process) (x : MachineReply) → Turned m i old new before after x → IsAsked old.shown.items i g e → IsGiven i (e ∷ []) before after x
+      → GoesOn m (event.Give i g) old new
+  give_on i g e before after x t asked is = turned_on m (event.Give i g) old new i before after x t
+      (λ size w reached sent stands. acted_as m w i old.shown.items x after _ _ (λ h. may_one m old.shown.items i g x h w)
+      (given_on m size w i t.within old.shown.items reached sent (g ∷ []) (e ∷ []) before after x (asked, tt) stands is))
+
+  pub batch_on : (i : ℕ) (gs : Vec Given Global) (es : List (Event OpValue)) (before after : Process) (x : MachineReply) → Turned m i old new before after x → AreAsked old.shown.items i gs.items es
+      → IsGiven i es before after x → GoesOn m (event.GiveAll i gs) old new
+  batch_on i gs es before after x t asked is = turned_on m (event.GiveAll i gs) old new i before after x t
+      (λ size w reached sent stands. acted_as m w i old.shown.items x after _ _ (λ h. may_all m old.shown.items i gs x h w)
+      (given_on m size w i t.within old.shown.items reached sent gs.items es before after x asked stands is))
+
+  -- A process ends.
+  pub end_on : (i : ℕ) (fate : Fate) (before after : Process) (x : MachineReply) → Turned m i old new before after x → IsEnded i before after x → GoesOn m (event.Crash i fate) old new
+  end_on i fate before after x t is = turned_on m (event.Crash i fate) old new i before after x t
+      (λ size w reached sent stands. acted_as m w i old.shown.items x after _ _ (λ h. may_end m size w i t.within old.shown.items reached sent fate x h)
+      (ended_on m size w i t.within old.shown.items reached sent before after x stands is))
+
+  -- A process starts.
+  pub start_on : (i : ℕ) (before after : Process) (x : MachineReply) → Turned m i old new before after x → IsStarted m i before after x → GoesOn m (event.Start i) old new
+  start_on i before after x t is = turned_on m (event.Start i) old new i before after x t
+      (λ size w reached sent stands. acted_as m w i old.shown.items x after _ _ (λ h. may_start m w i t.within old.shown.items x h)
+      (started_on m w i t.within old.shown.items before after x stands is))
+
+  -- A node is asked.
+  pub ask_on : LatestIsOfClient OpValue → (i : ℕ) (client : Client) (number : ℕ) (p : Process) (x : MachineReply) → new.processes.items ≡ old.processes.items → new.shown.items ≡ old.shown.items ++ x ∷ []
+      → slice_get old.processes.items i ≡ Some p → IsAnswered i client number p x → GoesOn m (event.Ask i client number) old new
+  ask_on law i client number p x same shown was is = still_on m (event.Ask i client number) old new x same shown
+      (λ size w reached stands. answered_on m size w i reached law old.shown.items client number p x (stands.each i p was) is)
+
+  pub tell_on : (i : ℕ) (p : Process) (x : MachineReply) → new.processes.items ≡ old.processes.items → new.shown.items ≡ old.shown.items ++ x ∷ []
+      → slice_get old.processes.items i ≡ Some p → IsToldOf i p x → GoesOn m (event.State i) old new
+  tell_on i p x same shown was is = still_on m (event.State i) old new x same shown
+      (λ size w reached stands. told_on m w i old.shown.items p x (stands.each i p was) is)
+
+  -- There is no such replica.
+  pub away_on : (i : ℕ) → m.count ≤ i → IsNothingShown old new → (e : MachineEvent)
+      → ((w : World OpValue) → MayHappen (arc_value m.schema) m.suffix m.count old.shown.items e reply.Nothing [] w) → GoesOn m e old new
+  away_on i le nothing e may = still_on m e old new reply.Nothing nothing.processes nothing.shown (λ size w reached stands. (may w, quiet_nothing))
+
+  -- There is no such message.
+  pub missing_on : (i : ℕ) (g : Given) → IsMissing old.shown.items i g → IsNothingShown old new → GoesOn m (event.Give i g) old new
+  missing_on i g missing nothing = still_on m (event.Give i g) old new reply.Nothing nothing.processes nothing.shown (λ size w reached stands. ((refl, inr missing), quiet_nothing))
+
+  pub one_missing_on : (i : ℕ) (gs : Vec Given Global) → IsOneMissing old.shown.items i gs.items → IsNothingShown old new → GoesOn m (event.GiveAll i gs) old new
+  one_missing_on i gs missing nothing = still_on m (event.GiveAll i gs) old new reply.Nothing nothing.processes nothing.shown (λ size w reached stands. ((refl, inr missing), quiet_nothing))
+
+-- what one of many equal things is
+one_of_equal : {A : Type 0} (n i : ℕ) (x y : A) → slice_get (replicate n x) i ≡ Some y → (i < n) × (y ≡ x)
+one_of_equal zero i x y h = absurd (cc)
+one_of_equal (suc n) zero x y h = (omega arith, cc)
+one_of_equal (suc n) (suc i) x y h = let p = one_of_equal n i x y h in (omega (arith, p.0), p.1)
+
+length_replicate : {A : Type 0} (n : ℕ) (x : A) → length (replicate n x) ≡ n
+length_replicate zero x = refl
+length_replicate (suc n) x = ap suc (length_replicate n x)
+
+-- Nothing was played.
+pub none_played : (m : Machine) (processes : List Process) (shown : List MachineReply) → processes ≡ replicate m.count Unborn → shown ≡ [] → IsPlayed m [] processes shown
+none_played m processes shown p s = subst (λ (l : List MachineReply). IsPlayed m [] processes l) (sym s) (subst (λ (l : List Process). IsPlayed m [] l []) (sym p) (record {
+  happened = [];
+  in_turn = tt;
+  stands = record { counted = length_replicate m.count Unborn; each = λ i q h. one i q (one_of_equal m.count i Unborn q h); sent = λ place y h. absurd (cc) };
+}))
+  where
+    one : (i : ℕ) (q : Process) → (i < m.count) × (q ≡ Unborn) → StandsFor m (start m.count) i (stage [] i) q
+    one i q h = subst (λ (z : Process). StandsFor m (start m.count) i (stage [] i) z) (sym h.1)
+        (refl, record { replica = ap (λ b. cond b (Some (first m.count)) None) (lt-ltb i m.count h.0); stored = refl; nonces = λ x u. absurd (cc) })
+
+-- What is committed after events is one list.
+committed_is_one : (n : ℕ) → IsSize n → (es : List (WorldEvent OpValue)) → CommittedIsOneList n es
+committed_is_one n size es = record {
+  agree = λ a b x y. chosen_lists_agree n size es a b x y;
+  longest = λ a x. (committed_is_longest n size es).0 a x;
+  chosen = (committed_is_longest n size es).1;
+  grows = λ k. subst (λ (l : List (WorldEvent OpValue)). IsPrefix (committed_after n (take k es)) (committed_after n l)) (take-append-drop k es) (committed_grows n size (take k es) (drop k es));
+  replicas = λ i r up. replicas_agree n size es i r up;
+  held = λ i r up. commits_are_held n size es i r up;
+  rising = numbers_rise n size es;
+}
+
+-- The promise of a schedule that was played.
+pub whole : (m : Machine) (schedule : List MachineEvent) (processes : List Process) (shown : List MachineReply) → IsSize m.count → IsPlayed m schedule processes shown
+    → IsWhole (arc_value m.schema) m.suffix m.count schedule shown
+whole m schedule processes shown size p = record { happened = p.happened; in_turn = p.in_turn; committed = committed_is_one m.count size (joined p.happened) }
+
+-- So much of a schedule was played, and this is left.
+pub record IsPlayedSoFar (m : Machine) (schedule left : List MachineEvent) (r : Running) : Type 0 where
+  pub gone : List MachineEvent
+  pub split : gone ++ left ≡ schedule
+  pub counted : length r.processes.items ≡ m.count
+  pub played : IsSize m.count → IsPlayed m gone r.processes.items r.shown.items
+
+-- nothing yet
+pub none_so_far : (m : Machine) (schedule : List MachineEvent) (r : Running) → r.processes.items ≡ replicate m.count Unborn → r.shown.items ≡ [] → IsPlayedSoFar m schedule schedule r
+none_so_far m schedule r p s = record {
+  gone = [];
+  split = refl;
+  counted = ap length p ∙ length_replicate m.count Unborn;
+  played = λ size. none_played m r.processes.items r.shown.items p s;
+}
+
+-- one more
+pub one_so_far : (m : Machine) (schedule left : List MachineEvent) (e : MachineEvent) (old new : Running) → IsPlayedSoFar m schedule (e ∷ left) old → GoesOn m e old new → IsPlayedSoFar m schedule left new
+one_so_far m schedule left e old new h on = record {
+  gone = h.gone ++ e ∷ [];
+  split = append_assoc h.gone (e ∷ []) left ∙ h.split;
+  counted = on.counted ∙ h.counted;
+  played = λ size. on.played size h.gone (h.played size);
+}
+
+-- all
+pub all_so_far : (m : Machine) (schedule : List MachineEvent) (r : Running) → IsPlayedSoFar m schedule [] r → IsSize m.count → IsWhole (arc_value m.schema) m.suffix m.count schedule r.shown.items
+all_so_far m schedule r h size =
+    whole m schedule r.processes.items r.shown.items size (subst (λ (l : List MachineEvent). IsPlayed m l r.processes.items r.shown.items) (sym (append-nil h.gone) ∙ h.split) (h.played size))

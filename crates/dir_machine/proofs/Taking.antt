@@ -1,0 +1,154 @@
+-- What a node takes happens in the world.
+use Rattle.std.proofs.Common.{◌≡◌, ℕ, zero, suc, ◌<◌, List, [], ◌∷◌, ◌++◌, length, take, drop, Option, Some, None, Bool, true, false, Result, Ok, Err, slice_get, refl, sym, ap, ◌∙◌, subst, append_assoc}
+use Rattle.std.proofs.Math.Seq.{drop-append_seam}
+use Rattle.std.specs.declared.alloc.AllocError.{AllocError}
+use Rattle.dir_node.specs.Handling.{MakesSteps}
+use Rattle.dir_node.specs.NodeState.{CatchesUp, given as gives}
+use Rattle.state_machine.specs.dir_store.ldap_op.Values.{OpValue}
+use Rattle.vr_state.proofs.Laws.{prefix_refl, prefix_trans}
+use Rattle.vr_state.specs.Lists.{IsPrefix}
+use Rattle.vr_state.specs.Outcome.{Outcome}
+use Rattle.vr_state.specs.State.{State}
+use Rattle.vr_state.specs.Step.{step}
+use Rattle.vr_state.specs.Words.{LogEntry}
+use Rattle.vr_state.specs.declared.event.Event.{Event}
+use Rattle.vr_state.specs.declared.message.Outputs.{Outputs}
+use Rattle.vr_state.specs.declared.message.Send.{Send}
+use Rattle.vr_world.specs.Law.{IsSize}
+use Rattle.vr_world.specs.World.{World, happens, made, run, sent_as}
+use Rattle.vr_world.specs.declared.events.WorldEvent.{WorldEvent}
+use Rattle.vr_world.specs.declared.events.WorldEvent.TheVariants.{Request, Deliver, Suspect, Beat}
+use Rattle.vr_world.specs.declared.words.Message.{Message}
+use Rattle.dir_machine.proofs.Worlds.{IsLater, IsReached, beaten, heard, keeps_committed, later_refl, later_trans, made_later, posted_has, put_here, reached_more, requested, suspected}
+use Rattle.dir_machine.specs.Happening.{IsThat, TakesEach}
+use Rattle.dir_machine.specs.Shown.{message_by, message_in, message_of}
+use Rattle.dir_machine.specs.private.Givens.{AreAsked, IsAsked}
+use Rattle.dir_machine.specs.private.Running.{AreSent}
+use Rattle.dir_machine.specs.declared.events.Given.{Given}
+use Rattle.dir_machine.specs.declared.events.Given.TheVariants as given
+use Rattle.dir_machine.specs.declared.replies.MachineReply.{MachineReply}
+
+-- a list goes on to one that it begins
+go_on : {A : Type 0} (done all : List A) → IsPrefix done all → done ++ drop (length done) all ≡ all
+go_on {A} done all p = subst (λ (l : List A). done ++ drop (length done) l ≡ l) p.is (ap (λ l. done ++ l) (drop-append_seam done p.rest))
+
+-- What is executed still begins what is committed.
+pub caught_up : (behind : Bool) (old new all : List (LogEntry OpValue)) → IsPrefix old all → CatchesUp behind old (drop (length old) all) new → IsPrefix new all
+caught_up false old new all p h = subst (λ (l : List (LogEntry OpValue)). IsPrefix l all) (sym (h ∙ go_on old all p)) (prefix_refl all)
+caught_up true old new all p h = record {
+  rest = h.left;
+  is = ap (λ l. l ++ h.left) h.grown ∙ append_assoc old h.done h.left ∙ ap (λ l. old ++ l) h.both ∙ go_on old all p;
+}
+
+-- What a replica was given happened in the world, as far as it took it.
+pub record Ran (n i : ℕ) (before : List MachineReply) (gs : List Given) (outs : List (Result (Outputs OpValue) AllocError)) (w : World OpValue) (r s : State OpValue) : Type 0 where
+  pub happened : List (WorldEvent OpValue)
+  pub each : TakesEach n before i gs outs happened w
+  pub later : IsLater w (run n happened w) i
+  pub replica : (run n happened w).replicas i ≡ Some s
+  pub stored : (run n happened w).stored i ≡ s.view_number
+  pub nonces : (run n happened w).nonces i ≡ w.nonces i
+  pub committed : IsPrefix (take r.commit_number r.log) (take s.commit_number s.log)
+  pub sent : (part at : ℕ) (m : Message OpValue) → message_in i (slice_get outs part) at ≡ Some m → (k : ℕ) × (sent_as k (run n happened w).messages ≡ Some m)
+
+-- what a replica is given, as an event of the world
+pub record IsEvent (n i : ℕ) (before : List MachineReply) (g : Given) (w : World OpValue) (d : Outcome OpValue) : Type 0 where
+  pub happened : WorldEvent OpValue
+  pub that : IsThat before i g w happened
+  pub is : happens n w happened ≡ made i d w
+
+module _ (n i : ℕ) (size : IsSize n) (lt : i < n) (before : List MachineReply) where
+  -- what a replica is given happens
+  asked_happens : (g : Given) (e : Event OpValue) (w : World OpValue) (r : State OpValue) → AreSent before w → IsAsked before i g e → w.replicas i ≡ Some r → IsEvent n i before g w (step n i r e)
+  asked_happens (given.Request entry) e w r sent is up = record { happened = Request i entry; that = refl; is = requested n i w r lt up entry ∙ ap (λ (y : Event OpValue). made i (step n i r y) w) (sym is) }
+  asked_happens given.Suspect e w r sent is up = record { happened = Suspect i; that = refl; is = suspected n i w r lt up ∙ ap (λ (y : Event OpValue). made i (step n i r y) w) (sym is) }
+  asked_happens given.Beat e w r sent is up = record { happened = Beat i; that = refl; is = beaten n i w r lt up ∙ ap (λ (y : Event OpValue). made i (step n i r y) w) (sym is) }
+  asked_happens (given.Message place) e w r sent is up =
+      let k = sent place is.message is.shown in
+      record {
+        happened = Deliver k.0;
+        that = record { number = k.0; message = is.message; shown = is.shown; to = is.to; sent = k.1; is = refl };
+        is = heard n i w r lt up k.0 is.message k.1 is.to ∙ ap (λ (y : Event OpValue). made i (step n i r y) w) (sym is.is);
+      }
+
+  -- a message among what was given out is one that was sent
+  gave : (out : Outputs OpValue) (at : ℕ) (m : Message OpValue) (w u : World OpValue) (t : State OpValue) → u ≡ made i (gives t out) w → message_of i out at ≡ Some m → (k : ℕ) × (sent_as k u.messages ≡ Some m)
+  gave out at m w u t is = go (slice_get out.sends.items at) refl
+    where
+      go : (o : Option (Send OpValue)) → slice_get out.sends.items at ≡ o → message_by i o ≡ Some m → (k : ℕ) × (sent_as k u.messages ≡ Some m)
+      go None e h = absurd (cc)
+      go (Some s) e h = let k = posted_has i at out.sends.items w.messages s e in (k.0, ap (λ (v : World OpValue). sent_as k.0 v.messages) is ∙ k.1 ∙ h)
+
+  -- one that it took, and then the others
+  one_ran : (g : Given) (e : Event OpValue) (out : Outputs OpValue) (gs : List Given) (outs : List (Result (Outputs OpValue) AllocError)) (w : World OpValue) (r s : State OpValue)
+      → IsEvent n i before g w (step n i r e) → (t : State OpValue) → gives t out ≡ step n i r e → IsReached n w → AreSent before w → w.replicas i ≡ Some r
+      → ((u : World OpValue) → IsReached n u → AreSent before u → u.replicas i ≡ Some t → u.stored i ≡ t.view_number → Ran n i before gs outs u t s)
+      → Ran n i before (g ∷ gs) (Ok out ∷ outs) w r s
+  one_ran g e out gs outs w r s x t is reached sent up rest = go (rest u (reached_more n w x.happened reached) (λ place m h. let k = sent place m h in (k.0, later.sent k.0 m k.1)) here
+      (ap (λ (v : World OpValue). v.stored i) to ∙ put_here i t.view_number w.stored))
+    where
+      u : World OpValue
+      u = happens n w x.happened
+
+      to : u ≡ made i (gives t out) w
+      to = x.is ∙ ap (λ (d : Outcome OpValue). made i d w) (sym is)
+
+      here : u.replicas i ≡ Some t
+      here = ap (λ (v : World OpValue). v.replicas i) to ∙ put_here i (Some t) w.replicas
+
+      later : IsLater w u i
+      later = subst (λ (v : World OpValue). IsLater w v i) (sym to) (made_later i (gives t out) w)
+
+      go : Ran n i before gs outs u t s → Ran n i before (g ∷ gs) (Ok out ∷ outs) w r s
+      go then = record {
+        happened = x.happened ∷ then.happened;
+        each = (x.that, record { sends = ap (λ (v : World OpValue). v.messages) to; replies = ap (λ (v : World OpValue). v.replies) to }, then.each);
+        later = later_trans w u (run n then.happened u) i later then.later;
+        replica = then.replica;
+        stored = then.stored;
+        nonces = then.nonces ∙ ap (λ (v : World OpValue). v.nonces i) to;
+        committed = prefix_trans (keeps_committed n size w x.happened i r t reached up here) then.committed;
+        sent = among;
+      }
+        where
+          among : (part at : ℕ) (m : Message OpValue) → message_in i (slice_get (Ok out ∷ outs) part) at ≡ Some m → (k : ℕ) × (sent_as k (run n then.happened u).messages ≡ Some m)
+          among zero at m h = let k = gave out at m w u t to h in (k.0, then.later.sent k.0 m k.1)
+          among (suc part) at m h = then.sent part at m h
+
+  -- one that was left out, and then the others
+  none_ran : (g : Given) (x : AllocError) (gs : List Given) (outs : List (Result (Outputs OpValue) AllocError)) (w : World OpValue) (r s : State OpValue) → Ran n i before gs outs w r s → Ran n i before (g ∷ gs) (Err x ∷ outs) w r s
+  none_ran g x gs outs w r s then = record {
+    happened = then.happened;
+    each = then.each;
+    later = then.later;
+    replica = then.replica;
+    stored = then.stored;
+    nonces = then.nonces;
+    committed = then.committed;
+    sent = among;
+  }
+    where
+      among : (part at : ℕ) (m : Message OpValue) → message_in i (slice_get (Err x ∷ outs) part) at ≡ Some m → (k : ℕ) × (sent_as k (run n then.happened w).messages ≡ Some m)
+      among zero at m h = absurd (cc)
+      among (suc part) at m h = then.sent part at m h
+
+  -- All of them, one after another.
+  pub ran : (gs : List Given) (es : List (Event OpValue)) (outs : List (Result (Outputs OpValue) AllocError)) (w : World OpValue) (r s : State OpValue) → IsReached n w → AreSent before w → AreAsked before i gs es
+      → w.replicas i ≡ Some r → w.stored i ≡ r.view_number → MakesSteps n i r es outs s → Ran n i before gs outs w r s
+  ran [] [] [] w r s reached sent asked up stored steps = record {
+    happened = [];
+    each = tt;
+    later = later_refl w i;
+    replica = up ∙ ap (λ (x : State OpValue). Some x) (sym steps);
+    stored = stored ∙ ap (λ (x : State OpValue). x.view_number) (sym steps);
+    nonces = refl;
+    committed = subst (λ (x : State OpValue). IsPrefix (take r.commit_number r.log) (take x.commit_number x.log)) (sym steps) (prefix_refl (take r.commit_number r.log));
+    sent = λ part at m h. absurd (cc);
+  }
+  ran (g ∷ gs) (e ∷ es) (Ok out ∷ outs) w r s reached sent asked up stored steps =
+      one_ran g e out gs outs w r s (asked_happens g e w r sent asked.0 up) steps.0 steps.1 reached sent up (λ u a b c d. ran gs es outs u steps.0 s a b asked.1 c d steps.2)
+  ran (g ∷ gs) (e ∷ es) (Err x ∷ outs) w r s reached sent asked up stored steps = none_ran g x gs outs w r s (ran gs es outs w r s reached sent asked.1 up stored steps)
+  ran [] (e ∷ es) outs w r s reached sent asked up stored steps = absurd asked
+  ran (g ∷ gs) [] outs w r s reached sent asked up stored steps = absurd asked
+  ran [] [] (x ∷ outs) w r s reached sent asked up stored steps = absurd steps
+  ran (g ∷ gs) (e ∷ es) [] w r s reached sent asked up stored steps = absurd steps

@@ -1,0 +1,133 @@
+-- What happens in the world of the protocol at each event of a machine.
+use Rattle.std.specs.Prelude.{◌≡◌, ◌≢◌, ◌⊎◌, ℕ, ◌-◌, ◌≤◌, List, [], ◌∷◌, ◌++◌, length, Option, Some, Result, Ok, Err, slice_get}
+use Rattle.std.specs.declared.alloc.AllocError.{AllocError}
+use Rattle.dir_node.specs.Outcomes.{OutcomeValue, done, standing_by}
+use Rattle.dir_node.specs.declared.error.NodeError.TheVariants.{NoMemory}
+use Rattle.state_machine.specs.Executing.{ops_of}
+use Rattle.state_machine.specs.directory_api.Answers.{ReplyModel}
+use Rattle.state_machine.specs.dir_store.Updates.{replies_of}
+use Rattle.state_machine.specs.dir_store.ldap_dn.Names.{RdnModel}
+use Rattle.state_machine.specs.dir_store.ldap_op.Values.{OpValue}
+use Rattle.state_machine.specs.dir_store.ldap_schema.Schema.{SchemaModel}
+use Rattle.vr_state.specs.Lists.{EntryAt}
+use Rattle.vr_state.specs.State.{State, primary}
+use Rattle.vr_state.specs.Words.{Client, LogEntry}
+use Rattle.vr_state.specs.declared.message.Outputs.{Outputs}
+use Rattle.vr_world.specs.Committed.{committed}
+use Rattle.vr_world.specs.World.{World, answered, happens, posted, run, sent_as}
+use Rattle.vr_world.specs.declared.events.WorldEvent.{WorldEvent}
+use Rattle.vr_world.specs.declared.events.WorldEvent.TheVariants.{Request, Deliver, Suspect, Beat, Crash, Recover}
+use Rattle.vr_world.specs.declared.words.Message.{Message}
+use Rattle.dir_machine.specs.Shown.{unborn, up, down, gone, became_view, message_at, stage}
+use Rattle.dir_machine.specs.declared.events.Given.{Given}
+use Rattle.dir_machine.specs.declared.events.Given.TheVariants as given
+use Rattle.dir_machine.specs.declared.events.MachineEvent.{MachineEvent}
+use Rattle.dir_machine.specs.declared.events.MachineEvent.TheVariants as event
+use Rattle.dir_machine.specs.declared.replies.MachineReply.{MachineReply}
+use Rattle.dir_machine.specs.declared.replies.MachineReply.TheVariants as reply
+
+-- A message of the world, by its number, is the one that was given out for replica i at a place.
+pub record IsDelivery (before : List MachineReply) (i : ℕ) (o : Option (Message OpValue)) (w : World OpValue) (x : WorldEvent OpValue) : Type 0 where
+  pub number : ℕ
+  pub message : Message OpValue
+  pub shown : o ≡ Some message
+  pub to : message.to ≡ i
+  pub sent : sent_as number w.messages ≡ Some message
+  pub is : x ≡ Deliver number
+
+-- What a replica is given is this event of the world.
+abbrev pub IsThat : List MachineReply → ℕ → Given → World OpValue → WorldEvent OpValue → Type 0
+IsThat before i (given.Request entry) w x = x ≡ Request i entry
+IsThat before i (given.Message place) w x = IsDelivery before i (message_at before place) w x
+IsThat before i given.Suspect w x = x ≡ Suspect i
+IsThat before i given.Beat w x = x ≡ Beat i
+
+-- What replica i gave out is what this event of the world sends and answers.
+pub record GivesOut (n i : ℕ) (out : Outputs OpValue) (x : WorldEvent OpValue) (w : World OpValue) : Type 0 where
+  pub sends : (happens n w x).messages ≡ posted i out.sends.items w.messages
+  pub replies : (happens n w x).replies ≡ answered i out.replies.items w.replies
+
+-- Of what a replica is given, each that it took is one event of the world, in order, and gave out what that sends and answers; the others are left out.
+abbrev pub TakesEach : ℕ → List MachineReply → ℕ → List Given → List (Result (Outputs OpValue) AllocError) → List (WorldEvent OpValue) → World OpValue → Type 0
+TakesEach n before i [] [] [] w = Unit {0}
+TakesEach n before i (g ∷ gs) (Ok out ∷ outs) (x ∷ h) w = IsThat before i g w x × GivesOut n i out x w × TakesEach n before i gs outs h (happens n w x)
+TakesEach n before i (g ∷ gs) (Err e ∷ outs) h w = TakesEach n before i gs outs h w
+TakesEach n before i _ _ _ w = ⊥
+
+-- No message was given out for replica i there.
+abbrev pub IsMissing : List MachineReply → ℕ → Given → Type 0
+IsMissing before i (given.Message place) = (m : Message OpValue) → message_at before place ≡ Some m → m.to ≢ i
+IsMissing before i _ = ⊥
+
+-- So with one of these.
+abbrev pub IsOneMissing : List MachineReply → ℕ → List Given → Type 0
+IsOneMissing before i [] = ⊥
+IsOneMissing before i (g ∷ gs) = IsMissing before i g ⊎ IsOneMissing before i gs
+
+-- There is no replica i, or it isn't up.
+abbrev pub IsAway : ℕ → List MachineReply → ℕ → Type 0
+IsAway n before i = (n ≤ i) ⊎ (stage before i ≢ up)
+
+-- There is no replica i, or it can't be started.
+abbrev pub IsNotToStart : ℕ → List MachineReply → ℕ → Type 0
+IsNotToStart n before i = (n ≤ i) ⊎ (stage before i ≡ up) ⊎ (stage before i ≡ gone)
+
+-- A first start is nothing in the world: each replica of it is there from the beginning.
+pub record StartsFirst (before : List MachineReply) (i restarts : ℕ) (out : Outputs OpValue) (h : List (WorldEvent OpValue)) : Type 0 where
+  pub first : stage before i ≡ unborn
+  pub restarts_is : restarts ≡ 1
+  pub sends : out.sends.items ≡ []
+  pub nothing : h ≡ []
+
+-- A later start is a recovery, with the number of the start as its nonce.
+pub record StartsAgain (n : ℕ) (before : List MachineReply) (i restarts : ℕ) (out : Outputs OpValue) (h : List (WorldEvent OpValue)) (w : World OpValue) : Type 0 where
+  pub again : stage before i ≡ down
+  pub gives : GivesOut n i out (Recover i restarts) w
+  pub one : h ≡ Recover i restarts ∷ []
+
+-- A request is at one place of what is committed, that client's with that number, with that reply.
+pub record IsMadeIn (s : SchemaModel) (root : List RdnModel) (l : List (LogEntry OpValue)) (client : Client) (number place : ℕ) (reply : ReplyModel) : Type 0 where
+  pub entry : LogEntry OpValue
+  pub at : EntryAt entry place l
+  pub client_is : entry.client ≡ client
+  pub number_is : entry.request_number ≡ number
+  pub reply_is : slice_get (replies_of s root (ops_of l)) (place - 1) ≡ Some reply
+
+-- A request that is done is in what is committed by then.
+abbrev pub IsDoneIn : SchemaModel → List RdnModel → List (LogEntry OpValue) → Client → ℕ → OutcomeValue → Type 0
+IsDoneIn s root l client number (done place reply) = IsMadeIn s root l client number place reply
+IsDoneIn s root l client number _ = Unit {0}
+
+-- What a node says of itself is the replica of the world.
+pub record IsReplica (n i : ℕ) (w : World OpValue) (x : MachineReply) : Type 0 where
+  pub replica : State OpValue
+  pub there : w.replicas i ≡ Some replica
+  pub shown : x ≡ reply.Standing i replica.view_number (standing_by i (primary n replica.view_number) replica.status) (length replica.log) replica.commit_number
+
+-- What may happen in the world at an event that gets this reply.
+abbrev pub MayHappen : SchemaModel → List RdnModel → ℕ → List MachineReply → MachineEvent → MachineReply → List (WorldEvent OpValue) → World OpValue → Type 0
+MayHappen s root n before (event.Give i g) reply.Nothing h w = (h ≡ []) × (IsAway n before i ⊎ IsMissing before i g)
+MayHappen s root n before (event.Give i g) (reply.Handled j outs behind) h w = (j ≡ i) × TakesEach n before i (g ∷ []) outs.items h w
+MayHappen s root n before (event.Give i g) (reply.Refused j e) h w = (j ≡ i) × (e ≡ NoMemory) × (h ≡ [])
+MayHappen s root n before (event.Give i g) (reply.Stopped j e) h w = (j ≡ i) × (e ≢ NoMemory) × (h ≡ Crash i ∷ [])
+MayHappen s root n before (event.GiveAll i gs) reply.Nothing h w = (h ≡ []) × (IsAway n before i ⊎ IsOneMissing before i gs.items)
+MayHappen s root n before (event.GiveAll i gs) (reply.Handled j outs behind) h w = (j ≡ i) × TakesEach n before i gs.items outs.items h w
+MayHappen s root n before (event.GiveAll i gs) (reply.Refused j e) h w = (j ≡ i) × (e ≡ NoMemory) × (h ≡ [])
+MayHappen s root n before (event.GiveAll i gs) (reply.Stopped j e) h w = (j ≡ i) × (e ≢ NoMemory) × (h ≡ Crash i ∷ [])
+MayHappen s root n before (event.Crash i fate) reply.Nothing h w = (h ≡ []) × IsAway n before i
+MayHappen s root n before (event.Crash i fate) (reply.Crashed j) h w = (j ≡ i) × (h ≡ Crash i ∷ [])
+MayHappen s root n before (event.Start i) reply.Nothing h w = (h ≡ []) × IsNotToStart n before i
+MayHappen s root n before (event.Start i) (reply.Started j restarts out) h w = (j ≡ i) × (StartsFirst before i restarts out h ⊎ StartsAgain n before i restarts out h w)
+MayHappen s root n before (event.Start i) (reply.Refused j e) h w = (j ≡ i) × (h ≡ [])
+MayHappen s root n before (event.Start i) (reply.Stopped j e) h w = (j ≡ i) × (h ≡ [])
+MayHappen s root n before (event.Ask i client number) reply.Nothing h w = (h ≡ []) × IsAway n before i
+MayHappen s root n before (event.Ask i client number) (reply.Outcome j o) h w = (j ≡ i) × (h ≡ []) × IsDoneIn s root (committed n w.messages) client number (became_view o)
+MayHappen s root n before (event.State i) reply.Nothing h w = (h ≡ []) × IsAway n before i
+MayHappen s root n before (event.State i) (reply.Standing j v st p k) h w = (h ≡ []) × IsReplica n i w (reply.Standing j v st p k)
+MayHappen s root n before _ _ h w = ⊥
+
+-- What happens in the world at the events of a schedule, one after another: of each event one reply, and a list of world events that may happen at it.
+abbrev pub HappenInTurn : SchemaModel → List RdnModel → ℕ → (before : List MachineReply) → List MachineEvent → List MachineReply → List (List (WorldEvent OpValue)) → World OpValue → Type 0
+HappenInTurn s root n before [] [] [] w = Unit {0}
+HappenInTurn s root n before (e ∷ es) (x ∷ xs) (h ∷ hs) w = MayHappen s root n before e x h w × HappenInTurn s root n (before ++ x ∷ []) es xs hs (run n h w)
+HappenInTurn s root n before _ _ _ w = ⊥

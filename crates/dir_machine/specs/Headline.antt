@@ -1,0 +1,40 @@
+-- What is promised of every schedule of a machine.
+use Rattle.std.specs.Prelude.{◌≡◌, ◌⊎◌, ◌≤◌, ℕ, List, [], ◌∷◌, ◌++◌, length, take, Some}
+use Rattle.state_machine.specs.dir_store.ldap_dn.Names.{RdnModel}
+use Rattle.state_machine.specs.dir_store.ldap_op.Values.{OpValue}
+use Rattle.state_machine.specs.dir_store.ldap_schema.Schema.{SchemaModel}
+use Rattle.vr_state.specs.Lists.{IsPrefix, Rising}
+use Rattle.vr_state.specs.State.{State}
+use Rattle.vr_state.specs.Words.{LogEntry}
+use Rattle.vr_world.specs.Committed.{IsChosen, committed}
+use Rattle.vr_world.specs.World.{after, start}
+use Rattle.vr_world.specs.declared.events.WorldEvent.{WorldEvent}
+use Rattle.dir_machine.specs.Happening.{HappenInTurn}
+use Rattle.dir_machine.specs.declared.events.MachineEvent.{MachineEvent}
+use Rattle.dir_machine.specs.declared.replies.MachineReply.{MachineReply}
+
+-- All of these lists, one after another.
+abbrev pub joined : {A : Type 0} → List (List A) → List A
+joined [] = []
+joined (xs ∷ rest) = xs ++ joined rest
+
+-- What is committed in the world after these events.
+abbrev pub committed_after : ℕ → List (WorldEvent OpValue) → List (LogEntry OpValue)
+committed_after n es = committed n (after n es).messages
+
+-- What is committed after these events is one list: it begins with each list that is chosen in any view, of which one begins with the other; it only grows; it
+-- begins with what each replica has committed, which its log has; and each client's request numbers rise along it, so that each request is there once at most.
+pub record CommittedIsOneList (n : ℕ) (es : List (WorldEvent OpValue)) : Type 0 where
+  pub agree : (a b : List (LogEntry OpValue)) → IsChosen n (after n es).messages a → IsChosen n (after n es).messages b → IsPrefix a b ⊎ IsPrefix b a
+  pub longest : (a : List (LogEntry OpValue)) → IsChosen n (after n es).messages a → IsPrefix a (committed_after n es)
+  pub chosen : (committed_after n es ≡ []) ⊎ IsChosen n (after n es).messages (committed_after n es)
+  pub grows : (k : ℕ) → IsPrefix (committed_after n (take k es)) (committed_after n es)
+  pub replicas : (i : ℕ) (r : State OpValue) → (after n es).replicas i ≡ Some r → IsPrefix (take r.commit_number r.log) (committed_after n es)
+  pub held : (i : ℕ) (r : State OpValue) → (after n es).replicas i ≡ Some r → r.commit_number ≤ length r.log
+  pub rising : Rising (committed_after n es)
+
+-- There is one list of what happened in the world: the schedule gives it in turn, as what is shown says, and what is committed after it is one list.
+pub record IsWhole (s : SchemaModel) (root : List RdnModel) (n : ℕ) (schedule : List MachineEvent) (shown : List MachineReply) : Type 0 where
+  pub happened : List (List (WorldEvent OpValue))
+  pub in_turn : HappenInTurn s root n [] schedule shown happened (start n)
+  pub committed : CommittedIsOneList n (joined happened)

@@ -1,0 +1,4 @@
+pub mod Shown
+pub mod Happening
+pub mod Headline
+pub mod private

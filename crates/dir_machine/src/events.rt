@@ -1,0 +1,60 @@
+//! The events of a machine: what its processes are given, their ends and starts, and questions.
+
+use dir_node::{Client, LogEntry, Op};
+use view_store::Fate;
+
+/// A message that a node gave out: at the event of this index of the schedule, in this part of it, at this place among its sends; each from 0. An event that
+/// isn't a batch has one part.
+#[derive(Clone, Copy, Debug, PartialEq, Eq)]
+pub struct Place {
+    pub event: u64,
+    pub part: u64,
+    pub send: u64,
+}
+
+/// What a node is given.
+#[derive(Drop)]
+pub enum Given {
+    /// A client's request.
+    Request { entry: LogEntry<Op> },
+    /// A message that some node gave out for this one.
+    Message { place: Place },
+    /// Its timer says that the primary may have failed.
+    Suspect,
+    /// Its timer says that it is time to send again.
+    Beat,
+}
+
+/// One event of a schedule. One that names nothing that is there does nothing.
+#[derive(Drop)]
+pub enum MachineEvent {
+    /// A node that is up handles one event.
+    Give {
+        replica: u64,
+        given: Given,
+    },
+    /// A node that is up handles a batch of events.
+    GiveAll {
+        replica: u64,
+        given: Vec<Given>,
+    },
+    /// A process that is up ends; what it wrote and no sync settled has this fate.
+    Crash {
+        replica: u64,
+        fate: Fate,
+    },
+    /// A process that isn't up starts: for the first time over an empty device, later over what its device holds.
+    Start {
+        replica: u64,
+    },
+    /// A node that is up is asked what became of a client's request.
+    Ask {
+        replica: u64,
+        client: Client,
+        number: u64,
+    },
+    /// A node that is up is asked how far it is.
+    State {
+        replica: u64,
+    },
+}

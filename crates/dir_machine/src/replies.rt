@@ -1,0 +1,102 @@
+//! What a machine shows of each event.
+
+use dir_node::{NodeError, Op, Outputs, Reply, Standing};
+use std::alloc::AllocError;
+
+/// What became of a client's request.
+#[derive(Drop)]
+pub enum Became {
+    /// It was executed as the update of this number, with this reply.
+    Done { number: u64, reply: Reply },
+    /// Its record waits to be committed and executed.
+    Pending,
+    /// The client has made a later request.
+    Stale,
+    /// Nothing is known of it, or it can't be told whether it will be done.
+    Lost,
+}
+
+/// What a machine shows of an event.
+pub enum MachineReply {
+    /// It named nothing that is there, and did nothing.
+    Nothing,
+    /// The node handled it: what each event gave out, in order, or that it was left out for want of memory.
+    Handled {
+        replica: u64,
+        given: Vec<Result<Outputs<Op>, AllocError>>,
+        /// Whether committed records are left to be executed, for want of memory.
+        behind: bool,
+    },
+    /// The node refused it, or the start was refused, and nothing changed.
+    Refused {
+        replica: u64,
+        error: NodeError,
+    },
+    /// The device failed: the process ended, and isn't started again.
+    Stopped {
+        replica: u64,
+        error: NodeError,
+    },
+    /// The process ended.
+    Crashed {
+        replica: u64,
+    },
+    /// The process is up, after so many starts, with what its start gave out.
+    Started {
+        replica: u64,
+        restarts: u64,
+        outputs: Outputs<Op>,
+    },
+    /// What became of a client's request.
+    Outcome {
+        replica: u64,
+        became: Became,
+    },
+    /// How far the node is.
+    Standing {
+        replica: u64,
+        view_number: u64,
+        standing: Standing,
+        op_number: u64,
+        commit_number: u64,
+    },
+}
+
+// Not derived: see "What the gate takes" in docs/ARCHITECTURE.md.
+impl Drop for MachineReply {
+    fn drop(self) {
+        match self {
+            MachineReply::Nothing => {}
+            MachineReply::Handled {
+                replica: _,
+                given: _,
+                behind: _,
+            } => {}
+            MachineReply::Refused {
+                replica: _,
+                error: _,
+            } => {}
+            MachineReply::Stopped {
+                replica: _,
+                error: _,
+            } => {}
+            MachineReply::Crashed { replica: _ } => {}
+            MachineReply::Started {
+                replica: _,
+                restarts: _,
+                outputs: _,
+            } => {}
+            MachineReply::Outcome {
+                replica: _,
+                became: _,
+            } => {}
+            MachineReply::Standing {
+                replica: _,
+                view_number: _,
+                standing: _,
+                op_number: _,
+                commit_number: _,
+            } => {}
+        }
+    }
+}

@@ -1,0 +1,216 @@
+//! Plays one event after the other.
+ghost use Rattle.std.specs.Prelude.{◌≡◌, ◌++◌, ◌∷◌, ◌<◌, [], List, IfOk, OnOk, length, replicate};
+ghost use Rattle.dir_machine.specs.declared.events.MachineEvent.TheVariants as kinds;
+ghost use Rattle.dir_machine.specs.declared.process.Process.TheVariants.{Unborn};
+ghost use Rattle.dir_machine.specs.private.Running.{GoesOn, IsNothingShown};
+
+use crate::asking::{ask, tell};
+use crate::crashing::crash;
+use crate::events::{Given, MachineEvent};
+use crate::giving::{give_all, give_one};
+use crate::machine::Machine;
+use crate::network::{asked, asked_all};
+use crate::process::Process;
+use crate::replies::MachineReply;
+use crate::starting::start;
+use dir_node::{Client, Op};
+use std::alloc::{AllocError, Global};
+use std::mem::replace;
+use view_store::Fate;
+use vr_state::each_step;
+
+/// What a run has so far.
+#[derive(Drop)]
+pub struct Running {
+    /// The process of each replica, by index.
+    pub processes: Vec<Process>,
+    /// What was shown of each event.
+    pub shown: Vec<MachineReply>,
+}
+
+/// So many processes, none of which was ever up. Its only error is want of memory.
+fn unborn(alloc: Global, count: u64) -> Result<Vec<Process>, AllocError>
+    ensures { IfOk result (λ processes. processes.items ≡ replicate count Unborn) }
+{
+    let mut processes = Vec::new(alloc);
+    for _ in 0..count {
+        processes.push(Process::Unborn)?;
+    }
+    Ok(processes)
+}
+
+/// A run at its start. Its only error is want of memory.
+pub fn begin(alloc: Global, machine: &Machine) -> Result<Running, AllocError>
+    ensures processes { IfOk result (λ run. run.processes.items ≡ replicate machine.now.count Unborn) }
+    ensures shown { IfOk result (λ run. run.shown.items ≡ []) }
+{
+    Ok(Running {
+        processes: unborn(alloc, machine.count)?,
+        shown: Vec::new(alloc),
+    })
+}
+
+/// Shows that nothing was there. Its only error is want of memory.
+fn show_nothing(run: &mut Running) -> Result<(), AllocError>
+    ensures { OnOk result (IsNothingShown run.old run.new) }
+{
+    run.shown.push(MachineReply::Nothing)?;
+    Ok(())
+}
+
+/// A node that is up handles one event. Its only error is want of memory.
+fn give(
+    alloc: Global,
+    machine: &Machine,
+    run: &mut Running,
+    replica: u64,
+    given: Given,
+) -> Result<(), AllocError>
+    requires { length run.old.processes.items ≡ machine.now.count }
+    ensures { OnOk result (GoesOn machine.now (kinds.Give replica given) run.old run.new) }
+{
+    if machine.count <= replica {
+        return show_nothing(run);
+    }
+    match asked(alloc, run.shown.as_slice(), replica, given)? {
+        None => show_nothing(run),
+        Some(event) => {
+            let before = replace(&mut run.processes[replica as usize], Process::Gone);
+            let (after, reply) = give_one(alloc, before, replica, event)?;
+            run.processes[replica as usize] = after;
+            run.shown.push(reply)?;
+            Ok(())
+        }
+    }
+}
+
+/// A node that is up handles a batch of events. Its only error is want of memory.
+fn give_batch(
+    alloc: Global,
+    machine: &Machine,
+    run: &mut Running,
+    replica: u64,
+    given: Vec<Given>,
+) -> Result<(), AllocError>
+    requires { length run.old.processes.items ≡ machine.now.count }
+    ensures { OnOk result (GoesOn machine.now (kinds.GiveAll replica given) run.old run.new) }
+{
+    if machine.count <= replica {
+        return show_nothing(run);
+    }
+    match asked_all(alloc, run.shown.as_slice(), replica, given)? {
+        None => show_nothing(run),
+        Some(events) => {
+            let before = replace(&mut run.processes[replica as usize], Process::Gone);
+            let (after, reply) = give_all(alloc, before, replica, events);
+            run.processes[replica as usize] = after;
+            run.shown.push(reply)?;
+            Ok(())
+        }
+    }
+}
+
+/// A process ends. Its only error is want of memory.
+fn end(
+    alloc: Global,
+    machine: &Machine,
+    run: &mut Running,
+    replica: u64,
+    fate: Fate,
+) -> Result<(), AllocError>
+    requires { length run.old.processes.items ≡ machine.now.count }
+    ensures { OnOk result (GoesOn machine.now (kinds.Crash replica fate) run.old run.new) }
+{
+    if machine.count <= replica {
+        return show_nothing(run);
+    }
+    let before = replace(&mut run.processes[replica as usize], Process::Gone);
+    let (after, reply) = crash(alloc, before, replica, fate)?;
+    run.processes[replica as usize] = after;
+    run.shown.push(reply)?;
+    Ok(())
+}
+
+/// A process starts. Its only error is want of memory.
+fn start_one(
+    alloc: Global,
+    machine: &Machine,
+    run: &mut Running,
+    replica: u64,
+) -> Result<(), AllocError>
+    requires { length run.old.processes.items ≡ machine.now.count }
+    ensures { OnOk result (GoesOn machine.now (kinds.Start replica) run.old run.new) }
+{
+    if machine.count <= replica {
+        return show_nothing(run);
+    }
+    let before = replace(&mut run.processes[replica as usize], Process::Gone);
+    let (after, reply) = start(alloc, machine, before, replica)?;
+    run.processes[replica as usize] = after;
+    run.shown.push(reply)?;
+    Ok(())
+}
+
+/// A node is asked what became of a request. Its only error is want of memory.
+fn ask_one(
+    alloc: Global,
+    machine: &Machine,
+    run: &mut Running,
+    replica: u64,
+    client: Client,
+    number: u64,
+) -> Result<(), AllocError>
+    requires { length run.old.processes.items ≡ machine.now.count }
+    ensures { OnOk result (GoesOn machine.now (kinds.Ask replica client number) run.old run.new) }
+{
+    if machine.count <= replica {
+        return show_nothing(run);
+    }
+    each_step::<Op>();
+    let reply = ask(
+        alloc,
+        &run.processes[replica as usize],
+        replica,
+        client,
+        number,
+    )?;
+    run.shown.push(reply)?;
+    Ok(())
+}
+
+/// A node is asked how far it is. Its only error is want of memory.
+fn tell_one(machine: &Machine, run: &mut Running, replica: u64) -> Result<(), AllocError>
+    requires { length run.old.processes.items ≡ machine.now.count }
+    ensures { OnOk result (GoesOn machine.now (kinds.State replica) run.old run.new) }
+{
+    if machine.count <= replica {
+        return show_nothing(run);
+    }
+    let reply = tell(&run.processes[replica as usize], replica);
+    run.shown.push(reply)?;
+    Ok(())
+}
+
+/// One event. Its only error is want of memory.
+pub fn take_event(
+    alloc: Global,
+    machine: &Machine,
+    run: &mut Running,
+    event: MachineEvent,
+) -> Result<(), AllocError>
+    requires { length run.old.processes.items ≡ machine.now.count }
+    ensures { OnOk result (GoesOn machine.now event run.old run.new) }
+{
+    match event {
+        MachineEvent::Give { replica, given } => give(alloc, machine, run, replica, given),
+        MachineEvent::GiveAll { replica, given } => give_batch(alloc, machine, run, replica, given),
+        MachineEvent::Crash { replica, fate } => end(alloc, machine, run, replica, fate),
+        MachineEvent::Start { replica } => start_one(alloc, machine, run, replica),
+        MachineEvent::Ask {
+            replica,
+            client,
+            number,
+        } => ask_one(alloc, machine, run, replica, client, number),
+        MachineEvent::State { replica } => tell_one(machine, run, replica),
+    }
+}
