@@ -8,6 +8,8 @@ mod frames;
 #[cfg(test)]
 mod journals;
 #[cfg(test)]
+mod machines;
+#[cfg(test)]
 mod measured;
 #[cfg(test)]
 mod nodes;
