@@ -69,10 +69,11 @@ const SCHEDULE: &[(Step, &str)] = &[
     (Step::Hear(1, 19, 1), "handled"),
     // 22: the one that brings its log to the primary of view 1
     (Step::Hear(1, 20, 0), "handled"),
-    (Step::State(1), "primary 1 1 1"),
+    // neither of the two was told that the update is committed, so the view begins with none that it knows to be
+    (Step::State(1), "primary 1 1 0"),
     (Step::Hear(2, 22, 1), "handled"),
-    (Step::State(2), "backup 1 1 1"),
-    // 26: another update
+    (Step::State(2), "backup 1 1 0"),
+    // 26: another update, with which both are committed
     (Step::Request(1, 2, DELETE), "handled"),
     (Step::Hear(2, 26, 1), "handled"),
     (Step::Hear(1, 27, 0), "handled"),
