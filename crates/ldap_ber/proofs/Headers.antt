@@ -1,4 +1,4 @@
--- Wire, the lowest floor: the header that is read is the one that is spelled, and a fault stands where there is none.
+-- The header that is read is the one that is spelled, and a fault stands where there is none.
 use Rattle.std.proofs.Common.{◌≡◌, ℕ, ◌-◌, ◌%◌, ◌<◌, false, ltb, eqb, List, [], ◌∷◌, ◌++◌, length, replicate, Result, Ok, Err, refl, sym, ap, subst, ◌∙◌, append_assoc, inl, inr, arith}
 use Rattle.std.specs.Prelude.{MatchResult, IfOk, IsOkAnd, ◌↔◌}
 use Rattle.std.proofs.lemmas.Result.{MatchResult-at_ok, MatchResult-at_err}

@@ -1,4 +1,4 @@
--- Wire, the lowest floor: octets, and how large a number is that they spell.
+-- Octets, and how large a number is that they spell.
 use Rattle.std.proofs.Common.{◌≡◌, ℕ, zero, suc, ◌+◌, ◌*◌, ◌^◌, ◌<◌, ◌≤◌, List, [], ◌∷◌, length, take, get_or, map, arith, pow-add, add-zero}
 use Rattle.std.proofs.Math.Pow.{pow_mono}
 use Rattle.std.proofs.lemmas.List.Sums.{fold_push}

@@ -1,4 +1,4 @@
--- Wire, the lowest floor: what is written is an element, in its shortest form.
+-- What is written is an element, in its shortest form.
 use Rattle.std.proofs.Common.{◌≡◌, ℕ, ◌/◌, ◌%◌, ◌<◌, ◌≤◌, ltb, List, [], ◌∷◌, ◌++◌, length, min, true, refl, ap, ◌∙◌, ◌⊎◌, inl, inr, arith, ◌+◌}
 use Rattle.std.proofs.lemmas.Bool.{cond_both, ltb-true, ltb-false}
 use Rattle.std.proofs.lemmas.List.{length-append}

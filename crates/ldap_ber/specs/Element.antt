@@ -1,5 +1,4 @@
--- Wire, the lowest floor: elements in definite form (X.690 8.1 as RFC 4511 5.1 narrows it).
--- In: lists of octets. Out: what an element is, and the one spelling that is written. Not here: reading from the left.
+-- Elements in definite form (X.690 8.1 as RFC 4511 5.1 narrows it).
 use Rattle.std.specs.Prelude.{◌≡◌, ℕ, ◌+◌, ◌/◌, ◌%◌, ◌<◌, List, [], ◌∷◌, ◌++◌, length, if◌then◌else◌, nat_lt}
 use Rattle.std.specs.List.{AllByRecursion}
 use Rattle.ldap_ber.specs.Number.{number}

@@ -1,5 +1,4 @@
--- Wire, the lowest floor: the header of an element, before its content is there.
--- In: octets. Out: what a header is, and what stands in its place. Not here: content.
+-- The header of an element, before its content is there.
 use Rattle.std.specs.Prelude.{◌≡◌, ℕ, ◌%◌, ◌<◌, List, ◌∷◌, ◌++◌, length}
 use Rattle.ldap_ber.specs.declared.fault.BerFault.{BerFault}
 use Rattle.ldap_ber.specs.declared.fault.BerFault.TheVariants.{HighTag, Short, Indefinite, LengthTooLong}

@@ -1,5 +1,4 @@
--- Wire, the lowest floor: reading an element from the left, with the first fault that is met.
--- In: octets. Out: which fault stands in an element's place, and when. Not here: memory.
+-- Reads an element from the left, with the first fault that is met.
 use Rattle.std.specs.Prelude.{◌≡◌, ℕ, ◌%◌, ◌<◌, List, [], ◌∷◌}
 use Rattle.ldap_ber.specs.declared.fault.BerFault.{BerFault}
 use Rattle.ldap_ber.specs.declared.fault.BerFault.TheVariants.{HighTag, Short, Indefinite, LengthTooLong}

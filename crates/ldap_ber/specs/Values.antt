@@ -1,5 +1,4 @@
--- Wire, the lowest floor: the contents of integers and booleans.
--- In: contents. Out: their values, and the one content that is written for an integer. Not here: elements.
+-- The contents of integers and booleans.
 use Rattle.std.specs.Prelude.{◌≡◌, ℕ, zero, suc, ◌-◌, ◌/◌, ◌%◌, ◌^◌, ◌<◌, ◌≤◌, List, [], ◌∷◌, ◌++◌, length, map, ℤ, pos, negsuc, Bool, true, false, ◌≢◌, nat_lt, if◌then◌else◌}
 use Rattle.ldap_ber.specs.Number.{number}
 

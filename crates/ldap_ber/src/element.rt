@@ -1,5 +1,4 @@
-//! Wire, the lowest floor: an element as it is read.
-//! In: nothing. Out: the type. Not here: owned octets.
+//! An element as it is read.
 
 /// An element, seen in the octets that it was read from (X.690 8.1).
 #[derive(Clone, Copy, Debug)]

@@ -1,5 +1,4 @@
-//! Wire, the lowest floor: why octets are no element, and why an element is not written.
-//! In: nothing. Out: the refusals E1 to E6. Not here: what a message or a filter is.
+//! Why octets are no element, and why an element is not written.
 
 use thiserror::Error;
 

@@ -1,5 +1,4 @@
-//! Wire, the lowest floor: the header of an element that may not be whole yet.
-//! In: octets. Out: the first octet, the stated length and the header's size. Not here: content.
+//! Reads the header of an element that may not be whole yet.
 
 ghost use Rattle.std.specs.Prelude.{◌≡◌, ℕ, ◌↔◌, ◌++◌, List, length, IfOk, IsOkAnd, IsErrOf, Ok, Err};
 ghost use Rattle.ldap_ber.specs.Header.{IsHeader, IsHeaderFault};

@@ -1,13 +1,13 @@
-//! Reads and writes elements of definite length (X.690): a first octet, the length, the content;
-//! and integers and booleans.
+//! Reads and writes elements of definite length (X.690): a first octet, the length, the content; and integers and
+//! booleans.
 //!
-//! Reads and writes elements of X.690 in definite form. Its definitions relate octets and elements; one function on lists lies between them
-//! and the code. `heading` reads a header whose element may not be whole yet. `measuring` says how long an element is, so that a writer can
-//! write its head before its content.
+//! Its definitions relate octets and elements; one function on lists lies between them and the code. `heading` reads a
+//! header whose element may not be whole yet. `measuring` says how long an element is, so that a writer can write its
+//! head before its content.
 //!
-//! Proved: an element is read exactly where there is one, and each fault is given exactly where its cause is (`read`, `header`, `integer`,
-//! `boolean`). The shortest spelling is written (`write`, `write_head`, `write_integer`, `shortest`); it belongs to one element and begins no other
-//! (`one_spelling`).
+//! Proved: an element is read exactly where there is one, and each fault is given exactly where its cause is (`read`,
+//! `header`, `integer`, `boolean`). The shortest spelling is written (`write`, `write_head`, `write_integer`,
+//! `shortest`); it belongs to one element and begins no other (`one_spelling`).
 #![tactic(auto)]
 
 mod element;

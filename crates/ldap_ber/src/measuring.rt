@@ -1,6 +1,5 @@
-//! Wire, the lowest floor: how many octets an element takes, before any of it is written.
-//! In: the length of a content, or a number. Out: the length of its element. Not here: octets.
-//! A length of 2^32 stands for each that is greater: none of these is ever written.
+//! Says how many octets an element takes, before any of it is written. A length of 2^32 stands for each greater one:
+//! none of these is ever written.
 
 ghost use Rattle.std.specs.Prelude.{◌≡◌, ℕ, ◌+◌, ◌^◌, List, length, min};
 ghost use Rattle.ldap_ber.specs.Element.{length_octets, element_bytes};

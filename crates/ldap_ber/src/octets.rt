@@ -1,5 +1,4 @@
-//! Wire, the lowest floor: octets as a number.
-//! In: at most eight octets. Out: the number. Not here: signs, which `values` knows.
+//! Reads octets as a number.
 
 ghost use Rattle.std.specs.Prelude.{◌≡◌, ◌≤◌, ◌-◌, map, length};
 ghost use Rattle.ldap_ber.specs.Number.{number};

@@ -1,5 +1,4 @@
-//! Wire, the lowest floor: the element at the front of octets.
-//! In: octets. Out: an element and the octets after it, or the first fault. Not here: memory.
+//! Reads the element at the front of octets.
 
 ghost use Rattle.std.specs.Prelude.{◌≡◌, ℕ, ◌↔◌, ◌++◌, List, length, IfOk, IfErr, IsOkAnd, IsErrOf, Ok, Err};
 ghost use Rattle.ldap_ber.specs.Element.{IsElement};

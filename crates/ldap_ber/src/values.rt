@@ -1,5 +1,4 @@
-//! Wire, the lowest floor: the contents of integers and booleans.
-//! In: the content of an element. Out: the value, or E5 and E6. Not here: elements.
+//! Reads the contents of integers and booleans.
 
 ghost use Rattle.std.specs.Prelude.{◌≤◌, ◌↔◌, ℤ, Bool, length, IsTrue, IfOk, OnErr};
 ghost use Rattle.ldap_ber.specs.Values.{IsInteger, IsMinimal, IsBoolean};

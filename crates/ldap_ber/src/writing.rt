@@ -1,6 +1,4 @@
-//! Wire, the lowest floor: the one spelling that is written, the shortest.
-//! In: a first octet and a content, or a number. Out: octets at the end of a buffer, all or none.
-//! Not here: what the content means.
+//! Writes the shortest spelling of an element.
 
 ghost use Rattle.std.specs.Prelude.{◌≡◌, ℕ, ℤ, ◌+◌, ◌^◌, ◌%◌, ◌<◌, ◌≤◌, ◌↔◌, ◌++◌, ◌∷◌, ◌⊎◌, List, length, OnOk, OnErr, IfErr, IsErrOf, vec_len, vec_capacity};
 ghost use Rattle.ldap_ber.specs.Element.{IsLength, IsElement, length_octets, element_bytes};

@@ -1,4 +1,4 @@
--- Keys of names as they are put together. Octets flow in and out; of which name they are is not here.
+-- Keys of names as they are put together.
 use Rattle.std.proofs.Common.{ℕ, ◌+◌, ◌<◌, List, [], ◌∷◌, ◌++◌, ◌≡◌, ap, sym, ◌∙◌, drop, length, get_or, append_assoc}
 use Rattle.std.proofs.Math.Seq.{drop-append_seam}
 use Rattle.std.proofs.lemmas.List.{at_drop_more}

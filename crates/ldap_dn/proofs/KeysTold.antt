@@ -1,4 +1,4 @@
--- Keys of names tell names apart. Names and octets flow in and out; texts are not here.
+-- Keys of names tell names apart.
 use Rattle.std.proofs.Common.{ℕ, ◌<◌, ◌/◌, ◌%◌, List, [], ◌∷◌, ◌++◌, ◌≡◌, refl, sym, ap, ap₂, ◌∙◌, append_assoc, reverse, arith}
 use Rattle.std.proofs.lemmas.List.{reverse-reverse, reverse-append}
 use Rattle.std.proofs.lemmas.Int.Digits.{same_from_digits_of, digits_of_step}

@@ -1,4 +1,4 @@
--- A relative name that no `+` parts: it is one type and value. Tokens flow in, what they spell flows out.
+-- A relative name that no `+` parts: it is one type and value.
 use Rattle.std.proofs.Common.{◌≡◌, true, not, List, [], ◌∷◌, ap}
 use Rattle.std.specs.List.{list_all}
 use Rattle.std.specs.Option.{option_and_then}

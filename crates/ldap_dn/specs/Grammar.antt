@@ -1,4 +1,4 @@
--- The grammar of escapes: RFC 4514 3. A text and the octets that it spells flow in; how they are found is not here.
+-- The grammar of escapes: RFC 4514 3.
 use Rattle.std.specs.Prelude.{ℕ, List, [], ◌∷◌, true, false, Some, nat_eq, ◌≡◌, ◌↔◌}
 use Rattle.ldap_dn.specs.Tokens.{is_escapable, hex_octet}
 use Rattle.ldap_dn.specs.Texts.{tokens_of}

@@ -1,4 +1,4 @@
--- Keys where a schema is known, but for names. Values flow in, keys flow out; items and entries are not here.
+-- Keys where a schema is known, but for names.
 use Rattle.std.specs.Prelude.{ℕ, List, Option}
 use Rattle.ldap_syntax.specs.Keys as syntax
 use Rattle.ldap_schema.specs.ldap_words.declared.rule.Family.{Family}

@@ -1,6 +1,5 @@
 -- What a value that is no name means where a schema is known: an object identifier may be the name of a type or of a
--- class. RFC 4517 3.3.26 and 4.2.26. Values flow in, meanings flow out; names (RFC 4514), entries and filters are not
--- here.
+-- class. RFC 4517 3.3.26 and 4.2.26.
 use Rattle.std.specs.Prelude.{ℕ, List, cond, Option, None, Some, option_map, slice_get}
 use Rattle.std.specs.Option.{option_and_then}
 use Rattle.ldap_schema.specs.ldap_words.Identifiers.{is_numericoid}

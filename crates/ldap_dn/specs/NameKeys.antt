@@ -1,4 +1,4 @@
--- The key of a name as a value: octets by which names are told apart. Names flow in, octets flow out; spellings are not here.
+-- The key of a name as a value: octets by which names are told apart.
 use Rattle.std.specs.Prelude.{ℕ, List, [], ◌∷◌, ◌++◌, reverse, ◌≡◌, ◌↔◌}
 use Rattle.std.specs.Int.Digits.{digits_of}
 use Rattle.ldap_dn.specs.Names.{TypeAndKey, RdnModel, rdns, IsSameName}

@@ -1,4 +1,4 @@
--- The grammar of names: RFC 4514 3. A text, a schema and a name flow in; how the name is found is not here.
+-- The grammar of names: RFC 4514 3.
 use Rattle.std.specs.Prelude.{ℕ, List, [], ◌∷◌, reverse, true, false, Some, ◌≡◌, ◌↔◌}
 use Rattle.std.specs.List.{list_all}
 use Rattle.ldap_schema.specs.Schema.{SchemaModel}

@@ -1,5 +1,4 @@
--- Names: lists of relative names, each a set of types with keys. RFC 4512 2.3. Keys and spellings flow in, comparisons flow
--- out; texts are not here.
+-- Names: lists of relative names, each a set of types with keys. RFC 4512 2.3.
 use Rattle.std.specs.Prelude.{ℕ, List, [], ◌∷◌, ◌++◌, map, Bool, true, false, ◌&&◌, nat_eq, ◌≡◌}
 use Rattle.std.specs.Cmp.Lexicographic.{pointwise}
 use Rattle.std.specs.Str.{bytes_eq}

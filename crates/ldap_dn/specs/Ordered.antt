@@ -1,5 +1,5 @@
--- The order in which names stand in a map: by the types and keys of their relative names, whatever the spelling. RFC 4512
--- 2.3.2 (names are told apart by these alone). Texts and spellings are not here.
+-- The order in which names stand in a map: by the types and keys of their relative names, whatever the spelling. RFC
+-- 4512 2.3.2 (names are told apart by these alone).
 use Rattle.std.specs.Prelude.{◌≡◌}
 use Rattle.std.specs.declared.cmp.Ordering.{Ordering}
 use Rattle.std.specs.Ordering.{nat_cmp, is_eq, on, then_cmp}

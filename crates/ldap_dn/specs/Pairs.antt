@@ -1,5 +1,4 @@
--- The pairs of a name: types with their values, and the keys by which names are told apart. RFC 4512 2.3.1. Names flow in, pairs flow out; filters
--- are not here.
+-- The pairs of a name: types with their values, and the keys by which names are told apart. RFC 4512 2.3.1.
 use Rattle.std.specs.Prelude.{ℕ, List, [], ◌∷◌, ◌++◌, cond, map, nat_eq, Option, None, Some}
 use Rattle.ldap_dn.specs.Names.{TypeAndKey, TypeAndValue, RdnModel}
 

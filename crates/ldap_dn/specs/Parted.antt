@@ -1,4 +1,4 @@
--- The grammar of separators: RFC 4514 3. Tokens and the parts between separators flow in; how they are cut is not here.
+-- The grammar of separators: RFC 4514 3.
 use Rattle.std.specs.Prelude.{ℕ, List, [], ◌∷◌, ◌++◌, false, All, ◌≡◌, ◌↔◌}
 use Rattle.std.specs.List.{slice_split}
 use Rattle.ldap_dn.specs.Tokens.{is_plain}

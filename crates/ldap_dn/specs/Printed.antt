@@ -1,5 +1,4 @@
--- The one printed form of a name: RFC 4514 2. A name's spelling and a schema flow in, a text flows out; keys and reading are
--- not here.
+-- The one printed form of a name: RFC 4514 2.
 use Rattle.std.specs.Prelude.{ℕ, List, [], ◌∷◌, ◌++◌, map, reverse, length, chars, encode_utf8, Bool, true, false, cond, ◌&&◌, ◌||◌, Option, None, Some, nat_eq, slice_get, flat_map}
 use Rattle.ldap_schema.specs.Schema.{SchemaModel, TypeModel, first_name_of}
 use Rattle.ldap_dn.specs.Names.{TypeAndValue, RdnModel}

@@ -1,4 +1,4 @@
--- A relative name as a set: RFC 4512 2.3.1. Types with their keys flow in; where they come from is not here.
+-- A relative name as a set: RFC 4512 2.3.1.
 use Rattle.std.specs.Prelude.{List, [], ◌∷◌, Bool, true, ◌&&◌, Some, nat_lt, ◌≡◌}
 use Rattle.std.specs.List.{list_all}
 use Rattle.ldap_schema.specs.Schema.{SchemaModel}

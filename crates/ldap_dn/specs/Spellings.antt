@@ -1,4 +1,4 @@
--- What is kept of a relative name's spelling. How it is laid out flows in; the types and values, as a list, flow out.
+-- What is kept of a relative name's spelling.
 use Rattle.std.specs.Prelude.{List, [], ◌∷◌}
 use Rattle.ldap_dn.specs.Names.{TypeAndValue}
 use Rattle.ldap_dn.specs.declared.rdn.Spelling.{Spelling}

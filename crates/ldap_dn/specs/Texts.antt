@@ -1,5 +1,4 @@
--- What a text names, step by step: tokens, relative names, types and values. RFC 4514 3. A text and a schema flow in, a
--- name flows out; comparing is not here.
+-- What a text names, step by step: tokens, relative names, types and values. RFC 4514 3.
 use Rattle.std.specs.Prelude.{ℕ, ◌+◌, take, drop, insert, slice_get, position, List, [], ◌∷◌, ◌++◌, map, reverse, Bool, false, not, cond, ◌||◌, Option, None, Some, nat_eq, nat_lt}
 use Rattle.std.specs.List.{list_all, slice_split, prefix_len}
 use Rattle.std.specs.Option.{option_and_then}

@@ -1,5 +1,4 @@
--- The octets of a name's text, each plain or escaped: RFC 4514 3. Octets flow in, tokens flow out; separators, types and
--- values are not here.
+-- The octets of a name's text, each plain or escaped: RFC 4514 3.
 use Rattle.std.specs.Prelude.{ℕ, ◌-◌, List, length, take, drop, Bool, true, false, ◌||◌, nat_eq}
 use Rattle.std.specs.List.{prefix_len, suffix_len}
 use Rattle.ldap_dn.specs.declared.token.Token.{Token}

@@ -1,5 +1,4 @@
-// Relative names compared. Relative names flow in, a yes or no flows out, and no memory is taken.
-// What must not be here: texts, spellings.
+//! Compares relative names.
 
 ghost use Rattle.std.specs.Prelude.{◌≡◌, ◌&&◌, nat_eq};
 ghost use Rattle.std.specs.Str.{bytes_eq};

@@ -1,5 +1,4 @@
-// Tokens cut and trimmed. Tokens flow in, the parts of them that stand between separators and spaces flow out.
-// What must not be here: octets of a text, types, values.
+//! Cuts and trims tokens.
 
 ghost use Rattle.std.specs.Prelude.{◌≡◌, ◌≤◌, length, map, IfOk};
 ghost use Rattle.std.specs.List.{slice_split, prefix_len, suffix_len};

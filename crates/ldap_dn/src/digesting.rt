@@ -1,5 +1,4 @@
-// Digests of relative names: numbers that tell most of them apart, so that a map compares numbers that it holds. Types and keys flow in, a number
-// flows out, and no memory is taken. What must not be here: the order of relative names.
+//! Digests of relative names: numbers that tell most of them apart, so that a map compares numbers that it holds.
 
 ghost use Rattle.std.specs.Prelude.{◌≡◌, ◌∷◌, []};
 ghost use Rattle.ldap_dn.specs.Digests.{digest_of, digest_on as digest_with_numbers};

@@ -1,5 +1,4 @@
-// Why a text is no name. Nothing flows in; what the grammar or the want of memory refuses flows out.
-// What must not be here: faults of a schema, of an entry or of a message.
+//! Why a text is no name.
 
 ghost use Rattle.std.specs.Prelude.{◌≡◌};
 ghost use Rattle.ldap_dn.specs.declared.fault.NameError.TheVariants.{NoMemory};

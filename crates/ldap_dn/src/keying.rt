@@ -1,5 +1,4 @@
-// The key of a name as a value. Relative names flow in, octets by which names are told apart flow out.
-// What must not be here: texts, spellings, how keys of other values are made.
+//! Writes the key of a name as a value.
 
 ghost use Rattle.std.specs.Prelude.{◌≡◌, ◌++◌, ◌∷◌, [], map, drop, length, OnOk, IfOk};
 ghost use Rattle.ldap_dn.specs.NameKeys.{listed, itself, number_octets, pair_octets, name_key, NameKeysAreOfNames};

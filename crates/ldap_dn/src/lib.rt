@@ -1,15 +1,17 @@
-//! Reads names, compares them by their relative names, and prints them in one form; and makes the keys of values that are no names. There an
-//! object identifier may be spelled by a name of the schema. Entries, and where they stand, are not here.
+//! Reads names, compares them by their relative names, and prints them in one form; and makes the keys of values that
+//! are no names. There an object identifier may be spelled by a name of the schema.
 //!
-//! Reads names (RFC 4514) in three steps. `scanning` undoes the escapes: an octet becomes a token, plain or escaped. `cutting` cuts at plain
-//! separators and trims plain spaces; `reading` makes types, values and keys by the schema. `value_keys` has the keys of all values but names.
-//! A relative name keeps its types with their keys in rising order of type, by which `comparing` compares without memory; `digesting` makes
-//! one number of them, for maps. `printing` prints types and values, which it keeps as written. `keying` writes a name's key as a value.
+//! Names are read (RFC 4514) in three steps. `scanning` undoes the escapes: an octet becomes a token, plain or escaped.
+//! `cutting` cuts at plain separators and trims plain spaces; `reading` makes types, values and keys by the schema.
+//! `value_keys` has the keys of all values but names. A relative name keeps its types with their keys in rising order
+//! of type, by which `comparing` compares without memory; `digesting` makes one number of them, for maps. `printing`
+//! prints types and values, which it keeps as written. `keying` writes a name's key as a value.
 //!
-//! Proved: a text is read as the name that it spells by the grammar, both ways, else E17 (`Name::read`, `names_are_of_texts`), and printed in
-//! its one form (`print`). Names are compared as lists of sets of types with keys (`same`, `is_below`, `parent`), and have one key exactly
-//! where they are one name (`Name::key`, `name_keys_are_of_names`); a digest is that of types and keys (`Rdn::digest`). A value that is no
-//! name has a key exactly where it means something (`key`, `is_meaningful`).
+//! Proved: a text is read as the name that it spells by the grammar, both ways, else E17 (`Name::read`,
+//! `names_are_of_texts`), and printed in its one form (`print`). Names are compared as lists of sets of types with keys
+//! (`same`, `is_below`, `parent`), and have one key exactly where they are one name (`Name::key`,
+//! `name_keys_are_of_names`); a digest is that of types and keys (`Rdn::digest`). A value that is no name has a key
+//! exactly where it means something (`key`, `is_meaningful`).
 #![tactic(auto)]
 
 mod comparing;

@@ -1,5 +1,4 @@
-// Names. Texts and a schema flow in; names, and what stands above and below them, flow out.
-// What must not be here: how texts are read, entries.
+//! A name: a list of relative names.
 
 ghost use Rattle.std.specs.Prelude.{string_bytes, ◌≡◌, ◌↔◌, ◌-◌, length, take, None, Some, IfOk, IsErrOf, IsTrue, MatchOption, []};
 ghost use Rattle.ldap_dn.specs.NameTexts.{NamesAreOfTexts};

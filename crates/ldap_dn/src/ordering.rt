@@ -1,5 +1,4 @@
-// The order of relative names, by which they are keys of a map. Relative names flow in, an order flows out, and no memory is
-// taken. What must not be here: texts, spellings.
+//! The order of relative names, by which they are keys of a map.
 
 ghost use Rattle.std.specs.Prelude.{◌≡◌, ◌&&◌, Some, nat_eq, refl};
 ghost use Rattle.std.specs.Str.{bytes_eq};

@@ -1,5 +1,4 @@
-// Names printed. Relative names and a schema flow in, their one text flows out.
-// What must not be here: keys, how texts are read.
+//! Prints names.
 
 ghost use Rattle.std.specs.Prelude.{◌≡◌, ◌++◌, [], drop, length, chars, true, IsTrue, map, reverse, flat_map, ◌∷◌, string_bytes, IfOk, OnOk};
 ghost use Rattle.std.specs.List.{list_all};

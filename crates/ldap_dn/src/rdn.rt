@@ -1,5 +1,4 @@
-// Relative names. Types, values and keys flow in; they, and a comparison, flow out.
-// What must not be here: texts, whole names.
+//! A relative name: its types, values and keys.
 
 ghost use Rattle.std.specs.Prelude.{◌≡◌, IfOk, string_bytes};
 ghost use Rattle.std.specs.Option.{option_copied};

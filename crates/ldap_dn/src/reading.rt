@@ -1,5 +1,4 @@
-// Tokens read as names. Tokens and a schema flow in, relative names flow out.
-// What must not be here: octets of a text, comparisons.
+//! Reads tokens as names.
 
 ghost use Rattle.std.specs.Prelude.{◌≡◌, ◌≤◌, [], map, not, length, position, slice_get, None, Some, string_bytes, IfOk, OnOk, IsErrOf};
 ghost use Rattle.std.specs.List.{list_all};

@@ -1,5 +1,4 @@
-// Escapes undone. The octets of a text flow in, its tokens flow out.
-// What must not be here: separators, spaces, types, values.
+//! Undoes the escapes of a name's text.
 
 ghost use Rattle.std.specs.Prelude.{◌≡◌, None, Some, IfOk, IsErrOf};
 ghost use Rattle.ldap_dn.specs.Tokens.{is_escapable as is_escapable_octet};

@@ -1,5 +1,4 @@
-// One octet of a name's text. An octet, plain or escaped, flows in; what it is flows out.
-// What must not be here: texts, types, values.
+//! One octet of a name's text.
 
 /// An octet of a name's text, as it stands there or spelled by an escape (RFC 4514 3).
 #[derive(Clone, Copy)]

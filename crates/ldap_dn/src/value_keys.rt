@@ -1,5 +1,4 @@
-// Keys where a schema is known, but for names. A schema, a rule and a value flow in; the value's key, or the fault
-// that it is not in the syntax, flows out. What must not be here: names, attributes, entries.
+//! Makes the keys of values that are no names, where a schema is known.
 
 ghost use Rattle.std.specs.Prelude.{◌≡◌, ◌↔◌, IfOk, IsErrOf, None, Some, option_map, is_some};
 ghost use Rattle.ldap_dn.specs.Meaning.{meaning, named_oid as named_identifier, dotted};

@@ -1,4 +1,4 @@
--- Wire, between elements and messages: how long octets are, up to a limit.
+-- How long octets are, up to a limit.
 use Rattle.std.proofs.Common.{◌≡◌, ℕ, ◌+◌, ◌≤◌, List, ◌++◌, length, min, arith}
 use Rattle.std.proofs.lemmas.List.{length-append}
 

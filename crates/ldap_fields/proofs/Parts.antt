@@ -1,4 +1,4 @@
--- Wire, between elements and messages: the parts of the grammar, each with its value first.
+-- The parts of the grammar, each with its value first.
 use Rattle.std.proofs.Common.{ℕ, Bool, Option, List}
 use Rattle.std.specs.Prelude.{ℤ}
 use Rattle.ldap_fields.specs.Fields.{HasField, HasText, HasNumber, HasInteger, HasPart, HasFlagOrFalse, HasTextOrNone, HasOctetsOrNone}

@@ -1,4 +1,4 @@
--- Wire, between elements and messages: what is written piece by piece is the whole.
+-- What is written piece by piece is the whole.
 use Rattle.std.proofs.Common.{◌≡◌, ℕ, ◌<◌, ◌≤◌, true, ltb, min, List, [], ◌∷◌, ◌++◌, drop, length, Result, Ok, Err, sym, ap, append_assoc, ◌∙◌, arith}
 use Rattle.std.proofs.Math.Seq.{drop-append_seam}
 use Rattle.std.proofs.lemmas.Bool.{cond_both, ltb-true, ltb-false}

@@ -1,4 +1,4 @@
--- Wire, between elements and messages: a row that grows, as a loop reads it: what is read so far and what is left say as much as the whole.
+-- A row that grows, as a loop reads it: what is read so far and what is left say as much as the whole.
 use Rattle.std.proofs.Common.{◌≡◌, ℕ, Bool, true, false, eqb, length, List, [], ◌∷◌, ◌++◌, map, refl, sym, ap, subst, ◌∙◌, append_assoc, inl, inr}
 use Rattle.std.proofs.lemmas.List.{append-nil, map_push, nil_from_length}
 use Rattle.std.proofs.lemmas.Bool.{eqb-true}

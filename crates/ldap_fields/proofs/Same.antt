@@ -1,4 +1,4 @@
--- Wire, between elements and messages: the field at the front of octets is one, and what a part lacks the whole lacks.
+-- The field at the front of octets is one, and what a part lacks the whole lacks.
 use Rattle.std.proofs.Common.{◌≡◌, ◌<◌, length, ℕ, Bool, true, false, Option, Some, None, List, [], ◌∷◌, ◌++◌, refl, sym, ap, subst, ◌∙◌, inl, inr, arith}
 use Rattle.std.specs.Prelude.{ℤ, pos, negsuc}
 use Rattle.std.specs.Str.{IsUtf8}

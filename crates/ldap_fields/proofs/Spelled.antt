@@ -1,4 +1,4 @@
--- Wire, between elements and messages: what is written for a field is in the grammar, whatever follows.
+-- What is written for a field is in the grammar, whatever follows.
 use Rattle.std.proofs.Common.{◌≡◌, ◌^◌, ◌%◌, ◌<◌, ℕ, Bool, true, false, Option, Some, None, List, [], ◌∷◌, ◌++◌, length, refl, sym, subst, ◌∙◌, append_assoc, inl, inr, arith}
 use Rattle.std.specs.Prelude.{ℤ, pos}
 use Rattle.std.specs.Str.{IsUtf8}

@@ -1,4 +1,4 @@
--- Wire, between elements and messages: the octets of a row with one more value at its end.
+-- The octets of a row with one more value at its end.
 use Rattle.std.proofs.Common.{◌≡◌, ℕ, zero, suc, ◌+◌, ◌<◌, ◌≤◌, List, [], ◌∷◌, ◌++◌, length, min, get_or, take, map, sym, ap, ◌∙◌, append_assoc, arith}
 use Rattle.std.proofs.lemmas.List.{append-nil, take_more, map_push, length-append}
 use Rattle.ldap_ber.specs.Element.{element_bytes, length_octets}

@@ -1,5 +1,4 @@
--- Wire, between elements and messages: what a fault says of the octets.
--- In: a fault and a part of the grammar. Out: what the fault means there. Not here: limits of filters.
+-- What a fault says of the octets.
 use Rattle.ldap_fields.specs.declared.fault.MsgFault.{MsgFault}
 use Rattle.ldap_fields.specs.declared.fault.MsgFault.TheVariants.{TooLarge, NotAMessage, TooDeep, TooManyItems, NoMemory}
 

@@ -1,5 +1,4 @@
--- Wire, between elements and messages: fields at the front of octets.
--- In: lists of octets. Out: a field's value, and the octets after it. Not here: reading from the left.
+-- Fields at the front of octets.
 use Rattle.std.specs.Prelude.{◌≡◌, ◌≢◌, ℕ, ◌<◌, List, [], ◌∷◌, ◌++◌, Bool, false, ◌⊎◌, ℤ, pos, Option, Some, None}
 use Rattle.std.specs.Str.{IsUtf8}
 use Rattle.ldap_ber.specs.Element.{IsElement}

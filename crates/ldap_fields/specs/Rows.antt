@@ -1,5 +1,4 @@
--- Wire, between elements and messages: fields of one kind, one after the other.
--- In: lists of octets. Out: the values of a SEQUENCE OF or SET OF, and elements that are passed over. Not here: loops.
+-- Fields of one kind, one after the other.
 use Rattle.std.specs.Prelude.{◌≡◌, ◌⊎◌, ℕ, List, [], ◌∷◌, ◌++◌}
 use Rattle.ldap_fields.specs.Fields.{HasField, HasText, HasPart, BeginsOtherwise, Seq}
 

@@ -1,5 +1,4 @@
--- Wire, between elements and messages: the one spelling of a field that is written: shortest lengths, no DEFAULT, TRUE as FF (RFC 4511 5.1).
--- In: a value. Out: its octets. Not here: other spellings.
+-- The one spelling of a field that is written: shortest lengths, no DEFAULT, TRUE as FF (RFC 4511 5.1).
 use Rattle.std.specs.Prelude.{ℕ, Bool, true, false, List, [], ◌∷◌, Option, Some, None, pos}
 use Rattle.std.specs.Str.{IsUtf8}
 use Rattle.ldap_ber.specs.Element.{element_bytes}

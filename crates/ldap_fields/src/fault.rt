@@ -1,5 +1,4 @@
-//! Wire, between elements and messages: why octets are no message.
-//! In: nothing. Out: the refusals E7 to E10, and want of memory. Not here: faults of one element.
+//! Why octets are no message.
 
 ghost use Rattle.std.specs.Prelude.{◌≡◌};
 ghost use Rattle.ldap_fields.specs.declared.fault.MsgFault.TheVariants.{NoMemory};

@@ -1,6 +1,4 @@
-//! Wire, between elements and messages: readers of one field.
-//! In: octets. Out: the value of the field at the front and the octets after it, or a fault.
-//! Not here: fields that may be left out, rows.
+//! Reads one field.
 
 ghost use Rattle.std.specs.Prelude.{◌≡◌, ℕ, ℤ, ◌<◌, List, Bool, IfOk, IfErr, string_bytes, pos};
 ghost use Rattle.std.specs.Str.{IsUtf8};

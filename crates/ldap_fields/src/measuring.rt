@@ -1,6 +1,4 @@
-//! Wire, between elements and messages: how many octets a row or a number takes.
-//! In: values. Out: the length of their one spelling. Not here: the octets.
-//! A length of 2^32 stands for each that is greater.
+//! Says how many octets a row or a number takes. A length of 2^32 stands for each greater one.
 
 ghost use Rattle.std.specs.Prelude.{◌≡◌, ℕ, ◌^◌, length, map, min};
 ghost use Rattle.ldap_ber.specs.Element.{element_bytes};

@@ -1,5 +1,4 @@
-//! Wire, between elements and messages: writing numbers, flags and optional fields.
-//! In: a value. Out: its element at the end of a buffer. Not here: which fields a message has.
+//! Writes numbers, flags and optional fields.
 
 ghost use Rattle.std.specs.Prelude.{◌≡◌, ◌<◌, ◌≤◌, ◌%◌, ◌^◌, ◌++◌, length, OnErr, OnOk, IfErr, IsErrOf, string_bytes};
 ghost use Rattle.std.specs.Option.{option_map};

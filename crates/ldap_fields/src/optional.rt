@@ -1,6 +1,4 @@
-//! Wire, between elements and messages: readers of fields that may be left out.
-//! In: octets. Out: the value where the field is there, and the octets after it, or a fault.
-//! Not here: fields that must be there.
+//! Reads fields that may be left out.
 
 ghost use Rattle.std.specs.Prelude.{◌≡◌, ℕ, List, Bool, Option, IfOk, IfErr, string_bytes};
 ghost use Rattle.std.specs.Option.{option_map};

@@ -1,5 +1,4 @@
-//! Wire, between elements and messages: readers of rows, fields of one kind up to the end.
-//! In: a content. Out: its values in their order, or a fault. Not here: rows of larger parts.
+//! Reads rows: fields of one kind up to the end.
 
 ghost use Rattle.std.specs.Prelude.{ℕ, List, IfOk, IfErr, map, string_bytes};
 ghost use Rattle.ldap_fields.specs.Fields.{HasText, HasPart};

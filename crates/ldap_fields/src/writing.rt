@@ -1,5 +1,4 @@
-//! Wire, between elements and messages: the octets of rows and flags.
-//! In: values. Out: their one spelling at the end of a buffer. Not here: which fields a message has.
+//! Writes rows and flags.
 
 ghost use Rattle.std.specs.Prelude.{◌≡◌, ◌++◌, ◌^◌, ◌≤◌, ◌<◌, length, drop, Bool, OnOk, OnErr, IfErr, IfOk, IsErrOf, map, string_bytes, Err};
 ghost use Rattle.ldap_ber.specs.Element.{element_bytes};

@@ -1,4 +1,4 @@
--- Wire, filters: what a part of an item lacks, the item lacks: at each exit of a reader, behind the parts that it read.
+-- What a part of an item lacks, the item lacks: at each exit of a reader, behind the parts that it read.
 use Rattle.std.proofs.Common.{◌≡◌, ℕ, Bool, Option, List, [], ◌∷◌, ◌++◌, refl, sym, ap, subst, ◌∙◌, append_assoc}
 use Rattle.std.proofs.lemmas.List.{append-nil}
 use Rattle.ldap_fields.specs.Fields.{HasField, HasText, HasTextOrNone, HasOctetsOrNone, HasFlagOrFalse, BeginsOtherwise}

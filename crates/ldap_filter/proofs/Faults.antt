@@ -1,4 +1,4 @@
--- Wire, filters: why a filter was refused, at each exit.
+-- Why a filter was refused, at each exit.
 use Rattle.std.proofs.Common.{◌≡◌, ℕ, suc, ◌-◌, ◌<◌, List, [], ◌++◌, sym, ap, subst, ◌∙◌, ◌⊎◌, inl, arith}
 use Rattle.std.proofs.lemmas.List.{append-nil}
 use Rattle.ldap_fields.specs.ldap_ber.Element.{IsElement}

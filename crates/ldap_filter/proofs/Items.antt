@@ -1,4 +1,4 @@
--- Wire, filters: octets spell one item, and which kind its first octet tells.
+-- Octets spell one item, and which kind its first octet tells.
 use Rattle.std.proofs.Common.{◌≡◌, ℕ, Bool, Option, List, [], ◌∷◌, inl, inr, refl, sym, ap, ap₂, subst, ◌∙◌, arith}
 use Rattle.ldap_fields.proofs.Same.{Same, step, field_front, octets_unique, text_unique, text_or_none_unique, octets_or_none_unique, flag_or_false_unique, text_part, same_field}
 use Rattle.ldap_fields.proofs.Parts.{octets_part, text_or_none_part, octets_or_none_part}

@@ -1,4 +1,4 @@
--- Wire, filters: what is written for an item is in the grammar.
+-- What is written for an item is in the grammar.
 use Rattle.std.proofs.Common.{◌≡◌, ℕ, ◌<◌, ◌%◌, Option, Some, None, List, [], ◌∷◌, ◌++◌, refl, sym, subst, ◌∙◌, append_assoc, arith}
 use Rattle.std.proofs.lemmas.List.{append-nil}
 use Rattle.ldap_fields.specs.ldap_ber.Element.{element_bytes}

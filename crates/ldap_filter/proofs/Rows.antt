@@ -1,4 +1,4 @@
--- Wire, filters: a row of filters that grows, as the loop reads it.
+-- A row of filters that grows, as the loop reads it.
 use Rattle.std.proofs.Common.{◌≡◌, ℕ, ◌+◌, ◌≤◌, max, List, [], ◌∷◌, ◌++◌, map, refl, sym, ap, subst, ◌∙◌, append_assoc, arith}
 use Rattle.std.proofs.lemmas.List.{append-nil, map_push}
 use Rattle.ldap_filter.specs.Tree.{Tree, Trees, no_trees, tree, depth, depths, count, counts}

@@ -1,4 +1,4 @@
--- Wire, filters: what is written is in the grammar.
+-- What is written is in the grammar.
 use Rattle.std.proofs.Common.{ℕ, ◌<◌, List, ◌%◌, length, refl, arith}
 use Rattle.std.proofs.lemmas.List.{length-append}
 use Rattle.ldap_fields.specs.ldap_ber.Element.{length_octets, element_bytes}

@@ -1,4 +1,4 @@
--- Wire, filters: a description and an assertion, field by field, and what the limits leave of a filter.
+-- A description and an assertion, field by field, and what the limits leave of a filter.
 use Rattle.std.proofs.Common.{◌≡◌, ℕ, ◌≤◌, List, [], ◌++◌, refl, sym, ◌∙◌, arith}
 use Rattle.ldap_filter.specs.Tree.{Tree, depth, count}
 use Rattle.ldap_filter.specs.Grammar.{IsFilter}

@@ -1,4 +1,4 @@
--- Wire, filters: a spelling belongs to one filter, and none begins another.
+-- A spelling belongs to one filter, and none begins another.
 use Rattle.std.proofs.Common.{◌≡◌, ℕ, suc, ◌+◌, ◌<◌, ◌≤◌, List, [], ◌∷◌, ◌++◌, refl, sym, ap, subst, ◌∙◌, ◌⊎◌, inl, inr, append_assoc, arith}
 use Rattle.std.proofs.lemmas.List.{append-nil, append_cancel_right}
 use Rattle.ldap_fields.specs.ldap_ber.Element.{IsElement}

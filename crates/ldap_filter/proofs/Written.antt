@@ -1,4 +1,4 @@
--- Wire, filters: the octets of a row with one more filter at its end.
+-- The octets of a row with one more filter at its end.
 use Rattle.std.proofs.Common.{◌≡◌, ℕ, zero, suc, ◌+◌, ◌<◌, ◌≤◌, List, [], ◌∷◌, ◌++◌, arith, length, get_or, take, sym, ap, ◌∙◌, append_assoc}
 use Rattle.std.proofs.lemmas.List.{append-nil, take_more, length-append}
 use Rattle.ldap_filter.specs.Tree.{Tree, Trees, no_trees, tree}

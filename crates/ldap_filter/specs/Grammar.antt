@@ -1,6 +1,5 @@
--- Wire, filters: the octets that spell a filter (RFC 4511 4.5.1: Filter).
--- In: a tree and octets. Out: whether the octets spell it, and the one spelling that is written.
--- Not here: limits. A length may be spelled in several ways, so a filter has several spellings.
+-- The octets that spell a filter (RFC 4511 4.5.1: Filter). A length may be spelled in several ways, so a filter has
+-- several spellings.
 use Rattle.std.specs.Prelude.{◌≡◌, ℕ, List, [], ◌++◌}
 use Rattle.ldap_fields.specs.ldap_ber.Element.{IsElement, element_bytes}
 use Rattle.ldap_filter.specs.Tree.{Tree, conj, disj, negation, item, Trees, no_trees, tree}

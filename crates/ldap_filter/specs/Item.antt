@@ -1,5 +1,4 @@
--- Wire, filters: what an item says, without where it lies in memory.
--- In: nothing. Out: the model of an item. Not here: octets, what an item means on an entry.
+-- What an item says, without where it lies in memory.
 use Rattle.std.specs.Prelude.{List, ℕ, Bool, Option}
 
 -- Which comparison is asked for: equalityMatch, greaterOrEqual, lessOrEqual or approxMatch (RFC 4511 4.5.1.7).

@@ -1,6 +1,4 @@
--- Wire, filters: the octets that spell an item (RFC 4511 4.5.1: Filter).
--- In: an item and octets. Out: whether they are the content of its element, and the one content that is written.
--- Not here: filters round filters.
+-- The octets that spell an item (RFC 4511 4.5.1: Filter).
 use Rattle.std.specs.Prelude.{◌≡◌, ◌≢◌, ℕ, List, [], ◌∷◌, ◌++◌, Option, Some, None}
 use Rattle.std.specs.Str.{IsUtf8}
 use Rattle.ldap_fields.specs.ldap_ber.Element.{element_bytes}

@@ -1,5 +1,4 @@
--- Wire, filters: the values that the structs of items stand for.
--- In: structs in memory. Out: their values. Not here: octets, filters.
+-- The values that the structs of items stand for.
 use Rattle.std.specs.Prelude.{map, string_bytes}
 use Rattle.std.specs.Option.{option_map}
 use Rattle.ldap_filter.specs.Item.{SubstringsValue, ExtensibleValue}

@@ -1,5 +1,4 @@
--- Wire, filters: what reading finds within the limits, and which limit it meets.
--- In: octets and limits. Out: what is found, and what each fault means. Not here: the limits' sizes.
+-- What reading finds within the limits, and which limit it meets.
 use Rattle.std.specs.Prelude.{◌≡◌, ℕ, suc, ◌+◌, ◌≤◌, ◌⊎◌, List, ◌++◌}
 use Rattle.ldap_fields.specs.declared.fault.MsgFault.{MsgFault}
 use Rattle.ldap_fields.specs.declared.fault.MsgFault.TheVariants.{TooLarge, NotAMessage, TooDeep, TooManyItems, NoMemory}

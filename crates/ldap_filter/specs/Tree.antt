@@ -1,5 +1,4 @@
--- Wire, filters: a filter without where it lies in memory, its depth and its count of items.
--- In: nothing. Out: the model of a filter. Not here: octets, values.
+-- A filter without where it lies in memory, its depth and its count of items.
 use Rattle.std.specs.Prelude.{ℕ, suc, ◌+◌, max}
 use Rattle.ldap_filter.specs.Item.{Item}
 

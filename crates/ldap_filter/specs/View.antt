@@ -1,5 +1,4 @@
--- Wire, filters: the tree that a `Filter` stands for.
--- In: a filter in memory. Out: its tree. Not here: octets.
+-- The tree that a `Filter` stands for.
 use Rattle.std.specs.Prelude.{List, [], ◌∷◌}
 use Rattle.std.specs.String.{string_bytes}
 use Rattle.ldap_filter.specs.Item.{equal, at_least, at_most, approximate, comparison, substrings, presence, extensible}

@@ -1,5 +1,4 @@
-//! Wire, filters: a copy.
-//! In: a filter. Out: an equal one. Not here: octets.
+//! Copies filters.
 
 ghost use Rattle.std.specs.Prelude.{◌≡◌, IfOk};
 ghost use Rattle.ldap_filter.specs.View.{view};

@@ -1,5 +1,4 @@
-//! Wire, filters: copies of what items hold.
-//! In: a part of an item. Out: an equal one. Not here: filters.
+//! Copies what items hold.
 
 ghost use Rattle.std.specs.Prelude.{◌≡◌, IfOk, map, string_bytes};
 ghost use Rattle.std.specs.Option.{option_map};

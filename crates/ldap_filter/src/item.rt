@@ -1,5 +1,4 @@
-//! Wire, filters: what items of several fields say.
-//! In: nothing. Out: the types. Not here: octets, values.
+//! What items of several fields say.
 
 /// SubstringFilter (RFC 4511 4.5.1.7.2): a value of the described attribute has these parts in order. What is read has a part
 /// at least.

@@ -1,10 +1,10 @@
 //! Reads and writes search filters as octets.
 //!
-//! The recursive `Filter`, and its octets. Contracts see its tree without memory (`Tree`). An item's content and grammar are apart from the
-//! filters round it (`Item`, `ItemGrammar`). "Too deep, whatever follows" is the inductive `Opens`.
+//! `Filter` is recursive; contracts see its tree without memory (`Tree`). An item's content and grammar are apart from
+//! the filters round it (`Item`, `ItemGrammar`). "Too deep, whatever follows" is the inductive `Opens`.
 //!
-//! Proved: a filter of any choice of RFC 4511, within 128 levels and 512 items, is read exactly where there is one, and written in its one
-//! form. A refusal has its cause (`read_filter`, `write_filter`, `one_filter`, `is_spelling`).
+//! Proved: a filter of any choice of RFC 4511, within 128 levels and 512 items, is read exactly where there is one, and
+//! written in its one form. A refusal has its cause (`read_filter`, `write_filter`, `one_filter`, `is_spelling`).
 #![tactic(auto)]
 
 mod copying;

@@ -1,5 +1,4 @@
-//! Wire, filters: reading the parts of a substrings item.
-//! In: the content of their element. Out: the parts, or a fault. Not here: the description before them.
+//! Reads the parts of a substrings item.
 
 ghost use Rattle.std.specs.Prelude.{ℕ, List, IfOk, IfErr, map};
 ghost use Rattle.std.specs.Option.{option_map};

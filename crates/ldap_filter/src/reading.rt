@@ -1,6 +1,4 @@
-//! Wire, filters: reading, within the limits of depth and count.
-//! In: octets. Out: the filter at the front and the octets after it, or a fault.
-//! Not here: writing, other fields of a search.
+//! Reads filters, within the limits of depth and count.
 
 ghost use Rattle.std.specs.Prelude.{◌≡◌, ℕ, ◌≤◌, ◌++◌, List, IfOk, IfErr, MatchResult};
 ghost use Rattle.std.specs.Bool.{OnTrue, OnFalse};

@@ -1,5 +1,4 @@
-//! Wire, filters: reading an item.
-//! In: the first octet and the content of an element. Out: the item that it spells, or a fault. Not here: filters round filters.
+//! Reads an item.
 
 ghost use Rattle.std.specs.Prelude.{◌≡◌, ℕ, List, IfOk, IfErr, string_bytes};
 ghost use Rattle.ldap_fields.specs.Faults.{IsPlainFault};

@@ -1,5 +1,4 @@
-//! Wire, filters: the type.
-//! In: nothing. Out: the type. Not here: octets, values.
+//! The type of filters.
 
 use crate::item::{MatchingRuleAssertion, SubstringFilter};
 

@@ -1,5 +1,4 @@
-//! Wire, filters: the one spelling that is written.
-//! In: a filter. Out: its octets at the end of a buffer, all or none. Not here: limits.
+//! Writes a filter's one spelling.
 
 ghost use Rattle.std.specs.Prelude.{◌≡◌, ◌<◌, ◌≤◌, ◌^◌, ◌++◌, length, OnOk, OnErr, IsErrOf};
 ghost use Rattle.ldap_filter.specs.Tree.{Tree};

@@ -1,5 +1,4 @@
-//! Wire, filters: the one spelling of an item that is written.
-//! In: an item. Out: its element at the end of a buffer. Not here: filters round filters.
+//! Writes an item's one spelling.
 
 ghost use Rattle.std.specs.Prelude.{◌≡◌, ◌<◌, ◌≤◌, ◌^◌, ◌%◌, ◌++◌, length, map, OnOk, OnErr, IsErrOf, string_bytes};
 ghost use Rattle.ldap_fields.specs.ldap_ber.Element.{element_bytes};

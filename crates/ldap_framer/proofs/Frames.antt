@@ -1,4 +1,4 @@
--- Wire, streams: what a header says of the octets behind it, and how a stream goes on.
+-- What a header says of the octets behind it, and how a stream goes on.
 use Rattle.std.proofs.Common.{◌≡◌, ℕ, ◌+◌, ◌-◌, ◌%◌, ◌≤◌, List, [], ◌∷◌, ◌++◌, length, take, drop, map, refl, sym, ap, subst, ◌∙◌, inl, inr, append_assoc, arith}
 use Rattle.std.proofs.lemmas.List.{append-nil, drop_at, length-append, length-take-le, map_push, take-append-drop}
 use Rattle.std.proofs.Math.Seq.{take-append-add}

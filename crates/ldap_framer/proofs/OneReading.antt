@@ -1,4 +1,4 @@
--- Wire, streams: a stream has one reading: its messages are these and no others, and it is awaited or stopped, not both.
+-- A stream has one reading: its messages are these and no others, and it is awaited or stopped, not both.
 use Rattle.std.proofs.Common.{◌≡◌, ℕ, ◌+◌, ◌-◌, ◌≤◌, List, [], ◌∷◌, ◌++◌, length, Result, Ok, refl, sym, ap, ap₂, subst, ◌∙◌, inl, inr, append_assoc, arith}
 use Rattle.std.specs.Prelude.{replicate}
 use Rattle.std.proofs.lemmas.List.{append-nil, append_cancel_left, append_cancel_right, length-append, length-replicate}

@@ -1,4 +1,4 @@
--- Wire, streams: what a framer has seen, with one more piece, and with one message handed out.
+-- What a framer has seen, with one more piece, and with one message handed out.
 use Rattle.std.proofs.Common.{◌≡◌, ℕ, List, [], ◌∷◌, ◌++◌, Option, Some, None, Result, Ok, Err, refl, sym, ap, subst, ◌∙◌, ◌⊎◌, inl, inr, append_assoc}
 use Rattle.std.specs.Prelude.{OnOk, IfErr}
 use Rattle.ldap_msg.specs.ldap_fields.declared.fault.MsgFault.{MsgFault}

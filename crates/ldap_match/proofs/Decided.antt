@@ -1,4 +1,4 @@
--- The test for parts against the statement that they stand in order. Facts on lists flow in and out.
+-- The test for parts against the statement that they stand in order.
 use Rattle.std.proofs.Common.{ℕ, ◌-◌, List, [], ◌∷◌, ◌++◌, Bool, true, false, ◌&&◌, ◌||◌, Option, ◌≡◌, ◌↔◌, refl, ap, ap₂, sym, ◌∙◌, length, take, drop, append_assoc, length-append, take-append-drop, arith}
 use Rattle.std.proofs.Math.Seq.{drop-append_seam, take-append_seam}
 use Rattle.std.specs.Bool.{Decides}

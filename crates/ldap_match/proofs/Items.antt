@@ -1,4 +1,4 @@
--- Tests on keys against items on values. Facts on lists flow in and out; the values of a program are not here.
+-- Tests on keys against items on values.
 use Rattle.std.proofs.Common.{ℕ, ℤ, ◌<ℤ◌, ◌≤ℤ◌, T, List, [], ◌∷◌, Bool, true, false, cond, not, ◌||◌, Option, None, Some, is_some, ◌≡◌, ◌↔◌, refl, ap, ap₂, sym, subst, ◌∙◌, map, encode_utf8_all, slice_get, arith}
 use Rattle.std.specs.Option.{option_and_then}
 use Rattle.std.specs.Bool.{Decides}

@@ -1,4 +1,4 @@
--- Keys of parts, one by one, as the loop makes them. Facts on lists flow in and out.
+-- Keys of parts, one by one, as the loop makes them.
 use Rattle.std.proofs.Common.{ℕ, ◌+◌, ◌<◌, zero, suc, add-one, List, [], ◌∷◌, ◌++◌, Option, None, Some, ◌≡◌, refl, ap, ap₂, sym, ◌∙◌, map, length, drop, get_or, arith}
 use Rattle.std.proofs.lemmas.List.{append-nil}
 use Rattle.ldap_match.specs.Item.{each_by}

@@ -1,4 +1,4 @@
--- Names as values: equal meanings, equal keys. Facts on lists flow in and out; texts are not here.
+-- Names as values: equal meanings, equal keys.
 use Rattle.std.proofs.Common.{ℕ, List, [], ◌∷◌, Bool, true, false, nat_eq, IsUtf8, Option, None, Some, is_some, option_map, ◌≡◌, ◌↔◌, refl, ap, ap₂, sym, ◌∙◌, map}
 use Rattle.std.specs.Bool.{Decides}
 use Rattle.std.specs.Cmp.Lexicographic.{pointwise}

@@ -1,4 +1,4 @@
--- Rules that are of another family than names. Facts on values flow in and out; names are not here.
+-- Rules that are of another family than names.
 use Rattle.std.proofs.Common.{ℕ, List, true, Option, None, Some, is_some, Result, Ok, Err, OnOk, ◌≡◌, refl}
 use Rattle.ldap_dn.specs.ldap_syntax.Meaning.{Meaning}
 use Rattle.ldap_dn.specs.ldap_words.declared.rule.Family.{Family}

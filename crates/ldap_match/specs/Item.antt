@@ -1,5 +1,4 @@
--- An item on one attribute: RFC 4511 4.5.1.7. An item, a type and values flow in, a truth flows out; keys and entries
--- are not here.
+-- An item on one attribute: RFC 4511 4.5.1.7.
 use Rattle.std.specs.Prelude.{ℕ, List, [], ◌∷◌, Bool, true, false, not, cond, ◌&&◌, ◌||◌, nat_eq, Option, None, Some, is_some, slice_get}
 use Rattle.std.specs.Int.Signed.{lt_z}
 use Rattle.std.specs.Cmp.Lexicographic.{pointwise}

@@ -1,5 +1,4 @@
--- What a value means where a schema is known, names too: RFC 4517 3.3.9, 3.3.26, 4.2. Values flow in, meanings flow
--- out; entries and filters are not here.
+-- What a value means where a schema is known, names too: RFC 4517 3.3.9, 3.3.26, 4.2.
 use Rattle.std.specs.Prelude.{ℕ, List, map, cond, Option, None, option_map}
 use Rattle.std.specs.Str.{is_utf8}
 use Rattle.ldap_dn.specs.ldap_syntax.Meaning.{Meaning, name}

@@ -1,4 +1,4 @@
--- Values that are names, compared: RFC 4517 4.2.15. Names flow in, a statement flows out; texts are not here.
+-- Values that are names, compared: RFC 4517 4.2.15.
 use Rattle.std.specs.Prelude.{List, true, ◌≡◌, ◌↔◌}
 use Rattle.ldap_dn.specs.Names.{RdnModel, IsSameName}
 use Rattle.ldap_match.specs.Meaning.{name_meaning}

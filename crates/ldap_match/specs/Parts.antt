@@ -1,5 +1,4 @@
--- Whether parts stand in a text: RFC 4517 4.2.6 and its kin, as a test. Texts flow in, a yes or no flows out; how parts are
--- prepared is not here.
+-- Whether parts stand in a text: RFC 4517 4.2.6 and its kin, as a test.
 use Rattle.std.specs.Prelude.{ℕ, ◌-◌, List, [], ◌∷◌, Bool, true, ◌&&◌, Option, length, take, drop}
 use Rattle.std.specs.List.{list_any}
 use Rattle.std.specs.Str.{bytes_eq}

@@ -1,4 +1,4 @@
--- Three-valued truth: RFC 4511 4.5.1.7. Truths flow in and out; filters and entries are not here.
+-- Three-valued truth: RFC 4511 4.5.1.7.
 use Rattle.std.specs.Prelude.{Bool, true, false, List, [], ◌∷◌, ◌≡◌}
 use Rattle.ldap_match.specs.declared.truth.Truth.{Truth}
 use Rattle.ldap_match.specs.declared.truth.Truth.TheVariants.{True, False, Undefined}

@@ -1,5 +1,4 @@
-// Keys where a schema is known, of names too. A schema, a rule and a value flow in; the value's key, or the fault
-// that it is not in the syntax, flows out. What must not be here: attributes, entries.
+//! Makes the keys of values, names too, where a schema is known.
 
 ghost use Rattle.std.specs.Prelude.{◌≡◌, ◌≢◌, true, IfOk, OnOk, IsErrOf, None, Some, is_some};
 ghost use Rattle.ldap_dn.specs.ldap_words.declared.rule.Family.TheVariants as family_of;

@@ -1,12 +1,11 @@
-//! Says by a schema whether a value meets an assertion, as a three-valued truth, and makes the keys of values. Whole entries and whole filters
-//! are not here.
+//! Says by a schema whether a value meets an assertion, as a three-valued truth, and makes the keys of values.
 //!
-//! The key of any value (`keying`), names too (`naming`), and the truth of an item on one attribute. `parts` and `testing` make an assertion's
-//! keys once and test values by them; `Truth` is three-valued.
+//! The key of any value (`keying`), names too (`naming`), and the truth of an item on one attribute. `parts` and
+//! `testing` make an assertion's keys once and test values by them; `Truth` is three-valued.
 //!
 //! Proved: truth has its laws (`laws`). Values that are names have equal keys exactly where they are one name (`key`,
-//! `equal_values_are_one_name`). An item (presence, equality, `>=`, `<=`, substrings) is its definition (`item_on_attribute`,
-//! `tests_are_items`).
+//! `equal_values_are_one_name`). An item (presence, equality, `>=`, `<=`, substrings) is its definition
+//! (`item_on_attribute`, `tests_are_items`).
 #![tactic(auto)]
 
 mod keying;

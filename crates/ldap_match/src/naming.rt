@@ -1,5 +1,4 @@
-// Values that are names (RFC 4517 3.3.9). A schema and a value flow in; the name that it spells, or the fault that it
-// spells none, flows out. What must not be here: rules, attributes, entries.
+//! Values that are names (RFC 4517 3.3.9).
 
 ghost use Rattle.std.specs.Prelude.{◌≡◌, None, Some, IfOk, IsErrOf, is_some, option_map};
 ghost use Rattle.ldap_match.specs.Meaning.{name_of as name_of_value};

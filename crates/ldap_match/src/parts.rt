@@ -1,5 +1,4 @@
-// The parts of a substrings assertion. A rule and parts flow in, their keys flow out; then keys of values flow in, a yes or
-// no flows out. What must not be here: attributes, entries.
+//! Prepares the parts of a substrings assertion, and looks for them in keys.
 
 ghost use Rattle.std.specs.Prelude.{◌≡◌, ℕ, List, None, Some, IfOk, IsErrOf, map};
 ghost use Rattle.std.specs.Option.{option_copied, option_map};

@@ -1,5 +1,4 @@
-// The ORDERING and SUBSTR rules of a type. A schema and a type flow in, a rule flows out.
-// What must not be here: values, keys.
+//! Finds the ORDERING and SUBSTR rules of a type.
 
 ghost use Rattle.std.specs.Prelude.{◌≡◌};
 ghost use Rattle.ldap_match.specs.Item.{ordering_of, substrings_of};

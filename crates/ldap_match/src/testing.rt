@@ -1,5 +1,4 @@
-// Items made into tests, and tests on an attribute's keys. A schema and an assertion flow in once; then tests and keys
-// flow in, truths flow out, and no memory is taken. What must not be here: entries, filters.
+//! Makes items into tests, and tests an attribute's keys.
 
 ghost use Rattle.std.specs.Prelude.{◌≡◌, ℕ, List, IfOk, map};
 ghost use Rattle.std.specs.Option.{option_map};

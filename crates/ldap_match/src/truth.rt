@@ -1,5 +1,4 @@
-// Three-valued truth. Truths flow in and out.
-// What must not be here: what makes an item true.
+//! Three-valued truth.
 
 ghost use Rattle.std.specs.Prelude.{◌≡◌};
 ghost use Rattle.ldap_match.specs.Truth.{truth_and, truth_or, truth_not, IsCommutative, IsAssociative};

@@ -1,4 +1,4 @@
--- Wire, messages: the first octet of an operation says which operation it is.
+-- The first octet of an operation says which operation it is.
 use Rattle.std.proofs.Common.{◌≡◌, ℕ, Bool, true, false, eqb, List, refl, sym, ap, subst, ◌∙◌}
 use Rattle.std.specs.Prelude.{◌||◌, ℤ}
 use Rattle.ldap_updates.specs.ldap_parts.Values.{LdapResultValue}

@@ -1,4 +1,4 @@
--- Wire, messages: what is written behind a head, piece by piece, is the message.
+-- What is written behind a head, piece by piece, is the message.
 use Rattle.std.proofs.Common.{◌≡◌, ℕ, ◌+◌, ◌<◌, ◌≤◌, List, [], ◌∷◌, ◌++◌, length, min, ap, ◌∙◌, ◌⊎◌, inl, inr, append_assoc, arith}
 use Rattle.std.proofs.lemmas.List.{length-append}
 use Rattle.ldap_requests.specs.ldap_ber.Element.{length_octets, element_bytes}

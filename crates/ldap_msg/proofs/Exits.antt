@@ -1,4 +1,4 @@
--- Wire, messages: what a part lacks, the message lacks: at each exit of a reader, behind the parts that it read.
+-- What a part lacks, the message lacks: at each exit of a reader, behind the parts that it read.
 use Rattle.std.proofs.Common.{◌≡◌, ◌^◌, ℕ, List, [], sym, subst}
 use Rattle.ldap_requests.specs.ldap_fields.declared.fault.MsgFault.{MsgFault}
 use Rattle.ldap_requests.specs.ldap_fields.declared.fault.MsgFault.TheVariants.{TooLarge, NotAMessage, TooDeep, TooManyItems, NoMemory}

@@ -1,4 +1,4 @@
--- Wire, messages: each part of a message has one value at the front of octets, and one rest.
+-- Each part of a message has one value at the front of octets, and one rest.
 use Rattle.std.proofs.Common.{◌≡◌, ◌^◌, ℕ, List, ◌++◌, sym, ap, subst, ◌∙◌}
 use Rattle.std.proofs.lemmas.List.{append-nil, append_cancel_right}
 use Rattle.ldap_requests.specs.ldap_fields.Fields.{HasPart}

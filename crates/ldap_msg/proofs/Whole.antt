@@ -1,4 +1,4 @@
--- Wire, messages: a message within the limits is read: what stands open at a filter's place is in the filter of the message.
+-- A message within the limits is read: what stands open at a filter's place is in the filter of the message.
 use Rattle.std.proofs.Common.{◌≡◌, ◌^◌, ◌<◌, ◌≤◌, ℕ, List, [], length, Result, Ok, Err, refl, sym, subst, arith}
 use Rattle.std.specs.Prelude.{MatchResult, IfOk, IfErr}
 use Rattle.ldap_requests.specs.ldap_fields.declared.fault.MsgFault.{MsgFault}

@@ -1,5 +1,4 @@
--- Wire, messages: the octets that spell a message (RFC 4511 4 and Appendix B; X.690 as RFC 4511 5.1 narrows it).
--- In: a value and octets. Out: whether the octets spell it. Not here: the parts of each operation, limits, the one spelling that is written.
+-- The octets that spell a message (RFC 4511 4 and Appendix B; X.690 as RFC 4511 5.1 narrows it).
 use Rattle.std.specs.Prelude.{◌^◌, ◌≤◌, ℕ, List, []}
 use Rattle.ldap_requests.specs.ldap_fields.Fields.{Seq, HasNumber, HasPart}
 use Rattle.ldap_updates.specs.ldap_parts.Grammar.{IsLdapResult, AreControls}

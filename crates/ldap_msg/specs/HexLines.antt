@@ -1,5 +1,4 @@
--- Wire, messages: lines of hex.
--- In: octets, or messages. Out: their lines. Not here: what lines spell.
+-- Lines of hex.
 use Rattle.std.specs.Prelude.{ℕ, List, [], ◌∷◌, ◌++◌}
 use Rattle.hex.specs.Hex.{encode_lower}
 use Rattle.ldap_msg.specs.Messages.{MessageValue}

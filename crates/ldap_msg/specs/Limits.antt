@@ -1,5 +1,4 @@
--- Wire, messages: where a filter stands in a message, and what each fault says of the octets.
--- In: octets. Out: what a fault means, and which values are within the limits. Not here: the grammar.
+-- Where a filter stands in a message, and what each fault says of the octets.
 use Rattle.std.specs.Prelude.{◌^◌, ◌<◌, ◌≤◌, ◌⊎◌, ℕ, List, [], ◌∷◌, length}
 use Rattle.ldap_requests.specs.ldap_fields.declared.fault.MsgFault.{MsgFault}
 use Rattle.ldap_requests.specs.ldap_fields.declared.fault.MsgFault.TheVariants.{TooLarge, NotAMessage, TooDeep, TooManyItems, NoMemory}

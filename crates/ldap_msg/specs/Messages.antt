@@ -1,5 +1,4 @@
--- Wire, messages: a message without where it lies in memory (RFC 4511 4); a text is its octets.
--- In: nothing. Out: the model of a message. Not here: octets of the wire.
+-- A message without where it lies in memory (RFC 4511 4); a text is its octets.
 use Rattle.std.specs.Prelude.{ℕ, ℤ, List}
 pub use Rattle.ldap_updates.specs.ldap_parts.Values.{PartialAttributeValue, LdapResultValue, ControlValue}
 pub use Rattle.ldap_requests.specs.Values.{BindRequestValue, SearchRequestValue, CompareRequestValue, ExtendedRequestValue}

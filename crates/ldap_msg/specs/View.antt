@@ -1,5 +1,4 @@
--- Wire, messages: the value that a message in memory stands for.
--- In: a message in memory. Out: its value. Not here: octets of the wire.
+-- The value that a message in memory stands for.
 use Rattle.std.specs.Prelude.{map, string_bytes}
 pub use Rattle.ldap_updates.specs.ldap_parts.View.{attribute_view, result_view, control_view}
 pub use Rattle.ldap_requests.specs.View.{bind_view, search_view, compare_view, extended_request_view}

@@ -1,5 +1,4 @@
--- Wire, messages: the one spelling of a message that is written: shortest lengths, no DEFAULT, TRUE as FF (RFC 4511 5.1).
--- In: a value. Out: its octets. Not here: the parts of each operation, other spellings.
+-- The one spelling of a message that is written: shortest lengths, no DEFAULT, TRUE as FF (RFC 4511 5.1).
 use Rattle.std.specs.Prelude.{◌^◌, ◌<◌, ℕ, List, [], ◌++◌}
 use Rattle.std.specs.Str.{IsUtf8}
 use Rattle.std.specs.List.{AllByRecursion}

@@ -1,5 +1,4 @@
-//! Wire, messages: reading a whole message.
-//! In: its octets. Out: the message, or a fault. Not here: streams, the parts of each operation.
+//! Reads a whole message.
 
 ghost use Rattle.std.specs.Prelude.{◌≡◌, ◌≤◌, ◌++◌, ℕ, List, length, map, IfOk, IfErr, OnOk, MatchResult};
 ghost use Rattle.std.specs.Bool.{OnTrue, OnFalse};

@@ -1,6 +1,4 @@
-//! Wire, messages: which request an operation is.
-//! In: the first octet and the content of an operation. Out: the request, or a fault.
-//! Not here: the parts of each request, responses.
+//! Reads a request by its first octet.
 
 ghost use Rattle.std.specs.Prelude.{◌≡◌, IfOk, IfErr};
 ghost use Rattle.std.specs.Bool.{OnTrue, OnFalse};

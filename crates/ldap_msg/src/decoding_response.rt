@@ -1,6 +1,4 @@
-//! Wire, messages: which response an operation is.
-//! In: the first octet and the content of an operation. Out: the response, or a fault.
-//! Not here: the parts of each response, requests.
+//! Reads a response by its first octet.
 
 ghost use Rattle.std.specs.Prelude.{◌≡◌, IfOk, IfErr};
 ghost use Rattle.ldap_requests.specs.ldap_fields.Faults.{IsPlainFault};

@@ -1,5 +1,4 @@
-//! Wire, messages: the one spelling of a message that is written, each octet of an entry once.
-//! In: a message. Out: its octets, or an error. Not here: the parts of each operation.
+//! Writes a message's one spelling, each octet of an entry once.
 
 ghost use Rattle.std.specs.Prelude.{◌≡◌, ◌%◌, ◌^◌, ◌<◌, ◌≤◌, ◌++◌, ◌∷◌, ◌⊎◌, [], ℕ, List, drop, length, map, min, IfOk, IfErr, IsErrOf, OnOk, OnErr};
 ghost use Rattle.ldap_requests.specs.ldap_ber.Element.{length_octets, element_bytes};

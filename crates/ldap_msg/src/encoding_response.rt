@@ -1,5 +1,4 @@
-//! Wire, messages: the content of a response.
-//! In: a response. Out: its first octet, and its one content. Not here: the envelope.
+//! Writes the content of a response.
 
 ghost use Rattle.std.specs.Prelude.{◌≡◌, ◌%◌, ◌^◌, ◌<◌, ◌≤◌, length, IfOk, IsErrOf};
 ghost use Rattle.ldap_msg.specs.View.{response_view};

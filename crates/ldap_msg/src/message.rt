@@ -1,5 +1,4 @@
-//! Wire, messages: the envelope and its operations.
-//! In: nothing. Out: the types. Not here: octets, the parts of each operation.
+//! The envelope and its operations.
 
 use ldap_requests::{BindRequest, CompareRequest, ExtendedRequest, SearchRequest};
 use ldap_responses::{ExtendedResponse, SearchResultEntry};

@@ -1,5 +1,4 @@
--- Wire, updates by themselves: what an update is that lies in memory so.
--- In: what is held. Out: its value. Not here: who else has it.
+-- What an update is that lies in memory so.
 use Rattle.ldap_op.specs.Values.{OpValue}
 use Rattle.ldap_op.specs.declared.held.Held.{Held}
 use Rattle.ldap_op.specs.declared.held.Held.TheVariants.{Written, Loose}

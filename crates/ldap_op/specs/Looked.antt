@@ -1,5 +1,4 @@
--- Wire, updates by themselves: the value of an update that is looked at.
--- In: an update that is looked at. Out: its value. Not here: octets.
+-- The value of an update that is looked at.
 use Rattle.ldap_op.specs.Values.{OpValue}
 use Rattle.ldap_op.specs.View.{update_view}
 use Rattle.ldap_op.specs.declared.looked.Looked.{Looked}

@@ -1,5 +1,4 @@
-//! Wire, updates by themselves: how an update lies in memory.
-//! In: an update. Out: its octets, if it is read from them, or itself. Not here: who else has it, how octets are read.
+//! How an update lies in memory.
 
 ghost use Rattle.std.specs.Prelude.{◌≡◌};
 ghost use Rattle.std.specs.Borrow.{ftrue};

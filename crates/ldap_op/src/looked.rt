@@ -1,5 +1,4 @@
-//! Wire, updates by themselves: an update that is looked at.
-//! In: an update that was read, or one that is there. Out: the update. Not here: octets.
+//! An update that is looked at.
 
 ghost use Rattle.std.specs.Prelude.{◌≡◌};
 ghost use Rattle.ldap_op.specs.View.{update_view};

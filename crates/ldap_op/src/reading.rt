@@ -1,5 +1,4 @@
-//! Wire, updates by themselves: reading an update.
-//! In: the octets of its operation, or none. Out: the update, or a fault. Not here: messages.
+//! Reads an update.
 
 ghost use Rattle.std.specs.Prelude.{◌≡◌, IfOk, IfErr, MatchResult};
 ghost use Rattle.ldap_updates.specs.ldap_fields.Faults.{IsPlainFault};

@@ -1,5 +1,4 @@
-//! Wire, updates by themselves: octets of an update that are read as the same update again. An update in memory may be one that no octets spell.
-//! In: an update. Out: its octets, if they are read as it. Not here: who keeps them.
+//! Finds octets that are read as the same update again. An update in memory may be one that no octets spell.
 ghost use Rattle.std.specs.Prelude.{◌≡◌, ◌^◌, ◌<◌, IsTrue, IsFalse, IsNone, length, map, IfOk, IfSome};
 ghost use Rattle.std.specs.Str.{IsUtf8};
 ghost use Rattle.std.specs.List.{AllByRecursion};

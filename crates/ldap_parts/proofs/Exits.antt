@@ -1,4 +1,4 @@
--- Wire, parts of messages: what a part lacks, the whole lacks: at each exit of a reader, behind the parts that it read.
+-- What a part lacks, the whole lacks: at each exit of a reader, behind the parts that it read.
 use Rattle.std.proofs.Common.{◌^◌, ℕ, Bool, Option, List}
 use Rattle.ldap_fields.specs.Fields.{HasField, HasText, HasNumber, HasPart, BeginsOtherwise, HasFlagOrFalse, HasOctetsOrNone}
 use Rattle.ldap_fields.specs.Rows.{AreRow, AreValues, AreElements, HasRowOrNone}

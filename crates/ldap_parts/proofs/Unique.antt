@@ -1,4 +1,4 @@
--- Wire, parts of messages: each part has one value at the front of octets, and one rest.
+-- Each part has one value at the front of octets, and one rest.
 use Rattle.std.proofs.Common.{◌≡◌, ◌^◌, ℕ, Bool, Option, List, ap, ap₂, ◌∙◌}
 use Rattle.ldap_fields.specs.Fields.{HasPart}
 use Rattle.ldap_fields.specs.Rows.{AreRow, HasRowOrNone}

@@ -1,6 +1,5 @@
--- Wire, parts of messages: the octets that spell what several operations share (RFC 4511 4.1).
--- In: a value and octets. Out: whether the octets spell it. Not here: operations, the one spelling that is written.
--- Each part is a relation of a value, the octets where it begins, and the octets that follow it.
+-- The octets that spell what several operations share (RFC 4511 4.1). Each part is a relation of a value, the octets
+-- where it begins, and the octets that follow it.
 use Rattle.std.specs.Prelude.{◌^◌, ℕ, List}
 use Rattle.ldap_fields.specs.Fields.{Seq, HasText, HasNumber, HasPart, HasFlagOrFalse, HasOctetsOrNone}
 use Rattle.ldap_fields.specs.Rows.{AreValues, AreElements, HasRowOrNone}

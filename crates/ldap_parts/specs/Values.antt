@@ -1,5 +1,4 @@
--- Wire, parts of messages: a result, an attribute, a control without where it lies in memory (RFC 4511 4.1); a text is its octets.
--- In: nothing. Out: the models. Not here: octets of the wire.
+-- A result, an attribute, a control without where it lies in memory (RFC 4511 4.1); a text is its octets.
 use Rattle.std.specs.Prelude.{ℕ, List, Bool, Option}
 
 -- PartialAttribute (RFC 4511 4.1.7)

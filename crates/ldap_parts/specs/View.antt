@@ -1,5 +1,4 @@
--- Wire, parts of messages: the value that a part in memory stands for.
--- In: a part in memory. Out: its value. Not here: octets of the wire.
+-- The value that a part in memory stands for.
 use Rattle.std.specs.Prelude.{map, string_bytes}
 use Rattle.std.specs.Option.{option_map}
 use Rattle.ldap_parts.specs.Values.{PartialAttributeValue, LdapResultValue, ControlValue}

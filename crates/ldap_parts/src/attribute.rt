@@ -1,5 +1,4 @@
-//! Wire, parts of messages: a description and its values.
-//! In: nothing. Out: the types, and how values that somebody keeps are written. Not here: attributes of a directory's entries.
+//! An attribute: a description and its values.
 ghost use Rattle.std.specs.Prelude.{◌≡◌, ◌^◌, ◌≤◌, ◌++◌, drop, length, min, OnOk, IsErrOf};
 ghost use Rattle.ldap_fields.specs.ldap_ber.Element.{element_bytes};
 ghost use Rattle.ldap_fields.specs.Rows.{row_bytes};

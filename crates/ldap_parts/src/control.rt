@@ -1,5 +1,4 @@
-//! Wire, parts of messages: a control.
-//! In: nothing. Out: the type. Not here: octets, what a control asks for.
+//! A control.
 
 /// Control (RFC 4511 4.1.11).
 #[derive(Debug)]

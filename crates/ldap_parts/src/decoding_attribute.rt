@@ -1,5 +1,4 @@
-//! Wire, parts of messages: reading attributes.
-//! In: octets. Out: attributes and the octets after them, or a fault. Not here: whose attributes they are.
+//! Reads attributes.
 
 ghost use Rattle.std.specs.Prelude.{ℕ, List, IfOk, IfErr, map, string_bytes};
 ghost use Rattle.ldap_fields.specs.Faults.{IsPlainFault};

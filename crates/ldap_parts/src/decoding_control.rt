@@ -1,5 +1,4 @@
-//! Wire, parts of messages: reading controls.
-//! In: the octets after an operation. Out: the controls, or a fault. Not here: what a control asks for.
+//! Reads controls.
 
 ghost use Rattle.std.specs.Prelude.{ℕ, List, IfOk, IfErr, map};
 ghost use Rattle.ldap_fields.specs.Faults.{IsPlainFault};

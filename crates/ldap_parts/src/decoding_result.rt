@@ -1,6 +1,4 @@
-//! Wire, parts of messages: reading results.
-//! In: the content of an element that begins with an LDAPResult. Out: it, or a fault.
-//! Not here: the envelope.
+//! Reads results.
 
 ghost use Rattle.std.specs.Prelude.{ℕ, List, IfOk, IfErr, string_bytes};
 ghost use Rattle.ldap_fields.specs.Faults.{IsPlainFault};

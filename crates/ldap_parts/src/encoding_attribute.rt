@@ -1,5 +1,4 @@
-//! Wire, parts of messages: writing attributes, each octet once.
-//! In: attributes. Out: their octets, or how many these are. Not here: whose attributes they are.
+//! Writes attributes, each octet once.
 
 ghost use Rattle.std.specs.Prelude.{◌≡◌, ◌^◌, ◌≤◌, ◌++◌, map, drop, length, min, IfOk, OnOk, IsErrOf};
 ghost use Rattle.ldap_fields.specs.ldap_ber.Element.{element_bytes};

@@ -1,5 +1,4 @@
-//! Wire, parts of messages: writing controls.
-//! In: controls. Out: their octets at the end of a buffer. Not here: what a control asks for.
+//! Writes controls.
 
 ghost use Rattle.std.specs.Prelude.{◌≡◌, ◌^◌, ◌≤◌, ◌++◌, map, drop, length, IfOk, OnErr, OnOk, IsErrOf};
 ghost use Rattle.ldap_fields.specs.Rows.{row_bytes};

@@ -1,5 +1,4 @@
-//! Wire, parts of messages: writing results.
-//! In: a result. Out: the content of its element. Not here: the envelope.
+//! Writes results.
 
 ghost use Rattle.std.specs.Prelude.{◌≡◌, ◌^◌, ◌≤◌, ◌++◌, map, length, string_bytes, IfOk, OnOk, IsErrOf};
 ghost use Rattle.std.specs.Option.{option_map};

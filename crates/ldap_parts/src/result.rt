@@ -1,5 +1,4 @@
-//! Wire, parts of messages: the result of an operation.
-//! In: nothing. Out: the types. Not here: octets, when each code is given.
+//! The result of an operation.
 
 ghost use Rattle.std.specs.Prelude.{◌≡◌};
 

@@ -1,4 +1,4 @@
--- Wire, requests: a bind has one value at the front of octets; what a part lacks, the bind lacks; what is written is one.
+-- A bind has one value at the front of octets; what a part lacks, the bind lacks; what is written is one.
 use Rattle.std.proofs.Common.{◌≡◌, ℕ, Option, List, [], ◌∷◌, ◌++◌, sym, ap, subst, ◌∙◌, append_assoc, arith}
 use Rattle.std.specs.Prelude.{ℤ}
 use Rattle.std.specs.Str.{IsUtf8}

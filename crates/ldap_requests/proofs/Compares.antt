@@ -1,4 +1,4 @@
--- Wire, requests: a compare has one value at the front of octets; what a part lacks, the compare lacks; what is written is one.
+-- A compare has one value at the front of octets; what a part lacks, the compare lacks; what is written is one.
 use Rattle.std.proofs.Common.{◌≡◌, ℕ, List, [], ◌++◌, ap, subst, ◌∙◌, arith}
 use Rattle.std.specs.Str.{IsUtf8}
 use Rattle.std.proofs.lemmas.List.{append-nil}

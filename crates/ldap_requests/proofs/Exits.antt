@@ -1,4 +1,4 @@
--- Wire, requests: what a part lacks, the request lacks: at each exit of a reader, behind the parts that it read.
+-- What a part lacks, the request lacks: at each exit of a reader, behind the parts that it read.
 use Rattle.std.proofs.Common.{◌≡◌, ◌^◌, ℕ, Bool, List, ◌++◌, refl, subst}
 use Rattle.ldap_filter.specs.ldap_fields.declared.fault.MsgFault.{MsgFault}
 use Rattle.ldap_filter.specs.ldap_fields.declared.fault.MsgFault.TheVariants.{TooLarge, NotAMessage, TooDeep, TooManyItems, NoMemory}

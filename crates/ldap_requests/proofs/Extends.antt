@@ -1,4 +1,4 @@
--- Wire, requests: an extended request and an abandon have one value; what a part lacks, the request lacks; what is written is one.
+-- An extended request and an abandon have one value; what a part lacks, the request lacks; what is written is one.
 use Rattle.std.proofs.Common.{◌≡◌, ℕ, Option, List, [], ◌++◌, ap, subst, ◌∙◌, arith}
 use Rattle.std.specs.Prelude.{ℤ}
 use Rattle.std.proofs.lemmas.List.{append-nil}

@@ -1,4 +1,4 @@
--- Wire, requests: what is written for values in their ranges is in the grammar.
+-- What is written for values in their ranges is in the grammar.
 use Rattle.std.proofs.Common.{◌≡◌, ◌^◌, ◌<◌, ℕ, List, [], ◌++◌, refl, sym, subst, ◌∙◌, arith}
 use Rattle.std.specs.Str.{IsUtf8}
 use Rattle.std.proofs.lemmas.List.{append-nil}

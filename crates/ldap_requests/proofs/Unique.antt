@@ -1,4 +1,4 @@
--- Wire, requests: each part has one value at the front of octets, and one rest.
+-- Each part has one value at the front of octets, and one rest.
 use Rattle.std.proofs.Common.{◌≡◌, ◌^◌, ℕ, zero, suc, Bool, List, refl, sym, ap, ◌∙◌}
 use Rattle.ldap_filter.proofs.ldap_fields.Same.{IsUnique, step, text_part, text_unique, number_unique, flag_unique}
 use Rattle.ldap_filter.proofs.ldap_fields.RowLemmas.{IsOneValue}

@@ -1,6 +1,5 @@
--- Wire, requests: the contents that spell a request (RFC 4511 4.2 to 4.12 and Appendix B).
--- In: a value and octets. Out: whether the octets spell it. Not here: limits, the one spelling that is written.
--- Each part is a relation of a value, the octets where it begins, and the octets that follow it.
+-- The contents that spell a request (RFC 4511 4.2 to 4.12 and Appendix B). Each part is a relation of a value, the
+-- octets where it begins, and the octets that follow it.
 use Rattle.std.specs.Prelude.{◌≡◌, ℤ, [], ◌^◌, ℕ, Bool, List}
 use Rattle.ldap_filter.specs.ldap_ber.Values.{IsInteger}
 use Rattle.ldap_filter.specs.ldap_fields.Fields.{HasField, Seq, HasText, HasNumber, HasInteger, HasFlag, HasPart, HasOctetsOrNone}

@@ -1,5 +1,4 @@
--- Wire, requests: where a filter stands in a search request, and what each fault says of the octets.
--- In: octets. Out: what a fault means. Not here: the grammar.
+-- Where a filter stands in a search request, and what each fault says of the octets.
 use Rattle.std.specs.Prelude.{ℕ, Bool, List}
 use Rattle.ldap_filter.specs.ldap_fields.declared.fault.MsgFault.{MsgFault}
 use Rattle.ldap_filter.specs.ldap_fields.declared.fault.MsgFault.TheVariants.{TooLarge, NotAMessage, TooDeep, TooManyItems, NoMemory}

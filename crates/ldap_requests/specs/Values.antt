@@ -1,5 +1,4 @@
--- Wire, requests: a request without where it lies in memory (RFC 4511 4.2 to 4.12); a text is its octets.
--- In: nothing. Out: the models. Not here: octets of the wire.
+-- A request without where it lies in memory (RFC 4511 4.2 to 4.12); a text is its octets.
 use Rattle.std.specs.Prelude.{ℕ, ℤ, List, Bool, Option}
 use Rattle.ldap_filter.specs.Tree.{Tree}
 use Rattle.ldap_requests.specs.declared.search.Scope.{Scope}

@@ -1,5 +1,4 @@
--- Wire, requests: the value that a request in memory stands for.
--- In: a request in memory. Out: its value. Not here: octets of the wire.
+-- The value that a request in memory stands for.
 use Rattle.std.specs.Prelude.{map, string_bytes}
 use Rattle.std.specs.Option.{option_map}
 use Rattle.ldap_filter.specs.View.{view as filter_view}

@@ -1,5 +1,4 @@
-//! Wire, requests: a bind.
-//! In: nothing. Out: the types. Not here: octets, who may bind.
+//! A bind request.
 
 /// BindRequest (RFC 4511 4.2).
 #[derive(Debug)]

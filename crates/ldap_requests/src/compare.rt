@@ -1,5 +1,4 @@
-//! Wire, requests: a compare.
-//! In: nothing. Out: the types. Not here: octets, what a compare answers.
+//! A compare request.
 
 /// CompareRequest (RFC 4511 4.10).
 #[derive(Debug)]

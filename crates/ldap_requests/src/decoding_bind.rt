@@ -1,5 +1,4 @@
-//! Wire, requests: reading a bind.
-//! In: the content of its element. Out: the bind, or a fault. Not here: the envelope.
+//! Reads a bind request.
 
 ghost use Rattle.std.specs.Prelude.{ℕ, List, IfOk, IfErr};
 ghost use Rattle.ldap_filter.specs.ldap_fields.Faults.{IsPlainFault};

@@ -1,5 +1,4 @@
-//! Wire, requests: reading a compare.
-//! In: the content of its element. Out: the compare, or a fault. Not here: the envelope.
+//! Reads a compare request.
 
 ghost use Rattle.std.specs.Prelude.{ℕ, List, IfOk, IfErr};
 ghost use Rattle.ldap_filter.specs.ldap_fields.Faults.{IsPlainFault};

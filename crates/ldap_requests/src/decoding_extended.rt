@@ -1,5 +1,4 @@
-//! Wire, requests: reading an extended request, an abandon and an unbind.
-//! In: the content of its element. Out: the request, or a fault. Not here: the envelope.
+//! Reads an extended request, an abandon and an unbind.
 
 ghost use Rattle.std.specs.Prelude.{ℤ, IfOk, IfErr};
 ghost use Rattle.ldap_filter.specs.ldap_fields.Faults.{IsPlainFault};

@@ -1,5 +1,4 @@
-//! Wire, requests: reading a search request.
-//! In: the content of its element. Out: the request, or a fault. Not here: the envelope.
+//! Reads a search request.
 
 ghost use Rattle.std.specs.Prelude.{◌≡◌, ◌<◌, ◌≤◌, ℕ, List, Bool, IfOk, IfErr, map, string_bytes};
 ghost use Rattle.ldap_filter.specs.ldap_fields.Faults.{IsPlainFault};

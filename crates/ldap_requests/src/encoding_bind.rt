@@ -1,5 +1,4 @@
-//! Wire, requests: writing a bind.
-//! In: a bind. Out: the content of its element. Not here: the envelope.
+//! Writes a bind request.
 
 ghost use Rattle.std.specs.Prelude.{◌≡◌, ◌^◌, ◌≤◌, ◌++◌, length, IfOk, OnOk, IsErrOf};
 ghost use Rattle.ldap_requests.specs.View.{sasl_view, authentication_view, bind_view};

@@ -1,5 +1,4 @@
-//! Wire, requests: writing a compare.
-//! In: a compare. Out: the content of its element. Not here: the envelope.
+//! Writes a compare request.
 
 ghost use Rattle.std.specs.Prelude.{◌≡◌, ◌^◌, ◌≤◌, length, IfOk, IsErrOf};
 ghost use Rattle.ldap_requests.specs.View.{ava_view, compare_view};

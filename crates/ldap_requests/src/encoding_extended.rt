@@ -1,5 +1,4 @@
-//! Wire, requests: writing an extended request, and an abandon.
-//! In: a request. Out: the content of its element. Not here: the envelope.
+//! Writes an extended request, and an abandon.
 
 ghost use Rattle.std.specs.Prelude.{◌≡◌, ◌^◌, ◌≤◌, length, IfOk, IfErr, IsErrOf};
 ghost use Rattle.ldap_filter.specs.ldap_ber.Values.{integer_octets};

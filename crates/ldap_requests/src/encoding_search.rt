@@ -1,5 +1,4 @@
-//! Wire, requests: writing a search request.
-//! In: a request. Out: the content of its element. Not here: the envelope.
+//! Writes a search request.
 
 ghost use Rattle.std.specs.Prelude.{◌≡◌, ◌^◌, ◌≤◌, ◌<◌, ◌++◌, length, IfOk, OnOk, OnErr, IsErrOf};
 ghost use Rattle.ldap_filter.specs.ldap_ber.Element.{element_bytes};

@@ -1,5 +1,4 @@
-//! Wire, requests: an extended request.
-//! In: nothing. Out: the type. Not here: octets, which names are known.
+//! An extended request.
 
 /// ExtendedRequest (RFC 4511 4.12).
 #[derive(Debug)]

@@ -1,5 +1,4 @@
-//! Wire, requests: a search request.
-//! In: nothing. Out: the types. Not here: octets, what a search finds.
+//! A search request.
 
 use ldap_filter::Filter;
 

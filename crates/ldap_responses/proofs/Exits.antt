@@ -1,4 +1,4 @@
--- Wire, responses: what a part lacks, the response lacks: at each exit of a reader, behind the parts that it read.
+-- What a part lacks, the response lacks: at each exit of a reader, behind the parts that it read.
 use Rattle.std.proofs.Common.{ℕ, Option, List}
 use Rattle.ldap_parts.specs.ldap_fields.Fields.{HasText, HasPart, HasTextOrNone, HasOctetsOrNone}
 use Rattle.ldap_parts.specs.ldap_fields.Rows.{AreRow, AreElements}

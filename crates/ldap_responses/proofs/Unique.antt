@@ -1,4 +1,4 @@
--- Wire, responses: each part has one value at the front of octets, and one rest.
+-- Each part has one value at the front of octets, and one rest.
 use Rattle.std.proofs.Common.{◌≡◌, ℕ, Option, List, ap, ◌∙◌}
 use Rattle.ldap_parts.proofs.ldap_fields.Same.{step, text_part, text_unique, text_or_none_unique, octets_or_none_unique}
 use Rattle.ldap_parts.proofs.ldap_fields.RowLemmas.{IsOneValue}

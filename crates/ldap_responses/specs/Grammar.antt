@@ -1,5 +1,4 @@
--- Wire, responses: the contents that spell a response (RFC 4511 4.5.2, 4.12).
--- In: a value and octets. Out: whether the octets spell it. Not here: the one spelling that is written.
+-- The contents that spell a response (RFC 4511 4.5.2, 4.12).
 use Rattle.std.specs.Prelude.{ℕ, List}
 use Rattle.ldap_parts.specs.ldap_fields.Fields.{Seq, HasText, HasPart, HasTextOrNone, HasOctetsOrNone}
 use Rattle.ldap_parts.specs.ldap_fields.Rows.{AreRow, AreElements}

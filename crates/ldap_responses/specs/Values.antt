@@ -1,5 +1,4 @@
--- Wire, responses: a response without where it lies in memory (RFC 4511 4.5.2, 4.12); a text is its octets.
--- In: nothing. Out: the models. Not here: octets of the wire.
+-- A response without where it lies in memory (RFC 4511 4.5.2, 4.12); a text is its octets.
 use Rattle.std.specs.Prelude.{ℕ, List, Option}
 use Rattle.ldap_parts.specs.Values.{PartialAttributeValue, LdapResultValue}
 

@@ -1,5 +1,4 @@
--- Wire, responses: the value that a response in memory stands for.
--- In: a response in memory. Out: its value. Not here: octets of the wire.
+-- The value that a response in memory stands for.
 use Rattle.std.specs.Prelude.{map, string_bytes}
 use Rattle.std.specs.Option.{option_map}
 use Rattle.ldap_responses.specs.Values.{SearchResultEntryValue, ExtendedResponseValue}

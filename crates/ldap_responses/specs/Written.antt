@@ -1,5 +1,4 @@
--- Wire, responses: the one content that is written (RFC 4511 5.1).
--- In: a value. Out: its octets. Not here: other spellings.
+-- The one content that is written (RFC 4511 5.1).
 use Rattle.std.specs.Prelude.{ℕ, List, ◌++◌}
 use Rattle.std.specs.Str.{IsUtf8}
 use Rattle.std.specs.List.{AllByRecursion}

@@ -1,5 +1,4 @@
-//! Wire, responses: reading an entry that a search found.
-//! In: the content of its element. Out: the entry, or a fault. Not here: the envelope.
+//! Reads an entry that a search found.
 
 ghost use Rattle.std.specs.Prelude.{IfOk, IfErr};
 ghost use Rattle.ldap_parts.specs.ldap_fields.Faults.{IsPlainFault};

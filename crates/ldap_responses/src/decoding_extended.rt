@@ -1,5 +1,4 @@
-//! Wire, responses: reading an extended response.
-//! In: the content of its element. Out: the response, or a fault. Not here: the envelope.
+//! Reads an extended response.
 
 ghost use Rattle.std.specs.Prelude.{IfOk, IfErr};
 ghost use Rattle.ldap_parts.specs.ldap_fields.Faults.{IsPlainFault};

@@ -1,5 +1,4 @@
-//! Wire, responses: writing an entry that a search found, each octet once.
-//! In: an entry, or its name and its attributes. Out: the content of its element, or how long this is. Not here: the envelope.
+//! Writes an entry that a search found, each octet once.
 
 ghost use Rattle.std.specs.Prelude.{◌≡◌, ◌^◌, ◌≤◌, ◌++◌, drop, length, map, min, IfOk, OnOk, IsErrOf};
 ghost use Rattle.ldap_responses.specs.View.{entry_view};

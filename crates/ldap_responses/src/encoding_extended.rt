@@ -1,5 +1,4 @@
-//! Wire, responses: writing an extended response.
-//! In: a response. Out: the content of its element. Not here: the envelope.
+//! Writes an extended response.
 
 ghost use Rattle.std.specs.Prelude.{◌≡◌, ◌^◌, ◌≤◌, length, IfOk, IsErrOf};
 ghost use Rattle.ldap_responses.specs.View.{extended_view};

@@ -1,5 +1,4 @@
-//! Wire, responses: an entry that a search found.
-//! In: nothing. Out: the types. Not here: octets, entries of a directory.
+//! An entry that a search found.
 
 use ldap_parts::PartialAttribute;
 

@@ -1,5 +1,4 @@
-//! Wire, responses: an extended response.
-//! In: nothing. Out: the type. Not here: octets.
+//! An extended response.
 
 use ldap_parts::LdapResult;
 

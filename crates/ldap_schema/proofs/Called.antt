@@ -1,4 +1,4 @@
--- Names that call a class. Facts on lists flow in and out; no value of the program is here.
+-- Names that call a class.
 use Rattle.std.proofs.Common.{ℕ, ◌+◌, zero, suc, List, [], ◌∷◌, Bool, true, false, cond, ◌||◌, Some, is_some, IsSome, ◌≡◌, refl, ap, ◌∙◌, map}
 use Rattle.std.specs.List.{position_from, slice_get}
 use Rattle.std.specs.Char.{to_ascii_lowercase}

@@ -1,4 +1,4 @@
--- The walk up the superior types against the chain of SUPs. Facts on lists flow in and out; no value of the program is here.
+-- The walk up the superior types against the chain of SUPs.
 use Rattle.std.proofs.Common.{IsTrue, ◌↔◌, ℕ, ◌+◌, ◌≤◌, zero, suc, List, [], ◌∷◌, Bool, true, false, ◌&&◌, ◌||◌, Option, None, Some, ◌≡◌, refl, ap, sym, subst, ◌∙◌, length, nat_eq, arith}
 use Rattle.std.specs.List.{list_any}
 use Rattle.std.proofs.lemmas.Option.{slice_get_past}

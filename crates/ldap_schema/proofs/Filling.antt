@@ -1,4 +1,4 @@
--- Lists of classes filled with superclasses, a step at a time. Facts on lists flow in and out; no value of the program is here.
+-- Lists of classes filled with superclasses, a step at a time.
 use Rattle.std.proofs.Common.{ℕ, ◌+◌, ◌-◌, ◌<◌, suc, List, Some, ◌≡◌, refl, ap, sym, ◌∙◌, arith}
 use Rattle.std.specs.List.{slice_get}
 use Rattle.ldap_schema.specs.Schema.{ClassModel}

@@ -1,4 +1,4 @@
--- The filled list of a class against the chain of superclasses. Facts on lists flow in and out; no value of the program is here.
+-- The filled list of a class against the chain of superclasses.
 use Rattle.std.proofs.Common.{IsTrue, ◌↔◌, ℕ, ◌+◌, ◌<◌, ◌≤◌, zero, suc, List, [], ◌∷◌, ◌++◌, Bool, true, false, cond, Option, None, Some, ◌≡◌, refl, ap, sym, subst, ◌∙◌, length, take, nat_eq, nat_lt, append_assoc, add-one, arith}
 use Rattle.std.specs.List.{IsDistinct, list_all, slice_get}
 use Rattle.std.specs.Cmp.{nat_eq_equiv}

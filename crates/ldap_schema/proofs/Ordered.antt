@@ -1,5 +1,5 @@
--- What is under what, with ranks that fall upwards: classes in order of rank are in line where each is under the one before it. Facts on lists and
--- tests flow in and out; no value of the program is here.
+-- What is under what, with ranks that fall upwards: classes in order of rank are in line where each is under the one
+-- before it.
 use Rattle.std.proofs.Common.{ℕ, ◌<◌, ◌≤◌, suc, List, [], ◌∷◌, Bool, true, false, cond, ◌&&◌, ◌||◌, None, Some, ◌≡◌, ◌⊎◌, refl, ap, sym, subst, ◌∙◌, length, nat_eq, nat_lt, filter, get_or, inl, inr, arith}
 use Rattle.std.specs.List.{list_all}
 use Rattle.std.specs.List.Sorted.{IsPermutation, IsNonDecreasingBy}

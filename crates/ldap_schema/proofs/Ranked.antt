@@ -1,5 +1,4 @@
--- Ranks that fall along the chain of superclasses, and the chain where what has a lesser rank is cut off. Facts on lists flow in and out; no value of the
--- program is here.
+-- Ranks that fall along the chain of superclasses, and the chain where what has a lesser rank is cut off.
 use Rattle.std.proofs.Common.{ℕ, ◌+◌, ◌<◌, ◌≤◌, List, [], ◌∷◌, Bool, true, false, ◌&&◌, ◌||◌, Option, None, Some, ◌≡◌, ◌-◌, ◌⊎◌, refl, ap, sym, subst, ◌∙◌, length, nat_eq, nat_le, nat_lt, filter, option_map, inl, inr, arith}
 use Rattle.std.specs.List.{list_all, slice_get}
 use Rattle.std.proofs.lemmas.Bool.{cases_lt}

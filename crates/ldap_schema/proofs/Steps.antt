@@ -1,4 +1,4 @@
--- Loops over tables, a step at a time. Facts on lists flow in and out; no value of the program is here.
+-- Loops over tables, a step at a time.
 use Rattle.std.proofs.Common.{ℕ, ◌+◌, ◌-◌, ◌<◌, zero, suc, List, [], ◌∷◌, ◌++◌, Bool, true, false, ◌||◌, None, Some, ◌≡◌, refl, ap, sym, ◌∙◌, map, length, nat_eq, drop, get_or, append_assoc, arith}
 use Rattle.std.specs.List.{list_any, position_from}
 use Rattle.ldap_schema.specs.Schema.{TypeModel, superior_of, superiors}

@@ -1,5 +1,4 @@
--- Classes in line (RFC 4512 2.4.2), and the ranks by which they are put in order. Classes flow in by their numbers; yes or no, and numbers, flow out.
--- Entries are not here.
+-- Classes in line (RFC 4512 2.4.2), and the ranks by which they are put in order.
 use Rattle.std.specs.Prelude.{ℕ, List, [], ◌∷◌, Bool, ◌||◌, Option, None, Some, filter, get_or}
 use Rattle.std.specs.List.{list_all}
 

@@ -1,4 +1,4 @@
--- The type objectClass: RFC 4512 3.3. A schema flows in, the number of the type flows out; the classes of an entry are not here.
+-- The type objectClass: RFC 4512 3.3.
 use Rattle.std.specs.Prelude.{ℕ, codes, Option, Some, ◌≡◌, slice_get}
 use Rattle.ldap_words.specs.declared.rule.Rule.{Rule}
 use Rattle.ldap_words.specs.declared.rule.Family.TheVariants as family

@@ -1,4 +1,4 @@
--- The EQUALITY rule of a type: RFC 4512 4.1.2. A schema and a type flow in, a rule flows out; values are not here.
+-- The EQUALITY rule of a type: RFC 4512 4.1.2.
 use Rattle.std.specs.Prelude.{ℕ, Option, None, Some, slice_get}
 use Rattle.ldap_words.specs.declared.rule.Rule.{Rule}
 use Rattle.ldap_schema.specs.Schema.{SchemaModel, TypeModel}

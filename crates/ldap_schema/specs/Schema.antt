@@ -1,5 +1,5 @@
 -- A schema: types and classes by number, and what a name stands for. RFC 4512 2.4, 2.5, 4.1. Plain data and questions
--- to it; where it comes from and what values mean is not here.
+-- to it.
 use Rattle.std.specs.Prelude.{ℕ, zero, suc, ◌+◌, List, [], ◌∷◌, Bool, true, false, ◌&&◌, ◌||◌, Option, None, Some, ◌≡◌, nat_eq, length, slice_get, option_map}
 use Rattle.std.specs.List.{list_any, position_from}
 use Rattle.std.specs.Str.{bytes_eq}

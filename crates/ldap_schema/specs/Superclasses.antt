@@ -1,4 +1,4 @@
--- Classes under classes: RFC 4512 2.4 and 2.4.2. Classes flow in and out by their numbers; values and entries are not here.
+-- Classes under classes: RFC 4512 2.4 and 2.4.2.
 use Rattle.std.specs.Prelude.{ℕ, zero, suc, ◌+◌, List, [], ◌∷◌, ◌++◌, Bool, true, cond, ◌||◌, drop, Option, None, Some, ◌≡◌, length, nat_eq, nat_lt, slice_get}
 use Rattle.std.specs.List.{list_any, list_all}
 use Rattle.ldap_schema.specs.Schema.{ClassModel, SchemaModel}

@@ -1,5 +1,4 @@
-// An attribute type. Its description's parts flow in and out.
-// What must not be here: other types, how values compare.
+//! An attribute type.
 
 ghost use Rattle.std.specs.Prelude.{◌≡◌, map, ℕ};
 ghost use Rattle.std.specs.String.{string_bytes};

@@ -1,5 +1,4 @@
-// An object class. Its description's parts flow in and out.
-// What must not be here: which entries a class allows.
+//! An object class.
 
 ghost use Rattle.std.specs.Prelude.{◌≡◌, map, ℕ};
 ghost use Rattle.std.specs.String.{string_bytes};

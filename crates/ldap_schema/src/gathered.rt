@@ -1,5 +1,4 @@
-// Classes that are gathered, with the set of their numbers: whether a class is there is one look.
-// Classes flow in and out. What must not be here: which classes are under which.
+//! Classes that are gathered, with the set of their numbers: whether a class is there is one look.
 
 ghost use Rattle.std.specs.Prelude.{◌≡◌, ◌||◌, [], ◌∷◌, ◌++◌, nat_eq, cond, IfOk, OnOk, OnErr, slice_get};
 ghost use Rattle.ldap_schema.specs.Superclasses.{is_among as is_one_of};

@@ -1,16 +1,18 @@
-//! Schemas: finds their types and classes by name and by number. Texts of schemas, values, names of entries, items and entries are not here.
+//! Schemas: finds their types and classes by name and by number.
 //!
-//! The table of types and classes, made by one call (`Schema::of_parts`), wherever they come from. `name_index`, over `name_table`, finds them
-//! by halving in an order of lower-case names and object identifiers. Types' chains of SUPs are walked.
+//! One call makes the table of types and classes (`Schema::of_parts`), wherever they come from. `name_index`, over
+//! `name_table`, finds them by halving in an order of lower-case names and object identifiers. Chains of SUPs are
+//! walked.
 //!
-//! A class has a greater rank than its superclasses. `ranking` takes the step by which a walk up has left the class and tests it on every edge,
-//! so the walk is trusted with nothing. Classes are put in line by a sort by rank and a look from each to the next, no further up than its rank
-//! (`lines`). Where superclasses lead back to themselves there are no ranks, and classes are compared two by two (`pairs`). A set of numbers
-//! says which classes are gathered (`gathered`).
+//! A class has a greater rank than its superclasses. `ranking` takes the step by which a walk up has left the class and
+//! tests it on every edge, so the walk is trusted with nothing. Classes are put in line by a sort by rank and a look
+//! from each to the next, no further up than its rank (`lines`). Where superclasses lead back to themselves there are
+//! no ranks, and classes are compared two by two (`pairs`). A set of numbers says which classes are gathered
+//! (`gathered`).
 //!
-//! Proved: names are found in any case and by object identifier, and what is under what is as the chain says (`find`, `is_under`,
-//! `subclass_law`). So are classes in line, the lowest of them, and missing superclasses in order (`are_in_line`, `lowest`,
-//! `missing_superclasses`).
+//! Proved: names are found in any case and by object identifier, and what is under what is as the chain says (`find`,
+//! `is_under`, `subclass_law`). So are classes in line, the lowest of them, and missing superclasses in order
+//! (`are_in_line`, `lowest`, `missing_superclasses`).
 #![tactic(auto)]
 
 mod attribute_type;

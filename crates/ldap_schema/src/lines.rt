@@ -1,5 +1,4 @@
-// Classes in line (RFC 4512 2.4.2), by ranks. A table of classes, a rank for each that is greater than its superclasses', and a list of classes
-// flow in; a yes or no, or the lowest class, flows out. What must not be here: the schema that holds the table, how ranks are found, entries.
+//! Says by ranks whether classes are in line (RFC 4512 2.4.2).
 
 ghost use Rattle.std.specs.Prelude.{◌≡◌, IfOk, cond, filter, nat_le, nat_lt};
 ghost use Rattle.std.specs.List.Sorted.{IsPermutation, IsNonDecreasingBy};

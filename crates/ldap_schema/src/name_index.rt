@@ -1,6 +1,4 @@
-// The numbers of types or of classes by name and by object identifier. Types and classes flow in once, and then names;
-// numbers flow out, in as many steps as a logarithm of their count, and without memory.
-// What must not be here: how names are ordered.
+//! The numbers of types or of classes by name and by object identifier.
 
 ghost use Rattle.std.specs.Prelude.{◌≡◌, ℕ, [], List, map, IfOk, OnOk, OnErr};
 ghost use Rattle.std.specs.Char.{to_ascii_lowercase};

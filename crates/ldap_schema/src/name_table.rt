@@ -1,5 +1,4 @@
-// Names and the numbers that they stand for, found by halving. Names and numbers flow in, numbers flow out.
-// What must not be here: types and classes, what a name is.
+//! Finds numbers by name, by halving.
 
 ghost use Rattle.std.specs.Prelude.{◌≡◌, ℕ, [], List, map, OnOk, OnErr};
 ghost use Rattle.std.specs.Char.{to_ascii_lowercase};

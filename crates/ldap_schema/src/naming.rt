@@ -1,5 +1,4 @@
-// Names of types and classes. A name and what something is called flow in, a yes or no flows out.
-// What must not be here: tables of types and classes.
+//! Names of types and classes.
 
 ghost use Rattle.std.specs.Prelude.{◌≡◌, map};
 ghost use Rattle.std.specs.List.{list_any};

@@ -1,5 +1,4 @@
-// Classes in line (RFC 4512 2.4.2), pair by pair, whatever their superclasses. A table of classes and lists of classes flow in; a yes or no, or the
-// lowest class, flows out. What must not be here: ranks, the schema that holds the table, entries.
+//! Classes in line (RFC 4512 2.4.2), pair by pair, whatever their superclasses.
 
 ghost use Rattle.std.specs.Prelude.{◌≡◌, ◌||◌, IfOk, nat_eq};
 ghost use Rattle.std.specs.List.{list_all};

@@ -1,5 +1,4 @@
-// Ranks of classes. A table of classes flows in; a rank for each, and whether each rank is greater than those of the direct superclasses, flow out.
-// How ranks are found is trusted with nothing: they are tested. What must not be here: what ranks are for.
+//! Ranks of classes. How ranks are found is trusted with nothing: they are tested.
 
 ghost use Rattle.std.specs.Prelude.{◌≡◌, ◌<◌, IsTrue, ℕ, true, nat_lt};
 ghost use Rattle.std.specs.List.{list_all};

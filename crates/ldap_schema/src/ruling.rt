@@ -1,5 +1,4 @@
-// The rule that values of a type are equal by. A schema and a type flow in; the rule flows out.
-// What must not be here: values, keys.
+//! The rule that values of a type are equal by.
 
 ghost use Rattle.std.specs.Prelude.{◌≡◌};
 ghost use Rattle.ldap_schema.specs.Rules.{equality_of};

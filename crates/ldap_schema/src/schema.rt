@@ -1,5 +1,4 @@
-// The schema: a table of types and one of classes, and ranks of classes, computed once. Names and numbers flow
-// in; types, classes and numbers flow out. What must not be here: reading a schema from text, values.
+//! The schema: a table of types and one of classes, and ranks of classes, computed once.
 
 ghost use Rattle.std.specs.Prelude.{◌≡◌, IfOk, IfSome, IsSome, option_map, slice_get, length, ◌↔◌, IsTrue, ℕ};
 ghost use Rattle.std.specs.Option.{option_copied};

@@ -1,5 +1,4 @@
-// Classes and their superclasses. A table of classes flows in; lists of classes flow out.
-// What must not be here: the schema that holds the table, entries.
+//! Classes and their superclasses.
 
 ghost use Rattle.std.specs.Prelude.{◌≡◌, IfOk, OnOk};
 ghost use Rattle.ldap_schema.specs.Superclasses.{direct_superclasses, with_missing, filled};

@@ -1,5 +1,4 @@
-// Questions to the tables of a schema. Slices of types and classes flow in; numbers and yes or no flow out.
-// What must not be here: the schema that holds the tables.
+//! Questions to the tables of a schema.
 
 ghost use Rattle.std.specs.Prelude.{◌≡◌, IfOk, nat_eq, length};
 ghost use Rattle.std.specs.List.{list_any, position_from};

@@ -1,4 +1,4 @@
--- Text of ASCII is in form KC, and folding it is making its capitals small. Facts on lists flow in and out; families are not here.
+-- Text of ASCII is in form KC, and folding it is making its capitals small.
 use Rattle.std.proofs.Common.{ℕ, ◌<◌, List, Bool, true, false, not, cond, All, IsAscii, chars, map, filter, ◌≡◌, ap, ◌∙◌, arith}
 use Rattle.std.proofs.lemmas.List.Elements.{All-map, All-filter, All-weaker}
 use Rattle.std.proofs.lemmas.Bool.Decides.{nat_tests}

@@ -1,4 +1,4 @@
--- Keys against meanings, rule by rule. Facts on values flow in and out; the values of a program are not here.
+-- Keys against meanings, rule by rule.
 use Rattle.std.proofs.Common.{ℕ, ◌+◌, ◌*◌, ◌-◌, ◌<◌, suc, zero, ℤ, pos, neg_ℤ, ◌<ℤ◌, List, [], ◌∷◌, Bool, true, false, cond, ◌&&◌, ◌||◌, nat_eq, nat_lt, nat_le, Option, None, Some, is_some, ◌↔◌, ◌⊎◌, inl, inr, ◌≡◌, refl, ap, ap₂, map, sym, subst, ◌∙◌, encode_utf8_all, arith}
 use Rattle.std.proofs.lemmas.Int.{ints}
 use Rattle.std.proofs.lemmas.Bool.{ltb-true}

@@ -1,4 +1,4 @@
--- Digits and the numbers that they write, compared. Facts on lists flow in and out; rules and meanings are not here.
+-- Digits and the numbers that they write, compared.
 use Rattle.std.proofs.Common.{ℕ, ◌+◌, ◌*◌, ◌-◌, ◌<◌, ◌≤◌, List, [], ◌∷◌, ◌++◌, Bool, true, false, ◌&&◌, ◌||◌, nat_eq, nat_lt, nat_le, ◌≡◌, refl, ap, sym, subst, ◌∙◌, map, length, arith}
 use Rattle.std.proofs.lemmas.Bool.{ltb-true, lt-ltb}
 use Rattle.std.specs.Int.Digits.{number_from_digits_after}

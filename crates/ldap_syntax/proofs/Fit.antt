@@ -1,4 +1,4 @@
--- Values of a syntax mean something under the rules that are used on it. Facts on values flow in and out; keys are not here.
+-- Values of a syntax mean something under the rules that are used on it.
 use Rattle.std.proofs.Common.{ℕ, zero, suc, ◌<◌, List, [], ◌∷◌, Bool, true, false, cond, ◌&&◌, ◌||◌, nat_eq, get_or, Option, None, is_some, ◌≡◌, refl, arith}
 use Rattle.std.proofs.lemmas.Bool.{ltb-true}
 use Rattle.std.proofs.lemmas.Bool.Decides.{nat_tests}

@@ -1,4 +1,4 @@
--- The order of lists by their first elements. Facts on lists flow in and out; no value of the program is here.
+-- The order of lists by their first elements.
 use Rattle.std.proofs.Common.{ℕ, ◌<◌, List, [], ◌∷◌, ◌++◌, ◌≡◌, refl, ap, ◌∙◌, arith}
 use Rattle.std.proofs.lemmas.Bool.Decides.{nat_tests}
 use Rattle.std.proofs.lemmas.Cmp.{same_from_slice_cmp}

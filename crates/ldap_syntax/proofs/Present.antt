@@ -1,4 +1,4 @@
--- Keys that are there because a meaning is. Facts on values flow in and out; how keys compare is not here.
+-- Keys that are there because a meaning is.
 use Rattle.std.proofs.Common.{ℕ, List, Bool, true, false, cond, Option, None, Some, is_some, ◌≡◌, refl, sym, subst, ◌⊎◌, inl, inr}
 use Rattle.ldap_words.specs.Numbers.{is_integer}
 use Rattle.ldap_words.specs.Identifiers.{is_numericoid}

@@ -1,4 +1,4 @@
--- Parts of a text and parts of its UTF-8. Facts on lists flow in and out; keys and rules are not here.
+-- Parts of a text and parts of its UTF-8.
 use Rattle.std.proofs.Common.{ℕ, ◌+◌, ◌/◌, ◌%◌, ◌<◌, ◌≤◌, List, [], ◌∷◌, ◌++◌, map, Option, None, Some, ◌≡◌, refl, ap, ap₂, sym, subst, ◌∙◌, ◌↔◌, append_assoc, append-nil, encode_utf8_all, arith}
 use Rattle.std.proofs.lemmas.Str.{cons_from_encodes, encodes-append, encodes_same}
 use lib.Utf8.{encode}

@@ -1,4 +1,4 @@
--- Parts that are looked for, each where it first stands. Facts on lists flow in and out; keys and texts are not here.
+-- Parts that are looked for, each where it first stands.
 use Rattle.std.proofs.Common.{ℕ, suc, ◌+◌, add-one, drop-cons, ◌-◌, ◌<◌, ◌≤◌, List, [], ◌∷◌, ◌++◌, Bool, true, false, length, take, drop, get_or, Option, None, Some, ◌≡◌, refl, ap, sym, subst, ◌∙◌, ◌↔◌, append_assoc, length-append, length-drop, take-append-drop, arith}
 use Rattle.std.proofs.Math.Seq.{drop-append_seam, take-append_seam}
 use Rattle.std.proofs.lemmas.List.{append_cancel_left, append_cancel_right, take_all, drop_all, length-take-le}

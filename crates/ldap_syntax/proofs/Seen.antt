@@ -1,5 +1,4 @@
--- Octets of ASCII that are seen, with single SPACEs between them: each text of theirs is made of them alone. Facts on lists flow in and out; no value of the
--- program is here.
+-- Octets of ASCII that are seen, with single SPACEs between them: each text of theirs is made of them alone.
 use Rattle.std.proofs.Common.{ℕ, ◌<◌, ◌≤◌, List, [], ◌∷◌, ◌++◌, Bool, true, false, not, cond, ◌&&◌, ◌||◌, nat_eq, nat_le, Option, Some, None, IsAscii, chars, map, filter, ◌≡◌, refl, ap, ap₂, sym, ◌∙◌, arith}
 use Rattle.std.specs.List.{All, AllByRecursion}
 use Rattle.std.proofs.lemmas.List.Elements.{All-nil, All-cons}

@@ -1,4 +1,4 @@
--- The spaces round the words of a text, as they are written. Facts on lists flow in and out; no value of the program is here.
+-- The spaces round the words of a text, as they are written.
 use Rattle.std.proofs.Common.{ℕ, zero, suc, ◌-◌, ◌≤◌, List, [], ◌∷◌, ◌++◌, Bool, true, false, not, cond, ◌||◌, nat_eq, ◌≡◌, refl, ap, ap₂, sym, ◌∙◌, encode_utf8_all, length, get_or, arith}
 use Rattle.std.proofs.lemmas.Str.{encodes-append, encode_ascii}
 use Rattle.std.specs.List.{list_any}

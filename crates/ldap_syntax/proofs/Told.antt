@@ -1,4 +1,4 @@
--- What is kept of a value's texts tells what its key tells. Facts on lists flow in and out; no value of the program is here.
+-- What is kept of a value's texts tells what its key tells.
 use Rattle.std.proofs.Common.{ℕ, List, Bool, true, false, cond, not, ◌&&◌, ◌||◌, Option, None, Some, is_some, ◌≡◌, refl, ap, sym, ◌∙◌}
 use Rattle.std.proofs.lemmas.Slice.Eq.{bytes_eq-Decides}
 use Rattle.ldap_words.specs.Families.{is_used_on, is_textual}

@@ -1,4 +1,4 @@
--- UTF-8 keeps the order of code points. Facts on lists flow in and out; meanings and keys are not here.
+-- UTF-8 keeps the order of code points.
 use Rattle.std.proofs.Common.{ℕ, ◌+◌, ◌/◌, ◌%◌, ◌<◌, ◌≤◌, List, [], ◌∷◌, ◌++◌, Bool, true, false, nat_lt, ◌≡◌, refl, ap, ap₂, sym, subst, ◌∙◌, append_assoc, encode_utf8_all, arith}
 use Rattle.std.proofs.lemmas.Bool.{ltb-true}
 use Rattle.std.proofs.lemmas.Bool.Decides.{nat_tests}

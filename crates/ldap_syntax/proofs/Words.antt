@@ -1,4 +1,4 @@
--- The loop over a text against its words. Facts on lists flow in and out; no value of the program is here.
+-- The loop over a text against its words.
 use Rattle.std.proofs.Common.{ℕ, List, [], ◌∷◌, Bool, true, false, cond, ◌&&◌, nat_eq, ◌≡◌, refl, ap, ◌∙◌}
 use Rattle.ldap_syntax.specs.Text.{words, joined, begins_word, with_character}
 

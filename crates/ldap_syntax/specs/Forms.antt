@@ -1,5 +1,5 @@
--- Texts of a value under rules that its type may lack: RFC 4517 4.2. A value flows in, its keys under each family of text flow out. No statement
--- above the evaluation of filters names them.
+-- Texts of a value under rules that its type may lack: RFC 4517 4.2. No statement above the evaluation of filters
+-- names them.
 use Rattle.std.specs.Prelude.{ℕ, List, [], ◌∷◌, ◌++◌, Bool, true, false, cond, not, ◌&&◌, ◌||◌, Option, None, Some, ◌≡◌}
 use Rattle.std.specs.Str.{bytes_eq}
 use Rattle.ldap_syntax.specs.Meaning.{is_before}

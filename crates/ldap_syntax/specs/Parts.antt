@@ -1,4 +1,4 @@
--- Parts of a text: RFC 4517 4.2.6 and its kin. Texts flow in, a statement flows out; how parts are looked for is not here.
+-- Parts of a text: RFC 4517 4.2.6 and its kin.
 use Rattle.std.specs.Prelude.{ℕ, List, [], ◌∷◌, ◌++◌, Option, ◌≡◌}
 use Rattle.ldap_syntax.specs.Meaning.{Meaning, text}
 pub use Rattle.ldap_words.specs.Words.{part_or_nothing}

@@ -1,4 +1,4 @@
--- How octets are written in texts. Octets flow in and out; families are not here.
+-- How octets are written in texts.
 use Rattle.std.specs.Prelude.{ℕ, List, [], ◌∷◌, ◌++◌, cond, ◌||◌, nat_eq}
 use Rattle.std.specs.Char.{to_ascii_lowercase}
 use Rattle.ldap_syntax.specs.declared.plain.Style.{Style}

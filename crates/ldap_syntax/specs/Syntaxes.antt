@@ -1,4 +1,4 @@
--- The values of each syntax: RFC 4517 3.3. Octets flow in, a yes or no flows out; what a value means is not here.
+-- The values of each syntax: RFC 4517 3.3.
 use Rattle.std.specs.Prelude.{ℕ, List, [], ◌∷◌, Bool, true, false, ◌&&◌, ◌||◌, nat_eq, nat_lt, nat_le}
 use Rattle.std.specs.List.{list_all}
 use Rattle.std.specs.Str.{bytes_eq, is_utf8}

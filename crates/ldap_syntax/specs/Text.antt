@@ -1,5 +1,4 @@
--- Text as it is compared: the steps of RFC 4518 over all of Unicode, as this project orders them. Characters flow in and
--- out; no syntax and no key is here.
+-- Text as it is compared: the steps of RFC 4518 over all of Unicode, as this project orders them.
 use Rattle.std.specs.Prelude.{ℕ, List, [], ◌∷◌, ◌++◌, Bool, true, false, cond, ◌&&◌, ◌||◌, not, nat_eq, nat_le, map, filter}
 use Rattle.unicode_normalization.specs.Forms.{nfkc}
 use Rattle.caseless.specs.Caseless.{default_case_fold}

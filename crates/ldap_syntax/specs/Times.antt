@@ -1,4 +1,4 @@
--- Times as they are written: RFC 4517 3.3.13, of which this project takes one form. Octets flow in, a yes or no flows out.
+-- Times as they are written: RFC 4517 3.3.13, of which this project takes one form.
 use Rattle.std.specs.Prelude.{ℕ, ◌+◌, ◌*◌, ◌-◌, List, [], ◌∷◌, Bool, false, ◌&&◌, nat_eq, nat_le}
 use Rattle.ldap_words.specs.Numbers.{is_digit}
 

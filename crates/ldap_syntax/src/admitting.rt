@@ -1,5 +1,4 @@
-// The values of each syntax. A syntax and octets flow in, a yes or no flows out.
-// What must not be here: families, keys, a schema's names.
+//! The values of each syntax.
 
 ghost use Rattle.std.specs.Prelude.{◌≡◌, cond, Some, None, option_map};
 ghost use Rattle.std.specs.Str.{is_utf8};

@@ -1,5 +1,4 @@
-// Why a value has no key. Nothing flows in; what a rule or the want of memory refuses flows out.
-// What must not be here: faults of a schema, of an entry or of a message.
+//! Why a value has no key.
 
 ghost use Rattle.std.specs.Prelude.{◌≡◌};
 ghost use Rattle.ldap_syntax.specs.declared.fault.ValueError.TheVariants.{NoMemory};

@@ -1,5 +1,4 @@
-// What is kept of a value's texts, for rules of text that its type may lack. Octets flow in, then keys; a yes or no flows out.
-// What must not be here: which types support which rules, entries.
+//! What is kept of a value's texts, for rules of text that its type may lack.
 
 ghost use Rattle.std.specs.Prelude.{◌≡◌, IfOk};
 ghost use Rattle.ldap_syntax.specs.private.Seen.{are_seen as are_octets_seen};

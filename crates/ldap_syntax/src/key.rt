@@ -1,5 +1,4 @@
-// A value's key. Octets that a rule made flow in; comparisons flow out.
-// What must not be here: how keys are made.
+//! A value's key.
 
 ghost use Rattle.std.specs.Prelude.{◌≡◌, ◌≤◌, length, IfOk};
 ghost use Rattle.std.specs.Str.{bytes_eq};

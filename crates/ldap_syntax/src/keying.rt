@@ -1,5 +1,4 @@
-// Rules at work. A rule and a value flow in; the value's key, or the fault that it isn't in the syntax, flows out.
-// What must not be here: a schema's names, entries.
+//! Rules at work.
 
 ghost use Rattle.std.specs.Prelude.{◌≡◌, ◌↔◌, None, Some, IfOk, IsErrOf, is_some};
 ghost use Rattle.ldap_syntax.specs.Meaning.{spelled, meaning, part_meaning, ValuesOfTheSyntaxMean};

@@ -1,5 +1,4 @@
-// The first steps of preparation: white space and controls are mapped, text is normalised, case is folded. A text flows in,
-// characters flow out. What must not be here: spaces at edges and between words, families.
+//! The first steps of preparation: white space and controls are mapped, text is normalised, case is folded.
 
 ghost use Rattle.std.specs.Prelude.{◌≡◌, chars, map, IfOk};
 ghost use Rattle.std.specs.Char.{to_ascii_lowercase};

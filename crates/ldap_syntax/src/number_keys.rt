@@ -1,5 +1,4 @@
-// Keys of integers. Octets flow in; a key's octets flow out.
-// What must not be here: which octets are an integer's.
+//! Keys of integers.
 
 ghost use Rattle.std.specs.Prelude.{◌≡◌, IfOk};
 ghost use Rattle.ldap_syntax.specs.Keys.{number_key as number_key_of, counted as counted_digits, turned as turned_octets};

@@ -1,5 +1,4 @@
-// Plain texts: those that are made of octets alone. Octets and keys flow in, an order or a yes or no flows out, and no memory is taken.
-// What must not be here: other texts, syntaxes.
+//! Plain texts: those that are made of octets alone.
 
 ghost use Rattle.std.specs.Prelude.{◌≡◌, ℕ, List, ◌∷◌, ◌++◌, MatchResult};
 ghost use Rattle.std.specs.Ordering.{nat_cmp};

@@ -1,5 +1,4 @@
-// Preparing text for comparison (RFC 4518). A text flows in; the prepared text flows out.
-// What must not be here: syntaxes, schemas, keys.
+//! Preparing text for comparison (RFC 4518).
 
 ghost use Rattle.std.specs.Prelude.{◌≡◌, chars, string_bytes, encode_utf8_all, IfOk};
 ghost use Rattle.ldap_syntax.specs.Text.{prepared};

@@ -1,5 +1,4 @@
-// Parts of a text, looked for in octets. Octets and keys flow in, a yes or no flows out, and no memory is taken.
-// What must not be here: how parts are prepared.
+//! Parts of a text, looked for in octets.
 
 ghost use Rattle.std.specs.Prelude.{◌≡◌, ◌≢◌, ◌↔◌, ◌≤◌, ℕ, List, length, ◌++◌, option_copied, IsTrue, MatchOption};
 ghost use Rattle.ldap_syntax.specs.Parts.{StandInOrder, HasParts, part_or_nothing};

@@ -1,5 +1,4 @@
-// The last step of preparation: spaces that do not count. Characters flow in, the prepared text flows out.
-// What must not be here: white space other than SPACE, case, families.
+//! The last step of preparation: spaces that do not count.
 
 ghost use Rattle.std.specs.Prelude.{◌≡◌, ◌++◌, not, nat_eq, string_bytes, encode_utf8_all, IfOk, OnOk};
 ghost use Rattle.std.specs.List.{list_any};

@@ -1,5 +1,4 @@
-// The texts that are kept of a value. Octets flow in, keys under each family of text flow out.
-// What must not be here: texts that need not be kept.
+//! The texts that are kept of a value.
 
 ghost use Rattle.std.specs.Prelude.{◌≡◌, IfOk};
 ghost use Rattle.std.specs.Option.{option_map};

@@ -1,5 +1,4 @@
-// Times as they are written. Octets flow in, a yes or no flows out.
-// What must not be here: clocks, other forms of time.
+//! Times as they are written.
 
 ghost use Rattle.std.specs.Prelude.{◌≡◌};
 ghost use Rattle.ldap_syntax.specs.Times.{is_time as is_time_text, is_field as is_field_text, is_year as is_year_text, is_day as is_day_text, is_clock as is_clock_text};

@@ -1,4 +1,4 @@
--- Wire, updates: what a part lacks, the update lacks: at each exit of a reader, behind the parts that it read.
+-- What a part lacks, the update lacks: at each exit of a reader, behind the parts that it read.
 use Rattle.std.proofs.Common.{◌≡◌, ℕ, Bool, true, eqb, length, List, [], map, sym, ap, ◌∙◌}
 use Rattle.std.proofs.lemmas.List.{nil_from_length}
 use Rattle.std.proofs.lemmas.Bool.{eqb-true}

@@ -1,4 +1,4 @@
--- Wire, updates: a modify has one value at the front of octets; what a part lacks, the modify lacks; what is written is one.
+-- A modify has one value at the front of octets; what a part lacks, the modify lacks; what is written is one.
 use Rattle.std.proofs.Common.{◌≡◌, ◌^◌, ◌<◌, ℕ, zero, suc, List, [], ◌++◌, refl, sym, ap, subst, ◌∙◌, arith}
 use Rattle.std.specs.Str.{IsUtf8}
 use Rattle.std.proofs.lemmas.List.{append-nil}

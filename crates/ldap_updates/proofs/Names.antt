@@ -1,4 +1,4 @@
--- Wire, updates: a modifyDN and a delete have one value; what a part lacks, the update lacks; what is written is one.
+-- A modifyDN and a delete have one value; what a part lacks, the update lacks; what is written is one.
 use Rattle.std.proofs.Common.{◌≡◌, ℕ, Bool, Option, List, [], ◌++◌, refl, sym, ap, subst, ◌∙◌, arith}
 use Rattle.std.specs.Str.{IsUtf8}
 use Rattle.std.proofs.lemmas.List.{append-nil}

@@ -1,4 +1,4 @@
--- Wire, updates: what is written for values in their ranges is in the grammar.
+-- What is written for values in their ranges is in the grammar.
 use Rattle.std.proofs.Common.{ℕ, List, [], ◌++◌, subst, arith}
 use Rattle.std.specs.Str.{IsUtf8}
 use Rattle.std.proofs.lemmas.List.{append-nil}

@@ -1,4 +1,4 @@
--- Wire, updates: each part has one value at the front of octets, and one rest.
+-- Each part has one value at the front of octets, and one rest.
 use Rattle.std.proofs.Common.{◌≡◌, ℕ, List, ap, ◌∙◌}
 use Rattle.ldap_parts.specs.ldap_fields.Fields.{HasPart}
 use Rattle.ldap_parts.specs.ldap_fields.Rows.{AreRow}

@@ -1,6 +1,5 @@
--- Wire, updates: the contents that spell an update (RFC 4511 4.6 to 4.9 and Appendix B).
--- In: a value and octets. Out: whether the octets spell it. Not here: the one spelling that is written.
--- Each part is a relation of a value, the octets where it begins, and the octets that follow it.
+-- The contents that spell an update (RFC 4511 4.6 to 4.9 and Appendix B). Each part is a relation of a value, the
+-- octets where it begins, and the octets that follow it.
 use Rattle.std.specs.Prelude.{◌≡◌, ◌≢◌, ℕ, Bool, List, []}
 use Rattle.std.specs.Str.{IsUtf8}
 use Rattle.ldap_parts.specs.ldap_fields.Fields.{Seq, HasText, HasNumber, HasFlag, HasPart, HasTextOrNone}

@@ -1,5 +1,4 @@
--- Wire, updates: an update without where it lies in memory (RFC 4511 4.6 to 4.9); a text is its octets.
--- In: nothing. Out: the models. Not here: octets of the wire.
+-- An update without where it lies in memory (RFC 4511 4.6 to 4.9); a text is its octets.
 use Rattle.std.specs.Prelude.{ℕ, List, Bool, Option}
 use Rattle.ldap_parts.specs.Values.{PartialAttributeValue}
 use Rattle.ldap_updates.specs.declared.modify.ModifyOperation.{ModifyOperation}

@@ -1,5 +1,4 @@
--- Wire, updates: the value that an update in memory stands for.
--- In: an update in memory. Out: its value. Not here: octets of the wire.
+-- The value that an update in memory stands for.
 use Rattle.std.specs.Prelude.{map, string_bytes}
 use Rattle.std.specs.Option.{option_map}
 use Rattle.ldap_parts.specs.View.{attribute_view}

@@ -1,5 +1,4 @@
-//! Wire, updates: an add.
-//! In: nothing. Out: the type. Not here: octets, what an add does.
+//! An add request.
 
 use ldap_parts::Attribute;
 

@@ -1,5 +1,4 @@
-//! Wire, updates: reading an add.
-//! In: the content of its element. Out: the add, or a fault. Not here: the envelope.
+//! Reads an add.
 
 ghost use Rattle.std.specs.Prelude.{ℕ, List, IfOk, IfErr, map};
 ghost use Rattle.ldap_parts.specs.ldap_fields.Faults.{IsPlainFault};

@@ -1,5 +1,4 @@
-//! Wire, updates: reading a modify.
-//! In: the content of its element. Out: the modify, or a fault. Not here: the envelope.
+//! Reads a modify.
 
 ghost use Rattle.std.specs.Prelude.{◌≡◌, ◌<◌, ℕ, List, IfOk, IfErr, map};
 ghost use Rattle.ldap_parts.specs.ldap_fields.Faults.{IsPlainFault};

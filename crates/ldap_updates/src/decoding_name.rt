@@ -1,5 +1,4 @@
-//! Wire, updates: reading a modifyDN and a delete.
-//! In: the content of its element. Out: the update, or a fault. Not here: the envelope.
+//! Reads a modifyDN and a delete.
 
 ghost use Rattle.std.specs.Prelude.{ℕ, List, Bool, IfOk, IfErr, string_bytes};
 ghost use Rattle.ldap_parts.specs.ldap_fields.Faults.{IsPlainFault};

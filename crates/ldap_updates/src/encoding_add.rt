@@ -1,5 +1,4 @@
-//! Wire, updates: writing an add.
-//! In: an add. Out: the content of its element. Not here: the envelope.
+//! Writes an add.
 
 ghost use Rattle.std.specs.Prelude.{◌≡◌, ◌^◌, ◌≤◌, length, IfOk, IsErrOf};
 ghost use Rattle.ldap_updates.specs.View.{add_view};

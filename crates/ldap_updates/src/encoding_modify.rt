@@ -1,5 +1,4 @@
-//! Wire, updates: writing a modify.
-//! In: a modify. Out: the content of its element. Not here: the envelope.
+//! Writes a modify.
 
 ghost use Rattle.std.specs.Prelude.{◌≡◌, ◌^◌, ◌≤◌, ◌<◌, ◌++◌, map, length, IfOk, OnOk, IsErrOf};
 ghost use Rattle.ldap_parts.specs.ldap_fields.Rows.{row_bytes};

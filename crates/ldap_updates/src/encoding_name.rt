@@ -1,5 +1,4 @@
-//! Wire, updates: writing a modifyDN and a delete.
-//! In: an update. Out: the content of its element. Not here: the envelope.
+//! Writes a modifyDN and a delete.
 
 ghost use Rattle.std.specs.Prelude.{◌≡◌, ◌^◌, ◌≤◌, length, IfOk, IfErr, IsErrOf, string_bytes};
 ghost use Rattle.ldap_updates.specs.View.{modify_dn_view};

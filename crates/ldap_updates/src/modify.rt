@@ -1,5 +1,4 @@
-//! Wire, updates: a modify.
-//! In: nothing. Out: the types. Not here: octets, what a change does.
+//! A modify request.
 
 use ldap_parts::PartialAttribute;
 

@@ -1,5 +1,4 @@
-//! Wire, updates: a modifyDN.
-//! In: nothing. Out: the type. Not here: octets, what a new name does.
+//! A modifyDN request.
 
 /// ModifyDNRequest (RFC 4511 4.9).
 #[derive(Debug)]

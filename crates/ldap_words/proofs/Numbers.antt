@@ -1,4 +1,4 @@
--- Numbers, digit by digit. In: the digits that are left. Out: the number with one more. Keys of numbers are not here.
+-- Numbers, digit by digit.
 use Rattle.std.proofs.Common.{◌≡◌, ℕ, suc, ◌+◌, ◌<◌, List, [], ◌∷◌, length, drop, get_or, Option, Some, None, refl, sym, ap, ◌∙◌, arith, add-one, drop-cons}
 use Rattle.ldap_words.specs.Numbers.{number_after, number_of_digits, with_digit}
 

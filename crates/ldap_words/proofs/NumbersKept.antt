@@ -1,4 +1,4 @@
--- Numbers that are kept at octets one after the other, and what is found of them. Facts on lists flow in and out; no value of the program is here.
+-- Numbers that are kept at octets one after the other, and what is found of them.
 use Rattle.std.proofs.Common.{ℕ, suc, ◌+◌, ◌<◌, ◌≤◌, List, [], ◌∷◌, Bool, true, false, ◌||◌, cond, Option, None, Some, Ordering, ◌≡◌, refl, ap, sym, ◌∙◌, Vec, Global, length, drop, get_or, nat_lt, add-one, drop-cons, arith}
 use Rattle.std.specs.List.{list_any, position_from}
 use Rattle.std.specs.Ordering.{is_eq, match_ordering, nat_cmp}

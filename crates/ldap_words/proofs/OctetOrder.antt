@@ -1,4 +1,4 @@
--- The order of octets, and what it says of their equality. Facts on lists flow in and out; no value of the program is here.
+-- The order of octets, and what it says of their equality.
 use Rattle.std.proofs.Common.{ℕ, zero, suc, ◌<◌, List, [], ◌∷◌, true, false, ◌≡◌, refl, ap, sym, ◌∙◌, length, get_or, drop, map, arith}
 use Rattle.std.specs.List.{AllByRecursion}
 use Rattle.std.specs.Ordering.{is_eq, ordering_reverse}

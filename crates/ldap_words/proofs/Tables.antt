@@ -1,4 +1,4 @@
--- Tables, as a row and the rows behind it. Facts on a row's test flow in and out; what the rows are is not here.
+-- Tables, as a row and the rows behind it.
 use Rattle.std.proofs.Common.{Bool, true, false, cond, ◌≡◌, refl}
 
 -- the row that is asked for

@@ -1,4 +1,4 @@
--- Numbers as they are written: which octets they are made of. Facts on lists flow in and out; what they count is not here.
+-- Numbers as they are written: which octets they are made of.
 use Rattle.std.proofs.Common.{ℕ, ◌<◌, List, [], ◌∷◌, Bool, true, false, ◌&&◌, nat_lt, nat_le, ◌≡◌, refl, length, arith}
 use Rattle.std.proofs.lemmas.Bool.{ltb-true}
 use Rattle.std.proofs.lemmas.Bool.Decides.{nat_tests}

@@ -1,4 +1,4 @@
--- Which rules each family has, and on which syntaxes: RFC 4517 4.2. Nothing of a value is here.
+-- Which rules each family has, and on which syntaxes: RFC 4517 4.2.
 use Rattle.std.specs.Prelude.{Bool, true, false}
 use Rattle.ldap_words.specs.declared.rule.Family.{Family}
 use Rattle.ldap_words.specs.declared.rule.Family.TheVariants as family

@@ -1,4 +1,4 @@
--- Octets in hexadecimal digits: RFC 4512 1.4, HEX. Digits flow in, an octet flows out; what stands before them is not here.
+-- Octets in hexadecimal digits: RFC 4512 1.4, HEX.
 use Rattle.std.specs.Prelude.{ℕ, ◌+◌, ◌-◌, ◌*◌, cond, ◌&&◌, nat_le, Option, None, Some, option_map}
 
 -- the value of a hexadecimal digit in either case (RFC 4512 1.4, HEX)

@@ -1,4 +1,4 @@
--- Object identifiers in dotted form: RFC 4512 1.4. Octets flow in; the names of a schema are not here.
+-- Object identifiers in dotted form: RFC 4512 1.4.
 use Rattle.std.specs.Prelude.{ℕ, List, Bool, ◌&&◌, nat_eq}
 use Rattle.std.specs.List.{list_all, list_any, slice_split}
 use Rattle.ldap_words.specs.Numbers.{is_number}

@@ -1,4 +1,4 @@
--- Octets in order, and numbers that are kept at octets, as those of names are. Octets flow in, numbers flow out; what has a name is not here.
+-- Octets in order, and numbers that are kept at octets, as those of names are.
 use Rattle.std.specs.Prelude.{ℕ, List, Option, None, Some, cond, Vec, nat_lt}
 use Rattle.std.specs.Ordering.{nat_cmp}
 use Rattle.std.specs.declared.cmp.Ordering.{Ordering}

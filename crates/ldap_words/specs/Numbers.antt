@@ -1,4 +1,4 @@
--- Whole numbers as they are written: RFC 4517 3.3.16, and those of 63 bits. Octets flow in, a number flows out.
+-- Whole numbers as they are written: RFC 4517 3.3.16, and those of 63 bits.
 use Rattle.std.specs.Prelude.{ℕ, ◌+◌, ◌-◌, ◌*◌, ℤ, pos, neg_ℤ, List, [], ◌∷◌, Bool, false, cond, ◌&&◌, nat_eq, nat_lt, nat_le, map, Option, None, Some}
 use Rattle.std.specs.Option.{option_and_then}
 use Rattle.std.specs.List.{list_all}

@@ -1,4 +1,4 @@
--- Lists of octets, and texts in UTF-8 (RFC 3629). Octets or characters flow in; syntaxes and keys are not here.
+-- Lists of octets, and texts in UTF-8 (RFC 3629).
 use Rattle.std.specs.Prelude.{ℕ, List, [], ◌∷◌, Bool, true, false, nat_eq, nat_lt, encode_utf8_all, Option, None, Some}
 use Rattle.std.specs.List.{list_all}
 

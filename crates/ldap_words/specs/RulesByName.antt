@@ -1,5 +1,4 @@
--- The matching rules and syntaxes by name and object identifier: RFC 4517 3.3 and 4.2. A word of a description flows in, a family
--- or a syntax flows out; descriptions are not here.
+-- The matching rules and syntaxes by name and object identifier: RFC 4517 3.3 and 4.2.
 use Rattle.std.specs.Prelude.{ℕ, List, map, Bool, cond, ◌||◌, Option, None, Some, codes}
 use Rattle.std.specs.Char.{to_ascii_lowercase}
 use Rattle.std.specs.Str.{bytes_eq}

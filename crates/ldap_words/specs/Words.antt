@@ -1,5 +1,4 @@
--- Words, and the descriptions of attributes that they make: RFC 4512 1.4 and 2.5. Octets flow in, a yes or no flows out; what a
--- description stands for is not here.
+-- Words, and the descriptions of attributes that they make: RFC 4512 1.4 and 2.5.
 use Rattle.std.specs.Prelude.{ℕ, ◌+◌, List, [], ◌∷◌, map, take, drop, position, Bool, false, ◌&&◌, ◌||◌, Option, None, Some, nat_eq, nat_le}
 use Rattle.std.specs.List.{list_all, slice_split}
 use Rattle.std.specs.Char.{to_ascii_lowercase}

@@ -1,5 +1,4 @@
-// Words, and the descriptions of attributes that they make. Octets flow in, a yes or no flows out.
-// What must not be here: texts of schemas, filters or entries.
+//! Says whether octets are a keystring, an option or the description of an attribute.
 
 ghost use Rattle.std.specs.Prelude.{◌≡◌, nat_eq, position};
 ghost use Rattle.std.specs.List.{list_all, slice_split};

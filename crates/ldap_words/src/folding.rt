@@ -1,5 +1,4 @@
-// Octets whose letters are taken in lower case. Octets flow in; octets, or an order, flow out.
-// What must not be here: what is found among octets in order.
+//! Compares octets without regard to case.
 
 ghost use Rattle.std.specs.Prelude.{◌≡◌, map, IfOk};
 ghost use Rattle.std.specs.Char.{to_ascii_lowercase};

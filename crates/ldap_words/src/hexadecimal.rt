@@ -1,5 +1,4 @@
-// Octets in hexadecimal digits. Digits flow in, the number that they spell flows out.
-// What must not be here: what stands before the digits.
+//! Reads hexadecimal digits.
 
 ghost use Rattle.std.specs.Prelude.{◌≡◌, ◌<◌, IfSome};
 ghost use Rattle.ldap_words.specs.Hexadecimal.{hex_digit as hex_digit_of, hex_octet as hex_octet_of};

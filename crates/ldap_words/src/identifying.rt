@@ -1,5 +1,4 @@
-// Dotted object identifiers. Octets flow in, a yes or no flows out.
-// What must not be here: the names of a schema.
+//! Says whether octets are a dotted object identifier.
 
 ghost use Rattle.std.specs.Prelude.{◌≡◌};
 ghost use Rattle.ldap_words.specs.Identifiers.{is_numericoid as is_dotted, has_dot as has_dot_octet, are_numbers as are_number_parts};

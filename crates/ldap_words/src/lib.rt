@@ -1,12 +1,13 @@
-//! The words that schemas, filters and names are spelled with (RFC 4512 1.4), and the syntaxes and matching rules that exist (RFC 4517). Tells
-//! what kind of word or number octets are, and finds a rule by its name. Values, their keys and schemas are not here.
+//! Words that schemas, filters, names and LDIF are spelled with (RFC 4512 1.4), and the syntaxes and matching rules
+//! that exist (RFC 4517).
 //!
-//! The words that schemas, names, filters and LDIF share, as definitions and as code. They are descriptions (`describing`), numbers
-//! (`numbering`), object identifiers (`identifying`), hexadecimal digits (`hexadecimal`), octets in order without regard to case (`folding`).
-//! It has the syntaxes and matching rules (`rule`), by name and object identifier (`rules_by_name`), and what each family offers (`offering`).
+//! Words are descriptions (`describing`), numbers (`numbering`), object identifiers (`identifying`), hexadecimal digits
+//! (`hexadecimal`), and octets in order without regard to case (`folding`). Syntaxes and matching rules (`rule`) are
+//! found by name and object identifier (`rules_by_name`); `offering` has what each family offers.
 //!
-//! Proved: words are told by their grammar (`is_descr`, `is_numericoid`, `is_description`, `number_of_digits`, `hex_octet`), rules, syntaxes
-//! and families by their table (`equality_family`, `syntax_of`, `has_ordering`, `is_used_on`).
+//! Proved: words are told by their grammar (`is_descr`, `is_numericoid`, `is_description`, `number_of_digits`,
+//! `hex_octet`), rules, syntaxes and families by their table (`equality_family`, `syntax_of`, `has_ordering`,
+//! `is_used_on`).
 #![tactic(auto)]
 
 mod describing;

@@ -1,5 +1,4 @@
-// Whole numbers as they are written. Octets flow in; a yes or no, or a number, flows out.
-// What must not be here: rules and syntaxes.
+//! Reads whole numbers.
 
 ghost use Rattle.std.specs.Prelude.{◌≡◌, ◌≤◌, IfSome};
 ghost use Rattle.ldap_words.specs.Numbers.{is_digit as is_digit_octet, are_digits as are_digit_octets, is_whole as is_whole_number, is_number as is_number_text, is_integer as is_integer_text, greatest, with_digit as number_with_digit, number_of_digits as number_of};

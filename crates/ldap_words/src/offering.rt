@@ -1,5 +1,4 @@
-// Which rules a family has. A family and a syntax flow in, a yes or no flows out.
-// What must not be here: values, keys.
+//! Says which rules a family has.
 
 ghost use Rattle.std.specs.Prelude.{◌≡◌};
 ghost use Rattle.ldap_words.specs.Families.{is_ordering, has_substrings as offers_substrings, is_used_on as is_family_used_on, is_textual as is_text};

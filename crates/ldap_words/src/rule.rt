@@ -1,5 +1,4 @@
-// Syntaxes and rules by name. Nothing flows in; plain enums flow out, for a schema to put into its types.
-// What must not be here: how a rule compares.
+//! Syntaxes and rules by name.
 
 /// A syntax of values (RFC 4517 3.3). The number in each line is the last arc of `1.3.6.1.4.1.1466.115.121.1`.
 #[derive(Clone, Copy, Debug, PartialEq, Eq)]

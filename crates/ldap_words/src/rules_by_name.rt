@@ -1,5 +1,4 @@
-// Matching rules and syntaxes by name and object identifier. Words flow in, families and syntaxes flow out.
-// Descriptions and values are not here.
+//! Matching rules and syntaxes by name and object identifier.
 
 ghost use Rattle.std.specs.Prelude.{◌≡◌};
 ghost use Rattle.std.specs.Str.{bytes_eq};

@@ -1,5 +1,4 @@
--- The arguments of fields: RFC 4512 1.4 and 4.1. The tokens between two runs of spaces flow in, texts flow out; keywords are not
--- here.
+-- The arguments of fields: RFC 4512 1.4 and 4.1.
 use Rattle.std.specs.Prelude.{ℕ, ◌-◌, List, [], ◌∷◌, ◌++◌, length, map, take, drop, slice_get, Bool, true, false, cond, ◌&&◌, Option, None, Some, nat_lt, codes}
 use Rattle.std.specs.List.{list_all, slice_split, filter, prefix_len, suffix_len}
 use Rattle.schema_text.specs.Words.{is_same_word, is_descr, is_oid, bounded_oid}

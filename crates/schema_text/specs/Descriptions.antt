@@ -1,5 +1,4 @@
--- Descriptions of attribute types and object classes: RFC 4512 4.1.1 and 4.1.2. Octets flow in, a description flows out; what its
--- words stand for is not here.
+-- Descriptions of attribute types and object classes: RFC 4512 4.1.1 and 4.1.2.
 use Rattle.std.specs.Prelude.{ℕ, ◌-◌, List, [], ◌∷◌, ◌++◌, length, take, Bool, true, false, cond, ◌&&◌, Option, None, Some, nat_eq}
 use Rattle.schema_text.specs.Words.{is_numericoid, ends_with}
 use Rattle.schema_text.specs.Tokens.{tokens_of}

@@ -1,4 +1,4 @@
--- The grammar of descriptions: RFC 4512 1.4, 4.1.1 and 4.1.2. Octets and what they spell flow in; how they are read is not here.
+-- The grammar of descriptions: RFC 4512 1.4, 4.1.1 and 4.1.2.
 use Rattle.std.specs.Prelude.{ℕ, List, [], ◌∷◌, ◌++◌, All, Bool, true, false, Some, ◌≡◌, ◌↔◌}
 use Rattle.schema_text.specs.Tokens.{is_bare}
 use Rattle.schema_text.specs.Spelling.{IsSpelled}

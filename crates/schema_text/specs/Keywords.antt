@@ -1,5 +1,4 @@
--- The keywords of descriptions: RFC 4512 4.1.1 and 4.1.2. A word flows in, a keyword with its place and the shape of its argument
--- flows out; arguments are not here.
+-- The keywords of descriptions: RFC 4512 4.1.1 and 4.1.2.
 use Rattle.std.specs.Prelude.{ℕ, List, Bool, cond, ◌||◌, ◌&&◌, Option, None, Some, nat_eq, nat_lt, codes}
 use Rattle.schema_text.specs.Words.{is_same_word, is_extension}
 use Rattle.schema_text.specs.declared.keyword.Section.{Section}

@@ -1,4 +1,4 @@
--- The lines of a text as a grammar. A text and its lines flow in; how they are found is not here.
+-- The lines of a text as a grammar.
 use Rattle.std.specs.Prelude.{ℕ, List, [], ◌∷◌, ◌++◌, All, false, nat_eq, ◌≡◌, ◌↔◌}
 use Rattle.schema_text.specs.Texts.{without_return, lines_of}
 

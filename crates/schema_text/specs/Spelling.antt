@@ -1,4 +1,4 @@
--- The grammar of quoted texts and lists: RFC 4512 1.4. Octets and their tokens flow in; how they are told apart is not here.
+-- The grammar of quoted texts and lists: RFC 4512 1.4.
 use Rattle.std.specs.Prelude.{ℕ, List, [], ◌∷◌, Bool, true, false, ◌||◌, Some, nat_eq, ◌≡◌, ◌↔◌}
 use Rattle.schema_text.specs.Tokens.{bare, tokens_of}
 use Rattle.schema_text.specs.declared.token.Token.{Token}

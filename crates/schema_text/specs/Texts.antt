@@ -1,5 +1,4 @@
--- A schema's text, line by line. Octets flow in, the descriptions of types and classes flow out, with the first line that is
--- none; what descriptions mean together is not here.
+-- A schema's text, line by line.
 use Rattle.std.specs.Prelude.{ℕ, ◌+◌, ◌-◌, List, [], ◌∷◌, ◌++◌, length, map, take, drop, slice_get, Bool, true, cond, Option, None, Some, nat_eq, nat_lt, codes}
 use Rattle.std.specs.List.{slice_split}
 use Rattle.schema_text.specs.Words.{is_same_word, ends_with}

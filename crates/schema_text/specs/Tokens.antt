@@ -1,5 +1,4 @@
--- The octets of a description between its outer parentheses, each as what it stands for: RFC 4512 1.4. Octets flow in, tokens
--- flow out; words and fields are not here.
+-- The octets of a description between its outer parentheses, each as what it stands for: RFC 4512 1.4.
 use Rattle.std.specs.Prelude.{ℕ, List, [], ◌∷◌, ◌++◌, Bool, true, false, cond, ◌||◌, ◌&&◌, Option, None, Some, nat_eq}
 use Rattle.schema_text.specs.declared.token.Token.{Token}
 use Rattle.schema_text.specs.declared.token.Token.TheVariants.{Outer, Inner, Quoted, Open, Close}

@@ -1,4 +1,4 @@
--- The words of a description: RFC 4512 1.4. Octets flow in, a yes or no flows out; spaces, quotes and fields are not here.
+-- The words of a description: RFC 4512 1.4.
 use Rattle.std.specs.Prelude.{ℕ, ◌+◌, ◌-◌, List, [], ◌∷◌, length, take, drop, position, slice_get, Bool, false, cond, ◌&&◌, ◌||◌, Option, None, Some, nat_eq, nat_lt}
 use Rattle.std.specs.List.{list_all}
 pub use Rattle.ldap_words.specs.Identifiers.{is_numericoid}

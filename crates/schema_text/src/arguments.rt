@@ -1,5 +1,4 @@
-// Arguments of fields. The tokens between spaces flow in, texts flow out.
-// What must not be here: keywords, octets of a text.
+//! Reads the arguments of fields.
 
 ghost use Rattle.std.specs.Prelude.{◌≡◌, [], true, map, option_and_then, option_map, IfOk};
 ghost use Rattle.schema_text.specs.Arguments as arguments;

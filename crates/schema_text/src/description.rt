@@ -1,5 +1,4 @@
-// A description in its parts. Keywords and texts flow in and out.
-// What must not be here: how a description is read, what its words stand for.
+//! A description in its parts.
 
 ghost use Rattle.std.specs.Prelude.{◌≡◌, map, option_map};
 ghost use Rattle.schema_text.specs.Keywords.{place_of};

@@ -1,5 +1,4 @@
-// Descriptions read. The octets of a description flow in, its parts flow out.
-// What must not be here: lines of a text, what the words of a description stand for.
+//! Reads a description's fields.
 
 ghost use Rattle.std.specs.Prelude.{◌≡◌, [], None, map, option_map, IfOk};
 ghost use Rattle.schema_text.specs.Descriptions as descriptions;

@@ -1,5 +1,4 @@
-// The laws of lines and descriptions: reading and grammar are one. Nothing flows in or out.
-// What must not be here: code that reads.
+//! The laws of lines and descriptions: reading and grammar are one.
 
 ghost use Rattle.schema_text.specs.Grammar.{DescriptionsAreOfOctets};
 ghost use Rattle.schema_text.specs.Lines.{LinesAreOfText};

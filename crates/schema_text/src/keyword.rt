@@ -1,5 +1,4 @@
-// Keywords of descriptions. Words flow in; keywords, their places and the shapes of their arguments flow out.
-// What must not be here: arguments, lines.
+//! Keywords of descriptions.
 
 ghost use Rattle.std.specs.Prelude.{◌≡◌};
 ghost use Rattle.schema_text.specs.Keywords as keywords;

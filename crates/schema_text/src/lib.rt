@@ -1,9 +1,9 @@
-//! Reads the descriptions in a schema's text, and finds the first line that is none. What their names stand for, and schemas, are not here.
+//! Reads the descriptions in a schema's text, and finds the first line that is none.
 //!
 //! `text` cuts a text into lines; each description is taken from octets to tokens to fields.
 //!
-//! Proved: descriptions are those of RFC 4512's grammar, both ways, but for what E12 refuses (`read_text`, `descriptions_are_of_octets`,
-//! `tokens_are_spelled`).
+//! Proved: descriptions are those of RFC 4512's grammar, both ways, but for what E12 refuses (`read_text`,
+//! `descriptions_are_of_octets`, `tokens_are_spelled`).
 #![tactic(auto)]
 
 mod arguments;

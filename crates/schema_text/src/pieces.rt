@@ -1,5 +1,4 @@
-// Tokens cut. Tokens flow in, the parts of them that stand between spaces, separators and parentheses flow out.
-// What must not be here: keywords, octets of a text.
+//! Cuts tokens at spaces, separators and parentheses.
 
 ghost use Rattle.std.specs.Prelude.{◌≡◌, ◌≤◌, true, length, map, option_map, IfOk};
 ghost use Rattle.std.specs.List.{filter, list_all, slice_split, prefix_len, suffix_len};

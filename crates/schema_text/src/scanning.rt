@@ -1,5 +1,4 @@
-// Octets told apart. The octets of a description flow in, its tokens flow out.
-// What must not be here: words, fields, lines.
+//! Tells the octets of a description apart.
 
 ghost use Rattle.std.specs.Prelude.{◌≡◌, ◌&&◌, IfOk, option_map};
 ghost use Rattle.schema_text.specs.Tokens as tokens;

@@ -1,5 +1,4 @@
-// A schema's text, line by line. Octets flow in; descriptions, and the first line that is none, flow out.
-// What must not be here: the words of a description, what descriptions mean together.
+//! Reads a schema's text, line by line.
 
 ghost use Rattle.std.specs.Prelude.{◌≡◌, ◌-◌, ◌+◌, map, take, drop, nat_eq, IfOk, OnOk};
 ghost use Rattle.std.specs.List.{slice_split};

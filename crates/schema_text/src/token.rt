@@ -1,5 +1,4 @@
-// One octet of a description. An octet flows in; what it is there flows out.
-// What must not be here: words, fields, lines.
+//! One octet of a description.
 
 /// An octet of a description between its outer parentheses (RFC 4512 1.4).
 #[derive(Clone, Copy, Debug, PartialEq, Eq)]

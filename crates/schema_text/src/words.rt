@@ -1,5 +1,4 @@
-// Words of descriptions. Octets flow in, a yes or no flows out.
-// What must not be here: quotes, lists, fields.
+//! Says what words of a description are.
 
 ghost use Rattle.std.specs.Prelude.{◌≡◌, option_map, nat_eq, position};
 ghost use Rattle.std.specs.List.{list_all};

@@ -1,5 +1,5 @@
--- What the indexes decide of a bound filter is what they decide of the filter that it is made of, and the same of runs. No value of the program
--- is here.
+-- What the indexes decide of a bound filter is what they decide of the filter that it is made of, and the same of
+-- runs.
 use Rattle.std.proofs.Common.{◌≡◌, ℕ, ◌+◌, Bool, true, false, not, ◌&&◌, ◌||◌, List, [], ◌∷◌, ◌++◌, cond, Option, None, Some, Vec, Box, Global, map, refl, sym, ap, ap₂, ◌∙◌}
 use Rattle.std.specs.List.{list_any, list_all}
 use Rattle.ldap_eval.specs.dir_entry.ldap_schema.Schema.{SchemaModel, TypeModel, find, is_under}

@@ -1,4 +1,4 @@
--- Two plans that bound a bound filter are the plans of the filter that it is made of. No value of the program is here.
+-- Two plans that bound a bound filter are the plans of the filter that it is made of.
 use Rattle.std.proofs.Common.{◌≡◌, ℕ, Bool, true, false, List, [], ◌∷◌, Vec, Global, refl, sym, ap, ◌∙◌}
 use Rattle.ldap_eval.specs.dir_entry.ldap_schema.Schema.{SchemaModel}
 use Rattle.ldap_eval.specs.dir_entry.ldap_dn.Names.{RdnModel}

@@ -1,6 +1,4 @@
-// Look-ups that come one after the other, in one map.
-// In: a map, keys. Out: values. The leaf of the look-up before is tried first.
-// Not here: how a map is kept.
+//! Look-ups that come one after the other, in one map. The leaf of the look-up before is tried first.
 ghost use Rattle.std.specs.Prelude.{◌≡◌, ◌<◌, List, ◌++◌, length, IsTrue, option_copied};
 ghost use Rattle.std.specs.Map.{lookup};
 ghost use Rattle.std.specs.BTreeMap.{is_at};

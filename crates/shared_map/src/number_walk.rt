@@ -1,6 +1,4 @@
-// Walks over a set of numbers, in rising order.
-// In: a set, a number to go forward to. Out: its numbers, one a call, without memory.
-// Not here: how a set is kept.
+//! Walks over a set of numbers, in rising order.
 ghost use Rattle.std.specs.Prelude.{◌≡◌, ◌<◌, [], ◌∷◌, filter, nat_le, nat_lt, slice_get, MatchOption};
 ghost use Rattle.shared_map.specs.Ahead.{ahead};
 

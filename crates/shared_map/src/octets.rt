@@ -1,6 +1,4 @@
-// Octet strings that are cheap to share: short ones stand in the value itself, long ones have owners in common.
-// In: octets. Out: the same octets, and their order.
-// Not here: what the octets mean.
+//! Octet strings that are cheap to share: short ones stand in the value itself, long ones have owners in common.
 ghost use Rattle.std.specs.Prelude.{◌≡◌, ◌≤◌, length, IfOk, Some, refl};
 ghost use Rattle.std.specs.Cmp.{partial_equiv_from_equiv, partial_order_from_agreeing_total};
 ghost use Rattle.std.specs.Cmp.Lexicographic.{slice_cmp, nat_list_cmp_total, texts_ties};

@@ -1,6 +1,5 @@
-// Look-ups of several keys at once: all ways down go on level by level, so that the reads of one level don't wait for one another.
-// In: a tree, what is sought. Out: what stands there.
-// Not here: how one way goes down.
+//! Look-ups of several keys at once: all ways down go on level by level, so that the reads of one level don't wait for
+//! one another.
 ghost use Rattle.std.specs.Prelude.{◌≡◌, map, IfOk, option_copied};
 ghost use Rattle.std.specs.Map.{lookup};
 ghost use Rattle.std.specs.BTreeMap.{is_at};

@@ -1,4 +1,4 @@
-//! The number of a cluster. A number flows in, what is known to be one flows out. Nothing of slots or devices is here.
+//! The number of a cluster.
 ghost use Rattle.std.specs.Prelude.{◌≡◌, ◌⊎◌, ◌≤◌, ◌^◌, MatchOption};
 ghost use Rattle.view_store.specs.Cluster.{IsCluster};
 

@@ -1,5 +1,5 @@
-//! The pair of a cluster's replica in two slots of 32 octets, of which one is written at a time. Pairs flow in and out; a
-//! device is called. How a slot is spelled and in which order its octets are written is decided below this file.
+//! The pair of a cluster's replica in two slots of 32 octets, of which one is written at a time. How a slot is spelled
+//! and in which order its octets are written is decided below this file.
 ghost use Rattle.std.specs.Prelude.{◌≡◌, ◌≢◌, replicate, ◌≤◌, ◌+◌, ◌^◌, ◌↔◌, ◌⊎◌, ℕ, List, length, OnOk, OnErr, IfOk, IsErrOf, IsOk, Some};
 ghost use Rattle.view_store.specs.Device.{Only, HasRisen, LeavesOnly};
 ghost use Rattle.view_store.specs.Store.{IsFormerOrNew};

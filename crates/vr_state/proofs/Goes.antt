@@ -1,5 +1,5 @@
--- The log of a normal replica goes on while it stays in its view. In: each rule. Out: that clause of the law on steps.
--- A NEWSTATE is left out: it joins a tail to a beginning of the log.
+-- The log of a normal replica goes on while it stays in its view. A NEWSTATE is left out: it joins a tail to a
+-- beginning of the log.
 use Rattle.std.proofs.Common.{◌≡◌, ℕ, ◌+◌, ◌/◌, ◌<◌, ◌==◌, nat_lt, nat_le, Bool, true, false, cond, not, ◌&&◌, ◌||◌, ◌⊎◌, inl, inr, [], ◌∷◌, ◌++◌, length, Option, Some, None, arith, refl, ltb-true, true≢false}
 use Rattle.std.specs.List.{list_any}
 use Rattle.vr_state.specs.declared.event.Event.{Event}

@@ -1,5 +1,4 @@
--- Each step is journaled. In: what a step keeps. Out: that clause of the law on steps.
--- No rule of the protocol is looked into here.
+-- Each step is journaled. No rule of the protocol is looked into here.
 use Rattle.std.proofs.Common.{◌≡◌, ◌⊎◌, inl, inr, ℕ, zero, suc, ◌+◌, ◌<◌, ◌≤◌, ◌==◌, nat_lt, max, Bool, true, false, not, cond, ◌&&◌, List, [], ◌∷◌, ◌++◌, length, take, drop, map, refl, sym, ap, ap₂, ◌∙◌, subst, arith, eqb-true, ltb-true, true≢false, append_assoc, take-append-drop}
 use Rattle.std.proofs.lemmas.Bool.{cases_lt}
 use Rattle.std.proofs.lemmas.List.{append-nil, drop_at, drop_all}

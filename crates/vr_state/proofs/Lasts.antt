@@ -1,5 +1,4 @@
--- Who isn't normal after a step. In: each rule. Out: two clauses of the law on steps: of its last normal view, and of who recovers.
--- Nothing of logs is here.
+-- Who isn't normal after a step.
 use Rattle.std.proofs.Common.{◌≡◌, ℕ, ◌+◌, ◌/◌, ◌==◌, nat_lt, nat_le, Bool, true, false, not, ◌&&◌, ◌||◌, [], ◌∷◌, ◌++◌, length, Option, Some, None, refl, sym, true≢false}
 use Rattle.std.specs.List.{list_any}
 use Rattle.vr_state.specs.declared.event.Event.{Event}

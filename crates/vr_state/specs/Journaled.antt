@@ -1,5 +1,5 @@
--- What is noted of a step in a journal, and what notes stand for. In: a replica before and after a step. Out: notes; what is kept after them.
--- How a note is spelled, and when it is settled, is not said here.
+-- What is noted of a step in a journal, and what notes stand for. What is kept after them. How a note is spelled, and
+-- when it is settled, is not said here.
 use Rattle.std.specs.Prelude.{◌≡◌, ◌⊎◌, ℕ, ◌≤◌, max, Bool, true, not, cond, ◌&&◌, ◌==◌, nat_lt, List, [], ◌∷◌, ◌++◌, length, take, drop, map}
 use Rattle.vr_state.specs.State.{State, LogEntry, is_normal, is_recovering}
 use Rattle.vr_state.specs.Step.{Event, step}

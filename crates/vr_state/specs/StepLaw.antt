@@ -1,5 +1,5 @@
--- What each step keeps, whatever the other replicas do. In: the step of one replica. Out: the clauses of the law on steps.
--- What holds of a whole cluster stands in the crate above, over all schedules.
+-- What each step keeps, whatever the other replicas do. What holds of a whole cluster stands in the crate above, over
+-- all schedules.
 use Rattle.std.specs.Prelude.{◌≡◌, ℕ, ◌/◌, ◌<◌, ◌≤◌, ◌⊎◌, nat_le, Bool, true, false, List, [], ◌∷◌, ◌++◌, length, take, Some, slice_index}
 use Rattle.log_entry.specs.declared.words.Client.{Client}
 use Rattle.log_entry.specs.declared.words.LogEntry.{LogEntry}

@@ -1,6 +1,5 @@
-// A replica: its state, the table beside its log, and who it is.
-// In: an index and a count, records, logs. Out: a replica at its start or after a crash, and its log with the table of it.
-// The steps stand in the crates above, and what each must do in specs/.
+//! A replica: its state, the table beside its log, and who it is. The steps stand in the crates above, and what each
+//! must do in specs/.
 ghost use Rattle.std.specs.Prelude.{◌≡◌, ◌<◌, ◌≤◌, ◌++◌, length, take, IfOk, OnOk, OnErr};
 ghost use Rattle.vr_state.specs.ClientTable.{IsTableOf};
 

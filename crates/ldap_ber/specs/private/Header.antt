@@ -1,5 +1,4 @@
--- Wire, the lowest floor: what contracts that aren't public say of it.
--- What public contracts say is in specs/Header.
+-- What contracts that aren't public say of it. What public contracts say is in specs/Header.
 use Rattle.std.specs.Prelude.{ℕ, ◌-◌, ◌%◌, List, [], ◌∷◌, length, Result, Ok, Err, ◌==◌, if◌then◌else◌}
 use Rattle.ldap_ber.specs.declared.fault.BerFault.{BerFault}
 use Rattle.ldap_ber.specs.declared.fault.BerFault.TheVariants.{HighTag, Short}

@@ -1,5 +1,4 @@
 -- Octets of a value that are printed as they are.
--- In: an octet. Out: whether it is such a one. Not here: what is printed.
 use Rattle.std.specs.Prelude.{ℕ, Bool, ◌&&◌, not, nat_eq, nat_lt}
 use Rattle.ldap_dn.specs.Printed.{is_special}
 

@@ -1,5 +1,4 @@
--- Wire, filters: what contracts that aren't public say of it.
--- What public contracts say is in specs/Limits.
+-- What contracts that aren't public say of it. What public contracts say is in specs/Limits.
 use Rattle.std.specs.Prelude.{◌≡◌, ℕ, ◌+◌, ◌≤◌, List, ◌++◌}
 use Rattle.ldap_fields.specs.declared.fault.MsgFault.{MsgFault}
 use Rattle.ldap_fields.specs.declared.fault.MsgFault.TheVariants.{TooLarge, NotAMessage, TooDeep, TooManyItems, NoMemory}

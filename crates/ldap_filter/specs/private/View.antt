@@ -1,5 +1,4 @@
--- Wire, filters: what contracts that aren't public say of it.
--- What public contracts say is in specs/View.
+-- What contracts that aren't public say of it. What public contracts say is in specs/View.
 use Rattle.std.specs.Prelude.{List, map}
 use Rattle.ldap_filter.specs.Tree.{Trees}
 use Rattle.ldap_filter.specs.declared.tree.Filter.{Filter}

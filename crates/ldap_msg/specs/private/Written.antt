@@ -1,5 +1,4 @@
--- Wire, messages: what contracts that aren't public say of it.
--- What public contracts say is in specs/Written.
+-- What contracts that aren't public say of it. What public contracts say is in specs/Written.
 use Rattle.std.specs.Prelude.{ℕ, List, ◌++◌}
 use Rattle.ldap_requests.specs.ldap_fields.Written.{number_bytes}
 

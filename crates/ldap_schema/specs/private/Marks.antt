@@ -1,4 +1,4 @@
--- The numbers of classes as a set. Numbers flow in and out; what a class is is not here.
+-- The numbers of classes as a set.
 use Rattle.std.specs.Prelude.{ℕ, List, ◌≡◌}
 use Rattle.std.specs.Ordering.{nat_cmp}
 use Rattle.std.specs.BTreeSet.{BTreeSet, contains}

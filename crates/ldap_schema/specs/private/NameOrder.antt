@@ -1,4 +1,4 @@
--- Names in order, with the numbers that they stand for. Names flow in, numbers flow out; types and classes are not here.
+-- Names in order, with the numbers that they stand for.
 use Rattle.std.specs.Prelude.{ℕ, List, [], ◌∷◌, ◌≡◌, Option, map}
 use Rattle.std.specs.declared.cmp.Ordering.TheVariants.{Less}
 use Rattle.std.specs.Map.{lookup}

@@ -1,4 +1,4 @@
--- Octets that preparation leaves as they are. Octets flow in, a yes or no flows out; texts are not here.
+-- Octets that preparation leaves as they are.
 use Rattle.std.specs.Prelude.{ℕ, List, [], ◌∷◌, Bool, true, false, cond, ◌&&◌, not, nat_eq, nat_le}
 
 -- whether octets are those of ASCII that are seen, with single SPACEs between them, where a SPACE came before or not

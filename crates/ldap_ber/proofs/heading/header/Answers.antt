@@ -1,4 +1,4 @@
--- Wire, the lowest floor: the goals of `header` that no tactic closes, each by one lemma over plain lists.
+-- The goals of `header` that no tactic closes, each by one lemma over plain lists.
 use Rattle.std.proofs.Common.{ap, arith}
 use Rattle.std.proofs.lemmas.Result.{IfOk-weaker}
 use Rattle.ldap_ber.proofs.Numbers.{octets_from}

@@ -1,4 +1,4 @@
--- Wire, the lowest floor: the goals of `element_length` that are answered, each by one lemma over plain lists.
+-- The goals of `element_length` that are answered, each by one lemma over plain lists.
 use Rattle.ldap_ber.proofs.Written.{element_measure}
 use Rattle.ldap_ber.proofs.measuring.element_length.Goals as goal
 

@@ -1,4 +1,4 @@
--- Wire, the lowest floor: the goals of `integer_length` that are answered, each by one lemma over plain lists.
+-- The goals of `integer_length` that are answered, each by one lemma over plain lists.
 use Rattle.std.proofs.Common.{◌≡◌, ap, ◌∙◌, arith, to_z, of_z, w64}
 use Rattle.std.proofs.lemmas.Int.{ints}
 use Rattle.ldap_ber.specs.Values.{bits_of}

@@ -1,4 +1,4 @@
--- Wire, the lowest floor: the goals of `complement` that no tactic closes, each by one lemma over plain lists.
+-- The goals of `complement` that no tactic closes, each by one lemma over plain lists.
 use Rattle.std.proofs.Common.{ℕ, ◌+◌, ◌-◌, ◌*◌, length, get_or, ap, sym, ◌∙◌, arith}
 use Rattle.ldap_ber.proofs.Numbers.{fits, grows, number_more_map}
 use Rattle.ldap_ber.proofs.octets.complement.Goals as goal

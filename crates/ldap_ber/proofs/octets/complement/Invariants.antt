@@ -1,4 +1,4 @@
--- Wire, the lowest floor: what the loops of `complement` keep, and what grows less.
+-- What the loops of `complement` keep, and what grows less.
 use Rattle.std.proofs.Common.{◌≡◌, ◌*◌, ◌-◌, ◌^◌, ◌<◌, take, map}
 use Rattle.ldap_ber.specs.Number.{number}
 use Rattle.ldap_ber.proofs.octets.complement.Given as goal

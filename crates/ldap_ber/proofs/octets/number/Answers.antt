@@ -1,4 +1,4 @@
--- Wire, the lowest floor: the goals of `number` that no tactic closes, each by one lemma over plain lists.
+-- The goals of `number` that no tactic closes, each by one lemma over plain lists.
 use Rattle.std.proofs.Common.{ℕ, ◌+◌, ◌*◌, length, get_or, ap, sym, ◌∙◌, arith}
 use Rattle.ldap_ber.proofs.Numbers.{fits, grows, number_more}
 use Rattle.ldap_ber.proofs.octets.number.Goals as goal

@@ -1,4 +1,4 @@
--- Wire, the lowest floor: what the loops of `number` keep, and what grows less.
+-- What the loops of `number` keep, and what grows less.
 use Rattle.std.proofs.Common.{◌≡◌, ◌*◌, ◌^◌, ◌<◌, take}
 use Rattle.ldap_ber.specs.Number.{number}
 use Rattle.ldap_ber.proofs.octets.number.Given as goal

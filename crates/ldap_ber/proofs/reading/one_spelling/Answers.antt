@@ -1,4 +1,4 @@
--- Wire, the lowest floor: the goals of `one_spelling` that no tactic closes, each by one lemma over plain lists.
+-- The goals of `one_spelling` that no tactic closes, each by one lemma over plain lists.
 use Rattle.ldap_ber.proofs.Elements.{one}
 use Rattle.ldap_ber.proofs.reading.one_spelling.Goals as goal
 

@@ -1,4 +1,4 @@
--- Wire, the lowest floor: the goals of `integer` that no tactic closes, each by one lemma over plain lists.
+-- The goals of `integer` that no tactic closes, each by one lemma over plain lists.
 use Rattle.std.proofs.Common.{◌^◌, ◌<◌, arith}
 use Rattle.std.proofs.lemmas.Int.{ints}
 use Rattle.ldap_ber.proofs.Numbers.{octets_from}

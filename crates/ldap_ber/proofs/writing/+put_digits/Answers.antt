@@ -1,4 +1,4 @@
--- Wire, the lowest floor: the goals of `+put_digits` that no tactic closes, each by one lemma over plain lists.
+-- The goals of `put_digits` that no tactic closes, each by one lemma over plain lists.
 use Rattle.ldap_ber.proofs.Digits.{push_digit}
 use Rattle.ldap_ber.proofs.writing.+put_digits.Goals as goal
 

@@ -1,4 +1,4 @@
--- Wire, the lowest floor: what the loops of `+put_digits` keep, and what grows less.
+-- What the loops of `put_digits` keep, and what grows less.
 use Rattle.ldap_ber.proofs.writing.+put_digits.Given as goal
 
 abbrev pub decreases-put_digits : goal.decreases-put_digits

@@ -1,4 +1,4 @@
--- Wire, the lowest floor: the goals of `shortest` that no tactic closes, each by one lemma over plain lists.
+-- The goals of `shortest` that no tactic closes, each by one lemma over plain lists.
 use Rattle.ldap_ber.proofs.Written.{written, shortest}
 use Rattle.ldap_ber.proofs.writing.shortest.Goals as goal
 

@@ -1,4 +1,4 @@
--- Wire, the lowest floor: the goals of `shortest_integer` that no tactic closes, each by one lemma over plain lists.
+-- The goals of `shortest_integer` that no tactic closes, each by one lemma over plain lists.
 use Rattle.ldap_ber.proofs.Digits.{is_content}
 use Rattle.ldap_ber.proofs.writing.shortest_integer.Goals as goal
 

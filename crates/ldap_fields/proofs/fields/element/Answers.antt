@@ -1,4 +1,4 @@
--- Wire, between elements and messages: the goals of `element` that no tactic closes, each by one lemma over plain lists.
+-- The goals of `element` that no tactic closes, each by one lemma over plain lists.
 use Rattle.ldap_fields.proofs.fields.element.Goals as goal
 
 pub returns-in-Err-clause-fault : goal.returns-in-Err-clause-fault

@@ -1,4 +1,4 @@
--- Wire, between elements and messages: the goals of `integer_field` that no tactic closes, each by one lemma over plain lists.
+-- The goals of `integer_field` that no tactic closes, each by one lemma over plain lists.
 use Rattle.std.proofs.lemmas.Result.{err_from_is_err_and}
 use Rattle.ldap_fields.proofs.Same.{plain_weaker, integer_inside}
 use Rattle.ldap_fields.proofs.fields.integer_field.Goals as goal

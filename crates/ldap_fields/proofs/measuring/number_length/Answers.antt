@@ -1,4 +1,4 @@
--- Wire, between elements and messages: the goals of `number_length` that no tactic closes, each by one lemma over plain lists.
+-- The goals of `number_length` that no tactic closes, each by one lemma over plain lists.
 use Rattle.std.proofs.Common.{◌≡◌, length, ap, ◌∙◌, arith, to_z, of_z, w64}
 use Rattle.std.specs.Prelude.{ℤ}
 use Rattle.std.proofs.lemmas.Int.{ints}

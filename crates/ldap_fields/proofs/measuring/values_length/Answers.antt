@@ -1,4 +1,4 @@
--- Wire, between elements and messages: the goals of `values_length` that no tactic closes, each by one lemma over plain lists.
+-- The goals of `values_length` that no tactic closes, each by one lemma over plain lists.
 use Rattle.std.proofs.Common.{ℕ, List, length, min, ap}
 use Rattle.ldap_ber.specs.Element.{element_bytes}
 use Rattle.ldap_fields.proofs.Written.{row_measure}

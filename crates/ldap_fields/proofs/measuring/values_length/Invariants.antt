@@ -1,4 +1,4 @@
--- Wire, between elements and messages: what the loops of `values_length` keep, and what grows less.
+-- What the loops of `values_length` keep, and what grows less.
 use Rattle.std.proofs.Common.{◌≡◌, length, min, take, map}
 use Rattle.ldap_ber.specs.Element.{element_bytes}
 use Rattle.ldap_fields.specs.Rows.{row_bytes}

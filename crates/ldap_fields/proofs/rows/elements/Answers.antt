@@ -1,4 +1,4 @@
--- Wire, between elements and messages: the goals of `elements` that no tactic closes, each by one lemma over plain lists.
+-- The goals of `elements` that no tactic closes, each by one lemma over plain lists.
 use Rattle.std.proofs.lemmas.Result.{err_from_is_err_and}
 use Rattle.ldap_fields.proofs.RowLemmas.{passed_one, passed_all, passed_fault, some_left, none_left}
 use Rattle.ldap_fields.proofs.rows.elements.Goals as goal

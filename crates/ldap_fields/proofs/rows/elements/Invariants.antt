@@ -1,4 +1,4 @@
--- Wire, between elements and messages: what the loops of `elements` keep, and what grows less.
+-- What the loops of `elements` keep, and what grows less.
 use Rattle.std.proofs.Common.{length}
 use Rattle.ldap_fields.proofs.RowLemmas.{Passed}
 use Rattle.ldap_fields.proofs.rows.elements.Given as goal

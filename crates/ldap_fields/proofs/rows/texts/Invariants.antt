@@ -1,4 +1,4 @@
--- Wire, between elements and messages: what the loops of `texts` keep, and what grows less.
+-- What the loops of `texts` keep, and what grows less.
 use Rattle.std.proofs.Common.{length, map}
 use Rattle.std.specs.Prelude.{string_bytes}
 use Rattle.ldap_fields.specs.Fields.{HasText}

@@ -1,4 +1,4 @@
--- Wire, between elements and messages: what the loops of `values` keep, and what grows less.
+-- What the loops of `values` keep, and what grows less.
 use Rattle.std.proofs.Common.{length, map}
 use Rattle.ldap_fields.specs.Fields.{HasField}
 use Rattle.ldap_fields.proofs.RowLemmas.{SoFar}

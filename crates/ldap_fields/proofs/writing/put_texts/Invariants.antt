@@ -1,4 +1,4 @@
--- Wire, between elements and messages: what the loops of `put_texts` keep, and what grows less.
+-- What the loops of `put_texts` keep, and what grows less.
 use Rattle.std.proofs.Common.{◌≡◌, ◌++◌, take, map}
 use Rattle.std.specs.Prelude.{string_bytes}
 use Rattle.ldap_ber.specs.Element.{element_bytes}

@@ -1,4 +1,4 @@
--- Wire, between elements and messages: the goals of `put_values` that no tactic closes, each by one lemma over plain lists.
+-- The goals of `put_values` that no tactic closes, each by one lemma over plain lists.
 use Rattle.std.proofs.Common.{◌∙◌}
 use Rattle.std.proofs.lemmas.Result.{err_from_is_err_and}
 use Rattle.ldap_ber.specs.Element.{element_bytes}

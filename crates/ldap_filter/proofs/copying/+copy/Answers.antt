@@ -1,4 +1,4 @@
--- Wire, filters: the goals of `+copy` that no tactic closes, each by one lemma over plain lists.
+-- The goals of `copy` that no tactic closes, each by one lemma over plain lists.
 use Rattle.std.proofs.Common.{ℕ, ◌+◌, ◌<◌, ◌≡◌, List, [], ◌∷◌, ◌++◌, length, get_or, take, ap, ap₂, sym, ◌∙◌}
 use Rattle.std.proofs.lemmas.List.{take_more}
 use Rattle.ldap_filter.specs.View.{view}

@@ -1,4 +1,4 @@
--- Wire, filters: what the loop of `copy_all` keeps.
+-- What the loop of `copy_all` keeps.
 use Rattle.std.proofs.Common.{◌≡◌, ◌++◌, drop, map}
 use Rattle.ldap_filter.proofs.copying_item.copy_all.Given as goal
 

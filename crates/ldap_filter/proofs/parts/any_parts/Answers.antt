@@ -1,4 +1,4 @@
--- Wire, filters: the goals of `any_parts` that no tactic closes, each by one lemma over plain lists.
+-- The goals of `any_parts` that no tactic closes, each by one lemma over plain lists.
 use Rattle.std.proofs.Common.{map, ap, ◌∙◌}
 use Rattle.std.proofs.lemmas.List.{map_push}
 use Rattle.std.proofs.lemmas.Result.{err_from_is_err_and}

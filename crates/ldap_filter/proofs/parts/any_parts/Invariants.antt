@@ -1,4 +1,4 @@
--- Wire, filters: what the loop of `any_parts` keeps, and what grows less.
+-- What the loop of `any_parts` keeps, and what grows less.
 use Rattle.std.proofs.Common.{map, length}
 use Rattle.ldap_filter.proofs.Exits.{SomeParts}
 use Rattle.ldap_filter.proofs.parts.any_parts.Given as goal

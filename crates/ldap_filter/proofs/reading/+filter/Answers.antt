@@ -1,4 +1,4 @@
--- Wire, filters: the goals of `+filter` that no tactic closes, each by one lemma over plain lists.
+-- The goals of `filter` that no tactic closes, each by one lemma over plain lists.
 use Rattle.std.proofs.Common.{◌≡◌, ℕ, [], ◌∷◌, ◌++◌, ap, subst, inl, inr, ◌∙◌, arith, rules}
 use Rattle.std.proofs.lemmas.Result.{err_from_is_err_and}
 use Rattle.ldap_filter.specs.View.{view}

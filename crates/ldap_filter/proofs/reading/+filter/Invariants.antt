@@ -1,4 +1,4 @@
--- Wire, filters: what the loops of `+filter` keep, and what grows less.
+-- What the loops of `filter` keep, and what grows less.
 use Rattle.std.proofs.Common.{◌+◌, ◌*◌}
 use Rattle.ldap_filter.specs.private.View.{views}
 use Rattle.ldap_filter.proofs.Rows.{SoFar}

@@ -1,4 +1,4 @@
--- Wire, filters: the goals of `read_filter` that no tactic closes, each by one lemma over plain lists.
+-- The goals of `read_filter` that no tactic closes, each by one lemma over plain lists.
 use Rattle.std.proofs.lemmas.Result.{err_from_is_err_and}
 use Rattle.ldap_filter.specs.View.{view}
 use Rattle.ldap_filter.proofs.Texts.{only_ok, only_err}

@@ -1,4 +1,4 @@
--- Wire, filters: the goals of `assertion` that no tactic closes, each by one lemma over plain lists.
+-- The goals of `assertion` that no tactic closes, each by one lemma over plain lists.
 use Rattle.std.specs.Prelude.{string_bytes}
 use Rattle.std.proofs.lemmas.Result.{err_from_is_err_and}
 use Rattle.ldap_fields.proofs.Same.{plain_weaker}

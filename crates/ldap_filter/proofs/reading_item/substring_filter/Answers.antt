@@ -1,4 +1,4 @@
--- Wire, filters: the goals of `substring_filter` that no tactic closes, each by one lemma over plain lists.
+-- The goals of `substring_filter` that no tactic closes, each by one lemma over plain lists.
 use Rattle.std.proofs.Common.{refl, string_bytes}
 use Rattle.std.proofs.lemmas.Result.{err_from_is_err_and}
 use Rattle.ldap_fields.proofs.Same.{plain_weaker}

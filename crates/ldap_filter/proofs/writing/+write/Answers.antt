@@ -1,4 +1,4 @@
--- Wire, filters: the goals of `+write` that no tactic closes, each by one lemma over plain lists.
+-- The goals of `write` that no tactic closes, each by one lemma over plain lists.
 use Rattle.std.proofs.lemmas.Result.{err_from_is_err_and}
 use Rattle.ldap_filter.proofs.Written.{row_step, row_long}
 use Rattle.ldap_filter.proofs.writing.+write.Goals as goal

@@ -1,4 +1,4 @@
--- Wire, filters: the goals of `is_spelling` that no tactic closes, each by one lemma over plain lists.
+-- The goals of `is_spelling` that no tactic closes, each by one lemma over plain lists.
 use Rattle.ldap_filter.proofs.Spelled.{written}
 use Rattle.ldap_filter.proofs.writing.is_spelling.Goals as goal
 

@@ -1,4 +1,4 @@
--- Wire, filters: the goals of `put_any_parts` that no tactic closes, each by one lemma over plain lists.
+-- The goals of `put_any_parts` that no tactic closes, each by one lemma over plain lists.
 use Rattle.std.proofs.lemmas.Result.{err_from_is_err_and}
 use Rattle.ldap_fields.specs.ldap_ber.Element.{element_bytes}
 use Rattle.ldap_fields.proofs.Written.{row_step, row_long, element_long}

@@ -1,4 +1,4 @@
--- Wire, filters: what the loops of `put_any_parts` keep, and what grows less.
+-- What the loops of `put_any_parts` keep, and what grows less.
 use Rattle.std.proofs.Common.{◌≡◌, ◌++◌, take, map}
 use Rattle.ldap_fields.specs.ldap_ber.Element.{element_bytes}
 use Rattle.ldap_fields.specs.Rows.{row_bytes}

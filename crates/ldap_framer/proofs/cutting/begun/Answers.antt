@@ -1,4 +1,4 @@
--- Wire, streams: the goals of `begun` that no tactic closes, each by one lemma over plain lists.
+-- The goals of `begun` that no tactic closes, each by one lemma over plain lists.
 use Rattle.std.proofs.Common.{ℕ, ◌+◌, refl, sym, subst, take, inl, arith}
 use Rattle.ldap_msg.specs.ldap_ber.Header.{IsHeaderFault}
 use Rattle.ldap_msg.specs.ldap_ber.declared.fault.BerFault.TheVariants.{HighTag, Indefinite, LengthTooLong}

@@ -1,4 +1,4 @@
--- Wire, streams: the goals of `cut` that no tactic closes, each by one lemma over plain lists.
+-- The goals of `cut` that no tactic closes, each by one lemma over plain lists.
 use Rattle.std.proofs.Common.{map}
 use Rattle.ldap_msg.specs.View.{view}
 use Rattle.ldap_framer.specs.Stream.{stops}

@@ -1,4 +1,4 @@
--- Wire, streams: what the loop of `cut` keeps, and what grows less.
+-- What the loop of `cut` keeps, and what grows less.
 use Rattle.std.proofs.Common.{length, map}
 use Rattle.ldap_msg.specs.View.{view}
 use Rattle.ldap_framer.proofs.Frames.{SoFar}

@@ -1,4 +1,4 @@
--- Wire, streams: the goals of `frame_of` that no tactic closes, each by one lemma over plain lists.
+-- The goals of `frame_of` that no tactic closes, each by one lemma over plain lists.
 use Rattle.std.proofs.Common.{subst, take, inr}
 use Rattle.ldap_msg.specs.ldap_fields.declared.fault.MsgFault.TheVariants.{NotAMessage, TooDeep, TooManyItems}
 use Rattle.ldap_msg.specs.Limits.{IsFault}

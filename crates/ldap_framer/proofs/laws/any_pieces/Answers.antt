@@ -1,4 +1,4 @@
--- Wire, streams: the law `any_pieces`, by its lemma.
+-- The law `any_pieces`, by its lemma.
 use Rattle.ldap_framer.proofs.Frames.{goes_on}
 use Rattle.ldap_framer.proofs.laws.any_pieces.Goals as goal
 

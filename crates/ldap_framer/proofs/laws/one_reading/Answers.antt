@@ -1,4 +1,4 @@
--- Wire, streams: the law `one_reading`, by its lemma.
+-- The law `one_reading`, by its lemma.
 use Rattle.ldap_framer.proofs.OneReading.{one_reading}
 use Rattle.ldap_framer.proofs.laws.one_reading.Goals as goal
 

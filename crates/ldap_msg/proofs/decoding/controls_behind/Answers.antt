@@ -1,4 +1,4 @@
--- Wire, messages: the goals of `controls_behind` that no tactic closes.
+-- The goals of `controls_behind` that no tactic closes.
 use Rattle.std.proofs.Common.{List}
 use Rattle.std.proofs.lemmas.Result.{IfErr-weaker}
 use Rattle.ldap_requests.specs.ldap_fields.Faults.{IsPlainFault}

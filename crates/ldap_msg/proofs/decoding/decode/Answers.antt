@@ -1,4 +1,4 @@
--- Wire, messages: the goals of `decode` that no tactic closes, each by one lemma over plain lists.
+-- The goals of `decode` that no tactic closes, each by one lemma over plain lists.
 use Rattle.ldap_requests.proofs.ldap_fields.RowLemmas.{some_left, none_left}
 use Rattle.ldap_msg.specs.View.{view}
 use Rattle.ldap_msg.proofs.Exits.{message_whole}

@@ -1,4 +1,4 @@
--- Wire, messages: the goals of `message_of` that no tactic closes, each by one lemma over plain lists.
+-- The goals of `message_of` that no tactic closes, each by one lemma over plain lists.
 use Rattle.std.proofs.lemmas.Result.{err_from_is_err_and}
 use Rattle.ldap_msg.specs.View.{operation_view}
 use Rattle.ldap_requests.proofs.Exits.{limit_weaker, from_plain}

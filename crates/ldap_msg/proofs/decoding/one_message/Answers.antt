@@ -1,4 +1,4 @@
--- Wire, messages: the goals of `one_message` that no tactic closes, each by one lemma over plain lists.
+-- The goals of `one_message` that no tactic closes, each by one lemma over plain lists.
 use Rattle.ldap_msg.proofs.Unique.{one}
 use Rattle.ldap_msg.proofs.decoding.one_message.Goals as goal
 

@@ -1,4 +1,4 @@
--- Wire, messages: the goals of `operation_field` that no tactic closes, each by one lemma over plain lists.
+-- The goals of `operation_field` that no tactic closes, each by one lemma over plain lists.
 use Rattle.std.proofs.lemmas.Result.{err_from_is_err_and}
 use Rattle.ldap_requests.proofs.Exits.{limit_weaker}
 use Rattle.ldap_msg.proofs.Exits.{operation_inside, operation_at}

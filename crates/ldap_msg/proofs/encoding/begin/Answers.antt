@@ -1,4 +1,4 @@
--- Wire, messages: the goals of `begin` that no tactic closes, each by one lemma over plain lists.
+-- The goals of `begin` that no tactic closes, each by one lemma over plain lists.
 use Rattle.std.proofs.Common.{◌∷◌, inl, inr}
 use Rattle.std.proofs.lemmas.Result.{err_from_is_err_and}
 use Rattle.ldap_requests.specs.ldap_ber.Element.{length_octets}

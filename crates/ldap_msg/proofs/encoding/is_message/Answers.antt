@@ -1,4 +1,4 @@
--- Wire, messages: the goals of `is_message` that no tactic closes, each by one lemma over plain lists.
+-- The goals of `is_message` that no tactic closes, each by one lemma over plain lists.
 use Rattle.ldap_msg.proofs.Spelled.{is_message}
 use Rattle.ldap_msg.proofs.encoding.is_message.Goals as goal
 

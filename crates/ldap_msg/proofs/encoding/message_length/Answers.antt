@@ -1,4 +1,4 @@
--- Wire, messages: the goals of `message_length` that no tactic closes, each by one lemma over plain lists.
+-- The goals of `message_length` that no tactic closes, each by one lemma over plain lists.
 use Rattle.std.proofs.Common.{ℕ, ◌+◌, min, ap, ◌∙◌}
 use Rattle.ldap_requests.specs.ldap_ber.Element.{element_bytes}
 use Rattle.ldap_requests.specs.ldap_fields.Written.{number_bytes}

@@ -1,4 +1,4 @@
--- Wire, messages: the goals of `put_entry_message` that no tactic closes, each by one lemma over plain lists.
+-- The goals of `put_entry_message` that no tactic closes, each by one lemma over plain lists.
 use Rattle.std.proofs.Common.{map, refl, arith}
 use Rattle.std.proofs.lemmas.Result.{err_from_is_err_and}
 use Rattle.ldap_requests.proofs.ldap_fields.Puts.{same_error}

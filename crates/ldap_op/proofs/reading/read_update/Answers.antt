@@ -1,4 +1,4 @@
--- Wire, updates by themselves: the goals of `read_update` that no tactic closes, each by one lemma over plain lists.
+-- The goals of `read_update` that no tactic closes, each by one lemma over plain lists.
 use Rattle.std.proofs.lemmas.Result.{err_from_is_err_and}
 use Rattle.ldap_updates.proofs.ldap_fields.Same.{plain_weaker}
 use Rattle.ldap_updates.proofs.ldap_fields.RowLemmas.{some_left, none_left}

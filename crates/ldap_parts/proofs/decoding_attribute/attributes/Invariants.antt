@@ -1,4 +1,4 @@
--- Wire, parts of messages: what the loops of `attributes` keep, and what grows less.
+-- What the loops of `attributes` keep, and what grows less.
 use Rattle.std.proofs.Common.{length, map}
 use Rattle.ldap_fields.proofs.RowLemmas.{SoFar}
 use Rattle.ldap_parts.specs.View.{attribute_view}

@@ -1,4 +1,4 @@
--- Wire, parts of messages: the goals of `control_of` that no tactic closes, each by one lemma over plain lists.
+-- The goals of `control_of` that no tactic closes, each by one lemma over plain lists.
 use Rattle.std.proofs.lemmas.Result.{err_from_is_err_and}
 use Rattle.ldap_fields.proofs.Same.{plain_weaker}
 use Rattle.ldap_parts.proofs.Exits.{control_criticality, control_end, control_value}

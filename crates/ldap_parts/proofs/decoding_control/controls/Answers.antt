@@ -1,4 +1,4 @@
--- Wire, parts of messages: the goals of `controls` that no tactic closes, each by one lemma over plain lists.
+-- The goals of `controls` that no tactic closes, each by one lemma over plain lists.
 use Rattle.std.proofs.lemmas.Result.{err_from_is_err_and}
 use Rattle.ldap_fields.proofs.Same.{field_shorter}
 use Rattle.ldap_fields.proofs.RowLemmas.{goes_on_map, ends, fails, some_left, none_left}

@@ -1,4 +1,4 @@
--- Wire, parts of messages: the goals of `attributes_length` that no tactic closes, each by one lemma over plain lists.
+-- The goals of `attributes_length` that no tactic closes, each by one lemma over plain lists.
 use Rattle.ldap_fields.proofs.Written.{row_measure}
 use Rattle.ldap_fields.proofs.Measures.{same_measure}
 use Rattle.ldap_parts.specs.Written.{attribute_content, attribute_bytes}

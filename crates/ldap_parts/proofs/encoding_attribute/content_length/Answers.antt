@@ -1,4 +1,4 @@
--- Wire, parts of messages: the goals of `content_length` that no tactic closes, each by one lemma over plain lists.
+-- The goals of `content_length` that no tactic closes, each by one lemma over plain lists.
 use Rattle.std.proofs.Common.{ℕ, List, length, min, ap, ◌∙◌}
 use Rattle.ldap_fields.specs.ldap_ber.Element.{element_bytes}
 use Rattle.ldap_fields.specs.Rows.{row_bytes}

@@ -1,4 +1,4 @@
--- Wire, parts of messages: what the loops of `put_attributes` keep, and what grows less.
+-- What the loops of `put_attributes` keep, and what grows less.
 use Rattle.std.proofs.Common.{◌≡◌, ◌++◌, take, map}
 use Rattle.ldap_fields.specs.Rows.{row_bytes}
 use Rattle.ldap_parts.specs.Written.{attribute_bytes}

@@ -1,4 +1,4 @@
--- Wire, requests: the goals of `ava_of` that no tactic closes, each by one lemma over plain lists.
+-- The goals of `ava_of` that no tactic closes, each by one lemma over plain lists.
 use Rattle.std.proofs.lemmas.Result.{err_from_is_err_and}
 use Rattle.ldap_filter.proofs.ldap_fields.Same.{plain_weaker}
 use Rattle.ldap_requests.proofs.Compares.{ava_value, ava_end}

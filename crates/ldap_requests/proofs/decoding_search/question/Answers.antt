@@ -1,4 +1,4 @@
--- Wire, requests: the goals of `question` that no tactic closes, each by one lemma over plain lists.
+-- The goals of `question` that no tactic closes, each by one lemma over plain lists.
 use Rattle.std.proofs.lemmas.Result.{err_from_is_err_and}
 use Rattle.ldap_requests.proofs.Exits.{from_filter, from_plain, has_filter, question_texts, question_end}
 use Rattle.ldap_requests.proofs.decoding_search.question.Goals as goal

@@ -1,4 +1,4 @@
--- Wire, requests: the goals of `search_of` that no tactic closes, each by one lemma over plain lists.
+-- The goals of `search_of` that no tactic closes, each by one lemma over plain lists.
 use Rattle.std.proofs.lemmas.Result.{err_from_is_err_and}
 use Rattle.ldap_requests.proofs.Exits.{from_plain, limit_weaker, search_bounds, search_question, stands_at}
 use Rattle.ldap_requests.proofs.decoding_search.search_of.Goals as goal

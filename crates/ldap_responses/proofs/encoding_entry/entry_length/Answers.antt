@@ -1,4 +1,4 @@
--- Wire, responses: the goals of `entry_length` that no tactic closes, each by one lemma over plain lists.
+-- The goals of `entry_length` that no tactic closes, each by one lemma over plain lists.
 use Rattle.std.proofs.Common.{ℕ, List, length, min, map, ap}
 use Rattle.ldap_parts.specs.ldap_ber.Element.{element_bytes}
 use Rattle.ldap_parts.specs.ldap_fields.Rows.{row_bytes}

@@ -1,4 +1,4 @@
--- Wire, updates: the goals of `full_attribute_of` that no tactic closes, each by one lemma over plain lists.
+-- The goals of `full_attribute_of` that no tactic closes, each by one lemma over plain lists.
 use Rattle.std.proofs.lemmas.Result.{err_from_is_err_and}
 use Rattle.ldap_parts.proofs.ldap_fields.Same.{plain_weaker}
 use Rattle.ldap_parts.specs.View.{attribute_view}

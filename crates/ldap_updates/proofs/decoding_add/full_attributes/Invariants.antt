@@ -1,4 +1,4 @@
--- Wire, updates: what the loops of `full_attributes` keep, and what grows less.
+-- What the loops of `full_attributes` keep, and what grows less.
 use Rattle.std.proofs.Common.{length, map}
 use Rattle.ldap_parts.proofs.ldap_fields.RowLemmas.{SoFar}
 use Rattle.ldap_parts.specs.View.{attribute_view}

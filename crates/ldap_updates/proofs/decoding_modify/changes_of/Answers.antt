@@ -1,4 +1,4 @@
--- Wire, updates: the goals of `changes_of` that no tactic closes, each by one lemma over plain lists.
+-- The goals of `changes_of` that no tactic closes, each by one lemma over plain lists.
 use Rattle.std.proofs.lemmas.Result.{err_from_is_err_and}
 use Rattle.ldap_parts.proofs.ldap_fields.Same.{field_shorter}
 use Rattle.ldap_parts.proofs.ldap_fields.RowLemmas.{goes_on_map, ends, fails, some_left, none_left}

@@ -1,4 +1,4 @@
--- Wire, updates: what the loops of `changes_of` keep, and what grows less.
+-- What the loops of `changes_of` keep, and what grows less.
 use Rattle.std.proofs.Common.{length, map}
 use Rattle.ldap_parts.proofs.ldap_fields.RowLemmas.{SoFar}
 use Rattle.ldap_updates.specs.View.{change_view}

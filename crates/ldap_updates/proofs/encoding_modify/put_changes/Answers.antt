@@ -1,4 +1,4 @@
--- Wire, updates: the goals of `put_changes` that no tactic closes, each by one lemma over plain lists.
+-- The goals of `put_changes` that no tactic closes, each by one lemma over plain lists.
 use Rattle.std.proofs.Common.{ℕ, List, ◌++◌, ap, ◌∙◌}
 use Rattle.std.proofs.lemmas.Result.{err_from_is_err_and}
 use Rattle.ldap_parts.specs.ldap_ber.Element.{element_bytes}

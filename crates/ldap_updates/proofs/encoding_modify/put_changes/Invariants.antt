@@ -1,4 +1,4 @@
--- Wire, updates: what the loops of `put_changes` keep, and what grows less.
+-- What the loops of `put_changes` keep, and what grows less.
 use Rattle.std.proofs.Common.{◌≡◌, ◌++◌, take, map}
 use Rattle.ldap_parts.specs.ldap_fields.Rows.{row_bytes}
 use Rattle.ldap_updates.specs.View.{change_view}

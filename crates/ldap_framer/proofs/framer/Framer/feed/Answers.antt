@@ -1,4 +1,4 @@
--- Wire, streams: the goals of `feed` that no tactic closes, each by one lemma over plain lists.
+-- The goals of `feed` that no tactic closes, each by one lemma over plain lists.
 use Rattle.ldap_framer.specs.View.{framed}
 use Rattle.ldap_framer.proofs.Seen.{seen_ok, seen_err}
 use Rattle.ldap_framer.proofs.framer.Framer.feed.Goals as goal
