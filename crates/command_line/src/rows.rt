@@ -1,6 +1,6 @@
 //! Words of commands as rows of data, and those that several commands take.
 use clap::error::ErrorKind;
-use clap::{Arg, ArgAction, Command, Error, value_parser};
+use clap::{Arg, ArgAction, Command, Error};
 use std::alloc::{AllocError, Global};
 
 /// What a word takes.
@@ -15,17 +15,28 @@ pub enum Takes {
     /// The text behind it; it can't be left out.
     Wanted,
     /// The number behind it, between these two; it can't be left out.
-    Number { first: i64, last: i64 },
+    Number { first: u64, last: u64 },
     /// The number behind it, from 1 to this one; the other one, where it is left out.
-    Count { last: i64, default: &'static str },
+    Count { last: u64, default: &'static str },
     /// The number behind it, from 1 to this one; it may be left out.
-    Amount { last: i64 },
+    Amount { last: u64 },
     /// It has no name before it, and can't be left out.
     Place,
     /// It has no name before it, is one of these, and can't be left out.
     OneOf(&'static [&'static str]),
     /// It has no name before it; there are any number of it, or at least one.
     Many { at_least_one: bool },
+}
+
+impl Takes {
+    /// The least and the greatest number that may be behind the word, where it takes a number.
+    pub fn range(self) -> Option<(u64, u64)> {
+        match self {
+            Takes::Number { first, last } => Some((first, last)),
+            Takes::Count { last, default: _ } | Takes::Amount { last } => Some((1, last)),
+            _ => None,
+        }
+    }
 }
 
 /// A word of a command.
@@ -66,9 +77,9 @@ fn named_argument<'a>(alloc: Global, word: &Word) -> Arg<'a> {
         .value_name(word.value)
 }
 
-/// A word with a number between two others.
-fn number<'a>(alloc: Global, word: &Word, first: i64, last: i64) -> Arg<'a> {
-    named_argument(alloc, word).value_parser(value_parser!(u64).range(first..=last))
+/// A word with a number. Its range is judged with the other values, in words of this program.
+fn number<'a>(alloc: Global, word: &Word) -> Arg<'a> {
+    named_argument(alloc, word).allow_negative_numbers(true)
 }
 
 /// A word as it is told the parser.
@@ -82,9 +93,9 @@ fn argument<'a>(alloc: Global, word: &Word) -> Arg<'a> {
         Takes::Text => named_argument(alloc, word),
         Takes::Texts => named_argument(alloc, word).action(ArgAction::Append),
         Takes::Wanted => named_argument(alloc, word).required(true),
-        Takes::Number { first, last } => number(alloc, word, first, last).required(true),
-        Takes::Count { last, default } => number(alloc, word, 1, last).default_value(default),
-        Takes::Amount { last } => number(alloc, word, 1, last),
+        Takes::Number { .. } => number(alloc, word).required(true),
+        Takes::Count { last: _, default } => number(alloc, word).default_value(default),
+        Takes::Amount { .. } => number(alloc, word),
         Takes::Place => placed_argument(alloc, word).required(true),
         Takes::OneOf(words) => placed_argument(alloc, word)
             .required(true)

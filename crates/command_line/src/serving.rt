@@ -9,16 +9,16 @@ use std::alloc::Global;
 use std::net::SocketAddr;
 
 /// The greatest number of a cluster.
-const LAST_CLUSTER: i64 = 281_474_976_710_655;
+const LAST_CLUSTER: u64 = 281_474_976_710_655;
 
 /// The greatest number of milliseconds that may be asked for, a day.
-const LONGEST: i64 = 86_400_000;
+const LONGEST: u64 = 86_400_000;
 
 /// The greatest number of MiB that may be told, more than any machine has.
-const MOST_MEMORY: i64 = 1_073_741_824;
+const MOST_MEMORY: u64 = 1_073_741_824;
 
 /// The greatest number of entries that may be told, more than any directory has.
-const MOST_ENTRIES: i64 = 4_294_967_295;
+const MOST_ENTRIES: u64 = 4_294_967_295;
 
 /// How the manager's password is told.
 #[derive(Clone, Copy)]
@@ -374,9 +374,40 @@ fn judge_build(
     ))
 }
 
+/// Refuses what stands behind a word that takes a number, and is none, or out of its range.
+fn judge_number(alloc: Global, matches: &ArgMatches<'_>, word: &Word) -> Result<(), Error> {
+    let (Some((first, last)), Some(text)) = (word.takes.range(), matches.get_str(word.name)) else {
+        return Ok(());
+    };
+    match text.parse::<u64>() {
+        Ok(number) if first <= number && number <= last => Ok(()),
+        _ => {
+            let name = word.name;
+            let message = format!(in alloc; "--{name} takes a number from {first} to {last}")?;
+            Err(refusal(alloc, &message))
+        }
+    }
+}
+
+/// Refuses what is no number where one is wanted.
+fn judge_numbers(alloc: Global, matches: &ArgMatches<'_>) -> Result<(), Error> {
+    for word in WORDS {
+        judge_number(alloc, matches, word)?;
+    }
+    Ok(())
+}
+
+/// The number behind a word, where it is there.
+fn amount_in(matches: &ArgMatches<'_>, name: &str) -> Option<u64> {
+    match matches.get_str(name)?.parse::<u64>() {
+        Ok(number) => Some(number),
+        Err(_) => None,
+    }
+}
+
 /// The number behind a word, which is there.
 fn number_in(matches: &ArgMatches<'_>, name: &str) -> u64 {
-    matches.get_one::<u64>(name).unwrap_or(0)
+    amount_in(matches, name).unwrap_or(0)
 }
 
 /// The text behind a word, which is there.
@@ -434,6 +465,7 @@ fn logs_in(alloc: Global, matches: &ArgMatches<'_>) -> Result<Logs, Error> {
 
 /// What `serve` is told.
 pub fn serving_in<'a>(alloc: Global, matches: &ArgMatches<'a>) -> Result<Serving<'a>, Error> {
+    judge_numbers(alloc, matches)?;
     let peers = peers_in(alloc, matches.get_strs("PEER").unwrap_or(&[]))?;
     let index = number_in(matches, "id");
     if index >= peers.len() as u64 {
@@ -469,7 +501,7 @@ pub fn serving_in<'a>(alloc: Global, matches: &ArgMatches<'a>) -> Result<Serving
         stall: number_in(matches, "stall"),
         idle: number_in(matches, "idle"),
         take: number_in(matches, "take"),
-        memory_for_clients: matches.get_one::<u64>("memory-for-clients"),
+        memory_for_clients: amount_in(matches, "memory-for-clients"),
         metrics,
         logs,
         slow: number_in(matches, "slow"),

@@ -15,7 +15,7 @@ use Rattle.dird_commands.specs.declared.fault.Fault.TheVariants.{CannotWrite, To
 
 -- a fault of the text of an import; want of memory is one fault, wherever it comes
 abbrev pub import_fault : ImportError → Fault
-import_fault (import_error.BadLdif line) = Import (import_error.BadLdif line)
+import_fault (import_error.BadLdif line cause) = Import (import_error.BadLdif line cause)
 import_fault import_error.TooLong = Import import_error.TooLong
 import_fault import_error.TooManyRecords = Import import_error.TooManyRecords
 import_fault import_error.NoMemory = NoMemory
@@ -38,7 +38,7 @@ line_fault line_error.NoMemory = NoMemory
 
 -- the same of a search, or of a check
 abbrev pub search_fault : SearchError → Fault
-search_fault (search_error.BadLdif line) = Search (search_error.BadLdif line)
+search_fault (search_error.BadLdif line cause) = Search (search_error.BadLdif line cause)
 search_fault (search_error.Refused number code) = Search (search_error.Refused number code)
 search_fault (search_error.Code number) = Search (search_error.Code number)
 search_fault search_error.NoMemory = NoMemory

@@ -11,12 +11,13 @@ use crate::opening::EmptyDirectory;
 use crate::refusal::Refusal;
 use crate::status::Status;
 use crate::texts::write_out;
-use explanations::{code_word, shown};
+use ldif_faults::RecordFaults;
 use local_directory::{Checked, RefusedRecord, Schema, check_text};
 use std::alloc::{AllocError, Global};
 use std::io::Write;
+use text_faults::{code_word, shown};
 
-/// How many refused records are printed; the others are counted. Each one's line costs a walk over the text.
+/// How many refused records are printed; the others are counted.
 const MOST: usize = 100;
 
 /// The line that is printed of a refused record.
@@ -24,13 +25,13 @@ fn line_of(
     alloc: Global,
     schema: &Schema,
     path: &str,
-    text: &[u8],
+    records: &RecordFaults,
     refused: RefusedRecord,
 ) -> Result<String, AllocError> {
     let RefusedRecord { number, code } = refused;
     let path = shown(alloc, path.as_bytes())?;
     let word = code_word(code);
-    let told = record_told(alloc, schema, text, number, code)?;
+    let told = record_told(alloc, schema, records, number, code)?;
     format!(in alloc; "{path} {told} (code {code}, {word})")
 }
 
@@ -43,8 +44,12 @@ fn lines_of(
     refused: &[RefusedRecord],
 ) -> Result<String, AllocError> {
     let mut lines = String::new(alloc);
+    if refused.is_empty() {
+        return Ok(lines);
+    }
+    let records = RecordFaults::of(alloc, text)?;
     for record in refused.iter().take(MOST) {
-        let line = line_of(alloc, schema, path, text, *record)?;
+        let line = line_of(alloc, schema, path, &records, *record)?;
         lines.push_str(&line)?;
         lines.push_str("\n")?;
     }

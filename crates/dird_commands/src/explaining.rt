@@ -5,12 +5,11 @@ ghost use Rattle.dird_commands.specs.Undone.{import_fault, export_fault, search_
 use crate::fault::Fault;
 use crate::local::{MANAGER, SUFFIX, name_of_text};
 use crate::refusal::Refusal;
-use explanations::{
-    IndexRefusal, SchemaRefusal, code_word, filter_fault, hex_line_fault, index_fault, ldif_fault,
-    name_fault, record_fault, schema_fault, script_fault, shown,
-};
+use ldif_faults::{RecordFaults, hex_line_fault, ldif_fault};
 use local_directory::{ExportError, ImportError, Schema, SearchError};
+use schema_faults::{IndexRefusal, SchemaRefusal, index_fault, schema_fault};
 use std::alloc::{AllocError, Global};
+use text_faults::{code_word, filter_fault, name_fault, script_fault, shown};
 
 /// The names that each schema has to have, those of the directory's root and of the manager.
 const NAMES: &[(&str, &str)] = &[
@@ -161,7 +160,9 @@ pub fn import_refusal(alloc: Global, text: &[u8], error: ImportError) -> Refusal
 {
     let fault = Fault::from(error);
     let told = match error {
-        ImportError::BadLdif { line } => in_input(alloc, line, ldif_fault(alloc, text, line)),
+        ImportError::BadLdif { line, cause } => {
+            in_input(alloc, line, ldif_fault(alloc, text, line, cause))
+        }
         ImportError::TooLong => sentence(alloc, "a record is over 4294967295 octets long"),
         ImportError::TooManyRecords => sentence(alloc, "there are over 2147483647 records"),
         ImportError::NoMemory => return Refusal::from(fault),
@@ -202,14 +203,26 @@ pub fn export_refusal(alloc: Global, text: &[u8], error: ExportError) -> Refusal
 pub fn record_told(
     alloc: Global,
     schema: &Schema,
+    records: &RecordFaults,
+    number: u64,
+    code: u32,
+) -> Result<String, AllocError> {
+    let placed = records.fault(alloc, schema, number, code)?;
+    let line = placed.line();
+    let told = placed.sentence();
+    format!(in alloc; "line {line}: {told}")
+}
+
+/// What is wrong with a record of a text that is refused with a code.
+fn record_of_text_told(
+    alloc: Global,
+    schema: &Schema,
     text: &[u8],
     number: u64,
     code: u32,
 ) -> Result<String, AllocError> {
-    let placed = record_fault(alloc, schema, text, number, code)?;
-    let line = placed.line;
-    let told = &placed.sentence;
-    format!(in alloc; "line {line}: {told}")
+    let records = RecordFaults::of(alloc, text)?;
+    record_told(alloc, schema, &records, number, code)
 }
 
 /// Why a search has no answer.
@@ -231,8 +244,8 @@ pub fn check_refusal(alloc: Global, path: &str, text: &[u8], error: SearchError)
     ensures { result.fault ≡ search_fault error }
 {
     let told = match error {
-        SearchError::BadLdif { line } => {
-            in_file(alloc, path, line, ldif_fault(alloc, text, line))
+        SearchError::BadLdif { line, cause } => {
+            in_file(alloc, path, line, ldif_fault(alloc, text, line, cause))
         }
         SearchError::NoMemory => return Refusal::from(Fault::NoMemory),
         SearchError::Refused { .. } | SearchError::Code { .. } => {
@@ -253,8 +266,12 @@ pub fn search_refusal(
     ensures { result.fault ≡ search_fault error }
 {
     let told = match error {
-        SearchError::BadLdif { line } => in_input(alloc, line, ldif_fault(alloc, text, line)),
-        SearchError::Refused { number, code } => record_told(alloc, schema, text, number, code),
+        SearchError::BadLdif { line, cause } => {
+            in_input(alloc, line, ldif_fault(alloc, text, line, cause))
+        }
+        SearchError::Refused { number, code } => {
+            record_of_text_told(alloc, schema, text, number, code)
+        }
         SearchError::Code { number } => answer_told(alloc, schema, base, number),
         SearchError::NoMemory => return Refusal::from(Fault::NoMemory),
     };

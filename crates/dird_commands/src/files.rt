@@ -1,4 +1,4 @@
-//! Reads named files as texts.
+//! Reads named files whole.
 
 use crate::reasons::{open_to_others, read_refusal};
 use crate::refusal::Refusal;
@@ -10,6 +10,9 @@ use std::rt::Files;
 
 /// Reads named files whole.
 pub trait ReadFiles {
+    /// The octets of a file; `cannot read` where it can't be opened or read.
+    fn read_octets(&self, alloc: Global, path: &str) -> Result<Vec<u8>, Refusal>;
+
     /// The text of a file; `cannot read` where it can't be opened or read, or isn't UTF-8.
     fn read_text(&self, alloc: Global, path: &str) -> Result<String, Refusal>;
 
@@ -27,6 +30,13 @@ fn is_open_to_others(mode: u32) -> bool {
 pub struct SystemFiles<'a, R>(pub &'a R);
 
 impl<R: Files + AllocGlobal> ReadFiles for SystemFiles<'_, R> {
+    fn read_octets(&self, alloc: Global, path: &str) -> Result<Vec<u8>, Refusal> {
+        match fs::read(self.0, path) {
+            Ok(octets) => Ok(octets),
+            Err(error) => Err(read_refusal(alloc, path, error.kind())),
+        }
+    }
+
     fn read_text(&self, alloc: Global, path: &str) -> Result<String, Refusal> {
         match fs::read_to_string(self.0, path) {
             Ok(text) => Ok(text),

@@ -3,9 +3,9 @@ ghost use Rattle.std.specs.Prelude.{◌≡◌, ◌⊎◌};
 
 use crate::fault::Fault;
 use crate::refusal::Refusal;
-use explanations::shown;
 use std::alloc::{AllocError, Global};
 use std::io::ErrorKind;
+use text_faults::shown;
 
 /// The words for the kinds that an administrator meets; the others have std's.
 const REASONS: &[(ErrorKind, &str)] = &[

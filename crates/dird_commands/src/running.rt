@@ -167,8 +167,8 @@ fn check<'a, S: ReadFiles, W: Write>(
     output: &mut W,
 ) -> Result<Ran<'a>, Refusal> {
     let empty = empty_of(system, alloc, &checking.ground)?;
-    let text = system.read_text(alloc, checking.file)?;
-    let status = check_file(alloc, &empty, checking.file, text.as_bytes(), output)?;
+    let text = system.read_octets(alloc, checking.file)?;
+    let status = check_file(alloc, &empty, checking.file, &text, output)?;
     Ok(Ran::Ended(status))
 }
 

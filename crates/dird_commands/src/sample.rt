@@ -1,4 +1,4 @@
-//! The built-in sample: six entries, for trying the program out. They flow into a directory as adds.
+//! The built-in sample: six entries, for trying the program out. A directory gets them as adds.
 ghost use Rattle.std.specs.Prelude.{◌≡◌, ◌+◌, map, IfOk, OnOk};
 ghost use Rattle.local_directory.specs.ldap_msg.View.{add_view, attribute_view};
 ghost use Rattle.local_directory.specs.ldap_op.Values.{add as add_op};

@@ -9,7 +9,8 @@ use Rattle.base64.specs.Engines.{standard}
 use Rattle.base64.specs.GeneralPurpose.{encode_of, decode_of, IsBytes}
 use Rattle.base64.proofs.EngineFacts.{decode_of-encode_of}
 use Rattle.ldif.specs.Written.{is_safe_first, is_safe_octet, is_safe, ends_with_space, value_part, pair_line}
-use Rattle.ldif.specs.Says.{comment, past_spaces, is_encoded, octets_of, pair_says, colon_says, line_says}
+use Rattle.ldif.specs.Says.{comment, past_spaces, is_encoded, octets_of, pair_says, colon_says, unlike_comment, line_says, wrong}
+use Rattle.ldif.specs.declared.fault.LdifCause.TheVariants.{ContinuesNothing}
 use Rattle.ldif.specs.RoundTrip.{are_octets}
 use Rattle.ldif.proofs.Booleans.{left, right}
 use Rattle.ldif.proofs.Plain.{is_plain}
@@ -78,5 +79,6 @@ colon_back w octets h o =
 -- a line of a type and a value says them
 pub pair_back : (c : ℕ) (cs octets : List ℕ) → list_all is_plain (c ∷ cs) ≡ true → are_octets octets ≡ true → line_says (pair_line (c ∷ cs) octets) ≡ pair_says (is_encoded (value_part octets)) (c ∷ cs) (Some octets)
 pair_back c cs octets h o =
-    ap (λ b. cond b comment (colon_says (pair_line (c ∷ cs) octets) (position (nat_eq 58) (pair_line (c ∷ cs) octets)))) (flip 35 c (unlike 35 c refl (left (is_plain c) (list_all is_plain cs) h)))
+    ap (λ b. cond b comment (unlike_comment (pair_line (c ∷ cs) octets))) (flip 35 c (unlike 35 c refl (left (is_plain c) (list_all is_plain cs) h)))
+    ∙ ap (λ b. cond b (wrong ContinuesNothing) (colon_says (pair_line (c ∷ cs) octets) (position (nat_eq 58) (pair_line (c ∷ cs) octets)))) (flip 32 c (unlike 32 c refl (left (is_plain c) (list_all is_plain cs) h)))
     ∙ colon_back (c ∷ cs) octets h o

@@ -1,10 +1,9 @@
 -- LDIF and messages: what a loop has put, and what is left.
-use Rattle.std.proofs.Common.{◌≡◌, ℕ, suc, ◌+◌, ◌<◌, List, [], ◌∷◌, ◌++◌, length, drop, get_or, map, filter, sym, ap, ap₂, ◌∙◌, subst, inr, arith, drop-cons}
-use Rattle.std.proofs.lemmas.List.{append_assoc, map-append}
-use Rattle.std.proofs.lemmas.List.Elements.{filter-append}
-use Rattle.ldif.specs.Records.{RecordModel, ValueModel}
+use Rattle.std.proofs.Common.{◌≡◌, ℕ, suc, ◌+◌, ◌<◌, List, ◌∷◌, ◌++◌, length, drop, get_or, sym, ap, ap₂, ◌∙◌, subst, inr, arith, drop-cons}
+use Rattle.std.proofs.lemmas.List.{append_assoc}
+use Rattle.ldif.specs.Records.{RecordModel}
 use Rattle.ldap_msg.specs.Written.{message_bytes}
-use Rattle.ldif.specs.Adds.{add_message, adds_from, is_of, values_of}
+use Rattle.ldif.specs.Adds.{add_message, adds_from}
 use Rattle.ldif.specs.HexLines.{hex_line, message_lines}
 use Rattle.ldif.specs.Imports.{HasTooLong}
 

@@ -12,8 +12,9 @@ use Rattle.ldif.specs.Descriptions.{is_dn, is_type, is_description, begins_chang
 use Rattle.ldif.specs.Records.{ValueModel, RecordModel}
 use Rattle.ldif.specs.Written.{value_part, pair_line, value_line, record_lines, records_lines, lines_text}
 use Rattle.ldif.specs.Lines.{LineModel, without_return, parts_of, continues, before, folded, unfolded, lines_of}
-use Rattle.ldif.specs.Says.{named, valued, wrong, line_says, is_encoded, form_says, name_says, value_says}
-use Rattle.ldif.specs.Reading.{ReadingModel, with_open, after_line, or_wrong, read_from, nothing_read}
+use Rattle.ldif.specs.Says.{named, valued, wrong, line_says, is_encoded, form_says, name_says, no_type, value_says}
+use Rattle.ldif.specs.declared.fault.LdifCause.TheVariants.{NameNotUtf8}
+use Rattle.ldif.specs.Reading.{ReadingModel, FaultModel, with_open, after_line, or_wrong, read_from, nothing_read}
 use Rattle.ldif.specs.RoundTrip.{are_octets, is_typed, is_typed_record, RecordsReturn}
 use Rattle.ldif.proofs.Booleans.{left, right, both}
 use Rattle.ldif.proofs.Plain.{is_plain, type_plain}
@@ -118,27 +119,27 @@ value_back [] octets h o = absurd cc
 value_back (c ∷ cs) octets h o =
     pair_back c cs octets (type_plain (c ∷ cs) h) o
     ∙ ap (λ b. cond b (name_says octets) (value_says (is_encoded (value_part octets)) (c ∷ cs) octets)) (not_true (is_dn (c ∷ cs)) (right (is_description (c ∷ cs)) (not (is_dn (c ∷ cs))) (left (is_description (c ∷ cs) && not (is_dn (c ∷ cs))) (not (begins_change (c ∷ cs))) h)))
-    ∙ ap (λ b. cond b (form_says (is_encoded (value_part octets)) (record { description = c ∷ cs; octets = octets })) wrong) h
+    ∙ ap (λ b. cond b (form_says (is_encoded (value_part octets)) (record { description = c ∷ cs; octets = octets })) (wrong (no_type (c ∷ cs)))) h
 
 name_back : (name : List ℕ) → is_utf8 name ≡ true → are_octets name ≡ true → line_says (pair_line (codes "dn") name) ≡ named name
-name_back name u o = pair_back 100 (110 ∷ []) name refl o ∙ ap (λ b. cond b (named name) wrong) u
+name_back name u o = pair_back 100 (110 ∷ []) name refl o ∙ ap (λ b. cond b (named name) (wrong NameNotUtf8)) u
 
 -- ---- reading them
 
 abbrev state : List RecordModel → Option RecordModel → ReadingModel
 state done current = record { done = done; current = current; begun = true }
 
-one_line : (s t : ReadingModel) (l : List ℕ) (ls : List (List ℕ)) (result : Result (List RecordModel) ℕ) → after_line s (line_says l) ≡ Some t
+one_line : (s t : ReadingModel) (l : List ℕ) (ls : List (List ℕ)) (result : Result (List RecordModel) FaultModel) → after_line s (line_says l) ≡ Ok t
     → ((n : ℕ) → read_from t (numbered n ls) ≡ result) → (n : ℕ) → read_from s (numbered n (l ∷ ls)) ≡ result
 one_line s t l ls result e f n = ap (λ o. or_wrong o n (λ u. read_from u (numbered (n + 1) ls))) e ∙ f (n + 1)
 
 -- a value in either form is its record's
 value_taken : (in_base64 : Bool) (v : ValueModel) (done : List RecordModel) (name : List ℕ) (before : List ValueModel)
-    → after_line (state done (Some (record { name = name; values = before }))) (form_says in_base64 v) ≡ Some (state done (Some (record { name = name; values = before ++ v ∷ [] })))
+    → after_line (state done (Some (record { name = name; values = before }))) (form_says in_base64 v) ≡ Ok (state done (Some (record { name = name; values = before ++ v ∷ [] })))
 value_taken true v done name before = refl
 value_taken false v done name before = refl
 
-values_read : (vs : List ValueModel) (done : List RecordModel) (name : List ℕ) (before : List ValueModel) (ls : List (List ℕ)) (result : Result (List RecordModel) ℕ) → list_all is_typed vs ≡ true
+values_read : (vs : List ValueModel) (done : List RecordModel) (name : List ℕ) (before : List ValueModel) (ls : List (List ℕ)) (result : Result (List RecordModel) FaultModel) → list_all is_typed vs ≡ true
     → ((n : ℕ) → read_from (state done (Some (record { name = name; values = before ++ vs }))) (numbered n ls) ≡ result)
     → (n : ℕ) → read_from (state done (Some (record { name = name; values = before }))) (numbered n (map value_line vs ++ ls)) ≡ result
 values_read [] done name before ls result h f n =
@@ -152,7 +153,7 @@ values_read (v ∷ vs) done name before ls result h f n =
     (values_read vs done name (before ++ v ∷ []) ls result (right (is_typed v) (list_all is_typed vs) h)
     (λ m. ap (λ x. read_from (state done (Some (record { name = name; values = x }))) (numbered m ls)) (append_assoc before (v ∷ []) vs) ∙ f m)) n
 
-record_read : (r : RecordModel) (done : List RecordModel) (current : Option RecordModel) (ls : List (List ℕ)) (result : Result (List RecordModel) ℕ) → is_typed_record r ≡ true
+record_read : (r : RecordModel) (done : List RecordModel) (current : Option RecordModel) (ls : List (List ℕ)) (result : Result (List RecordModel) FaultModel) → is_typed_record r ≡ true
     → ((n : ℕ) → read_from (state (with_open done current) (Some r)) (numbered n ls) ≡ result)
     → (n : ℕ) → read_from (state done current) (numbered n (record_lines r ++ ls)) ≡ result
 record_read r done current ls result h f =

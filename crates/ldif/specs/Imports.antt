@@ -10,7 +10,7 @@ pub use Rattle.ldap_msg.specs.Limits.{HasTooLong}
 
 -- why records give no lines
 abbrev pub IsAskFault : ImportError → List RecordModel → Type 0
-IsAskFault (BadLdif line) rs = ⊥
+IsAskFault (BadLdif line cause) rs = ⊥
 IsAskFault TooLong rs = HasTooLong (adds_from 1 rs)
 IsAskFault TooManyRecords rs = 2 ^ 31 ≤ length rs
 IsAskFault NoMemory rs = Unit {0}
@@ -30,7 +30,7 @@ pub record HasNoLines (e : ImportError) (text : List ℕ) : Type 0 where
 
 -- Why a text is not imported: its first line that is no LDIF, or its records give no lines.
 abbrev pub IsImportFault : ImportError → List ℕ → Type 0
-IsImportFault (BadLdif line) text = records_of text ≡ Err line
+IsImportFault (BadLdif line cause) text = records_of text ≡ Err (record { line = line; cause = cause })
 IsImportFault TooLong text = HasNoLines TooLong text
 IsImportFault TooManyRecords text = HasNoLines TooManyRecords text
 IsImportFault NoMemory text = Unit {0}

@@ -5,6 +5,7 @@ pub mod Lines
 pub mod Says
 pub mod Reading
 pub mod Faults
+pub mod Placing
 pub mod Content
 pub mod RoundTrip
 pub mod Adds

@@ -5,6 +5,8 @@ use Rattle.std.specs.declared.result.Result.TheVariants.{Ok, Err}
 use Rattle.ldif.specs.Descriptions.{is_same_word}
 use Rattle.ldif.specs.Records.{ValueModel, RecordModel}
 use Rattle.ldif.specs.Lines.{LineModel, lines_of}
+use Rattle.ldif.specs.declared.fault.LdifCause.{LdifCause}
+use Rattle.ldif.specs.declared.fault.LdifCause.TheVariants.{SecondName, NoRecord, LateVersion, BadVersion}
 use Rattle.ldif.specs.Says.{Says, blank, comment, named, valued, encoded, wrong, line_says}
 
 -- what was read so far: whole records, the one that stands open, and whether a version or a record has come
@@ -23,10 +25,10 @@ abbrev pub after_blank : ReadingModel → ReadingModel
 after_blank s = record { done = with_open s.done s.current; current = None; begun = s.begun }
 
 -- a name begins a record, and stands in no other one (RFC 2849, ldif-attrval-record)
-abbrev pub after_name : ReadingModel → List ℕ → Option RecordModel → Option ReadingModel
+abbrev pub after_name : ReadingModel → List ℕ → Option RecordModel → Result ReadingModel LdifCause
 after_name s name None =
-    Some (record { done = s.done; current = Some (record { name = name; values = [] }); begun = true })
-after_name s name (Some r) = None
+    Ok (record { done = s.done; current = Some (record { name = name; values = [] }); begun = true })
+after_name s name (Some r) = Err SecondName
 
 -- `1`
 abbrev pub is_one : List ℕ → Bool
@@ -38,34 +40,44 @@ is_one (c ∷ d ∷ ds) = false
 abbrev pub is_version : ValueModel → Bool
 is_version v = is_same_word v.description (codes "version") && is_one v.octets
 
+-- why a value stands outside records, by whether a version or a record has come: it is of a version, or of no record
+abbrev pub misplaced : Bool → ValueModel → LdifCause
+misplaced begun v = cond (is_same_word v.description (codes "version")) (cond begun LateVersion BadVersion) NoRecord
+
 -- a value is its record's; before all else it may be the version, where its line is one
-abbrev pub after_value : ReadingModel → Bool → ValueModel → Option RecordModel → Option ReadingModel
+abbrev pub after_value : ReadingModel → Bool → ValueModel → Option RecordModel → Result ReadingModel LdifCause
 after_value s is_version_line v None =
-    cond s.begun None (cond is_version_line (Some (record { done = s.done; current = None; begun = true })) None)
+    cond s.begun (Err (misplaced true v))
+    (cond is_version_line (Ok (record { done = s.done; current = None; begun = true })) (Err (misplaced false v)))
 after_value s is_version_line v (Some r) =
-    Some (record {
+    Ok (record {
       done = s.done;
       current = Some (record { name = r.name; values = r.values ++ v ∷ [] });
       begun = s.begun;
     })
 
 -- after one more line; no line of base64 is the version, whose number stands as it is (RFC 2849, version-spec)
-abbrev pub after_line : ReadingModel → Says → Option ReadingModel
-after_line s blank = Some (after_blank s)
-after_line s comment = Some s
+abbrev pub after_line : ReadingModel → Says → Result ReadingModel LdifCause
+after_line s blank = Ok (after_blank s)
+after_line s comment = Ok s
 after_line s (named name) = after_name s name s.current
 after_line s (valued v) = after_value s (is_version v) v s.current
 after_line s (encoded v) = after_value s false v s.current
-after_line s wrong = None
+after_line s (wrong cause) = Err cause
 
--- what follows, or the number of the line that has no meaning there
-abbrev pub or_wrong : Option ReadingModel → ℕ → (ReadingModel → Result (List RecordModel) ℕ)
-    → Result (List RecordModel) ℕ
-or_wrong None n go = Err n
-or_wrong (Some s) n go = go s
+-- a line that is wrong: its number, and the cause
+pub record FaultModel : Type 0 where
+  pub line : ℕ
+  pub cause : LdifCause
+
+-- what follows, or the line that has no meaning there
+abbrev pub or_wrong : Result ReadingModel LdifCause → ℕ → (ReadingModel → Result (List RecordModel) FaultModel)
+    → Result (List RecordModel) FaultModel
+or_wrong (Err cause) n go = Err (record { line = n; cause = cause })
+or_wrong (Ok s) n go = go s
 
 -- the records of the lines that follow, after what was read
-abbrev pub read_from : ReadingModel → List LineModel → Result (List RecordModel) ℕ
+abbrev pub read_from : ReadingModel → List LineModel → Result (List RecordModel) FaultModel
 read_from s [] = Ok (with_open s.done s.current)
 read_from s (l ∷ ls) = or_wrong (after_line s (line_says l.text)) l.number (λ t. read_from t ls)
 
@@ -73,6 +85,6 @@ read_from s (l ∷ ls) = or_wrong (after_line s (line_says l.text)) l.number (λ
 abbrev pub nothing_read : ReadingModel
 nothing_read = record { done = []; current = None; begun = false }
 
--- The records of a text, or the number of its first line that is wrong.
-abbrev pub records_of : List ℕ → Result (List RecordModel) ℕ
+-- The records of a text, or its first line that is wrong.
+abbrev pub records_of : List ℕ → Result (List RecordModel) FaultModel
 records_of text = read_from nothing_read (lines_of text)

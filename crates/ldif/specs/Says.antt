@@ -1,11 +1,14 @@
 -- What one line says.
-use Rattle.std.specs.Prelude.{ℕ, ◌+◌, List, [], ◌∷◌, take, drop, position, Bool, false, cond, Option, None, Some, nat_eq}
+use Rattle.std.specs.Prelude.{ℕ, ◌+◌, List, [], ◌∷◌, take, drop, position, Bool, false, cond, codes, Option, None, Some, nat_eq}
 use Rattle.std.specs.Result.{result_ok}
 use Rattle.std.specs.Str.{is_utf8}
 use Rattle.base64.specs.Engines.{standard}
 use Rattle.base64.specs.GeneralPurpose.{decode_of}
-use Rattle.ldif.specs.Descriptions.{is_dn, is_type}
+use Rattle.std.specs.Str.{bytes_eq}
+use Rattle.ldif.specs.Descriptions.{is_dn, is_type, begins_change}
 use Rattle.ldif.specs.Records.{ValueModel}
+use Rattle.ldif.specs.declared.fault.LdifCause.{LdifCause}
+use Rattle.ldif.specs.declared.fault.LdifCause.TheVariants.{ContinuesNothing, NoColon, Change, ByUrl, BadBase64, NoDescription, NameNotUtf8}
 
 -- what a line says
 pub data Says : Type 0 where
@@ -19,8 +22,8 @@ pub data Says : Type 0 where
   valued : ValueModel → Says
   -- a value in base64 (RFC 2849, attrval-spec)
   encoded : ValueModel → Says
-  -- no line of the profile
-  wrong : Says
+  -- no line of the profile, for this cause
+  wrong : LdifCause → Says
 
 -- FILL (RFC 2849): spaces that are skipped
 abbrev pub past_spaces : List ℕ → List ℕ
@@ -42,28 +45,46 @@ octets_of (c ∷ cs) =
 
 -- a name, which is UTF-8
 abbrev pub name_says : List ℕ → Says
-name_says octets = cond (is_utf8 octets) (named octets) wrong
+name_says octets = cond (is_utf8 octets) (named octets) (wrong NameNotUtf8)
 
 -- a value, in base64 or as it stands
 abbrev pub form_says : Bool → ValueModel → Says
 form_says in_base64 v = cond in_base64 (encoded v) (valued v)
 
+-- why what stands before a colon is no type of a value
+abbrev pub no_type : List ℕ → LdifCause
+no_type word = cond (begins_change word) Change NoDescription
+
 -- a value of a type
 abbrev pub value_says : Bool → List ℕ → List ℕ → Says
 value_says in_base64 word octets =
-    cond (is_type word) (form_says in_base64 (record { description = word; octets = octets })) wrong
+    cond (is_type word) (form_says in_base64 (record { description = word; octets = octets })) (wrong (no_type word))
 
--- what a pair says, by its octets; it is wrong where these can't be read
+-- why what stands behind a colon stands for no octets: it isn't base64, or is a URL
+abbrev pub no_octets : Bool → LdifCause
+no_octets in_base64 = cond in_base64 BadBase64 ByUrl
+
+-- what a pair says, by its octets
 abbrev pub pair_says : Bool → List ℕ → Option (List ℕ) → Says
-pair_says in_base64 word None = wrong
+pair_says in_base64 word None = wrong (no_octets in_base64)
 pair_says in_base64 word (Some octets) = cond (is_dn word) (name_says octets) (value_says in_base64 word octets)
 
--- a line with its first colon here
+-- why a line without a colon is wrong: `-` ends a change (RFC 2849, mod-spec)
+abbrev pub no_colon : List ℕ → LdifCause
+no_colon l = cond (bytes_eq l (codes "-")) Change NoColon
+
+-- a line with its first colon here, or without one
 abbrev pub colon_says : List ℕ → Option ℕ → Says
-colon_says l None = wrong
+colon_says l None = wrong (no_colon l)
 colon_says l (Some i) = pair_says (is_encoded (drop (i + 1) l)) (take i l) (octets_of (drop (i + 1) l))
+
+-- a line that is no comment; one that still begins with a space continues nothing (RFC 2849, note 2)
+abbrev pub unlike_comment : List ℕ → Says
+unlike_comment [] = blank
+unlike_comment (c ∷ cs) =
+    cond (nat_eq c 32) (wrong ContinuesNothing) (colon_says (c ∷ cs) (position (nat_eq 58) (c ∷ cs)))
 
 -- What a line says.
 abbrev pub line_says : List ℕ → Says
 line_says [] = blank
-line_says (c ∷ cs) = cond (nat_eq c 35) comment (colon_says (c ∷ cs) (position (nat_eq 58) (c ∷ cs)))
+line_says (c ∷ cs) = cond (nat_eq c 35) comment (unlike_comment (c ∷ cs))

@@ -13,7 +13,7 @@ pub fn is_dn(octets: &[u8]) -> bool
 }
 
 /// Whether the octets are a word that begins a change, in any case.
-fn begins_change(octets: &[u8]) -> bool
+pub fn begins_change(octets: &[u8]) -> bool
     ensures { result ≡ descriptions.begins_change octets.now }
 {
     is_same_word(octets, b"changetype") || is_same_word(octets, b"control")

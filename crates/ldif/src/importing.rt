@@ -19,7 +19,7 @@ fn read_records(alloc: Global, text: &[u8]) -> Result<Vec<Record>, ImportError>
 {
     match read(alloc, text) {
         Ok(records) => Ok(records),
-        Err(LdifError::BadLdif { line }) => Err(ImportError::BadLdif { line }),
+        Err(LdifError::BadLdif { line, cause }) => Err(ImportError::BadLdif { line, cause }),
         Err(LdifError::NoMemory) => Err(ImportError::NoMemory),
     }
 }
@@ -29,7 +29,7 @@ fn read_records(alloc: Global, text: &[u8]) -> Result<Vec<Record>, ImportError>
 pub fn import_text(alloc: Global, text: &[u8]) -> Result<Vec<u8>, ImportError>
     // What is written is the adds of the records that the text is.
     ensures written { IfOk result (λ v. IsImport text.now v.items) }
-    // E19 comes where the text is no LDIF, with its line; E3 where an add is too long, and the last one where messageIDs run out.
+    // E19 comes where the text is no LDIF, with its line and cause; E3 where an add is too long, and the last one where messageIDs run out.
     ensures refused { IfErr result (λ e. IsImportFault e text.now) }
 {
     let records = read_records(alloc, text)?;

@@ -1,6 +1,6 @@
 //! Reads the records of a text, or names the first line that is wrong (E19).
 
-ghost use Rattle.std.specs.Prelude.{◌≡◌, Ok, Some, IfOk, IfErr, OnOk, OnErr, string_bytes};
+ghost use Rattle.std.specs.Prelude.{◌≡◌, Ok, IfOk, IfErr, OnOk, OnErr, string_bytes};
 ghost use Rattle.ldif.specs.Reading as specs;
 ghost use Rattle.ldif.specs.Says.{line_says};
 ghost use Rattle.ldif.specs.RoundTrip.{RecordsReturn};
@@ -17,7 +17,7 @@ use std::alloc::Global;
 
 /// Takes one more line. An `Err` keeps the whole records; the one that stands open may be gone.
 fn put_line(alloc: Global, reading: &mut Reading, line: &Line) -> Result<(), LdifError>
-    ensures taken { OnOk result (specs.after_line reading.old (line_says line.now.text) ≡ Some reading.new) }
+    ensures taken { OnOk result (specs.after_line reading.old (line_says line.now.text) ≡ Ok reading.new) }
     ensures refused { IfErr result
         (λ e. IsLineFault e (specs.after_line reading.old (line_says line.now.text)) line.now.number) }
     ensures err { OnErr result (reading.new.done ≡ reading.old.done) }
@@ -39,11 +39,12 @@ fn read_lines(alloc: Global, lines: &[Line]) -> Result<Vec<Record>, LdifError>
 }
 
 /// The records of a text (RFC 2849). Lines end by LF or CRLF; one that begins with a space continues the one before it;
-/// comments are skipped. `E19` with the first line that is wrong, counted from 1, a folded one as its first part.
+/// comments are skipped. `E19` with the first line that is wrong, counted from 1, a folded one as its first part, and the
+/// cause.
 pub fn read(alloc: Global, octets: &[u8]) -> Result<Vec<Record>, LdifError>
     // What is read is the records of the text.
     ensures found { IfOk result (λ v. specs.records_of octets.now ≡ Ok v.items) }
-    // E19 comes exactly where the definition refuses, with its line; the only other error is want of memory.
+    // E19 comes exactly where the definition refuses, with its line and cause; the only other error is want of memory.
     ensures refused { IfErr result (λ e. IsReadFault e octets.now) }
 {
     let lines = lines_of(alloc, octets)?;

@@ -1,11 +1,11 @@
 //! Puts records together from what lines say, one after the other.
 
-ghost use Rattle.std.specs.Prelude.{◌≡◌, Some, IfOk, IfErr, OnOk, OnErr, string_bytes};
+ghost use Rattle.std.specs.Prelude.{◌≡◌, Ok, IfOk, IfErr, OnOk, OnErr, string_bytes};
 ghost use Rattle.ldif.specs.Reading as specs;
 ghost use Rattle.ldif.specs.private.Said.{said_of};
 ghost use Rattle.ldif.specs.private.Faults.{IsLineFault};
 
-use crate::fault::LdifError;
+use crate::fault::{LdifCause, LdifError};
 use crate::record::{AttributeValue, Record};
 use crate::saying::Said;
 use ldap_words::is_same_word;
@@ -45,6 +45,20 @@ fn is_one(octets: &[u8]) -> bool
     }
 }
 
+/// Why a value stands outside records, by whether a version or a record has come.
+fn misplaced(begun: bool, value: &AttributeValue) -> LdifCause
+    ensures { result ≡ specs.misplaced begun value.now }
+{
+    if !is_same_word(value.description().as_bytes(), b"version") {
+        return LdifCause::NoRecord;
+    }
+    if begun {
+        LdifCause::LateVersion
+    } else {
+        LdifCause::BadVersion
+    }
+}
+
 impl Reading {
     /// Nothing was read.
     pub fn new(alloc: Global) -> Reading
@@ -73,13 +87,16 @@ impl Reading {
 
     /// Begins a record. An `Err` keeps the whole ones.
     fn put_name(&mut self, alloc: Global, name: String, line: usize) -> Result<(), LdifError>
-        ensures taken { OnOk result (specs.after_name self.old (string_bytes name) self.old.current ≡ Some self.new) }
+        ensures taken { OnOk result (specs.after_name self.old (string_bytes name) self.old.current ≡ Ok self.new) }
         ensures refused { IfErr result
             (λ e. IsLineFault e (specs.after_name self.old (string_bytes name) self.old.current) line) }
         ensures err { OnErr result (self.new.done ≡ self.old.done) }
     {
         match self.current.take() {
-            Some(_) => Err(LdifError::BadLdif { line }),
+            Some(_) => Err(LdifError::BadLdif {
+                line,
+                cause: LdifCause::SecondName,
+            }),
             None => {
                 self.current = Some(Record::new(name, Vec::new(alloc)));
                 self.begun = true;
@@ -95,7 +112,7 @@ impl Reading {
         value: AttributeValue,
         line: usize,
     ) -> Result<(), LdifError>
-        ensures taken { OnOk result (specs.after_value self.old is_version value self.old.current ≡ Some self.new) }
+        ensures taken { OnOk result (specs.after_value self.old is_version value self.old.current ≡ Ok self.new) }
         ensures refused { IfErr result
             (λ e. IsLineFault e (specs.after_value self.old is_version value self.old.current) line) }
         ensures err { OnErr result (self.new.done ≡ self.old.done) }
@@ -108,7 +125,10 @@ impl Reading {
             }
             None => {
                 if self.begun || !is_version {
-                    return Err(LdifError::BadLdif { line });
+                    return Err(LdifError::BadLdif {
+                        line,
+                        cause: misplaced(self.begun, &value),
+                    });
                 }
                 self.begun = true;
                 Ok(())
@@ -118,7 +138,7 @@ impl Reading {
 
     /// Takes what one more line says. An `Err` keeps the whole records; the one that stands open may be gone.
     pub fn put(&mut self, alloc: Global, said: Said, line: usize) -> Result<(), LdifError>
-        ensures taken { OnOk result (specs.after_line self.old (said_of said) ≡ Some self.new) }
+        ensures taken { OnOk result (specs.after_line self.old (said_of said) ≡ Ok self.new) }
         ensures refused { IfErr result (λ e. IsLineFault e (specs.after_line self.old (said_of said)) line) }
         ensures err { OnErr result (self.new.done ≡ self.old.done) }
     {
@@ -128,7 +148,7 @@ impl Reading {
             Said::Name(name) => self.put_name(alloc, name, line),
             Said::Value(value) => self.put_value(is_version(&value), value, line),
             Said::Encoded(value) => self.put_value(false, value, line),
-            Said::Wrong => Err(LdifError::BadLdif { line }),
+            Said::Wrong(cause) => Err(LdifError::BadLdif { line, cause }),
         }
     }
 

@@ -4,6 +4,7 @@ ghost use Rattle.std.specs.Prelude.{◌≡◌};
 ghost use Rattle.ldif.specs.declared.refusals.ImportError.TheVariants.{NoMemory as NoMemoryToImport};
 ghost use Rattle.ldif.specs.declared.refusals.ExportError.TheVariants.{NoMemory as NoMemoryToExport};
 
+use crate::fault::LdifCause;
 use std::alloc::{AllocError, AllocFailed};
 use thiserror::Error;
 
@@ -12,7 +13,7 @@ use thiserror::Error;
 pub enum ImportError {
     /// The line is no line of LDIF where it stands; lines are counted from 1.
     #[error("E19 {line}")]
-    BadLdif { line: usize },
+    BadLdif { line: usize, cause: LdifCause },
     /// The content of an add is over 4294967295 octets.
     #[error("E3")]
     TooLong,

@@ -8,7 +8,8 @@ ghost use Rattle.base64.specs.GeneralPurpose.{decode_of};
 ghost use Rattle.ldif.specs.Says as says;
 ghost use Rattle.ldif.specs.private.Said.{said_of};
 
-use crate::describing::{is_dn, is_type};
+use crate::describing::{begins_change, is_dn, is_type};
+use crate::fault::LdifCause;
 use crate::record::AttributeValue;
 use base64::DecodeAllocError;
 use base64::engine::general_purpose::STANDARD;
@@ -27,8 +28,8 @@ pub enum Said {
     Value(AttributeValue),
     /// A value in base64.
     Encoded(AttributeValue),
-    /// Nothing of the profile.
-    Wrong,
+    /// Nothing of the profile, for this cause.
+    Wrong(LdifCause),
 }
 
 /// The octets behind the spaces at the front.
@@ -93,7 +94,7 @@ fn name_said(alloc: Global, octets: &[u8]) -> Result<Said, AllocError>
 {
     match text_of(octets) {
         Some(text) => Ok(Said::Name(String::from_str(alloc, text)?)),
-        None => Ok(Said::Wrong),
+        None => Ok(Said::Wrong(LdifCause::NameNotUtf8)),
     }
 }
 
@@ -108,6 +109,17 @@ fn form_said(in_base64: bool, value: AttributeValue) -> Said
     }
 }
 
+/// Why what stands before a colon is no type of a value.
+fn no_type(word: &[u8]) -> LdifCause
+    ensures { result ≡ says.no_type word.now }
+{
+    if begins_change(word) {
+        LdifCause::Change
+    } else {
+        LdifCause::NoDescription
+    }
+}
+
 /// What a value's line says.
 fn value_said(
     alloc: Global,
@@ -118,14 +130,25 @@ fn value_said(
     ensures { IfOk result (λ s. said_of s ≡ says.value_says in_base64 word.now octets.items) }
 {
     if !is_type(word) {
-        return Ok(Said::Wrong);
+        return Ok(Said::Wrong(no_type(word)));
     }
     match text_of(word) {
         Some(description) => {
             let description = String::from_str(alloc, description)?;
             Ok(form_said(in_base64, AttributeValue::new(description, octets)))
         }
-        None => Ok(Said::Wrong),
+        None => Ok(Said::Wrong(no_type(word))),
+    }
+}
+
+/// Why what stands behind a colon stands for no octets, by whether it is in base64.
+fn no_octets(in_base64: bool) -> LdifCause
+    ensures { result ≡ says.no_octets in_base64 }
+{
+    if in_base64 {
+        LdifCause::BadBase64
+    } else {
+        LdifCause::ByUrl
     }
 }
 
@@ -134,7 +157,7 @@ fn pair_said(alloc: Global, word: &[u8], part: &[u8]) -> Result<Said, AllocError
     ensures { IfOk result (λ s. said_of s ≡ says.pair_says (says.is_encoded part.now) word.now (says.octets_of part.now)) }
 {
     match octets_of(alloc, part)? {
-        None => Ok(Said::Wrong),
+        None => Ok(Said::Wrong(no_octets(is_encoded(part)))),
         Some(octets) => {
             if is_dn(word) {
                 name_said(alloc, octets.as_slice())
@@ -152,12 +175,23 @@ fn colon(octets: &[u8]) -> Option<usize>
     octets.iter().position(|octet| b':' == *octet)
 }
 
-/// What a line says that is neither empty nor a comment.
+/// Why a line without a colon is wrong.
+fn no_colon(line: &[u8]) -> LdifCause
+    ensures { result ≡ says.no_colon line.now }
+{
+    if line == b"-".as_slice() {
+        LdifCause::Change
+    } else {
+        LdifCause::NoColon
+    }
+}
+
+/// What a line says, by its first colon.
 fn colon_said(alloc: Global, line: &[u8]) -> Result<Said, AllocError>
     ensures { IfOk result (λ s. said_of s ≡ says.colon_says line.now (position (nat_eq 58) line.now)) }
 {
     match colon(line) {
-        None => Ok(Said::Wrong),
+        None => Ok(Said::Wrong(no_colon(line))),
         Some(at) => pair_said(alloc, &line[..at], &line[at + 1..]),
     }
 }
@@ -169,6 +203,7 @@ pub fn line_said(alloc: Global, line: &[u8]) -> Result<Said, AllocError>
     match line {
         [] => Ok(Said::Blank),
         [b'#', ..] => Ok(Said::Comment),
+        [b' ', ..] => Ok(Said::Wrong(LdifCause::ContinuesNothing)),
         _ => colon_said(alloc, line),
     }
 }

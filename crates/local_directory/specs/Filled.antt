@@ -19,7 +19,7 @@ pub record IsFilled (s : StoreModel) (text : List ℕ) (t : StoreModel) : Type 0
 
 -- Why they are not: the first line that is no LDIF, or the first record that is refused.
 abbrev pub IsFillFault : SearchError → Directory → List ℕ → Type 0
-IsFillFault (BadLdif line) d text = records_of text ≡ Err line
+IsFillFault (BadLdif line cause) d text = records_of text ≡ Err (record { line = line; cause = cause })
 IsFillFault (Refused number code) d text = IsRefused d text number code
 IsFillFault (Code number) d text = ⊥
 IsFillFault NoMemory d text = Unit {0}

@@ -46,21 +46,21 @@ pub record IsUnsuccessful (d : Directory) (text : List ℕ) (q : SearchRequestVa
 
 -- Why nothing is written: the first line that is no LDIF, the first record that is refused, or the code of the search.
 abbrev pub IsSearchFault : SearchError → Directory → List ℕ → SearchRequestValue → Type 0
-IsSearchFault (BadLdif line) d text q = records_of text ≡ Err line
+IsSearchFault (BadLdif line cause) d text q = records_of text ≡ Err (record { line = line; cause = cause })
 IsSearchFault (Refused number code) d text q = IsRefused d text number code
 IsSearchFault (Code number) d text q = IsUnsuccessful d text q number
 IsSearchFault NoMemory d text q = Unit {0}
 
 -- why a text has no records
 abbrev pub IsReadFault : SearchError → List ℕ → Type 0
-IsReadFault (BadLdif line) text = records_of text ≡ Err line
+IsReadFault (BadLdif line cause) text = records_of text ≡ Err (record { line = line; cause = cause })
 IsReadFault (Refused number code) text = ⊥
 IsReadFault (Code number) text = ⊥
 IsReadFault NoMemory text = Unit {0}
 
 -- why an answer has no text: its code is not success, or memory ran out
 abbrev pub IsShowFault : SearchError → Answer → Type 0
-IsShowFault (BadLdif line) a = ⊥
+IsShowFault (BadLdif line cause) a = ⊥
 IsShowFault (Refused number code) a = ⊥
 IsShowFault (Code number) a = (a.code ≡ number) × (number ≢ 0)
 IsShowFault NoMemory a = Unit {0}

@@ -3,15 +3,16 @@
 ghost use Rattle.std.specs.Prelude.{◌≡◌};
 ghost use Rattle.local_directory.specs.declared.fault.SearchError.TheVariants.{NoMemory};
 
+use ldif::LdifCause;
 use std::alloc::{AllocError, AllocFailed};
 use thiserror::Error;
 
 /// Why a search gives no text.
 #[derive(Clone, Copy, Debug, PartialEq, Eq, Error)]
 pub enum SearchError {
-    /// The line is no line of LDIF where it stands; lines are counted from 1.
+    /// The line is no line of LDIF where it stands, for this cause; lines are counted from 1.
     #[error("E19 {line}")]
-    BadLdif { line: usize },
+    BadLdif { line: usize, cause: LdifCause },
     /// The directory refuses the add of this record with this result code; records are counted from 1.
     #[error("record {number}: code {code}")]
     Refused { number: u64, code: u32 },

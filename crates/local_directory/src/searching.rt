@@ -25,7 +25,7 @@ pub fn read_records(alloc: Global, text: &[u8]) -> Result<Vec<Record>, SearchErr
 {
     match read(alloc, text) {
         Ok(records) => Ok(records),
-        Err(LdifError::BadLdif { line }) => Err(SearchError::BadLdif { line }),
+        Err(LdifError::BadLdif { line, cause }) => Err(SearchError::BadLdif { line, cause }),
         Err(LdifError::NoMemory) => Err(SearchError::NoMemory),
     }
 }

@@ -11,4 +11,4 @@ said_of Comment = comment
 said_of (Name name) = named (string_bytes name)
 said_of (Value value) = valued value
 said_of (Encoded value) = encoded value
-said_of Wrong = wrong
+said_of (Wrong cause) = wrong cause

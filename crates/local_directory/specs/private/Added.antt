@@ -9,14 +9,14 @@ use Rattle.local_directory.specs.Added.{adds, first_refused}
 
 -- why a record is not added: it is refused, with this number and code, or memory ran out
 abbrev pub IsPutFault : SearchError → ℕ → ℕ → Type 0
-IsPutFault (BadLdif line) n k = ⊥
+IsPutFault (BadLdif line cause) n k = ⊥
 IsPutFault (Refused number code) n k = (number ≡ n) × (code ≡ k) × (nat_eq k 0 ≡ false)
 IsPutFault (Code number) n k = ⊥
 IsPutFault NoMemory n k = Unit {0}
 
 -- why records are not all added: the first that is refused, or memory ran out
 abbrev pub IsAddFault : SearchError → Directory → List RecordModel → Type 0
-IsAddFault (BadLdif line) d rs = ⊥
+IsAddFault (BadLdif line cause) d rs = ⊥
 IsAddFault (Refused number code) d rs = first_refused d 0 (adds rs) ≡ Some (record { number = number; code = code })
 IsAddFault (Code number) d rs = ⊥
 IsAddFault NoMemory d rs = Unit {0}

@@ -1,6 +1,0 @@
-use Rattle.std.proofs.Common.{◌≡◌, ◌++◌, drop}
-use Rattle.explanations.specs.Classes.{structural}
-use Rattle.explanations.proofs.classes.structural.Given as goal
-
-abbrev pub invariant-loop-class : goal.invariant-loop-class
-invariant-loop-class l = l.found.items ++ structural l.schema (drop l.class-index l.classes) ≡ structural l.schema l.classes

@@ -1,8 +1,0 @@
-use Rattle.std.proofs.Common.{codes, string_bytes}
-use Rattle.explanations.proofs.Written.{between_words}
-use Rattle.explanations.proofs.descriptions.another_follows.Goals as goal
-
-pub returns : goal.returns
-returns c =
-    between_words string_bytes c.format.result _ _ (codes " needs ") c.args.wanted.now (codes ", not: ") _ _
-    c.in_ok-word.ensures c.in_ok-argument.ensures c.format.ensures.ok

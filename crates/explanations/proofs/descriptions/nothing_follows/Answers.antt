@@ -1,6 +1,0 @@
-use Rattle.std.proofs.Common.{codes, string_bytes}
-use Rattle.explanations.proofs.Written.{word_then}
-use Rattle.explanations.proofs.descriptions.nothing_follows.Goals as goal
-
-pub returns : goal.returns
-returns c = word_then string_bytes c.format.result (codes "nothing follows ") _ _ (codes ", which needs ") c.args.wanted.now c.in_ok-word.ensures c.format.ensures.ok

@@ -1,6 +1,0 @@
-use Rattle.std.proofs.Common.{codes, string_bytes}
-use Rattle.explanations.proofs.Written.{begun_with}
-use Rattle.explanations.proofs.descriptions.second_kind.Goals as goal
-
-pub returns : goal.returns
-returns c = begun_with string_bytes c.format.result c.args.after.now (codes " behind ") c.args.before.now (codes ": a class has one kind") c.format.ensures.ok

@@ -1,6 +1,0 @@
-use Rattle.std.proofs.Common.{codes, string_bytes}
-use Rattle.explanations.proofs.Written.{begun_with}
-use Rattle.explanations.proofs.descriptions.too_late.Goals as goal
-
-pub returns : goal.returns
-returns c = begun_with string_bytes c.format.result c.args.after.now (codes " comes before ") c.args.before.now (codes " in a description") c.format.ensures.ok

@@ -1,6 +1,0 @@
-use Rattle.std.proofs.Common.{◌≡◌, [], drop, string_bytes}
-use Rattle.explanations.specs.Loops.{along}
-use Rattle.explanations.proofs.loops.along.Given as goal
-
-abbrev pub invariant-loop-number : goal.invariant-loop-number
-invariant-loop-number l = along l.called (string_bytes l.way) (drop l.number-index l.numbers) ≡ along l.called [] l.numbers

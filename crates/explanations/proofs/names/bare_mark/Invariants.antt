@@ -1,6 +1,0 @@
-use Rattle.std.proofs.Common.{◌≡◌, drop}
-use Rattle.explanations.specs.Names.{bare_from, bare_mark}
-use Rattle.explanations.proofs.names.bare_mark.Given as goal
-
-abbrev pub invariant-loop-octet : goal.invariant-loop-octet
-invariant-loop-octet l = bare_from l.is_escaped (drop l.octet-index l.value) ≡ bare_mark l.value

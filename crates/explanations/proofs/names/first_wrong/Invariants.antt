@@ -1,7 +1,0 @@
-use Rattle.std.proofs.Common.{◌≡◌, drop, map}
-use Rattle.explanations.specs.Names.{first_wrong}
-use Rattle.explanations.proofs.names.first_wrong.Given as goal
-
-abbrev pub invariant-loop-part : goal.invariant-loop-part
-invariant-loop-part l =
-    first_wrong l.schema (map (λ x. x.now) (drop l.part-index l.parts)) ≡ first_wrong l.schema (map (λ x. x.now) l.parts)

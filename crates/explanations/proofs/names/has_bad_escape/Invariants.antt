@@ -1,8 +1,0 @@
-use Rattle.std.proofs.Common.{◌≡◌, drop, is_none}
-use Rattle.ldap_match.specs.ldap_dn.Texts.{tokens_of}
-use Rattle.explanations.specs.private.Names.{scan_of}
-use Rattle.explanations.proofs.Escaping.{fails}
-use Rattle.explanations.proofs.names.has_bad_escape.Given as goal
-
-abbrev pub invariant-loop-octet : goal.invariant-loop-octet
-invariant-loop-octet l = fails (scan_of l.escape) (drop l.octet-index l.text) ≡ is_none (tokens_of l.text)

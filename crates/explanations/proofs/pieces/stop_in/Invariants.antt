@@ -1,6 +1,0 @@
-use Rattle.std.proofs.Common.{◌≡◌, drop}
-use Rattle.explanations.specs.Pieces.{stop_from, stop_in}
-use Rattle.explanations.proofs.pieces.stop_in.Given as goal
-
-abbrev pub invariant-loop-index : goal.invariant-loop-index
-invariant-loop-index l = stop_from l.scan l.index (drop l.index l.octets) ≡ stop_in l.octets

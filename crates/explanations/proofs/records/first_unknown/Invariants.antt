@@ -1,6 +1,0 @@
-use Rattle.std.proofs.Common.{◌≡◌, drop}
-use Rattle.explanations.specs.Records.{first_line, is_unknown}
-use Rattle.explanations.proofs.records.first_unknown.Given as goal
-
-abbrev pub invariant-loop-line : goal.invariant-loop-line
-invariant-loop-line l = first_line (is_unknown l.schema) (drop l.line-index l.lines) ≡ first_line (is_unknown l.schema) l.lines

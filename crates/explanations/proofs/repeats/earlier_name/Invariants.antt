@@ -1,7 +1,0 @@
-use Rattle.std.proofs.Common.{◌≡◌, drop, map}
-use Rattle.explanations.specs.Repeats.{earlier_name}
-use Rattle.explanations.proofs.repeats.earlier_name.Given as goal
-
-abbrev pub invariant-loop-name : goal.invariant-loop-name
-invariant-loop-name l =
-    earlier_name l.text l.line (map (λ v. v.items) (drop l.name-index l.names)) ≡ earlier_name l.text l.line (map (λ v. v.items) l.names)

@@ -1,0 +1,4 @@
+pub mod CutPieces
+pub mod Ordering
+pub mod Reaching
+pub mod Again

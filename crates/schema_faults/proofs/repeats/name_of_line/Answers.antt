@@ -1,0 +1,8 @@
+use Rattle.std.proofs.Common.{codes, decimal, refl, string_bytes}
+use Rattle.text_faults.proofs.Written.{two_words}
+use Rattle.schema_faults.proofs.repeats.name_of_line.Goals as goal
+
+pub returns : goal.returns
+returns c =
+    two_words string_bytes c.format.result (codes "the name '") _ _ (codes "' is that of line ") (decimal c.args.line) (decimal c.args.line) (codes " too")
+    c.in_ok-word.ensures refl c.format.ensures.ok

@@ -1,0 +1,10 @@
+pub mod Indexes
+pub mod Schemas
+pub mod Rules
+pub mod Pieces
+pub mod Forms
+pub mod Descriptions
+pub mod Repeats
+pub mod Loops
+pub mod SchemaFaults
+pub mod private

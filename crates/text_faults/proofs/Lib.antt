@@ -1,0 +1,5 @@
+pub mod Written
+pub mod Cuts
+pub mod Utf8
+pub mod Cutting
+pub mod Escaping

@@ -1,0 +1,151 @@
+//! Octets of a text as they are shown in a sentence: on one line, and not too long.
+ghost use Rattle.std.specs.Prelude.{◌≡◌, ◌++◌, IfOk, OnOk, chars, flat_map, string_bytes, take};
+ghost use Rattle.text_faults.specs.Words.{octet_shown};
+ghost use Rattle.text_faults.specs.Words.{octet_digits, character_shown, raw_octet_shown, cut, word_shown};
+
+use std::alloc::{AllocError, Global};
+use std::fmt::Write;
+
+/// How many characters of a word are shown.
+const LIMIT: usize = 64;
+
+/// Adds an octet as a backslash and two hexadecimal digits.
+fn push_digits(sentence: &mut String, octet: u8) -> Result<(), AllocError>
+    ensures { OnOk result (string_bytes sentence.new ≡ string_bytes sentence.old ++ octet_digits octet) }
+{
+    let (high, low) = (octet / 16, octet % 16);
+    write!(sentence, "\\{high:x}{low:x}")
+}
+
+/// Adds octets so, one behind the other.
+fn push_all_digits(sentence: &mut String, octets: &[u8]) -> Result<(), AllocError>
+    ensures { OnOk result (string_bytes sentence.new ≡ string_bytes sentence.old ++ flat_map octet_digits octets.now) }
+{
+    for octet in octets {
+        push_digits(sentence, *octet)?;
+    }
+    Ok(())
+}
+
+/// Adds a character; in digits, where it would end the line or move the cursor.
+fn push_character(sentence: &mut String, character: char) -> Result<(), AllocError>
+    ensures { OnOk result (string_bytes sentence.new ≡ string_bytes sentence.old ++ character_shown character) }
+{
+    if character.is_control() {
+        let mut room = [0; 4];
+        return push_all_digits(sentence, character.encode_utf8(&mut room).as_bytes());
+    }
+    sentence.push(character)
+}
+
+/// Adds characters, one behind the other.
+fn push_characters(sentence: &mut String, characters: &[char]) -> Result<(), AllocError>
+    ensures { OnOk result (string_bytes sentence.new ≡ string_bytes sentence.old ++ flat_map character_shown characters.now) }
+{
+    for character in characters {
+        push_character(sentence, *character)?;
+    }
+    Ok(())
+}
+
+/// The characters of a text, as many as are shown and one more.
+fn first_characters(alloc: Global, text: &str) -> Result<Vec<char>, AllocError>
+    ensures { IfOk result (λ v. v.items ≡ take 65 (chars text.now)) }
+{
+    text.chars().take(LIMIT + 1).collect(alloc)
+}
+
+/// Adds characters, or the first of them and two dots.
+fn push_cut_characters(sentence: &mut String, characters: &[char]) -> Result<(), AllocError>
+    ensures { OnOk result (string_bytes sentence.new ≡ string_bytes sentence.old ++ cut character_shown characters.now) }
+{
+    if characters.len() <= LIMIT {
+        return push_characters(sentence, characters);
+    }
+    let (front, _) = characters.split_at(LIMIT);
+    push_characters(sentence, front)?;
+    sentence.push_str("..")
+}
+
+/// Adds an octet of what is no text: in digits, where it isn't ASCII.
+fn push_octet(sentence: &mut String, octet: u8) -> Result<(), AllocError>
+    ensures { OnOk result (string_bytes sentence.new ≡ string_bytes sentence.old ++ raw_octet_shown octet) }
+{
+    if octet.is_ascii() {
+        push_character(sentence, char::from(octet))
+    } else {
+        push_digits(sentence, octet)
+    }
+}
+
+/// Adds octets of what is no text, one behind the other.
+fn push_octets(sentence: &mut String, octets: &[u8]) -> Result<(), AllocError>
+    ensures { OnOk result (string_bytes sentence.new ≡ string_bytes sentence.old ++ flat_map raw_octet_shown octets.now) }
+{
+    for octet in octets {
+        push_octet(sentence, *octet)?;
+    }
+    Ok(())
+}
+
+/// Adds octets of what is no text, or the first of them and two dots.
+fn push_cut_octets(sentence: &mut String, octets: &[u8]) -> Result<(), AllocError>
+    ensures { OnOk result (string_bytes sentence.new ≡ string_bytes sentence.old ++ cut raw_octet_shown octets.now) }
+{
+    if octets.len() <= LIMIT {
+        return push_octets(sentence, octets);
+    }
+    let (front, _) = octets.split_at(LIMIT);
+    push_octets(sentence, front)?;
+    sentence.push_str("..")
+}
+
+#[tactic(auto, using(crate::proofs::Cuts::cut_front))]
+/// A text as it is shown in a sentence.
+fn text_shown(alloc: Global, text: &str) -> Result<String, AllocError>
+    ensures { IfOk result (λ s. string_bytes s ≡ cut character_shown (chars text.now)) }
+{
+    let characters = first_characters(alloc, text)?;
+    let mut sentence = String::new(alloc);
+    push_cut_characters(&mut sentence, characters.as_slice())?;
+    Ok(sentence)
+}
+
+/// Octets that are no text as they are shown in a sentence.
+fn octets_shown(alloc: Global, octets: &[u8]) -> Result<String, AllocError>
+    ensures { IfOk result (λ s. string_bytes s ≡ cut raw_octet_shown octets.now) }
+{
+    let mut sentence = String::new(alloc);
+    push_cut_octets(&mut sentence, octets)?;
+    Ok(sentence)
+}
+
+#[tactic(auto, using(crate::proofs::Cuts::text_word, crate::proofs::Cuts::octets_word))]
+/// A word of a text as it is shown in a sentence: one line of UTF-8, cut where it is long.
+pub fn shown(alloc: Global, octets: &[u8]) -> Result<String, AllocError>
+    ensures { IfOk result (λ s. string_bytes s ≡ word_shown octets.now) }
+{
+    match str::from_utf8(octets) {
+        Ok(text) => text_shown(alloc, text),
+        Err(_) => octets_shown(alloc, octets),
+    }
+}
+
+/// An octet of a text as it is shown in a sentence: itself, or a backslash and two hexadecimal digits where it is no ASCII that prints.
+pub fn octet_shown(alloc: Global, octet: u8) -> Result<String, AllocError>
+    ensures { IfOk result (λ s. string_bytes s ≡ octet_shown octet) }
+{
+    if octet < 32 || 126 < octet {
+        let (high, low) = (octet / 16, octet % 16);
+        return format!(in alloc; "\\{high:x}{low:x}");
+    }
+    let character = char::from(octet);
+    format!(in alloc; "{character}")
+}
+
+/// A sentence that needs no word of the text.
+pub fn said(alloc: Global, sentence: &str) -> Result<String, AllocError>
+    ensures { IfOk result (λ s. string_bytes s ≡ sentence.now) }
+{
+    String::from_str(alloc, sentence)
+}
