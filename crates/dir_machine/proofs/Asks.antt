@@ -1,6 +1,7 @@
 -- What is shown of a question is so in the world.
-use Rattle.std.proofs.Common.{◌≡◌, ℕ, zero, suc, ◌+◌, ◌-◌, ◌<◌, ◌≤◌, ◌==◌, nat_lt, not, ◌&&◌, Bool, true, false, cond, inr, List, [], ◌∷◌, ◌++◌, length, Option, Some, None, slice_get, refl, sym, ap, ◌∙◌, subst, arith, eqb-true, length-append}
+use Rattle.std.proofs.Common.{◌≡◌, ℕ, zero, suc, ◌+◌, ◌-◌, ◌<◌, ◌≤◌, ◌==◌, nat_lt, not, ◌&&◌, Bool, true, false, cond, inl, inr, List, [], ◌∷◌, ◌++◌, length, Option, Some, None, slice_get, refl, sym, ap, ◌∙◌, subst, arith, eqb-true, eq-eqb, true≢false, ltb-true, length-append}
 use Rattle.std.specs.Arc.{arc_value}
+use Rattle.std.proofs.lemmas.Bool.{ltb-false}
 use Rattle.std.proofs.lemmas.List.{map-append}
 use Rattle.std.proofs.lemmas.Option.{slice_get_within}
 use Rattle.dir_node.specs.Outcomes.{OutcomeValue, done, pending, stale, lost, outcome_at, outcome_by, outcome_of, standing_by, standing_of}
@@ -24,17 +25,17 @@ use Rattle.vr_state.specs.declared.words.Latest.{Latest}
 use Rattle.vr_world.specs.Committed.{committed}
 use Rattle.vr_world.specs.Law.{IsSize}
 use Rattle.vr_world.specs.World.{World}
-use Rattle.dir_machine.proofs.Gives.{down_not_up, gone_not_up, unborn_not_up}
+use Rattle.dir_machine.proofs.Gives.{down_not_up, unborn_not_up}
 use Rattle.dir_machine.proofs.Processes.{IsQuiet}
 use Rattle.dir_machine.proofs.Worlds.{IsReached, begins_committed}
-use Rattle.dir_machine.specs.Happening.{IsDoneIn, IsMadeIn, MayHappen}
+use Rattle.dir_machine.specs.Happening.{IsByReplica, IsByTable, IsDoneIn, IsMadeIn, MayHappen}
 use Rattle.dir_machine.specs.Shown.{became_view, stage}
 use Rattle.dir_machine.specs.private.Processes.{IsAnswered, IsToldOf, MemoryNode}
 use Rattle.dir_machine.specs.private.Running.{IsUp, StandsFor}
 use Rattle.dir_machine.specs.declared.events.MachineEvent.TheVariants as event
 use Rattle.dir_machine.specs.declared.machine.Machine.{Machine}
 use Rattle.dir_machine.specs.declared.process.Process.{Process}
-use Rattle.dir_machine.specs.declared.process.Process.TheVariants.{Unborn, Up, Down, Gone}
+use Rattle.dir_machine.specs.declared.process.Process.TheVariants.{Unborn, Up, Down}
 use Rattle.dir_machine.specs.declared.replies.MachineReply.{MachineReply}
 use Rattle.dir_machine.specs.declared.replies.MachineReply.TheVariants as reply
 
@@ -106,7 +107,53 @@ done_by n client number place r = go (latest client n.replica.log) refl
     go None e h = absurd (lost_not_done place r h)
     go (Some l) e h = by l e (nat_lt number l.request_number) (l.request_number == number) refl h
 
+-- two numbers, the first not below the second, and not the second
+above : (a b : ℕ) → nat_lt a b ≡ false → (b == a) ≡ false → b < a
+above a b low apart = go (nat_lt b a) refl
+  where
+    go : (t : Bool) → nat_lt b a ≡ t → b < a
+    go true e = ltb-true b a e
+    go false e = absurd (true≢false (sym (eq-eqb b a (omega (arith, ltb-false a b low, ltb-false b a e))) ∙ apart))
+
+-- What a node says of a request is by its client table.
+by_table : (n : MemoryNode) → n.is_halted ≡ false → (client : Client) (number : ℕ) → IsByTable n.count n.index n.replica client number (outcome_of n client number)
+by_table n runs client number = go (latest client n.replica.log) refl
+  where
+    Says : OutcomeValue → Type 0
+    Says v = IsByTable n.count n.index n.replica client number v
+
+    leading : Bool
+    leading = leads n.count n.index n.replica n.replica.view_number
+
+    at : (l : Latest) → latest client n.replica.log ≡ Some l → l.request_number ≡ number → (o : Option ReplyModel) → Says (outcome_at n l.op_number o)
+    at l e same (Some x) = (l, e, same, refl)
+    at l e same None = subst (λ b. Says (cond b pending lost)) (sym (ap (λ b. not b && leading) runs)) (lead leading refl)
+      where
+        lead : (b : Bool) → leading ≡ b → Says (cond b pending lost)
+        lead true f = (l, e, same, f)
+        lead false f = inr (l, e, inr (same, f))
+
+    by : (l : Latest) → latest client n.replica.log ≡ Some l → (a b : Bool) → nat_lt number l.request_number ≡ a → (l.request_number == number) ≡ b
+        → Says (cond a stale (cond b (outcome_at n l.op_number (slice_get (replies_at n.executed) (l.op_number - 1))) lost))
+    by l e true b later same = (l, e, ltb-true number l.request_number later)
+    by l e false true later same = at l e (eqb-true l.request_number number same) (slice_get (replies_at n.executed) (l.op_number - 1))
+    by l e false false later same = inr (l, e, inl (above number l.request_number later same))
+
+    go : (o : Option Latest) → latest client n.replica.log ≡ o → Says (outcome_by n number o)
+    go None e = inl e
+    go (Some l) e = by l e (nat_lt number l.request_number) (l.request_number == number) refl refl
+
 module _ (m : Machine) (w : World OpValue) (i : ℕ) where
+  -- what a node says of a request, as its replica in the world
+  by_replica : (n : MemoryNode) → IsUp m w i n → (client : Client) (number : ℕ) (v : OutcomeValue) → v ≡ outcome_of n client number → IsByReplica m.count i w client number v
+  by_replica n u client number v is = record {
+    replica = n.replica;
+    there = u.replica;
+    by =
+        subst (λ (k : ℕ). IsByTable k i n.replica client number v) u.count
+        (subst (λ (k : ℕ). IsByTable n.count k n.replica client number v) u.index (subst (λ (x : OutcomeValue). IsByTable n.count n.index n.replica client number x) (sym is) (by_table n u.running client number)));
+  }
+
   -- how far a node is, as its replica in the world
   far : (n : MemoryNode) → IsUp m w i n → reply.Standing i n.replica.view_number (standing_of n) (length n.replica.log) n.replica.commit_number
       ≡ reply.Standing i n.replica.view_number (standing_by i (primary m.count n.replica.view_number) n.replica.status) (length n.replica.log) n.replica.commit_number
@@ -118,12 +165,11 @@ module _ (m : Machine) (w : World OpValue) (i : ℕ) where
   -- What is shown of how far a process is.
   pub told_on : (shown : List MachineReply) (p : Process) (x : MachineReply) → StandsFor m w i (stage shown i) p → IsToldOf i p x
       → MayHappen (arc_value m.schema) m.suffix m.count shown (event.State i) x [] w × IsQuiet x
-  told_on shown (Up n) x stands is =
+  told_on shown (Up n f) x stands is =
       subst (λ (y : MachineReply). MayHappen (arc_value m.schema) m.suffix m.count shown (event.State i) y [] w × IsQuiet y) (sym is)
       ((refl, record { replica = n.replica; there = stands.1.replica; shown = far n stands.1 }), record { stages = λ j s. refl; silent = λ part at y h. absurd (cc) })
   told_on shown (Down image) reply.Nothing stands is = ((refl, inr (down_not_up stands.0)), record { stages = λ j s. refl; silent = λ part at y h. absurd (cc) })
-  told_on shown Unborn reply.Nothing stands is = ((refl, inr (unborn_not_up stands.0)), record { stages = λ j s. refl; silent = λ part at y h. absurd (cc) })
-  told_on shown Gone reply.Nothing stands is = ((refl, inr (gone_not_up stands)), record { stages = λ j s. refl; silent = λ part at y h. absurd (cc) })
+  told_on shown (Unborn image) reply.Nothing stands is = ((refl, inr (unborn_not_up stands.0)), record { stages = λ j s. refl; silent = λ part at y h. absurd (cc) })
   told_on shown _ _ stands is = absurd is
 
 module _ (m : Machine) (size : IsSize m.count) (w : World OpValue) (i : ℕ) (reached : IsReached m.count w) (law : LatestIsOfClient OpValue) where
@@ -174,9 +220,8 @@ module _ (m : Machine) (size : IsSize m.count) (w : World OpValue) (i : ℕ) (re
   -- What is shown of a client's request at a process.
   pub answered_on : (shown : List MachineReply) (client : Client) (number : ℕ) (p : Process) (x : MachineReply) → StandsFor m w i (stage shown i) p → IsAnswered i client number p x
       → MayHappen (arc_value m.schema) m.suffix m.count shown (event.Ask i client number) x [] w × IsQuiet x
-  answered_on shown client number (Up n) (reply.Outcome j o) stands is =
-      ((is.0, refl, done_or n stands.1 client number (became_view o) (sym is.1)), record { stages = λ j s. refl; silent = λ part at y h. absurd (cc) })
+  answered_on shown client number (Up n f) (reply.Outcome j o) stands is =
+      ((is.0, refl, by_replica m w i n stands.1 client number (became_view o) is.1, done_or n stands.1 client number (became_view o) (sym is.1)), record { stages = λ j s. refl; silent = λ part at y h. absurd (cc) })
   answered_on shown client number (Down image) reply.Nothing stands is = ((refl, inr (down_not_up stands.0)), record { stages = λ j s. refl; silent = λ part at y h. absurd (cc) })
-  answered_on shown client number Unborn reply.Nothing stands is = ((refl, inr (unborn_not_up stands.0)), record { stages = λ j s. refl; silent = λ part at y h. absurd (cc) })
-  answered_on shown client number Gone reply.Nothing stands is = ((refl, inr (gone_not_up stands)), record { stages = λ j s. refl; silent = λ part at y h. absurd (cc) })
+  answered_on shown client number (Unborn image) reply.Nothing stands is = ((refl, inr (unborn_not_up stands.0)), record { stages = λ j s. refl; silent = λ part at y h. absurd (cc) })
   answered_on shown client number _ _ stands is = absurd is

@@ -1,34 +1,38 @@
 -- What a process stands for after it was given events, or ended.
-use Rattle.std.proofs.Common.{◌≡◌, ◌≢◌, ℕ, ◌<◌, ◌≤◌, ◌==◌, Bool, cond, inl, inr, List, [], ◌∷◌, take, Some, None, Result, slice_get, Vec, refl, sym, ap, ◌∙◌, subst, eq-eqb}
+use Rattle.std.proofs.Common.{◌≡◌, ◌≢◌, ℕ, ◌<◌, ◌≤◌, ◌==◌, Bool, false, cond, ◌⊎◌, inl, inr, List, [], ◌∷◌, ◌++◌, take, Some, None, Result, slice_get, Vec, refl, sym, ap, ◌∙◌, subst, eq-eqb}
 use Rattle.std.specs.Arc.{arc_value}
 use Rattle.std.specs.Global.{Global}
 use Rattle.std.specs.declared.alloc.AllocError.{AllocError}
 use Rattle.dir_node.specs.Handling.{MakesSteps}
 use Rattle.dir_node.specs.NodeState.{pair_of}
+use Rattle.dir_node.specs.declared.error.NodeError.{NodeError}
+use Rattle.dir_node.specs.log_journal.Taken.{MakesSome}
 use Rattle.dir_node.specs.declared.error.NodeError.TheVariants.{NoMemory}
 use Rattle.state_machine.specs.dir_store.ldap_op.Values.{OpValue}
-use Rattle.view_store.specs.Slots.{found}
+use Rattle.view_store.specs.Slots.{IsWellPlaced, found, own}
+use Rattle.view_store.specs.declared.slot.Pair.{Pair}
 use Rattle.vr_state.proofs.Laws.{prefix_trans}
 use Rattle.vr_state.specs.State.{State}
 use Rattle.vr_state.specs.declared.event.Event.{Event}
 use Rattle.vr_state.specs.declared.message.Outputs.{Outputs}
+use Rattle.vr_world.proofs.Laws.{run-append}
 use Rattle.vr_world.specs.Law.{IsSize}
 use Rattle.vr_world.specs.World.{World, has_used, happens, kept_of, put, run}
 use Rattle.vr_world.specs.declared.events.WorldEvent.{WorldEvent}
 use Rattle.vr_world.specs.declared.events.WorldEvent.TheVariants.{Crash}
 use Rattle.dir_machine.proofs.Processes.{Moved}
-use Rattle.dir_machine.proofs.Taking.{Ran, caught_up, ran}
-use Rattle.dir_machine.proofs.Worlds.{IsLater, IsReached, crashed_is, later_refl, not_eqb, put_here, put_there}
-use Rattle.dir_machine.specs.Happening.{MayHappen, TakesEach}
-use Rattle.dir_machine.specs.Shown.{Stage, unborn, up, down, gone, message_in, stage}
+use Rattle.dir_machine.proofs.Taking.{Ran, RanSome, caught_up, none_taken, ran, some_ran}
+use Rattle.dir_machine.proofs.Worlds.{IsLater, IsReached, crashed_is, later_refl, later_trans, not_eqb, put_here, put_there}
+use Rattle.dir_machine.specs.Happening.{EndsInside, MayHappen, TakesEach}
+use Rattle.dir_machine.specs.Shown.{Stage, unborn, up, down, stopped, message_in, stage}
 use Rattle.dir_machine.specs.private.Givens.{AreAsked}
-use Rattle.dir_machine.specs.private.Processes.{IsEnded, IsGiven, MemoryNode, Took}
-use Rattle.dir_machine.specs.private.Running.{AreSent, IsDown, IsUp, StandsFor}
+use Rattle.dir_machine.specs.private.Processes.{EndedInside, IsEnded, IsGiven, MemoryNode, Took}
+use Rattle.dir_machine.specs.private.Running.{AreSent, AreUpTo, IsDown, IsUp, StandsFor}
 use Rattle.dir_machine.specs.declared.events.Given.{Given}
 use Rattle.dir_machine.specs.declared.events.MachineEvent.TheVariants as event
 use Rattle.dir_machine.specs.declared.machine.Machine.{Machine}
 use Rattle.dir_machine.specs.declared.process.Process.{Process}
-use Rattle.dir_machine.specs.declared.process.Process.TheVariants.{Unborn, Up, Down, Gone}
+use Rattle.dir_machine.specs.declared.process.Process.TheVariants.{Unborn, Up, Down}
 use Rattle.dir_machine.specs.declared.replies.MachineReply.{MachineReply}
 use Rattle.dir_machine.specs.declared.replies.MachineReply.TheVariants as reply
 
@@ -39,15 +43,12 @@ unborn_not_up e f = absurd (cc)
 pub down_not_up : {s : Stage} → s ≡ down → s ≢ up
 down_not_up e f = absurd (cc)
 
-pub gone_not_up : {s : Stage} → s ≡ gone → s ≢ up
-gone_not_up e f = absurd (cc)
-
 -- What may happen where replica i is given these, one or a batch.
 abbrev pub MayBeGiven : ℕ → List MachineReply → ℕ → List Given → MachineReply → List (WorldEvent OpValue) → World OpValue → Type 0
 MayBeGiven n before i gs reply.Nothing h w = (h ≡ []) × (stage before i ≢ up)
 MayBeGiven n before i gs (reply.Handled j outs behind) h w = (j ≡ i) × TakesEach n before i gs outs.items h w
 MayBeGiven n before i gs (reply.Refused j e) h w = (j ≡ i) × (e ≡ NoMemory) × (h ≡ [])
-MayBeGiven n before i gs (reply.Stopped j e) h w = (j ≡ i) × (e ≢ NoMemory) × (h ≡ Crash i ∷ [])
+MayBeGiven n before i gs (reply.Stopped j e) h w = (j ≡ i) × (e ≢ NoMemory) × EndsInside n before i gs h w
 MayBeGiven n before i gs _ h w = ⊥
 
 -- one event
@@ -112,14 +113,70 @@ module _ (m : Machine) (size : IsSize m.count) (w : World OpValue) (i : ℕ) (lt
     suffix = t.same.suffix ∙ u.suffix;
     executed = caught_up behind old.executed.records new.executed.records (take new.replica.commit_number new.replica.log) (prefix_trans u.executed r.committed) t.executed;
     pair = t.pair;
+    placed = t.placed u.running u.placed.seen;
   }
+
+  -- Its process ends in this world.
+  ends_down : (v : World OpValue) (s : State OpValue) (pair : Pair) (image : List ℕ) → v.replicas i ≡ Some s → found m.cluster image ≡ own pair → pair.journaled ≡ false
+      → v.stored i ≡ pair.view → AreUpTo v i pair.restarts → IsWellPlaced image → IsDown m (happens m.count v (Crash i)) i image
+  ends_down v s pair image here found_is alone stored nonces placed = record {
+    pair = pair;
+    found_is = found_is;
+    alone = alone;
+    down = ap (λ (u : World OpValue). u.replicas i) to ∙ put_here i None v.replicas;
+    stored = ap (λ (u : World OpValue). u.stored i) to ∙ stored;
+    nonces = λ x h. nonces x (ap (λ (u : World OpValue). has_used x (u.nonces i)) (sym to) ∙ h);
+    placed = placed;
+  }
+    where
+      to : happens m.count v (Crash i) ≡ record v { replicas = put i None v.replicas; kept = put i (kept_of s) v.kept }
+      to = crashed_is m.count i v s lt here
+
+  -- It ended after some first of what it was given.
+  ended_after : (gs : List Given) (old : MemoryNode) (image : Vec ℕ Global) (j : ℕ) (e : NodeError) → j ≡ i → e ≢ NoMemory → stage shown i ≡ up → IsUp m w i old → (s : State OpValue) → RanSome m.count i shown gs w s
+      → found old.cluster image.items ≡ own (record (pair_of old) { view = s.view_number }) → IsWellPlaced image.items
+      → Acted m w i shown (reply.Stopped j e) (Down image) (λ h. MayBeGiven m.count shown i gs (reply.Stopped j e) h w)
+  ended_after gs old image j e own_is cause was u s r found_is placed = record {
+    happened = r.happened ++ Crash i ∷ [];
+    may = (own_is, cause, record { taken = r.happened; some = r.some; crash = refl });
+    moved = subst (λ (v : World OpValue). Moved m w v i shown (reply.Stopped j e) (Down image)) (sym (run-append m.count r.happened (Crash i ∷ []) w)) (record {
+      later = later_trans w (run m.count r.happened w) (happens m.count (run m.count r.happened w) (Crash i)) i r.later (crash_later m.count i (run m.count r.happened w) s lt r.replica);
+      apart = λ k ne t. stage_apart i j k (stopped t) t own_is ne;
+      stands = (
+        stage_own i j (stopped (stage shown i)) (stage shown i) own_is ∙ ap stopped was,
+        ends_down (run m.count r.happened w) s (record (pair_of old) { view = s.view_number }) image.items r.replica (ap (λ (c : ℕ). found c image.items) (sym u.cluster) ∙ found_is) u.alone r.stored
+            (λ x h. u.nonces x (ap (λ l. has_used x l) (sym r.nonces) ∙ h)) placed,
+      );
+      sent = λ part at y h. absurd (cc);
+    });
+  }
+
+  -- It ended inside a call: before what it was given, or after some first of that.
+  ended_inside : (gs : List Given) (es : List (Event OpValue)) (old : MemoryNode) (image : Vec ℕ Global) (j : ℕ) (e : NodeError) → j ≡ i → e ≢ NoMemory → stage shown i ≡ up → IsUp m w i old → AreAsked shown i gs es → EndedInside es old image.items
+      → Acted m w i shown (reply.Stopped j e) (Down image) (λ h. MayBeGiven m.count shown i gs (reply.Stopped j e) h w)
+  ended_inside gs es old image j e own_is cause was u asked ended = go ended.pair.pair
+    where
+      go : (found old.cluster image.items ≡ own (pair_of old)) ⊎ (found old.cluster image.items ≡ own (record (pair_of old) { view = ended.replica.view_number }))
+          → Acted m w i shown (reply.Stopped j e) (Down image) (λ h. MayBeGiven m.count shown i gs (reply.Stopped j e) h w)
+      go (inl former) = ended_after gs old image j e own_is cause was u old.replica (record {
+        happened = [];
+        some = none_taken m.count shown i gs w;
+        later = later_refl w i;
+        replica = u.replica;
+        stored = u.stored;
+        nonces = refl;
+      }) former ended.pair.placed
+      go (inr after) = ended_after gs old image j e own_is cause was u ended.replica
+          (some_ran m.count i lt shown size gs es w old.replica ended.replica sent asked u.replica u.stored
+          (subst (λ (k : ℕ). MakesSome m.count k old.replica es ended.replica) u.index (subst (λ (k : ℕ). MakesSome k old.index old.replica es ended.replica) u.count ended.steps)))
+          after ended.pair.placed
 
   -- Replica i is given events.
   pub given_on : (gs : List Given) (es : List (Event OpValue)) (old new : Process) (x : MachineReply) → AreAsked shown i gs es → StandsFor m w i (stage shown i) old → IsGiven i es old new x
       → Acted m w i shown x new (λ h. MayBeGiven m.count shown i gs x h w)
-  given_on gs es (Up old) (Up new) (reply.Handled j outs behind) asked stands is = go (took gs es old new outs.items behind asked stands.1 is.1)
+  given_on gs es (Up old f) (Up new g) (reply.Handled j outs behind) asked stands is = go (took gs es old new outs.items behind asked stands.1 is.1)
     where
-      go : Ran m.count i shown gs outs.items w old.replica new.replica → Acted m w i shown (reply.Handled j outs behind) (Up new) (λ h. MayBeGiven m.count shown i gs (reply.Handled j outs behind) h w)
+      go : Ran m.count i shown gs outs.items w old.replica new.replica → Acted m w i shown (reply.Handled j outs behind) (Up new g) (λ h. MayBeGiven m.count shown i gs (reply.Handled j outs behind) h w)
       go r = record {
         happened = r.happened;
         may = (is.0, r.each);
@@ -130,7 +187,7 @@ module _ (m : Machine) (size : IsSize m.count) (w : World OpValue) (i : ℕ) (lt
           sent = λ part at y h. r.sent part at y (ap (λ (k : ℕ). message_in k (slice_get outs.items part) at) (sym is.0) ∙ h);
         };
       }
-  given_on gs es (Up old) (Up new) (reply.Refused j e) asked stands is = record {
+  given_on gs es (Up old f) (Up new g) (reply.Refused j e) asked stands is = record {
     happened = [];
     may = (is.0, is.1, refl);
     moved = record {
@@ -140,16 +197,8 @@ module _ (m : Machine) (size : IsSize m.count) (w : World OpValue) (i : ℕ) (lt
       sent = λ part at y h. absurd (cc);
     };
   }
-  given_on gs es (Up old) Gone (reply.Stopped j e) asked stands is = record {
-    happened = Crash i ∷ [];
-    may = (is.0, is.1, refl);
-    moved = record {
-      later = crash_later m.count i w old.replica lt stands.1.replica;
-      apart = λ k ne s. stage_apart i j k gone s is.0 ne;
-      stands = stage_own i j gone (stage shown i) is.0;
-      sent = λ part at y h. absurd (cc);
-    };
-  }
+  given_on gs es (Up old f) (Down image) (reply.Stopped j e) asked stands is =
+      ended_inside gs es old image j e is.0 is.1 stands.0 stands.1 asked (is.2 stands.1.running stands.1.placed.seen)
   given_on gs es (Down old) (Down new) reply.Nothing asked stands is = record {
     happened = [];
     may = (refl, down_not_up stands.0);
@@ -160,14 +209,9 @@ module _ (m : Machine) (size : IsSize m.count) (w : World OpValue) (i : ℕ) (lt
       sent = λ part at y h. absurd (cc);
     };
   }
-  given_on gs es Unborn Unborn reply.Nothing asked stands is = record {
+  given_on gs es (Unborn old) (Unborn new) reply.Nothing asked stands is = record {
     happened = [];
     may = (refl, unborn_not_up stands.0);
-    moved = record { later = later_refl w i; apart = λ k ne s. refl; stands = stands; sent = λ part at y h. absurd (cc) };
-  }
-  given_on gs es Gone Gone reply.Nothing asked stands is = record {
-    happened = [];
-    may = (refl, gone_not_up stands);
     moved = record { later = later_refl w i; apart = λ k ne s. refl; stands = stands; sent = λ part at y h. absurd (cc) };
   }
   given_on gs es _ _ _ asked stands is = absurd is
@@ -180,7 +224,7 @@ module _ (m : Machine) (size : IsSize m.count) (w : World OpValue) (i : ℕ) (lt
 
   -- Replica i's process ends.
   pub ended_on : (old new : Process) (x : MachineReply) → StandsFor m w i (stage shown i) old → IsEnded i old new x → Acted m w i shown x new (λ h. MayEnd x h)
-  ended_on (Up old) (Down image) (reply.Crashed j) stands is = record {
+  ended_on (Up old f) (Down image) (reply.Crashed j) stands is = record {
     happened = Crash i ∷ [];
     may = (is.0, refl);
     moved = record {
@@ -188,21 +232,12 @@ module _ (m : Machine) (size : IsSize m.count) (w : World OpValue) (i : ℕ) (lt
       apart = λ k ne s. stage_apart i j k down s is.0 ne;
       stands = (
         stage_own i j down (stage shown i) is.0,
-        record {
-          pair = pair_of old;
-          found_is = ap (λ (c : ℕ). found c image.items) (sym stands.1.cluster) ∙ stands.1.pair image.items is.1;
-          alone = stands.1.alone;
-          down = ap (λ (u : World OpValue). u.replicas i) to ∙ put_here i None w.replicas;
-          stored = ap (λ (u : World OpValue). u.stored i) to ∙ stands.1.stored;
-          nonces = λ x h. stands.1.nonces x (ap (λ (u : World OpValue). has_used x (u.nonces i)) (sym to) ∙ h);
-        },
+        ends_down w old.replica (pair_of old) image.items stands.1.replica (ap (λ (c : ℕ). found c image.items) (sym stands.1.cluster) ∙ stands.1.pair image.items is.1) stands.1.alone stands.1.stored stands.1.nonces
+            (stands.1.placed.left image.items is.1),
       );
       sent = λ part at y h. absurd (cc);
     };
   }
-    where
-      to : happens m.count w (Crash i) ≡ record w { replicas = put i None w.replicas; kept = put i (kept_of old.replica) w.kept }
-      to = crashed_is m.count i w old.replica lt stands.1.replica
   ended_on (Down old) (Down new) reply.Nothing stands is = record {
     happened = [];
     may = (refl, down_not_up stands.0);
@@ -213,14 +248,9 @@ module _ (m : Machine) (size : IsSize m.count) (w : World OpValue) (i : ℕ) (lt
       sent = λ part at y h. absurd (cc);
     };
   }
-  ended_on Unborn Unborn reply.Nothing stands is = record {
+  ended_on (Unborn old) (Unborn new) reply.Nothing stands is = record {
     happened = [];
     may = (refl, unborn_not_up stands.0);
-    moved = record { later = later_refl w i; apart = λ k ne s. refl; stands = stands; sent = λ part at y h. absurd (cc) };
-  }
-  ended_on Gone Gone reply.Nothing stands is = record {
-    happened = [];
-    may = (refl, gone_not_up stands);
     moved = record { later = later_refl w i; apart = λ k ne s. refl; stands = stands; sent = λ part at y h. absurd (cc) };
   }
   ended_on _ _ _ stands is = absurd is

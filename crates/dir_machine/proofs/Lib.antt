@@ -5,6 +5,8 @@ pub mod Taking
 pub mod Processes
 pub mod Gives
 pub mod Starts
+pub mod Handled
 pub mod Asks
+pub mod Looks
 pub mod Played
 pub mod Asked

@@ -1,8 +1,12 @@
 -- A run goes on by one event of each kind, from none to a whole schedule.
-use Rattle.std.proofs.Common.{◌≡◌, ℕ, zero, suc, ◌<◌, ◌≤◌, cond, inr, List, [], ◌∷◌, ◌++◌, length, replicate, set, take, drop, Some, None, Vec, slice_get, refl, sym, ap, ◌∙◌, subst, arith, lt-ltb, append-nil, append_assoc, take-append-drop}
+use Rattle.std.proofs.Common.{◌≡◌, ℕ, ◌<◌, ◌≤◌, cond, inr, List, [], ◌∷◌, ◌++◌, length, set, take, drop, Some, None, Vec, slice_get, refl, sym, ap, ◌∙◌, subst, arith, lt-ltb, append-nil, append_assoc, take-append-drop}
 use Rattle.std.specs.Arc.{arc_value}
 use Rattle.std.specs.Global.{Global}
 use Rattle.std.proofs.lemmas.List.{length-set}
+use Rattle.std.proofs.lemmas.Option.{slice_get_within}
+use Rattle.dir_search.specs.ldap_msg.View.{compare_view, search_view}
+use Rattle.dir_search.specs.ldap_msg.ldap_requests.declared.compare.CompareRequest.{CompareRequest}
+use Rattle.dir_search.specs.ldap_msg.ldap_requests.declared.search.SearchRequest.{SearchRequest}
 use Rattle.state_machine.specs.dir_store.ldap_op.Values.{OpValue}
 use Rattle.vr_state.specs.Lists.{IsPrefix}
 use Rattle.vr_state.specs.State.{first}
@@ -14,17 +18,19 @@ use Rattle.vr_world.specs.Law.{IsSize}
 use Rattle.vr_world.specs.World.{World, after, run, start}
 use Rattle.vr_world.specs.declared.events.WorldEvent.{WorldEvent}
 use Rattle.view_store.specs.declared.crashing.Fate.{Fate}
+use Rattle.view_store.specs.declared.record.Fault.{Fault}
 use Rattle.dir_machine.proofs.Asks.{answered_on, told_on}
 use Rattle.dir_machine.proofs.Gives.{Acted, MayEnd, ended_on, given_on, may_all, may_one}
 use Rattle.dir_machine.proofs.Processes.{IsQuiet, played_on, stands_on, stands_still}
+use Rattle.dir_machine.proofs.Looks.{compared_on, searched_on}
 use Rattle.dir_machine.proofs.Starts.{MayStart, started_on}
 use Rattle.dir_machine.proofs.Worlds.{IsReached}
 use Rattle.dir_machine.specs.Happening.{IsMissing, IsOneMissing, MayHappen}
 use Rattle.dir_machine.specs.Headline.{CommittedIsOneList, IsWhole, committed_after, joined}
 use Rattle.dir_machine.specs.Shown.{stage}
 use Rattle.dir_machine.specs.private.Givens.{AreAsked, IsAsked}
-use Rattle.dir_machine.specs.private.Processes.{IsAnswered, IsEnded, IsGiven, IsStarted, IsToldOf}
-use Rattle.dir_machine.specs.private.Running.{AreSent, GoesOn, IsNothingShown, IsPlayed, Stands, StandsFor}
+use Rattle.dir_machine.specs.private.Processes.{IsAnswered, IsCompared, IsEnded, IsGiven, IsNew, IsSearched, IsStarted, IsToldOf}
+use Rattle.dir_machine.specs.private.Running.{AreNew, AreSent, GoesOn, IsNothingShown, IsPlayed, Stands, StandsFor}
 use Rattle.dir_machine.specs.declared.events.Given.{Given}
 use Rattle.dir_machine.specs.declared.events.MachineEvent.{MachineEvent}
 use Rattle.dir_machine.specs.declared.events.MachineEvent.TheVariants as event
@@ -49,12 +55,12 @@ may_end m size w i lt shown reached sent fate _ h may = absurd may
 
 -- a process that is to start
 may_start : (m : Machine) (w : World OpValue) (i : ℕ) (lt : i < m.count) (shown : List MachineReply) (x : MachineReply) (h : List (WorldEvent OpValue))
-    → MayStart m w i lt shown x h → MayHappen (arc_value m.schema) m.suffix m.count shown (event.Start i) x h w
-may_start m w i lt shown reply.Nothing h may = (may.0, inr may.1)
-may_start m w i lt shown (reply.Started j restarts out) h may = may
-may_start m w i lt shown (reply.Refused j e) h may = may
-may_start m w i lt shown (reply.Stopped j e) h may = may
-may_start m w i lt shown _ h may = absurd may
+    → (fault : Fault) (fate : Fate) → MayStart m w i lt shown x h → MayHappen (arc_value m.schema) m.suffix m.count shown (event.Start i fault fate) x h w
+may_start m w i lt shown reply.Nothing h fault fate may = (may.0, inr may.1)
+may_start m w i lt shown (reply.Started j restarts out) h fault fate may = may
+may_start m w i lt shown (reply.Refused j e) h fault fate may = may
+may_start m w i lt shown (reply.Stopped j e) h fault fate may = may
+may_start m w i lt shown _ h fault fate may = absurd may
 
 -- one process was taken out and put back
 pub record Turned (m : Machine) (i : ℕ) (old new : Running) (before after : Process) (x : MachineReply) : Type 0 where
@@ -126,9 +132,9 @@ module _ (m : Machine) (old new : Running) where
       (ended_on m size w i t.within old.shown.items reached sent before after x stands is))
 
   -- A process starts.
-  pub start_on : (i : ℕ) (before after : Process) (x : MachineReply) → Turned m i old new before after x → IsStarted m i before after x → GoesOn m (event.Start i) old new
-  start_on i before after x t is = turned_on m (event.Start i) old new i before after x t
-      (λ size w reached sent stands. acted_as m w i old.shown.items x after _ _ (λ h. may_start m w i t.within old.shown.items x h)
+  pub start_on : (i : ℕ) (fault : Fault) (fate : Fate) (before after : Process) (x : MachineReply) → Turned m i old new before after x → IsStarted m i before after x → GoesOn m (event.Start i fault fate) old new
+  start_on i fault fate before after x t is = turned_on m (event.Start i fault fate) old new i before after x t
+      (λ size w reached sent stands. acted_as m w i old.shown.items x after _ _ (λ h. may_start m w i t.within old.shown.items x h fault fate)
       (started_on m w i t.within old.shown.items before after x stands is))
 
   -- A node is asked.
@@ -137,6 +143,18 @@ module _ (m : Machine) (old new : Running) where
   ask_on law i client number p x same shown was is = still_on m (event.Ask i client number) old new x same shown
       (λ size w reached stands. answered_on m size w i reached law old.shown.items client number p x (stands.each i p was) is)
 
+  -- It is asked a search, or a compare.
+  pub search_on : (i named : ℕ) (q : SearchRequest) (p : Process) (x : MachineReply) → new.processes.items ≡ old.processes.items → new.shown.items ≡ old.shown.items ++ x ∷ []
+      → slice_get old.processes.items i ≡ Some p → IsSearched i named (search_view q) p x → GoesOn m (event.Search i named q) old new
+  search_on i named q p x same shown was is = still_on m (event.Search i named q) old new x same shown
+      (λ size w reached stands. searched_on m size w i reached old.shown.items named q p x (stands.each i p was) is)
+
+  pub compare_on : (i named : ℕ) (q : CompareRequest) (p : Process) (x : MachineReply) → new.processes.items ≡ old.processes.items → new.shown.items ≡ old.shown.items ++ x ∷ []
+      → slice_get old.processes.items i ≡ Some p → IsCompared i named (compare_view q) p x → GoesOn m (event.Compare i named q) old new
+  compare_on i named q p x same shown was is = still_on m (event.Compare i named q) old new x same shown
+      (λ size w reached stands. compared_on m size w i reached old.shown.items named q p x (stands.each i p was) is)
+
+  -- It is asked how far it is.
   pub tell_on : (i : ℕ) (p : Process) (x : MachineReply) → new.processes.items ≡ old.processes.items → new.shown.items ≡ old.shown.items ++ x ∷ []
       → slice_get old.processes.items i ≡ Some p → IsToldOf i p x → GoesOn m (event.State i) old new
   tell_on i p x same shown was is = still_on m (event.State i) old new x same shown
@@ -154,27 +172,17 @@ module _ (m : Machine) (old new : Running) where
   pub one_missing_on : (i : ℕ) (gs : Vec Given Global) → IsOneMissing old.shown.items i gs.items → IsNothingShown old new → GoesOn m (event.GiveAll i gs) old new
   one_missing_on i gs missing nothing = still_on m (event.GiveAll i gs) old new reply.Nothing nothing.processes nothing.shown (λ size w reached stands. ((refl, inr missing), quiet_nothing))
 
--- what one of many equal things is
-one_of_equal : {A : Type 0} (n i : ℕ) (x y : A) → slice_get (replicate n x) i ≡ Some y → (i < n) × (y ≡ x)
-one_of_equal zero i x y h = absurd (cc)
-one_of_equal (suc n) zero x y h = (omega arith, cc)
-one_of_equal (suc n) (suc i) x y h = let p = one_of_equal n i x y h in (omega (arith, p.0), p.1)
-
-length_replicate : {A : Type 0} (n : ℕ) (x : A) → length (replicate n x) ≡ n
-length_replicate zero x = refl
-length_replicate (suc n) x = ap suc (length_replicate n x)
-
 -- Nothing was played.
-pub none_played : (m : Machine) (processes : List Process) (shown : List MachineReply) → processes ≡ replicate m.count Unborn → shown ≡ [] → IsPlayed m [] processes shown
-none_played m processes shown p s = subst (λ (l : List MachineReply). IsPlayed m [] processes l) (sym s) (subst (λ (l : List Process). IsPlayed m [] l []) (sym p) (record {
+pub none_played : (m : Machine) (processes : List Process) (shown : List MachineReply) → AreNew m.count processes → shown ≡ [] → IsPlayed m [] processes shown
+none_played m processes shown new s = subst (λ (l : List MachineReply). IsPlayed m [] processes l) (sym s) (record {
   happened = [];
   in_turn = tt;
-  stands = record { counted = length_replicate m.count Unborn; each = λ i q h. one i q (one_of_equal m.count i Unborn q h); sent = λ place y h. absurd (cc) };
-}))
+  stands = record { counted = new.counted; each = λ i q h. one i q (new.each i q h) (omega (arith, slice_get_within processes i q h, new.counted)); sent = λ place y h. absurd (cc) };
+})
   where
-    one : (i : ℕ) (q : Process) → (i < m.count) × (q ≡ Unborn) → StandsFor m (start m.count) i (stage [] i) q
-    one i q h = subst (λ (z : Process). StandsFor m (start m.count) i (stage [] i) z) (sym h.1)
-        (refl, record { replica = ap (λ b. cond b (Some (first m.count)) None) (lt-ltb i m.count h.0); stored = refl; nonces = λ x u. absurd (cc) })
+    one : (i : ℕ) (q : Process) → IsNew q → i < m.count → StandsFor m (start m.count) i (stage [] i) q
+    one i (Unborn image) new lt = (refl, record { replica = ap (λ b. cond b (Some (first m.count)) None) (lt-ltb i m.count lt); stored = refl; nonces = λ x u. absurd (cc) })
+    one i _ new lt = absurd new
 
 -- What is committed after events is one list.
 committed_is_one : (n : ℕ) → IsSize n → (es : List (WorldEvent OpValue)) → CommittedIsOneList n es
@@ -201,11 +209,11 @@ pub record IsPlayedSoFar (m : Machine) (schedule left : List MachineEvent) (r : 
   pub played : IsSize m.count → IsPlayed m gone r.processes.items r.shown.items
 
 -- nothing yet
-pub none_so_far : (m : Machine) (schedule : List MachineEvent) (r : Running) → r.processes.items ≡ replicate m.count Unborn → r.shown.items ≡ [] → IsPlayedSoFar m schedule schedule r
+pub none_so_far : (m : Machine) (schedule : List MachineEvent) (r : Running) → AreNew m.count r.processes.items → r.shown.items ≡ [] → IsPlayedSoFar m schedule schedule r
 none_so_far m schedule r p s = record {
   gone = [];
   split = refl;
-  counted = ap length p ∙ length_replicate m.count Unborn;
+  counted = p.counted;
   played = λ size. none_played m r.processes.items r.shown.items p s;
 }
 

@@ -1,5 +1,5 @@
 -- Processes that stand for a world still do after one event at one of them.
-use Rattle.std.proofs.Common.{◌≡◌, ◌≢◌, ℕ, zero, suc, ◌<◌, ◌⊎◌, inl, inr, List, [], ◌∷◌, ◌++◌, length, set, Some, slice_get, refl, sym, ap, ◌∙◌, subst, arith}
+use Rattle.std.proofs.Common.{◌≡◌, ◌≢◌, ℕ, zero, suc, ◌+◌, ◌<◌, ◌⊎◌, inl, inr, List, [], ◌∷◌, ◌++◌, length, set, Some, slice_get, refl, sym, ap, ◌∙◌, subst, arith, length-append}
 use Rattle.std.specs.Arc.{arc_value}
 use Rattle.std.proofs.lemmas.List.{length-set}
 use Rattle.state_machine.specs.dir_store.ldap_op.Values.{OpValue}
@@ -7,18 +7,19 @@ use Rattle.vr_world.proofs.Laws.{run-append}
 use Rattle.vr_world.specs.World.{World, after, has_used, run, sent_as, start}
 use Rattle.vr_world.specs.declared.events.WorldEvent.{WorldEvent}
 use Rattle.vr_world.specs.declared.words.Message.{Message}
-use Rattle.dir_machine.proofs.Shown.{message_more, stage_next}
+use Rattle.dir_machine.proofs.Shown.{get_more, message_more, stage_next}
 use Rattle.dir_machine.proofs.Turns.{in_turn_more, joined_more}
 use Rattle.dir_machine.proofs.Worlds.{IsLater, SameAt, same_or}
 use Rattle.dir_machine.specs.Happening.{MayHappen}
 use Rattle.dir_machine.specs.Headline.{joined}
 use Rattle.dir_machine.specs.Shown.{Stage, message_at, message_shown, stage, stage_by}
-use Rattle.dir_machine.specs.private.Running.{AreSent, IsPlayed, Stands, StandsFor}
+use Rattle.dir_machine.specs.private.Processes.{IsNew}
+use Rattle.dir_machine.specs.private.Running.{AreNew, AreSent, IsPlayed, Stands, StandsFor}
 use Rattle.dir_machine.specs.declared.events.MachineEvent.{MachineEvent}
 use Rattle.dir_machine.specs.declared.events.Place.{Place}
 use Rattle.dir_machine.specs.declared.machine.Machine.{Machine}
 use Rattle.dir_machine.specs.declared.process.Process.{Process}
-use Rattle.dir_machine.specs.declared.process.Process.TheVariants.{Unborn, Up, Down, Gone}
+use Rattle.dir_machine.specs.declared.process.Process.TheVariants.{Unborn, Up, Down}
 use Rattle.dir_machine.specs.declared.replies.MachineReply.{MachineReply}
 
 -- what is written is there,
@@ -35,9 +36,21 @@ get_there (y ∷ ys) zero (suc j) x ne = refl
 get_there (y ∷ ys) (suc i) zero x ne = refl
 get_there (y ∷ ys) (suc i) (suc j) x ne = get_there ys i j x (λ e. ne (ap suc e))
 
+-- None yet was up.
+pub none_new : AreNew 0 []
+none_new = record { counted = refl; each = λ i q h. absurd (cc) }
+
+-- One more that was never up.
+pub one_new : (n : ℕ) (processes : List Process) (p : Process) → AreNew n processes → IsNew p → AreNew (n + 1) (processes ++ p ∷ [])
+one_new n processes p new is = record { counted = omega (arith, length-append processes (p ∷ []), new.counted); each = λ i q h. go i q (get_more processes p i q h) }
+  where
+    go : (i : ℕ) (q : Process) → (slice_get processes i ≡ Some q) ⊎ (q ≡ p) → IsNew q
+    go i q (inl h) = new.each i q h
+    go i q (inr e) = subst IsNew (sym e) is
+
 -- a process where nothing happened
 stands_apart : (m : Machine) (old new : World OpValue) (j : ℕ) (s : Stage) (p : Process) → SameAt old new j → StandsFor m old j s p → StandsFor m new j s p
-stands_apart m old new j s (Up n) same h = (
+stands_apart m old new j s (Up n f) same h = (
   h.0,
   record {
     index = h.1.index;
@@ -52,6 +65,7 @@ stands_apart m old new j s (Up n) same h = (
     suffix = h.1.suffix;
     executed = h.1.executed;
     pair = h.1.pair;
+    placed = h.1.placed;
   },
 )
 stands_apart m old new j s (Down image) same h = (
@@ -63,9 +77,10 @@ stands_apart m old new j s (Down image) same h = (
     down = same.replica ∙ h.1.down;
     stored = same.stored ∙ h.1.stored;
     nonces = λ x u. h.1.nonces x (ap (λ l. has_used x l) (sym same.nonces) ∙ u);
+    placed = h.1.placed;
   },
 )
-stands_apart m old new j s Unborn same h = (
+stands_apart m old new j s (Unborn image) same h = (
   h.0,
   record {
     replica = same.replica ∙ h.1.replica;
@@ -73,7 +88,6 @@ stands_apart m old new j s Unborn same h = (
     nonces = λ x u. h.1.nonces x (ap (λ l. has_used x l) (sym same.nonces) ∙ u);
   },
 )
-stands_apart m old new j s Gone same h = h
 
 -- What became of process i at one event, in the world and in what is shown.
 pub record Moved (m : Machine) (old new : World OpValue) (i : ℕ) (shown : List MachineReply) (x : MachineReply) (p : Process) : Type 0 where

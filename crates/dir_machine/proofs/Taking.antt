@@ -1,9 +1,10 @@
 -- What a node takes happens in the world.
-use Rattle.std.proofs.Common.{◌≡◌, ℕ, zero, suc, ◌<◌, List, [], ◌∷◌, ◌++◌, length, take, drop, Option, Some, None, Bool, true, false, Result, Ok, Err, slice_get, refl, sym, ap, ◌∙◌, subst, append_assoc}
+use Rattle.std.proofs.Common.{◌≡◌, ℕ, zero, suc, ◌<◌, List, [], ◌∷◌, ◌++◌, length, take, drop, Option, Some, None, Bool, true, false, inl, inr, Result, Ok, Err, slice_get, refl, sym, ap, ◌∙◌, subst, append_assoc}
 use Rattle.std.proofs.Math.Seq.{drop-append_seam}
 use Rattle.std.specs.declared.alloc.AllocError.{AllocError}
 use Rattle.dir_node.specs.Handling.{MakesSteps}
 use Rattle.dir_node.specs.NodeState.{CatchesUp, given as gives}
+use Rattle.dir_node.specs.log_journal.Taken.{MakesSome}
 use Rattle.state_machine.specs.dir_store.ldap_op.Values.{OpValue}
 use Rattle.vr_state.proofs.Laws.{prefix_refl, prefix_trans}
 use Rattle.vr_state.specs.Lists.{IsPrefix}
@@ -20,7 +21,7 @@ use Rattle.vr_world.specs.declared.events.WorldEvent.{WorldEvent}
 use Rattle.vr_world.specs.declared.events.WorldEvent.TheVariants.{Request, Deliver, Suspect, Beat}
 use Rattle.vr_world.specs.declared.words.Message.{Message}
 use Rattle.dir_machine.proofs.Worlds.{IsLater, IsReached, beaten, heard, keeps_committed, later_refl, later_trans, made_later, posted_has, put_here, reached_more, requested, suspected}
-use Rattle.dir_machine.specs.Happening.{IsThat, TakesEach}
+use Rattle.dir_machine.specs.Happening.{IsThat, TakesEach, TakesSome}
 use Rattle.dir_machine.specs.Shown.{message_by, message_in, message_of}
 use Rattle.dir_machine.specs.private.Givens.{AreAsked, IsAsked}
 use Rattle.dir_machine.specs.private.Running.{AreSent}
@@ -152,3 +153,80 @@ module _ (n i : ℕ) (size : IsSize n) (lt : i < n) (before : List MachineReply)
   ran (g ∷ gs) [] outs w r s reached sent asked up stored steps = absurd asked
   ran [] [] (x ∷ outs) w r s reached sent asked up stored steps = absurd steps
   ran (g ∷ gs) (e ∷ es) [] w r s reached sent asked up stored steps = absurd steps
+
+-- Steps that a call made are some of those that it was given.
+pub steps_some : (n i : ℕ) (r : State OpValue) (es : List (Event OpValue)) (xs : List (Result (Outputs OpValue) AllocError)) (s : State OpValue) → MakesSteps n i r es xs s → MakesSome n i r es s
+steps_some n i r [] [] s h = h
+steps_some n i r (e ∷ es) (Ok out ∷ xs) s h = inr (h.0, inr (ap (λ (d : Outcome OpValue). d.state) h.1), steps_some n i h.0 es xs s h.2)
+steps_some n i r (e ∷ es) (Err x ∷ xs) s h = inr (r, inl refl, steps_some n i r es xs s h)
+steps_some n i r [] (x ∷ xs) s h = absurd h
+steps_some n i r (e ∷ es) [] s h = absurd h
+
+-- Some first of what a replica was given happened in the world.
+pub record RanSome (n i : ℕ) (before : List MachineReply) (gs : List Given) (w : World OpValue) (s : State OpValue) : Type 0 where
+  pub happened : List (WorldEvent OpValue)
+  pub some : TakesSome n before i gs happened w
+  pub later : IsLater w (run n happened w) i
+  pub replica : (run n happened w).replicas i ≡ Some s
+  pub stored : (run n happened w).stored i ≡ s.view_number
+  pub nonces : (run n happened w).nonces i ≡ w.nonces i
+
+-- none of it
+pub none_taken : (n : ℕ) (before : List MachineReply) (i : ℕ) (gs : List Given) (w : World OpValue) → TakesSome n before i gs [] w
+none_taken n before i [] w = refl
+none_taken n before i (g ∷ gs) w = inl refl
+
+module _ (n i : ℕ) (lt : i < n) (before : List MachineReply) where
+  -- none happened
+  ran_none : (gs : List Given) (w : World OpValue) (r s : State OpValue) → w.replicas i ≡ Some r → w.stored i ≡ r.view_number → s ≡ r → RanSome n i before gs w s
+  ran_none gs w r s up stored same = record {
+    happened = [];
+    some = none_taken n before i gs w;
+    later = later_refl w i;
+    replica = up ∙ ap (λ (x : State OpValue). Some x) (sym same);
+    stored = stored ∙ ap (λ (x : State OpValue). x.view_number) (sym same);
+    nonces = refl;
+  }
+
+  -- one was left out
+  ran_others : (g : Given) (gs : List Given) (w : World OpValue) (s : State OpValue) → RanSome n i before gs w s → RanSome n i before (g ∷ gs) w s
+  ran_others g gs w s then = record { happened = then.happened; some = inr (inl then.some); later = then.later; replica = then.replica; stored = then.stored; nonces = then.nonces }
+
+  -- one happened, and then some of the others
+  ran_one : (g : Given) (gs : List Given) (w : World OpValue) (s t : State OpValue) (d : Outcome OpValue) → IsEvent n i before g w d → t ≡ d.state → AreSent before w
+      → ((u : World OpValue) → AreSent before u → u.replicas i ≡ Some t → u.stored i ≡ t.view_number → RanSome n i before gs u s) → RanSome n i before (g ∷ gs) w s
+  ran_one g gs w s t d x is sent rest = go (rest u (λ place m h. let k = sent place m h in (k.0, later.sent k.0 m k.1)) here there)
+    where
+      u : World OpValue
+      u = happens n w x.happened
+
+      here : u.replicas i ≡ Some t
+      here = ap (λ (v : World OpValue). v.replicas i) x.is ∙ put_here i (Some d.state) w.replicas ∙ ap (λ (y : State OpValue). Some y) (sym is)
+
+      there : u.stored i ≡ t.view_number
+      there = ap (λ (v : World OpValue). v.stored i) x.is ∙ put_here i d.state.view_number w.stored ∙ ap (λ (y : State OpValue). y.view_number) (sym is)
+
+      later : IsLater w u i
+      later = subst (λ (v : World OpValue). IsLater w v i) (sym x.is) (made_later i d w)
+
+      go : RanSome n i before gs u s → RanSome n i before (g ∷ gs) w s
+      go then = record {
+        happened = x.happened ∷ then.happened;
+        some = inr (inr (x.happened, then.happened, refl, x.that, then.some));
+        later = later_trans w u (run n then.happened u) i later then.later;
+        replica = then.replica;
+        stored = then.stored;
+        nonces = then.nonces ∙ ap (λ (v : World OpValue). v.nonces i) x.is;
+      }
+
+  -- Some first of them, one after another.
+  pub some_ran : IsSize n → (gs : List Given) (es : List (Event OpValue)) (w : World OpValue) (r s : State OpValue) → AreSent before w → AreAsked before i gs es
+      → w.replicas i ≡ Some r → w.stored i ≡ r.view_number → MakesSome n i r es s → RanSome n i before gs w s
+  some_ran size [] [] w r s sent asked up stored made = ran_none [] w r s up stored made
+  some_ran size (g ∷ gs) (e ∷ es) w r s sent asked up stored (inl same) = ran_none (g ∷ gs) w r s up stored same
+  some_ran size (g ∷ gs) (e ∷ es) w r s sent asked up stored (inr (t, inl same, rest)) =
+      ran_others g gs w s (some_ran size gs es w r s sent asked.1 up stored (subst (λ (x : State OpValue). MakesSome n i x es s) same rest))
+  some_ran size (g ∷ gs) (e ∷ es) w r s sent asked up stored (inr (t, inr is, rest)) =
+      ran_one g gs w s t (step n i r e) (asked_happens n i size lt before g e w r sent asked.0 up) is sent (λ u a b c. some_ran size gs es u t s a asked.1 b c rest)
+  some_ran size [] (e ∷ es) w r s sent asked up stored made = absurd asked
+  some_ran size (g ∷ gs) [] w r s sent asked up stored made = absurd asked

@@ -1,24 +1,31 @@
 -- What happens in the world of the protocol at each event of a machine.
-use Rattle.std.specs.Prelude.{◌≡◌, ◌≢◌, ◌⊎◌, ℕ, ◌-◌, ◌≤◌, List, [], ◌∷◌, ◌++◌, length, Option, Some, Result, Ok, Err, slice_get}
+use Rattle.std.specs.Prelude.{◌≡◌, ◌≢◌, ◌⊎◌, ℕ, ◌-◌, ◌<◌, ◌≤◌, true, false, List, [], ◌∷◌, ◌++◌, length, take, Option, Some, None, Result, Ok, Err, slice_get}
 use Rattle.std.specs.declared.alloc.AllocError.{AllocError}
-use Rattle.dir_node.specs.Outcomes.{OutcomeValue, done, standing_by}
+use Rattle.dir_node.specs.Outcomes.{OutcomeValue, done, lost, pending, stale, standing_by}
 use Rattle.dir_node.specs.declared.error.NodeError.TheVariants.{NoMemory}
+use Rattle.dir_search.specs.Answer.{answer}
+use Rattle.dir_search.specs.Compared.{compared}
+use Rattle.dir_search.specs.directory_api.View.{answer_view, reply_view}
+use Rattle.dir_search.specs.indexed_tree.Directory.{Directory}
+use Rattle.dir_search.specs.ldap_msg.View.{compare_view, search_view}
 use Rattle.state_machine.specs.Executing.{ops_of}
 use Rattle.state_machine.specs.directory_api.Answers.{ReplyModel}
-use Rattle.state_machine.specs.dir_store.Updates.{replies_of}
+use Rattle.state_machine.specs.dir_store.Updates.{directory_of, replies_of}
 use Rattle.state_machine.specs.dir_store.ldap_dn.Names.{RdnModel}
 use Rattle.state_machine.specs.dir_store.ldap_op.Values.{OpValue}
 use Rattle.state_machine.specs.dir_store.ldap_schema.Schema.{SchemaModel}
+use Rattle.vr_state.specs.ClientTable.{latest}
 use Rattle.vr_state.specs.Lists.{EntryAt}
-use Rattle.vr_state.specs.State.{State, primary}
+use Rattle.vr_state.specs.State.{State, leads, primary}
 use Rattle.vr_state.specs.Words.{Client, LogEntry}
 use Rattle.vr_state.specs.declared.message.Outputs.{Outputs}
+use Rattle.vr_state.specs.declared.words.Latest.{Latest}
 use Rattle.vr_world.specs.Committed.{committed}
 use Rattle.vr_world.specs.World.{World, answered, happens, posted, run, sent_as}
 use Rattle.vr_world.specs.declared.events.WorldEvent.{WorldEvent}
 use Rattle.vr_world.specs.declared.events.WorldEvent.TheVariants.{Request, Deliver, Suspect, Beat, Crash, Recover}
 use Rattle.vr_world.specs.declared.words.Message.{Message}
-use Rattle.dir_machine.specs.Shown.{unborn, up, down, gone, became_view, message_at, stage}
+use Rattle.dir_machine.specs.Shown.{unborn, up, down, became_view, message_at, stage}
 use Rattle.dir_machine.specs.declared.events.Given.{Given}
 use Rattle.dir_machine.specs.declared.events.Given.TheVariants as given
 use Rattle.dir_machine.specs.declared.events.MachineEvent.{MachineEvent}
@@ -54,6 +61,18 @@ TakesEach n before i (g ∷ gs) (Ok out ∷ outs) (x ∷ h) w = IsThat before i 
 TakesEach n before i (g ∷ gs) (Err e ∷ outs) h w = TakesEach n before i gs outs h w
 TakesEach n before i _ _ _ w = ⊥
 
+-- Of some first of what a replica is given, each is one event of the world, in order, or is left out.
+abbrev pub TakesSome : ℕ → List MachineReply → ℕ → List Given → List (WorldEvent OpValue) → World OpValue → Type 0
+TakesSome n before i [] h w = h ≡ []
+TakesSome n before i (g ∷ gs) h w = (h ≡ []) ⊎ TakesSome n before i gs h w
+    ⊎ ((x : WorldEvent OpValue) × (rest : List (WorldEvent OpValue)) × (h ≡ x ∷ rest) × IsThat before i g w x × TakesSome n before i gs rest (happens n w x))
+
+-- The process ended inside a call: replica i crashes after some first of what it was given. What these events send and answer is shown nowhere.
+pub record EndsInside (n : ℕ) (before : List MachineReply) (i : ℕ) (gs : List Given) (h : List (WorldEvent OpValue)) (w : World OpValue) : Type 0 where
+  pub taken : List (WorldEvent OpValue)
+  pub some : TakesSome n before i gs taken w
+  pub crash : h ≡ taken ++ Crash i ∷ []
+
 -- No message was given out for replica i there.
 abbrev pub IsMissing : List MachineReply → ℕ → Given → Type 0
 IsMissing before i (given.Message place) = (m : Message OpValue) → message_at before place ≡ Some m → m.to ≢ i
@@ -68,9 +87,9 @@ IsOneMissing before i (g ∷ gs) = IsMissing before i g ⊎ IsOneMissing before 
 abbrev pub IsAway : ℕ → List MachineReply → ℕ → Type 0
 IsAway n before i = (n ≤ i) ⊎ (stage before i ≢ up)
 
--- There is no replica i, or it can't be started.
+-- There is no replica i, or it is up already.
 abbrev pub IsNotToStart : ℕ → List MachineReply → ℕ → Type 0
-IsNotToStart n before i = (n ≤ i) ⊎ (stage before i ≡ up) ⊎ (stage before i ≡ gone)
+IsNotToStart n before i = (n ≤ i) ⊎ (stage before i ≡ up)
 
 -- A first start is nothing in the world: each replica of it is there from the beginning.
 pub record StartsFirst (before : List MachineReply) (i restarts : ℕ) (out : Outputs OpValue) (h : List (WorldEvent OpValue)) : Type 0 where
@@ -98,6 +117,35 @@ abbrev pub IsDoneIn : SchemaModel → List RdnModel → List (LogEntry OpValue) 
 IsDoneIn s root l client number (done place reply) = IsMadeIn s root l client number place reply
 IsDoneIn s root l client number _ = Unit {0}
 
+-- What the client table of a replica says of a request: the client's latest record is that request, which stands at a place, or waits at the normal
+-- primary of its view; or it is a later request; or no record of it is known, or one that need not stay.
+abbrev pub IsByTable : ℕ → ℕ → State OpValue → Client → ℕ → OutcomeValue → Type 0
+IsByTable n i r client number (done place reply) =
+    (last : Latest) × (latest client r.log ≡ Some last) × (last.request_number ≡ number) × (last.op_number ≡ place)
+IsByTable n i r client number pending =
+    (last : Latest) × (latest client r.log ≡ Some last) × (last.request_number ≡ number) × (leads n i r r.view_number ≡ true)
+IsByTable n i r client number stale = (last : Latest) × (latest client r.log ≡ Some last) × (number < last.request_number)
+IsByTable n i r client number lost = (latest client r.log ≡ None)
+    ⊎ ((last : Latest) × (latest client r.log ≡ Some last)
+    × ((last.request_number < number) ⊎ ((last.request_number ≡ number) × (leads n i r r.view_number ≡ false))))
+
+-- What a node says of a request is by the replica of the world.
+pub record IsByReplica (n i : ℕ) (w : World OpValue) (client : Client) (number : ℕ) (v : OutcomeValue) : Type 0 where
+  pub replica : State OpValue
+  pub there : w.replicas i ≡ Some replica
+  pub by : IsByTable n i replica client number v
+
+-- A read found this after the first updates of those that are committed, as many as are said: no fewer than it named.
+pub record IsReadIn {A : Type 0} (s : SchemaModel) (root : List RdnModel) (l : List (LogEntry OpValue)) (named number : ℕ) (read : Directory → A) (found : A) : Type 0 where
+  pub enough : named ≤ number
+  pub within : number ≤ length l
+  pub is : found ≡ read (directory_of s root (ops_of (take number l)))
+
+-- A read came too early: fewer updates than it named were executed, all of them committed.
+pub record IsTooEarly (l : List (LogEntry OpValue)) (named number : ℕ) : Type 0 where
+  pub fewer : number < named
+  pub within : number ≤ length l
+
 -- What a node says of itself is the replica of the world.
 pub record IsReplica (n i : ℕ) (w : World OpValue) (x : MachineReply) : Type 0 where
   pub replica : State OpValue
@@ -109,19 +157,29 @@ abbrev pub MayHappen : SchemaModel → List RdnModel → ℕ → List MachineRep
 MayHappen s root n before (event.Give i g) reply.Nothing h w = (h ≡ []) × (IsAway n before i ⊎ IsMissing before i g)
 MayHappen s root n before (event.Give i g) (reply.Handled j outs behind) h w = (j ≡ i) × TakesEach n before i (g ∷ []) outs.items h w
 MayHappen s root n before (event.Give i g) (reply.Refused j e) h w = (j ≡ i) × (e ≡ NoMemory) × (h ≡ [])
-MayHappen s root n before (event.Give i g) (reply.Stopped j e) h w = (j ≡ i) × (e ≢ NoMemory) × (h ≡ Crash i ∷ [])
+MayHappen s root n before (event.Give i g) (reply.Stopped j e) h w = (j ≡ i) × (e ≢ NoMemory) × EndsInside n before i (g ∷ []) h w
 MayHappen s root n before (event.GiveAll i gs) reply.Nothing h w = (h ≡ []) × (IsAway n before i ⊎ IsOneMissing before i gs.items)
 MayHappen s root n before (event.GiveAll i gs) (reply.Handled j outs behind) h w = (j ≡ i) × TakesEach n before i gs.items outs.items h w
 MayHappen s root n before (event.GiveAll i gs) (reply.Refused j e) h w = (j ≡ i) × (e ≡ NoMemory) × (h ≡ [])
-MayHappen s root n before (event.GiveAll i gs) (reply.Stopped j e) h w = (j ≡ i) × (e ≢ NoMemory) × (h ≡ Crash i ∷ [])
+MayHappen s root n before (event.GiveAll i gs) (reply.Stopped j e) h w = (j ≡ i) × (e ≢ NoMemory) × EndsInside n before i gs.items h w
 MayHappen s root n before (event.Crash i fate) reply.Nothing h w = (h ≡ []) × IsAway n before i
 MayHappen s root n before (event.Crash i fate) (reply.Crashed j) h w = (j ≡ i) × (h ≡ Crash i ∷ [])
-MayHappen s root n before (event.Start i) reply.Nothing h w = (h ≡ []) × IsNotToStart n before i
-MayHappen s root n before (event.Start i) (reply.Started j restarts out) h w = (j ≡ i) × (StartsFirst before i restarts out h ⊎ StartsAgain n before i restarts out h w)
-MayHappen s root n before (event.Start i) (reply.Refused j e) h w = (j ≡ i) × (h ≡ [])
-MayHappen s root n before (event.Start i) (reply.Stopped j e) h w = (j ≡ i) × (h ≡ [])
+MayHappen s root n before (event.Start i fault fate) reply.Nothing h w = (h ≡ []) × IsNotToStart n before i
+MayHappen s root n before (event.Start i fault fate) (reply.Started j restarts out) h w = (j ≡ i) × (StartsFirst before i restarts out h ⊎ StartsAgain n before i restarts out h w)
+MayHappen s root n before (event.Start i fault fate) (reply.Refused j e) h w = (j ≡ i) × (h ≡ [])
+MayHappen s root n before (event.Start i fault fate) (reply.Stopped j e) h w = (j ≡ i) × (h ≡ [])
 MayHappen s root n before (event.Ask i client number) reply.Nothing h w = (h ≡ []) × IsAway n before i
-MayHappen s root n before (event.Ask i client number) (reply.Outcome j o) h w = (j ≡ i) × (h ≡ []) × IsDoneIn s root (committed n w.messages) client number (became_view o)
+MayHappen s root n before (event.Ask i client number) (reply.Outcome j o) h w = (j ≡ i) × (h ≡ []) × IsByReplica n i w client number (became_view o) × IsDoneIn s root (committed n w.messages) client number (became_view o)
+MayHappen s root n before (event.Search i named q) reply.Nothing h w = (h ≡ []) × IsAway n before i
+MayHappen s root n before (event.Search i named q) (reply.Found j number a) h w =
+    (j ≡ i) × (h ≡ []) × IsReadIn s root (committed n w.messages) named number (λ d. answer d (search_view q)) (answer_view a)
+MayHappen s root n before (event.Search i named q) (reply.NotYet j number) h w = (j ≡ i) × (h ≡ []) × IsTooEarly (committed n w.messages) named number
+MayHappen s root n before (event.Search i named q) (reply.Refused j e) h w = (j ≡ i) × (e ≡ NoMemory) × (h ≡ [])
+MayHappen s root n before (event.Compare i named q) reply.Nothing h w = (h ≡ []) × IsAway n before i
+MayHappen s root n before (event.Compare i named q) (reply.Compared j number r) h w =
+    (j ≡ i) × (h ≡ []) × IsReadIn s root (committed n w.messages) named number (λ d. compared d (compare_view q)) (reply_view r)
+MayHappen s root n before (event.Compare i named q) (reply.NotYet j number) h w = (j ≡ i) × (h ≡ []) × IsTooEarly (committed n w.messages) named number
+MayHappen s root n before (event.Compare i named q) (reply.Refused j e) h w = (j ≡ i) × (e ≡ NoMemory) × (h ≡ [])
 MayHappen s root n before (event.State i) reply.Nothing h w = (h ≡ []) × IsAway n before i
 MayHappen s root n before (event.State i) (reply.Standing j v st p k) h w = (h ≡ []) × IsReplica n i w (reply.Standing j v st p k)
 MayHappen s root n before _ _ h w = ⊥

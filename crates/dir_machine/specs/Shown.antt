@@ -13,18 +13,22 @@ use Rattle.dir_machine.specs.declared.replies.Became.TheVariants as became
 use Rattle.dir_machine.specs.declared.replies.MachineReply.{MachineReply}
 use Rattle.dir_machine.specs.declared.replies.MachineReply.TheVariants.{Handled, Stopped, Crashed, Started}
 
--- Where the process of a replica stands: it was never up, it is up, it ended and its device is kept, or its device failed.
+-- Where the process of a replica stands: it was never up, it is up, or it ended and its device is kept.
 pub data Stage : Type 0 where
   unborn : Stage
   up : Stage
   down : Stage
-  gone : Stage
+
+-- where a process stands whose device failed: one that was up ended, one that was to start isn't up
+abbrev pub stopped : Stage → Stage
+stopped up = down
+stopped s = s
 
 -- What a reply says of replica i, that stood so before.
 abbrev pub stage_by : ℕ → Stage → MachineReply → Stage
 stage_by i s (Started j restarts outputs) = cond (j == i) up s
 stage_by i s (Crashed j) = cond (j == i) down s
-stage_by i s (Stopped j error) = cond (j == i) gone s
+stage_by i s (Stopped j error) = cond (j == i) (stopped s) s
 stage_by i s _ = s
 
 -- So after all of these.

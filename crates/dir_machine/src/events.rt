@@ -1,7 +1,8 @@
 //! The events of a machine: what its processes are given, their ends and starts, and questions.
 
 use dir_node::{Client, LogEntry, Op};
-use view_store::Fate;
+use dir_search::{CompareRequest, SearchRequest};
+use view_store::{Fate, Fault};
 
 /// A message that a node gave out: at the event of this index of the schedule, in this part of it, at this place among its sends; each from 0. An event that
 /// isn't a batch has one part.
@@ -43,15 +44,31 @@ pub enum MachineEvent {
         replica: u64,
         fate: Fate,
     },
-    /// A process that isn't up starts: for the first time over an empty device, later over what its device holds.
+    /// A process that isn't up starts over what its device holds: until a start has succeeded, for the first time. Its device fails at
+    /// the call that the fault names, counted from this start on. The process ends there, in whatever call of its node that is; what it
+    /// wrote and no sync settled has this fate then.
     Start {
         replica: u64,
+        fault: Fault,
+        fate: Fate,
     },
     /// A node that is up is asked what became of a client's request.
     Ask {
         replica: u64,
         client: Client,
         number: u64,
+    },
+    /// A node that is up is asked a search, after this many updates at least.
+    Search {
+        replica: u64,
+        named: u64,
+        request: SearchRequest,
+    },
+    /// A node that is up is asked a compare, after this many updates at least.
+    Compare {
+        replica: u64,
+        named: u64,
+        request: CompareRequest,
     },
     /// A node that is up is asked how far it is.
     State {

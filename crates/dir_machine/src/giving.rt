@@ -1,13 +1,32 @@
 //! Gives a process events, one or a batch.
 ghost use Rattle.std.specs.Prelude.{[], ◌∷◌, IfOk};
-ghost use Rattle.dir_machine.specs.private.Processes.{IsGiven};
+ghost use Rattle.dir_machine.specs.private.Processes.{IsGiven, IsStopped};
 
-use crate::process::Process;
+use crate::crashing::left_of;
+use crate::process::{MemoryNode, Process};
 use crate::replies::MachineReply;
 use dir_node::{AllHandled, Event, Handled, NodeError, Op};
 use std::alloc::{AllocError, Global};
+use view_store::Fate;
 
-/// A process is given one event. Its only error is want of memory for what is shown.
+/// The process of a node whose device failed inside a call: it ends there. Its only error is want of memory for what is left.
+fn stopped(
+    alloc: Global,
+    node: MemoryNode,
+    fate: Fate,
+    replica: u64,
+    error: NodeError,
+) -> Result<(Process, MachineReply), AllocError>
+    ensures { IfOk result (λ x. IsStopped replica node.device error x.0 x.1) }
+{
+    let image = left_of(alloc, node, fate)?;
+    Ok((
+        Process::Down { image },
+        MachineReply::Stopped { replica, error },
+    ))
+}
+
+/// A process is given one event. Its only error is want of memory for what is shown, or left.
 pub fn give_one(
     alloc: Global,
     process: Process,
@@ -17,7 +36,7 @@ pub fn give_one(
     ensures { IfOk result (λ x. IsGiven replica (event ∷ []) process x.0 x.1) }
 {
     match process {
-        Process::Up { node } => {
+        Process::Up { node, fate } => {
             let mut node = node;
             match node.handle(alloc, event) {
                 Ok(handled) => {
@@ -25,7 +44,7 @@ pub fn give_one(
                     let mut given = Vec::new(alloc);
                     given.push(Ok(outputs))?;
                     Ok((
-                        Process::Up { node },
+                        Process::Up { node, fate },
                         MachineReply::Handled {
                             replica,
                             given,
@@ -34,57 +53,55 @@ pub fn give_one(
                     ))
                 }
                 Err(NodeError::NoMemory) => Ok((
-                    Process::Up { node },
+                    Process::Up { node, fate },
                     MachineReply::Refused {
                         replica,
                         error: NodeError::NoMemory,
                     },
                 )),
-                Err(error) => Ok((Process::Gone, MachineReply::Stopped { replica, error })),
+                Err(error) => stopped(alloc, node, fate, replica, error),
             }
         }
-        Process::Unborn => Ok((Process::Unborn, MachineReply::Nothing)),
+        Process::Unborn { image } => Ok((Process::Unborn { image }, MachineReply::Nothing)),
         Process::Down { image } => Ok((Process::Down { image }, MachineReply::Nothing)),
-        Process::Gone => Ok((Process::Gone, MachineReply::Nothing)),
     }
 }
 
-/// A process is given a batch of events.
+/// A process is given a batch of events. Its only error is want of memory for what is left.
 pub fn give_all(
     alloc: Global,
     process: Process,
     replica: u64,
     events: Vec<Event<Op>>,
-) -> (Process, MachineReply)
-    ensures { IsGiven replica events.items process result.0 result.1 }
+) -> Result<(Process, MachineReply), AllocError>
+    ensures { IfOk result (λ x. IsGiven replica events.items process x.0 x.1) }
 {
     match process {
-        Process::Up { node } => {
+        Process::Up { node, fate } => {
             let mut node = node;
             match node.handle_all(alloc, events) {
                 Ok(handled) => {
                     let AllHandled { outputs, behind } = handled;
-                    (
-                        Process::Up { node },
+                    Ok((
+                        Process::Up { node, fate },
                         MachineReply::Handled {
                             replica,
                             given: outputs,
                             behind,
                         },
-                    )
+                    ))
                 }
-                Err(NodeError::NoMemory) => (
-                    Process::Up { node },
+                Err(NodeError::NoMemory) => Ok((
+                    Process::Up { node, fate },
                     MachineReply::Refused {
                         replica,
                         error: NodeError::NoMemory,
                     },
-                ),
-                Err(error) => (Process::Gone, MachineReply::Stopped { replica, error }),
+                )),
+                Err(error) => stopped(alloc, node, fate, replica, error),
             }
         }
-        Process::Unborn => (Process::Unborn, MachineReply::Nothing),
-        Process::Down { image } => (Process::Down { image }, MachineReply::Nothing),
-        Process::Gone => (Process::Gone, MachineReply::Nothing),
+        Process::Unborn { image } => Ok((Process::Unborn { image }, MachineReply::Nothing)),
+        Process::Down { image } => Ok((Process::Down { image }, MachineReply::Nothing)),
     }
 }

@@ -1,6 +1,7 @@
 //! What a machine shows of each event.
 
 use dir_node::{NodeError, Op, Outputs, Reply, Standing};
+use dir_search::SearchAnswer;
 use std::alloc::AllocError;
 
 /// What became of a client's request.
@@ -27,12 +28,13 @@ pub enum MachineReply {
         /// Whether committed records are left to be executed, for want of memory.
         behind: bool,
     },
-    /// The node refused it, or the start was refused, and nothing changed.
+    /// The node refused the event or the question for want of memory, and nothing changed; or the start was refused.
     Refused {
         replica: u64,
         error: NodeError,
     },
-    /// The device failed: the process ended, and isn't started again.
+    /// The device failed, or can't store the view: the process ended, and what its call gave out is lost. It may start again over what
+    /// its device holds.
     Stopped {
         replica: u64,
         error: NodeError,
@@ -51,6 +53,23 @@ pub enum MachineReply {
     Outcome {
         replica: u64,
         became: Became,
+    },
+    /// What a search finds after the updates up to this number.
+    Found {
+        replica: u64,
+        number: u64,
+        answer: SearchAnswer,
+    },
+    /// What a compare finds after the updates up to this number.
+    Compared {
+        replica: u64,
+        number: u64,
+        reply: Reply,
+    },
+    /// The node has executed only the updates up to this number, which is below the one that a search or a compare named.
+    NotYet {
+        replica: u64,
+        number: u64,
     },
     /// How far the node is.
     Standing {
@@ -89,6 +108,20 @@ impl Drop for MachineReply {
             MachineReply::Outcome {
                 replica: _,
                 became: _,
+            } => {}
+            MachineReply::Found {
+                replica: _,
+                number: _,
+                answer: _,
+            } => {}
+            MachineReply::Compared {
+                replica: _,
+                number: _,
+                reply: _,
+            } => {}
+            MachineReply::NotYet {
+                replica: _,
+                number: _,
             } => {}
             MachineReply::Standing {
                 replica: _,

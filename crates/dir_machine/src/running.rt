@@ -1,8 +1,8 @@
 //! Plays one event after the other.
-ghost use Rattle.std.specs.Prelude.{◌≡◌, ◌++◌, ◌∷◌, ◌<◌, [], List, IfOk, OnOk, length, replicate};
+ghost use Rattle.std.specs.Prelude.{◌≡◌, ◌++◌, ◌∷◌, ◌<◌, [], List, IfOk, OnOk, length};
 ghost use Rattle.dir_machine.specs.declared.events.MachineEvent.TheVariants as kinds;
-ghost use Rattle.dir_machine.specs.declared.process.Process.TheVariants.{Unborn};
-ghost use Rattle.dir_machine.specs.private.Running.{GoesOn, IsNothingShown};
+ghost use Rattle.dir_machine.specs.private.Processes.{IsNew};
+ghost use Rattle.dir_machine.specs.private.Running.{AreNew, GoesOn, IsNothingShown};
 
 use crate::asking::{ask, tell};
 use crate::crashing::crash;
@@ -11,12 +11,14 @@ use crate::giving::{give_all, give_one};
 use crate::machine::Machine;
 use crate::network::{asked, asked_all};
 use crate::process::Process;
+use crate::reading::{compare, search};
 use crate::replies::MachineReply;
 use crate::starting::start;
 use dir_node::{Client, Op};
+use dir_search::{CompareRequest, SearchRequest};
 use std::alloc::{AllocError, Global};
 use std::mem::replace;
-use view_store::Fate;
+use view_store::{Fate, Fault};
 use vr_state::each_step;
 
 /// What a run has so far.
@@ -28,20 +30,30 @@ pub struct Running {
     pub shown: Vec<MachineReply>,
 }
 
+/// A process that was never up, over an empty device.
+fn no_process(alloc: Global) -> Process
+    ensures { IsNew result }
+{
+    Process::Unborn {
+        image: Vec::new(alloc),
+    }
+}
+
+#[tactic(auto, using(crate::proofs::Processes::none_new, crate::proofs::Processes::one_new))]
 /// So many processes, none of which was ever up. Its only error is want of memory.
 fn unborn(alloc: Global, count: u64) -> Result<Vec<Process>, AllocError>
-    ensures { IfOk result (λ processes. processes.items ≡ replicate count Unborn) }
+    ensures { IfOk result (λ processes. AreNew count processes.items) }
 {
     let mut processes = Vec::new(alloc);
     for _ in 0..count {
-        processes.push(Process::Unborn)?;
+        processes.push(no_process(alloc))?;
     }
     Ok(processes)
 }
 
 /// A run at its start. Its only error is want of memory.
 pub fn begin(alloc: Global, machine: &Machine) -> Result<Running, AllocError>
-    ensures processes { IfOk result (λ run. run.processes.items ≡ replicate machine.now.count Unborn) }
+    ensures processes { IfOk result (λ run. AreNew machine.now.count run.processes.items) }
     ensures shown { IfOk result (λ run. run.shown.items ≡ []) }
 {
     Ok(Running {
@@ -75,7 +87,7 @@ fn give(
     match asked(alloc, run.shown.as_slice(), replica, given)? {
         None => show_nothing(run),
         Some(event) => {
-            let before = replace(&mut run.processes[replica as usize], Process::Gone);
+            let before = replace(&mut run.processes[replica as usize], no_process(alloc));
             let (after, reply) = give_one(alloc, before, replica, event)?;
             run.processes[replica as usize] = after;
             run.shown.push(reply)?;
@@ -101,8 +113,8 @@ fn give_batch(
     match asked_all(alloc, run.shown.as_slice(), replica, given)? {
         None => show_nothing(run),
         Some(events) => {
-            let before = replace(&mut run.processes[replica as usize], Process::Gone);
-            let (after, reply) = give_all(alloc, before, replica, events);
+            let before = replace(&mut run.processes[replica as usize], no_process(alloc));
+            let (after, reply) = give_all(alloc, before, replica, events)?;
             run.processes[replica as usize] = after;
             run.shown.push(reply)?;
             Ok(())
@@ -124,7 +136,7 @@ fn end(
     if machine.count <= replica {
         return show_nothing(run);
     }
-    let before = replace(&mut run.processes[replica as usize], Process::Gone);
+    let before = replace(&mut run.processes[replica as usize], no_process(alloc));
     let (after, reply) = crash(alloc, before, replica, fate)?;
     run.processes[replica as usize] = after;
     run.shown.push(reply)?;
@@ -137,15 +149,17 @@ fn start_one(
     machine: &Machine,
     run: &mut Running,
     replica: u64,
+    fault: Fault,
+    fate: Fate,
 ) -> Result<(), AllocError>
     requires { length run.old.processes.items ≡ machine.now.count }
-    ensures { OnOk result (GoesOn machine.now (kinds.Start replica) run.old run.new) }
+    ensures { OnOk result (GoesOn machine.now (kinds.Start replica fault fate) run.old run.new) }
 {
     if machine.count <= replica {
         return show_nothing(run);
     }
-    let before = replace(&mut run.processes[replica as usize], Process::Gone);
-    let (after, reply) = start(alloc, machine, before, replica)?;
+    let before = replace(&mut run.processes[replica as usize], no_process(alloc));
+    let (after, reply) = start(alloc, machine, before, replica, fault, fate)?;
     run.processes[replica as usize] = after;
     run.shown.push(reply)?;
     Ok(())
@@ -178,6 +192,58 @@ fn ask_one(
     Ok(())
 }
 
+/// A node is asked a search. Its only error is want of memory.
+fn search_one(
+    alloc: Global,
+    machine: &Machine,
+    run: &mut Running,
+    replica: u64,
+    named: u64,
+    request: SearchRequest,
+) -> Result<(), AllocError>
+    requires { length run.old.processes.items ≡ machine.now.count }
+    ensures { OnOk result (GoesOn machine.now (kinds.Search replica named request) run.old run.new) }
+{
+    if machine.count <= replica {
+        return show_nothing(run);
+    }
+    let reply = search(
+        alloc,
+        &run.processes[replica as usize],
+        replica,
+        named,
+        &request,
+    );
+    run.shown.push(reply)?;
+    Ok(())
+}
+
+/// A node is asked a compare. Its only error is want of memory.
+fn compare_one(
+    alloc: Global,
+    machine: &Machine,
+    run: &mut Running,
+    replica: u64,
+    named: u64,
+    request: CompareRequest,
+) -> Result<(), AllocError>
+    requires { length run.old.processes.items ≡ machine.now.count }
+    ensures { OnOk result (GoesOn machine.now (kinds.Compare replica named request) run.old run.new) }
+{
+    if machine.count <= replica {
+        return show_nothing(run);
+    }
+    let reply = compare(
+        alloc,
+        &run.processes[replica as usize],
+        replica,
+        named,
+        &request,
+    );
+    run.shown.push(reply)?;
+    Ok(())
+}
+
 /// A node is asked how far it is. Its only error is want of memory.
 fn tell_one(machine: &Machine, run: &mut Running, replica: u64) -> Result<(), AllocError>
     requires { length run.old.processes.items ≡ machine.now.count }
@@ -205,12 +271,26 @@ pub fn take_event(
         MachineEvent::Give { replica, given } => give(alloc, machine, run, replica, given),
         MachineEvent::GiveAll { replica, given } => give_batch(alloc, machine, run, replica, given),
         MachineEvent::Crash { replica, fate } => end(alloc, machine, run, replica, fate),
-        MachineEvent::Start { replica } => start_one(alloc, machine, run, replica),
+        MachineEvent::Start {
+            replica,
+            fault,
+            fate,
+        } => start_one(alloc, machine, run, replica, fault, fate),
         MachineEvent::Ask {
             replica,
             client,
             number,
         } => ask_one(alloc, machine, run, replica, client, number),
+        MachineEvent::Search {
+            replica,
+            named,
+            request,
+        } => search_one(alloc, machine, run, replica, named, request),
+        MachineEvent::Compare {
+            replica,
+            named,
+            request,
+        } => compare_one(alloc, machine, run, replica, named, request),
         MachineEvent::State { replica } => tell_one(machine, run, replica),
     }
 }

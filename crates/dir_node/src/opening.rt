@@ -1,5 +1,5 @@
 //! Nodes at their start, without a journal or with one. What is stored and noted is decided below.
-ghost use Rattle.std.specs.Prelude.{◌≡◌, ◌≢◌, ◌<◌, ◌≤◌, true, Some, None, is_some, length, IfOk, OnOk, IfErr, IsErrOf};
+ghost use Rattle.std.specs.Prelude.{◌≡◌, ◌≢◌, ◌<◌, ◌≤◌, ℕ, List, true, Some, None, is_some, length, IfOk, OnOk, IfErr, IsErrOf};
 ghost use Rattle.dir_node.specs.Faults.{IsEarly};
 ghost use Rattle.dir_node.specs.private.Faults.{IsLogFault, IsPairFault};
 ghost use Rattle.dir_node.specs.Logged.{FirstLeaves, HasRisenIn, IsNotEmpty, IsUnwritten, LeavesOnlyIn, RefusedLeaves, device_in, head_of};
@@ -228,9 +228,10 @@ impl<D: Device, J: JournalDevice> Node<D, J> {
         ensures journaled { IfOk result (λ made. is_some made.0.journal ≡ is_some journal) }
         ensures caught_up { IfOk result (λ made. made.0.catch_up ≡ 0) }
 
-        // Every crash from then on leaves view 0 and one restart. A stop inside the call promises nothing of the pair.
+        // Every crash from then on leaves view 0 and one restart, as stores leave them. A stop inside the call promises nothing of the pair.
         ensures kept { IfOk result (λ made. KeepsPair D.may_leave made.0) }
         ensures placed { IfOk result (λ made. IsWellPlaced (D.seen made.0.device)) }
+        ensures left { IfOk result (λ made. (c : List ℕ) → D.may_leave made.0.device c → IsWellPlaced c) }
 
         // So does every crash leave a journal that tells the node; at any moment of the call, one that is read as before, or as some first of what the start
         // notes.

@@ -4,8 +4,8 @@
 //! Keeps strings of octets on a device. A batch is settled by one write and one sync over zeros that were settled before. So a count of
 //! octets that aren't zero tells a torn frame (`frames`, `journal`; docs/FORMATS.md). A `StringReader` reads the strings one by one from
 //! a window of the device's octets, and clears what a crash left behind them (`scanning`, `zeroing`). A full device grows: zeros join its
-//! end and are settled before anything is written over them (`reserving`). `memory` is a device for tests, `opening` reads all strings
-//! at once, for comparison.
+//! end and are settled before anything is written over them (`reserving`). `memory` is a device for tests, `crashing` what a crash leaves
+//! of it, `opening` reads all strings at once, for comparison.
 //!
 //! Proved, where a crash leaves each unsynced octet old or new: a crash in an append leaves the former strings and some first of the new
 //! ones, after Ok all (`Journal::append`). A crash in reading, clearing or growing leaves the strings (`StringReader::advance`,
@@ -13,6 +13,7 @@
 #![tactic(auto)]
 
 mod beginning;
+mod crashing;
 mod device;
 mod fault;
 mod frames;
@@ -28,6 +29,7 @@ mod scanning;
 mod splicing;
 mod zeroing;
 
+pub use crashing::Fate;
 pub use device::{Device, DeviceFailure};
 pub use fault::{GrowthError, JournalError};
 pub use frames::{next_string, nonzeros, put_string};

@@ -2,6 +2,7 @@
 //! from which follows what a crash may leave.
 ghost use Rattle.std.specs.Prelude.{◌≡◌, ◌⊎◌, List, ℕ, ◌++◌, ◌∷◌, [], ◌≤◌, ◌+◌, ◌-◌, length, IfOk, OnOk, OnErr};
 
+use crate::crashing::{Fate, crashed_image};
 use crate::device::DeviceFailure;
 use crate::record::{Call, Fault};
 use crate::splicing::{longer, spliced};
@@ -37,7 +38,7 @@ impl Model for MemoryDevice {
 
 impl MemoryDevice {
     ghost use Rattle.journal.specs.Memory.{seen_after, MayLeave, event, write, grow};
-    ghost use Rattle.journal.specs.private.Memory.{counted};
+    ghost use Rattle.journal.specs.private.Memory.{FitsIn, counted};
 
     /// A device that holds these bytes, all of them settled, with room for the record of so many calls. A call past that
     /// fails.
@@ -82,6 +83,7 @@ impl MemoryDevice {
             MayLeave self.old.base self.old.events seen → MayLeave self.old.base (event call ∷ self.old.events) seen }
         requires less { (c : List ℕ) → MayLeave self.old.base (event call ∷ self.old.events) c
             → MayLeave self.old.base self.old.events c ⊎ (c ≡ seen_after self.old.base self.old.events) }
+        requires fits { FitsIn (event call) (length (seen_after self.old.base self.old.events)) }
         ensures kept { MayLeave self.old.base self.old.events (seen_after self.old.base self.old.events) }
         ensures later { self.old.failures ≤ self.new.failures }
         ensures ok { OnOk result (self.new ≡ record self.old { events = event call ∷ self.old.events }) }
@@ -161,6 +163,13 @@ impl MemoryDevice {
     {
         self.failures = self.failures.saturating_add(1);
         DeviceFailure
+    }
+
+    /// The octets that a crash leaves now, for one fate of what no sync has settled.
+    pub fn left_by_crash(&self, alloc: Global, fate: Fate) -> Result<Vec<u8>, AllocError>
+        ensures { IfOk result (λ image. MayLeave self.now.base self.now.events image.items) }
+    {
+        crashed_image(alloc, &self.base, &self.calls, fate)
     }
 
     /// How many calls are on record.

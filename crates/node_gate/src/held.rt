@@ -29,6 +29,9 @@ pub struct Pulse {
     pub view_number: u64,
     /// The number of the last update that it has made.
     pub last_update: u64,
+    /// How many entries its directory has, and how many records its log.
+    pub entries: u64,
+    pub log_length: u64,
     /// Whether the node has stopped for good, its device having failed.
     pub is_halted: bool,
 }
@@ -105,6 +108,8 @@ impl<'a, R: Wait, D: Device, J: JournalDevice, I: Identity> Held<'a, R, D, J, I>
             standing: node.standing(),
             view_number: node.view_number(),
             last_update: node.executed_len() as u64,
+            entries: node.store().tree().len(),
+            log_length: node.log_len(),
             is_halted: node.is_halted(),
         }
     }

@@ -1,17 +1,25 @@
 -- What is made of one process at one call.
-use Rattle.std.specs.Prelude.{◌≡◌, ◌≢◌, ℕ, Bool, false, List, [], length, Result, is_some}
+use Rattle.std.specs.Prelude.{◌≡◌, ◌≢◌, ◌⊎◌, ℕ, ◌<◌, ◌≤◌, Bool, false, List, [], length, Result, is_some}
 use Rattle.std.specs.Arc.{arc_value}
 use Rattle.std.specs.declared.alloc.AllocError.{AllocError}
 use Rattle.dir_node.specs.Handling.{MakesSteps}
-use Rattle.dir_node.specs.NodeState.{CatchesUp, IsOwn, IsSameNode, KeepsPair, NodeValue, given, started_pair}
+use Rattle.dir_node.specs.NodeState.{CatchesUp, IsOwn, IsSameNode, KeepsPair, NodeValue, given, pair_of, started_pair}
 use Rattle.dir_node.specs.Outcomes.{outcome_of, standing_of}
+use Rattle.dir_node.specs.declared.error.NodeError.{NodeError}
 use Rattle.dir_node.specs.declared.error.NodeError.TheVariants.{NoMemory}
+use Rattle.dir_node.specs.log_journal.Taken.{MakesSome}
 use Rattle.dir_node.specs.log_journal.vr_recover.Rules.{recovers}
-use Rattle.state_machine.specs.Executing.{due_after}
+use Rattle.dir_search.specs.Answer.{answer}
+use Rattle.dir_search.specs.Compared.{compared}
+use Rattle.dir_search.specs.directory_api.View.{answer_view, reply_view}
+use Rattle.dir_search.specs.indexed_tree.Directory.{Directory}
+use Rattle.dir_search.specs.ldap_msg.Messages.{CompareRequestValue, SearchRequestValue}
+use Rattle.state_machine.specs.Executing.{directory_at, due_after}
 use Rattle.state_machine.specs.dir_store.ldap_op.Values.{OpValue}
 use Rattle.journal.specs.Memory as journals
-use Rattle.view_store.specs.Memory.{MemoryModel, MayLeave}
-use Rattle.view_store.specs.Slots.{found}
+use Rattle.view_store.specs.Memory.{MemoryModel, MayLeave, seen_after}
+use Rattle.view_store.specs.Slots.{IsWellPlaced, found, own}
+use Rattle.view_store.specs.Store.{IsFormerOrNew}
 use Rattle.vr_state.specs.Outcome.{idle}
 use Rattle.vr_state.specs.State.{State, first, recovering}
 use Rattle.vr_state.specs.Words.{Client}
@@ -20,7 +28,7 @@ use Rattle.vr_state.specs.declared.message.Outputs.{Outputs}
 use Rattle.dir_machine.specs.Shown.{became_view}
 use Rattle.dir_machine.specs.declared.machine.Machine.{Machine}
 use Rattle.dir_machine.specs.declared.process.Process.{Process}
-use Rattle.dir_machine.specs.declared.process.Process.TheVariants.{Unborn, Up, Down, Gone}
+use Rattle.dir_machine.specs.declared.process.Process.TheVariants.{Unborn, Up, Down}
 use Rattle.dir_machine.specs.declared.replies.MachineReply.{MachineReply}
 use Rattle.dir_machine.specs.declared.replies.MachineReply.TheVariants as reply
 
@@ -32,6 +40,15 @@ MemoryNode = NodeValue MemoryModel journals.MemoryModel
 abbrev pub KeepsIt : MemoryNode → Type 0
 KeepsIt n = KeepsPair (λ d. MayLeave d.base d.events) n
 
+-- What the device gives, and what a crash may leave of it, is as stores leave it.
+pub record IsPlaced (d : MemoryModel) : Type 0 where
+  pub seen : IsWellPlaced (seen_after d.base d.events)
+  pub left : (image : List ℕ) → MayLeave d.base d.events image → IsWellPlaced image
+
+-- the octets that a device gives to begin with are as stores leave them
+abbrev pub HeldPlaced : MemoryModel → Type 0
+HeldPlaced d = IsWellPlaced (seen_after d.base d.events)
+
 -- A node took some of these events, each a step.
 pub record Took (events : List (Event OpValue)) (old new : MemoryNode) (outs : List (Result (Outputs OpValue) AllocError)) (behind : Bool) : Type 0 where
   pub steps : MakesSteps old.count old.index old.replica events outs new.replica
@@ -39,23 +56,39 @@ pub record Took (events : List (Event OpValue)) (old new : MemoryNode) (outs : L
   pub pair : KeepsIt new
   pub running : new.is_halted ≡ false
   pub same : IsSameNode old new
+  pub placed : old.is_halted ≡ false → HeldPlaced old.device → IsPlaced new.device
+
+-- A node's process ended inside a call: the node took some first of these events, and the device holds the pair from before them or from after.
+pub record EndedInside (events : List (Event OpValue)) (old : MemoryNode) (image : List ℕ) : Type 0 where
+  pub replica : State OpValue
+  pub steps : MakesSome old.count old.index old.replica events replica
+  pub pair : IsFormerOrNew old.cluster (own (pair_of old)) (record (pair_of old) { view = replica.view_number }) image
+
+-- A process was never up.
+abbrev pub IsNew : Process → Type 0
+IsNew (Unborn image) = Unit {0}
+IsNew _ = ⊥
+
+-- A process ended since its device failed: it is down, over what a crash may leave of that device.
+abbrev pub IsStopped : ℕ → MemoryModel → NodeError → Process → MachineReply → Type 0
+IsStopped i d error (Down image) (reply.Stopped j e) = (j ≡ i) × (e ≡ error) × MayLeave d.base d.events image.items
+IsStopped i d error _ _ = ⊥
 
 -- Replica i's process is given these events.
 abbrev pub IsGiven : ℕ → List (Event OpValue) → Process → Process → MachineReply → Type 0
-IsGiven i events (Up old) (Up new) (reply.Handled j outs behind) = (j ≡ i) × Took events old new outs.items behind
-IsGiven i events (Up old) (Up new) (reply.Refused j e) = (j ≡ i) × (e ≡ NoMemory) × (new ≡ old)
-IsGiven i events (Up old) Gone (reply.Stopped j e) = (j ≡ i) × (e ≢ NoMemory)
+IsGiven i events (Up old f) (Up new g) (reply.Handled j outs behind) = (j ≡ i) × Took events old new outs.items behind
+IsGiven i events (Up old f) (Up new g) (reply.Refused j e) = (j ≡ i) × (e ≡ NoMemory) × (new ≡ old)
+IsGiven i events (Up old f) (Down image) (reply.Stopped j e) =
+    (j ≡ i) × (e ≢ NoMemory) × (old.is_halted ≡ false → HeldPlaced old.device → EndedInside events old image.items)
 IsGiven i events (Down old) (Down new) reply.Nothing = new.items ≡ old.items
-IsGiven i events Unborn Unborn reply.Nothing = Unit {0}
-IsGiven i events Gone Gone reply.Nothing = Unit {0}
+IsGiven i events (Unborn old) (Unborn new) reply.Nothing = Unit {0}
 IsGiven i events _ _ _ = ⊥
 
 -- Replica i's process ends, if it is up.
 abbrev pub IsEnded : ℕ → Process → Process → MachineReply → Type 0
-IsEnded i (Up old) (Down image) (reply.Crashed j) = (j ≡ i) × MayLeave old.device.base old.device.events image.items
+IsEnded i (Up old f) (Down image) (reply.Crashed j) = (j ≡ i) × MayLeave old.device.base old.device.events image.items
 IsEnded i (Down old) (Down new) reply.Nothing = new.items ≡ old.items
-IsEnded i Unborn Unborn reply.Nothing = Unit {0}
-IsEnded i Gone Gone reply.Nothing = Unit {0}
+IsEnded i (Unborn old) (Unborn new) reply.Nothing = Unit {0}
 IsEnded i _ _ _ = ⊥
 
 -- A node as it is made for replica i of a machine: this state, nothing executed, no journal.
@@ -72,29 +105,67 @@ pub record IsBorn (m : Machine) (i : ℕ) (r : State OpValue) (restarts : ℕ) (
   pub alone : is_some n.journal ≡ false
   pub pair : KeepsIt n
 
--- Replica i's process starts, if it isn't up and its device hasn't failed.
+-- What is shown of a start of replica i that was refused.
+abbrev pub IsRefusal : ℕ → MachineReply → Type 0
+IsRefusal i (reply.Refused j e) = j ≡ i
+IsRefusal i (reply.Stopped j e) = j ≡ i
+IsRefusal i _ = ⊥
+
+-- A start that was refused leaves what the device held, or the pair from before it or from after it.
+abbrev pub IsLeftByStart : ℕ → (old new : List ℕ) → Type 0
+IsLeftByStart cluster old new = (new ≡ old) ⊎ IsFormerOrNew cluster (found cluster old) (started_pair (found cluster old)) new
+
+-- Replica i's process starts, if it isn't up.
 abbrev pub IsStarted : Machine → ℕ → Process → Process → MachineReply → Type 0
-IsStarted m i Unborn (Up n) (reply.Started j restarts out) = (j ≡ i) × (restarts ≡ n.restarts) × IsBorn m i (first m.count) 1 n × (given n.replica out ≡ idle (first m.count))
-IsStarted m i Unborn Unborn (reply.Refused j e) = j ≡ i
-IsStarted m i (Down image) (Up n) (reply.Started j restarts out) =
+IsStarted m i (Unborn old) (Up n f) (reply.Started j restarts out) =
+    (j ≡ i) × (restarts ≡ n.restarts) × IsBorn m i (first m.count) 1 n × (given n.replica out ≡ idle (first m.count)) × IsPlaced n.device
+IsStarted m i (Unborn old) (Unborn new) x = IsRefusal i x
+IsStarted m i (Down image) (Up n f) (reply.Started j restarts out) =
     let pair = started_pair (found m.cluster image.items) in
     (j ≡ i) × (restarts ≡ n.restarts) × IsOwn (found m.cluster image.items) × IsBorn m i (recovering m.count pair.view pair.restarts) pair.restarts n
-    × (given n.replica out ≡ recovers m.count i pair.view pair.restarts)
-IsStarted m i (Down old) (Down new) (reply.Refused j e) = (j ≡ i) × (new.items ≡ old.items)
-IsStarted m i (Down old) Gone (reply.Stopped j e) = j ≡ i
-IsStarted m i (Up old) (Up new) reply.Nothing = new ≡ old
-IsStarted m i Gone Gone reply.Nothing = Unit {0}
+    × (given n.replica out ≡ recovers m.count i pair.view pair.restarts) × (IsWellPlaced image.items → IsPlaced n.device)
+IsStarted m i (Down old) (Down new) x = IsRefusal i x × (IsWellPlaced old.items → IsLeftByStart m.cluster old.items new.items)
+IsStarted m i (Up old f) (Up new g) reply.Nothing = new ≡ old
 IsStarted m i _ _ _ = ⊥
 
 -- What is shown of a client's request at a process.
 abbrev pub IsAnswered : ℕ → Client → ℕ → Process → MachineReply → Type 0
-IsAnswered i client number (Up n) (reply.Outcome j o) = (j ≡ i) × (became_view o ≡ outcome_of n client number)
-IsAnswered i client number (Up n) _ = ⊥
+IsAnswered i client number (Up n f) (reply.Outcome j o) = (j ≡ i) × (became_view o ≡ outcome_of n client number)
+IsAnswered i client number (Up n f) _ = ⊥
 IsAnswered i client number _ reply.Nothing = Unit {0}
 IsAnswered i client number _ _ = ⊥
 
+-- What a read at a node finds, after what it has executed.
+pub record IsFoundBy {A : Type 0} (n : MemoryNode) (named number : ℕ) (read : Directory → A) (found : A) : Type 0 where
+  pub enough : named ≤ number
+  pub executed : number ≡ length n.executed.records
+  pub is : found ≡ read (directory_at n.executed)
+
+-- A read at a node comes too early.
+pub record IsEarlyAt (n : MemoryNode) (named number : ℕ) : Type 0 where
+  pub fewer : number < named
+  pub executed : number ≡ length n.executed.records
+
+-- What is shown of a search at a process.
+abbrev pub IsSearched : ℕ → ℕ → SearchRequestValue → Process → MachineReply → Type 0
+IsSearched i named q (Up n f) (reply.Found j number a) = (j ≡ i) × IsFoundBy n named number (λ d. answer d q) (answer_view a)
+IsSearched i named q (Up n f) (reply.NotYet j number) = (j ≡ i) × IsEarlyAt n named number
+IsSearched i named q (Up n f) (reply.Refused j e) = (j ≡ i) × (e ≡ NoMemory)
+IsSearched i named q (Up n f) _ = ⊥
+IsSearched i named q _ reply.Nothing = Unit {0}
+IsSearched i named q _ _ = ⊥
+
+-- What is shown of a compare at a process.
+abbrev pub IsCompared : ℕ → ℕ → CompareRequestValue → Process → MachineReply → Type 0
+IsCompared i named q (Up n f) (reply.Compared j number r) = (j ≡ i) × IsFoundBy n named number (λ d. compared d q) (reply_view r)
+IsCompared i named q (Up n f) (reply.NotYet j number) = (j ≡ i) × IsEarlyAt n named number
+IsCompared i named q (Up n f) (reply.Refused j e) = (j ≡ i) × (e ≡ NoMemory)
+IsCompared i named q (Up n f) _ = ⊥
+IsCompared i named q _ reply.Nothing = Unit {0}
+IsCompared i named q _ _ = ⊥
+
 -- What is shown of how far a process is.
 abbrev pub IsToldOf : ℕ → Process → MachineReply → Type 0
-IsToldOf i (Up n) x = x ≡ reply.Standing i n.replica.view_number (standing_of n) (length n.replica.log) n.replica.commit_number
+IsToldOf i (Up n f) x = x ≡ reply.Standing i n.replica.view_number (standing_of n) (length n.replica.log) n.replica.commit_number
 IsToldOf i _ reply.Nothing = Unit {0}
 IsToldOf i _ _ = ⊥

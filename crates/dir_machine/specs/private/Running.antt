@@ -2,7 +2,7 @@
 use Rattle.std.specs.Prelude.{◌≡◌, ℕ, ◌≤◌, true, false, List, [], ◌∷◌, ◌++◌, length, take, Some, None, slice_get, is_some}
 use Rattle.std.specs.Arc.{arc_value}
 use Rattle.state_machine.specs.dir_store.ldap_op.Values.{OpValue}
-use Rattle.view_store.specs.Slots.{own, found}
+use Rattle.view_store.specs.Slots.{IsWellPlaced, own, found}
 use Rattle.view_store.specs.declared.slot.Pair.{Pair}
 use Rattle.vr_state.specs.Lists.{IsPrefix}
 use Rattle.vr_state.specs.State.{first}
@@ -12,16 +12,16 @@ use Rattle.vr_world.specs.declared.events.WorldEvent.{WorldEvent}
 use Rattle.vr_world.specs.declared.words.Message.{Message}
 use Rattle.dir_machine.specs.Happening.{HappenInTurn}
 use Rattle.dir_machine.specs.Headline.{joined}
-use Rattle.dir_machine.specs.Shown.{Stage, unborn, up, down, gone, message_at, stage}
+use Rattle.dir_machine.specs.Shown.{Stage, unborn, up, down, message_at, stage}
 use Rattle.dir_machine.specs.declared.events.MachineEvent.{MachineEvent}
 use Rattle.dir_machine.specs.declared.events.Place.{Place}
 use Rattle.dir_machine.specs.declared.machine.Machine.{Machine}
 use Rattle.dir_machine.specs.declared.process.Process.{Process}
-use Rattle.dir_machine.specs.declared.process.Process.TheVariants.{Unborn, Up, Down, Gone}
+use Rattle.dir_machine.specs.declared.process.Process.TheVariants.{Unborn, Up, Down}
 use Rattle.dir_machine.specs.declared.replies.MachineReply.{MachineReply}
 use Rattle.dir_machine.specs.declared.replies.MachineReply.TheVariants as reply
 use Rattle.dir_machine.specs.declared.running.Running.{Running}
-use Rattle.dir_machine.specs.private.Processes.{MemoryNode, KeepsIt}
+use Rattle.dir_machine.specs.private.Processes.{IsNew, IsPlaced, KeepsIt, MemoryNode}
 
 -- No nonce of replica i is above this number.
 abbrev pub AreUpTo : World OpValue → ℕ → ℕ → Type 0
@@ -41,6 +41,7 @@ pub record IsUp (m : Machine) (w : World OpValue) (i : ℕ) (n : MemoryNode) : T
   pub suffix : n.executed.suffix ≡ m.suffix
   pub executed : IsPrefix n.executed.records (take n.replica.commit_number n.replica.log)
   pub pair : KeepsIt n
+  pub placed : IsPlaced n.device
 
 -- A process that ended: its replica is down, and its device holds the stored view.
 pub record IsDown (m : Machine) (w : World OpValue) (i : ℕ) (image : List ℕ) : Type 0 where
@@ -50,6 +51,7 @@ pub record IsDown (m : Machine) (w : World OpValue) (i : ℕ) (image : List ℕ)
   pub down : w.replicas i ≡ None
   pub stored : w.stored i ≡ pair.view
   pub nonces : AreUpTo w i pair.restarts
+  pub placed : IsWellPlaced image
 
 -- A process that was never up: its replica is as at the start.
 pub record IsUnborn (m : Machine) (w : World OpValue) (i : ℕ) : Type 0 where
@@ -59,14 +61,18 @@ pub record IsUnborn (m : Machine) (w : World OpValue) (i : ℕ) : Type 0 where
 
 -- A process stands for replica i of a world, and this is what was shown of it.
 abbrev pub StandsFor : Machine → World OpValue → ℕ → Stage → Process → Type 0
-StandsFor m w i s (Up n) = (s ≡ up) × IsUp m w i n
+StandsFor m w i s (Up n f) = (s ≡ up) × IsUp m w i n
 StandsFor m w i s (Down image) = (s ≡ down) × IsDown m w i image.items
-StandsFor m w i s Unborn = (s ≡ unborn) × IsUnborn m w i
-StandsFor m w i s Gone = s ≡ gone
+StandsFor m w i s (Unborn image) = (s ≡ unborn) × IsUnborn m w i
 
 -- Each message that was given out is one of the world.
 abbrev pub AreSent : List MachineReply → World OpValue → Type 0
 AreSent shown w = (place : Place) (x : Message OpValue) → message_at shown place ≡ Some x → (number : ℕ) × (sent_as number w.messages ≡ Some x)
+
+-- So many processes, none of which was ever up.
+pub record AreNew (count : ℕ) (processes : List Process) : Type 0 where
+  pub counted : length processes ≡ count
+  pub each : (i : ℕ) (p : Process) → slice_get processes i ≡ Some p → IsNew p
 
 -- What a run has stands for a world.
 pub record Stands (m : Machine) (w : World OpValue) (processes : List Process) (shown : List MachineReply) : Type 0 where
