@@ -24,9 +24,15 @@ impl HasDoor for Door {
     }
 }
 
-/// What becomes of a socket that was taken, with the house that it was taken into.
+/// What becomes of a socket that was taken, with the house that it was taken into and the address of its other end.
 pub trait Arrives<'a, R, H>: Sized {
-    fn arrive(rt: &'a R, alloc: Global, house: &'a H, socket: TcpStream) -> io::Result<Self>;
+    fn arrive(
+        rt: &'a R,
+        alloc: Global,
+        house: &'a H,
+        socket: TcpStream,
+        address: SocketAddr,
+    ) -> io::Result<Self>;
 }
 
 /// Hands a connection on once there is room for it; false where the door is closed or nobody takes connections any more.
@@ -68,11 +74,11 @@ pub fn accept_all<'a, R: Wait + Clock, H: HasDoor, V: Arrives<'a, R, H> + Drop>(
         if door.is_closed() {
             break;
         }
-        let Ok((socket, _)) = accepted else {
+        let Ok((socket, address)) = accepted else {
             thread::sleep(rt, Duration::from_millis(PAUSE));
             continue;
         };
-        let Ok(visitor) = V::arrive(rt, alloc, house, socket) else {
+        let Ok(visitor) = V::arrive(rt, alloc, house, socket, address) else {
             continue;
         };
         if !hand_on(rt, door, &to, number, visitor) {

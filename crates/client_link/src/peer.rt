@@ -6,7 +6,7 @@ use crate::pieces::PieceReader;
 use std::alloc::Global;
 use std::io;
 use std::io::BufReader;
-use std::net::TcpStream;
+use std::net::{SocketAddr, TcpStream};
 use std::sync::Wait;
 use std::time::{Clock, Duration};
 
@@ -39,12 +39,16 @@ impl<'a, R: Wait + Clock> Answering for BufReader<PieceReader<'a, R, FrameHeadin
 /// A stream that another replica, or a stranger, has opened. It is a stranger's until it is trusted.
 pub struct Peer<'a, R> {
     reader: PieceReader<'a, R, FrameHeading>,
+    address: SocketAddr,
 }
 
 // Not derived: see "What the gate takes" in docs/ARCHITECTURE.md.
 impl<'a, R> Drop for Peer<'a, R> {
     fn drop(self) {
-        let Peer { reader: _ } = self;
+        let Peer {
+            reader: _,
+            address: _,
+        } = self;
     }
 }
 
@@ -54,14 +58,20 @@ impl<'a, R: Wait + Clock> Arrives<'a, R, Door> for Peer<'a, R> {
         _alloc: Global,
         door: &'a Door,
         socket: TcpStream,
+        address: SocketAddr,
     ) -> io::Result<Peer<'a, R>> {
         let mut reader = PieceReader::new(rt, door, socket)?;
         reader.doubt();
-        Ok(Peer { reader })
+        Ok(Peer { reader, address })
     }
 }
 
 impl<'a, R: Wait + Clock> Peer<'a, R> {
+    /// The address of the other end.
+    pub fn address(&self) -> SocketAddr {
+        self.address
+    }
+
     /// The first octets that have come, without taking them, as many as the buffer has room for; how many. Where none has come it fails with
     /// `WouldBlock`, and where none will come there are 0.
     pub fn peek(&self, octets: &mut [u8]) -> io::Result<usize> {
@@ -75,7 +85,7 @@ impl<'a, R: Wait + Clock> Peer<'a, R> {
 
     /// What frames are read from, once it has a thread. It is a stranger there, until it is trusted.
     pub fn seated(self, alloc: Global) -> io::Result<BufReader<PieceReader<'a, R, FrameHeading>>> {
-        let Peer { reader } = self;
+        let Peer { reader, address: _ } = self;
         BufReader::new(alloc, reader)
     }
 }

@@ -52,13 +52,7 @@ fn main(rt: HostRuntime) -> io::Result<ExitCode> {
     );
     let status = match ran {
         Ran::Ended(status) => status,
-        Ran::Serves(service) => match serve_as_replica(&rt, alloc, service) {
-            Ok(()) => Status::Done,
-            Err(fault) => {
-                let _ = writeln!(faults, "{fault}");
-                Status::Refused
-            }
-        },
+        Ran::Serves(service) => serve_as_replica(&rt, alloc, service, &mut faults),
     };
     // The run has flushed it and told of it; what an early end left is handed on where it can be.
     let _ = output.flush();

@@ -1,14 +1,14 @@
 //! What the words of `serve` ask for becomes a running replica: the settings flow on to the server, and why it ended
 //! flows back.
 use command_line::{Address as Told, BUILD};
-use dird_commands::Service;
+use dird_commands::{Service, Status};
 use server::{
     Address, Build, Cluster, Limits, Logs, NodeConfig, Options, Place, ServerError, Terms, Times,
     serve,
 };
 use std::alloc::{AllocError, Global};
 use std::fs::{File, Files};
-use std::io::{Eprint, Print, Read};
+use std::io::{Eprint, Print, Read, Write};
 use std::net::{Net, TcpListener, TcpStream};
 use std::sync::Wait;
 use std::thread::Threads;
@@ -72,12 +72,68 @@ fn terms_of(
     Ok(Terms::of(schema, service.words.suffix, &clients))
 }
 
-/// Serves as a replica, until it is stopped.
+/// A file's option, and the file's name behind it, except one that isn't UTF-8.
+fn option_text(alloc: Global, option: &str, name: &str) -> Result<String, AllocError> {
+    if name.contains('\0') {
+        return String::from_str(alloc, option);
+    }
+    format!(in alloc; "{option}: {name}")
+}
+
+/// Why a replica ended, with the name of the file that it is about behind the file's option.
+fn text_of(
+    alloc: Global,
+    fault: &ServerError,
+    store: &str,
+    journal: Option<&str>,
+) -> Result<String, AllocError> {
+    let text = format!(in alloc; "{fault}")?;
+    if let Some((first, rest)) = text.split_once("\n--store: ") {
+        let option = option_text(alloc, "--store", store)?;
+        return format!(in alloc; "{first}\n{option}: {rest}");
+    }
+    match (text.split_once("\n--journal: "), journal) {
+        (Some((first, rest)), Some(journal)) => {
+            let option = option_text(alloc, "--journal", journal)?;
+            format!(in alloc; "{first}\n{option}: {rest}")
+        }
+        _ => Ok(text),
+    }
+}
+
+// The bounds are spelled out here: through `ServerRuntime` the check of `main` doesn't find the type of a folder.
+
+/// Serves as a replica, until it is stopped. Why it ended joins the faults.
 pub fn serve_as_replica<R, N>(
     rt: &R,
     alloc: Global,
     service: Service<'_>,
-) -> Result<(), ServerError>
+    faults: &mut Vec<u8>,
+) -> Status
+where
+    R: Net<Listener = TcpListener, Stream = TcpStream>
+        + Files<File = File, Dir = N>
+        + Threads
+        + Wait
+        + Clock
+        + Print
+        + Eprint
+        + Sync,
+    N: Read + Drop + Send,
+{
+    let (store, journal) = (service.words.store, service.words.journal);
+    let Err(fault) = serve_service(rt, alloc, service) else {
+        return Status::Done;
+    };
+    let _ = match text_of(alloc, &fault, store, journal) {
+        Ok(text) => writeln!(faults, "{text}"),
+        Err(_) => writeln!(faults, "out of memory"),
+    };
+    Status::Refused
+}
+
+/// Serves as a replica, until it is stopped.
+fn serve_service<R, N>(rt: &R, alloc: Global, service: Service<'_>) -> Result<(), ServerError>
 where
     R: Net<Listener = TcpListener, Stream = TcpStream>
         + Files<File = File, Dir = N>
@@ -103,12 +159,15 @@ where
     let Some(cluster) = Cluster::new(words.cluster) else {
         return Err(ServerError::ForeignCluster);
     };
+    // The options live as long as what they borrow here.
+    let version = String::from_str(alloc, BUILD.number())?;
     let options = Options {
         build: if BUILD.is_proved() {
             Build::Proved
         } else {
             Build::Unproved
         },
+        version: &version,
         node: NodeConfig {
             schema,
             indexes,

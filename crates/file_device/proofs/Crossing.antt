@@ -1,5 +1,6 @@
 -- The files of a replica may go to another thread: what clauses alone know of them owns nothing. What looks at it may be shared.
-use denote.Param.Send.{IsSend, IsSync, owning_send, sendable}
+use denote.Struct.Declared
+use denote.Param.Send.{IsSend, IsSync, owning_send, recorded_send, struct_send, sendable}
 use Rattle.std.proofs.Crossing.{crosses}
 use Rattle.file_device.specs.contracts.file.FileDevice as FileDevice
 use Rattle.file_device.specs.contracts.journal_file.JournalFile as JournalFile
@@ -15,7 +16,27 @@ kept_send : IsSend KeptOctets.the_row
 kept_send = search (known_send, crosses, sendable) depth 40
 
 pub journal_send : IsSend JournalFile.the_row
-journal_send = search (kept_send, crosses, sendable) depth 40
+journal_send =
+    recorded_send JournalFile.the_field.row _ _ JournalFile.the_type.to_one
+    (struct_send (Declared.shape JournalFile.the_type) (
+      search (crosses, sendable) depth 40,
+      (
+        search (kept_send, crosses, sendable) depth 40,
+        (
+          search (crosses, sendable) depth 40,
+          (
+            search (crosses, sendable) depth 40,
+            (
+              search (crosses, sendable) depth 40,
+              (
+                search (crosses, sendable) depth 40,
+                (search (crosses, sendable) depth 40, tt),
+              ),
+            ),
+          ),
+        ),
+      ),
+    ))
 
 pub file_send : IsSend FileDevice.the_row
 file_send = search (known_send, crosses, sendable) depth 40

@@ -12,6 +12,7 @@ use journal::{Device, DeviceFailure, GrowthError, nonzeros};
 use std::fs::File;
 use std::io::{self, ErrorKind};
 use std::os::unix::fs::FileExt;
+use std::sync::atomic::Ordering;
 
 /// Zeros are written by so many octets at once.
 const PIECE: usize = 65_536;
@@ -89,6 +90,9 @@ impl Device for JournalFile {
     }
 
     fn forget(&mut self, before: u64) {
+        if let Some(gone_over) = &self.gone_over {
+            gone_over.store(before, Ordering::SeqCst);
+        }
         self.octets.forget(before);
     }
 

@@ -1,5 +1,5 @@
 //! A file as the device under a journal: a block that says whose the journal is, and the journal's octets behind it.
-ghost use Rattle.std.specs.Prelude.{◌≡◌, ◌≤◌, [], IfOk};
+ghost use Rattle.std.specs.Prelude.{◌≡◌, ◌≤◌, [], Some, IfOk};
 ghost use Rattle.view_store.specs.Device.{HasRisen};
 
 use crate::fault::FileDeviceError;
@@ -16,6 +16,8 @@ use journal::DeviceFailure;
 use std::alloc::Global;
 use std::fs::{File, Files};
 use std::io;
+use std::sync::Arc;
+use std::sync::atomic::AtomicU64;
 
 /// How many octets a journal's file may have.
 const MAX_OCTETS: u64 = 0x4000_0000_0000_0000;
@@ -36,6 +38,8 @@ pub struct JournalFile {
     pub(crate) uncleared: Option<u64>,
     /// Whether the file was one of version 1, which has no first block, and was written anew with one.
     pub was_earlier: bool,
+    /// Where it is said up to where the journal has gone over the octets, where somebody asks.
+    pub(crate) gone_over: Option<Arc<AtomicU64, Global>>,
 }
 
 // Not derived: see "What the gate takes" in docs/ARCHITECTURE.md.
@@ -48,6 +52,7 @@ impl Drop for JournalFile {
             marked: _,
             uncleared: _,
             was_earlier: _,
+            gone_over: _,
         } = self;
     }
 }
@@ -128,6 +133,7 @@ impl JournalFile {
             marked: None,
             uncleared: None,
             was_earlier,
+            gone_over: None,
         })
     }
 
@@ -156,7 +162,22 @@ impl JournalFile {
             marked: None,
             uncleared: None,
             was_earlier: false,
+            gone_over: None,
         })
+    }
+
+    /// How many octets there are behind the first block.
+    pub fn size(&self) -> u64 {
+        self.octets.size()
+    }
+
+    /// The same device, which says there up to where the journal has gone over the octets as it reads them.
+    pub fn telling(self, gone_over: Arc<AtomicU64, Global>) -> JournalFile
+        ensures { result ≡ record self { gone_over = Some gone_over } }
+    {
+        let mut device = self;
+        device.gone_over = Some(gone_over);
+        device
     }
 
     /// Counts a failure.

@@ -54,6 +54,11 @@ impl JournalGuard {
         })
     }
 
+    /// How many octets the file had at the last look.
+    pub fn size(&self) -> u64 {
+        self.size.load(Ordering::SeqCst)
+    }
+
     /// Whether the file has fewer octets than it had at an earlier look.
     fn is_cut(&self) -> bool {
         match self.file.metadata() {

@@ -34,12 +34,24 @@ pub struct SocketDialer<'a, R> {
     rt: &'a R,
     address: Address<'a>,
     limit: Duration,
+    /// Why the last stream couldn't be made; none, where it could, or where the name has no address.
+    cause: Option<ErrorKind>,
 }
 
 impl<'a, R> SocketDialer<'a, R> {
     /// A connection that isn't made within the limit is none, and a write that isn't taken within it fails.
     pub fn new(rt: &'a R, address: Address<'a>, limit: Duration) -> SocketDialer<'a, R> {
-        SocketDialer { rt, address, limit }
+        SocketDialer {
+            rt,
+            address,
+            limit,
+            cause: None,
+        }
+    }
+
+    /// Why the last stream couldn't be made; none, where it could, or where the name has no address.
+    pub fn cause(&self) -> Option<ErrorKind> {
+        self.cause
     }
 }
 
@@ -52,11 +64,22 @@ impl<'a, R: Net<Stream = TcpStream>> SocketDialer<'a, R> {
         Ok(stream)
     }
 
+    /// Such a stream; where there is none, why is kept.
+    fn try_connect(&mut self, address: &SocketAddr) -> Option<TcpStream> {
+        match self.connect(address) {
+            Ok(stream) => Some(stream),
+            Err(error) => {
+                self.cause = Some(error.kind());
+                None
+            }
+        }
+    }
+
     /// Such a stream to the first address of a name that takes it. A look-up may wait for the system.
-    fn connected_to(&self, host: &str, port: u16) -> Option<TcpStream> {
+    fn connected_to(&mut self, host: &str, port: u16) -> Option<TcpStream> {
         let addresses = (host, port).to_socket_addrs(self.rt).ok()?;
         for address in addresses {
-            if let Ok(stream) = self.connect(&address) {
+            if let Some(stream) = self.try_connect(&address) {
                 return Some(stream);
             }
         }
@@ -108,8 +131,9 @@ impl<'a, R: Net<Stream = TcpStream>> Dial for SocketDialer<'a, R> {
     type Stream = TcpStream;
 
     fn dial(&mut self) -> Option<TcpStream> {
+        self.cause = None;
         match self.address {
-            Address::Numbers(address) => self.connect(&address).ok(),
+            Address::Numbers(address) => self.try_connect(&address),
             Address::Name { host, port } => self.connected_to(host, port),
         }
     }

@@ -55,5 +55,5 @@ module _ (I : RattleType) (i : Identity.Ghosts I.Denot) where
       recorded_sync (TimedNode.the_field a b R I i).row _ _ (TimedNode.the_type a b R I i).to_one
       (struct_sync (Declared.shape (TimedNode.the_type a b R I i)) (
         shr_sync _ _ R y,
-        (global_sync, (search (running, sendable) depth 10, (search (peer_queues, sendable) depth 10, (search (shared_parts.the_sync, sendable) depth 10, (search (times.the_field_sync, sendable) depth 10, (search (instant.the_field_sync, sendable) depth 10, (search (crosses, sendable) depth 20, (search (crosses, sendable) depth 20, (search (guard.the_sync, sendable) depth 10, (search (files.guard_sync, sendable) depth 20, (search (crosses, sendable) depth 20, (search (crosses, sendable) depth 20, (search (crosses, sendable) depth 20, (search (crosses, sendable) depth 20, tt)))))))))))))),
+        (global_sync, (search (running, sendable) depth 10, (search (peer_queues, sendable) depth 10, (search (shared_parts.the_sync, sendable) depth 10, (search (times.the_field_sync, sendable) depth 10, (search (instant.the_field_sync, sendable) depth 10, (search (crosses, sendable) depth 20, (search (crosses, sendable) depth 20, (search (crosses, sendable) depth 20, (search (crosses, sendable) depth 20, (search (guard.the_sync, sendable) depth 10, (search (files.guard_sync, sendable) depth 20, (search (crosses, sendable) depth 20, (search (crosses, sendable) depth 20, (search (crosses, sendable) depth 20, (search (crosses, sendable) depth 20, tt)))))))))))))))),
       ))

@@ -8,9 +8,10 @@ use file_device::{
 use node_gate::{
     Cluster, NodeConfig, NodeError, NoteError, OpenOptions, Opened, ViewStoreError, open,
 };
-use server_threads::{Reporter, ServerError, Terms};
+use server_threads::{Reporter, ServerError, StartProgress, Terms, Unopened};
 use std::alloc::Global;
 use std::fs::{File, Files};
+use std::io::ErrorKind;
 use std::sync::Wait;
 
 /// A replica's files, and what they are judged by.
@@ -24,6 +25,8 @@ pub struct Names<'a> {
     pub terms: &'a Terms,
     /// Where is said what an operator is to know of them.
     pub reporter: &'a Reporter,
+    /// How far the start is.
+    pub start: &'a StartProgress,
 }
 
 /// What looks at a replica's files while it runs.
@@ -40,7 +43,10 @@ fn fault_of_device(error: FileDeviceError) -> ServerError {
         FileDeviceError::NoMemory => ServerError::NoMemory,
         FileDeviceError::Missing => ServerError::NoStoredView,
         FileDeviceError::NotAFile => ServerError::StoreIsNoFile,
-        _ => ServerError::CannotOpen,
+        FileDeviceError::InUse => ServerError::CannotOpen(Unopened::InUse),
+        FileDeviceError::Failed(cause) => ServerError::CannotOpen(Unopened::Refused(cause)),
+        FileDeviceError::Full => ServerError::CannotOpen(Unopened::Refused(ErrorKind::StorageFull)),
+        _ => ServerError::CannotOpen(Unopened::TooLong),
     }
 }
 
@@ -56,10 +62,14 @@ fn fault_of_journal_file(error: FileDeviceError) -> ServerError {
         FileDeviceError::OtherSuffix => ServerError::OtherSuffix,
         FileDeviceError::Damaged { at } => ServerError::DamagedJournalAt(at),
         FileDeviceError::Full => ServerError::JournalFull,
-        FileDeviceError::InUse
-        | FileDeviceError::Missing
-        | FileDeviceError::TooLong
-        | FileDeviceError::Failed(_) => ServerError::CannotOpenJournal,
+        FileDeviceError::InUse => ServerError::CannotOpenJournal(Unopened::InUse),
+        FileDeviceError::TooLong => ServerError::CannotOpenJournal(Unopened::TooLong),
+        FileDeviceError::Missing => {
+            ServerError::CannotOpenJournal(Unopened::Refused(ErrorKind::NotFound))
+        }
+        FileDeviceError::Failed(cause) => {
+            ServerError::CannotOpenJournal(Unopened::Refused(cause))
+        }
     }
 }
 
@@ -167,7 +177,8 @@ fn journal_of<R: Files<File = File> + Wait>(
     match JournalFile::open(rt, alloc, path, owner, is_fresh) {
         Ok(device) => {
             tell_of_journal(rt, alloc, files.reporter, &device);
-            Ok(Some(device))
+            let gone_over = files.start.read(device.size())?;
+            Ok(Some(device.telling(gone_over)))
         }
         Err(error) => Err(fault_of_journal_file(error)),
     }

@@ -16,8 +16,9 @@ pub struct Times {
 /// What a server is told.
 #[derive(Drop)]
 pub struct Options<'a> {
-    /// How the program was built.
+    /// How the program was built, and its version.
     pub build: Build,
+    pub version: &'a str,
     /// The replica.
     pub node: NodeConfig,
     /// The name that may bind and update.

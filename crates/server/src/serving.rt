@@ -5,22 +5,23 @@ ghost use Rattle.node_gate.specs.Identities.{identity_of};
 use crate::opening::{Guards, Names, open_node};
 use crate::options::{Options, Times};
 use crate::peer_queues::{PeerQueues, PeerQueuesAt};
+use crate::runtime::ServerRuntime;
 use crate::ticking::{TimedNode, clock_times};
 use file_device::{FileDevice, JournalFile};
-use node_gate::{Here, Identity, Node, NodeGate, OpenOptions, Opened, Pace, Running, Seat, Told};
+use node_gate::{
+    Here, Identity, Node, NodeConfig, NodeGate, OpenOptions, Opened, Pace, Running, Seat, Told,
+};
 use server_threads::{
-    Build, Choices, Claim, Config, GROUP_MEMORY, LinkTimes, MACHINE_MEMORY, NoReads,
-    PROCESS_STATUS, Place, Server, ServerError, SharedParts, available_octets, limit_of,
+    Build, Choices, Claim, Config, GROUP_MEMORY, LinkTimes, MACHINE_MEMORY, NoReads, Place,
+    ProcessFiles, Server, ServerError, SharedParts, Starting, available_octets, limit_of,
     make_shared_parts,
 };
 use std::alloc::{AllocError, Global};
 use std::fs::{File, Files};
-use std::io::{Eprint, Print, Read};
+use std::io::Read;
 use std::marker::Brand;
-use std::net::{Net, TcpListener, TcpStream};
 use std::sync::atomic::{AtomicBool, AtomicU64};
 use std::sync::{Arc, Mutex, Wait};
-use std::thread::Threads;
 use std::time::{Clock, Instant};
 
 /// The greatest number of seats.
@@ -108,14 +109,7 @@ fn run_in<'a, 'r, R, N, I>(
     terms: Terms<'a>,
 ) -> Result<(), ServerError>
 where
-    R: Net<Listener = TcpListener, Stream = TcpStream>
-        + Files<File = File, Dir = N>
-        + Threads
-        + Wait
-        + Clock
-        + Print
-        + Eprint
-        + Sync,
+    R: ServerRuntime<N>,
     N: Read + Drop + Send,
     I: Identity + Send + Sync,
 {
@@ -124,6 +118,11 @@ where
     let Ok(opened) = Instant::now(rt) else {
         return Err(ServerError::NoClock);
     };
+    let resumed = running.resumed(rt);
+    match resumed {
+        Some(records) => shared_parts.start.resume(records),
+        None => shared_parts.start.end(),
+    }
     let clock = TimedNode {
         rt,
         alloc,
@@ -134,10 +133,12 @@ where
         opened,
         view_number: AtomicU64::new(0),
         last_update: AtomicU64::new(0),
+        entries: AtomicU64::new(0),
+        log_length: AtomicU64::new(0),
         view_guard: &guards.view,
         journal_guard: &guards.journal,
         restarts: terms.config.restarts,
-        resumed: running.resumed(rt),
+        resumed,
         is_proved: terms.is_proved,
         trouble: AtomicU64::new(0),
     };
@@ -164,14 +165,7 @@ fn serve_opened<R, N, I>(
     terms: Terms<'_>,
 ) -> Result<(), ServerError>
 where
-    R: Net<Listener = TcpListener, Stream = TcpStream>
-        + Files<File = File, Dir = N>
-        + Threads
-        + Wait
-        + Clock
-        + Print
-        + Eprint
-        + Sync,
+    R: ServerRuntime<N>,
     N: Read + Drop + Send,
     I: Identity + Send + Sync,
     requires { identity_of opened.node ≡ I.own }
@@ -203,7 +197,25 @@ fn claim_of<R: Clock>(rt: &R, node: &Node<FileDevice, JournalFile>) -> Result<Cl
     })
 }
 
-/// Opens the node, and serves by it.
+/// Opens the node of a first or a later start with so many seats.
+fn open_with<'a, R: Files<File = File> + Wait>(
+    rt: &'a R,
+    alloc: Global,
+    files: Names<'_>,
+    node: NodeConfig,
+    is_fresh: bool,
+    seats: usize,
+    times: &Times,
+) -> Result<(Opened<'a, R, FileDevice, JournalFile>, Guards), ServerError> {
+    let options = OpenOptions {
+        is_fresh,
+        seats: seats.clamp(1, SEATS),
+        times: clock_times(times),
+    };
+    open_node(rt, alloc, files, node, options)
+}
+
+/// Opens the node, while monitors are answered, and serves by it.
 fn serve_in<R, N>(
     rt: &R,
     alloc: Global,
@@ -211,14 +223,7 @@ fn serve_in<R, N>(
     options: Options<'_>,
 ) -> Result<(), ServerError>
 where
-    R: Net<Listener = TcpListener, Stream = TcpStream>
-        + Files<File = File, Dir = N>
-        + Threads
-        + Wait
-        + Clock
-        + Print
-        + Eprint
-        + Sync,
+    R: ServerRuntime<N>,
     N: Read + Drop + Send,
 {
     let schema = Arc::try_clone(&options.node.schema)?;
@@ -243,13 +248,16 @@ where
         journal,
         terms: &terms,
         reporter: &shared_parts.reporter,
+        start: &shared_parts.start,
     };
-    let options = OpenOptions {
-        is_fresh,
-        seats: seats.clamp(1, SEATS),
-        times: clock_times(&times),
+    let starting = Starting {
+        rt,
+        alloc,
+        build,
+        shared_parts,
     };
-    let (opened, guards) = open_node(rt, alloc, files, node, options)?;
+    let tried = starting.beside(|| open_with(rt, alloc, files, node, is_fresh, seats, &times));
+    let (opened, guards) = tried?;
     let config = Config {
         schema: &schema,
         manager: &manager,
@@ -282,14 +290,7 @@ where
 /// outside, its replica has crashed in the protocol's sense.
 pub fn serve<R, N>(rt: &R, alloc: Global, options: Options<'_>) -> Result<(), ServerError>
 where
-    R: Net<Listener = TcpListener, Stream = TcpStream>
-        + Files<File = File, Dir = N>
-        + Threads
-        + Wait
-        + Clock
-        + Print
-        + Eprint
-        + Sync,
+    R: ServerRuntime<N>,
     N: Read + Drop + Send,
 {
     let index = options.node.index;
@@ -303,12 +304,13 @@ where
         updates: options.updates.clamp(1, UPDATES),
         metrics: options.metrics,
         logs: options.logs,
+        version: options.version,
         link_times: LinkTimes {
             beat: options.times.beat,
             silence: options.times.suspect,
         },
     };
-    let status = File::open(rt, PROCESS_STATUS).ok();
-    let shared_parts = make_shared_parts(rt, alloc, options.places, index, choices, status)?;
+    let process = ProcessFiles::open(rt);
+    let shared_parts = make_shared_parts(rt, alloc, options.places, index, choices, process)?;
     serve_in(rt, alloc, &shared_parts, options)
 }

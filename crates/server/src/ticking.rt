@@ -11,7 +11,9 @@ use node_gate::{
     Arrival, Identity, Majority, NodeError, Op, Pace, PeerMessage, Progress, Pulse, Running, Send,
     Standing, Steps, Ticked, copies, send_all,
 };
-use server_threads::{Build, Engine, Figures, Lack, Role, ServerError, SharedParts, Trouble};
+use server_threads::{
+    Build, Engine, Figures, Lack, Role, ServerError, SharedParts, Shows, Trouble,
+};
 use std::alloc::{AllocError, Global};
 use std::fs::{File, Files};
 use std::io::Read;
@@ -61,6 +63,9 @@ pub struct TimedNode<'a, 'r, R: Wait, I: Identity> {
     /// The node's view, and its last update, when its clock was asked last.
     pub view_number: AtomicU64,
     pub last_update: AtomicU64,
+    /// How many entries the directory had then, and how many records the log.
+    pub entries: AtomicU64,
+    pub log_length: AtomicU64,
     /// What looks at the file of the stored view, and at that of the journal, where it keeps one; and which start of the replica stored the view,
     /// counted from 1.
     pub view_guard: &'a ViewGuard,
@@ -136,6 +141,14 @@ impl<'a, 'r, R: Wait + Clock, I: Identity> TimedNode<'a, 'r, R, I> {
         }
     }
 
+    /// The seconds since 1970; 0 where no clock tells.
+    fn seconds(&self) -> u64 {
+        match self.rt.since_1970() {
+            Ok(moment) => moment.as_secs(),
+            Err(_) => 0,
+        }
+    }
+
     /// The way to the queues, for what is sent at this moment.
     fn peer_queues_at(&self, now: u64) -> PeerQueuesAt<'a, R> {
         PeerQueuesAt {
@@ -185,10 +198,12 @@ impl<'a, 'r, R: Wait + Clock, I: Identity> TimedNode<'a, 'r, R, I> {
 
     /// Takes note of the signs of life that other replicas have given since the last look.
     fn hear_signs(&self, watch: &mut Watch, now: u64) {
+        let counters = &self.shared_parts.counters;
         for (from, seen) in watch.signs.iter_mut().enumerate() {
-            let signs = self.shared_parts.counters.signs_of(from);
+            let signs = counters.signs_of(from);
             if *seen != signs {
                 *seen = signs;
+                counters.note_heard(from, self.seconds());
                 watch.majority.hear(from, now);
             }
         }
@@ -263,7 +278,10 @@ impl<'a, 'r, R: Wait + Clock, I: Identity> TimedNode<'a, 'r, R, I> {
         } = ticked;
         self.view_number.store(pulse.view_number, Ordering::SeqCst);
         self.last_update.store(pulse.last_update, Ordering::SeqCst);
+        self.entries.store(pulse.entries, Ordering::SeqCst);
+        self.log_length.store(pulse.log_length, Ordering::SeqCst);
         self.shared_parts.progress.commit(pulse.last_update);
+        self.shared_parts.start.make(pulse.last_update);
         if !pulse.is_like(&watch.pulse) {
             tell_pulse(self.rt, self.alloc, &self.shared_parts.reporter, &pulse);
             watch.beat = Vec::new(self.alloc);
@@ -307,9 +325,16 @@ impl<'a, 'r, R: Wait + Clock, I: Identity> TimedNode<'a, 'r, R, I> {
         }
         let is_caught_up = self.running.is_caught_up(self.rt);
         if is_caught_up {
+            self.shared_parts.start.end();
             tell_caught_up(self.rt, self.alloc, &self.shared_parts.reporter);
         }
         is_caught_up
+    }
+
+    /// A batch was handled that began at this moment.
+    fn note_batch(&self, began: u64) {
+        let time = Duration::from_micros(self.now().saturating_sub(began));
+        self.shared_parts.counters.note_batch(Some(time));
     }
 
     /// Whether threads are missing that should have begun long ago.
@@ -336,6 +361,7 @@ impl<'a, 'r, R: Wait + Clock + Files<File = File>, I: Identity> TimedNode<'a, 'r
                 if journal.is_lost(self.rt) {
                     return Some(ServerError::JournalLost);
                 }
+                self.shared_parts.counters.set_journal(journal.size());
                 None
             }
             None => None,
@@ -458,6 +484,7 @@ where
             let (done, _) = self
                 .running
                 .handle_batch(self.rt, self.alloc, &mut peer_queues, batch, now);
+            self.note_batch(now);
             done.map_err(fault_of_node)?;
             was_caught_up = self.tell_progress(was_caught_up);
         }
@@ -468,6 +495,37 @@ where
         self.running.look_again();
     }
 
+    fn stop(&self) {
+        self.running.stop(self.rt);
+    }
+}
+
+/// Where the system shows the descriptors that the process has open, a name each.
+const DESCRIPTORS: &str = "/proc/self/fd";
+
+/// How many names a folder has.
+fn names_in<N: Read>(folder: &mut N) -> Option<u64> {
+    let mut room = [0u8; 4_096];
+    let mut count: u64 = 0;
+    for _ in 0..u64::MAX {
+        let length = folder.read(&mut room).ok()?;
+        if length == 0 {
+            break;
+        }
+        for octet in room.get(..length)? {
+            count = count.saturating_add(u64::from(*octet == 0));
+        }
+    }
+    Some(count)
+}
+
+// prover: the type that reads a folder has a name, so that what is known of it holds in every thread.
+impl<'a, 'r, R, N, I> Shows for TimedNode<'a, 'r, R, I>
+where
+    R: Wait + Clock + Files<File = File, Dir = N>,
+    N: Read + Drop,
+    I: Identity,
+{
     fn figures(&self) -> Figures {
         Figures {
             build: if self.is_proved {
@@ -479,11 +537,16 @@ where
             role: role_of(self.running.standing()),
             view_number: self.view_number.load(Ordering::SeqCst),
             last_update: self.last_update.load(Ordering::SeqCst),
+            entries: self.entries.load(Ordering::SeqCst),
+            log_length: self.log_length.load(Ordering::SeqCst),
+            start: self.shared_parts.start.start(),
             sessions: self.shared_parts.sessions(),
         }
     }
 
-    fn stop(&self) {
-        self.running.stop(self.rt);
+    fn descriptors(&self) -> Option<u64> {
+        let mut folder = self.rt.open_dir(DESCRIPTORS).ok()?;
+        // The folder itself is open meanwhile.
+        names_in(&mut folder)?.checked_sub(1)
     }
 }

@@ -3,8 +3,17 @@ use crate::fault::ServerError;
 use replica_greeting::{Op, PeerMessage};
 use status_page::Figures;
 
+/// What monitors are shown.
+pub trait Shows {
+    /// What the replica does. It waits for nobody.
+    fn figures(&self) -> Figures;
+
+    /// How many descriptors the process has open, where the system tells it.
+    fn descriptors(&self) -> Option<u64>;
+}
+
 /// The node behind a server's threads.
-pub trait Engine {
+pub trait Engine: Shows {
     /// Hands on a message of the replica of this index, with the number that was noted before it, if one was; whether the node goes on. A message that
     /// finds no memory is lost, as the network may lose one, and the node goes on.
     fn hear(&self, from: u64, message: PeerMessage<Op>, noted: Option<u64>) -> bool;
@@ -21,9 +30,6 @@ pub trait Engine {
 
     /// Has those who wait for an update's outcome look whether their clients have left. It takes no lock.
     fn look_again(&self);
-
-    /// What the replica does. It waits for nobody.
-    fn figures(&self) -> Figures;
 
     /// Stops the node.
     fn stop(&self);

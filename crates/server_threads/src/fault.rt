@@ -1,17 +1,89 @@
 //! Why a server doesn't run, or stopped: a line that names the cause, and one that says what to mend.
 use std::alloc::{AllocError, AllocFailed};
+use std::fmt::{self, Display, Formatter, Write};
+use std::io::ErrorKind;
 use std::net::SocketAddr;
 use thiserror::Error;
+
+/// Who is to be heard at an address.
+#[derive(Clone, Copy, Debug, PartialEq, Eq)]
+pub enum Heard {
+    Clients,
+    Replicas,
+    Monitors,
+}
+
+/// Why nobody can be heard at an address, as the system says.
+#[derive(Clone, Copy, Debug, PartialEq, Eq)]
+pub struct Unheard {
+    pub who: Heard,
+    pub address: SocketAddr,
+    pub cause: ErrorKind,
+}
+
+impl Display for Unheard {
+    fn fmt<W: Write>(&self, f: &mut Formatter<W>) -> fmt::Result {
+        let address = self.address;
+        match self.who {
+            Heard::Clients => write!(f, "PEER {address}, for clients: ")?,
+            Heard::Replicas => write!(f, "PEER {address}, for replicas: ")?,
+            Heard::Monitors => write!(f, "--metrics {address}: ")?,
+        }
+        match self.cause {
+            ErrorKind::AddrInUse => f.write_str("another process listens there"),
+            ErrorKind::AddrNotAvailable => match self.who {
+                Heard::Monitors => f.write_str("it is no address of this machine"),
+                _ => f.write_str("it is no address of this machine: check --id and PEER"),
+            },
+            ErrorKind::PermissionDenied => f.write_str(
+                "this user may not listen there: ports below 1024 need CAP_NET_BIND_SERVICE",
+            ),
+            cause => write!(f, "the system says: {cause}"),
+        }
+    }
+}
+
+/// Why a file can't be opened.
+#[derive(Clone, Copy, Debug, PartialEq, Eq)]
+pub enum Unopened {
+    /// Another process has it open, or exchanged it meanwhile.
+    InUse,
+    /// It has more octets than it may have.
+    TooLong,
+    /// The system refuses it.
+    Refused(ErrorKind),
+}
+
+impl Display for Unopened {
+    fn fmt<W: Write>(&self, f: &mut Formatter<W>) -> fmt::Result {
+        match self {
+            Unopened::InUse => f.write_str(
+                "another process has the file open: end it, or check the name",
+            ),
+            Unopened::TooLong => f.write_str(
+                "the file is longer than any that a replica writes: check the name",
+            ),
+            Unopened::Refused(ErrorKind::InvalidInput) => f.write_str("the name isn't UTF-8"),
+            Unopened::Refused(ErrorKind::NotFound) => f.write_str(
+                "its folder isn't there: make it",
+            ),
+            Unopened::Refused(ErrorKind::PermissionDenied) => {
+                f.write_str("this user may not write to the file, or to its folder")
+            }
+            Unopened::Refused(cause) => write!(f, "the system says: {cause}"),
+        }
+    }
+}
 
 /// Why a server doesn't run, or stopped.
 #[derive(Clone, Copy, Debug, PartialEq, Eq, Error)]
 pub enum ServerError {
     /// The file of the stored view can't be opened, or is another process's.
-    #[error("cannot open the stored view\n--store: another process has the file open, its folder isn't there, or this user may not write to it")]
-    CannotOpen,
+    #[error("cannot open the stored view\n--store: {0}")]
+    CannotOpen(Unopened),
     /// An address is another's, or not of this machine.
-    #[error("cannot listen\n{0}: another process listens there, it is no address of this machine, or its port is below 1024: check --id and PEER")]
-    CannotListenAt(SocketAddr),
+    #[error("cannot listen\n{0}")]
+    CannotListenAt(Unheard),
     /// A host's name in this replica's PEER has no address.
     #[error("cannot listen\n--id: a host's name in the PEER of this replica can't be looked up: mend the name, or write an address")]
     NoSuchHost,
@@ -43,8 +115,8 @@ pub enum ServerError {
     #[error("E25\n--store: a journal goes with the file's view, and none is given: start with --journal and the file that it keeps")]
     KeepsJournal,
     /// The file of the journal can't be opened, or is another process's.
-    #[error("cannot open the journal\n--journal: another process has the file open, its folder isn't there, or this user may not write to it")]
-    CannotOpenJournal,
+    #[error("cannot open the journal\n--journal: {0}")]
+    CannotOpenJournal(Unopened),
     /// The name of the journal leads to a folder, a pipe, a socket or a device.
     #[error("no regular file\n--journal: the name leads to a folder, a pipe, a socket or a device")]
     JournalIsNoFile,

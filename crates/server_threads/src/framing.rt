@@ -248,6 +248,7 @@ impl<'a, R: Wait> Framing<PeerMessage<Op>> for MessageFrames<'a, R> {
                 return None;
             }
         };
+        self.counters.send_octets(self.to as u64, octets.len());
         match bytes_of(octets) {
             Ok(frame) => Some(frame),
             Err(error) => {

@@ -68,7 +68,7 @@ impl Senders {
             return Err("it has this replica's --id");
         }
         if !self.have(heading.sender) {
-            return Err("E20");
+            return Err("E20: it names an index that no PEER has");
         }
         Ok(heading)
     }
@@ -77,8 +77,8 @@ impl Senders {
 /// Why a connection ended, as it is told.
 pub fn refusal_of(error: WireError) -> &'static str {
     match error {
-        WireError::BadFrame => "E20",
-        WireError::ForeignFrame => "E24",
+        WireError::BadFrame => "E20: it sent what no replica sends, or one of another version",
+        WireError::ForeignFrame => "E24: it is a replica of another cluster (--cluster)",
         WireError::NoMemory => "out of memory",
     }
 }

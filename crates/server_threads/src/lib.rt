@@ -5,7 +5,8 @@
 //! `serving` begins and ends them. `posting` puts a message into its replica's queue. `framing` makes its frames in the thread that sends: one,
 //! or parts of 16 MiB where one can't hold it. `porch` keeps strangers at the port for peers until a greeting begins; `receiving` reads
 //! greetings and frames for the node. `monitoring` answers monitors; `reporter`, `lines` and `notes` write standard error, which nobody else
-//! waits for. `logged` wraps a directory whose updates and slow searches are logged (`logging` has the lines). For each other replica one
+//! waits for. `starting` does both while the node is opened; `start` has how far that is. `reaching` dials another replica and says where it can't be
+//! reached; `seconds` and `process_files` have figures. `logged` wraps a directory whose updates and slow searches are logged (`logging` has the lines). For each other replica one
 //! thread writes and four read (in all 8 at least, and at most 64 or two each). The node's clock has the thread that calls.
 //!
 //! Proved: a directory that logs answers as the one that it wraps (`Logged`). No line goes uncounted (`Lines`, `none_uncounted`); readers are 8
@@ -30,19 +31,24 @@ mod notes;
 mod places;
 mod porch;
 mod posting;
+mod process_files;
 mod progress;
+mod reaching;
 mod receiving;
 mod reporter;
 mod resident;
+mod seconds;
 mod serving;
 mod session_events;
 mod shared_parts;
 mod showing;
+mod start;
+mod starting;
 mod telling;
 
 pub use counters::Counters;
-pub use engine::Engine;
-pub use fault::ServerError;
+pub use engine::{Engine, Shows};
+pub use fault::{ServerError, Unopened};
 pub use framing::MessageFrames;
 pub use laws::none_uncounted;
 pub use lines::Lines;
@@ -52,11 +58,14 @@ pub use needed_threads::NeededThreads;
 pub use notes::Note;
 pub use peer_link::{Address, LinkTimes};
 pub use places::Place;
+pub use process_files::ProcessFiles;
 pub use replica_clock::Lack;
 pub use replica_greeting::{Claim, Terms};
 pub use reporter::{NoteWriter, Reporter, StandardError, takes_a_line};
-pub use resident::{GROUP_MEMORY, MACHINE_MEMORY, PROCESS_STATUS, available_octets};
+pub use resident::{GROUP_MEMORY, MACHINE_MEMORY, available_octets};
 pub use serving::Server;
 pub use session_pool::{Config, Limits, NoReads, limit_of};
 pub use shared_parts::{Choices, SharedParts, make_shared_parts};
-pub use status_page::{Build, Figures, Role, Trouble};
+pub use start::StartProgress;
+pub use starting::Starting;
+pub use status_page::{Build, Figures, Role, Start, Trouble};

@@ -15,6 +15,8 @@ pub struct Lines {
     /// How many lines were dropped since the last that was kept; 18446744073709551615 stands for any greater number too.
     dropped: u64,
     most: usize,
+    /// How many lines were dropped in all, for monitors.
+    dropped_in_all: u64,
 }
 
 // Not derived: see "What the gate takes" in docs/ARCHITECTURE.md.
@@ -24,6 +26,7 @@ impl Drop for Lines {
             kept: _,
             dropped: _,
             most: _,
+            dropped_in_all: _,
         } = self;
     }
 }
@@ -49,6 +52,7 @@ impl Lines {
             kept: VecDeque::with_capacity(alloc, most)?,
             dropped: 0,
             most,
+            dropped_in_all: 0,
         })
     }
 
@@ -121,6 +125,12 @@ impl Lines {
         ensures most { self.new.most ≡ self.old.most }
     {
         self.dropped = self.dropped.saturating_add(1);
+        self.dropped_in_all = self.dropped_in_all.wrapping_add(1);
+    }
+
+    /// How many lines were dropped in all.
+    pub fn dropped_in_all(&self) -> u64 {
+        self.dropped_in_all
     }
 
     /// A line is said. It takes no memory.

@@ -1,6 +1,7 @@
 //! Which replicas are heard on how many connections, and why one isn't: so that each change is told, and told once; and what each has said, so that a start
 //! of it that remembers less isn't heard.
 use replica_greeting::{Claim, Forgotten, Op, Past, PeerMessage, Term};
+use status_page::Labelled;
 use std::alloc::{AllocError, Global};
 use std::sync::{Mutex, Wait};
 
@@ -68,6 +69,25 @@ impl Links {
         if let Some(link) = self.links.lock(rt).get_mut(sender as usize) {
             link.connections = link.connections.saturating_sub(1);
         }
+    }
+
+    /// Whether each replica but the one of this index is heard: 1 or 0.
+    pub fn connected<R: Wait>(
+        &self,
+        rt: &R,
+        alloc: Global,
+        own: usize,
+    ) -> Result<Vec<Labelled>, AllocError> {
+        let mut connected = Vec::new(alloc);
+        for (index, link) in self.links.lock(rt).iter().enumerate() {
+            if index != own {
+                connected.push(Labelled {
+                    label: index as u64,
+                    number: u64::from(link.connections > 0),
+                })?;
+            }
+        }
+        Ok(connected)
     }
 
     /// A replica is refused for this term; whether that is news.

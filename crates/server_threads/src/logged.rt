@@ -13,6 +13,7 @@ use session_pool::{
 use std::alloc::{AllocError, Global};
 use std::marker::Model;
 use std::sync::Wait;
+use std::time::{Clock, Duration, Instant};
 
 /// A directory whose answers are counted, and whose updates and slow searches are logged. Contracts see it as that directory.
 #[derive(Drop)]
@@ -21,6 +22,8 @@ pub struct Logged<'a, R, D> {
     reporter: &'a Reporter,
     logs: Logs,
     counters: &'a Counters,
+    /// Whether it is asked for updates alone.
+    updates: bool,
     directory: D,
 }
 
@@ -31,12 +34,13 @@ impl<'a, R, D> Model for Logged<'a, R, D> {
 }
 
 impl<'a, R, D> Logged<'a, R, D> {
-    /// A directory of which this is logged, to this reporter, and which is counted so.
+    /// A directory of which this is logged, to this reporter, and which is counted so; whether it is asked for updates alone.
     pub fn new(
         rt: &'a R,
         reporter: &'a Reporter,
         logs: Logs,
         counters: &'a Counters,
+        updates: bool,
         directory: D,
     ) -> Logged<'a, R, D>
         ensures { result ≡ directory }
@@ -46,12 +50,19 @@ impl<'a, R, D> Logged<'a, R, D> {
             reporter,
             logs,
             counters,
+            updates,
             directory,
         }
     }
 }
 
-impl<'a, R: Wait, D> Logged<'a, R, D> {
+impl<'a, R: Wait + Clock, D> Logged<'a, R, D> {
+    /// How long it is since a moment, where the clock can be read.
+    fn since(&self, began: Option<Instant>) -> Option<Duration> {
+        let now = Instant::now(self.rt).ok()?;
+        Some(now.saturating_duration_since(began?))
+    }
+
     /// Logs a search that was answered, where it evaluated its filter on too many entries.
     fn log_search(
         &self,
@@ -62,6 +73,7 @@ impl<'a, R: Wait, D> Logged<'a, R, D> {
         if let Ok(found) = found {
             let tests = found.answer.tests as u64;
             if tests > self.logs.slow {
+                self.counters.count_slow();
                 tell_slow(self.rt, alloc, self.reporter, request, tests);
             }
         }
@@ -90,7 +102,7 @@ impl<'a, R: Wait, D> Logged<'a, R, D> {
     }
 }
 
-impl<'a, R: Wait, D: Directory> Directory for Logged<'a, R, D> {
+impl<'a, R: Wait + Clock, D: Directory> Directory for Logged<'a, R, D> {
     type Told = D::Told;
 
     ghost allows = { D.allows };
@@ -101,9 +113,10 @@ impl<'a, R: Wait, D: Directory> Directory for Logged<'a, R, D> {
         named: u64,
         request: &SearchRequest,
     ) -> Result<Found<SearchAnswer>, LookError> {
+        let began = Instant::now(self.rt).ok();
         self.counters.begin_read();
         let found = self.directory.search(alloc, named, request);
-        self.counters.end_search(&found);
+        self.counters.end_search(&found, self.since(began));
         self.log_search(alloc, request, &found);
         found
     }
@@ -114,9 +127,10 @@ impl<'a, R: Wait, D: Directory> Directory for Logged<'a, R, D> {
         named: u64,
         request: &CompareRequest,
     ) -> Result<Found<Reply>, LookError> {
+        let began = Instant::now(self.rt).ok();
         self.counters.begin_read();
         let found = self.directory.compare(alloc, named, request);
-        self.counters.end_compare(&found);
+        self.counters.end_compare(&found, self.since(began));
         found
     }
 
@@ -125,14 +139,19 @@ impl<'a, R: Wait, D: Directory> Directory for Logged<'a, R, D> {
     }
 
     fn role(&mut self, alloc: Global) -> (Role, D::Told) {
-        self.directory.role(alloc)
+        let (role, told) = self.directory.role(alloc);
+        if self.updates && matches!(role, Role::Backup { .. }) {
+            self.counters.refer();
+        }
+        (role, told)
     }
 
     fn update(&mut self, alloc: Global, client: Client, number: u64, update: Update) -> Ended {
         let text = self.text_of(alloc, &update);
+        let began = Instant::now(self.rt).ok();
         self.counters.begin_update();
         let ended = self.directory.update(alloc, client, number, update);
-        self.counters.end_update(&ended);
+        self.counters.end_update(&ended, self.since(began));
         self.log_update(alloc, client, text, &ended);
         ended
     }

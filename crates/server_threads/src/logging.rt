@@ -1,11 +1,11 @@
 //! What is logged of updates and of slow searches, a line an event.
 use crate::reporter::Reporter;
 use crate::showing::shown;
-use explanations::code_word;
 use filter_text::print_text;
 use session_pool::{Client, Ended, SearchRequest, Update};
 use std::alloc::{AllocError, Global};
 use std::sync::Wait;
+use text_faults::code_word;
 
 /// An update of this kind, of the entry of this name.
 fn update_text(alloc: Global, kind: &str, name: &str) -> Result<String, AllocError> {

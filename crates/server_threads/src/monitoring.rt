@@ -1,9 +1,10 @@
 //! Answers monitors over HTTP/1.1, each once, sixteen beside one another. One thread looks at all of them, and waits
 //! for none.
-use crate::engine::Engine;
-use crate::resident::resident_octets;
+use crate::counters::Others;
+use crate::engine::Shows;
+use crate::process_files::descriptor_limit;
 use crate::shared_parts::SharedParts;
-use status_page::{Counts, Head, Page, bad_request, head_of, page};
+use status_page::{Counts, Head, Method, Page, ProcessCounts, bad_request, head_of, page};
 use std::alloc::{AllocError, Global};
 use std::collections::VecDeque;
 use std::io::{self, ErrorKind, Read, Write};
@@ -30,7 +31,7 @@ const LOOK: u64 = 5;
 const PAUSE: u64 = 100;
 
 /// A monitor's connection, which doesn't wait.
-struct Monitor {
+pub struct Monitor {
     stream: TcpStream,
     since: Instant,
     /// What has come of its request.
@@ -54,7 +55,7 @@ impl Drop for Monitor {
 }
 
 /// All monitors, the one that was looked at last at the back.
-type Monitors = VecDeque<Monitor, Global>;
+pub type Monitors = VecDeque<Monitor, Global>;
 
 /// Whether a call came to nothing only because it would have to wait.
 fn is_pause(kind: ErrorKind) -> bool {
@@ -70,32 +71,55 @@ pub struct Monitoring<'a, R, E> {
     pub engine: &'a E,
 }
 
-impl<'a, R: Wait + Clock, E: Engine> Monitoring<'a, R, E> {
+impl<'a, R: Wait + Clock, E: Shows> Monitoring<'a, R, E> {
+    /// What the system tells of the process, and what the replica keeps.
+    fn process(&self) -> ProcessCounts {
+        let shared_parts: &SharedParts = self.shared_parts;
+        ProcessCounts {
+            memory: shared_parts.process_files.memory(),
+            processors: shared_parts.process_files.processors(),
+            descriptors: self.engine.descriptors(),
+            descriptor_limit: descriptor_limit(),
+            began: shared_parts.process_files.began,
+            journal: shared_parts.counters.journal(),
+            dropped_lines: shared_parts.reporter.dropped(self.rt),
+        }
+    }
+
     /// What the replica counts.
     fn counts(&self) -> Result<Counts, AllocError> {
         let shared_parts: &SharedParts = self.shared_parts;
-        let memory = resident_octets(shared_parts.process_status.as_ref());
         let own = usize::from(shared_parts.sender);
-        let update_threads = shared_parts.leaves.len();
+        let connected = shared_parts.links.connected(self.rt, self.alloc, own)?;
         shared_parts.counters.counts(
             self.alloc,
-            own,
-            update_threads,
-            memory,
-            &shared_parts.budget,
+            connected,
+            Others {
+                own,
+                update_threads: shared_parts.leaves.len(),
+                process: self.process(),
+                budget: &shared_parts.budget,
+            },
         )
     }
 
     /// A page, of what the replica does now.
-    fn page(&self, asked: Page) -> Result<String, AllocError> {
+    fn page(&self, method: Method, asked: Page) -> Result<String, AllocError> {
         let counts = self.counts()?;
-        page(self.alloc, asked, &self.engine.figures(), &counts)
+        page(
+            self.alloc,
+            method,
+            asked,
+            self.shared_parts.version.as_str(),
+            &self.engine.figures(),
+            &counts,
+        )
     }
 
     /// The answer to a request of which this has come; none, where more of it is to come.
     fn answer(&self, octets: &[u8]) -> Result<Option<String>, AllocError> {
         match head_of(octets) {
-            Head::Asks(asked) => Ok(Some(self.page(asked)?)),
+            Head::Asks(method, asked) => Ok(Some(self.page(method, asked)?)),
             Head::Part => Ok(None),
             Head::Bad => Ok(Some(bad_request(self.alloc)?)),
         }
@@ -203,6 +227,21 @@ impl<'a, R: Wait + Clock, E: Engine> Monitoring<'a, R, E> {
                 Ok(())
             }
         }
+    }
+
+    /// Answers monitors for a while, without waiting for one, and gives those that are still being answered to the next call.
+    pub fn serve_once(&self, listener: &TcpListener, monitors: &mut Monitors) -> io::Result<()> {
+        listener.set_nonblocking(true)?;
+        match listener.accept() {
+            Ok((stream, _)) => self.let_in(monitors, stream)?,
+            Err(error) => {
+                if !is_pause(error.kind()) {
+                    return Err(error);
+                }
+            }
+        }
+        self.go_on_with_all(monitors);
+        Ok(())
     }
 
     /// Answers monitors, until the door is closed.

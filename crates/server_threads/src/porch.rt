@@ -3,7 +3,7 @@
 //! reads.
 use crate::heading::{HEADING, Senders};
 use crate::reporter::Reporter;
-use crate::telling::tell_peer_went;
+use crate::telling::tell_unverified;
 use crossbeam_channel::{Receiver, RecvTimeoutError, Sender, TrySendError};
 use session_pool::{Door, Peer};
 use std::alloc::{AllocError, Global};
@@ -112,13 +112,15 @@ impl<'a, R: Wait + Clock> Porch<'a, R> {
         if stranger.is_waiting {
             self.door.sit(self.rt);
         }
-        tell_peer_went(self.rt, self.alloc, self.reporter, None, why);
+        let address = stranger.peer.address();
+        tell_unverified(self.rt, self.alloc, self.reporter, address, why);
     }
 
     /// Puts a stranger on the porch.
     fn put(&self, strangers: &mut Strangers<'a, R>, stranger: Stranger<'a, R>) {
+        let address = stranger.peer.address();
         if strangers.push_back(stranger).is_err() {
-            tell_peer_went(self.rt, self.alloc, self.reporter, None, "out of memory");
+            tell_unverified(self.rt, self.alloc, self.reporter, address, "out of memory");
         }
     }
 

@@ -6,8 +6,8 @@ use crate::links::{Forgetful, Links};
 use crate::progress::PeerProgress;
 use crate::reporter::Reporter;
 use crate::telling::{
-    tell_forgetful, tell_parts_lost, tell_peer_came, tell_peer_refused, tell_peer_twice,
-    tell_peer_went,
+    tell_forgetful, tell_parts_lost, tell_peer_connected, tell_peer_connected_again,
+    tell_peer_disconnected, tell_peer_refused, tell_unverified,
 };
 use crossbeam_channel::Receiver;
 use peer_link::{FrameEnd, read_head, read_more, read_rest};
@@ -17,6 +17,7 @@ use replica_greeting::{
 use session_pool::{Answering, Peer};
 use std::alloc::Global;
 use std::io::Read;
+use std::net::SocketAddr;
 use std::sync::Wait;
 use std::time::{Clock, Duration};
 use vr_short::{NOTE_REST, note_number};
@@ -66,7 +67,7 @@ fn heading_of(frame: &[u8]) -> Result<[u8; HEADING], &'static str> {
         [a, b, c, d, e, f, g, h, i, j, k, l, m] => {
             Ok([*a, *b, *c, *d, *e, *f, *g, *h, *i, *j, *k, *l, *m])
         }
-        _ => Err("E20"),
+        _ => Err("E20: it sent what no replica sends"),
     }
 }
 
@@ -78,7 +79,7 @@ impl<'a, R: Wait + Clock, E: Engine> PeerReaders<'a, R, E> {
         head: [u8; 4],
     ) -> Result<Vec<u8>, &'static str> {
         if rest(head).map_err(refusal_of)? < BEHIND_LENGTH {
-            return Err("E20");
+            return Err("E20: it sent what no replica sends");
         }
         read_rest(self.alloc, reader, head, BEHIND_LENGTH).map_err(reason_of)
     }
@@ -114,7 +115,7 @@ impl<'a, R: Wait + Clock, E: Engine> PeerReaders<'a, R, E> {
         read_more(reader, frame, NOTE_REST).map_err(reason_of)?;
         match frame.last_chunk::<8>() {
             Some(rest) => Ok(note_number(*rest)),
-            None => Err("E20"),
+            None => Err("E20: it sent what no replica sends"),
         }
     }
 
@@ -132,10 +133,11 @@ impl<'a, R: Wait + Clock, E: Engine> PeerReaders<'a, R, E> {
                 Some(sender) if u64::from(sender) == heard.peer => {
                     heard.noted = Some(self.number(reader, &mut frame)?);
                 }
-                Some(_) => return Err("E20"),
+                Some(_) => return Err("E20: it sent what no replica sends"),
                 None => {
                     let left = self.senders.rest_of(heading).map_err(refusal_of)?;
                     read_more(reader, &mut frame, left).map_err(reason_of)?;
+                    self.counters.receive_octets(heard.peer, frame.len());
                     return Ok(frame);
                 }
             }
@@ -148,7 +150,7 @@ impl<'a, R: Wait + Clock, E: Engine> PeerReaders<'a, R, E> {
         let mut frame = self.next_heading(reader)?;
         let heading = self.senders.greeting_of(heading_of(&frame)?)?;
         let Ok(behind) = u32::try_from(heading.behind) else {
-            return Err("E20");
+            return Err("E20: it sent what no replica sends");
         };
         read_more(reader, &mut frame, behind).map_err(reason_of)?;
         meet(&frame, self.senders.cluster, &self.terms).map_err(refusal_of)
@@ -209,23 +211,23 @@ impl<'a, R: Wait + Clock, E: Engine> PeerReaders<'a, R, E> {
         for _ in self.rt.forever() {
             match self.take_next(&mut heard, reader) {
                 Ok(sender) if sender == peer => {}
-                Ok(_) => return "E20",
+                Ok(_) => return "E20: it sent what no replica sends",
                 Err(reason) => return reason,
             }
         }
         "it ended"
     }
 
-    /// Hears a replica that greeted with the same terms, to the end of the connection.
-    fn hear_peer<S: Read + Answering>(&self, reader: &mut S, peer: u64) {
+    /// Hears a replica that greeted with the same terms from this address, to the end of the connection.
+    fn hear_peer<S: Read + Answering>(&self, reader: &mut S, peer: u64, address: SocketAddr) {
         if self.links.come(self.rt, peer) {
-            tell_peer_twice(self.rt, self.alloc, self.reporter, peer);
+            tell_peer_connected_again(self.rt, self.alloc, self.reporter, peer, address);
         } else {
-            tell_peer_came(self.rt, self.alloc, self.reporter, peer);
+            tell_peer_connected(self.rt, self.alloc, self.reporter, peer, address);
         }
         let reason = self.read_all(reader, peer);
         self.links.go(self.rt, peer);
-        tell_peer_went(self.rt, self.alloc, self.reporter, Some(peer), reason);
+        tell_peer_disconnected(self.rt, self.alloc, self.reporter, peer, address, reason);
     }
 
     /// Refuses a replica that has this term otherwise.
@@ -251,9 +253,15 @@ impl<'a, R: Wait + Clock, E: Engine> PeerReaders<'a, R, E> {
         }
     }
 
-    /// Hears a start of a replica that greeted with the same terms, to the end of the connection, unless it remembers less than its replica said. A replica of
+    /// Hears a start of a replica that greeted with the same terms from this address, to the end of the connection, unless it remembers less than its replica said. A replica of
     /// version 0.2.0 says nothing of its start.
-    fn hear_start<S: Read + Answering>(&self, reader: &mut S, peer: u64, claim: Option<Claim>) {
+    fn hear_start<S: Read + Answering>(
+        &self,
+        reader: &mut S,
+        peer: u64,
+        address: SocketAddr,
+        claim: Option<Claim>,
+    ) {
         self.links.note_version(self.rt, peer, claim.is_none());
         if let Some(claim) = claim {
             if let Some(forgetful) = self.links.greet(self.rt, peer, claim) {
@@ -261,22 +269,23 @@ impl<'a, R: Wait + Clock, E: Engine> PeerReaders<'a, R, E> {
                 return;
             }
         }
-        self.hear_peer(reader, peer);
+        self.hear_peer(reader, peer, address);
     }
 
     /// Hears one connection, to its end, and tells of it.
     fn hear(&self, stranger: Peer<'a, R>) {
+        let address = stranger.address();
         let Ok(mut reader) = stranger.seated(self.alloc) else {
-            tell_peer_went(self.rt, self.alloc, self.reporter, None, "out of memory");
+            tell_unverified(self.rt, self.alloc, self.reporter, address, "out of memory");
             return;
         };
         match self.greeting(&mut reader) {
             Ok(Met::Alike { sender, claim }) => {
                 reader.get_mut().trust();
-                self.hear_start(&mut reader, u64::from(sender), claim);
+                self.hear_start(&mut reader, u64::from(sender), address, claim);
             }
             Ok(Met::Other { sender, term }) => self.refuse(u64::from(sender), term),
-            Err(reason) => tell_peer_went(self.rt, self.alloc, self.reporter, None, reason),
+            Err(reason) => tell_unverified(self.rt, self.alloc, self.reporter, address, reason),
         }
     }
 

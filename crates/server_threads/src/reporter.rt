@@ -109,6 +109,17 @@ impl Reporter {
         self.changed.notify_one();
     }
 
+    /// How many lines were dropped in all.
+    pub fn dropped<R: Wait>(&self, rt: &R) -> u64 {
+        self.held.lock(rt).lines.dropped_in_all()
+    }
+
+    /// Writes what waits, as far as whoever reads takes it at once. It is for a time in which no thread writes what is said.
+    pub fn write_waiting<R: Wait, W: NoteWriter>(&self, rt: &R, writer: &mut W) {
+        let count = self.held.lock(rt).lines.len();
+        let _ = self.write_some(rt, writer, count);
+    }
+
     /// Nothing more is said that has to be written: whoever writes does so with what waits, and ends.
     pub fn stop<R: Wait>(&self, rt: &R) {
         self.held.lock(rt).is_stopping = true;

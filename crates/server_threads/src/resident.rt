@@ -2,10 +2,7 @@
 use std::fs::File;
 use std::os::unix::fs::FileExt;
 
-/// The file that tells what the system knows of the process.
-pub const PROCESS_STATUS: &str = "/proc/self/status";
-
-/// How many octets of it are read: its lines on memory are among the first 2,000.
+/// How many octets of the file are read that tells what the system knows of the process: its lines on memory are among the first 2,000.
 const OCTETS: usize = 4_096;
 
 /// What begins the line of the memory that the process has, in kilobytes of 1,024 octets.
@@ -63,7 +60,7 @@ pub fn resident_octets(status: Option<&File>) -> Option<u64> {
 }
 
 /// The number that a text is; none, where it begins with no digit.
-fn number_of(text: &[u8]) -> Option<u64> {
+pub fn number_of(text: &[u8]) -> Option<u64> {
     let first = text.first()?;
     let _ = with_digit(0, *first)?;
     Some(number_in(text))

@@ -2,7 +2,7 @@
 ghost use denote.Param.Send.{IsSend, IsSync};
 
 use crate::engine::Engine;
-use crate::fault::ServerError;
+use crate::fault::{Heard, ServerError};
 use crate::framing::MessageFrames;
 use crate::heading::Senders;
 use crate::logged::Logged;
@@ -10,11 +10,12 @@ use crate::monitoring::Monitoring;
 use crate::needed_threads::readers as readers_of;
 use crate::places::Place;
 use crate::porch::Porch;
+use crate::reaching::TellingDialer;
 use crate::receiving::PeerReaders;
 use crate::reporter::StandardError;
 use crate::session_events::Teller;
 use crate::shared_parts::{SharedParts, listen};
-use crate::telling::tell_room;
+use crate::telling::{tell_fault, tell_room};
 use crossbeam_channel::{Receiver, Sender, bounded};
 use peer_link::{SocketDialer, send_all};
 use replica_greeting::{Claim, Cluster};
@@ -67,8 +68,11 @@ where
         ) {
             let times = self.shared_parts.link_times;
             let limit = times.silence.min(Duration::from_millis(DIAL_LIMIT));
-            let mut dialer = SocketDialer::new(self.rt, place.peer_address, limit);
             let (rt, alloc, cluster) = (self.rt, self.alloc, self.cluster);
+            let address = place.peer_address;
+            let socket_dialer = SocketDialer::new(rt, address, limit);
+            let reporter = &self.shared_parts.reporter;
+            let mut dialer = TellingDialer::new(rt, alloc, reporter, to, address, socket_dialer);
             let mut frames = MessageFrames::new(
                 rt,
                 alloc,
@@ -272,10 +276,10 @@ where
 
     /// Listens to clients, and says where. Who stops the server afterwards knows it too.
     fn open_door(&self) -> Result<TcpListener, ServerError> {
-        let listener = listen(self.rt, self.shared_parts.client_address)?;
-        let Ok(address) = listener.local_addr() else {
-            return Err(ServerError::CannotListenAt(self.shared_parts.client_address));
-        };
+        let listener = listen(self.rt, Heard::Clients, self.shared_parts.client_address)?;
+        let address = listener
+            .local_addr()
+            .unwrap_or(self.shared_parts.client_address);
         *self.shared_parts.heard_at.lock(self.rt) = Some(address);
         match println!(self.rt; "listening {address}") {
             Ok(()) => Ok(listener),
@@ -283,14 +287,15 @@ where
         }
     }
 
-    /// A directory whose answers are counted, and of which updates and slow searches are logged.
-    fn logged<D>(&self, way: D) -> Logged<'a, R, D> {
+    /// A directory whose answers are counted, and of which updates and slow searches are logged; whether it is asked for updates alone.
+    fn logged<D>(&self, way: D, updates: bool) -> Logged<'a, R, D> {
         let shared_parts: &'a SharedParts = self.shared_parts;
         Logged::new(
             self.rt,
             &shared_parts.reporter,
             shared_parts.logs,
             &shared_parts.counters,
+            updates,
             way,
         )
     }
@@ -299,7 +304,7 @@ where
     fn logged_ways<D: Drop>(&self, ways: Vec<D>) -> Result<Vec<Logged<'a, R, D>>, AllocError> {
         let mut logged = Vec::with_capacity(self.alloc, ways.len())?;
         for way in ways {
-            logged.push(self.logged(way))?;
+            logged.push(self.logged(way, false))?;
         }
         Ok(logged)
     }
@@ -311,7 +316,7 @@ where
     ) -> Result<Vec<(usize, Logged<'a, R, U>)>, AllocError> {
         let mut logged = Vec::with_capacity(self.alloc, gates.len())?;
         for (thread, way) in gates {
-            logged.push((thread, self.logged(way)))?;
+            logged.push((thread, self.logged(way, true)))?;
         }
         Ok(logged)
     }
@@ -335,9 +340,11 @@ where
             counters: &self.shared_parts.counters,
             addresses: self.shared_parts.addresses.as_ref(),
         };
+        let sessions = self.room(sessions);
+        self.shared_parts.counters.set_session_limit(sessions);
         let terms = Terms {
             config: *config,
-            sessions: self.room(sessions),
+            sessions,
             seats: ways.len(),
             leaves: self.shared_parts.leaves.as_slice(),
             budget: &self.shared_parts.budget,
@@ -508,6 +515,9 @@ where
                 requires { IsSync R.row × IsSync E.row × IsSend D.row × IsSend U.row }
             {
                 let ended = self.run_beside_monitors(ways, gates, sessions, config);
+                if let Err(fault) = &ended {
+                    tell_fault(self.rt, self.alloc, &self.shared_parts.reporter, fault);
+                }
                 self.shared_parts.reporter.stop(self.rt);
                 ended
             },

@@ -5,11 +5,14 @@ use crate::engine::Engine;
 use crate::needed_threads::NeededThreads;
 use crate::reporter::Reporter;
 use crate::telling::{tell_begin, tell_end, tell_let_go, tell_refused, tell_session};
-use session_pool::{Away, SessionEnd, Tells};
+use session_pool::{Away, SessionEnd, Tells, Traffic};
 use std::alloc::{AllocError, Global};
 use std::net::SocketAddr;
 use std::sync::Wait;
 use std::sync::atomic::{AtomicU64, Ordering};
+
+/// The code of a bind that was accepted (RFC 4511 4.2.2).
+const SUCCESS: u8 = 0;
 
 /// Who is told of a server's sessions.
 #[derive(Drop)]
@@ -57,6 +60,7 @@ impl<'a, R: Wait, E: Engine> Tells for Teller<'a, R, E> {
     }
 
     fn let_go(&self, session: u64, why: Away) {
+        self.counters.evict();
         if why != Away::Full {
             self.sessions.fetch_sub(1, Ordering::SeqCst);
         }
@@ -65,8 +69,16 @@ impl<'a, R: Wait, E: Engine> Tells for Teller<'a, R, E> {
     }
 
     fn refused(&self, session: u64, name: Result<&str, AllocError>, code: u8) {
-        self.counters.refuse_bind();
+        self.counters.answer_bind(code);
         tell_refused(self.rt, self.alloc, self.reporter, session, name, code);
+    }
+
+    fn bound(&self) {
+        self.counters.answer_bind(SUCCESS);
+    }
+
+    fn passed(&self, traffic: Traffic) {
+        self.counters.pass(traffic);
     }
 
     fn left(&self) {

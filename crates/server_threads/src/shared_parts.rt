@@ -1,18 +1,19 @@
 //! What a server's threads share, made before any of them begins: the listener of replicas, doors, queues.
 use crate::addresses::Addresses;
 use crate::counters::Counters;
-use crate::fault::ServerError;
+use crate::fault::{Heard, ServerError, Unheard};
 use crate::links::Links;
 use crate::logs::Logs;
 use crate::needed_threads::NeededThreads;
 use crate::places::{Place, own};
+use crate::process_files::ProcessFiles;
 use crate::progress::PeerProgress;
 use crate::reporter::Reporter;
+use crate::start::StartProgress;
 use peer_link::{LinkTimes, Outbox};
 use replica_greeting::{Op, PeerMessage, Terms};
 use session_pool::{Budget, Door, HasDoor, Limits};
 use std::alloc::{AllocError, Global};
-use std::fs::File;
 use std::net::{Net, SocketAddr, TcpListener, TcpStream};
 use std::sync::Mutex;
 use std::sync::atomic::{AtomicBool, AtomicU64, Ordering};
@@ -50,17 +51,25 @@ fn leaves(alloc: Global, count: usize) -> Result<Vec<AtomicBool>, AllocError> {
     Ok(leaves)
 }
 
-/// A listener at this address.
+/// A listener at this address, at which they are heard.
 pub fn listen<R: Net<Listener = TcpListener, Stream = TcpStream>>(
     rt: &R,
+    who: Heard,
     address: SocketAddr,
 ) -> Result<TcpListener, ServerError> {
-    TcpListener::bind(rt, address).map_err(|_| ServerError::CannotListenAt(address))
+    match TcpListener::bind(rt, address) {
+        Ok(listener) => Ok(listener),
+        Err(error) => Err(ServerError::CannotListenAt(Unheard {
+            who,
+            address,
+            cause: error.kind(),
+        })),
+    }
 }
 
 /// How a server serves.
 #[derive(Clone, Copy)]
-pub struct Choices {
+pub struct Choices<'a> {
     pub limits: Limits,
     /// What all replicas must have alike.
     pub terms: Terms,
@@ -71,6 +80,8 @@ pub struct Choices {
     pub logs: Logs,
     /// How many octets of memory clients may take together.
     pub memory: u64,
+    /// The program's version, as monitors are told it.
+    pub version: &'a str,
     /// How often other replicas are asked whether they are there, and how long they may be silent then.
     pub link_times: LinkTimes,
 }
@@ -97,8 +108,12 @@ pub struct SharedParts {
     pub counters: Counters,
     /// How far other replicas are.
     pub progress: PeerProgress,
-    /// The file that tells how much memory the process has, where it can be read.
-    pub(crate) process_status: Option<File>,
+    /// What the system tells of the process.
+    pub(crate) process_files: ProcessFiles,
+    /// The program's version, as monitors are told it.
+    pub(crate) version: String,
+    /// How far the start is.
+    pub start: StartProgress,
     /// The addresses of clients, where sessions are logged.
     pub(crate) addresses: Option<Addresses>,
     pub(crate) links: Links,
@@ -150,7 +165,9 @@ impl Drop for SharedParts {
             logs: _,
             counters: _,
             progress: _,
-            process_status: _,
+            process_files: _,
+            version: _,
+            start: _,
             addresses: _,
             links: _,
             sender: _,
@@ -171,8 +188,8 @@ pub fn make_shared_parts<R: Net<Listener = TcpListener, Stream = TcpStream>>(
     alloc: Global,
     places: &[Place<'_>],
     index: u64,
-    choices: Choices,
-    process_status: Option<File>,
+    choices: Choices<'_>,
+    process_files: ProcessFiles,
 ) -> Result<SharedParts, ServerError> {
     let Choices {
         limits,
@@ -182,6 +199,7 @@ pub fn make_shared_parts<R: Net<Listener = TcpListener, Stream = TcpStream>>(
         logs,
         memory,
         link_times,
+        version,
     } = choices;
     let Some(place) = places.get(index as usize) else {
         return Err(ServerError::CannotListen);
@@ -196,12 +214,13 @@ pub fn make_shared_parts<R: Net<Listener = TcpListener, Stream = TcpStream>>(
     let leaves = leaves(alloc, updates)?;
     let counters = Counters::new(alloc, places.len())?;
     let progress = PeerProgress::new(alloc, places.len())?;
+    let version = String::from_str(alloc, version)?;
     // Clients are heard later; whether they can be is known from the start.
     let client_address = own(rt, place.ldap_address)?;
-    drop(listen(rt, client_address)?);
-    let peers = listen(rt, own(rt, place.peer_address)?)?;
+    drop(listen(rt, Heard::Clients, client_address)?);
+    let peers = listen(rt, Heard::Replicas, own(rt, place.peer_address)?)?;
     let monitors = match metrics {
-        Some(address) => Some(listen(rt, address)?),
+        Some(address) => Some(listen(rt, Heard::Monitors, address)?),
         None => None,
     };
     let addresses = match logs.connections {
@@ -223,7 +242,9 @@ pub fn make_shared_parts<R: Net<Listener = TcpListener, Stream = TcpStream>>(
         logs,
         counters,
         progress,
-        process_status,
+        process_files,
+        version,
+        start: StartProgress::new(alloc)?,
         addresses,
         links,
         sender,

@@ -1,23 +1,41 @@
 //! What a server says of its connections, a line an event.
+use crate::fault::ServerError;
 use crate::reporter::Reporter;
 use crate::showing::shown;
+use peer_link::Address;
 use replica_greeting::{Claim, Forgotten, Term, WireError};
 use session_pool::{Away, SessionEnd};
 use std::alloc::{AllocError, Global};
+use std::io::ErrorKind;
 use std::net::SocketAddr;
 use std::sync::Wait;
 
-/// A peer that was heard on a connection for the first time.
-pub fn tell_peer_came<R: Wait>(rt: &R, alloc: Global, reporter: &Reporter, sender: u64) {
-    reporter.say(rt, format!(in alloc; "replica {sender} came"));
+/// A peer was heard on its connection, from this address, for the first time.
+pub fn tell_peer_connected<R: Wait>(
+    rt: &R,
+    alloc: Global,
+    reporter: &Reporter,
+    sender: u64,
+    address: SocketAddr,
+) {
+    reporter.say(
+        rt,
+        format!(in alloc; "replica {sender} connected from {address}"),
+    );
 }
 
-/// A peer that is heard on a connection more while its last one is open.
-pub fn tell_peer_twice<R: Wait>(rt: &R, alloc: Global, reporter: &Reporter, sender: u64) {
+/// A peer is heard on another connection, from this address, while its last one is open.
+pub fn tell_peer_connected_again<R: Wait>(
+    rt: &R,
+    alloc: Global,
+    reporter: &Reporter,
+    sender: u64,
+    address: SocketAddr,
+) {
     reporter.say(
         rt,
         format!(in alloc;
-            "replica {sender} came again before its last connection went: if this is said often, two replicas have its --id"
+            "replica {sender} connected again from {address}, its last connection still open: if this is logged often, two replicas have its --id"
         ),
     );
 }
@@ -115,19 +133,33 @@ pub fn tell_refused_by<R: Wait>(
     reporter.say(rt, line);
 }
 
-/// A connection to a peer that ended.
-pub fn tell_peer_went<R: Wait>(
+/// A connection of a peer, from this address, ended.
+pub fn tell_peer_disconnected<R: Wait>(
     rt: &R,
     alloc: Global,
     reporter: &Reporter,
-    sender: Option<u64>,
+    sender: u64,
+    address: SocketAddr,
     why: &str,
 ) {
-    let line = match sender {
-        Some(sender) => format!(in alloc; "replica {sender} went: {why}"),
-        None => format!(in alloc; "a stranger went: {why}"),
-    };
-    reporter.say(rt, line);
+    reporter.say(
+        rt,
+        format!(in alloc; "replica {sender} at {address} disconnected: {why}"),
+    );
+}
+
+/// A connection that ended before it showed which replica's it is.
+pub fn tell_unverified<R: Wait>(
+    rt: &R,
+    alloc: Global,
+    reporter: &Reporter,
+    address: SocketAddr,
+    why: &str,
+) {
+    reporter.say(
+        rt,
+        format!(in alloc; "unverified peer {address} disconnected: {why}"),
+    );
 }
 
 /// Why a session ended, where it ended badly.
@@ -243,6 +275,58 @@ pub fn tell_room<R: Wait>(rt: &R, alloc: Global, reporter: &Reporter, sessions: 
         format!(in alloc;
             "room for {sessions} sessions: the system's limit of descriptors lets in no more"
         ),
+    );
+}
+
+/// The first line of a text.
+fn first_line(text: &str) -> &str {
+    match text.split_once('\n') {
+        Some((first, _)) => first,
+        None => text,
+    }
+}
+
+/// Why the server ends: the first line of what is said of it at the end, with the time.
+pub fn tell_fault<R: Wait>(rt: &R, alloc: Global, reporter: &Reporter, fault: &ServerError) {
+    let line = match format!(in alloc; "{fault}") {
+        Ok(text) => {
+            let first = first_line(&text);
+            format!(in alloc; "this replica ends: {first}")
+        }
+        Err(error) => Err(error),
+    };
+    reporter.say(rt, line);
+}
+
+/// A peer that can't be reached, and why, as the system says.
+pub fn tell_unreached<R: Wait>(
+    rt: &R,
+    alloc: Global,
+    reporter: &Reporter,
+    to: usize,
+    address: Address<'_>,
+    cause: Option<ErrorKind>,
+) {
+    let line = match cause {
+        Some(cause) => { format!(in alloc; "replica {to} can't be reached at {address}: {cause}") }
+        None => format!(in alloc;
+            "replica {to} can't be reached at {address}: its name isn't known"
+        ),
+    };
+    reporter.say(rt, line);
+}
+
+/// A peer that is reached again, or for the first time.
+pub fn tell_reached<R: Wait>(
+    rt: &R,
+    alloc: Global,
+    reporter: &Reporter,
+    to: usize,
+    address: Address<'_>,
+) {
+    reporter.say(
+        rt,
+        format!(in alloc; "replica {to} is reached at {address}"),
     );
 }
 

@@ -267,8 +267,9 @@ impl<'a, R: Wait + Clock, T: Tells> SessionPool<'a, R, T> {
         then
     }
 
-    /// Hands a session to where it belongs.
-    pub fn dismiss(&self, pooled: PooledSession, then: Then) {
+    /// Tells what has passed between a session and its client, and hands the session to where it belongs.
+    pub fn dismiss(&self, mut pooled: PooledSession, then: Then) {
+        self.teller.passed(pooled.take_traffic());
         match then {
             Then::Listens => {
                 let queue = pooled.queue();

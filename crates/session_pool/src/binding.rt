@@ -1,4 +1,4 @@
-//! Binds that are refused, so that they can be told. Who is bound is decided below; where it is written is above.
+//! Tells of binds that were answered.
 ghost use Rattle.std.specs.Prelude.{◌≡◌, ◌-◌, ◌<◌, length, Some, IfSome, IfNone, slice_get};
 ghost use Rattle.client_link.specs.session_handler.View.{config_view};
 ghost use Rattle.session_pool.specs.Attending.{talk, IsSame, Answers};
@@ -34,7 +34,7 @@ fn code_at_end(octets: &[u8]) -> Option<u8>
 }
 
 impl<'a, R: Wait + Clock, T: Tells> SessionPool<'a, R, T> {
-    /// Tells of a bind that was answered, where it is refused; whether it is.
+    /// Tells of a bind that was answered; whether it is refused.
     fn tell_bind(
         &self,
         pooled: &PooledSession,
@@ -42,10 +42,14 @@ impl<'a, R: Wait + Clock, T: Tells> SessionPool<'a, R, T> {
         name: Result<String, AllocError>,
     ) -> bool {
         let code = match step {
-            Step::Answered => code_at_end(pooled.conversation.unsent()).unwrap_or(0),
-            Step::Awaits | Step::Ends(_) => 0,
+            Step::Answered => code_at_end(pooled.conversation.unsent()),
+            Step::Awaits | Step::Ends(_) => None,
+        };
+        let Some(code) = code else {
+            return false;
         };
         if code == 0 {
+            self.teller.bound();
             return false;
         }
         match name {
@@ -55,7 +59,7 @@ impl<'a, R: Wait + Clock, T: Tells> SessionPool<'a, R, T> {
         true
     }
 
-    /// Answers the next message, and tells of it where it is a bind that is refused, which is counted.
+    /// Answers the next message, and tells of it where it is a bind. One that is refused is counted.
     pub fn answer_and_tell<D: Directory>(
         &self,
         pooled: &mut PooledSession,

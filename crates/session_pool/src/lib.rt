@@ -37,7 +37,7 @@
 //! 256 times at most (`SessionPool::attend`, `sit`). How long a client takes over one message is counted from its beginning (`PooledSession::hear`, `pause`). A place
 //! has one session at a time. Each lines up in the class of what it owes at that moment, and seats take the one whose turn it is (`Places`). What a
 //! session owes changes by `PooledSession::charge` alone. A client's end is told once (`Updaters`). That each session is served, and soon, is
-//! tested (`tests/cluster`, `tests/streams`, `tests/hostile`).
+//! tested (`tests/sessions`, `tests/streams`, `tests/hostile`).
 #![tactic(auto)]
 
 mod arriving;
@@ -70,4 +70,4 @@ pub use no_reads::NoReads;
 pub use pool::{SessionPool, Terms};
 pub use running::serve_sessions;
 pub use session_memory::{Budget, limit_of};
-pub use tells::{Away, Tells};
+pub use tells::{Away, Tells, Traffic};

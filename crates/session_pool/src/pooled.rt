@@ -9,6 +9,7 @@ ghost use Rattle.session_pool.specs.private.Attending.{HasHeard, began_while, be
 
 use crate::leaving::Dropped;
 use crate::place_state::Turn;
+use crate::tells::Traffic;
 use crate::updaters::is_past;
 use client_link::{Conversation, Due, SessionEnd, stretch};
 use session_memory::Holder;
@@ -47,6 +48,9 @@ pub struct PooledSession {
     /// How long its client has let the octets wait that are unsent, and how many it has taken meanwhile.
     waited: Duration,
     taken: u64,
+    /// How many octets were read of its client and written to it, that nobody was told of yet.
+    read: u64,
+    written: u64,
     /// Since when it waits inside of the message that stands next.
     began: Option<Instant>,
     /// How many octets of memory are posted of it, as what it holds.
@@ -138,6 +142,7 @@ fn hear_from<R: Read, M: MakesRoom>(
     conversation: &mut Conversation,
     buffer: &mut [u8],
     posted: &mut u64,
+    read: &mut u64,
     room: &M,
 ) -> Heard
     ensures { HasHeard (R.remaining reader.old) (R.remaining reader.new)
@@ -146,6 +151,7 @@ fn hear_from<R: Read, M: MakesRoom>(
     match reader.read(buffer) {
         Ok(0) => Heard::Ends(conversation.end_of_input()),
         Ok(count) => {
+            *read = read.saturating_add(count as u64);
             if !has_room(conversation, count, posted, room) {
                 return Heard::Ends(SessionEnd::NoMemory);
             }
@@ -255,6 +261,8 @@ impl PooledSession {
             since,
             waited: Duration::from_secs(0),
             taken: 0,
+            read: 0,
+            written: 0,
             began: None,
             posted: 0,
             refusals: 0,
@@ -294,6 +302,7 @@ impl PooledSession {
             &mut self.conversation,
             buffer,
             &mut self.posted,
+            &mut self.read,
             room,
         );
         self.began = began_while(self.conversation.due(), self.began);
@@ -406,6 +415,7 @@ impl PooledSession {
         }
         let count = send_to(&mut self.stream, &mut self.conversation)?;
         self.taken = self.taken.saturating_add(count as u64);
+        self.written = self.written.saturating_add(count as u64);
         Ok(())
     }
 
@@ -477,6 +487,23 @@ impl PooledSession {
                 }
             }
         }
+    }
+
+    /// What has passed between it and its client since this was asked last.
+    pub fn take_traffic(&mut self) -> Traffic
+        ensures same { IsSame self.old self.new }
+        ensures kept { talk self.new ≡ talk self.old }
+        ensures read { result.read ≡ self.old.read }
+        ensures written { result.written ≡ self.old.written }
+        ensures told { (self.new.read ≡ 0) × (self.new.written ≡ 0) }
+    {
+        let traffic = Traffic {
+            read: self.read,
+            written: self.written,
+        };
+        self.read = 0;
+        self.written = 0;
+        traffic
     }
 
     /// Whether a bind stands next that is to wait: several were refused, and it hasn't waited yet.

@@ -14,6 +14,15 @@ pub enum Away {
     NoDescriptor,
 }
 
+/// How many octets have passed between a session and its client.
+#[derive(Clone, Copy, Debug, PartialEq, Eq)]
+pub struct Traffic {
+    /// What was read of the client.
+    pub read: u64,
+    /// What was written to it.
+    pub written: u64,
+}
+
 /// Who is told of sessions.
 pub trait Tells {
     /// A thread has begun that the pool can't do without: one that takes connections, one that reads, and one that updates.
@@ -31,6 +40,12 @@ pub trait Tells {
     /// A bind of a session of this number was refused with this result code. Its name is empty where it named nobody, and an error where there was no
     /// memory to keep it.
     fn refused(&self, session: u64, name: Result<&str, AllocError>, code: u8);
+
+    /// A bind was accepted.
+    fn bound(&self);
+
+    /// This has passed between a session and its client, beside what was told of it before.
+    fn passed(&self, traffic: Traffic);
 
     /// The client of an update that waits is gone: whoever waits for it is to look again. It is called under a lock, and waits for nobody.
     fn left(&self);

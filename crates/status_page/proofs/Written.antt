@@ -2,11 +2,16 @@
 use Rattle.std.proofs.Common.{◌≡◌, ℕ, List, ◌++◌, Result, Some, IfOk, IfSome, ap, refl, ◌∙◌, append_assoc}
 use Rattle.std.proofs.lemmas.Result.{IfOk-weaker}
 use Rattle.status_page.specs.Samples.{figure}
+use Rattle.status_page.specs.declared.asking.Method.{Method}
 use Rattle.status_page.specs.Pages.{response}
 
 pub written_as : {E : Type 0} {S : Type 0} (octets : S → List ℕ) (r : Result S E) (xs ys : List ℕ) → xs ≡ ys →
     IfOk r (λ s. IfSome (Some xs) (λ bs. octets s ≡ bs)) → IfOk r (λ s. octets s ≡ ys)
 written_as octets r xs ys e h = IfOk-weaker r (λ s. octets s ≡ xs) (λ s. octets s ≡ ys) (λ s p. p ∙ e) h
+
+-- three parts, one after the other
+pub three : (a b c k l m : List ℕ) → a ≡ k → b ≡ l → c ≡ m → a ++ (b ++ c) ≡ k ++ l ++ m
+three a b c k l m p q r = rw (p, q, r) (simp append_assoc)
 
 -- four parts, one after the other
 pub four : (a b c d k l m n : List ℕ) → a ≡ k → b ≡ l → c ≡ m → d ≡ n → a ++ (b ++ (c ++ d)) ≡ k ++ l ++ m ++ n
@@ -28,8 +33,8 @@ pub two : (a b k l : List ℕ) → a ≡ k → b ≡ l → a ++ b ≡ k ++ l
 two a b k l p q = rw (p, q) refl
 
 -- a response with another text, that is the same octets
-pub response_of : {E : Type 0} {S : Type 0} (octets : S → List ℕ) (r : Result S E) (status shown text : List ℕ) → shown ≡ text →
-    IfOk r (λ s. octets s ≡ response status shown) → IfOk r (λ s. octets s ≡ response status text)
-response_of octets r status shown text e h =
-    IfOk-weaker r (λ s. octets s ≡ response status shown) (λ s. octets s ≡ response status text)
-    (λ s p. p ∙ ap (λ (x : List ℕ). response status x) e) h
+pub response_of : {E : Type 0} {S : Type 0} (octets : S → List ℕ) (r : Result S E) (how : Method) (status shown text : List ℕ) → shown ≡ text →
+    IfOk r (λ s. octets s ≡ response how status shown) → IfOk r (λ s. octets s ≡ response how status text)
+response_of octets r how status shown text e h =
+    IfOk-weaker r (λ s. octets s ≡ response how status shown) (λ s. octets s ≡ response how status text)
+    (λ s p. p ∙ ap (λ (x : List ℕ). response how status x) e) h

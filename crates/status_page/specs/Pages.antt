@@ -2,6 +2,10 @@
 use Rattle.std.specs.Prelude.{ℕ, List, [], ◌∷◌, ◌++◌, length, Bool, true, false, if◌then◌else◌, codes, decimal}
 use Rattle.status_page.specs.declared.asking.Page.{Page}
 use Rattle.status_page.specs.declared.asking.Page.TheVariants as page
+use Rattle.status_page.specs.declared.asking.Method.{Method}
+use Rattle.status_page.specs.declared.asking.Method.TheVariants as method
+use Rattle.status_page.specs.declared.figures.Start.{Start}
+use Rattle.status_page.specs.declared.figures.Start.TheVariants as start
 use Rattle.status_page.specs.declared.figures.Role.{Role}
 use Rattle.status_page.specs.declared.figures.Role.TheVariants.{Primary, Backup, Changing, Recovering}
 use Rattle.status_page.specs.declared.figures.Build.{Build}
@@ -10,7 +14,7 @@ use Rattle.status_page.specs.declared.figures.Trouble.{Trouble}
 use Rattle.status_page.specs.declared.figures.Trouble.TheVariants as trouble
 use Rattle.status_page.specs.declared.figures.Figures.{Figures}
 use Rattle.status_page.specs.declared.figures.Counts.{Counts}
-use Rattle.status_page.specs.Metrics.{answers_text, load_text, others_text}
+use Rattle.status_page.specs.Metrics.{counts_text}
 use Rattle.status_page.specs.Samples.{figure, sample}
 
 -- the word for a role
@@ -46,9 +50,10 @@ head status n =
     ++ line (codes "Connection: close")
     ++ line []
 
--- a response with its text
-abbrev pub response : List ℕ → List ℕ → List ℕ
-response status text = head status (length text) ++ text
+-- a response with its text; by HEAD the same without the text (RFC 9110 9.3.2)
+abbrev pub response : Method → List ℕ → List ℕ → List ℕ
+response method.Get status text = head status (length text) ++ text
+response method.Head status text = head status (length text)
 
 -- whether a replica has this role, as a number: 1 where it has, and 0 where not
 abbrev pub has : Role → Role → ℕ
@@ -67,15 +72,16 @@ abbrev pub role_samples : Role → List ℕ
 role_samples own =
     role_sample own Primary ++ role_sample own Backup ++ role_sample own Changing ++ role_sample own Recovering
 
--- one sample, whose label says whether the program's proofs were checked
-abbrev pub build_sample : Build → List ℕ
-build_sample b = sample (codes "dird_build_info{proved=\"" ++ proved_word b ++ codes "\"}") 1
+-- one sample, whose labels say the version, and whether the program's proofs were checked
+abbrev pub build_sample : List ℕ → Build → List ℕ
+build_sample version b =
+    sample (codes "dird_build_info{version=\"" ++ version ++ codes "\",proved=\"" ++ proved_word b ++ codes "\"}") 1
 
 -- how the program was built
-abbrev pub build_text : Build → List ℕ
-build_text b =
-    figure (codes "dird_build_info") (codes "How the program was built: whether its proofs were checked.") (codes "gauge")
-    (build_sample b)
+abbrev pub build_text : List ℕ → Build → List ℕ
+build_text version b =
+    figure (codes "dird_build_info") (codes "The program's version, and whether its proofs were checked.") (codes "gauge")
+    (build_sample version b)
 
 -- whether the replica is in touch with a majority, as far as it is the primary and needs one
 abbrev pub quorum : Trouble → ℕ
@@ -98,42 +104,65 @@ replica_text f =
     (sample (codes "dird_sessions") f.sessions)
 
 -- how the program was built, and whether the replica has a majority
-abbrev pub state_text : Figures → List ℕ
-state_text f =
-    build_text f.build
+abbrev pub state_text : List ℕ → Figures → List ℕ
+state_text version f =
+    build_text version f.build
     ++ figure (codes "dird_quorum") (codes "0 where the replica is the primary and hears from no majority, else 1.") (codes "gauge")
     (sample (codes "dird_quorum") (quorum f.trouble))
 
+-- how much a replica keeps
+abbrev pub sizes_text : Figures → List ℕ
+sizes_text f =
+    figure (codes "dird_entries") (codes "How many entries the directory has.") (codes "gauge")
+    (sample (codes "dird_entries") f.entries)
+    ++ figure (codes "dird_log_entries") (codes "How many entries the log has, committed or not.") (codes "gauge")
+    (sample (codes "dird_log_entries") f.log_length)
+
 -- all figures of a replica, each once
-abbrev pub metrics_text : Figures → Counts → List ℕ
-metrics_text f k = (state_text f ++ replica_text f) ++ answers_text k ++ load_text k ++ others_text k
+abbrev pub metrics_text : List ℕ → Figures → Counts → List ℕ
+metrics_text version f k = (state_text version f ++ replica_text f ++ sizes_text f) ++ counts_text k
 
 -- a response of a replica that doesn't serve
-abbrev pub unavailable : List ℕ → List ℕ
-unavailable text = response (codes "503 Service Unavailable") text
+abbrev pub unavailable : Method → List ℕ → List ℕ
+unavailable how text = response how (codes "503 Service Unavailable") text
 
--- whether the replica serves clients: its role, or what keeps it from serving
-abbrev pub ready_octets : Trouble → Role → List ℕ
-ready_octets trouble.None role =
-    response (if serves role then codes "200 OK" else codes "503 Service Unavailable") (role_word role ++ codes "\n")
-ready_octets trouble.Stuck role = unavailable (codes "stuck\n")
-ready_octets trouble.Hung role = unavailable (codes "stuck\n")
-ready_octets trouble.NoMajority role = unavailable (codes "no majority\n")
+-- how much of its journal a replica has gone over, of how much
+abbrev pub resuming_text : ℕ → ℕ → List ℕ → List ℕ
+resuming_text n whole what =
+    codes "resuming, " ++ decimal n ++ codes " of " ++ decimal whole ++ codes " " ++ what ++ codes "\n"
+
+-- whether the replica serves clients: not before its start is over, then by its role
+abbrev pub ready_since : Method → Start → Role → List ℕ
+ready_since how start.Over role =
+    response how (if serves role then codes "200 OK" else codes "503 Service Unavailable") (role_word role ++ codes "\n")
+ready_since how (start.Reading n whole) role = unavailable how (resuming_text n whole (codes "octets"))
+ready_since how (start.Resuming n whole) role = unavailable how (resuming_text n whole (codes "records"))
+
+-- the same, where nothing keeps it from serving; else what does
+abbrev pub ready_in : Method → Trouble → Start → Role → List ℕ
+ready_in how trouble.None start role = ready_since how start role
+ready_in how trouble.Stuck start role = unavailable how (codes "stuck\n")
+ready_in how trouble.Hung start role = unavailable how (codes "stuck\n")
+ready_in how trouble.NoMajority start role = unavailable how (codes "no majority\n")
+
+-- whether the replica serves clients, and why not
+abbrev pub ready_octets : Method → Figures → List ℕ
+ready_octets how f = ready_in how f.trouble f.start f.role
 
 -- whether the process lives: it does, unless one step has lasted so long that a supervisor had better end it
-abbrev pub live_octets : Trouble → List ℕ
-live_octets trouble.None = response (codes "200 OK") (codes "live\n")
-live_octets trouble.Stuck = response (codes "200 OK") (codes "live\n")
-live_octets trouble.Hung = unavailable (codes "stuck\n")
-live_octets trouble.NoMajority = response (codes "200 OK") (codes "live\n")
+abbrev pub live_octets : Method → Trouble → List ℕ
+live_octets how trouble.None = response how (codes "200 OK") (codes "live\n")
+live_octets how trouble.Stuck = response how (codes "200 OK") (codes "live\n")
+live_octets how trouble.Hung = unavailable how (codes "stuck\n")
+live_octets how trouble.NoMajority = response how (codes "200 OK") (codes "live\n")
 
 -- the response to a request for a page
-abbrev pub page_octets : Page → Figures → Counts → List ℕ
-page_octets page.Live f k = live_octets f.trouble
-page_octets page.Ready f k = ready_octets f.trouble f.role
-page_octets page.Metrics f k = response (codes "200 OK") (metrics_text f k)
-page_octets page.None f k = response (codes "404 Not Found") (codes "GET /live, /ready or /metrics\n")
+abbrev pub page_octets : Method → Page → List ℕ → Figures → Counts → List ℕ
+page_octets how page.Live version f k = live_octets how f.trouble
+page_octets how page.Ready version f k = ready_octets how f
+page_octets how page.Metrics version f k = response how (codes "200 OK") (metrics_text version f k)
+page_octets how page.None version f k = response how (codes "404 Not Found") (codes "GET /live, /ready or /metrics\n")
 
 -- the response to what is no request
 abbrev pub bad_request_octets : List ℕ
-bad_request_octets = response (codes "400 Bad Request") (codes "no request that is understood here\n")
+bad_request_octets = response method.Get (codes "400 Bad Request") (codes "no request that is understood here\n")

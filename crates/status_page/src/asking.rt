@@ -1,5 +1,5 @@
 //! Which page the head of a request asks for.
-ghost use Rattle.status_page.specs.Asking.{TellsHead, IsPage};
+ghost use Rattle.status_page.specs.Asking.{TellsHead, IsPage, IsMethod};
 
 use httparse::Status;
 use httparse::spans::{EMPTY_HEADER_SPAN, parse_request};
@@ -20,11 +20,20 @@ pub enum Page {
     None,
 }
 
+/// How a page is asked for.
+#[derive(Clone, Copy, Debug, PartialEq, Eq)]
+pub enum Method {
+    /// Its head alone is wanted (RFC 9110 9.3.2).
+    Head,
+    /// The page is wanted whole.
+    Get,
+}
+
 /// What the octets are that have come of a request.
 #[derive(Clone, Copy, Debug, PartialEq, Eq)]
 pub enum Head {
-    /// A whole head, which asks for this page.
-    Asks(Page),
+    /// A whole head, which asks for this page in this way.
+    Asks(Method, Page),
     /// No whole head yet.
     Part,
     /// No head that is understood here.
@@ -35,7 +44,7 @@ pub enum Head {
 fn page_of(method: &[u8], path: &[u8]) -> Page
     ensures { IsPage method.now path.now result }
 {
-    if method != b"GET".as_slice() {
+    if method != b"GET".as_slice() && method != b"HEAD".as_slice() {
         return Page::None;
     }
     if path == b"/live".as_slice() {
@@ -49,6 +58,17 @@ fn page_of(method: &[u8], path: &[u8]) -> Page
     }
 }
 
+/// How a method asks.
+fn method_of(method: &[u8]) -> Method
+    ensures { IsMethod method.now result }
+{
+    if method == b"HEAD".as_slice() {
+        Method::Head
+    } else {
+        Method::Get
+    }
+}
+
 /// What the octets are that have come of a request.
 pub fn head_of(octets: &[u8]) -> Head
     ensures { TellsHead octets.now result }
@@ -56,7 +76,8 @@ pub fn head_of(octets: &[u8]) -> Head
     let mut fields = [EMPTY_HEADER_SPAN; FIELDS];
     match parse_request(octets, &mut fields) {
         Ok(Status::Complete(head)) => {
-            Head::Asks(page_of(head.method.of(octets), head.path.of(octets)))
+            let method = head.method.of(octets);
+            Head::Asks(method_of(method), page_of(method, head.path.of(octets)))
         }
         Ok(Status::Partial) => Head::Part,
         Err(_) => Head::Bad,

@@ -1,4 +1,4 @@
-//! A replica's figures. Plain data; where they come from is not here.
+//! A replica's figures. Plain data.
 ghost use Rattle.std.specs.Prelude.{◌≡◌};
 
 /// What a replica does.
@@ -24,6 +24,17 @@ pub enum Trouble {
     NoMajority,
 }
 
+/// How far a start over a journal is.
+#[derive(Clone, Copy, Debug, PartialEq, Eq)]
+pub enum Start {
+    /// The node is opened, and has made all that its journal told.
+    Over,
+    /// So many octets of the journal were read, of so many.
+    Reading { octets: u64, whole: u64 },
+    /// So many records were made, of so many that the journal told.
+    Resuming { records: u64, whole: u64 },
+}
+
 /// How the program was built.
 #[derive(Clone, Copy, Debug, PartialEq, Eq)]
 pub enum Build {
@@ -39,9 +50,13 @@ pub struct Figures {
     pub build: Build,
     pub role: Role,
     pub trouble: Trouble,
+    pub start: Start,
     pub view_number: u64,
     /// The number of the last update that it has made.
     pub last_update: u64,
+    /// How many entries its directory has, and how many entries its log.
+    pub entries: u64,
+    pub log_length: u64,
     /// How many clients are connected.
     pub sessions: u64,
 }
@@ -54,7 +69,7 @@ pub struct Labelled {
     pub number: u64,
 }
 
-/// What clients take of the memory that they may take together, and what was refused to them.
+/// What clients take, and which of them were sent away.
 #[derive(Clone, Copy)]
 pub struct ClientCounts {
     /// How many octets of memory their sessions hold, and how many all may.
@@ -62,8 +77,131 @@ pub struct ClientCounts {
     pub memory_limit: u64,
     /// How many sessions were ended because of that.
     pub ended: u64,
-    /// How many binds were refused.
-    pub refused_binds: u64,
+    /// How many sessions there may be.
+    pub session_limit: u64,
+    /// How many sessions were ended, or not begun, since there was no room for them.
+    pub evicted: u64,
+    /// How many octets were read of clients, and written to them.
+    pub octets_read: u64,
+    pub octets_written: u64,
+}
+
+/// A bound of a histogram, in seconds.
+#[derive(Clone, Copy, Debug, PartialEq, Eq)]
+pub enum Bound {
+    Micros100,
+    Micros300,
+    Millis1,
+    Millis3,
+    Millis10,
+    Millis30,
+    Millis100,
+    Millis300,
+    Second1,
+    Seconds3,
+    Seconds10,
+    /// There is none.
+    Infinite,
+}
+
+/// How many of something took no longer than a bound.
+#[derive(Clone, Copy)]
+pub struct Bucket {
+    pub bound: Bound,
+    pub number: u64,
+}
+
+/// How long something took, each time.
+pub struct Times {
+    /// By bound, each once.
+    pub buckets: Vec<Bucket>,
+    /// How many microseconds all of them took together.
+    pub micros: u64,
+    pub count: u64,
+}
+
+// Not derived: see "What the gate takes" in docs/ARCHITECTURE.md.
+impl Drop for Times {
+    fn drop(self) {
+        let Times {
+            buckets: _,
+            micros: _,
+            count: _,
+        } = self;
+    }
+}
+
+/// How long requests took, and batches of events of the node.
+pub struct AllTimes {
+    pub searches: Times,
+    pub compares: Times,
+    pub updates: Times,
+    pub batches: Times,
+}
+
+// Not derived: see "What the gate takes" in docs/ARCHITECTURE.md.
+impl Drop for AllTimes {
+    fn drop(self) {
+        let AllTimes {
+            searches: _,
+            compares: _,
+            updates: _,
+            batches: _,
+        } = self;
+    }
+}
+
+/// What passes between this replica and each other one, by its index.
+pub struct PeerCounts {
+    /// How many messages were queued for it.
+    pub queued: Vec<Labelled>,
+    /// How many of these were taken from the queue to be sent.
+    pub sent: Vec<Labelled>,
+    /// The last log entry that it has acknowledged to this one, by its number.
+    pub acknowledged: Vec<Labelled>,
+    /// How many starts of it were refused, since their files are older than what it said.
+    pub refused: Vec<Labelled>,
+    /// Whether it is heard: 1 or 0.
+    pub connected: Vec<Labelled>,
+    /// When it was heard last, in seconds since 1970; 0 for never.
+    pub heard: Vec<Labelled>,
+    /// How many octets of frames were sent to it, and came from it.
+    pub octets_sent: Vec<Labelled>,
+    pub octets_received: Vec<Labelled>,
+}
+
+// Not derived: see "What the gate takes" in docs/ARCHITECTURE.md.
+impl Drop for PeerCounts {
+    fn drop(self) {
+        let PeerCounts {
+            queued: _,
+            sent: _,
+            acknowledged: _,
+            refused: _,
+            connected: _,
+            heard: _,
+            octets_sent: _,
+            octets_received: _,
+        } = self;
+    }
+}
+
+/// What the system tells of the process, and what the replica keeps; none, where the system doesn't tell.
+#[derive(Clone, Copy)]
+pub struct ProcessCounts {
+    /// How many octets of memory it has.
+    pub memory: Option<u64>,
+    /// How many hundredths of a second of processors it took.
+    pub processors: Option<u64>,
+    /// How many descriptors it has open, and may have.
+    pub descriptors: Option<u64>,
+    pub descriptor_limit: Option<u64>,
+    /// When it began, in seconds since 1970.
+    pub began: u64,
+    /// How many octets its journal's file has, where it keeps one.
+    pub journal: Option<u64>,
+    /// How many lines weren't written on standard error.
+    pub dropped_lines: u64,
 }
 
 /// What a replica has answered since its start, and what it does at a moment. A list has each label once.
@@ -74,8 +212,12 @@ pub struct Counts {
     pub compares: Vec<Labelled>,
     /// How many updates were answered, by result code.
     pub updates: Vec<Labelled>,
+    /// How many binds were answered, by result code.
+    pub binds: Vec<Labelled>,
     /// On how many entries searches evaluated their filters.
     pub evaluated: u64,
+    /// How many searches did so on more entries than isn't logged.
+    pub slow: u64,
     /// How many reads are being answered.
     pub reads: u64,
     /// How many threads answer reads.
@@ -84,17 +226,10 @@ pub struct Counts {
     pub updating: u64,
     /// How many threads wait for updates.
     pub update_threads: u64,
-    /// How many messages were queued for each other replica.
-    pub queued: Vec<Labelled>,
-    /// How many of these were taken from the queue to be sent.
-    pub sent: Vec<Labelled>,
-    /// The last log entry that each other replica has acknowledged to this one, by its number.
-    pub acknowledged: Vec<Labelled>,
-    /// How many starts of each other replica were refused, since their files are older than what it said.
-    pub refused: Vec<Labelled>,
-    /// How many octets of memory the process has, where the system tells it.
-    pub memory: Option<u64>,
+    pub peers: PeerCounts,
     pub clients: ClientCounts,
+    pub times: AllTimes,
+    pub process: ProcessCounts,
 }
 
 // Not derived: see "What the gate takes" in docs/ARCHITECTURE.md.
@@ -104,18 +239,62 @@ impl Drop for Counts {
             searches: _,
             compares: _,
             updates: _,
+            binds: _,
             evaluated: _,
+            slow: _,
             reads: _,
             read_threads: _,
             updating: _,
             update_threads: _,
-            queued: _,
-            sent: _,
-            acknowledged: _,
-            refused: _,
-            memory: _,
+            peers: _,
             clients: _,
+            times: _,
+            process: _,
         } = self;
+    }
+}
+
+impl Bound {
+    ghost use Rattle.status_page.specs.Samples.{bound_word, bound_holds};
+
+    /// The bound in seconds, as Prometheus writes it.
+    pub fn word(self) -> &'static str
+        ensures { result.now ≡ bound_word self }
+    {
+        match self {
+            Bound::Micros100 => "0.0001",
+            Bound::Micros300 => "0.0003",
+            Bound::Millis1 => "0.001",
+            Bound::Millis3 => "0.003",
+            Bound::Millis10 => "0.01",
+            Bound::Millis30 => "0.03",
+            Bound::Millis100 => "0.1",
+            Bound::Millis300 => "0.3",
+            Bound::Second1 => "1",
+            Bound::Seconds3 => "3",
+            Bound::Seconds10 => "10",
+            Bound::Infinite => "+Inf",
+        }
+    }
+
+    /// Whether so many microseconds are no more than the bound.
+    pub fn holds(self, micros: u64) -> bool
+        ensures { result ≡ bound_holds self micros }
+    {
+        match self {
+            Bound::Micros100 => micros <= 100,
+            Bound::Micros300 => micros <= 300,
+            Bound::Millis1 => micros <= 1_000,
+            Bound::Millis3 => micros <= 3_000,
+            Bound::Millis10 => micros <= 10_000,
+            Bound::Millis30 => micros <= 30_000,
+            Bound::Millis100 => micros <= 100_000,
+            Bound::Millis300 => micros <= 300_000,
+            Bound::Second1 => micros <= 1_000_000,
+            Bound::Seconds3 => micros <= 3_000_000,
+            Bound::Seconds10 => micros <= 10_000_000,
+            Bound::Infinite => true,
+        }
     }
 }
 

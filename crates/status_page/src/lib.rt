@@ -15,6 +15,9 @@ mod metrics;
 mod samples;
 mod writing;
 
-pub use asking::{Head, Page, head_of};
-pub use figures::{Build, ClientCounts, Counts, Figures, Labelled, Role, Trouble};
+pub use asking::{Head, Method, Page, head_of};
+pub use figures::{
+    AllTimes, Bound, Bucket, Build, ClientCounts, Counts, Figures, Labelled, PeerCounts,
+    ProcessCounts, Role, Start, Times, Trouble,
+};
 pub use writing::{bad_request, page};

@@ -1,9 +1,6 @@
 use Rattle.std.proofs.Common.{string_bytes}
-use Rattle.status_page.proofs.Written.{written_as, four}
+use Rattle.status_page.proofs.Written.{written_as, two}
 use Rattle.status_page.proofs.writing.metrics.Goals as goal
 
 pub returns : goal.returns
-returns c =
-    written_as string_bytes c.format.result _ _
-    (four _ _ _ _ _ _ _ _ c.in_ok-replica.ensures c.in_ok-answers.ensures c.in_ok-load.ensures c.in_ok-others.ensures)
-    c.format.ensures.ok
+returns c = written_as string_bytes c.format.result _ _ (two _ _ _ _ c.in_ok-replica.ensures c.in_ok-counted.ensures) c.format.ensures.ok

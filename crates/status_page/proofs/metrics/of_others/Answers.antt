@@ -1,0 +1,9 @@
+use Rattle.std.proofs.Common.{string_bytes}
+use Rattle.status_page.proofs.Written.{written_as, two}
+use Rattle.status_page.proofs.metrics.of_others.Goals as goal
+
+pub returns : goal.returns
+returns c =
+    written_as string_bytes c.format.result _ _
+    (two _ _ _ _ c.in_ok-messages.ensures c.in_ok-links.ensures)
+    c.format.ensures.ok
