@@ -313,15 +313,16 @@ def monitoring_names_what_replicas_show(host: Host) -> None:
     client.ask(ldap.compare(SUFFIX, "dc", "example"))
     client.close()
     page = samples_of(host, index)
-    shown = set(re.findall(r"(?m)^# TYPE (\w+)", page))
+    shown = {name for name, kind in re.findall(r"(?m)^# TYPE (\w+) (\w+)", page) for name in ([name] if kind != "histogram" else [f"{name}_bucket", f"{name}_sum", f"{name}_count"])}
     named = set(re.findall(r"\b(?:dird|process)_\w+", " ".join([*queries, *re.findall(r"(?m)^ +expr: (.*)", alerts), *re.findall(r"series: '(\w+)", series)])))
     assert named <= shown and len(named) > 15, (named - shown, shown)
-    assert len(re.findall(r"- alert: (\w+)", alerts)) == 5
-    labels = set(re.findall(r'[{,](\w+)="', page)) | {"job", "instance"}
+    assert len(re.findall(r"- alert: (\w+)", alerts)) == 7
+    labels = set(re.findall(r'[{,](\w+)="', page)) | {"job", "instance", "mountpoint"}
     assert set(re.findall(r'[{,] *(\w+)=~?"', " ".join([*queries, alerts]))) <= labels, labels
     if shutil.which("promtool") is None:
         print("left out: promtool is not installed")
         return
+    assert told_by("promtool", "check", "metrics", input=page) == "", page
     told_by("promtool", "check", "config", "prometheus.yml", cwd=MONITORING)
     told_by("promtool", "test", "rules", "alerts_test.yml", cwd=MONITORING)
     rules = os.path.join(host.root, "queries.yml")

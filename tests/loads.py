@@ -212,7 +212,7 @@ def tools_find_the_program(folder: str) -> None:
     tools, elsewhere = os.path.join(folder, "tools"), os.path.join(folder, "elsewhere")
     for name in (tools, elsewhere):
         os.makedirs(name)
-    for name in ("load", "backup", "transfer.py", os.path.join("..", "tests", "ldap_client.py")):
+    for name in ("load", "backup", os.path.join("..", "python", "transfer.py"), os.path.join("..", "python", "ldap_client.py")):
         source = os.path.join(TOP, "tools", name)
         with open(source, "rb") as file, open(os.path.join(tools, os.path.basename(name)), "wb") as copy:
             copy.write(file.read())
@@ -256,7 +256,7 @@ class Monitored:
 
     def __init__(self, ready: str, role: str, view: int, update: int):
         roles = "".join(f'dird_role{{role="{it}"}} {int(it == role)}\n' for it in ("primary", "backup", "changing", "recovering"))
-        pages = {"/ready": f"{ready}\n", "/metrics": f'# HELP x\n{roles}dird_view {view}\ndird_last_update {update}\ndird_sessions 4\ndird_build_info{{proved="yes"}} 1\n'}
+        pages = {"/ready": f"{ready}\n", "/metrics": f'# HELP x\n{roles}dird_view {view}\ndird_last_update {update}\ndird_sessions 4\ndird_build_info{{version="9.9",proved="yes"}} 1\n'}
 
         class Handler(http.server.BaseHTTPRequestHandler):
             def do_GET(self) -> None:
@@ -304,7 +304,7 @@ def a_status_is_that_of_a_majority(_folder: str) -> None:
                 assert line.startswith(f"{address}  connection refused"), line
             else:
                 role = it[1] if it[0] == it[1] else f"{it[1]} ({it[0]})"
-                assert re.split(r"  +", line) == [address, role, str(it[2]), str(it[3]), str(newest - it[3]), "4", "-", "yes"], line
+                assert re.split(r"  +", line) == [address, role, str(it[2]), str(it[3]), str(newest - it[3]), "4", "9.9", "yes"], line
         for replica in replicas:
             if replica:
                 replica.server.shutdown()

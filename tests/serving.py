@@ -1,14 +1,18 @@
-"""Tests of three running replicas: how their manager is asked, what each shows, and how a script of such tests is run. Clusters flow in, codes, names and a
-line a test flow out. What is tested stands in tests/cluster and tests/streams."""
+"""What tests of running replicas share: how their manager asks, what each replica shows, and how a script of such tests is run."""
 from __future__ import annotations
 
+import re
+import socket
+import statistics
 import tempfile
 import time
 import traceback
+import urllib.error
+import urllib.request
 from collections.abc import Callable
 
 import ldap_client as ldap
-from replicas import MANAGER, PASSWORD, SUFFIX, Cluster
+from replicas import MANAGER, PASSWORD, SUFFIX, Cluster, Replica
 
 HOST = "127.0.0.1"
 # How replicas of most tests wait for their primary, in milliseconds: for longer than a starved machine keeps one from its beats.
@@ -85,6 +89,75 @@ def begin(cluster: Cluster) -> int:
     number = add_at(client, SUFFIX, [("objectClass", ["domain"]), ("dc", ["example"])])
     client.unbind()
     return number
+
+
+def added_at_primary(cluster: Cluster, first: int, count: int) -> tuple[set[str], int]:
+    """So many entries, added one after the other: their names and the number of the last."""
+    client = manager(cluster, primary(cluster))
+    names, last = set(), 0
+    for number in range(first, first + count):
+        last = add_at(client, *item(number))
+        names.add(item(number)[0])
+    client.unbind()
+    return names, last
+
+
+def root_search() -> bytes:
+    return ldap.search("", 0, ldap.present("objectClass"))
+
+
+def asked(client: ldap.Client, what: str) -> float:
+    """A search of the root DSE is answered, after so many seconds."""
+    began = time.time()
+    code, _, _, _ = client.ask(root_search())
+    assert code == 0, f"{what}: {code}"
+    return time.time() - began
+
+
+def are_soon(waits: list[float], seconds: float, what: str) -> None:
+    """Most waits are short. A starved machine makes some of them long; who holds others up makes all of them long."""
+    middle = statistics.median(waits)
+    assert middle < seconds, f"{what}: mostly after {middle:.2f} s"
+
+
+def said(replica: Replica, form: str, seconds: float = PATIENCE) -> re.Match[str]:
+    """The first line of this form that a replica says, once it has."""
+    end = time.time() + seconds
+    while time.time() < end:
+        for line in list(replica.lines):
+            if found := re.fullmatch(form, line):
+                return found
+        time.sleep(0.02)
+    raise AssertionError(f"no line {form!r} in {replica.lines}")
+
+
+class MonitoredReplica(Replica):
+    """A replica that answers monitors."""
+
+    port = 0
+
+    def command(self, fresh: bool) -> list[str]:
+        command = super().command(fresh)
+        return [*command[:-3], "--metrics", f"{HOST}:{self.port}", *command[-3:]]
+
+    def page(self, path: str) -> tuple[int, str]:
+        """The status and the text of a page."""
+        try:
+            with urllib.request.urlopen(f"http://{HOST}:{self.port}{path}", timeout=PATIENCE) as answer:
+                return answer.status, answer.read().decode()
+        except urllib.error.HTTPError as error:
+            return error.code, error.read().decode()
+
+    def head(self, path: str) -> bytes:
+        """What it answers to HEAD."""
+        with socket.create_connection((HOST, self.port), PATIENCE) as asking:
+            asking.sendall(f"HEAD {path} HTTP/1.1\r\nHost: x\r\n\r\n".encode())
+            return b"".join(iter(lambda: asking.recv(65536), b""))
+
+    def figure(self, name: str) -> str:
+        """One of its figures."""
+        _, text = self.page("/metrics")
+        return next(line.rpartition(" ")[2] for line in text.splitlines() if line.startswith(f"{name} "))
 
 
 def raise_up(cluster: Cluster) -> None:

@@ -1,11 +1,15 @@
-//! A machine of three whole nodes: an update, the end of its primary, a view change without it, and its recovery; and events that name nothing that is there.
+//! Machines of three whole nodes: an update, the end of its primary, a view change without it, and its recovery; devices that fail inside a start or a step; reads; and
+//! events that name nothing that is there.
 use dir_machine::{
-    Became, Client, Cluster, Fate, Given, Indexes, LogEntry, Machine, MachineEvent, MachineReply,
-    Name, Place, Standing,
+    Became, Client, Cluster, CompareRequest, Fate, Fault, Given, Indexes, LogEntry, Machine,
+    MachineEvent, MachineReply, Name, Place, SearchRequest, Standing,
 };
+use filter_text::read_text;
+use ldap_msg::{AttributeValueAssertion, DerefAliases, Scope};
 use ldap_op::read_op;
 use schema_reader::built_in_schema;
 use std::alloc::{AllocError, Global};
+use std::process::Abort;
 use std::sync::Arc;
 use std::test::*;
 
@@ -27,6 +31,8 @@ const SEVEN: Client = Client {
 #[derive(Clone, Copy)]
 enum Step {
     Start(u64),
+    /// A start over a device that stops at this call, and what becomes then of what no sync has settled.
+    StartUntil(u64, usize, Fate),
     Crash(u64),
     /// Client 7's request of this number, with the update's octets.
     Request(u64, u64, &'static str),
@@ -37,6 +43,9 @@ enum Step {
     /// A beat and a suspicion at once.
     Both(u64),
     Ask(u64, u64),
+    /// A search at this replica of all below that entry's name, and a compare of that entry's `dc` with its own; after this many updates.
+    Search(u64, u64),
+    Compare(u64, u64),
     State(u64),
 }
 
@@ -93,10 +102,71 @@ const SCHEDULE: &[(Step, &str)] = &[
     (Step::Hear(1, 99, 0), "nothing"),
 ];
 
+/// Devices that stop. A first start calls its device 9 times, a later one as often, and each view that is stored is 6 calls more; the last of each six is the
+/// sync of the octet that makes the new pair the one that is taken.
+const STOPPED: &[(Step, &str)] = &[
+    // a first start that stops is made again
+    (Step::StartUntil(0, 5, Fate::Lost), "stopped E21: the device failed"),
+    (Step::State(0), "nothing"),
+    (Step::StartUntil(0, 9, Fate::Done), "stopped E21: the device failed"),
+    (Step::Start(0), "started 1"),
+    // 4: a step whose view was stored, and one whose view was not
+    (Step::StartUntil(1, 15, Fate::Done), "started 1"),
+    (Step::StartUntil(2, 15, Fate::Lost), "started 1"),
+    (Step::Suspect(1), "stopped E21: the device failed"),
+    (Step::Both(2), "stopped E21: the device failed"),
+    (Step::Hear(0, 6, 0), "nothing"),
+    (Step::State(1), "nothing"),
+    (Step::Start(1), "started 2"),
+    (Step::State(1), "recovering 1 0 0"),
+    (Step::Start(2), "started 2"),
+    (Step::State(2), "recovering 0 0 0"),
+    // 14: later starts that stop, with the former number of starts left and with the next one
+    (Step::Crash(1), "crashed"),
+    (Step::StartUntil(1, 9, Fate::Lost), "stopped E21: the device failed"),
+    (Step::StartUntil(1, 9, Fate::Done), "stopped E21: the device failed"),
+    (Step::StartUntil(1, 1, Fate::Filled(165)), "stopped E21: the device failed"),
+    (Step::Start(1), "started 4"),
+    (Step::State(1), "recovering 1 0 0"),
+];
+
+/// Reads of what each has executed.
+const READS: &[(Step, &str)] = &[
+    (Step::Search(0, 0), "nothing"),
+    (Step::Start(0), "started 1"),
+    (Step::Start(1), "started 1"),
+    (Step::Start(2), "started 1"),
+    (Step::Search(0, 0), "found 0 32 0"),
+    // 5: an update, and its acknowledgement
+    (Step::Request(0, 1, ADD), "handled"),
+    (Step::Hear(1, 5, 0), "handled"),
+    (Step::Search(0, 1), "not yet 0"),
+    (Step::Hear(0, 6, 0), "handled"),
+    (Step::Search(0, 1), "found 1 0 1"),
+    (Step::Compare(0, 1), "compared 1 6"),
+    (Step::Compare(0, 2), "not yet 1"),
+    (Step::Search(1, 0), "found 0 32 0"),
+    (Step::Compare(1, 0), "compared 0 32"),
+    (Step::Search(3, 0), "nothing"),
+    (Step::Crash(0), "crashed"),
+    (Step::Compare(0, 0), "nothing"),
+    (Step::Start(0), "started 2"),
+    (Step::Search(0, 1), "not yet 0"),
+];
+
 /// An event of a machine.
 fn event_of(alloc: Global, step: Step) -> Result<MachineEvent, Fail> {
     Ok(match step {
-        Step::Start(replica) => MachineEvent::Start { replica },
+        Step::Start(replica) => MachineEvent::Start {
+            replica,
+            fault: Fault::None,
+            fate: Fate::Lost,
+        },
+        Step::StartUntil(replica, call, fate) => MachineEvent::Start {
+            replica,
+            fault: Fault::StopAt(call),
+            fate,
+        },
         Step::Crash(replica) => MachineEvent::Crash {
             replica,
             fate: Fate::Lost,
@@ -140,7 +210,42 @@ fn event_of(alloc: Global, step: Step) -> Result<MachineEvent, Fail> {
             client: SEVEN,
             number,
         },
+        Step::Search(replica, named) => MachineEvent::Search {
+            replica,
+            named,
+            request: search_of(alloc)?,
+        },
+        Step::Compare(replica, named) => MachineEvent::Compare {
+            replica,
+            named,
+            request: compare_of(alloc)?,
+        },
         Step::State(replica) => MachineEvent::State { replica },
+    })
+}
+
+/// A search of all below `dc=example,dc=com`.
+fn search_of(alloc: Global) -> Result<SearchRequest, Fail> {
+    Ok(SearchRequest {
+        base: String::from_str(alloc, "dc=example,dc=com")?,
+        scope: Scope::WholeSubtree,
+        deref_aliases: DerefAliases::NeverDerefAliases,
+        size_limit: 0,
+        time_limit: 0,
+        types_only: false,
+        filter: read_text(alloc, "(objectClass=*)")?,
+        attributes: Vec::new(alloc),
+    })
+}
+
+/// Whether `dc=example,dc=com` has the `dc` of its name.
+fn compare_of(alloc: Global) -> Result<CompareRequest, Fail> {
+    Ok(CompareRequest {
+        entry: String::from_str(alloc, "dc=example,dc=com")?,
+        ava: AttributeValueAssertion {
+            attribute_desc: String::from_str(alloc, "dc")?,
+            assertion_value: "example".as_bytes().to_vec(alloc)?,
+        },
     })
 }
 
@@ -199,6 +304,23 @@ fn words_of(alloc: Global, reply: &MachineReply) -> Result<String, Fail> {
             outputs: _,
         } => format!(in alloc; "started {restarts}")?,
         MachineReply::Outcome { replica: _, became } => words_of_became(alloc, became)?,
+        MachineReply::Found {
+            replica: _,
+            number,
+            answer,
+        } => {
+            let (code, entries) = (answer.code.number(), answer.entries.len());
+            format!(in alloc; "found {number} {code} {entries}")?
+        }
+        MachineReply::Compared {
+            replica: _,
+            number,
+            reply,
+        } => {
+            let code = reply.code.number();
+            format!(in alloc; "compared {number} {code}")?
+        }
+        MachineReply::NotYet { replica: _, number } => format!(in alloc; "not yet {number}")?,
         MachineReply::Standing {
             replica: _,
             view_number,
@@ -212,31 +334,47 @@ fn words_of(alloc: Global, reply: &MachineReply) -> Result<String, Fail> {
     })
 }
 
-/// Three nodes play the schedule.
-#[test]
-fn three_nodes(rt: HostRuntime) -> Result<(), Fail> {
-    let alloc = rt.alloc();
+/// Three nodes play a schedule, and what is shown of it is this.
+fn play(rt: &impl Abort, alloc: Global, steps: &[(Step, &str)]) -> Result<(), Fail> {
     let schema = Arc::new(alloc, built_in_schema(alloc)?)?;
     let suffix = Name::read(alloc, &schema, "dc=example,dc=com")?;
     let machine = Machine {
         schema,
         indexes: Indexes::none(alloc),
         suffix,
-        cluster: Cluster::new(9).expect(&rt, "the number of a cluster"),
+        cluster: Cluster::new(9).expect(rt, "the number of a cluster"),
         count: 3,
         room: 1000,
     };
     let mut schedule = Vec::new(alloc);
-    for (step, _) in SCHEDULE {
+    for (step, _) in steps {
         schedule.push(event_of(alloc, *step)?)?;
     }
     let shown = machine.run(alloc, schedule)?;
-    assert!(&rt; shown.len() == SCHEDULE.len());
-    for (index, (_, want)) in SCHEDULE.iter().enumerate() {
+    assert!(rt; shown.len() == steps.len());
+    for (index, (_, want)) in steps.iter().enumerate() {
         if let Some(reply) = shown.as_slice().get(index) {
             let said = words_of(alloc, reply)?;
-            assert!(&rt; said.as_str() == *want, "{index}: {said}");
+            assert!(rt; said.as_str() == *want, "{index}: {said}");
         }
     }
     Ok(())
+}
+
+/// Three nodes play the schedule.
+#[test]
+fn three_nodes(rt: HostRuntime) -> Result<(), Fail> {
+    play(&rt, rt.alloc(), SCHEDULE)
+}
+
+/// Three nodes whose devices stop inside calls.
+#[test]
+fn devices_stop(rt: HostRuntime) -> Result<(), Fail> {
+    play(&rt, rt.alloc(), STOPPED)
+}
+
+/// Three nodes that are asked searches and compares.
+#[test]
+fn nodes_are_read(rt: HostRuntime) -> Result<(), Fail> {
+    play(&rt, rt.alloc(), READS)
 }

@@ -6,7 +6,7 @@ use crate::threads::signal::Signal;
 use client_link::{Door, Limits, SessionEnd, close};
 use ldap_session::{Config, Name};
 use schema_reader::built_in_schema;
-use session_pool::{Away, Budget, SessionPool, Tells, Terms, serve_sessions};
+use session_pool::{Away, Budget, SessionPool, Tells, Terms, Traffic, serve_sessions};
 use std::alloc::{AllocError, Global};
 use std::io::{Read, Write};
 use std::net::{Net, SocketAddr, TcpListener, TcpStream};
@@ -81,6 +81,10 @@ impl<'a, R: Wait> Tells for Counts<'a, R> {
     }
 
     fn refused(&self, _session: u64, _name: Result<&str, AllocError>, _code: u8) {}
+
+    fn bound(&self) {}
+
+    fn passed(&self, _traffic: Traffic) {}
 
     fn left(&self) {
         self.left.give(self.rt);

@@ -9,9 +9,8 @@ use ldap_session::{Config, Name};
 use replica_greeting::{Claim, Terms, greeting};
 use schema_reader::built_in_schema;
 use server_threads::{
-    Address, Build, Choices, Engine, Figures, LinkTimes, Logs, Place, Role, Server, ServerError,
-    SharedParts, Trouble,
-    make_shared_parts,
+    Address, Build, Choices, Engine, Figures, LinkTimes, Logs, Place, ProcessFiles, Role, Server,
+    ServerError, SharedParts, Shows, Start, Trouble, make_shared_parts,
 };
 use std::alloc::Global;
 use std::io::{self, ErrorKind, Read, Write};
@@ -60,13 +59,14 @@ fn terms(schema: Option<&str>) -> Terms {
 }
 
 /// How the servers of these tests serve.
-fn choices() -> Choices {
+fn choices() -> Choices<'static> {
     Choices {
         limits: Limits::usual(),
         terms: terms(None),
         updates: 1,
         metrics: None,
         memory: 67_108_864,
+        version: "0",
         logs: Logs {
             connections: false,
             updates: false,
@@ -109,19 +109,28 @@ impl<'a, R: Wait + Clock> Engine for Ear<'a, R> {
 
     fn look_again(&self) {}
 
+    fn stop(&self) {
+        self.is_over.give(self.rt);
+    }
+}
+
+impl<'a, R: Wait + Clock> Shows for Ear<'a, R> {
     fn figures(&self) -> Figures {
         Figures {
             build: Build::Proved,
             trouble: Trouble::None,
             role: Role::Recovering,
+            start: Start::Over,
             view_number: 0,
             last_update: 0,
+            entries: 0,
+            log_length: 0,
             sessions: 0,
         }
     }
 
-    fn stop(&self) {
-        self.is_over.give(self.rt);
+    fn descriptors(&self) -> Option<u64> {
+        None
     }
 }
 
@@ -298,7 +307,7 @@ fn wait_among<
         + Sync,
 >(rt: &R, alloc: Global, cluster: Cluster, silent: usize) -> Result<(u128, bool), Fail> {
     let octets = greeting_and_commit(alloc, cluster, &terms(None))?;
-    let shared_parts = make_shared_parts(rt, alloc, &places(), 0, choices(), None)?;
+    let shared_parts = make_shared_parts(rt, alloc, &places(), 0, choices(), ProcessFiles::none())?;
     let at = shared_parts.peers.local_addr()?;
     let ear = new_ear(rt, alloc);
     let (ended, waited) = thread::join(
@@ -335,7 +344,7 @@ fn silent_strangers_keep_no_replica_out(rt: HostRuntime) -> Result<(), Fail> {
 #[test]
 fn a_silent_stranger_is_closed_after_two_seconds(rt: HostRuntime) -> Result<(), Fail> {
     let cluster = Cluster::new(9).expect(&rt, "9 is the number of a cluster");
-    let shared_parts = make_shared_parts(&rt, rt.alloc(), &places(), 0, choices(), None)?;
+    let shared_parts = make_shared_parts(&rt, rt.alloc(), &places(), 0, choices(), ProcessFiles::none())?;
     let at = shared_parts.peers.local_addr()?;
     let ear = new_ear(&rt, rt.alloc());
     let (ended, (none, begun)) = thread::join(
@@ -357,7 +366,7 @@ fn a_silent_stranger_is_closed_after_two_seconds(rt: HostRuntime) -> Result<(), 
 #[test]
 fn wrong_beginnings_are_refused_at_once(rt: HostRuntime) -> Result<(), Fail> {
     let cluster = Cluster::new(9).expect(&rt, "9 is the number of a cluster");
-    let shared_parts = make_shared_parts(&rt, rt.alloc(), &places(), 0, choices(), None)?;
+    let shared_parts = make_shared_parts(&rt, rt.alloc(), &places(), 0, choices(), ProcessFiles::none())?;
     let at = shared_parts.peers.local_addr()?;
     let ear = new_ear(&rt, rt.alloc());
     let (ended, longest) = thread::join(
@@ -375,7 +384,7 @@ fn wrong_beginnings_are_refused_at_once(rt: HostRuntime) -> Result<(), Fail> {
 #[test]
 fn a_replica_with_another_schema_is_not_heard(rt: HostRuntime) -> Result<(), Fail> {
     let cluster = Cluster::new(9).expect(&rt, "9 is the number of a cluster");
-    let shared_parts = make_shared_parts(&rt, rt.alloc(), &places(), 0, choices(), None)?;
+    let shared_parts = make_shared_parts(&rt, rt.alloc(), &places(), 0, choices(), ProcessFiles::none())?;
     let at = shared_parts.peers.local_addr()?;
     let ear = new_ear(&rt, rt.alloc());
     let octets = greeting_and_commit(rt.alloc(), cluster, &terms(Some("a schema")))?;

@@ -5,7 +5,7 @@ use ldap_op::Update;
 use peer_link::Framing;
 use replica_greeting::{Claim, Met, Term, Terms, meet};
 use server_threads::{
-    Address, Choices, Limits, LinkTimes, Logs, MessageFrames, Note, NoteWriter, Place, Reporter,
+    Address, Choices, Limits, LinkTimes, Logs, MessageFrames, Note, NoteWriter, Place, ProcessFiles, Reporter,
     ServerError, SharedParts, make_shared_parts,
 };
 use std::alloc::{AllocError, Global};
@@ -175,6 +175,7 @@ pub fn parts_under(rt: &HostRuntime, terms: Terms) -> Result<SharedParts, Server
         updates: 1,
         metrics: None,
         memory: 67_108_864,
+        version: "0",
         logs: Logs {
             connections: false,
             updates: false,
@@ -185,7 +186,7 @@ pub fn parts_under(rt: &HostRuntime, terms: Terms) -> Result<SharedParts, Server
             silence: Duration::from_millis(500),
         },
     };
-    make_shared_parts(rt, rt.alloc(), &[place, place, place], 0, choices, None)
+    make_shared_parts(rt, rt.alloc(), &[place, place, place], 0, choices, ProcessFiles::none())
 }
 
 #[test]

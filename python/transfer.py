@@ -12,8 +12,6 @@ import time
 from collections.abc import Callable
 
 FOLDER = os.path.dirname(os.path.realpath(__file__))
-# In a checkout the client is among the tests; installed, it is beside this file.
-sys.path.append(os.path.join(os.path.dirname(FOLDER), "tests"))
 import ldap_client as ldap
 from ldap_client import Closed
 
@@ -88,8 +86,9 @@ def program() -> str:
     for folder in (called, FOLDER, os.path.join(FOLDER, "..", "..", "bin")):
         if os.access(os.path.join(folder, "dird"), os.X_OK):
             return os.path.join(folder, "dird")
-    if os.path.exists(os.path.join(FOLDER, "program")):
-        run = subprocess.run([os.path.join(FOLDER, "program"), "dird"], check=False, stdout=subprocess.PIPE, text=True)
+    build = os.path.join(os.path.dirname(FOLDER), "tools", "program")
+    if os.path.exists(build):
+        run = subprocess.run([build, "dird"], check=False, stdout=subprocess.PIPE, text=True)
         if run.returncode == 0:
             return run.stdout.strip()
     found = shutil.which("dird")
