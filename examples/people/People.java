@@ -52,7 +52,7 @@ public class People {
         return count;
     }
 
-    /** A backup shows an update once it has heard that it is committed, up to one beat later: asks until it does. */
+    /** A backup shows an update some milliseconds after its answer: asks until it does. */
     static int countOnceShown(DirContext context, String name) throws Exception {
         int count = count(context, name);
         while (count == 0) {
