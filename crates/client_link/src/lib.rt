@@ -4,7 +4,7 @@
 //!
 //! Takes connections from a listener and numbers them (`accepting`). A `Door` counts who waits for a place and how many are being given up,
 //! and says whether the server closes. A `PieceReader` looks up from its socket every 200 ms. It fails where the door is closed, and by the
-//! `Limits` for silence; `Gauge` follows messages by their headings alone. Replicas' connections are read so (`Peer`).
+//! `Limits` for silence; `Gauge` follows messages by their headings alone. Replicas' connections are read so (`PeerConnection`).
 //!
 //! `serve_all` serves sessions of any stream, a thread for each directory, off a channel until that is closed and empty; a server of
 //! sockets uses `session_pool`. Tests show what rests on the channel and the system: that a number is its connection's, that each is served
@@ -40,6 +40,6 @@ pub use ldap_session::{
 };
 pub use limits::Limits;
 pub use patience::stretch;
-pub use peer::{Answering, Peer};
+pub use peer::{PeerConnection, PeerStream};
 pub use pieces::PieceReader;
 pub use serving::serve_all;

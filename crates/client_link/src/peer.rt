@@ -11,7 +11,7 @@ use std::sync::Wait;
 use std::time::{Clock, Duration};
 
 /// A stream whose other end asks whether it is heard.
-pub trait Answering {
+pub trait PeerStream {
     /// Tells the other end that it is heard.
     fn answer(&mut self) -> io::Result<()>;
 
@@ -22,7 +22,7 @@ pub trait Answering {
     fn expect_within(&mut self, silence: Duration);
 }
 
-impl<'a, R: Wait + Clock> Answering for BufReader<PieceReader<'a, R, FrameHeading>> {
+impl<'a, R: Wait + Clock> PeerStream for BufReader<PieceReader<'a, R, FrameHeading>> {
     fn answer(&mut self) -> io::Result<()> {
         self.get_mut().answer()
     }
@@ -37,36 +37,36 @@ impl<'a, R: Wait + Clock> Answering for BufReader<PieceReader<'a, R, FrameHeadin
 }
 
 /// A stream that another replica, or a stranger, has opened. It is a stranger's until it is trusted.
-pub struct Peer<'a, R> {
+pub struct PeerConnection<'a, R> {
     reader: PieceReader<'a, R, FrameHeading>,
     address: SocketAddr,
 }
 
 // Not derived: see "What the gate takes" in docs/ARCHITECTURE.md.
-impl<'a, R> Drop for Peer<'a, R> {
+impl<'a, R> Drop for PeerConnection<'a, R> {
     fn drop(self) {
-        let Peer {
+        let PeerConnection {
             reader: _,
             address: _,
         } = self;
     }
 }
 
-impl<'a, R: Wait + Clock> Arrives<'a, R, Door> for Peer<'a, R> {
+impl<'a, R: Wait + Clock> Arrives<'a, R, Door> for PeerConnection<'a, R> {
     fn arrive(
         rt: &'a R,
         _alloc: Global,
         door: &'a Door,
         socket: TcpStream,
         address: SocketAddr,
-    ) -> io::Result<Peer<'a, R>> {
+    ) -> io::Result<PeerConnection<'a, R>> {
         let mut reader = PieceReader::new(rt, door, socket)?;
         reader.doubt();
-        Ok(Peer { reader, address })
+        Ok(PeerConnection { reader, address })
     }
 }
 
-impl<'a, R: Wait + Clock> Peer<'a, R> {
+impl<'a, R: Wait + Clock> PeerConnection<'a, R> {
     /// The address of the other end.
     pub fn address(&self) -> SocketAddr {
         self.address
@@ -85,7 +85,7 @@ impl<'a, R: Wait + Clock> Peer<'a, R> {
 
     /// What frames are read from, once it has a thread. It is a stranger there, until it is trusted.
     pub fn seated(self, alloc: Global) -> io::Result<BufReader<PieceReader<'a, R, FrameHeading>>> {
-        let Peer { reader, address: _ } = self;
+        let PeerConnection { reader, address: _ } = self;
         BufReader::new(alloc, reader)
     }
 }

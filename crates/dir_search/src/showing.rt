@@ -16,7 +16,7 @@ use crate::values::Evaluated;
 use indexed_tree::{
     FoundEntry, IndexedTree, ResultCode, Schema, SearchAnswer, SearchRequest, Shows, Tree,
 };
-use search_plans::Running;
+use search_plans::PlanRun;
 use std::alloc::{AllocError, Global};
 use std::sync::Arc;
 
@@ -70,7 +70,7 @@ impl Showing<'_> {
     fn show_found(
         &self,
         tree: &Tree,
-        mut running: Running<'_, IndexedTree, Evaluated<'_>>,
+        mut running: PlanRun<'_, IndexedTree, Evaluated<'_>>,
     ) -> Result<SearchAnswer, AllocError>
         requires { AreHere tree.now.entries running.to_come }
         ensures { IfOk result (λ a. ShowsFound a
@@ -99,7 +99,7 @@ pub fn show_found(
     tree: &Tree,
     request: &SearchRequest,
     shows: &Arc<Shows>,
-    running: Running<'_, IndexedTree, Evaluated<'_>>,
+    running: PlanRun<'_, IndexedTree, Evaluated<'_>>,
 ) -> Result<SearchAnswer, AllocError>
     requires here { AreHere tree.now.entries running.to_come }
     requires shown_as { arc_value shows.now ≡ shows_of schema.now request.now }

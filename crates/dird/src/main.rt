@@ -8,7 +8,7 @@ mod serving;
 mod words;
 
 use command_line::BUILD;
-use dird_commands::{Ran, Status, SystemFiles, run};
+use dird_commands::{ExitStatus, RunOutcome, SystemFiles, run};
 use server::takes_a_line;
 use serving::serve_as_replica;
 use std::io::{self, BufReader, BufWriter, Eprint, Write};
@@ -51,8 +51,8 @@ fn main(rt: HostRuntime) -> io::Result<ExitCode> {
         &mut faults,
     );
     let status = match ran {
-        Ran::Ended(status) => status,
-        Ran::Serves(service) => serve_as_replica(&rt, alloc, service, &mut faults),
+        RunOutcome::Ended(status) => status,
+        RunOutcome::Serves(service) => serve_as_replica(&rt, alloc, service, &mut faults),
     };
     // The run has flushed it and told of it; what an early end left is handed on where it can be.
     let _ = output.flush();

@@ -1,10 +1,10 @@
 //! What the words of `serve` ask for becomes a running replica: the settings flow on to the server, and why it ended
 //! flows back.
 use command_line::{Address as Told, BUILD};
-use dird_commands::{Service, Status};
+use dird_commands::{ExitStatus, Service};
 use server::{
-    Address, Build, Cluster, Limits, Logs, NodeConfig, Options, Place, ServerError, Terms, Times,
-    serve,
+    Address, Build, Cluster, Limits, Logs, NodeConfig, Options, ReplicaAddresses, ServerError,
+    Terms, Times, serve,
 };
 use std::alloc::{AllocError, Global};
 use std::fs::{File, Files};
@@ -23,10 +23,13 @@ fn address_of(address: Told<'_>) -> Address<'_> {
 }
 
 /// Where the replicas are.
-fn places_of<'a>(alloc: Global, service: &Service<'a>) -> Result<Vec<Place<'a>>, AllocError> {
+fn places_of<'a>(
+    alloc: Global,
+    service: &Service<'a>,
+) -> Result<Vec<ReplicaAddresses<'a>>, AllocError> {
     let mut places = Vec::new(alloc);
     for peer in &service.words.peers {
-        places.push(Place {
+        places.push(ReplicaAddresses {
             peer_address: address_of(peer.peer_address),
             ldap_address: address_of(peer.ldap_address),
             uri: peer.uri,
@@ -44,7 +47,7 @@ fn text_in(text: &Option<String>) -> Option<&str> {
 }
 
 /// Where clients find a replica: where it hears them, and the URI that they are referred to, where that is another.
-fn client_line(alloc: Global, place: &Place<'_>) -> Result<String, AllocError> {
+fn client_line(alloc: Global, place: &ReplicaAddresses<'_>) -> Result<String, AllocError> {
     match place.uri {
         Some(uri) => format!(in alloc; "{} {uri}\n", place.ldap_address),
         None => format!(in alloc; "{}\n", place.ldap_address),
@@ -52,7 +55,7 @@ fn client_line(alloc: Global, place: &Place<'_>) -> Result<String, AllocError> {
 }
 
 /// Where clients find the replicas, a line each.
-fn clients_of(alloc: Global, places: &[Place<'_>]) -> Result<String, AllocError> {
+fn clients_of(alloc: Global, places: &[ReplicaAddresses<'_>]) -> Result<String, AllocError> {
     let mut clients = String::new(alloc);
     for place in places {
         let line = client_line(alloc, place)?;
@@ -65,7 +68,7 @@ fn clients_of(alloc: Global, places: &[Place<'_>]) -> Result<String, AllocError>
 fn terms_of(
     alloc: Global,
     service: &Service<'_>,
-    places: &[Place<'_>],
+    places: &[ReplicaAddresses<'_>],
 ) -> Result<Terms, AllocError> {
     let clients = clients_of(alloc, places)?;
     let schema = text_in(&service.schema_text);
@@ -109,7 +112,7 @@ pub fn serve_as_replica<R, N>(
     alloc: Global,
     service: Service<'_>,
     faults: &mut Vec<u8>,
-) -> Status
+) -> ExitStatus
 where
     R: Net<Listener = TcpListener, Stream = TcpStream>
         + Files<File = File, Dir = N>
@@ -123,13 +126,13 @@ where
 {
     let (store, journal) = (service.words.store, service.words.journal);
     let Err(fault) = serve_service(rt, alloc, service) else {
-        return Status::Done;
+        return ExitStatus::Done;
     };
     let _ = match text_of(alloc, &fault, store, journal) {
         Ok(text) => writeln!(faults, "{text}"),
         Err(_) => writeln!(faults, "out of memory"),
     };
-    Status::Refused
+    ExitStatus::Refused
 }
 
 /// Serves as a replica, until it is stopped.

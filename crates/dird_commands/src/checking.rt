@@ -9,7 +9,7 @@ ghost use Rattle.dird_commands.specs.private.Undone.{IsCheckCause, IsUnchecked};
 use crate::explaining::{check_refusal, record_told};
 use crate::opening::EmptyDirectory;
 use crate::refusal::Refusal;
-use crate::status::Status;
+use crate::status::ExitStatus;
 use crate::texts::write_out;
 use ldif_faults::RecordFaults;
 use local_directory::{Checked, RefusedRecord, Schema, check_text};
@@ -71,12 +71,12 @@ fn report(
 }
 
 /// Done where nothing is refused.
-fn verdict_on(refused: &[RefusedRecord]) -> Status
+fn verdict_on(refused: &[RefusedRecord]) -> ExitStatus
     ensures { result ≡ verdict refused.now }
 {
     match refused {
-        [] => Status::Done,
-        [..] => Status::Refused,
+        [] => ExitStatus::Done,
+        [..] => ExitStatus::Refused,
     }
 }
 
@@ -104,7 +104,7 @@ pub fn check_file<W: Write>(
     path: &str,
     text: &[u8],
     output: &mut W,
-) -> Result<Status, Refusal>
+) -> Result<ExitStatus, Refusal>
     ensures ok { IfOk result (λ s. IsVerdict (empty_under (arc_value empty.now.schema) empty.now.suffix) text.now s) }
     // Nothing is written but where the output can't be written; which refusal it is.
     ensures err { IfErr result (λ refusal. IsUnchecked refusal.fault text.now (W.contents output.old) (W.contents output.new)) }

@@ -36,6 +36,6 @@ pub use fault::Fault;
 pub use files::{ReadFiles, SystemFiles};
 pub use local_directory::{Indexes, Name, Schema};
 pub use refusal::Refusal;
-pub use running::{Ran, run};
+pub use running::{RunOutcome, run};
 pub use service::Service;
-pub use status::Status;
+pub use status::ExitStatus;

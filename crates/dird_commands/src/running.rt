@@ -9,7 +9,7 @@ use crate::opening::{empty_of, indexes_of, schema_of};
 use crate::reasons::write_refusal;
 use crate::refusal::Refusal;
 use crate::service::{Service, service_of};
-use crate::status::Status;
+use crate::status::ExitStatus;
 use crate::texts::{export_input, import_input, search_input};
 use command_line::{Checking, Error, Job, Opening, Question, read_words};
 use hex_session::SessionEnd;
@@ -19,9 +19,9 @@ use std::sync::Arc;
 
 /// What became of a run.
 #[derive(Drop)]
-pub enum Ran<'a> {
+pub enum RunOutcome<'a> {
     /// It has ended.
-    Ended(Status),
+    Ended(ExitStatus),
     /// It asks for a replica that serves this, until it is stopped. `listening ADDR` goes to the output once clients are heard.
     Serves(Service<'a>),
 }
@@ -34,45 +34,50 @@ pub fn run<'a, S: ReadFiles, R: BufRead, W: Write, F: Write>(
     input: &mut R,
     output: &mut W,
     faults: &mut F,
-) -> Ran<'a> {
+) -> RunOutcome<'a> {
     let job = match read_words(alloc, words) {
         Ok(job) => job,
         Err(error) => {
             if error.use_stderr() {
                 let _ = write!(faults, "{error}");
-                return Ran::Ended(Status::BadCommandLine);
+                return RunOutcome::Ended(ExitStatus::BadCommandLine);
             }
-            return Ran::Ended(tell(alloc, output, faults, &error));
+            return RunOutcome::Ended(tell(alloc, output, faults, &error));
         }
     };
     match perform_whole(system, alloc, job, input, output) {
         Ok(ran) => ran,
         Err(refusal) => {
             refusal.tell(faults);
-            Ran::Ended(Status::Refused)
+            RunOutcome::Ended(ExitStatus::Refused)
         }
     }
 }
 
 /// The exit status of a session that ended so.
-fn status_of(end: SessionEnd) -> Status {
+fn status_of(end: SessionEnd) -> ExitStatus {
     match end {
-        SessionEnd::EndOfInput | SessionEnd::Unbound => Status::Done,
+        SessionEnd::EndOfInput | SessionEnd::Unbound => ExitStatus::Done,
         SessionEnd::Truncated
         | SessionEnd::Disconnected
         | SessionEnd::ReadFailed
         | SessionEnd::WriteFailed
-        | SessionEnd::NoMemory => Status::Refused,
+        | SessionEnd::NoMemory => ExitStatus::Refused,
     }
 }
 
 /// Tells what the words ask to be told: how the program is used, or its version.
-fn tell<W: Write, F: Write>(alloc: Global, output: &mut W, faults: &mut F, text: &Error) -> Status {
+fn tell<W: Write, F: Write>(
+    alloc: Global,
+    output: &mut W,
+    faults: &mut F,
+    text: &Error,
+) -> ExitStatus {
     match write_text(output, text) {
-        Ok(()) => Status::Done,
+        Ok(()) => ExitStatus::Done,
         Err(error) => {
             write_refusal(alloc, error.kind()).tell(faults);
-            Status::Refused
+            ExitStatus::Refused
         }
     }
 }
@@ -90,7 +95,7 @@ fn perform_whole<'a, S: ReadFiles, R: BufRead, W: Write>(
     job: Job<'a>,
     input: &mut R,
     output: &mut W,
-) -> Result<Ran<'a>, Refusal> {
+) -> Result<RunOutcome<'a>, Refusal> {
     let ran = perform(system, alloc, job, input, output)?;
     match output.flush() {
         Ok(()) => Ok(ran),
@@ -105,7 +110,7 @@ fn perform<'a, S: ReadFiles, R: BufRead, W: Write>(
     job: Job<'a>,
     input: &mut R,
     output: &mut W,
-) -> Result<Ran<'a>, Refusal> {
+) -> Result<RunOutcome<'a>, Refusal> {
     match job {
         Job::Answer(opening) => answer(system, alloc, opening, input, output),
         Job::Search(question) => done(search(system, alloc, &question, input, output)),
@@ -113,14 +118,14 @@ fn perform<'a, S: ReadFiles, R: BufRead, W: Write>(
         Job::Import => done(import_input(alloc, input, output)),
         Job::Export => done(export_input(alloc, input, output)),
         Job::Lab(index) => done(lab(system, alloc, index, input, output)),
-        Job::Serve(words) => Ok(Ran::Serves(service_of(system, alloc, words)?)),
+        Job::Serve(words) => Ok(RunOutcome::Serves(service_of(system, alloc, words)?)),
     }
 }
 
 /// What became of a run whose job has no status of its own.
-fn done<'a>(told: Result<(), Refusal>) -> Result<Ran<'a>, Refusal> {
+fn done<'a>(told: Result<(), Refusal>) -> Result<RunOutcome<'a>, Refusal> {
     told?;
-    Ok(Ran::Ended(Status::Done))
+    Ok(RunOutcome::Ended(ExitStatus::Done))
 }
 
 /// One session, once the schema and the index choice are read.
@@ -130,7 +135,7 @@ fn answer<'a, S: ReadFiles, R: BufRead, W: Write>(
     opening: Opening<'_>,
     input: &mut R,
     output: &mut W,
-) -> Result<Ran<'a>, Refusal> {
+) -> Result<RunOutcome<'a>, Refusal> {
     let schema = schema_of(system, alloc, opening.schema)?;
     let indexes = indexes_of(system, alloc, &schema, opening.index)?;
     let options = Options {
@@ -139,7 +144,7 @@ fn answer<'a, S: ReadFiles, R: BufRead, W: Write>(
         sample: opening.sample,
     };
     match answer_session(alloc, options, input, output) {
-        Ok(end) => Ok(Ran::Ended(status_of(end))),
+        Ok(end) => Ok(RunOutcome::Ended(status_of(end))),
         Err(fault) => Err(opening_refusal(alloc, &schema, fault)),
     }
 }
@@ -165,11 +170,11 @@ fn check<'a, S: ReadFiles, W: Write>(
     alloc: Global,
     checking: &Checking<'_>,
     output: &mut W,
-) -> Result<Ran<'a>, Refusal> {
+) -> Result<RunOutcome<'a>, Refusal> {
     let empty = empty_of(system, alloc, &checking.ground)?;
     let text = system.read_octets(alloc, checking.file)?;
     let status = check_file(alloc, &empty, checking.file, &text, output)?;
-    Ok(Ran::Ended(status))
+    Ok(RunOutcome::Ended(status))
 }
 
 /// One script, once the index choice is read, under the built-in schema.

@@ -3,13 +3,13 @@ ghost use Rattle.std.specs.Prelude.{◌≡◌};
 
 /// How a run ended.
 #[derive(Clone, Copy)]
-pub enum Status {
+pub enum ExitStatus {
     Done,
     Refused,
     BadCommandLine,
 }
 
-impl Status {
+impl ExitStatus {
     ghost use Rattle.dird_commands.specs.Status.{exit_code};
 
     /// The exit status.
@@ -17,9 +17,9 @@ impl Status {
         ensures { result ≡ exit_code self }
     {
         match self {
-            Status::Done => 0,
-            Status::Refused => 1,
-            Status::BadCommandLine => 2,
+            ExitStatus::Done => 0,
+            ExitStatus::Refused => 1,
+            ExitStatus::BadCommandLine => 2,
         }
     }
 }

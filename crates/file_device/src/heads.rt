@@ -6,7 +6,7 @@ ghost use Rattle.std.specs.Prelude.{◌≡◌, ◌+◌, ◌≤◌, ◌++◌, len
 ghost use Rattle.file_device.specs.private.Heads.{beginning, body_of, earlier_head, head_of, magic, numeral, sum_of};
 ghost use Rattle.journal.specs.Frames.{frame};
 
-use crate::owner::{JournalOwner, Replica};
+use crate::owner::{JournalOwner, ReplicaId};
 use journal::put_string;
 use sha2::{Digest, Sha256};
 use std::alloc::{AllocError, Global};
@@ -53,7 +53,7 @@ pub fn sum_of(octets: &[u8]) -> [u8; 8]
 }
 
 /// Adds whose a journal is. Its only error is want of memory.
-fn put_replica(out: &mut Vec<u8>, replica: Replica) -> Result<(), AllocError>
+fn put_replica(out: &mut Vec<u8>, replica: ReplicaId) -> Result<(), AllocError>
     ensures { OnOk result (out.new.items ≡ out.old.items ++ (numeral replica.cluster ++ (numeral replica.index ++ numeral replica.count))) }
 {
     put_number(out, replica.cluster)?;
@@ -65,7 +65,7 @@ fn put_replica(out: &mut Vec<u8>, replica: Replica) -> Result<(), AllocError>
 fn body_of(
     alloc: Global,
     version: u64,
-    replica: Replica,
+    replica: ReplicaId,
     rest: &[u8],
 ) -> Result<Vec<u8>, AllocError>
     ensures { IfOk result (λ body. body.items ≡ body_of version replica rest.now) }
@@ -79,7 +79,12 @@ fn body_of(
 }
 
 /// The frame of a beginning. Its only error is want of memory.
-fn framed(alloc: Global, version: u64, replica: Replica, rest: &[u8]) -> Result<Vec<u8>, AllocError>
+fn framed(
+    alloc: Global,
+    version: u64,
+    replica: ReplicaId,
+    rest: &[u8],
+) -> Result<Vec<u8>, AllocError>
     ensures { IfOk result (λ out. out.items ≡ frame (beginning version replica rest.now)) }
 {
     let mut string = body_of(alloc, version, replica, rest)?;
@@ -127,10 +132,10 @@ fn digest_at(octets: &[u8], at: usize) -> [u8; 32]
 }
 
 /// The replica that a head or an earlier journal names, where these octets begin one.
-fn replica_in(octets: &[u8]) -> Replica
+fn replica_in(octets: &[u8]) -> ReplicaId
     requires { 43 ≤ length octets.now }
 {
-    Replica {
+    ReplicaId {
         cluster: number_at(octets, 19),
         index: number_at(octets, 27),
         count: number_at(octets, 35),
@@ -159,7 +164,7 @@ pub fn read_head(alloc: Global, front: &[u8]) -> Result<Option<JournalOwner>, Al
 }
 
 /// The replica whose journal of version 1 a file holds that begins so; none where it holds none.
-pub fn read_earlier(alloc: Global, front: &[u8]) -> Result<Option<Replica>, AllocError>
+pub fn read_earlier(alloc: Global, front: &[u8]) -> Result<Option<ReplicaId>, AllocError>
     ensures { IfOk result (λ read. IfSome read (λ replica. take 59 front.now ≡ earlier_head replica)) }
 {
     if front.len() < EARLIER_HEAD {

@@ -5,7 +5,7 @@ ghost use Rattle.file_device.specs.private.Judged.{IsJudged};
 
 use crate::fault::FileDeviceError;
 use crate::heads::{head_of, read_earlier, read_head};
-use crate::owner::{JournalOwner, Replica};
+use crate::owner::{JournalOwner, ReplicaId};
 use std::alloc::Global;
 
 /// What a file holds in which a replica may keep its journal.
@@ -43,7 +43,7 @@ pub fn is_torn(octets: &[u8], written: &[u8]) -> bool
 }
 
 /// Why a replica doesn't keep its journal where another one's is.
-fn check_replica(found: Replica, wanted: Replica) -> Result<(), FileDeviceError>
+fn check_replica(found: ReplicaId, wanted: ReplicaId) -> Result<(), FileDeviceError>
     ensures ok { OnOk result (found ≡ wanted) }
     ensures err { IfErr result (λ e. ((e ≡ FileDeviceError.ForeignCluster) × (found.cluster ≢ wanted.cluster))
         ⊎ ((e ≡ FileDeviceError.OtherReplica) × (found ≢ wanted))) }

@@ -46,6 +46,6 @@ pub use fault::FileDeviceError;
 pub use file::FileDevice;
 pub use journal_file::JournalFile;
 pub use journal_guard::JournalGuard;
-pub use owner::{JournalOwner, Replica};
+pub use owner::{JournalOwner, ReplicaId};
 pub use view_guard::ViewGuard;
 pub use view_store::{Cluster, Device, DeviceFailure, Pair, ViewStore, ViewStoreError};

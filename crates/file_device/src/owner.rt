@@ -2,7 +2,7 @@
 
 /// A replica of a cluster.
 #[derive(Clone, Copy, Debug, PartialEq, Eq)]
-pub struct Replica {
+pub struct ReplicaId {
     /// The number of its cluster.
     pub cluster: u64,
     /// Its index among the replicas.
@@ -14,7 +14,7 @@ pub struct Replica {
 /// Whose a journal is. Its records mean something only by the schema and the suffix that it was begun with.
 #[derive(Clone, Copy, Debug, PartialEq, Eq)]
 pub struct JournalOwner {
-    pub replica: Replica,
+    pub replica: ReplicaId,
     /// The digest of the schema, as replicas greet each other with it.
     pub schema: [u8; 32],
     /// The digest of the suffix.

@@ -36,6 +36,6 @@ pub use frames::{next_string, nonzeros, put_string};
 pub use journal::Journal;
 pub use laws::frames_are_read;
 pub use memory::MemoryDevice;
-pub use opening::{Found, open, read_strings};
+pub use opening::{DeviceContents, open, read_strings};
 pub use reader::StringReader;
 pub use record::Fault;

@@ -12,13 +12,13 @@ use std::alloc::{AllocError, Global};
 
 /// What a device holds: strings, and where their frames end.
 #[derive(Drop)]
-pub struct Found {
+pub struct DeviceContents {
     pub strings: Vec<Vec<u8>>,
     pub end: u64,
 }
 
 /// The strings at the front of these octets. Its only error is want of memory.
-pub fn read_strings(alloc: Global, octets: &[u8]) -> Result<Found, AllocError>
+pub fn read_strings(alloc: Global, octets: &[u8]) -> Result<DeviceContents, AllocError>
     ensures { IfOk result (λ found. IsRead (octets_of found.strings.items) found.end octets.now) }
 {
     let mut strings = Vec::new(alloc);
@@ -28,13 +28,13 @@ pub fn read_strings(alloc: Global, octets: &[u8]) -> Result<Found, AllocError>
         rest = behind;
     }
     let end = (octets.len() - rest.len()) as u64;
-    Ok(Found { strings, end })
+    Ok(DeviceContents { strings, end })
 }
 
 /// Opens a device that a crash may have left: gives all its strings at once, and clears all behind them. A crash at any moment of
 /// the call leaves the same strings. What takes memory comes before anything is written. `StringReader` gives the same strings one
 /// by one; tests compare.
-pub fn open<D: Device>(alloc: Global, device: &mut D) -> Result<Found, JournalError>
+pub fn open<D: Device>(alloc: Global, device: &mut D) -> Result<DeviceContents, JournalError>
     // After a restart, what is read is what is on the disk.
     requires { Only (D.seen device.old) (D.may_leave device.old) }
     ensures strings { IfOk result (λ found. octets_of found.strings.items ≡ recorded (D.seen device.old)) }

@@ -21,14 +21,14 @@ use Rattle.dir_node.specs.declared.Device as Device
 use Rattle.dir_node.specs.log_journal.journal.declared.device.Device as JournalDevice
 use Rattle.dir_seats.proofs.Crossing.{publisher_send, teller_field_sync}
 pub use Rattle.dir_seats.proofs.Crossing.{seat_send}
-use Rattle.node_gate.specs.declared.identity.Identity as Identity
+use Rattle.node_gate.specs.declared.identity.NodeIdentity as NodeIdentity
 use Rattle.node_gate.specs.contracts.published.Here as Here
 use Rattle.node_gate.specs.contracts.published.PublishedNode as PublishedNode
 use Rattle.node_gate.specs.contracts.beats.LastBeat as LastBeat
 use Rattle.std.specs.contracts.option.Option as Option
 use Rattle.node_gate.specs.contracts.held.Held as Held
 use Rattle.node_gate.specs.contracts.moved.Moved as Moved
-use Rattle.node_gate.specs.contracts.running.Running as Running
+use Rattle.node_gate.specs.contracts.running.SharedNode as SharedNode
 use Rattle.node_gate.specs.contracts.gate.NodeGate as NodeGate
 
 -- an option, of whatever it is
@@ -36,7 +36,7 @@ option_send : (T : RattleType) → IsSend T → IsSend (Option.the_row T)
 option_send T s =
     recorded_send (enum.Enum (enum_shape (Option.the_type T))) _ _ (Option.the_type T).to_one (enum_send (enum_shape (Option.the_type T)) (tt, ((s, tt), tt)))
 
-module _ (D J I : RattleType) (g : Device.Ghosts D.Denot) (h : JournalDevice.Ghosts J.Denot) (i : Identity.Ghosts I.Denot) where
+module _ (D J I : RattleType) (g : Device.Ghosts D.Denot) (h : JournalDevice.Ghosts J.Denot) (i : NodeIdentity.Ghosts I.Denot) where
   published_field_send : (a : NamedLft) (R : RattleType) → IsSync R → IsSend D → IsSend J → IsSend (PublishedNode.the_field a R D J g h).row
   published_field_send a R y s t =
       struct_send (Declared.shape (PublishedNode.the_type a R D J g h))
@@ -58,12 +58,12 @@ module _ (D J I : RattleType) (g : Device.Ghosts D.Denot) (h : JournalDevice.Gho
       recorded_send (Moved.the_field D J g h).row _ _ (Moved.the_type D J g h).to_one
       (struct_send (Declared.shape (Moved.the_type D J g h)) (search (crosses, sendable) depth 20, (search (crosses, sendable) depth 20, tt)))
 
-  pub running_sync : (a : NamedLft) (R : RattleType) → IsSync R → IsSend D → IsSend J → IsSync (Running.the_row a R D J I g h i)
+  pub running_sync : (a : NamedLft) (R : RattleType) → IsSync R → IsSend D → IsSend J → IsSync (SharedNode.the_row a R D J I g h i)
   running_sync a R y s t =
       let held : IsSend (Held.the_row a R D J I g h i) = held_send a R y s t in
       let kept : IsSend (Option.the_row (LastBeat.the_row I i)) = option_send (LastBeat.the_row I i) last_beat_send in
-      recorded_sync (Running.the_field a R D J I g h i).row _ _ (Running.the_type a R D J I g h i).to_one
-      (struct_sync (Declared.shape (Running.the_type a R D J I g h i)) (
+      recorded_sync (SharedNode.the_field a R D J I g h i).row _ _ (SharedNode.the_type a R D J I g h i).to_one
+      (struct_sync (Declared.shape (SharedNode.the_type a R D J I g h i)) (
         search (held, mutex.the_sync) depth 20,
         (
           standing.the_field_sync,
@@ -82,7 +82,7 @@ module _ (D J I : RattleType) (g : Device.Ghosts D.Denot) (h : JournalDevice.Gho
 
   pub gate_send : (a b : NamedLft) (R P : RattleType) → IsSync R → IsSend D → IsSend J → IsSend P → IsSend (NodeGate.the_row a b R D J I P g h i)
   gate_send a b R P y s t p =
-      let running : IsSync (Running.the_row b R D J I g h i) = running_sync b R y s t in
+      let running : IsSync (SharedNode.the_row b R D J I g h i) = running_sync b R y s t in
       let moved : IsSend (Option.the_row (Moved.the_row D J g h)) = option_send (Moved.the_row D J g h) moved_send in
       recorded_send (NodeGate.the_field a b R D J I P g h i).row _ _ (NodeGate.the_type a b R D J I P g h i).to_one
       (struct_send (Declared.shape (NodeGate.the_type a b R D J I P g h i)) (

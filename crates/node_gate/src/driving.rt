@@ -12,11 +12,11 @@ ghost use Rattle.vr_short.specs.Short.{taken_as};
 use crate::arrival::Arrival;
 use crate::beats::LastBeat;
 use crate::held::{Held, Pulse};
-use crate::identity::Identity;
-use crate::inbox::{Batch, Inbox};
+use crate::identity::NodeIdentity;
+use crate::inbox::{EventBatch, Inbox};
 use crate::moved::{Handed, Moved};
 use crate::peers::Peers;
-use crate::running::{Running, copies, send_outputs};
+use crate::running::{SharedNode, copies, send_outputs};
 use dir_node::{Device, Event, JournalDevice, Node, NodeError, Op, Outputs, PeerMessage, Send};
 use replica_clock::{Asked, Due};
 use std::alloc::{AllocError, Global};
@@ -94,7 +94,7 @@ fn send_each<P: Peers>(peers: &mut P, outputs: Vec<Given>) -> u64
 }
 
 /// Hands a batch of events to the node, and over what its steps send; copies of what the event at this place has sent.
-fn take_all<R: Wait, D: Device, J: JournalDevice, I: Identity, P: Peers>(
+fn take_all<R: Wait, D: Device, J: JournalDevice, I: NodeIdentity, P: Peers>(
     alloc: Global,
     held: &mut Held<'_, R, D, J, I>,
     peers: &mut P,
@@ -116,7 +116,7 @@ fn take_all<R: Wait, D: Device, J: JournalDevice, I: Identity, P: Peers>(
     Ok((Batched { left_out, outputs }, beat))
 }
 
-impl<'a, R: Wait, D: Device, J: JournalDevice, I: Identity> Running<'a, R, D, J, I> {
+impl<'a, R: Wait, D: Device, J: JournalDevice, I: NodeIdentity> SharedNode<'a, R, D, J, I> {
     /// How many records the journal told of the log, where the node is still to catch up with them.
     pub fn resumed(&self, rt: &R) -> Option<u64> {
         let held = self.held.lock(rt);
@@ -234,7 +234,7 @@ impl<'a, R: Wait, D: Device, J: JournalDevice, I: Identity> Running<'a, R, D, J,
     }
 
     /// All events that wait, once there are some; none where no thread drives the node, or not any more.
-    pub fn next_batch(&self, rt: &R, alloc: Global) -> Option<Batch> {
+    pub fn next_batch(&self, rt: &R, alloc: Global) -> Option<EventBatch> {
         self.inbox.as_ref()?.take(rt, alloc)
     }
 
@@ -246,7 +246,7 @@ impl<'a, R: Wait, D: Device, J: JournalDevice, I: Identity> Running<'a, R, D, J,
         rt: &R,
         alloc: Global,
         peers: &mut P,
-        batch: Batch,
+        batch: EventBatch,
         now: u64,
     ) -> (Result<Batched, NodeError>, Moved<D, J>)
         ensures own { AreOf I.own result.1.before.value result.1.after.value }
@@ -254,7 +254,7 @@ impl<'a, R: Wait, D: Device, J: JournalDevice, I: Identity> Running<'a, R, D, J,
         ensures left_out { IfOk result.0 (λ done. done.left_out ≡ left_out done.outputs.value.items) }
         ensures refused { IfErr result.0 (λ e. HasRefused batch.events.items e result.1.before.value result.1.after.value peers.old peers.new) }
     {
-        let Batch {
+        let EventBatch {
             events,
             heard,
             beat_at,

@@ -5,11 +5,11 @@ ghost use Rattle.dir_seats.specs.directory_api.View.{ended_view};
 ghost use Rattle.node_gate.specs.private.Shared.{GivesRequest, IsRefused, IsUpdated, request_of};
 
 use crate::ending::Request;
-use crate::identity::Identity;
+use crate::identity::NodeIdentity;
 use crate::moved::Moved;
 use crate::peers::Peers;
 use crate::published::Here;
-use crate::running::Running;
+use crate::running::SharedNode;
 use dir_node::{Client, Device, Event, JournalDevice, LogEntry, Node, NodeError, Op, Standing};
 use dir_seats::{Ended, Gate, Role, Told, Update};
 use std::alloc::Global;
@@ -19,9 +19,9 @@ use std::sync::Wait;
 use std::sync::atomic::AtomicBool;
 
 /// One session's way to a node for updates. The runtime is a part of it, since an update waits for its outcome.
-pub struct NodeGate<'a, 'r, R: Wait, D: Device, J: JournalDevice, I: Identity, P> {
+pub struct NodeGate<'a, 'r, R: Wait, D: Device, J: JournalDevice, I: NodeIdentity, P> {
     rt: &'a R,
-    running: &'a Running<'r, R, D, J, I>,
+    running: &'a SharedNode<'r, R, D, J, I>,
     peers: P,
     /// The URI of each replica, by index (RFC 4516).
     uris: &'a [String],
@@ -38,7 +38,7 @@ pub struct NodeGate<'a, 'r, R: Wait, D: Device, J: JournalDevice, I: Identity, P
 }
 
 // Not derived: see "What the gate takes" in docs/ARCHITECTURE.md.
-impl<'a, 'r, R: Wait, D: Device, J: JournalDevice, I: Identity, P: Drop> Drop
+impl<'a, 'r, R: Wait, D: Device, J: JournalDevice, I: NodeIdentity, P: Drop> Drop
     for NodeGate<'a, 'r, R, D, J, I, P> {
     fn drop(self) {
         let NodeGate {
@@ -56,10 +56,18 @@ impl<'a, 'r, R: Wait, D: Device, J: JournalDevice, I: Identity, P: Drop> Drop
     }
 }
 
-impl<'a, 'r, R: Wait, D: Device, J: JournalDevice, I: Identity, P> NodeGate<'a, 'r, R, D, J, I, P> {
+impl<'a, 'r, R: Wait, D: Device, J: JournalDevice, I: NodeIdentity, P> NodeGate<
+    'a,
+    'r,
+    R,
+    D,
+    J,
+    I,
+    P,
+> {
     pub fn new(
         rt: &'a R,
-        running: &'a Running<'r, R, D, J, I>,
+        running: &'a SharedNode<'r, R, D, J, I>,
         peers: P,
         uris: &'a [String],
         has_left: &'a AtomicBool,
@@ -102,7 +110,7 @@ fn ended_by(error: NodeError) -> Ended
     }
 }
 
-impl<'a, 'r, R: Wait, D: Device, J: JournalDevice, I: Identity, P: Peers> NodeGate<
+impl<'a, 'r, R: Wait, D: Device, J: JournalDevice, I: NodeIdentity, P: Peers> NodeGate<
     'a,
     'r,
     R,
@@ -148,8 +156,9 @@ impl<'a, 'r, R: Wait, D: Device, J: JournalDevice, I: Identity, P: Peers> NodeGa
     }
 }
 
-impl<'a, 'r, R: Wait, D: Device, J: JournalDevice, I: Identity, P: Peers> Gate<Option<Told<Here>>>
-    for NodeGate<'a, 'r, R, D, J, I, P> {
+impl<'a, 'r, R: Wait, D: Device, J: JournalDevice, I: NodeIdentity, P: Peers> Gate<
+    Option<Told<Here>>,
+> for NodeGate<'a, 'r, R, D, J, I, P> {
     ghost use Rattle.std.specs.Prelude.{◌≡◌, ◌+◌, min};
     ghost use Rattle.std.specs.Option.{option_map};
     ghost use Rattle.dir_seats.specs.directory_api.Counting.{updates_of, greatest_count};

@@ -9,7 +9,7 @@ ghost use Rattle.node_gate.specs.private.Shared.{standing_to_sessions};
 
 use crate::arrival::Arrival;
 use crate::ending::Request;
-use crate::identity::Identity;
+use crate::identity::NodeIdentity;
 use crate::inbox::Heard;
 use crate::published::PublishedNode;
 use crate::telling::{told_by_step, told_by_steps};
@@ -44,7 +44,7 @@ impl Pulse {
 }
 
 /// The node with this identity, what its seats see of it, its clock, and whether those who wait are to go on.
-pub struct Held<'a, R: Wait, D: Device, J: JournalDevice, I: Identity> {
+pub struct Held<'a, R: Wait, D: Device, J: JournalDevice, I: NodeIdentity> {
     published: PublishedNode<'a, R, D, J>,
     clock: ReplicaClock,
     pub is_stopping: bool,
@@ -57,7 +57,7 @@ pub struct Held<'a, R: Wait, D: Device, J: JournalDevice, I: Identity> {
 }
 
 // Not derived: see "What the gate takes" in docs/ARCHITECTURE.md.
-impl<'a, R: Wait, D: Device + Drop, J: JournalDevice + Drop, I: Identity> Drop
+impl<'a, R: Wait, D: Device + Drop, J: JournalDevice + Drop, I: NodeIdentity> Drop
     for Held<'a, R, D, J, I> {
     fn drop(self) {
         let Held {
@@ -80,7 +80,7 @@ pub fn status_of(standing: Standing) -> Status {
     }
 }
 
-impl<'a, R: Wait, D: Device, J: JournalDevice, I: Identity> Held<'a, R, D, J, I> {
+impl<'a, R: Wait, D: Device, J: JournalDevice, I: NodeIdentity> Held<'a, R, D, J, I> {
     /// The node with this identity, and its clock.
     pub fn new(published: PublishedNode<'a, R, D, J>, clock: ReplicaClock) -> Held<'a, R, D, J, I>
         requires { identity_of published.node ≡ I.own }

@@ -3,14 +3,14 @@ use std::marker::Brand;
 
 /// Which node threads share: which start of which replica, over which schema, root and index choice. Whoever has opened a node
 /// calls what runs its threads with `Brand`, and the proof of that call picks the identity of the node that was opened.
-pub trait Identity {
+pub trait NodeIdentity {
     ghost use Rattle.node_gate.specs.Identities.{NodeIdentity};
 
     // The identity of the node, at each moment.
     ghost own: { NodeIdentity };
 }
 
-impl Identity for Brand {
+impl NodeIdentity for Brand {
     ghost use Rattle.std.specs.Prelude.{[]};
 
     // A call that picks none has that of no node.

@@ -19,7 +19,7 @@ pub struct Heard {
 
 /// Events in the order in which they came.
 #[derive(Drop)]
-pub struct Batch {
+pub struct EventBatch {
     pub events: Vec<Event<Op>>,
     pub heard: Vec<Heard>,
     /// Which of the events is the clock's last beat, if one is.
@@ -28,9 +28,9 @@ pub struct Batch {
     pub last: u64,
 }
 
-impl Batch {
-    fn new(alloc: Global, last: u64) -> Batch {
-        Batch {
+impl EventBatch {
+    fn new(alloc: Global, last: u64) -> EventBatch {
+        EventBatch {
             events: Vec::new(alloc),
             heard: Vec::new(alloc),
             beat_at: None,
@@ -67,7 +67,7 @@ impl Batch {
 /// What waits.
 #[derive(Drop)]
 struct Waiting {
-    batch: Batch,
+    batch: EventBatch,
     is_stopping: bool,
 }
 
@@ -93,7 +93,7 @@ impl Inbox {
     pub fn new(alloc: Global) -> Inbox {
         Inbox {
             waiting: Mutex::new(Waiting {
-                batch: Batch::new(alloc, 0),
+                batch: EventBatch::new(alloc, 0),
                 is_stopping: false,
             }),
             came: Condvar::new(),
@@ -142,14 +142,14 @@ impl Inbox {
     }
 
     /// All events that wait, once there are some; none where nobody is to take events any more.
-    pub fn take<R: Wait>(&self, rt: &R, alloc: Global) -> Option<Batch> {
+    pub fn take<R: Wait>(&self, rt: &R, alloc: Global) -> Option<EventBatch> {
         let mut waiting = self.came.wait_while(rt, self.waiting.lock(rt), |waiting| {
             waiting.batch.events.is_empty() && !waiting.is_stopping
         });
         if waiting.is_stopping {
             return None;
         }
-        let next = Batch::new(alloc, waiting.batch.last);
+        let next = EventBatch::new(alloc, waiting.batch.last);
         let batch = mem::replace(&mut waiting.batch, next);
         drop(waiting);
         self.taken.notify_all();

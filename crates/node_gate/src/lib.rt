@@ -8,7 +8,7 @@
 //! word (`standing`), read without the lock. The thread of the clock rests on a lock of its own (`rest`). With a journal, events wait in an
 //! `inbox`, and one thread takes all of them as one batch (`driving`).
 //!
-//! A lock tells no state of what it holds, but the node's identity never changes. So a type parameter stands for it (`Identity`): it is
+//! A lock tells no state of what it holds, but the node's identity never changes. So a type parameter stands for it (`NodeIdentity`): it is
 //! picked in the proof of the call that shares the opened node.
 //!
 //! Proved: when the lock is free, what seats see begins what the node has executed. `handle`, `hear`, `give`, `handle_batch` and `tick` name the
@@ -45,12 +45,12 @@ pub use driving::Batched;
 pub use ending::Request;
 pub use gate::NodeGate;
 pub use held::{Pulse, Standing};
-pub use identity::Identity;
-pub use inbox::Batch;
+pub use identity::NodeIdentity;
+pub use inbox::EventBatch;
 pub use moved::{Acted, Handed, Moved};
 pub use opened::{Opened, OpenedNode};
 pub use opening::{OpenOptions, open};
 pub use peers::{Peers, send_all};
 pub use published::Here;
 pub use replica_clock::{Majority, Pace, Progress, Sign, Steps, Times};
-pub use running::{Running, Ticked, copies};
+pub use running::{SharedNode, Ticked, copies};

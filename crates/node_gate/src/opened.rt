@@ -2,10 +2,10 @@
 ghost use Rattle.std.specs.Prelude.{◌≡◌};
 ghost use Rattle.node_gate.specs.Identities.{identity_of};
 
-use crate::identity::Identity;
+use crate::identity::NodeIdentity;
 use crate::inbox::Inbox;
 use crate::published::{Here, PublishedNode};
-use crate::running::Running;
+use crate::running::SharedNode;
 use dir_node::{Device, JournalDevice, Node, Op, Outputs};
 use dir_seats::{Seat, Teller};
 use replica_clock::Times;
@@ -50,7 +50,7 @@ impl<'a, R: Wait, D: Device, J: JournalDevice> OpenedNode<'a, R, D, J> {
     }
 
     /// The node with this identity, for threads to share. Its clock begins at the moment 0.
-    pub fn share<I: Identity>(self) -> Running<'a, R, D, J, I>
+    pub fn share<I: NodeIdentity>(self) -> SharedNode<'a, R, D, J, I>
         requires { identity_of self ≡ I.own }
     {
         let OpenedNode {
@@ -59,7 +59,7 @@ impl<'a, R: Wait, D: Device, J: JournalDevice> OpenedNode<'a, R, D, J> {
             times,
             inbox,
         } = self;
-        Running::new(published, teller, times, inbox)
+        SharedNode::new(published, teller, times, inbox)
     }
 }
 

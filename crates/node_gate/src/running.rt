@@ -12,7 +12,7 @@ use crate::arrival::Arrival;
 use crate::beats::LastBeat;
 use crate::ending::{Request, ended_at};
 use crate::held::{Held, Pulse, status_of};
-use crate::identity::Identity;
+use crate::identity::NodeIdentity;
 use crate::inbox::Inbox;
 use crate::moved::{Acted, Moved};
 use crate::peers::{Peers, send_all};
@@ -38,7 +38,7 @@ struct Call {
 }
 
 /// The node with this identity under its lock, with a condition that is told of each change, and one for the thread that asks its clock.
-pub struct Running<'a, R: Wait, D: Device, J: JournalDevice, I: Identity> {
+pub struct SharedNode<'a, R: Wait, D: Device, J: JournalDevice, I: NodeIdentity> {
     pub(crate) held: Mutex<Held<'a, R, D, J, I>>,
     /// The standing to sessions after the last event, for who doesn't wait for the lock.
     pub(crate) standing: LastStanding,
@@ -53,10 +53,10 @@ pub struct Running<'a, R: Wait, D: Device, J: JournalDevice, I: Identity> {
 }
 
 // Not derived: see "What the gate takes" in docs/ARCHITECTURE.md.
-impl<'a, R: Wait, D: Device + Drop, J: JournalDevice + Drop, I: Identity> Drop
-    for Running<'a, R, D, J, I> {
+impl<'a, R: Wait, D: Device + Drop, J: JournalDevice + Drop, I: NodeIdentity> Drop
+    for SharedNode<'a, R, D, J, I> {
     fn drop(self) {
-        let Running {
+        let SharedNode {
             held: _,
             standing: _,
             teller: _,
@@ -111,7 +111,7 @@ pub(crate) fn send_outputs<P: Peers>(peers: &mut P, outputs: Outputs<Op>)
 }
 
 /// Hands an event to the node, and over what its step sends.
-fn take<R: Wait, D: Device, J: JournalDevice, I: Identity, P: Peers>(
+fn take<R: Wait, D: Device, J: JournalDevice, I: NodeIdentity, P: Peers>(
     alloc: Global,
     held: &mut Held<'_, R, D, J, I>,
     peers: &mut P,
@@ -126,7 +126,7 @@ fn take<R: Wait, D: Device, J: JournalDevice, I: Identity, P: Peers>(
 }
 
 /// Hands the message of another replica to the node, likewise.
-fn take_message<R: Wait, D: Device, J: JournalDevice, I: Identity, P: Peers>(
+fn take_message<R: Wait, D: Device, J: JournalDevice, I: NodeIdentity, P: Peers>(
     alloc: Global,
     held: &mut Held<'_, R, D, J, I>,
     peers: &mut P,
@@ -141,7 +141,7 @@ fn take_message<R: Wait, D: Device, J: JournalDevice, I: Identity, P: Peers>(
 }
 
 /// Lets the node make a beat, and copies what it sends, where there is memory for that.
-fn beat<R: Wait, D: Device, J: JournalDevice, I: Identity, P: Peers>(
+fn beat<R: Wait, D: Device, J: JournalDevice, I: NodeIdentity, P: Peers>(
     alloc: Global,
     held: &mut Held<'_, R, D, J, I>,
     peers: &mut P,
@@ -164,7 +164,7 @@ fn beat<R: Wait, D: Device, J: JournalDevice, I: Identity, P: Peers>(
 }
 
 /// Does what is due, or nothing where nothing is; copies of what a beat has sent. A node that stopped at it shows that in its pulse.
-fn act<R: Wait, D: Device, J: JournalDevice, I: Identity, P: Peers>(
+fn act<R: Wait, D: Device, J: JournalDevice, I: NodeIdentity, P: Peers>(
     alloc: Global,
     held: &mut Held<'_, R, D, J, I>,
     peers: &mut P,
@@ -180,14 +180,14 @@ fn act<R: Wait, D: Device, J: JournalDevice, I: Identity, P: Peers>(
     }
 }
 
-impl<'a, R: Wait, D: Device, J: JournalDevice, I: Identity> Running<'a, R, D, J, I> {
+impl<'a, R: Wait, D: Device, J: JournalDevice, I: NodeIdentity> SharedNode<'a, R, D, J, I> {
     /// The node with this identity for threads to share, and what tells what its publisher shows. Its clock begins at the moment 0.
     pub(crate) fn new(
         published: PublishedNode<'a, R, D, J>,
         teller: Teller<Here>,
         times: Times,
         inbox: Option<Inbox>,
-    ) -> Running<'a, R, D, J, I>
+    ) -> SharedNode<'a, R, D, J, I>
         requires { identity_of published.node ≡ I.own }
     {
         let node = published.node();
@@ -201,7 +201,7 @@ impl<'a, R: Wait, D: Device, J: JournalDevice, I: Identity> Running<'a, R, D, J,
             0,
         );
         let held = Held::new(published, clock);
-        Running {
+        SharedNode {
             standing: LastStanding::new(held.standing()),
             teller,
             held: Mutex::new(held),

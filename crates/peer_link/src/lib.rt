@@ -7,7 +7,7 @@
 //! answers nothing for too long, by the rules of `replica_clock` (`KeepAlive`, `Backoff`). Memory grows in pieces of
 //! 8,192 octets with what came, not with what was announced; the caller judges lengths between the calls.
 //!
-//! Proved: an item that comes is last, and only the oldest go for it, where there was no room (`Queue::push`). Items
+//! Proved: an item that comes is last, and only the oldest go for it, where there was no room (`MessageQueue::push`). Items
 //! leave in order (`pop`). A frame's head and rest are the next octets of the stream (`read_head`, `read_rest`).
 #![tactic(auto)]
 
@@ -25,7 +25,7 @@ pub use bytes::Bytes;
 pub use dialing::{Dial, Heard, REFUSAL, SocketDialer};
 pub use framing::Framing;
 pub use outbox::{Outbox, Waited};
-pub use queue::Queue;
+pub use queue::MessageQueue;
 pub use reading::{FrameEnd, read_head, read_more, read_rest};
 pub use sending::{LinkTimes, send_all};
 pub use weighted::Weighted;

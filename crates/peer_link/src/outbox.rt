@@ -1,7 +1,7 @@
 //! A queue that threads share: items come in from any thread, and one thread takes them.
 ghost use Rattle.std.specs.Prelude.{◌<◌};
 
-use crate::queue::Queue;
+use crate::queue::MessageQueue;
 use crate::weighted::Weighted;
 use std::alloc::{AllocError, Global};
 use std::sync::{Condvar, CondvarTimeouts, Mutex, Wait};
@@ -18,7 +18,7 @@ pub enum Waited<T> {
 
 /// What is under the lock.
 struct Held<T> {
-    queue: Queue<T>,
+    queue: MessageQueue<T>,
     is_stopping: bool,
 }
 
@@ -68,7 +68,7 @@ impl<T> Outbox<T> {
     ) -> Result<Outbox<T>, AllocError>
         requires { 0 < most_items }
     {
-        let queue = Queue::new(alloc, most_items, most_weight)?;
+        let queue = MessageQueue::new(alloc, most_items, most_weight)?;
         Ok(Outbox {
             held: Mutex::new(Held {
                 queue,

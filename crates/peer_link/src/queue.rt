@@ -9,7 +9,7 @@ use std::marker::Model;
 
 /// Items in the order in which they came, at most so many and of at most so great a weight in all: an item too many makes room by forgetting the
 /// oldest. The newest is always kept, however heavy it is.
-pub struct Queue<T> {
+pub struct MessageQueue<T> {
     items: VecDeque<Weighted<T>, Global>,
     most_items: usize,
     most_weight: usize,
@@ -17,9 +17,9 @@ pub struct Queue<T> {
 }
 
 // Not derived: see "What the gate takes" in docs/ARCHITECTURE.md.
-impl<T: Drop> Drop for Queue<T> {
+impl<T: Drop> Drop for MessageQueue<T> {
     fn drop(self) {
-        let Queue {
+        let MessageQueue {
             items: _,
             most_items: _,
             most_weight: _,
@@ -28,7 +28,7 @@ impl<T: Drop> Drop for Queue<T> {
     }
 }
 
-impl<T> Model for Queue<T> {
+impl<T> Model for MessageQueue<T> {
     ghost use Rattle.std.specs.Prelude.{◌≡◌, ◌<◌, ◌≤◌, length};
     ghost use Rattle.std.specs.VecDeque.{deque_capacity};
     ghost use Rattle.peer_link.specs.Waiting.{QueueValue, weight_of};
@@ -40,13 +40,17 @@ impl<T> Model for Queue<T> {
     ghost invariant = { λ q. (0 < q.most_items) × (q.most_items ≤ deque_capacity q.items) × (q.weight ≡ weight_of q.items.items) };
 }
 
-impl<T> Queue<T> {
+impl<T> MessageQueue<T> {
     /// An empty queue, with places for all the items that it may hold.
-    pub fn new(alloc: Global, most_items: usize, most_weight: usize) -> Result<Queue<T>, AllocError>
+    pub fn new(
+        alloc: Global,
+        most_items: usize,
+        most_weight: usize,
+    ) -> Result<MessageQueue<T>, AllocError>
         requires { 0 < most_items }
         ensures { IfOk result (λ q. q ≡ record { waiting = []; most_items = most_items; most_weight = most_weight }) }
     {
-        Ok(Queue {
+        Ok(MessageQueue {
             items: VecDeque::with_capacity(alloc, most_items)?,
             most_items,
             most_weight,
@@ -86,7 +90,7 @@ impl<T> Queue<T> {
     }
 }
 
-impl<T: Drop> Queue<T> {
+impl<T: Drop> MessageQueue<T> {
     /// The oldest is no more.
     fn forget_oldest(&mut self)
         requires { 0 < length self.old.waiting }

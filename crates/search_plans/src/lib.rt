@@ -20,7 +20,7 @@
 //!
 //! Proved: the plans bound where the filter is True, over any entries and scope, and are its true set where schema and index choice decide
 //! it. What an `and` may be lies in each part that they decide and holds its substrings' runs (`compile`). A run gives the numbers in scope
-//! whose value is True, in order, without memory. It asks for only the values that the plans leave open (`start`, `Running::next`, `tests`,
+//! whose value is True, in order, without memory. It asks for only the values that the plans leave open (`start`, `PlanRun::next`, `tests`,
 //! `run`; `contains`, `candidates`).
 #![tactic(auto)]
 
@@ -55,7 +55,7 @@ pub use ldap_eval::{
     BoundFilter, Filter, Key, Leaf, NamePairs, Test, TypeId, bind, tests_are_items, value,
 };
 pub use plan::{Plan, Sided};
-pub use running::{Ran, Running, run, start};
+pub use running::{PlanRun, Ran, run, start};
 pub use scope::Scope;
 pub use stream::Stream;
 pub use values::Values;

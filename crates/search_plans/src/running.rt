@@ -17,7 +17,7 @@ use std::marker::Model;
 
 /// A run under way: the numbers that it still has to give, and how many values it has asked for.
 #[derive(Drop)]
-pub struct Running<'a, K: Kept, V: Values> {
+pub struct PlanRun<'a, K: Kept, V: Values> {
     // prover: contracts speak of the plans that the run was started with
     sided: &'a Sided,
     /// The same plans, resolved: their posting lists go forward with the candidates.
@@ -30,7 +30,7 @@ pub struct Running<'a, K: Kept, V: Values> {
     read: u64,
 }
 
-impl<'a, K: Kept, V: Values> Model for Running<'a, K, V> {
+impl<'a, K: Kept, V: Values> Model for PlanRun<'a, K, V> {
     ghost use Rattle.search_plans.specs.Sets.{is_in};
     ghost use Rattle.search_plans.specs.Runs.{Progress, progress_of};
     ghost use Rattle.search_plans.specs.private.Resolved.{is_in_resolved};
@@ -72,7 +72,7 @@ pub fn start<'a, K: Kept, V: Values + Drop>(
     kept: &'a K,
     scope: &'a Scope<'a>,
     values: V,
-) -> Result<Running<'a, K, V>, AllocError>
+) -> Result<PlanRun<'a, K, V>, AllocError>
     requires guides { AreGuides (K.lists kept.now) sided.now (V.value_at values) scope.now }
     requires room { V.looks values + length scope.now < 2 ^ 64 }
     ensures numbers { IfOk result (λ r. r.to_come ≡ true_set (V.value_at values) scope.now) }
@@ -87,7 +87,7 @@ pub fn start<'a, K: Kept, V: Values + Drop>(
     expect_heads(alloc, known.is_sure, &stream, &mut values);
     let sides = resolve_sided(alloc, sided, kept, known.is_sure)?;
     let read = read_lists(&sides.may);
-    Ok(Running {
+    Ok(PlanRun {
         sided,
         sides,
         criteria: Criteria {
@@ -102,7 +102,7 @@ pub fn start<'a, K: Kept, V: Values + Drop>(
     })
 }
 
-impl<'a, K: Kept, V: Values> Running<'a, K, V> {
+impl<'a, K: Kept, V: Values> PlanRun<'a, K, V> {
     /// The next number of the scope whose value is True, in order. It takes no memory.
     pub fn next(&mut self) -> Option<u64>
         ensures gives { MatchOption result ((self.old.to_come ≡ []) × (self.new.to_come ≡ []))
@@ -139,7 +139,7 @@ impl<'a, K: Kept, V: Values> Running<'a, K, V> {
     pub fn into_values(self) -> V
         ensures { V.looks result ≡ self.entry.looks }
     {
-        let Running {
+        let PlanRun {
             sided: _,
             sides: _,
             criteria: _,

@@ -11,9 +11,9 @@ use Rattle.file_device.proofs.Crossing as files
 use Rattle.file_device.specs.contracts.journal_calls.JournalFileDevice.TheImpl as JournalRule
 use Rattle.file_device.specs.contracts.journal_file.JournalFile as JournalFile
 use Rattle.node_gate.proofs.Crossing.{gate_send, running_sync}
-use Rattle.node_gate.specs.declared.identity.Identity as Identity
+use Rattle.node_gate.specs.declared.identity.NodeIdentity as NodeIdentity
 use Rattle.node_gate.specs.contracts.gate.NodeGate as NodeGate
-use Rattle.node_gate.specs.contracts.running.Running as Running
+use Rattle.node_gate.specs.contracts.running.SharedNode as SharedNode
 use Rattle.server.proofs.peer_queues.PeerQueuesAt.TheSendSync as peer_queues_at
 use Rattle.server.proofs.peer_queues.PeerQueues.TheSendSync as peer_queues_laws
 use Rattle.server.proofs.options.Times.TheSendSync as times
@@ -39,18 +39,18 @@ no_reads_send T = recorded_send (NoReads.the_field T).row _ _ (NoReads.the_type 
 global_sync : IsSync Global.the_field.row
 global_sync = search (crosses, sendable) depth 20
 
-module _ (I : RattleType) (i : Identity.Ghosts I.Denot) where
+module _ (I : RattleType) (i : NodeIdentity.Ghosts I.Denot) where
   pub way_send : (a b c : NamedLft) (R : RattleType) → IsSync R → IsSend (NodeGate.the_row a b R FileDevice.the_row JournalFile.the_row I (PeerQueuesAt.the_row c R) DeviceRule.ghosts JournalRule.ghosts i)
   way_send a b c R y =
       let peer_queues : IsSend (PeerQueuesAt.the_row c R) = search (y, peer_queues_at.the_send) depth 5 in
       gate_send FileDevice.the_row JournalFile.the_row I DeviceRule.ghosts JournalRule.ghosts i a b R _ y device_send journal_send peer_queues
 
-  pub shared_sync : (a : NamedLft) (R : RattleType) → IsSync R → IsSync (Running.the_row a R FileDevice.the_row JournalFile.the_row I DeviceRule.ghosts JournalRule.ghosts i)
+  pub shared_sync : (a : NamedLft) (R : RattleType) → IsSync R → IsSync (SharedNode.the_row a R FileDevice.the_row JournalFile.the_row I DeviceRule.ghosts JournalRule.ghosts i)
   shared_sync a R y = running_sync FileDevice.the_row JournalFile.the_row I DeviceRule.ghosts JournalRule.ghosts i a R y device_send journal_send
 
   pub clockwork_sync : (a b : NamedLft) (R : RattleType) → IsSync R → IsSync (TimedNode.the_row a b R I i)
   clockwork_sync a b R y =
-      let running : IsSync (Running.the_row b R FileDevice.the_row JournalFile.the_row I DeviceRule.ghosts JournalRule.ghosts i) = shared_sync b R y in
+      let running : IsSync (SharedNode.the_row b R FileDevice.the_row JournalFile.the_row I DeviceRule.ghosts JournalRule.ghosts i) = shared_sync b R y in
       let peer_queues : IsSync (PeerQueues.the_row a R) = search (y, peer_queues_laws.the_sync) depth 5 in
       recorded_sync (TimedNode.the_field a b R I i).row _ _ (TimedNode.the_type a b R I i).to_one
       (struct_sync (Declared.shape (TimedNode.the_type a b R I i)) (

@@ -16,5 +16,7 @@ mod ticking;
 pub use node_gate::{Cluster, NodeConfig};
 pub use options::{Options, Times};
 pub use runtime::ServerRuntime;
-pub use server_threads::{Address, Build, Limits, Logs, Place, ServerError, Terms, takes_a_line};
+pub use server_threads::{
+    Address, Build, Limits, Logs, ReplicaAddresses, ServerError, Terms, takes_a_line,
+};
 pub use serving::serve;

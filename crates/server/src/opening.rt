@@ -2,7 +2,7 @@
 ghost use Rattle.std.specs.Prelude.{◌<◌, ◌≤◌};
 
 use file_device::{
-    FileDevice, FileDeviceError, JournalFile, JournalGuard, JournalOwner, Replica, ViewGuard,
+    FileDevice, FileDeviceError, JournalFile, JournalGuard, JournalOwner, ReplicaId, ViewGuard,
     ViewStore,
 };
 use node_gate::{
@@ -143,7 +143,7 @@ fn device_of<R: Files<File = File>>(
 /// Whose journal a replica keeps.
 fn owner_of(config: &NodeConfig, terms: &Terms) -> JournalOwner {
     JournalOwner {
-        replica: Replica {
+        replica: ReplicaId {
             cluster: config.cluster.number(),
             index: config.index,
             count: config.count,

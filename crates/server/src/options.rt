@@ -1,6 +1,6 @@
 //! The settings of a server. Plain data.
 use node_gate::{Name, NodeConfig};
-use server_threads::{Build, Limits, Logs, Place, Terms};
+use server_threads::{Build, Limits, Logs, ReplicaAddresses, Terms};
 use std::net::SocketAddr;
 use std::time::Duration;
 
@@ -42,7 +42,7 @@ pub struct Options<'a> {
     pub times: Times,
     pub limits: Limits,
     /// All replicas, by index.
-    pub places: &'a [Place<'a>],
+    pub places: &'a [ReplicaAddresses<'a>],
     /// What all replicas must have alike.
     pub terms: Terms,
     /// Where monitors are answered, if they are.

@@ -9,11 +9,12 @@ use crate::runtime::ServerRuntime;
 use crate::ticking::{TimedNode, clock_times};
 use file_device::{FileDevice, JournalFile};
 use node_gate::{
-    Here, Identity, Node, NodeConfig, NodeGate, OpenOptions, Opened, Pace, Running, Seat, Told,
+    Here, Node, NodeConfig, NodeGate, NodeIdentity, OpenOptions, Opened, Pace, Seat, SharedNode,
+    Told,
 };
 use server_threads::{
-    Build, Choices, Claim, Config, GROUP_MEMORY, LinkTimes, MACHINE_MEMORY, NoReads, Place,
-    ProcessFiles, Server, ServerError, SharedParts, Starting, available_octets, limit_of,
+    Build, Choices, Claim, Config, GROUP_MEMORY, LinkTimes, MACHINE_MEMORY, NoReads, ProcessFiles,
+    ReplicaAddresses, Server, ServerError, SharedParts, Starting, available_octets, limit_of,
     make_shared_parts,
 };
 use std::alloc::{AllocError, Global};
@@ -43,7 +44,7 @@ type Updates<'a, 'r, R, I> = (
 );
 
 /// A way to the node's updates, and what says that the client of one has left.
-fn gate<'a, 'r, R: Wait, I: Identity>(
+fn gate<'a, 'r, R: Wait, I: NodeIdentity>(
     clock: &TimedNode<'a, 'r, R, I>,
     has_left: &'a AtomicBool,
 ) -> NodeGate<'a, 'r, R, FileDevice, JournalFile, I, PeerQueuesAt<'a, R>> {
@@ -62,7 +63,7 @@ fn gate<'a, 'r, R: Wait, I: Identity>(
 }
 
 /// A way to the node for each thread that updates.
-fn gates<'a, 'r, R: Wait, I: Identity>(
+fn gates<'a, 'r, R: Wait, I: NodeIdentity>(
     clock: &TimedNode<'a, 'r, R, I>,
 ) -> Result<Vec<(usize, Updates<'a, 'r, R, I>)>, AllocError> {
     let shared_parts: &'a SharedParts = clock.shared_parts;
@@ -74,7 +75,7 @@ fn gates<'a, 'r, R: Wait, I: Identity>(
 }
 
 /// A gate beside each seat.
-fn ways<'a, 'r, R: Wait, I: Identity>(
+fn ways<'a, 'r, R: Wait, I: NodeIdentity>(
     clock: &TimedNode<'a, 'r, R, I>,
     seats: Vec<Seat<Here>>,
 ) -> Result<Vec<Way<'a, 'r, R, I>>, AllocError> {
@@ -94,7 +95,7 @@ struct Terms<'a> {
     times: Times,
     is_proved: bool,
     /// Where each replica is found.
-    places: &'a [Place<'a>],
+    places: &'a [ReplicaAddresses<'a>],
     /// What this start says of itself to the other replicas.
     claim: Claim,
 }
@@ -103,7 +104,7 @@ struct Terms<'a> {
 fn run_in<'a, 'r, R, N, I>(
     alloc: Global,
     seats: Vec<Seat<Here>>,
-    running: &'a Running<'r, R, FileDevice, JournalFile, I>,
+    running: &'a SharedNode<'r, R, FileDevice, JournalFile, I>,
     peer_queues: &'a PeerQueues<'a, R>,
     guards: &'a Guards,
     terms: Terms<'a>,
@@ -111,7 +112,7 @@ fn run_in<'a, 'r, R, N, I>(
 where
     R: ServerRuntime<N>,
     N: Read + Drop + Send,
-    I: Identity + Send + Sync,
+    I: NodeIdentity + Send + Sync,
 {
     let rt = peer_queues.rt;
     let shared_parts = peer_queues.shared_parts;
@@ -167,7 +168,7 @@ fn serve_opened<R, N, I>(
 where
     R: ServerRuntime<N>,
     N: Read + Drop + Send,
-    I: Identity + Send + Sync,
+    I: NodeIdentity + Send + Sync,
     requires { identity_of opened.node ≡ I.own }
 {
     let Opened {

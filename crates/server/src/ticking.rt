@@ -8,11 +8,11 @@ use crate::telling::{
 };
 use file_device::{FileDevice, JournalFile, JournalGuard, ViewGuard};
 use node_gate::{
-    Arrival, Identity, Majority, NodeError, Op, Pace, PeerMessage, Progress, Pulse, Running, Send,
-    Standing, Steps, Ticked, copies, send_all,
+    Arrival, Majority, NodeError, NodeIdentity, Op, Pace, PeerMessage, Progress, Pulse, Send,
+    SharedNode, Standing, Steps, Ticked, copies, send_all,
 };
 use server_threads::{
-    Build, Engine, Figures, Lack, Role, ServerError, SharedParts, Shows, Trouble,
+    Build, Engine, Figures, Lack, Monitored, Role, ServerError, SharedParts, Trouble,
 };
 use std::alloc::{AllocError, Global};
 use std::fs::{File, Files};
@@ -51,10 +51,10 @@ struct Watch {
 
 /// A node with its clock.
 #[derive(Drop)]
-pub struct TimedNode<'a, 'r, R: Wait, I: Identity> {
+pub struct TimedNode<'a, 'r, R: Wait, I: NodeIdentity> {
     pub rt: &'a R,
     pub alloc: Global,
-    pub running: &'a Running<'r, R, FileDevice, JournalFile, I>,
+    pub running: &'a SharedNode<'r, R, FileDevice, JournalFile, I>,
     pub peer_queues: &'a PeerQueues<'a, R>,
     pub shared_parts: &'a SharedParts,
     pub times: Times,
@@ -108,7 +108,7 @@ fn has_log(message: &PeerMessage<Op>) -> bool {
 }
 
 /// What is known of a node with its clock before the first look.
-fn first_watch<'a, 'r, R: Wait, I: Identity>(
+fn first_watch<'a, 'r, R: Wait, I: NodeIdentity>(
     timed: &TimedNode<'a, 'r, R, I>,
     pulse: Pulse,
     now: u64,
@@ -132,7 +132,7 @@ fn first_watch<'a, 'r, R: Wait, I: Identity>(
     })
 }
 
-impl<'a, 'r, R: Wait + Clock, I: Identity> TimedNode<'a, 'r, R, I> {
+impl<'a, 'r, R: Wait + Clock, I: NodeIdentity> TimedNode<'a, 'r, R, I> {
     /// The moment of now, in microseconds since the node was opened; that of a clock that can't be read is the first.
     fn now(&self) -> u64 {
         match Instant::now(self.rt) {
@@ -344,7 +344,7 @@ impl<'a, 'r, R: Wait + Clock, I: Identity> TimedNode<'a, 'r, R, I> {
     }
 }
 
-impl<'a, 'r, R: Wait + Clock + Files<File = File>, I: Identity> TimedNode<'a, 'r, R, I> {
+impl<'a, 'r, R: Wait + Clock + Files<File = File>, I: NodeIdentity> TimedNode<'a, 'r, R, I> {
     /// Which file is lost, if one is, as far as that shows; they are looked at once a beat.
     fn lost_file(&self, watch: &mut Watch) -> Option<ServerError> {
         if !watch.looks.take_turn(self.now()) {
@@ -395,7 +395,7 @@ impl<'a, 'r, R, N, I> Engine for TimedNode<'a, 'r, R, I>
 where
     R: Wait + Clock + Files<File = File, Dir = N>,
     N: Read + Drop,
-    I: Identity,
+    I: NodeIdentity,
 {
     fn hear(&self, from: u64, message: PeerMessage<Op>, noted: Option<u64>) -> bool {
         let now = self.now();
@@ -520,11 +520,11 @@ fn names_in<N: Read>(folder: &mut N) -> Option<u64> {
 }
 
 // prover: the type that reads a folder has a name, so that what is known of it holds in every thread.
-impl<'a, 'r, R, N, I> Shows for TimedNode<'a, 'r, R, I>
+impl<'a, 'r, R, N, I> Monitored for TimedNode<'a, 'r, R, I>
 where
     R: Wait + Clock + Files<File = File, Dir = N>,
     N: Read + Drop,
-    I: Identity,
+    I: NodeIdentity,
 {
     fn figures(&self) -> Figures {
         Figures {

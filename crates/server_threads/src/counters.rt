@@ -1,7 +1,7 @@
 //! Counts of what a server answers, for monitors. All of its threads count, and none takes a lock for it.
 use crate::seconds::Seconds;
 use session_pool::{Budget, Ended, Found, LookError, Reply, SearchAnswer, Traffic};
-use status_page::{AllTimes, ClientCounts, Counts, Labelled, PeerCounts, ProcessCounts};
+use status_page::{ClientCounts, Counts, Histograms, Labelled, PeerCounts, ProcessCounts};
 use std::alloc::{AllocError, Global};
 use std::sync::atomic::{AtomicU64, Ordering};
 use std::time::Duration;
@@ -181,8 +181,8 @@ impl AllSeconds {
     }
 
     /// What was counted.
-    fn times(&self, alloc: Global) -> Result<AllTimes, AllocError> {
-        Ok(AllTimes {
+    fn times(&self, alloc: Global) -> Result<Histograms, AllocError> {
+        Ok(Histograms {
             searches: self.searches.times(alloc)?,
             compares: self.compares.times(alloc)?,
             updates: self.updates.times(alloc)?,

@@ -4,7 +4,7 @@ use replica_greeting::{Op, PeerMessage};
 use status_page::Figures;
 
 /// What monitors are shown.
-pub trait Shows {
+pub trait Monitored {
     /// What the replica does. It waits for nobody.
     fn figures(&self) -> Figures;
 
@@ -13,7 +13,7 @@ pub trait Shows {
 }
 
 /// The node behind a server's threads.
-pub trait Engine: Shows {
+pub trait Engine: Monitored {
     /// Hands on a message of the replica of this index, with the number that was noted before it, if one was; whether the node goes on. A message that
     /// finds no memory is lost, as the network may lose one, and the node goes on.
     fn hear(&self, from: u64, message: PeerMessage<Op>, noted: Option<u64>) -> bool;

@@ -47,7 +47,7 @@ mod starting;
 mod telling;
 
 pub use counters::Counters;
-pub use engine::{Engine, Shows};
+pub use engine::{Engine, Monitored};
 pub use fault::{ServerError, Unopened};
 pub use framing::MessageFrames;
 pub use laws::none_uncounted;
@@ -57,7 +57,7 @@ pub use logs::Logs;
 pub use needed_threads::NeededThreads;
 pub use notes::Note;
 pub use peer_link::{Address, LinkTimes};
-pub use places::Place;
+pub use places::ReplicaAddresses;
 pub use process_files::ProcessFiles;
 pub use replica_clock::Lack;
 pub use replica_greeting::{Claim, Terms};

@@ -1,7 +1,7 @@
 //! Answers monitors over HTTP/1.1, each once, sixteen beside one another. One thread looks at all of them, and waits
 //! for none.
 use crate::counters::Others;
-use crate::engine::Shows;
+use crate::engine::Monitored;
 use crate::process_files::descriptor_limit;
 use crate::shared_parts::SharedParts;
 use status_page::{Counts, Head, Method, Page, ProcessCounts, bad_request, head_of, page};
@@ -71,7 +71,7 @@ pub struct Monitoring<'a, R, E> {
     pub engine: &'a E,
 }
 
-impl<'a, R: Wait + Clock, E: Shows> Monitoring<'a, R, E> {
+impl<'a, R: Wait + Clock, E: Monitored> Monitoring<'a, R, E> {
     /// What the system tells of the process, and what the replica keeps.
     fn process(&self) -> ProcessCounts {
         let shared_parts: &SharedParts = self.shared_parts;

@@ -6,7 +6,7 @@ use std::net::{Net, SocketAddr};
 
 /// Where one replica is found.
 #[derive(Clone, Copy)]
-pub struct Place<'a> {
+pub struct ReplicaAddresses<'a> {
     /// Where the other replicas find it.
     pub peer_address: Address<'a>,
     /// Where it hears clients.
@@ -15,7 +15,7 @@ pub struct Place<'a> {
     pub uri: Option<&'a str>,
 }
 
-impl<'a> Place<'a> {
+impl<'a> ReplicaAddresses<'a> {
     /// The URI that clients are referred to (RFC 4516).
     pub fn referral(&self, alloc: Global) -> Result<String, AllocError> {
         match self.uri {

@@ -5,7 +5,7 @@ use crate::heading::{HEADING, Senders};
 use crate::reporter::Reporter;
 use crate::telling::tell_unverified;
 use crossbeam_channel::{Receiver, RecvTimeoutError, Sender, TrySendError};
-use session_pool::{Door, Peer};
+use session_pool::{Door, PeerConnection};
 use std::alloc::{AllocError, Global};
 use std::collections::VecDeque;
 use std::io::ErrorKind;
@@ -31,7 +31,7 @@ enum Look {
 
 /// A connection on the porch.
 struct Stranger<'a, R> {
-    peer: Peer<'a, R>,
+    peer: PeerConnection<'a, R>,
     /// Whether it is one of those who wait for a thread that reads.
     is_waiting: bool,
 }
@@ -47,7 +47,7 @@ impl<'a, R> Drop for Stranger<'a, R> {
 }
 
 impl<'a, R> Stranger<'a, R> {
-    fn into_peer(self) -> Peer<'a, R> {
+    fn into_peer(self) -> PeerConnection<'a, R> {
         let Stranger {
             peer,
             is_waiting: _,
@@ -58,7 +58,7 @@ impl<'a, R> Stranger<'a, R> {
 
 /// Who comes next.
 enum Arrival<'a, R> {
-    Came(Peer<'a, R>),
+    Came(PeerConnection<'a, R>),
     Nobody,
     /// Nobody comes any more.
     Over,
@@ -93,7 +93,7 @@ fn shown(senders: &Senders, heading: [u8; HEADING], count: usize) -> Look {
 
 impl<'a, R: Wait + Clock> Porch<'a, R> {
     /// What has come of a stranger.
-    fn look(&self, peer: &Peer<'a, R>) -> Look {
+    fn look(&self, peer: &PeerConnection<'a, R>) -> Look {
         let mut heading = [0u8; HEADING];
         match peer.peek(&mut heading) {
             Ok(count) => shown(&self.senders, heading, count),
@@ -125,7 +125,7 @@ impl<'a, R: Wait + Clock> Porch<'a, R> {
     }
 
     /// A stranger comes. It waits for no thread yet.
-    fn let_in(&self, strangers: &mut Strangers<'a, R>, peer: Peer<'a, R>) {
+    fn let_in(&self, strangers: &mut Strangers<'a, R>, peer: PeerConnection<'a, R>) {
         if strangers.len() >= STRANGERS {
             if let Some(first) = strangers.pop_front() {
                 self.send_away(first, "others came after it");
@@ -144,7 +144,7 @@ impl<'a, R: Wait + Clock> Porch<'a, R> {
     /// are busy a place is given up.
     fn hand_over(
         &self,
-        to: &Sender<Peer<'a, R>>,
+        to: &Sender<PeerConnection<'a, R>>,
         stranger: Stranger<'a, R>,
     ) -> Option<Stranger<'a, R>> {
         let was_waiting = stranger.is_waiting;
@@ -168,7 +168,11 @@ impl<'a, R: Wait + Clock> Porch<'a, R> {
     }
 
     /// Looks at a stranger, and gives it back where it stays.
-    fn keep(&self, to: &Sender<Peer<'a, R>>, stranger: Stranger<'a, R>) -> Option<Stranger<'a, R>> {
+    fn keep(
+        &self,
+        to: &Sender<PeerConnection<'a, R>>,
+        stranger: Stranger<'a, R>,
+    ) -> Option<Stranger<'a, R>> {
         match self.look(&stranger.peer) {
             Look::Heading => return self.hand_over(to, stranger),
             Look::Nothing => {
@@ -183,7 +187,7 @@ impl<'a, R: Wait + Clock> Porch<'a, R> {
     }
 
     /// Looks at each stranger.
-    fn look_at_all(&self, strangers: &mut Strangers<'a, R>, to: &Sender<Peer<'a, R>>) {
+    fn look_at_all(&self, strangers: &mut Strangers<'a, R>, to: &Sender<PeerConnection<'a, R>>) {
         'each: for _ in 0..strangers.len() {
             let Some(stranger) = strangers.pop_front() else {
                 break;
@@ -195,7 +199,11 @@ impl<'a, R: Wait + Clock> Porch<'a, R> {
     }
 
     /// Waits for the next connection, while nobody stands on the porch; else for as long as until the next look.
-    fn next(&self, from: &Receiver<(u64, Peer<'a, R>)>, is_empty: bool) -> Arrival<'a, R> {
+    fn next(
+        &self,
+        from: &Receiver<(u64, PeerConnection<'a, R>)>,
+        is_empty: bool,
+    ) -> Arrival<'a, R> {
         if is_empty {
             return match from.recv(self.rt) {
                 Ok((_, peer)) => Arrival::Came(peer),
@@ -213,8 +221,8 @@ impl<'a, R: Wait + Clock> Porch<'a, R> {
     /// that shows no beginning of a greeting within 2 seconds is closed, and so is one that shows a wrong one.
     pub fn greet(
         &self,
-        from: Receiver<(u64, Peer<'a, R>)>,
-        to: Sender<Peer<'a, R>>,
+        from: Receiver<(u64, PeerConnection<'a, R>)>,
+        to: Sender<PeerConnection<'a, R>>,
     ) -> Result<(), AllocError> {
         let mut strangers = VecDeque::with_capacity(self.alloc, STRANGERS)?;
         for _ in self.rt.forever() {

@@ -14,7 +14,7 @@ use peer_link::{FrameEnd, read_head, read_more, read_rest};
 use replica_greeting::{
     Came, Claim, Gathering, Met, Term, Terms, WireError, meet, refusal_octets, rest,
 };
-use session_pool::{Answering, Peer};
+use session_pool::{PeerConnection, PeerStream};
 use std::alloc::Global;
 use std::io::Read;
 use std::net::SocketAddr;
@@ -91,7 +91,7 @@ impl<'a, R: Wait + Clock, E: Engine> PeerReaders<'a, R, E> {
     }
 
     /// Reads the length of the next frame of this replica that is no question; each question before it is answered.
-    fn next_head<S: Read + Answering>(
+    fn next_head<S: Read + PeerStream>(
         &self,
         reader: &mut S,
         peer: u64,
@@ -120,7 +120,7 @@ impl<'a, R: Wait + Clock, E: Engine> PeerReaders<'a, R, E> {
     }
 
     /// Reads one frame of this replica whole, and the number of the last note before it, if there is one; or why there is no frame.
-    fn next_frame<S: Read + Answering>(
+    fn next_frame<S: Read + PeerStream>(
         &self,
         reader: &mut S,
         heard: &mut Heard,
@@ -189,7 +189,7 @@ impl<'a, R: Wait + Clock, E: Engine> PeerReaders<'a, R, E> {
     }
 
     /// Reads one frame, and takes it; gives its sender.
-    fn take_next<S: Read + Answering>(
+    fn take_next<S: Read + PeerStream>(
         &self,
         heard: &mut Heard,
         reader: &mut S,
@@ -199,7 +199,7 @@ impl<'a, R: Wait + Clock, E: Engine> PeerReaders<'a, R, E> {
     }
 
     /// Tells the replica that greeted that it is heard, and reads its frames, to the end of the connection.
-    fn read_all<S: Read + Answering>(&self, reader: &mut S, peer: u64) -> &'static str {
+    fn read_all<S: Read + PeerStream>(&self, reader: &mut S, peer: u64) -> &'static str {
         if reader.answer().is_err() {
             return "it failed";
         }
@@ -219,7 +219,7 @@ impl<'a, R: Wait + Clock, E: Engine> PeerReaders<'a, R, E> {
     }
 
     /// Hears a replica that greeted with the same terms from this address, to the end of the connection.
-    fn hear_peer<S: Read + Answering>(&self, reader: &mut S, peer: u64, address: SocketAddr) {
+    fn hear_peer<S: Read + PeerStream>(&self, reader: &mut S, peer: u64, address: SocketAddr) {
         if self.links.come(self.rt, peer) {
             tell_peer_connected_again(self.rt, self.alloc, self.reporter, peer, address);
         } else {
@@ -238,7 +238,7 @@ impl<'a, R: Wait + Clock, E: Engine> PeerReaders<'a, R, E> {
     }
 
     /// Tells a start that remembers less than its replica said that it isn't heard.
-    fn turn_away<S: Answering>(
+    fn turn_away<S: PeerStream>(
         &self,
         reader: &mut S,
         peer: u64,
@@ -255,7 +255,7 @@ impl<'a, R: Wait + Clock, E: Engine> PeerReaders<'a, R, E> {
 
     /// Hears a start of a replica that greeted with the same terms from this address, to the end of the connection, unless it remembers less than its replica said. A replica of
     /// version 0.2.0 says nothing of its start.
-    fn hear_start<S: Read + Answering>(
+    fn hear_start<S: Read + PeerStream>(
         &self,
         reader: &mut S,
         peer: u64,
@@ -273,7 +273,7 @@ impl<'a, R: Wait + Clock, E: Engine> PeerReaders<'a, R, E> {
     }
 
     /// Hears one connection, to its end, and tells of it.
-    fn hear(&self, stranger: Peer<'a, R>) {
+    fn hear(&self, stranger: PeerConnection<'a, R>) {
         let address = stranger.address();
         let Ok(mut reader) = stranger.seated(self.alloc) else {
             tell_unverified(self.rt, self.alloc, self.reporter, address, "out of memory");
@@ -290,7 +290,7 @@ impl<'a, R: Wait + Clock, E: Engine> PeerReaders<'a, R, E> {
     }
 
     /// Hears connections one after the other, until the channel is closed and empty.
-    pub fn hear_each(&self, connections: &Receiver<Peer<'a, R>>) {
+    pub fn hear_each(&self, connections: &Receiver<PeerConnection<'a, R>>) {
         for _ in self.rt.forever() {
             let Ok(peer) = connections.recv(self.rt) else {
                 break;

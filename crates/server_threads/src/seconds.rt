@@ -1,23 +1,23 @@
 //! Counts how long things took, by bound, for monitors. All threads count, and none takes a lock for it.
-use status_page::{Bound, Bucket, Times};
+use status_page::{Bucket, BucketBound, Histogram};
 use std::alloc::{AllocError, Global};
 use std::sync::atomic::{AtomicU64, Ordering};
 use std::time::Duration;
 
 /// The bounds that are counted by, the least first.
-const BOUNDS: [Bound; 12] = [
-    Bound::Micros100,
-    Bound::Micros300,
-    Bound::Millis1,
-    Bound::Millis3,
-    Bound::Millis10,
-    Bound::Millis30,
-    Bound::Millis100,
-    Bound::Millis300,
-    Bound::Second1,
-    Bound::Seconds3,
-    Bound::Seconds10,
-    Bound::Infinite,
+const BOUNDS: [BucketBound; 12] = [
+    BucketBound::Micros100,
+    BucketBound::Micros300,
+    BucketBound::Millis1,
+    BucketBound::Millis3,
+    BucketBound::Millis10,
+    BucketBound::Millis30,
+    BucketBound::Millis100,
+    BucketBound::Millis300,
+    BucketBound::Second1,
+    BucketBound::Seconds3,
+    BucketBound::Seconds10,
+    BucketBound::Infinite,
 ];
 
 /// How long something took, each time.
@@ -66,7 +66,7 @@ impl Seconds {
     }
 
     /// What was counted.
-    pub fn times(&self, alloc: Global) -> Result<Times, AllocError> {
+    pub fn times(&self, alloc: Global) -> Result<Histogram, AllocError> {
         let mut buckets = Vec::new(alloc);
         let mut count: u64 = 0;
         for (bound, within) in BOUNDS.iter().zip(self.within.iter()) {
@@ -76,7 +76,7 @@ impl Seconds {
                 number: count,
             })?;
         }
-        Ok(Times {
+        Ok(Histogram {
             buckets,
             micros: self.micros.load(Ordering::Relaxed),
             count,

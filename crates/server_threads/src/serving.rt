@@ -8,7 +8,7 @@ use crate::heading::Senders;
 use crate::logged::Logged;
 use crate::monitoring::Monitoring;
 use crate::needed_threads::readers as readers_of;
-use crate::places::Place;
+use crate::places::ReplicaAddresses;
 use crate::porch::Porch;
 use crate::reaching::TellingDialer;
 use crate::receiving::PeerReaders;
@@ -20,8 +20,8 @@ use crossbeam_channel::{Receiver, Sender, bounded};
 use peer_link::{SocketDialer, send_all};
 use replica_greeting::{Claim, Cluster};
 use session_pool::{
-    Config, Directory, Door, Peer, SessionPool, Terms, accept_all, close, descriptors,
-    serve_sessions,
+    Config, Directory, Door, PeerConnection, PoolSettings, SessionPool, accept_all, close,
+    descriptors, serve_sessions,
 };
 use std::alloc::{AllocError, Global};
 use std::io::Eprint;
@@ -44,7 +44,7 @@ pub struct Server<'a, R, E> {
     pub shared_parts: &'a SharedParts,
     pub engine: &'a E,
     pub cluster: Cluster,
-    pub places: &'a [Place<'a>],
+    pub places: &'a [ReplicaAddresses<'a>],
     /// What this start says of itself when it greets.
     pub claim: Claim,
 }
@@ -107,7 +107,7 @@ where
     }
 
     /// Takes the connections of other replicas, until the server closes.
-    fn take_peers(&self, to: Sender<(u64, Peer<'a, R>)>) {
+    fn take_peers(&self, to: Sender<(u64, PeerConnection<'a, R>)>) {
         self.shared_parts.needed_threads.begin();
         accept_all(
             self.rt,
@@ -150,8 +150,8 @@ where
     /// Looks at strangers, and hands on those that may be other replicas.
     fn greet_peers(
         &self,
-        arrivals: Receiver<(u64, Peer<'a, R>)>,
-        to_readers: Sender<Peer<'a, R>>,
+        arrivals: Receiver<(u64, PeerConnection<'a, R>)>,
+        to_readers: Sender<PeerConnection<'a, R>>,
     ) -> Result<(), AllocError> {
         self.shared_parts.needed_threads.begin();
         let porch = Porch {
@@ -168,7 +168,7 @@ where
     fn hear_peers(
         &self,
         readers: Vec<usize>,
-        waiting: Receiver<Peer<'a, R>>,
+        waiting: Receiver<PeerConnection<'a, R>>,
     ) -> Result<(), AllocError> {
         let peer_readers = self.peer_readers();
         let needed_threads = &self.shared_parts.needed_threads;
@@ -195,9 +195,9 @@ where
     fn hear_arrivals(
         &self,
         readers: Vec<usize>,
-        arrivals: Receiver<(u64, Peer<'a, R>)>,
-        to_readers: Sender<Peer<'a, R>>,
-        waiting: Receiver<Peer<'a, R>>,
+        arrivals: Receiver<(u64, PeerConnection<'a, R>)>,
+        to_readers: Sender<PeerConnection<'a, R>>,
+        waiting: Receiver<PeerConnection<'a, R>>,
     ) -> Result<(), AllocError> {
         let (greeted, heard) = thread::join(
             self.rt,
@@ -213,9 +213,9 @@ where
         &self,
         readers: Vec<usize>,
         writers: Vec<usize>,
-        arrivals: Receiver<(u64, Peer<'a, R>)>,
-        to_readers: Sender<Peer<'a, R>>,
-        waiting: Receiver<Peer<'a, R>>,
+        arrivals: Receiver<(u64, PeerConnection<'a, R>)>,
+        to_readers: Sender<PeerConnection<'a, R>>,
+        waiting: Receiver<PeerConnection<'a, R>>,
     ) -> Result<(), AllocError> {
         let (heard, sent) = thread::join(
             self.rt,
@@ -342,7 +342,7 @@ where
         };
         let sessions = self.room(sessions);
         self.shared_parts.counters.set_session_limit(sessions);
-        let terms = Terms {
+        let terms = PoolSettings {
             config: *config,
             sessions,
             seats: ways.len(),

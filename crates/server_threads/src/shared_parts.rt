@@ -5,7 +5,7 @@ use crate::fault::{Heard, ServerError, Unheard};
 use crate::links::Links;
 use crate::logs::Logs;
 use crate::needed_threads::NeededThreads;
-use crate::places::{Place, own};
+use crate::places::{ReplicaAddresses, own};
 use crate::process_files::ProcessFiles;
 use crate::progress::PeerProgress;
 use crate::reporter::Reporter;
@@ -34,7 +34,7 @@ fn outboxes(alloc: Global, count: usize) -> Result<Vec<Outbox<PeerMessage<Op>>>,
 }
 
 /// The URI of each replica, by index.
-fn uris(alloc: Global, places: &[Place<'_>]) -> Result<Vec<String>, AllocError> {
+fn uris(alloc: Global, places: &[ReplicaAddresses<'_>]) -> Result<Vec<String>, AllocError> {
     let mut uris = Vec::new(alloc);
     for place in places {
         uris.push(place.referral(alloc)?)?;
@@ -186,7 +186,7 @@ impl Drop for SharedParts {
 pub fn make_shared_parts<R: Net<Listener = TcpListener, Stream = TcpStream>>(
     rt: &R,
     alloc: Global,
-    places: &[Place<'_>],
+    places: &[ReplicaAddresses<'_>],
     index: u64,
     choices: Choices<'_>,
     process_files: ProcessFiles,

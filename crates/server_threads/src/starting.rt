@@ -1,5 +1,5 @@
 //! Answers monitors and writes what is said while the node is opened, which may take minutes over a long journal.
-use crate::engine::Shows;
+use crate::engine::Monitored;
 use crate::monitoring::Monitoring;
 use crate::reporter::StandardError;
 use crate::shared_parts::SharedParts;
@@ -25,7 +25,7 @@ struct Unopened<'a> {
     shared_parts: &'a SharedParts,
 }
 
-impl<'a> Shows for Unopened<'a> {
+impl<'a> Monitored for Unopened<'a> {
     fn figures(&self) -> Figures {
         Figures {
             build: self.build,

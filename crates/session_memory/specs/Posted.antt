@@ -1,16 +1,16 @@
 -- The sum of what sessions hold. What is posted of each comes in, with what one comes to hold; the sum comes out.
 use Rattle.std.specs.Prelude.{◌≡◌, ◌<◌, ℕ, zero, suc, ◌+◌, ◌-◌, List, [], ◌∷◌, cond, nat_lt, length}
-use Rattle.session_memory.specs.declared.posting.Posting.{Posting}
-use Rattle.session_memory.specs.declared.posting.Posting.TheVariants.{Stays, Adds, Gives}
+use Rattle.session_memory.specs.declared.posting.BudgetChange.{BudgetChange}
+use Rattle.session_memory.specs.declared.posting.BudgetChange.TheVariants.{Stays, Adds, Gives}
 
 -- a number after a change
-abbrev pub changed : ℕ → Posting → ℕ
+abbrev pub changed : ℕ → BudgetChange → ℕ
 changed n Stays = n
 changed n (Adds more) = n + more
 changed n (Gives less) = n - less
 
 -- the change that makes of what is posted what is held
-abbrev pub change : ℕ → ℕ → Posting
+abbrev pub change : ℕ → ℕ → BudgetChange
 change posted held = cond (nat_lt posted held) (Adds (held - posted)) (cond (nat_lt held posted) (Gives (posted - held)) Stays)
 
 -- the sum of all

@@ -2,7 +2,7 @@
 ghost use Rattle.std.specs.Prelude.{◌≡◌, ◌↔◌, ◌*◌, ◌<◌, IsTrue};
 ghost use Rattle.session_memory.specs.Limit.{limit_of};
 
-use crate::posting::{Posting, change_to};
+use crate::posting::{BudgetChange, change_to};
 use std::sync::atomic::{AtomicU64, Ordering};
 
 /// A mebibyte.
@@ -67,11 +67,11 @@ impl Budget {
     /// A session holds this, of which so much is posted: the sum changes by the difference. It is left alone where there is none.
     pub fn post(&self, posted: u64, held: u64) {
         match change_to(posted, held) {
-            Posting::Stays => {}
-            Posting::Adds(more) => {
+            BudgetChange::Stays => {}
+            BudgetChange::Adds(more) => {
                 self.used.fetch_add(more, Ordering::Relaxed);
             }
-            Posting::Gives(less) => {
+            BudgetChange::Gives(less) => {
                 self.used.fetch_sub(less, Ordering::Relaxed);
             }
         }

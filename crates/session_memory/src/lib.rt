@@ -17,4 +17,4 @@ mod posting;
 
 pub use budget::{Budget, limit_of};
 pub use holders::{Holder, Holders};
-pub use posting::{Posting, change_to, used_is_posted};
+pub use posting::{BudgetChange, change_to, used_is_posted};

@@ -1,11 +1,11 @@
 //! By how much the sum of what sessions hold changes where one of them holds more or less than is posted.
 ghost use Rattle.std.specs.Prelude.{◌≡◌, ◌↔◌};
 ghost use Rattle.session_memory.specs.Posted.{change, changed, UsedIsPosted};
-ghost use Rattle.session_memory.specs.declared.posting.Posting.{Posting};
+ghost use Rattle.session_memory.specs.declared.posting.BudgetChange.{BudgetChange};
 
 /// What becomes of a sum.
 #[derive(Clone, Copy, Debug, PartialEq, Eq)]
-pub enum Posting {
+pub enum BudgetChange {
     Stays,
     /// So much comes.
     Adds(u64),
@@ -14,17 +14,17 @@ pub enum Posting {
 }
 
 /// What becomes of the sum where so much of a session is posted, and it holds this.
-pub fn change_to(posted: u64, held: u64) -> Posting
+pub fn change_to(posted: u64, held: u64) -> BudgetChange
     ensures result { result ≡ change posted held }
     ensures held { changed posted result ≡ held }
-    ensures stays { (result ≡ Posting.Stays) ↔ (posted ≡ held) }
+    ensures stays { (result ≡ BudgetChange.Stays) ↔ (posted ≡ held) }
 {
     if held > posted {
-        Posting::Adds(held - posted)
+        BudgetChange::Adds(held - posted)
     } else if held < posted {
-        Posting::Gives(posted - held)
+        BudgetChange::Gives(posted - held)
     } else {
-        Posting::Stays
+        BudgetChange::Stays
     }
 }
 

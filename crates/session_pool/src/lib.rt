@@ -61,13 +61,13 @@ mod updaters;
 mod updating;
 
 pub use client_link::{
-    Answering, Client, CompareRequest, Config, Directory, Door, Ended, Found, HasDoor, Limits,
-    LookError, Peer, Reply, Role, SearchAnswer, SearchRequest, SessionEnd, Update, accept_all,
-    close,
+    Client, CompareRequest, Config, Directory, Door, Ended, Found, HasDoor, Limits, LookError,
+    PeerConnection, PeerStream, Reply, Role, SearchAnswer, SearchRequest, SessionEnd, Update,
+    accept_all, close,
 };
 pub use limit::descriptors;
 pub use no_reads::NoReads;
-pub use pool::{SessionPool, Terms};
+pub use pool::{PoolSettings, SessionPool};
 pub use running::serve_sessions;
 pub use session_memory::{Budget, limit_of};
 pub use tells::{Away, Tells, Traffic};

@@ -18,7 +18,7 @@ const WAKE: usize = usize::MAX;
 
 /// Whom a pool serves, and how.
 #[derive(Clone, Copy)]
-pub struct Terms<'a> {
+pub struct PoolSettings<'a> {
     /// What all sessions share.
     pub config: Config<'a>,
     /// How many sessions there may be.
@@ -75,7 +75,7 @@ impl<'a, R: Net + Clock, T> SessionPool<'a, R, T> {
         alloc: Global,
         door: &'a Door,
         teller: &'a T,
-        terms: Terms<'a>,
+        terms: PoolSettings<'a>,
     ) -> io::Result<SessionPool<'a, R, T>> {
         let poll = Poll::new(rt)?;
         let registry = poll.registry().try_clone()?;

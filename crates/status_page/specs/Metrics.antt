@@ -1,6 +1,6 @@
 -- What a replica counts: its counts come in, their figures in the text form of Prometheus go out, each once.
 use Rattle.std.specs.Prelude.{ℕ, List, [], ◌++◌, codes}
-use Rattle.status_page.specs.declared.figures.AllTimes.{AllTimes}
+use Rattle.status_page.specs.declared.figures.Histograms.{Histograms}
 use Rattle.status_page.specs.declared.figures.ClientCounts.{ClientCounts}
 use Rattle.status_page.specs.declared.figures.Counts.{Counts}
 use Rattle.status_page.specs.declared.figures.PeerCounts.{PeerCounts}
@@ -160,28 +160,28 @@ others_text k =
     ++ links_text k
 
 -- the seconds of requests, by kind
-abbrev pub request_samples : AllTimes → List ℕ
+abbrev pub request_samples : Histograms → List ℕ
 request_samples k =
     histogram_samples (codes "dird_request_seconds") (codes "kind=\"search\",") (codes "{kind=\"search\"}") k.searches
     ++ histogram_samples (codes "dird_request_seconds") (codes "kind=\"compare\",") (codes "{kind=\"compare\"}") k.compares
     ++ histogram_samples (codes "dird_request_seconds") (codes "kind=\"update\",") (codes "{kind=\"update\"}") k.updates
 
 -- how long requests took
-abbrev pub requests_text : AllTimes → List ℕ
+abbrev pub requests_text : Histograms → List ℕ
 requests_text k =
     figure (codes "dird_request_seconds") (codes "How long requests took, in seconds; an update until it was committed.")
     (codes "histogram")
     (request_samples k)
 
 -- how long batches of events took
-abbrev pub batches_text : AllTimes → List ℕ
+abbrev pub batches_text : Histograms → List ℕ
 batches_text k =
     figure (codes "dird_batch_seconds") (codes "How long batches of events took with a journal, in seconds: their steps, a write and a sync.")
     (codes "histogram")
     (histogram_samples (codes "dird_batch_seconds") [] [] k.batches)
 
 -- how long all took
-abbrev pub times_text : AllTimes → List ℕ
+abbrev pub times_text : Histograms → List ℕ
 times_text k =
     requests_text k
     ++ batches_text k

@@ -1,10 +1,10 @@
 -- The text form of Prometheus: figures, each with its samples.
 use Rattle.std.specs.Prelude.{ℕ, List, [], ◌++◌, codes, decimal, flat_map, Option, None, Some, Bool, true, nat_le}
 use Rattle.status_page.specs.declared.figures.Labelled.{Labelled}
-use Rattle.status_page.specs.declared.figures.Bound.{Bound}
-use Rattle.status_page.specs.declared.figures.Bound.TheVariants as bound
+use Rattle.status_page.specs.declared.figures.BucketBound.{BucketBound}
+use Rattle.status_page.specs.declared.figures.BucketBound.TheVariants as bound
 use Rattle.status_page.specs.declared.figures.Bucket.{Bucket}
-use Rattle.status_page.specs.declared.figures.Times.{Times}
+use Rattle.status_page.specs.declared.figures.Histogram.{Histogram}
 
 -- a figure: what it means and its kind, and then its samples, a line each
 abbrev pub figure : List ℕ → List ℕ → List ℕ → List ℕ → List ℕ
@@ -39,7 +39,7 @@ optional_scaled_sample name None exponent = []
 optional_scaled_sample name (Some n) exponent = scaled_sample name n exponent
 
 -- a bound in seconds
-abbrev pub bound_word : Bound → List ℕ
+abbrev pub bound_word : BucketBound → List ℕ
 bound_word bound.Micros100 = codes "0.0001"
 bound_word bound.Micros300 = codes "0.0003"
 bound_word bound.Millis1 = codes "0.001"
@@ -54,7 +54,7 @@ bound_word bound.Seconds10 = codes "10"
 bound_word bound.Infinite = codes "+Inf"
 
 -- whether so many microseconds are no more than a bound
-abbrev pub bound_holds : Bound → ℕ → Bool
+abbrev pub bound_holds : BucketBound → ℕ → Bool
 bound_holds bound.Micros100 n = nat_le n 100
 bound_holds bound.Micros300 n = nat_le n 300
 bound_holds bound.Millis1 n = nat_le n 1000
@@ -74,7 +74,7 @@ bucket_sample name front b =
     sample (name ++ codes "_bucket{" ++ front ++ codes "le=\"" ++ bound_word b.bound ++ codes "\"}") b.number
 
 -- the samples of a histogram: its buckets, the sum of the seconds, and how often; `labels` has the other labels in braces
-abbrev pub histogram_samples : List ℕ → List ℕ → List ℕ → Times → List ℕ
+abbrev pub histogram_samples : List ℕ → List ℕ → List ℕ → Histogram → List ℕ
 histogram_samples name front labels t =
     flat_map (bucket_sample name front) t.buckets.items
     ++ scaled_sample (name ++ codes "_sum" ++ labels) t.micros (codes "e-6")

@@ -88,7 +88,7 @@ pub struct ClientCounts {
 
 /// A bound of a histogram, in seconds.
 #[derive(Clone, Copy, Debug, PartialEq, Eq)]
-pub enum Bound {
+pub enum BucketBound {
     Micros100,
     Micros300,
     Millis1,
@@ -107,12 +107,12 @@ pub enum Bound {
 /// How many of something took no longer than a bound.
 #[derive(Clone, Copy)]
 pub struct Bucket {
-    pub bound: Bound,
+    pub bound: BucketBound,
     pub number: u64,
 }
 
 /// How long something took, each time.
-pub struct Times {
+pub struct Histogram {
     /// By bound, each once.
     pub buckets: Vec<Bucket>,
     /// How many microseconds all of them took together.
@@ -121,9 +121,9 @@ pub struct Times {
 }
 
 // Not derived: see "What the gate takes" in docs/ARCHITECTURE.md.
-impl Drop for Times {
+impl Drop for Histogram {
     fn drop(self) {
-        let Times {
+        let Histogram {
             buckets: _,
             micros: _,
             count: _,
@@ -132,17 +132,17 @@ impl Drop for Times {
 }
 
 /// How long requests took, and batches of events of the node.
-pub struct AllTimes {
-    pub searches: Times,
-    pub compares: Times,
-    pub updates: Times,
-    pub batches: Times,
+pub struct Histograms {
+    pub searches: Histogram,
+    pub compares: Histogram,
+    pub updates: Histogram,
+    pub batches: Histogram,
 }
 
 // Not derived: see "What the gate takes" in docs/ARCHITECTURE.md.
-impl Drop for AllTimes {
+impl Drop for Histograms {
     fn drop(self) {
-        let AllTimes {
+        let Histograms {
             searches: _,
             compares: _,
             updates: _,
@@ -228,7 +228,7 @@ pub struct Counts {
     pub update_threads: u64,
     pub peers: PeerCounts,
     pub clients: ClientCounts,
-    pub times: AllTimes,
+    pub times: Histograms,
     pub process: ProcessCounts,
 }
 
@@ -254,7 +254,7 @@ impl Drop for Counts {
     }
 }
 
-impl Bound {
+impl BucketBound {
     ghost use Rattle.status_page.specs.Samples.{bound_word, bound_holds};
 
     /// The bound in seconds, as Prometheus writes it.
@@ -262,18 +262,18 @@ impl Bound {
         ensures { result.now ≡ bound_word self }
     {
         match self {
-            Bound::Micros100 => "0.0001",
-            Bound::Micros300 => "0.0003",
-            Bound::Millis1 => "0.001",
-            Bound::Millis3 => "0.003",
-            Bound::Millis10 => "0.01",
-            Bound::Millis30 => "0.03",
-            Bound::Millis100 => "0.1",
-            Bound::Millis300 => "0.3",
-            Bound::Second1 => "1",
-            Bound::Seconds3 => "3",
-            Bound::Seconds10 => "10",
-            Bound::Infinite => "+Inf",
+            BucketBound::Micros100 => "0.0001",
+            BucketBound::Micros300 => "0.0003",
+            BucketBound::Millis1 => "0.001",
+            BucketBound::Millis3 => "0.003",
+            BucketBound::Millis10 => "0.01",
+            BucketBound::Millis30 => "0.03",
+            BucketBound::Millis100 => "0.1",
+            BucketBound::Millis300 => "0.3",
+            BucketBound::Second1 => "1",
+            BucketBound::Seconds3 => "3",
+            BucketBound::Seconds10 => "10",
+            BucketBound::Infinite => "+Inf",
         }
     }
 
@@ -282,18 +282,18 @@ impl Bound {
         ensures { result ≡ bound_holds self micros }
     {
         match self {
-            Bound::Micros100 => micros <= 100,
-            Bound::Micros300 => micros <= 300,
-            Bound::Millis1 => micros <= 1_000,
-            Bound::Millis3 => micros <= 3_000,
-            Bound::Millis10 => micros <= 10_000,
-            Bound::Millis30 => micros <= 30_000,
-            Bound::Millis100 => micros <= 100_000,
-            Bound::Millis300 => micros <= 300_000,
-            Bound::Second1 => micros <= 1_000_000,
-            Bound::Seconds3 => micros <= 3_000_000,
-            Bound::Seconds10 => micros <= 10_000_000,
-            Bound::Infinite => true,
+            BucketBound::Micros100 => micros <= 100,
+            BucketBound::Micros300 => micros <= 300,
+            BucketBound::Millis1 => micros <= 1_000,
+            BucketBound::Millis3 => micros <= 3_000,
+            BucketBound::Millis10 => micros <= 10_000,
+            BucketBound::Millis30 => micros <= 30_000,
+            BucketBound::Millis100 => micros <= 100_000,
+            BucketBound::Millis300 => micros <= 300_000,
+            BucketBound::Second1 => micros <= 1_000_000,
+            BucketBound::Seconds3 => micros <= 3_000_000,
+            BucketBound::Seconds10 => micros <= 10_000_000,
+            BucketBound::Infinite => true,
         }
     }
 }

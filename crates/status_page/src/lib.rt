@@ -17,7 +17,7 @@ mod writing;
 
 pub use asking::{Head, Method, Page, head_of};
 pub use figures::{
-    AllTimes, Bound, Bucket, Build, ClientCounts, Counts, Figures, Labelled, PeerCounts,
-    ProcessCounts, Role, Start, Times, Trouble,
+    Bucket, BucketBound, Build, ClientCounts, Counts, Figures, Histogram, Histograms, Labelled,
+    PeerCounts, ProcessCounts, Role, Start, Trouble,
 };
 pub use writing::{bad_request, page};

@@ -7,7 +7,7 @@ ghost use Rattle.status_page.specs.Metrics.{links_text, others_text, request_sam
 ghost use Rattle.status_page.specs.Metrics.{resources_text, kept_text, process_text};
 ghost use Rattle.status_page.specs.Metrics.{counts_text};
 
-use crate::figures::{AllTimes, ClientCounts, Counts, PeerCounts, ProcessCounts};
+use crate::figures::{ClientCounts, Counts, Histograms, PeerCounts, ProcessCounts};
 use crate::samples::{figure, histogram_samples, labelled, optional, optional_scaled, single};
 use std::alloc::{AllocError, Global};
 
@@ -352,7 +352,7 @@ fn of_others(alloc: Global, peers: &PeerCounts) -> Result<String, AllocError>
 }
 
 /// The seconds of requests, by kind.
-fn request_samples(alloc: Global, times: &AllTimes) -> Result<String, AllocError>
+fn request_samples(alloc: Global, times: &Histograms) -> Result<String, AllocError>
     ensures { IfOk result (λ s. string_bytes s ≡ request_samples times.now) }
 {
     let name = "dird_request_seconds";
@@ -381,7 +381,7 @@ fn request_samples(alloc: Global, times: &AllTimes) -> Result<String, AllocError
 }
 
 /// How long requests took.
-fn requests(alloc: Global, times: &AllTimes) -> Result<String, AllocError>
+fn requests(alloc: Global, times: &Histograms) -> Result<String, AllocError>
     ensures { IfOk result (λ s. string_bytes s ≡ requests_text times.now) }
 {
     let samples = request_samples(alloc, times)?;
@@ -395,7 +395,7 @@ fn requests(alloc: Global, times: &AllTimes) -> Result<String, AllocError>
 }
 
 /// How long batches of events took.
-fn batches(alloc: Global, times: &AllTimes) -> Result<String, AllocError>
+fn batches(alloc: Global, times: &Histograms) -> Result<String, AllocError>
     ensures { IfOk result (λ s. string_bytes s ≡ batches_text times.now) }
 {
     let samples = histogram_samples(alloc, "dird_batch_seconds", "", "", &times.batches)?;
@@ -409,7 +409,7 @@ fn batches(alloc: Global, times: &AllTimes) -> Result<String, AllocError>
 }
 
 /// How long all took.
-fn times(alloc: Global, times: &AllTimes) -> Result<String, AllocError>
+fn times(alloc: Global, times: &Histograms) -> Result<String, AllocError>
     ensures { IfOk result (λ s. string_bytes s ≡ times_text times.now) }
 {
     let requests = requests(alloc, times)?;

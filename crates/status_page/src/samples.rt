@@ -3,7 +3,7 @@ ghost use Rattle.std.specs.Prelude.{◌≡◌, ◌++◌, IfOk, OnOk, codes, flat
 ghost use Rattle.status_page.specs.Samples.{figure, sample, optional_sample, labelled_sample, labelled_figure};
 ghost use Rattle.status_page.specs.Samples.{scaled_sample, optional_scaled_sample, bucket_sample, histogram_samples};
 
-use crate::figures::{Bucket, Labelled, Times};
+use crate::figures::{Bucket, Histogram, Labelled};
 use std::alloc::{AllocError, Global};
 
 /// A figure: what it means and its kind, and then its samples.
@@ -211,7 +211,7 @@ pub fn histogram_samples(
     name: &str,
     front: &str,
     labels: &str,
-    times: &Times,
+    times: &Histogram,
 ) -> Result<String, AllocError>
     ensures { IfOk result (λ s. string_bytes s ≡ histogram_samples name.now front.now labels.now times.now) }
 {

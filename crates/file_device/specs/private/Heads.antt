@@ -4,7 +4,7 @@ use Rattle.std.specs.Int.{w64, to_be_bytes}
 use Rattle.sha2.specs.Sha256.{sha256}
 use Rattle.journal.specs.Frames.{frame}
 use Rattle.file_device.specs.declared.owner.JournalOwner.{JournalOwner}
-use Rattle.file_device.specs.declared.owner.Replica.{Replica}
+use Rattle.file_device.specs.declared.owner.ReplicaId.{ReplicaId}
 
 -- a number in eight octets, the most significant first
 unfoldable pub numeral : ℕ → List ℕ
@@ -15,12 +15,12 @@ unfoldable pub sum_of : List ℕ → List ℕ
 sum_of octets = take 8 (sha256 octets)
 
 -- what stands before the sum of a beginning: the kind 0, the version, whose it is, 0, and what follows the numbers
-abbrev pub body_of : ℕ → Replica → List ℕ → List ℕ
+abbrev pub body_of : ℕ → ReplicaId → List ℕ → List ℕ
 body_of version replica rest =
     0 ∷ (numeral version ++ (numeral replica.cluster ++ (numeral replica.index ++ (numeral replica.count ++ (numeral 0 ++ rest)))))
 
 -- the string of a beginning
-abbrev pub beginning : ℕ → Replica → List ℕ → List ℕ
+abbrev pub beginning : ℕ → ReplicaId → List ℕ → List ℕ
 beginning version replica rest = body_of version replica rest ++ sum_of (body_of version replica rest)
 
 -- `dird journal` and the end of a line
@@ -32,5 +32,5 @@ abbrev pub head_of : JournalOwner → List ℕ
 head_of owner = frame (beginning 2 owner.replica (magic ++ (owner.schema ++ owner.suffix)))
 
 -- what a journal of version 1 begins with, which has no head
-abbrev pub earlier_head : Replica → List ℕ
+abbrev pub earlier_head : ReplicaId → List ℕ
 earlier_head replica = frame (beginning 1 replica [])

@@ -1,7 +1,7 @@
 -- What the first octets of a file say of the journal that a replica is to keep there.
 use Rattle.std.specs.Prelude.{◌≡◌, ◌≢◌, ◌⊎◌, ℕ, List, take, true, Result, Ok, Err}
 use Rattle.file_device.specs.declared.owner.JournalOwner.{JournalOwner}
-use Rattle.file_device.specs.declared.owner.Replica.{Replica}
+use Rattle.file_device.specs.declared.owner.ReplicaId.{ReplicaId}
 use Rattle.file_device.specs.declared.judging.Holding.{Holding}
 use Rattle.file_device.specs.declared.judging.Holding.TheVariants as holding
 use Rattle.file_device.specs.declared.fault.FileDeviceError.{FileDeviceError}
@@ -14,12 +14,12 @@ abbrev pub Heads : List ℕ → JournalOwner → Type 0
 Heads front owner = take 136 front ≡ head_of owner
 
 -- or with the first note of this replica's journal of version 1.
-abbrev pub HeadsEarlier : List ℕ → Replica → Type 0
+abbrev pub HeadsEarlier : List ℕ → ReplicaId → Type 0
 HeadsEarlier front replica = take 59 front ≡ earlier_head replica
 
 -- It is a journal of a replica that has this.
-abbrev pub NamesReplica : List ℕ → (Replica → Type 0) → Type 0
-NamesReplica front P = ((o : JournalOwner) × Heads front o × P o.replica) ⊎ ((r : Replica) × HeadsEarlier front r × P r)
+abbrev pub NamesReplica : List ℕ → (ReplicaId → Type 0) → Type 0
+NamesReplica front P = ((o : JournalOwner) × Heads front o × P o.replica) ⊎ ((r : ReplicaId) × HeadsEarlier front r × P r)
 
 -- It is a journal with a head that has this.
 abbrev pub NamesOwner : List ℕ → (JournalOwner → Type 0) → Type 0

@@ -6,7 +6,7 @@ use crate::threads::signal::Signal;
 use client_link::{Door, Limits, SessionEnd, close};
 use ldap_session::{Config, Name};
 use schema_reader::built_in_schema;
-use session_pool::{Away, Budget, SessionPool, Tells, Terms, Traffic, serve_sessions};
+use session_pool::{Away, Budget, SessionPool, Tells, PoolSettings, Traffic, serve_sessions};
 use std::alloc::{AllocError, Global};
 use std::io::{Read, Write};
 use std::net::{Net, SocketAddr, TcpListener, TcpStream};
@@ -112,7 +112,7 @@ fn run<'a, R: Net<Listener = TcpListener, Stream = TcpStream> + Threads + Wait +
     };
     let leaves = [AtomicBool::new(false)];
     let budget = Budget::new(67_108_864);
-    let terms = Terms {
+    let terms = PoolSettings {
         config,
         sessions,
         seats: SEATS,

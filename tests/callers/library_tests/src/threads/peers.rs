@@ -9,8 +9,8 @@ use ldap_session::{Config, Name};
 use replica_greeting::{Claim, Terms, greeting};
 use schema_reader::built_in_schema;
 use server_threads::{
-    Address, Build, Choices, Engine, Figures, LinkTimes, Logs, Place, ProcessFiles, Role, Server,
-    ServerError, SharedParts, Shows, Start, Trouble, make_shared_parts,
+    Address, Build, Choices, Engine, Figures, LinkTimes, Logs, ReplicaAddresses, ProcessFiles, Role, Server,
+    ServerError, SharedParts, Monitored, Start, Trouble, make_shared_parts,
 };
 use std::alloc::Global;
 use std::io::{self, ErrorKind, Read, Write};
@@ -114,7 +114,7 @@ impl<'a, R: Wait + Clock> Engine for Ear<'a, R> {
     }
 }
 
-impl<'a, R: Wait + Clock> Shows for Ear<'a, R> {
+impl<'a, R: Wait + Clock> Monitored for Ear<'a, R> {
     fn figures(&self) -> Figures {
         Figures {
             build: Build::Proved,
@@ -135,16 +135,16 @@ impl<'a, R: Wait + Clock> Shows for Ear<'a, R> {
 }
 
 /// Where two replicas of these tests are found: this one anywhere, the other nowhere.
-fn places() -> [Place<'static>; 2] {
+fn places() -> [ReplicaAddresses<'static>; 2] {
     let anywhere = Address::Numbers(SocketAddr::from(([127, 0, 0, 1], 0)));
     let nowhere = Address::Numbers(SocketAddr::from(([127, 0, 0, 1], 1)));
     [
-        Place {
+        ReplicaAddresses {
             peer_address: anywhere,
             ldap_address: anywhere,
             uri: None,
         },
-        Place {
+        ReplicaAddresses {
             peer_address: nowhere,
             ldap_address: nowhere,
             uri: None,

@@ -5,7 +5,7 @@ use ldap_op::Update;
 use peer_link::Framing;
 use replica_greeting::{Claim, Met, Term, Terms, meet};
 use server_threads::{
-    Address, Choices, Limits, LinkTimes, Logs, MessageFrames, Note, NoteWriter, Place, ProcessFiles, Reporter,
+    Address, Choices, Limits, LinkTimes, Logs, MessageFrames, Note, NoteWriter, ReplicaAddresses, ProcessFiles, Reporter,
     ServerError, SharedParts, make_shared_parts,
 };
 use std::alloc::{AllocError, Global};
@@ -164,7 +164,7 @@ pub fn terms_under(suffix: &str) -> Terms {
 /// What the threads of a replica share that listens where the system lets it.
 pub fn parts_under(rt: &HostRuntime, terms: Terms) -> Result<SharedParts, ServerError> {
     let anywhere = Address::Numbers(SocketAddr::from(([127, 0, 0, 1], 0)));
-    let place = Place {
+    let place = ReplicaAddresses {
         peer_address: anywhere,
         ldap_address: anywhere,
         uri: None,

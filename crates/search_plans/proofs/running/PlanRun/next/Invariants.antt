@@ -4,7 +4,7 @@ use Rattle.search_plans.specs.Sets.{is_in}
 use Rattle.search_plans.specs.Runs.{is_open, is_wanted}
 use Rattle.search_plans.specs.private.Resolved.{is_in_resolved}
 use Rattle.search_plans.specs.private.Runs.{AreInside, AreSameWithin, IsUnderWay}
-use Rattle.search_plans.proofs.running.Running.next.Given as goal
+use Rattle.search_plans.proofs.running.PlanRun.next.Given as goal
 
 abbrev pub invariant-loop-number : goal.invariant-loop-number
 invariant-loop-number g l =

@@ -4,7 +4,7 @@ use Rattle.search_plans.specs.Sets.{is_in}
 use Rattle.search_plans.specs.Runs.{is_wanted}
 use Rattle.search_plans.specs.private.Resolved.{is_in_resolved}
 use Rattle.search_plans.proofs.Passing.{passed_by, room_for, guided, wanted_same, filter_no, even_more, none_left, inside_first, inside_rest, same_first, same_left}
-use Rattle.search_plans.proofs.running.Running.next.Goals as goal
+use Rattle.search_plans.proofs.running.PlanRun.next.Goals as goal
 
 pub invariant_of-self : goal.invariant_of-self
 invariant_of-self g c =

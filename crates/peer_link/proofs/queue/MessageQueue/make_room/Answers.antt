@@ -1,5 +1,5 @@
 use Rattle.peer_link.proofs.Forgetting.{none_forgotten, one_more_forgotten}
-use Rattle.peer_link.proofs.queue.Queue.make_room.Goals as goal
+use Rattle.peer_link.proofs.queue.MessageQueue.make_room.Goals as goal
 
 pub loop-self-init : goal.loop-self-init
 loop-self-init g c = none_forgotten c.args.self.now c.args.weight
