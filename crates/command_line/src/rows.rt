@@ -41,7 +41,7 @@ impl Takes {
 
 /// A word of a command.
 #[derive(Clone, Copy)]
-pub struct Word {
+pub struct OptionSpec {
     pub name: &'static str,
     /// What its help calls its value, where it has one.
     pub value: &'static str,
@@ -50,7 +50,7 @@ pub struct Word {
 }
 
 /// The word for a schema.
-pub const SCHEMA_WORD: Word = Word {
+pub const SCHEMA_OPTION: OptionSpec = OptionSpec {
     name: "schema",
     value: "FILE",
     takes: Takes::Text,
@@ -58,7 +58,7 @@ pub const SCHEMA_WORD: Word = Word {
 };
 
 /// The word for an index choice.
-pub const INDEX_WORD: Word = Word {
+pub const INDEX_OPTION: OptionSpec = OptionSpec {
     name: "index",
     value: "FILE",
     takes: Takes::Text,
@@ -66,24 +66,24 @@ pub const INDEX_WORD: Word = Word {
 };
 
 /// A word without a name before it.
-fn placed_argument<'a>(alloc: Global, word: &Word) -> Arg<'a> {
+fn placed_argument<'a>(alloc: Global, word: &OptionSpec) -> Arg<'a> {
     Arg::new(alloc, word.name).help(word.help)
 }
 
 /// A word with its name before its value.
-fn named_argument<'a>(alloc: Global, word: &Word) -> Arg<'a> {
+fn named_argument<'a>(alloc: Global, word: &OptionSpec) -> Arg<'a> {
     placed_argument(alloc, word)
         .long(word.name)
         .value_name(word.value)
 }
 
 /// A word with a number. Its range is judged with the other values, in words of this program.
-fn number<'a>(alloc: Global, word: &Word) -> Arg<'a> {
+fn number<'a>(alloc: Global, word: &OptionSpec) -> Arg<'a> {
     named_argument(alloc, word).allow_negative_numbers(true)
 }
 
 /// A word as it is told the parser.
-fn argument<'a>(alloc: Global, word: &Word) -> Arg<'a> {
+fn argument<'a>(alloc: Global, word: &OptionSpec) -> Arg<'a> {
     match word.takes {
         Takes::Nothing => {
             placed_argument(alloc, word)
@@ -109,15 +109,15 @@ fn argument<'a>(alloc: Global, word: &Word) -> Arg<'a> {
 
 /// A command that takes words.
 #[derive(Clone, Copy)]
-pub struct Order {
+pub struct CommandSpec {
     pub name: &'static str,
     /// What it is for.
     pub about: &'static str,
-    pub words: &'static [Word],
+    pub words: &'static [OptionSpec],
 }
 
 /// A command as it is told the parser.
-pub fn command_of<'a>(alloc: Global, order: &Order) -> Result<Command<'a>, AllocError> {
+pub fn command_of<'a>(alloc: Global, order: &CommandSpec) -> Result<Command<'a>, AllocError> {
     let mut command = Command::new(alloc, order.name).about(order.about);
     for word in order.words {
         command = command.arg(argument(alloc, word))?;

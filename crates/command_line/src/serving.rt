@@ -2,7 +2,9 @@
 use crate::build::BUILD;
 use crate::logs::{Logs, logs_of};
 use crate::places::{Peer, is_of_this_machine, peer_of};
-use crate::rows::{INDEX_WORD, Order, SCHEMA_WORD, Takes, Word, command_of, refusal_by};
+use crate::rows::{
+    CommandSpec, INDEX_OPTION, OptionSpec, SCHEMA_OPTION, Takes, command_of, refusal_by,
+};
 use crate::words::as_text;
 use clap::{ArgMatches, Error};
 use std::alloc::Global;
@@ -107,8 +109,8 @@ impl<'a> Drop for Serving<'a> {
 }
 
 /// What each word of `serve` is, in the order of its help.
-const WORDS: &[Word] = &[
-    Word {
+const OPTIONS: &[OptionSpec] = &[
+    OptionSpec {
         name: "cluster",
         value: "C",
         takes: Takes::Number {
@@ -117,57 +119,57 @@ const WORDS: &[Word] = &[
         },
         help: "The number of the cluster, the same at each of its replicas and at no other cluster's",
     },
-    Word {
+    OptionSpec {
         name: "id",
         value: "I",
         takes: Takes::Number { first: 0, last: 6 },
         help: "Which of the PEERs this replica is, counted from 0",
     },
-    Word {
+    OptionSpec {
         name: "store",
         value: "FILE",
         takes: Takes::Wanted,
         help: "The file of the replica's stored view, its own for its whole life",
     },
-    Word {
+    OptionSpec {
         name: "journal",
         value: "FILE",
         takes: Takes::Text,
         help: "The file of the replica's journal: it keeps the log, so that not even the end of all replicas at once loses an update",
     },
-    Word {
+    OptionSpec {
         name: "fresh",
         value: "",
         takes: Takes::Nothing,
         help: "The first start of the replica's life: its file is made, and no other start may be given this",
     },
-    Word {
+    OptionSpec {
         name: "suffix",
         value: "DN",
         takes: Takes::Wanted,
         help: "The name of the directory's root",
     },
-    Word {
+    OptionSpec {
         name: "manager",
         value: "DN",
         takes: Takes::Wanted,
         help: "The name that may bind and update",
     },
-    Word {
+    OptionSpec {
         name: "password",
         value: "TEXT",
         takes: Takes::Text,
         help: "The manager's password, which whoever lists this machine's processes then reads",
     },
-    Word {
+    OptionSpec {
         name: "password-file",
         value: "FILE",
         takes: Takes::Text,
         help: "The file whose first line is the manager's password, in place of --password; nobody but its owner may read it",
     },
-    SCHEMA_WORD,
-    INDEX_WORD,
-    Word {
+    SCHEMA_OPTION,
+    INDEX_OPTION,
+    OptionSpec {
         name: "seats",
         value: "N",
         takes: Takes::Count {
@@ -176,7 +178,7 @@ const WORDS: &[Word] = &[
         },
         help: "How many threads read, at most 32",
     },
-    Word {
+    OptionSpec {
         name: "sessions",
         value: "N",
         takes: Takes::Count {
@@ -185,7 +187,7 @@ const WORDS: &[Word] = &[
         },
         help: "How many sessions there may be, as far as the system has descriptors; then the one that was silent for longest goes",
     },
-    Word {
+    OptionSpec {
         name: "updates",
         value: "N",
         takes: Takes::Count {
@@ -194,7 +196,7 @@ const WORDS: &[Word] = &[
         },
         help: "How many threads wait for updates, at most 256",
     },
-    Word {
+    OptionSpec {
         name: "stall",
         value: "MS",
         takes: Takes::Count {
@@ -203,7 +205,7 @@ const WORDS: &[Word] = &[
         },
         help: "Within how long a client has to send a message that it has begun",
     },
-    Word {
+    OptionSpec {
         name: "idle",
         value: "MS",
         takes: Takes::Count {
@@ -212,7 +214,7 @@ const WORDS: &[Word] = &[
         },
         help: "How long another replica's connection may be silent while others wait for its place",
     },
-    Word {
+    OptionSpec {
         name: "take",
         value: "MS",
         takes: Takes::Count {
@@ -221,13 +223,13 @@ const WORDS: &[Word] = &[
         },
         help: "How long a client may take nothing of what it is sent, and an update wait for a thread",
     },
-    Word {
+    OptionSpec {
         name: "memory-for-clients",
         value: "MIB",
         takes: Takes::Amount { last: MOST_MEMORY },
         help: "How much memory requests and answers of clients may take together, a quarter of this machine's at most; an eighth of it, between 64 and 1024, where it isn't told",
     },
-    Word {
+    OptionSpec {
         name: "beat",
         value: "MS",
         takes: Takes::Count {
@@ -236,7 +238,7 @@ const WORDS: &[Word] = &[
         },
         help: "How often the replica sends again what others may have missed",
     },
-    Word {
+    OptionSpec {
         name: "suspect",
         value: "MS",
         takes: Takes::Count {
@@ -245,19 +247,19 @@ const WORDS: &[Word] = &[
         },
         help: "How long a backup hears nothing of its primary before it suspects it",
     },
-    Word {
+    OptionSpec {
         name: "metrics",
         value: "ADDR",
         takes: Takes::Text,
         help: "Answer monitors over HTTP at this address, as 127.0.0.1:9389: /live, /ready and /metrics",
     },
-    Word {
+    OptionSpec {
         name: "log",
         value: "WHAT",
         takes: Takes::Texts,
         help: "Log on standard error each session's begin and end (connections), each update (updates), or both (connections,updates)",
     },
-    Word {
+    OptionSpec {
         name: "slow",
         value: "N",
         takes: Takes::Count {
@@ -266,13 +268,13 @@ const WORDS: &[Word] = &[
         },
         help: "Log each search that evaluates its filter on more than so many entries, for want of an index",
     },
-    Word {
+    OptionSpec {
         name: "unproved",
         value: "",
         takes: Takes::Nothing,
         help: "Serve beyond this machine although the program's proofs were not checked; a proved program needs no leave",
     },
-    Word {
+    OptionSpec {
         name: "PEER",
         value: "",
         takes: Takes::Many { at_least_one: true },
@@ -281,10 +283,10 @@ const WORDS: &[Word] = &[
 ];
 
 /// The command `serve`.
-pub const SERVE: Order = Order {
+pub const SERVE: CommandSpec = CommandSpec {
     name: "serve",
     about: "Serve LDAP as one replica of a cluster, until it is stopped",
-    words: WORDS,
+    words: OPTIONS,
 };
 
 /// An error in the words of `serve`.
@@ -375,7 +377,7 @@ fn judge_build(
 }
 
 /// Refuses what stands behind a word that takes a number, and is none, or out of its range.
-fn judge_number(alloc: Global, matches: &ArgMatches<'_>, word: &Word) -> Result<(), Error> {
+fn judge_number(alloc: Global, matches: &ArgMatches<'_>, word: &OptionSpec) -> Result<(), Error> {
     let (Some((first, last)), Some(text)) = (word.takes.range(), matches.get_str(word.name)) else {
         return Ok(());
     };
@@ -391,7 +393,7 @@ fn judge_number(alloc: Global, matches: &ArgMatches<'_>, word: &Word) -> Result<
 
 /// Refuses what is no number where one is wanted.
 fn judge_numbers(alloc: Global, matches: &ArgMatches<'_>) -> Result<(), Error> {
-    for word in WORDS {
+    for word in OPTIONS {
         judge_number(alloc, matches, word)?;
     }
     Ok(())

@@ -1,6 +1,8 @@
 //! Reads the words of the command line: makes a job of them, or a text for the user.
 use crate::build::BUILD;
-use crate::rows::{INDEX_WORD, Order, SCHEMA_WORD, Takes, Word, command_of, refusal_by};
+use crate::rows::{
+    CommandSpec, INDEX_OPTION, OptionSpec, SCHEMA_OPTION, Takes, command_of, refusal_by,
+};
 use crate::serving::{SERVE, Serving, serving_in};
 use clap::{ArgMatches, Command, Error};
 use ldap_requests::Scope;
@@ -84,19 +86,19 @@ impl<'a> Drop for Question<'a> {
 const SCOPES: &[&str] = &["base", "one", "sub"];
 
 /// The words of `answer`.
-const ANSWER_WORDS: &[Word] = &[
-    Word {
+const ANSWER_WORDS: &[OptionSpec] = &[
+    OptionSpec {
         name: "sample",
         value: "",
         takes: Takes::Nothing,
         help: "Answer over the built-in sample of six entries",
     },
-    SCHEMA_WORD,
-    INDEX_WORD,
+    SCHEMA_OPTION,
+    INDEX_OPTION,
 ];
 
 /// The word for the name of the root.
-const SUFFIX_WORD: Word = Word {
+const SUFFIX_WORD: OptionSpec = OptionSpec {
     name: "suffix",
     value: "DN",
     takes: Takes::Text,
@@ -104,35 +106,35 @@ const SUFFIX_WORD: Word = Word {
 };
 
 /// The words of `search`.
-const SEARCH_WORDS: &[Word] = &[
-    SCHEMA_WORD,
-    INDEX_WORD,
+const SEARCH_WORDS: &[OptionSpec] = &[
+    SCHEMA_OPTION,
+    INDEX_OPTION,
     SUFFIX_WORD,
-    Word {
+    OptionSpec {
         name: "explain",
         value: "",
         takes: Takes::Nothing,
         help: "Show which indexes serve the filter and what the search costs, in place of the entries",
     },
-    Word {
+    OptionSpec {
         name: "BASE",
         value: "",
         takes: Takes::Place,
         help: "The name of the entry where the search begins",
     },
-    Word {
+    OptionSpec {
         name: "SCOPE",
         value: "",
         takes: Takes::OneOf(SCOPES),
         help: "The base alone, the entries right under it, or all at or below it",
     },
-    Word {
+    OptionSpec {
         name: "FILTER",
         value: "",
         takes: Takes::Place,
         help: "Which entries are shown, as in (cn=Ana)",
     },
-    Word {
+    OptionSpec {
         name: "ATTR",
         value: "",
         takes: Takes::Many {
@@ -143,11 +145,11 @@ const SEARCH_WORDS: &[Word] = &[
 ];
 
 /// The words of `check`.
-const CHECK_WORDS: &[Word] = &[
-    SCHEMA_WORD,
-    INDEX_WORD,
+const CHECK_WORDS: &[OptionSpec] = &[
+    SCHEMA_OPTION,
+    INDEX_OPTION,
     SUFFIX_WORD,
-    Word {
+    OptionSpec {
         name: "FILE",
         value: "",
         takes: Takes::Place,
@@ -156,36 +158,36 @@ const CHECK_WORDS: &[Word] = &[
 ];
 
 /// All commands, in the order of the help.
-const ORDERS: &[Order] = &[
-    Order {
+const COMMANDS: &[CommandSpec] = &[
+    CommandSpec {
         name: "answer",
         about: "Answer one client: the input is its stream of LDAP messages, lines of hex cut anywhere; each response is a line of hex",
         words: ANSWER_WORDS,
     },
-    Order {
+    CommandSpec {
         name: "search",
         about: "Search the entries of an LDIF text: the input is LDIF, the answer is LDIF",
         words: SEARCH_WORDS,
     },
-    Order {
+    CommandSpec {
         name: "check",
         about: "Check an LDIF file before it is served: each record that a directory would refuse is shown with its line, code and reason",
         words: CHECK_WORDS,
     },
-    Order {
+    CommandSpec {
         name: "import",
         about: "Turn LDIF into messages: each record becomes an AddRequest, a line of hex, with ids from 1",
         words: &[],
     },
-    Order {
+    CommandSpec {
         name: "export",
         about: "Turn the responses to a search, lines of hex, into LDIF of the entries",
         words: &[],
     },
-    Order {
+    CommandSpec {
         name: "lab",
         about: "Play a script of updates, searches, deliveries, view changes, crashes and recoveries with real replicas",
-        words: &[INDEX_WORD],
+        words: &[INDEX_OPTION],
     },
     SERVE,
 ];
@@ -203,7 +205,7 @@ fn program<'a>(alloc: Global) -> Command<'a> {
 fn with_order<'a>(
     alloc: Global,
     command: Command<'a>,
-    order: &Order,
+    order: &CommandSpec,
 ) -> Result<Command<'a>, AllocError> {
     command.subcommand(command_of(alloc, order)?)
 }
@@ -211,7 +213,7 @@ fn with_order<'a>(
 /// All words.
 fn command<'a>(alloc: Global) -> Result<Command<'a>, AllocError> {
     let mut command = program(alloc);
-    for order in ORDERS {
+    for order in COMMANDS {
         command = with_order(alloc, command, order)?;
     }
     Ok(command)

@@ -8,7 +8,7 @@ ghost use Rattle.dir_lab.specs.Schedule.{shown_by};
 ghost use Rattle.dir_lab.specs.Shown.{shown_view};
 
 use crate::events::{LabEvent, LabReply};
-use crate::running::{Running, begin, take_event};
+use crate::running::{LabRun, begin, take_event};
 use dir_search::{Indexes, Name, Schema};
 use std::alloc::{AllocError, Global};
 use std::sync::Arc;
@@ -66,7 +66,7 @@ impl Lab {
         for event in events {
             take_event(alloc, self, &mut run, event)?;
         }
-        let Running { shown, .. } = run;
+        let LabRun { shown, .. } = run;
         Ok(shown)
     }
 }

@@ -19,7 +19,7 @@ use vr_world::{Cluster, WorldEvent};
 
 /// What a run has so far.
 #[derive(Drop)]
-pub struct Running {
+pub struct LabRun {
     /// The replicas, and all that was ever sent and answered.
     pub cluster: Cluster<Op>,
     /// What each replica has executed, by index.
@@ -28,7 +28,7 @@ pub struct Running {
 }
 
 /// A run at its start. Its only error is want of memory.
-pub fn begin(alloc: Global, lab: &Lab) -> Result<Running, AllocError>
+pub fn begin(alloc: Global, lab: &Lab) -> Result<LabRun, AllocError>
     ensures running { IfOk result (λ run. IsRunning (arc_value lab.now.schema) lab.now.suffix lab.now.count run) }
     ensures world { IfOk result (λ run. world run.cluster ≡ start lab.now.count) }
     ensures records { IfOk result (λ run. records_by run.kept.items ≡ (λ i. [])) }
@@ -36,7 +36,7 @@ pub fn begin(alloc: Global, lab: &Lab) -> Result<Running, AllocError>
 {
     let cluster = Cluster::first(alloc, lab.count)?;
     let kept = none_kept(alloc, lab.count)?;
-    Ok(Running {
+    Ok(LabRun {
         cluster,
         kept,
         shown: Vec::new(alloc),
@@ -48,7 +48,7 @@ pub fn begin(alloc: Global, lab: &Lab) -> Result<Running, AllocError>
 fn happen(
     alloc: Global,
     lab: &Lab,
-    run: &mut Running,
+    run: &mut LabRun,
     event: WorldEvent<Op>,
 ) -> Result<(), AllocError>
     requires { IsRunning (arc_value lab.now.schema) lab.now.suffix lab.now.count run.old }
@@ -67,7 +67,7 @@ fn happen(
 fn ask_search(
     alloc: Global,
     lab: &Lab,
-    run: &mut Running,
+    run: &mut LabRun,
     index: u64,
     named: u64,
     request: &SearchRequest,
@@ -92,7 +92,7 @@ fn ask_search(
 }
 
 /// A replica is asked for its state. Its only error is want of memory.
-fn ask_state(lab: &Lab, run: &mut Running, index: u64) -> Result<(), AllocError>
+fn ask_state(lab: &Lab, run: &mut LabRun, index: u64) -> Result<(), AllocError>
     requires { IsRunning (arc_value lab.now.schema) lab.now.suffix lab.now.count run.old }
     ensures running { OnOk result (IsRunning (arc_value lab.now.schema) lab.now.suffix lab.now.count run.new) }
     ensures next { OnOk result (IsNext (arc_value lab.now.schema) lab.now.suffix lab.now.count run.old run.new (kinds.State index)) }
@@ -108,7 +108,7 @@ fn ask_state(lab: &Lab, run: &mut Running, index: u64) -> Result<(), AllocError>
 pub fn take_event(
     alloc: Global,
     lab: &Lab,
-    run: &mut Running,
+    run: &mut LabRun,
     event: LabEvent,
 ) -> Result<(), AllocError>
     requires { IsRunning (arc_value lab.now.schema) lab.now.suffix lab.now.count run.old }

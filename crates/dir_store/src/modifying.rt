@@ -15,7 +15,7 @@ use std::alloc::Global;
 
 /// A number, and what its entry is changed to.
 #[derive(Drop)]
-pub struct Kept {
+pub struct ChangedEntry {
     pub number: u64,
     pub entry: Entry,
 }
@@ -27,7 +27,7 @@ fn change(
     changes: &[Change],
     number: u64,
     held: &NamedEntry<'_>,
-) -> Result<Kept, StoreError>
+) -> Result<ChangedEntry, StoreError>
     requires keyed { IsKeyedBy schema.now held.now.entry.now }
     ensures ok { IfOk result (λ k. change_of schema.now (map change_view changes.now) (named (entered_of number held.now)) ≡ Ok (kept_view k)) }
     ensures keyed { IfOk result (λ k. IsKeyedBy schema.now k.entry) }
@@ -40,7 +40,7 @@ fn change(
         changes,
         held.entry,
     ) {
-        Ok(entry) => Ok(Kept { number, entry }),
+        Ok(entry) => Ok(ChangedEntry { number, entry }),
         Err(error) => Err(refused_attributes(alloc, error)),
     }
 }
@@ -51,7 +51,7 @@ pub fn asked_change(
     schema: &Schema,
     tree: &Tree,
     request: &ModifyRequest,
-) -> Result<Kept, StoreError>
+) -> Result<ChangedEntry, StoreError>
     requires keyed { AreKeyedBy schema.now tree.now.entries }
     ensures ok { IfOk result (λ k. change_asked (directory schema.now tree.now) (modify_view request.now) ≡ Ok (kept_view k)) }
     ensures keyed { IfOk result (λ k. IsKeyedBy schema.now k.entry) }

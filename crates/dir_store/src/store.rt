@@ -12,7 +12,7 @@ ghost use Rattle.dir_store.specs.private.View.{RefusedWith};
 use crate::adding::{Placed, addition};
 use crate::deleting::asked_leaf;
 use crate::fault::{StoreError, reply_of_refusal};
-use crate::modifying::{Kept, asked_change};
+use crate::modifying::{ChangedEntry, asked_change};
 use crate::names::asked_name;
 use crate::renaming::{Moved, asked_move};
 use entry_updates::{AddRequest, ModifyDnRequest, ModifyRequest, Op, ResultCode, Update};
@@ -169,7 +169,12 @@ impl Store {
         ensures refused { IfErr result (λ e. RefusedWith e (modified self.old.directory (modify_view request.now))) }
         ensures err { OnErr result (self.new ≡ self.old) }
     {
-        let Kept { number, entry } = asked_change(alloc, &self.schema, self.held.tree(), request)?;
+        let ChangedEntry { number, entry } = asked_change(
+            alloc,
+            &self.schema,
+            self.held.tree(),
+            request,
+        )?;
         let entry = SharedEntry::new(alloc, entry)?;
         self.held.replace(number, entry)?;
         Ok(())

@@ -5,7 +5,7 @@ ghost use Rattle.std.specs.FinMap as map;
 ghost use Rattle.local_directory.specs.View.{kept_view};
 ghost use Rattle.local_directory.specs.private.Changes.{with_kept};
 
-use crate::kept::Kept;
+use crate::kept::LatestReply;
 use dir_search::Client;
 use std::alloc::{AllocError, Global};
 use std::collections::BTreeMap;
@@ -14,7 +14,7 @@ use std::marker::Model;
 /// What is kept of each client's latest request, by client. A look-up costs the logarithm of the number of clients.
 #[derive(Drop)]
 pub struct ClientTable {
-    latest: BTreeMap<Client, Kept>,
+    latest: BTreeMap<Client, LatestReply>,
 }
 
 impl Model for ClientTable {
@@ -41,14 +41,18 @@ impl ClientTable {
     }
 
     /// What is kept of a client's latest request, if it made any.
-    pub fn latest(&self, client: Client) -> Option<&Kept>
+    pub fn latest(&self, client: Client) -> Option<&LatestReply>
         ensures { option_map (λ k. kept_view k.now) result ≡ map.get self.now client }
     {
         self.latest.get(&client)
     }
 
     /// Keeps this of a client's latest request, and gives back what was kept. At an error the table is unchanged.
-    pub fn keep(&mut self, client: Client, kept: Kept) -> Result<Option<Kept>, AllocError>
+    pub fn keep(
+        &mut self,
+        client: Client,
+        kept: LatestReply,
+    ) -> Result<Option<LatestReply>, AllocError>
         ensures ok { OnOk result (self.new ≡ map.insert self.old client (kept_view kept)) }
         ensures before { IfOk result (λ before. option_map kept_view before ≡ map.get self.old client) }
         ensures err { OnErr result (self.new ≡ self.old) }
@@ -60,7 +64,7 @@ impl ClientTable {
     }
 
     /// Keeps this of the latest request of a client that the table has. It takes no memory.
-    pub fn replace(&mut self, client: Client, kept: Kept)
+    pub fn replace(&mut self, client: Client, kept: LatestReply)
         requires there { is_some (map.get self.old client) ≡ true }
         ensures { self.new ≡ map.insert self.old client (kept_view kept) }
     {
@@ -71,7 +75,7 @@ impl ClientTable {
     }
 
     /// Keeps this of a client that the table has, or nothing. It takes no memory.
-    pub fn put_back(&mut self, client: Client, kept: Option<Kept>)
+    pub fn put_back(&mut self, client: Client, kept: Option<LatestReply>)
         requires there { is_some (map.get self.old client) ≡ true }
         ensures { self.new ≡ with_kept self.old client (option_map kept_view kept) }
     {

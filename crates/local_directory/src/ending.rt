@@ -11,12 +11,12 @@ ghost use Rattle.local_directory.specs.Local.{LocalValue};
 ghost use Rattle.local_directory.specs.View.{kept_view};
 
 use crate::client_table::ClientTable;
-use crate::kept::Kept;
+use crate::kept::LatestReply;
 use dir_search::{Client, Ended};
 use std::alloc::Global;
 
 /// The end that is kept, again.
-fn ended_again(alloc: Global, kept: &Kept) -> Ended
+fn ended_again(alloc: Global, kept: &LatestReply) -> Ended
     ensures { (d : LocalValue) →
         Ends (unchanged d (done kept.now.number (reply_view kept.now.reply))) d (ended_view result) d }
 {
@@ -30,7 +30,7 @@ fn ended_again(alloc: Global, kept: &Kept) -> Ended
 }
 
 /// How a request ends where this is kept of its client's latest one; none, where it is new.
-fn ended_by(alloc: Global, kept: &Kept, request: u64) -> Option<Ended>
+fn ended_by(alloc: Global, kept: &LatestReply, request: u64) -> Option<Ended>
     ensures before { IfSome result (λ ended. (d : LocalValue) (client : Client) (op : OpValue) →
         Ends (outcome_by (standing_to (kept_view kept.now) request) d client request op) d (ended_view ended) d) }
     ensures newer { IfNone result (standing_to (kept_view kept.now) request ≡ newer) }

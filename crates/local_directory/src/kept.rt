@@ -7,7 +7,7 @@ use dir_search::{Reply, ResultCode};
 
 /// What a client's latest request was answered with.
 #[derive(Drop)]
-pub struct Kept {
+pub struct LatestReply {
     /// The request's number.
     pub request: u64,
     /// The number of its update.

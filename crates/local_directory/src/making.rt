@@ -8,7 +8,7 @@ ghost use Rattle.dir_store.specs.directory_api.View.{reply_view};
 ghost use Rattle.local_directory.specs.Latest.{kept_as};
 
 use crate::client_table::ClientTable;
-use crate::kept::{Kept, is_success};
+use crate::kept::{LatestReply, is_success};
 use dir_search::{Client, Op, Reply, ResultCode};
 use dir_store::Store;
 use std::alloc::{AllocError, Global};
@@ -43,7 +43,7 @@ fn keep_reply(
         return Ok(reply);
     }
     let copied = reply.copy(alloc)?;
-    let kept = Kept {
+    let kept = LatestReply {
         request: request.number,
         number,
         reply: copied,
@@ -95,7 +95,7 @@ pub fn make(
     ensures err { OnErr result (store.new ≡ store.old) }
     ensures err_clients { OnErr result (clients.new ≡ clients.old) }
 {
-    let success = Kept {
+    let success = LatestReply {
         request: request.number,
         number,
         reply: Reply::only(alloc, ResultCode::SUCCESS),

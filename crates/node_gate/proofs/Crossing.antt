@@ -26,7 +26,7 @@ use Rattle.node_gate.specs.contracts.published.Here as Here
 use Rattle.node_gate.specs.contracts.published.PublishedNode as PublishedNode
 use Rattle.node_gate.specs.contracts.beats.LastBeat as LastBeat
 use Rattle.std.specs.contracts.option.Option as Option
-use Rattle.node_gate.specs.contracts.held.Held as Held
+use Rattle.node_gate.specs.contracts.held.LockedNode as LockedNode
 use Rattle.node_gate.specs.contracts.moved.Moved as Moved
 use Rattle.node_gate.specs.contracts.running.SharedNode as SharedNode
 use Rattle.node_gate.specs.contracts.gate.NodeGate as NodeGate
@@ -42,10 +42,10 @@ module _ (D J I : RattleType) (g : Device.Ghosts D.Denot) (h : JournalDevice.Gho
       struct_send (Declared.shape (PublishedNode.the_type a R D J g h))
       (node_send D J g h s t, (publisher_send Here.the_row _ (shr_send _ _ R y), tt))
 
-  held_send : (a : NamedLft) (R : RattleType) → IsSync R → IsSend D → IsSend J → IsSend (Held.the_row a R D J I g h i)
+  held_send : (a : NamedLft) (R : RattleType) → IsSync R → IsSend D → IsSend J → IsSend (LockedNode.the_row a R D J I g h i)
   held_send a R y s t =
-      recorded_send (Held.the_field a R D J I g h i).row _ _ (Held.the_type a R D J I g h i).to_one
-      (struct_send (Declared.shape (Held.the_type a R D J I g h i))
+      recorded_send (LockedNode.the_field a R D J I g h i).row _ _ (LockedNode.the_type a R D J I g h i).to_one
+      (struct_send (Declared.shape (LockedNode.the_type a R D J I g h i))
       (published_field_send a R y s t, (search (crosses, sendable) depth 40, (plain_send _ _ _ _ _, (plain_send _ _ _ _ _, (plain_send _ _ _ _ _, (phantom.the_field_send I, tt)))))))
 
   last_beat_send : IsSend (LastBeat.the_row I i)
@@ -60,7 +60,7 @@ module _ (D J I : RattleType) (g : Device.Ghosts D.Denot) (h : JournalDevice.Gho
 
   pub running_sync : (a : NamedLft) (R : RattleType) → IsSync R → IsSend D → IsSend J → IsSync (SharedNode.the_row a R D J I g h i)
   running_sync a R y s t =
-      let held : IsSend (Held.the_row a R D J I g h i) = held_send a R y s t in
+      let held : IsSend (LockedNode.the_row a R D J I g h i) = held_send a R y s t in
       let kept : IsSend (Option.the_row (LastBeat.the_row I i)) = option_send (LastBeat.the_row I i) last_beat_send in
       recorded_sync (SharedNode.the_field a R D J I g h i).row _ _ (SharedNode.the_type a R D J I g h i).to_one
       (struct_sync (Declared.shape (SharedNode.the_type a R D J I g h i)) (

@@ -11,7 +11,7 @@ ghost use Rattle.vr_short.specs.Short.{taken_as};
 
 use crate::arrival::Arrival;
 use crate::beats::LastBeat;
-use crate::held::{Held, Pulse};
+use crate::held::{LockedNode, Pulse};
 use crate::identity::NodeIdentity;
 use crate::inbox::{EventBatch, Inbox};
 use crate::moved::{Handed, Moved};
@@ -96,7 +96,7 @@ fn send_each<P: Peers>(peers: &mut P, outputs: Vec<Given>) -> u64
 /// Hands a batch of events to the node, and over what its steps send; copies of what the event at this place has sent.
 fn take_all<R: Wait, D: Device, J: JournalDevice, I: NodeIdentity, P: Peers>(
     alloc: Global,
-    held: &mut Held<'_, R, D, J, I>,
+    held: &mut LockedNode<'_, R, D, J, I>,
     peers: &mut P,
     events: Vec<Event<Op>>,
     beat_at: Option<usize>,

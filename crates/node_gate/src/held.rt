@@ -10,7 +10,7 @@ ghost use Rattle.node_gate.specs.private.Shared.{standing_to_sessions};
 use crate::arrival::Arrival;
 use crate::ending::Request;
 use crate::identity::NodeIdentity;
-use crate::inbox::Heard;
+use crate::inbox::HeardSign;
 use crate::published::PublishedNode;
 use crate::telling::{told_by_step, told_by_steps};
 pub use dir_node::Standing;
@@ -44,7 +44,7 @@ impl Pulse {
 }
 
 /// The node with this identity, what its seats see of it, its clock, and whether those who wait are to go on.
-pub struct Held<'a, R: Wait, D: Device, J: JournalDevice, I: NodeIdentity> {
+pub struct LockedNode<'a, R: Wait, D: Device, J: JournalDevice, I: NodeIdentity> {
     published: PublishedNode<'a, R, D, J>,
     clock: ReplicaClock,
     pub is_stopping: bool,
@@ -58,9 +58,9 @@ pub struct Held<'a, R: Wait, D: Device, J: JournalDevice, I: NodeIdentity> {
 
 // Not derived: see "What the gate takes" in docs/ARCHITECTURE.md.
 impl<'a, R: Wait, D: Device + Drop, J: JournalDevice + Drop, I: NodeIdentity> Drop
-    for Held<'a, R, D, J, I> {
+    for LockedNode<'a, R, D, J, I> {
     fn drop(self) {
-        let Held {
+        let LockedNode {
             published: _,
             clock: _,
             is_stopping: _,
@@ -80,12 +80,15 @@ pub fn status_of(standing: Standing) -> Status {
     }
 }
 
-impl<'a, R: Wait, D: Device, J: JournalDevice, I: NodeIdentity> Held<'a, R, D, J, I> {
+impl<'a, R: Wait, D: Device, J: JournalDevice, I: NodeIdentity> LockedNode<'a, R, D, J, I> {
     /// The node with this identity, and its clock.
-    pub fn new(published: PublishedNode<'a, R, D, J>, clock: ReplicaClock) -> Held<'a, R, D, J, I>
+    pub fn new(
+        published: PublishedNode<'a, R, D, J>,
+        clock: ReplicaClock,
+    ) -> LockedNode<'a, R, D, J, I>
         requires { identity_of published.node ≡ I.own }
     {
-        Held {
+        LockedNode {
             published,
             clock,
             is_stopping: false,
@@ -158,7 +161,7 @@ impl<'a, R: Wait, D: Device, J: JournalDevice, I: NodeIdentity> Held<'a, R, D, J
     }
 
     /// The clock is told of the messages that were heard, and of what the node does after them.
-    pub fn hear_all(&mut self, heard: &[Heard], now: u64)
+    pub fn hear_all(&mut self, heard: &[HeardSign], now: u64)
         ensures published { self.new.published ≡ self.old.published }
     {
         self.note(now);

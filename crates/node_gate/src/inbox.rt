@@ -11,7 +11,7 @@ const EVENTS: usize = 4_096;
 
 /// What the clock is told of a message that was heard.
 #[derive(Clone, Copy)]
-pub struct Heard {
+pub struct HeardSign {
     pub from: u64,
     pub sign: Sign,
     pub at: u64,
@@ -21,7 +21,7 @@ pub struct Heard {
 #[derive(Drop)]
 pub struct EventBatch {
     pub events: Vec<Event<Op>>,
-    pub heard: Vec<Heard>,
+    pub heard: Vec<HeardSign>,
     /// Which of the events is the clock's last beat, if one is.
     pub beat_at: Option<usize>,
     /// The number of the last event, of all that were ever posted.
@@ -51,7 +51,7 @@ impl EventBatch {
         let sign = sign_of(&message);
         self.heard.reserve(1)?;
         let number = self.push(Event::Message { from, message })?;
-        self.heard.push(Heard { from, sign, at })?;
+        self.heard.push(HeardSign { from, sign, at })?;
         Ok(number)
     }
 

@@ -11,7 +11,7 @@ ghost use Rattle.replica_clock.specs.declared.clock.Due.TheVariants as kind;
 use crate::arrival::Arrival;
 use crate::beats::LastBeat;
 use crate::ending::{Request, ended_at};
-use crate::held::{Held, Pulse, status_of};
+use crate::held::{LockedNode, Pulse, status_of};
 use crate::identity::NodeIdentity;
 use crate::inbox::Inbox;
 use crate::moved::{Acted, Moved};
@@ -39,7 +39,7 @@ struct Call {
 
 /// The node with this identity under its lock, with a condition that is told of each change, and one for the thread that asks its clock.
 pub struct SharedNode<'a, R: Wait, D: Device, J: JournalDevice, I: NodeIdentity> {
-    pub(crate) held: Mutex<Held<'a, R, D, J, I>>,
+    pub(crate) held: Mutex<LockedNode<'a, R, D, J, I>>,
     /// The standing to sessions after the last event, for who doesn't wait for the lock.
     pub(crate) standing: LastStanding,
     teller: Teller<Here>,
@@ -113,7 +113,7 @@ pub(crate) fn send_outputs<P: Peers>(peers: &mut P, outputs: Outputs<Op>)
 /// Hands an event to the node, and over what its step sends.
 fn take<R: Wait, D: Device, J: JournalDevice, I: NodeIdentity, P: Peers>(
     alloc: Global,
-    held: &mut Held<'_, R, D, J, I>,
+    held: &mut LockedNode<'_, R, D, J, I>,
     peers: &mut P,
     event: Event<Op>,
 ) -> Result<(), NodeError>
@@ -128,7 +128,7 @@ fn take<R: Wait, D: Device, J: JournalDevice, I: NodeIdentity, P: Peers>(
 /// Hands the message of another replica to the node, likewise.
 fn take_message<R: Wait, D: Device, J: JournalDevice, I: NodeIdentity, P: Peers>(
     alloc: Global,
-    held: &mut Held<'_, R, D, J, I>,
+    held: &mut LockedNode<'_, R, D, J, I>,
     peers: &mut P,
     arrival: Arrival,
 ) -> Result<(), NodeError>
@@ -143,7 +143,7 @@ fn take_message<R: Wait, D: Device, J: JournalDevice, I: NodeIdentity, P: Peers>
 /// Lets the node make a beat, and copies what it sends, where there is memory for that.
 fn beat<R: Wait, D: Device, J: JournalDevice, I: NodeIdentity, P: Peers>(
     alloc: Global,
-    held: &mut Held<'_, R, D, J, I>,
+    held: &mut LockedNode<'_, R, D, J, I>,
     peers: &mut P,
 ) -> (Result<(), NodeError>, Option<Vec<Send<Op>>>)
     ensures stepped { OnOk result.0 (HasStepped P.takes event.Beat held.old.published.node held.new.published.node peers.old peers.new) }
@@ -166,7 +166,7 @@ fn beat<R: Wait, D: Device, J: JournalDevice, I: NodeIdentity, P: Peers>(
 /// Does what is due, or nothing where nothing is; copies of what a beat has sent. A node that stopped at it shows that in its pulse.
 fn act<R: Wait, D: Device, J: JournalDevice, I: NodeIdentity, P: Peers>(
     alloc: Global,
-    held: &mut Held<'_, R, D, J, I>,
+    held: &mut LockedNode<'_, R, D, J, I>,
     peers: &mut P,
     due: Due,
 ) -> (Result<(), NodeError>, Option<Vec<Send<Op>>>)
@@ -200,7 +200,7 @@ impl<'a, R: Wait, D: Device, J: JournalDevice, I: NodeIdentity> SharedNode<'a, R
             status,
             0,
         );
-        let held = Held::new(published, clock);
+        let held = LockedNode::new(published, clock);
         SharedNode {
             standing: LastStanding::new(held.standing()),
             teller,

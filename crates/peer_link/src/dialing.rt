@@ -13,12 +13,12 @@ pub trait Dial {
     fn dial(&mut self) -> Option<Self::Stream>;
 
     /// What has come back on the stream since it was asked last. It waits for nothing.
-    fn hear(&mut self, stream: &Self::Stream) -> Heard;
+    fn hear(&mut self, stream: &Self::Stream) -> StreamState;
 }
 
 /// What has come back on a stream.
 #[derive(Clone, Copy, Debug, PartialEq, Eq)]
-pub enum Heard {
+pub enum StreamState {
     Nothing,
     /// The other end has answered.
     Answer,
@@ -93,10 +93,10 @@ pub const REFUSAL: usize = 18;
 const REFUSED: u8 = 2;
 
 /// What octets say that have come back: a refusal, or that the other end is there.
-fn heard_in(octets: &[u8]) -> Heard {
+fn heard_in(octets: &[u8]) -> StreamState {
     match octets.first_chunk::<REFUSAL>() {
-        Some(refusal) if refusal[0] == REFUSED => Heard::Refusal(*refusal),
-        _ => Heard::Answer,
+        Some(refusal) if refusal[0] == REFUSED => StreamState::Refusal(*refusal),
+        _ => StreamState::Answer,
     }
 }
 
@@ -104,23 +104,23 @@ fn heard_in(octets: &[u8]) -> Heard {
 const ANSWERS: usize = 64;
 
 /// What can be read of a stream that doesn't wait.
-fn read_answers(mut stream: &TcpStream) -> Heard {
+fn read_answers(mut stream: &TcpStream) -> StreamState {
     let mut octets = [0u8; ANSWERS];
     match stream.read(&mut octets) {
-        Ok(0) => Heard::End,
+        Ok(0) => StreamState::End,
         Ok(count) => match octets.get(..count) {
             Some(come) => heard_in(come),
-            None => Heard::End,
+            None => StreamState::End,
         },
         Err(error) => match error.kind() {
-            ErrorKind::WouldBlock | ErrorKind::Interrupted => Heard::Nothing,
-            _ => Heard::End,
+            ErrorKind::WouldBlock | ErrorKind::Interrupted => StreamState::Nothing,
+            _ => StreamState::End,
         },
     }
 }
 
 /// What has come back on a stream.
-fn answers_on(stream: &TcpStream) -> io::Result<Heard> {
+fn answers_on(stream: &TcpStream) -> io::Result<StreamState> {
     stream.set_nonblocking(true)?;
     let heard = read_answers(stream);
     stream.set_nonblocking(false)?;
@@ -138,7 +138,7 @@ impl<'a, R: Net<Stream = TcpStream>> Dial for SocketDialer<'a, R> {
         }
     }
 
-    fn hear(&mut self, stream: &TcpStream) -> Heard {
-        answers_on(stream).unwrap_or(Heard::End)
+    fn hear(&mut self, stream: &TcpStream) -> StreamState {
+        answers_on(stream).unwrap_or(StreamState::End)
     }
 }

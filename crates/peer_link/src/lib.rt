@@ -22,7 +22,7 @@ mod weighted;
 
 pub use address::Address;
 pub use bytes::Bytes;
-pub use dialing::{Dial, Heard, REFUSAL, SocketDialer};
+pub use dialing::{Dial, REFUSAL, SocketDialer, StreamState};
 pub use framing::Framing;
 pub use outbox::{Outbox, Waited};
 pub use queue::MessageQueue;

@@ -17,15 +17,15 @@ pub enum Waited<T> {
 }
 
 /// What is under the lock.
-struct Held<T> {
+struct LockedQueue<T> {
     queue: MessageQueue<T>,
     is_stopping: bool,
 }
 
 // Not derived: see "What the gate takes" in docs/ARCHITECTURE.md.
-impl<T: Drop> Drop for Held<T> {
+impl<T: Drop> Drop for LockedQueue<T> {
     fn drop(self) {
-        let Held {
+        let LockedQueue {
             queue: _,
             is_stopping: _,
         } = self;
@@ -35,7 +35,7 @@ impl<T: Drop> Drop for Held<T> {
 /// What waits for one other replica, under a lock, with a condition to wait for the next item. At most so many wait, of at most so great a
 /// weight; the newest always does.
 pub struct Outbox<T> {
-    held: Mutex<Held<T>>,
+    held: Mutex<LockedQueue<T>>,
     changed: Condvar,
 }
 
@@ -49,7 +49,7 @@ impl<T: Drop> Drop for Outbox<T> {
     }
 }
 
-impl<T> Held<T> {
+impl<T> LockedQueue<T> {
     /// The next item, where one waits; none, once it is stopped.
     fn take(&mut self) -> Option<T> {
         if self.is_stopping {
@@ -70,7 +70,7 @@ impl<T> Outbox<T> {
     {
         let queue = MessageQueue::new(alloc, most_items, most_weight)?;
         Ok(Outbox {
-            held: Mutex::new(Held {
+            held: Mutex::new(LockedQueue {
                 queue,
                 is_stopping: false,
             }),

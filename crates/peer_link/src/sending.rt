@@ -1,5 +1,5 @@
 //! What waits is sent by a thread of its own: each item becomes frames here, which are written to a stream.
-use crate::dialing::{Dial, Heard};
+use crate::dialing::{Dial, StreamState};
 use crate::framing::Framing;
 use crate::outbox::{Outbox, Waited};
 use replica_clock::{Backoff, KeepAlive, Lack};
@@ -112,16 +112,16 @@ fn listen<T, F: Framing<T>, D: Dial>(
     now: u64,
 ) -> bool {
     match dialer.hear(stream) {
-        Heard::End => return false,
-        Heard::Refusal(why) => {
+        StreamState::End => return false,
+        StreamState::Refusal(why) => {
             framing.refused(why);
             return false;
         }
-        Heard::Answer => {
+        StreamState::Answer => {
             keep_alive.hear();
             framing.heard();
         }
-        Heard::Nothing => {
+        StreamState::Nothing => {
             if !keep_alive.answers() {
                 framing.heard();
             }

@@ -89,7 +89,7 @@ fn ways<'a, 'r, R: Wait, I: NodeIdentity>(
 
 /// The settings of a server's threads.
 #[derive(Clone, Copy)]
-struct Terms<'a> {
+struct ServingSettings<'a> {
     config: Config<'a>,
     sessions: usize,
     times: Times,
@@ -107,7 +107,7 @@ fn run_in<'a, 'r, R, N, I>(
     running: &'a SharedNode<'r, R, FileDevice, JournalFile, I>,
     peer_queues: &'a PeerQueues<'a, R>,
     guards: &'a Guards,
-    terms: Terms<'a>,
+    terms: ServingSettings<'a>,
 ) -> Result<(), ServerError>
 where
     R: ServerRuntime<N>,
@@ -163,7 +163,7 @@ fn serve_opened<R, N, I>(
     opened: Opened<'_, R, FileDevice, JournalFile>,
     peer_queues: PeerQueues<'_, R>,
     guards: &Guards,
-    terms: Terms<'_>,
+    terms: ServingSettings<'_>,
 ) -> Result<(), ServerError>
 where
     R: ServerRuntime<N>,
@@ -268,7 +268,7 @@ where
         session: 0,
     };
     let claim = claim_of(rt, opened.node.node())?;
-    let terms = Terms {
+    let terms = ServingSettings {
         config,
         sessions: sessions.max(1),
         times,

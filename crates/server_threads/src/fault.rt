@@ -7,7 +7,7 @@ use thiserror::Error;
 
 /// Who is to be heard at an address.
 #[derive(Clone, Copy, Debug, PartialEq, Eq)]
-pub enum Heard {
+pub enum Audience {
     Clients,
     Replicas,
     Monitors,
@@ -15,24 +15,24 @@ pub enum Heard {
 
 /// Why nobody can be heard at an address, as the system says.
 #[derive(Clone, Copy, Debug, PartialEq, Eq)]
-pub struct Unheard {
-    pub who: Heard,
+pub struct ListenFailure {
+    pub who: Audience,
     pub address: SocketAddr,
     pub cause: ErrorKind,
 }
 
-impl Display for Unheard {
+impl Display for ListenFailure {
     fn fmt<W: Write>(&self, f: &mut Formatter<W>) -> fmt::Result {
         let address = self.address;
         match self.who {
-            Heard::Clients => write!(f, "PEER {address}, for clients: ")?,
-            Heard::Replicas => write!(f, "PEER {address}, for replicas: ")?,
-            Heard::Monitors => write!(f, "--metrics {address}: ")?,
+            Audience::Clients => write!(f, "PEER {address}, for clients: ")?,
+            Audience::Replicas => write!(f, "PEER {address}, for replicas: ")?,
+            Audience::Monitors => write!(f, "--metrics {address}: ")?,
         }
         match self.cause {
             ErrorKind::AddrInUse => f.write_str("another process listens there"),
             ErrorKind::AddrNotAvailable => match self.who {
-                Heard::Monitors => f.write_str("it is no address of this machine"),
+                Audience::Monitors => f.write_str("it is no address of this machine"),
                 _ => f.write_str("it is no address of this machine: check --id and PEER"),
             },
             ErrorKind::PermissionDenied => f.write_str(
@@ -83,7 +83,7 @@ pub enum ServerError {
     CannotOpen(Unopened),
     /// An address is another's, or not of this machine.
     #[error("cannot listen\n{0}")]
-    CannotListenAt(Unheard),
+    CannotListenAt(ListenFailure),
     /// A host's name in this replica's PEER has no address.
     #[error("cannot listen\n--id: a host's name in the PEER of this replica can't be looked up: mend the name, or write an address")]
     NoSuchHost,

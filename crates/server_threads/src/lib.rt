@@ -3,7 +3,7 @@
 //!
 //! The threads of a server, which know the node by a trait alone (`engine`). `shared_parts` has what they share, `counters` counts what they answer,
 //! `serving` begins and ends them. `posting` puts a message into its replica's queue. `framing` makes its frames in the thread that sends: one,
-//! or parts of 16 MiB where one can't hold it. `porch` keeps strangers at the port for peers until a greeting begins; `receiving` reads
+//! or parts of 16 MiB where one can't hold it. `list` keeps unverified peers at the port for peers until a greeting begins; `receiving` reads
 //! greetings and frames for the node. `monitoring` answers monitors; `reporter`, `lines` and `notes` write standard error, which nobody else
 //! waits for. `starting` does both while the node is opened; `start` has how far that is. `reaching` dials another replica and says where it can't be
 //! reached; `seconds` and `process_files` have figures. `logged` wraps a directory whose updates and slow searches are logged (`logging` has the lines). For each other replica one
@@ -29,7 +29,6 @@ mod monitoring;
 mod needed_threads;
 mod notes;
 mod places;
-mod porch;
 mod posting;
 mod process_files;
 mod progress;
@@ -45,6 +44,7 @@ mod showing;
 mod start;
 mod starting;
 mod telling;
+mod verifying;
 
 pub use counters::Counters;
 pub use engine::{Engine, Monitored};

@@ -12,7 +12,7 @@ const READERS_EACH: u64 = 4;
 /// The most threads that read, where two for each other replica are no more.
 const MOST_READERS: u64 = 64;
 
-/// So many threads take the connections of replicas, look at strangers, hand them on, wait for what clients may ask, drive the node, and
+/// So many threads take the connections of replicas, look at unverified peers, hand them on, wait for what clients may ask, drive the node, and
 /// write what is said.
 const OTHER_THREADS: u64 = 6;
 

@@ -41,7 +41,7 @@ pub struct PeerReaders<'a, R, E> {
 
 /// What has come on one connection of a replica, of a message that isn't whole yet.
 #[derive(Drop)]
-struct Heard {
+struct PartialMessage {
     peer: u64,
     gathering: Gathering,
     /// The number of the last note before it.
@@ -123,7 +123,7 @@ impl<'a, R: Wait + Clock, E: Engine> PeerReaders<'a, R, E> {
     fn next_frame<S: Read + PeerStream>(
         &self,
         reader: &mut S,
-        heard: &mut Heard,
+        heard: &mut PartialMessage,
     ) -> Result<Vec<u8>, &'static str> {
         for _ in self.rt.forever() {
             let head = self.next_head(reader, heard.peer)?;
@@ -157,7 +157,7 @@ impl<'a, R: Wait + Clock, E: Engine> PeerReaders<'a, R, E> {
     }
 
     /// Hands on what has come of a frame, and gives its sender; else why the connection ends.
-    fn hand_on(&self, heard: &mut Heard, came: Came) -> Result<u64, &'static str> {
+    fn hand_on(&self, heard: &mut PartialMessage, came: Came) -> Result<u64, &'static str> {
         match came {
             Came::Message(sender, message) => {
                 self.links.hear(self.rt, u64::from(sender), &message);
@@ -180,7 +180,7 @@ impl<'a, R: Wait + Clock, E: Engine> PeerReaders<'a, R, E> {
     }
 
     /// Takes a frame: here frames become messages, and nowhere else. Gives its sender; else why the connection ends.
-    fn take_frame(&self, heard: &mut Heard, frame: &[u8]) -> Result<u64, &'static str> {
+    fn take_frame(&self, heard: &mut PartialMessage, frame: &[u8]) -> Result<u64, &'static str> {
         let came = heard
             .gathering
             .take(self.alloc, frame, self.senders.cluster)
@@ -191,7 +191,7 @@ impl<'a, R: Wait + Clock, E: Engine> PeerReaders<'a, R, E> {
     /// Reads one frame, and takes it; gives its sender.
     fn take_next<S: Read + PeerStream>(
         &self,
-        heard: &mut Heard,
+        heard: &mut PartialMessage,
         reader: &mut S,
     ) -> Result<u64, &'static str> {
         let frame = self.next_frame(reader, heard)?;
@@ -203,7 +203,7 @@ impl<'a, R: Wait + Clock, E: Engine> PeerReaders<'a, R, E> {
         if reader.answer().is_err() {
             return "it failed";
         }
-        let mut heard = Heard {
+        let mut heard = PartialMessage {
             peer,
             gathering: Gathering::new(),
             noted: None,
@@ -273,9 +273,9 @@ impl<'a, R: Wait + Clock, E: Engine> PeerReaders<'a, R, E> {
     }
 
     /// Hears one connection, to its end, and tells of it.
-    fn hear(&self, stranger: PeerConnection<'a, R>) {
-        let address = stranger.address();
-        let Ok(mut reader) = stranger.seated(self.alloc) else {
+    fn hear(&self, peer: PeerConnection<'a, R>) {
+        let address = peer.address();
+        let Ok(mut reader) = peer.seated(self.alloc) else {
             tell_unverified(self.rt, self.alloc, self.reporter, address, "out of memory");
             return;
         };

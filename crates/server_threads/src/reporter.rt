@@ -64,7 +64,7 @@ impl<'a, R: Eprint + Clock> NoteWriter for StandardError<'a, R> {
 
 /// What is under the lock.
 #[derive(Drop)]
-struct Held {
+struct LockedLines {
     lines: Lines,
     is_stopping: bool,
 }
@@ -72,7 +72,7 @@ struct Held {
 /// Lines that wait to be written. At most so many runs of equal lines do; a line for which there is no room is counted, and the number is written
 /// where the line would have been.
 pub struct Reporter {
-    held: Mutex<Held>,
+    held: Mutex<LockedLines>,
     changed: Condvar,
 }
 
@@ -91,7 +91,7 @@ impl Reporter {
     pub fn new(alloc: Global, most: usize) -> Result<Reporter, AllocError> {
         let lines = Lines::new(alloc, most)?;
         Ok(Reporter {
-            held: Mutex::new(Held {
+            held: Mutex::new(LockedLines {
                 lines,
                 is_stopping: false,
             }),

@@ -2,20 +2,20 @@
 ghost use denote.Param.Send.{IsSend, IsSync};
 
 use crate::engine::Engine;
-use crate::fault::{Heard, ServerError};
+use crate::fault::{Audience, ServerError};
 use crate::framing::MessageFrames;
 use crate::heading::Senders;
 use crate::logged::Logged;
 use crate::monitoring::Monitoring;
 use crate::needed_threads::readers as readers_of;
 use crate::places::ReplicaAddresses;
-use crate::porch::Porch;
 use crate::reaching::TellingDialer;
 use crate::receiving::PeerReaders;
 use crate::reporter::StandardError;
-use crate::session_events::Teller;
+use crate::session_events::SessionReporter;
 use crate::shared_parts::{SharedParts, listen};
 use crate::telling::{tell_fault, tell_room};
+use crate::verifying::PeerVerifier;
 use crossbeam_channel::{Receiver, Sender, bounded};
 use peer_link::{SocketDialer, send_all};
 use replica_greeting::{Claim, Cluster};
@@ -147,21 +147,21 @@ where
         }
     }
 
-    /// Looks at strangers, and hands on those that may be other replicas.
+    /// Looks at unverified peers, and hands on those that may be other replicas.
     fn greet_peers(
         &self,
         arrivals: Receiver<(u64, PeerConnection<'a, R>)>,
         to_readers: Sender<PeerConnection<'a, R>>,
     ) -> Result<(), AllocError> {
         self.shared_parts.needed_threads.begin();
-        let porch = Porch {
+        let verifier = PeerVerifier {
             rt: self.rt,
             alloc: self.alloc,
             senders: self.senders(),
             door: &self.shared_parts.peer_door,
             reporter: &self.shared_parts.reporter,
         };
-        porch.greet(arrivals, to_readers)
+        verifier.greet(arrivals, to_readers)
     }
 
     /// Hears other replicas, a connection in each thread.
@@ -191,7 +191,7 @@ where
         Ok(())
     }
 
-    /// Hears those whom strangers turn out to be, until nobody comes any more.
+    /// Hears those whom unverified peers turn out to be, until nobody comes any more.
     fn hear_arrivals(
         &self,
         readers: Vec<usize>,
@@ -231,11 +231,11 @@ where
         self.shared_parts.needed_threads.begin();
         let writers = self.others()?;
         let readers = self.readers()?;
-        let (to_porch, arrivals) = bounded(self.alloc, 1)?;
+        let (to_verifier, arrivals) = bounded(self.alloc, 1)?;
         let (to_readers, waiting) = bounded(self.alloc, 0)?;
         let ((), passed) = thread::join(
             self.rt,
-            || self.take_peers(to_porch),
+            || self.take_peers(to_verifier),
             || self.pass_frames(readers, writers, arrivals, to_readers, waiting),
         );
         passed
@@ -276,7 +276,7 @@ where
 
     /// Listens to clients, and says where. Who stops the server afterwards knows it too.
     fn open_door(&self) -> Result<TcpListener, ServerError> {
-        let listener = listen(self.rt, Heard::Clients, self.shared_parts.client_address)?;
+        let listener = listen(self.rt, Audience::Clients, self.shared_parts.client_address)?;
         let address = listener
             .local_addr()
             .unwrap_or(self.shared_parts.client_address);
@@ -330,7 +330,7 @@ where
         config: &Config<'_>,
     ) -> Result<(), ServerError> {
         self.shared_parts.needed_threads.begin();
-        let teller = Teller {
+        let teller = SessionReporter {
             rt: self.rt,
             alloc: self.alloc,
             needed_threads: &self.shared_parts.needed_threads,

@@ -5,7 +5,7 @@ use crate::engine::Engine;
 use crate::needed_threads::NeededThreads;
 use crate::reporter::Reporter;
 use crate::telling::{tell_begin, tell_end, tell_let_go, tell_refused, tell_session};
-use session_pool::{Away, SessionEnd, Tells, Traffic};
+use session_pool::{Away, SessionEnd, SessionObserver, Traffic};
 use std::alloc::{AllocError, Global};
 use std::net::SocketAddr;
 use std::sync::Wait;
@@ -16,7 +16,7 @@ const SUCCESS: u8 = 0;
 
 /// Who is told of a server's sessions.
 #[derive(Drop)]
-pub struct Teller<'a, R, E> {
+pub struct SessionReporter<'a, R, E> {
     pub rt: &'a R,
     pub alloc: Global,
     pub needed_threads: &'a NeededThreads,
@@ -28,7 +28,7 @@ pub struct Teller<'a, R, E> {
     pub addresses: Option<&'a Addresses>,
 }
 
-impl<'a, R: Wait, E> Teller<'a, R, E> {
+impl<'a, R: Wait, E> SessionReporter<'a, R, E> {
     /// The address of a session's client, which is over, where sessions are logged.
     fn address_of(&self, session: u64) -> Option<SocketAddr> {
         match self.addresses {
@@ -38,7 +38,7 @@ impl<'a, R: Wait, E> Teller<'a, R, E> {
     }
 }
 
-impl<'a, R: Wait, E: Engine> Tells for Teller<'a, R, E> {
+impl<'a, R: Wait, E: Engine> SessionObserver for SessionReporter<'a, R, E> {
     fn begins(&self) {
         self.needed_threads.begin();
     }

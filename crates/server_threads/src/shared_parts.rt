@@ -1,7 +1,7 @@
 //! What a server's threads share, made before any of them begins: the listener of replicas, doors, queues.
 use crate::addresses::Addresses;
 use crate::counters::Counters;
-use crate::fault::{Heard, ServerError, Unheard};
+use crate::fault::{Audience, ListenFailure, ServerError};
 use crate::links::Links;
 use crate::logs::Logs;
 use crate::needed_threads::NeededThreads;
@@ -54,12 +54,12 @@ fn leaves(alloc: Global, count: usize) -> Result<Vec<AtomicBool>, AllocError> {
 /// A listener at this address, at which they are heard.
 pub fn listen<R: Net<Listener = TcpListener, Stream = TcpStream>>(
     rt: &R,
-    who: Heard,
+    who: Audience,
     address: SocketAddr,
 ) -> Result<TcpListener, ServerError> {
     match TcpListener::bind(rt, address) {
         Ok(listener) => Ok(listener),
-        Err(error) => Err(ServerError::CannotListenAt(Unheard {
+        Err(error) => Err(ServerError::CannotListenAt(ListenFailure {
             who,
             address,
             cause: error.kind(),
@@ -217,10 +217,10 @@ pub fn make_shared_parts<R: Net<Listener = TcpListener, Stream = TcpStream>>(
     let version = String::from_str(alloc, version)?;
     // Clients are heard later; whether they can be is known from the start.
     let client_address = own(rt, place.ldap_address)?;
-    drop(listen(rt, Heard::Clients, client_address)?);
-    let peers = listen(rt, Heard::Replicas, own(rt, place.peer_address)?)?;
+    drop(listen(rt, Audience::Clients, client_address)?);
+    let peers = listen(rt, Audience::Replicas, own(rt, place.peer_address)?)?;
     let monitors = match metrics {
-        Some(address) => Some(listen(rt, Heard::Monitors, address)?),
+        Some(address) => Some(listen(rt, Audience::Monitors, address)?),
         None => None,
     };
     let addresses = match logs.connections {

@@ -10,7 +10,7 @@ use Rattle.session_pool.specs.Attending.{talk, IsSame, IsAllSaid, IsHeardEnd, Be
 use Rattle.session_pool.specs.private.Attending.{HasHeard}
 use Rattle.session_pool.specs.Sittings.{Sitting, InARow, sits, sits_on, InARowUpTo, Attends}
 use Rattle.session_pool.specs.declared.pooled.PooledSession.{PooledSession}
-use Rattle.session_pool.specs.declared.pooled.Heard.TheVariants.{Octets, Nothing, Ends as HeardEnds}
+use Rattle.session_pool.specs.declared.pooled.ReadOutcome.TheVariants.{Octets, Nothing, Ends as HeardEnds}
 use Rattle.session_pool.specs.declared.pooled.Then.{Then}
 use Rattle.session_pool.specs.declared.pooled.Then.TheVariants.{Listens, Ends}
 

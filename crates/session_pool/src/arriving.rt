@@ -1,7 +1,7 @@
 //! Connections taken from a listener, and places found for them.
 use crate::pool::SessionPool;
 use crate::pooled::PooledSession;
-use crate::tells::{Away, Tells};
+use crate::tells::{Away, SessionObserver};
 use libc::EMFILE;
 use session_turns::Queue;
 use std::net::{SocketAddr, TcpListener, TcpStream};
@@ -23,7 +23,7 @@ fn is_want(error: &io::Error) -> bool {
     }
 }
 
-impl<'a, R: Wait + Clock, T: Tells> SessionPool<'a, R, T> {
+impl<'a, R: Wait + Clock, T: SessionObserver> SessionPool<'a, R, T> {
     /// The session that has waited longest of a queue, which waits no more.
     fn wake_longest(&self, queue: Queue) -> Option<PooledSession> {
         let mut table = self.table.lock(self.rt);

@@ -8,8 +8,8 @@ ghost use Rattle.session_pool.specs.private.Attending.{HasHeard, IsDelayed};
 ghost use Rattle.session_pool.specs.Sittings.{Sitting, Attends, HasAttendedSome};
 
 use crate::pool::SessionPool;
-use crate::pooled::{Heard, PooledSession, Then};
-use crate::tells::Tells;
+use crate::pooled::{PooledSession, ReadOutcome, Then};
+use crate::tells::SessionObserver;
 use client_link::{Config, Directory, Due};
 use session_turns::{After, Queue, Seen, follows};
 use std::sync::Wait;
@@ -86,7 +86,7 @@ fn is_within<R: Clock>(rt: &R, since: Instant, limit: u64) -> bool {
     }
 }
 
-impl<'a, R: Wait + Clock, T: Tells> SessionPool<'a, R, T> {
+impl<'a, R: Wait + Clock, T: SessionObserver> SessionPool<'a, R, T> {
     /// What a thread does behind a message of its stay.
     fn what_follows(&self, stay: &Stay, now: u64) -> After {
         let seen = Seen {
@@ -200,7 +200,7 @@ impl<'a, R: Wait + Clock, T: Tells> SessionPool<'a, R, T> {
     }
 
     /// Waits for the next octets of a quick session.
-    fn linger(&self, pooled: &mut PooledSession, buffer: &mut [u8], stay: &mut Stay) -> Heard
+    fn linger(&self, pooled: &mut PooledSession, buffer: &mut [u8], stay: &mut Stay) -> ReadOutcome
         ensures same { IsSame pooled.old pooled.new }
         ensures heard { HasHeard None None (talk pooled.old) buffer.new (talk pooled.new) result }
     {
@@ -210,8 +210,8 @@ impl<'a, R: Wait + Clock, T: Tells> SessionPool<'a, R, T> {
         let now = self.micros();
         stay.set_apart(since, now);
         pooled.is_quick = match heard {
-            Heard::Octets => now.saturating_sub(since) < SOON_HEARD,
-            Heard::Nothing | Heard::Ends(_) => false,
+            ReadOutcome::Octets => now.saturating_sub(since) < SOON_HEARD,
+            ReadOutcome::Nothing | ReadOutcome::Ends(_) => false,
         };
         heard
     }
@@ -223,19 +223,19 @@ impl<'a, R: Wait + Clock, T: Tells> SessionPool<'a, R, T> {
         buffer: &mut [u8],
         is_ready: bool,
         stay: &mut Stay,
-    ) -> Heard
+    ) -> ReadOutcome
         ensures same { IsSame pooled.old pooled.new }
         ensures heard { HasHeard None None (talk pooled.old) buffer.new (talk pooled.new) result }
     {
         if stay.is_over {
-            return Heard::Nothing;
+            return ReadOutcome::Nothing;
         }
         if is_ready {
             pooled.hear(buffer, self)
         } else if self.may_linger(pooled, stay) {
             self.linger(pooled, buffer, stay)
         } else {
-            Heard::Nothing
+            ReadOutcome::Nothing
         }
     }
 
@@ -258,9 +258,9 @@ impl<'a, R: Wait + Clock, T: Tells> SessionPool<'a, R, T> {
                 return then;
             };
             match self.hear_on(pooled, buffer, is_ready, stay) {
-                Heard::Octets => then = self.sit_once(pooled, directory, stay),
-                Heard::Nothing => return Then::Listens,
-                Heard::Ends(end) => return Then::Ends(end),
+                ReadOutcome::Octets => then = self.sit_once(pooled, directory, stay),
+                ReadOutcome::Nothing => return Then::Listens,
+                ReadOutcome::Ends(end) => return Then::Ends(end),
             }
             is_ready = false;
         }

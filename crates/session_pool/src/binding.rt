@@ -5,7 +5,7 @@ ghost use Rattle.session_pool.specs.Attending.{talk, IsSame, Answers};
 
 use crate::pool::SessionPool;
 use crate::pooled::PooledSession;
-use crate::tells::Tells;
+use crate::tells::SessionObserver;
 use client_link::{Config, Directory, Step};
 use std::alloc::{AllocError, Global};
 use std::sync::Wait;
@@ -33,7 +33,7 @@ fn code_at_end(octets: &[u8]) -> Option<u8>
     Some(octets[octets.len() - FROM_CODE])
 }
 
-impl<'a, R: Wait + Clock, T: Tells> SessionPool<'a, R, T> {
+impl<'a, R: Wait + Clock, T: SessionObserver> SessionPool<'a, R, T> {
     /// Tells of a bind that was answered; whether it is refused.
     fn tell_bind(
         &self,

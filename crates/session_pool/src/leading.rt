@@ -4,7 +4,7 @@ use crate::place_state::Turn;
 use crate::pool::{SessionPool, Watch};
 use crate::pooled::{Notice, PooledSession};
 use crate::table::Table;
-use crate::tells::Tells;
+use crate::tells::SessionObserver;
 use crate::updaters::is_past;
 use client_link::SessionEnd;
 use mio::event::Event;
@@ -46,7 +46,7 @@ fn place_in(token: Token) -> usize {
     token.0 & 0xffff_ffff
 }
 
-impl<'a, R: Wait + Clock, T: Tells> SessionPool<'a, R, T> {
+impl<'a, R: Wait + Clock, T: SessionObserver> SessionPool<'a, R, T> {
     /// Puts a session where it waits, and has it watched. The leader takes the same lock before it looks at what is ready. One whose message isn't
     /// whole in time ends.
     pub fn park(&self, mut pooled: PooledSession, queue: Queue) {

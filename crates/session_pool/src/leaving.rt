@@ -4,7 +4,7 @@ use crate::leading::token_of;
 use crate::pool::SessionPool;
 use crate::pooled::PooledSession;
 use crate::table::Table;
-use crate::tells::Tells;
+use crate::tells::SessionObserver;
 use client_link::SessionEnd;
 use mio::Interest;
 use mio::unix::SourceFd;
@@ -46,7 +46,7 @@ fn unread_at(end: SessionEnd) -> Unread {
     }
 }
 
-impl<'a, R: Wait + Clock, T: Tells> SessionPool<'a, R, T> {
+impl<'a, R: Wait + Clock, T: SessionObserver> SessionPool<'a, R, T> {
     /// A session is over: its socket is closed before its place is free.
     pub fn close(&self, mut pooled: PooledSession) {
         let place = pooled.place;

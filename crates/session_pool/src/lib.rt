@@ -70,4 +70,4 @@ pub use no_reads::NoReads;
 pub use pool::{PoolSettings, SessionPool};
 pub use running::serve_sessions;
 pub use session_memory::{Budget, limit_of};
-pub use tells::{Away, Tells, Traffic};
+pub use tells::{Away, SessionObserver, Traffic};

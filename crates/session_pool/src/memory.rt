@@ -8,13 +8,13 @@ ghost use Rattle.session_pool.specs.Refused.{FindsNoRoom};
 use crate::no_room::NoRoom;
 use crate::pool::SessionPool;
 use crate::pooled::{MakesRoom, Notice, PooledSession};
-use crate::tells::Tells;
+use crate::tells::SessionObserver;
 use client_link::{Config, SessionEnd};
 use session_memory::Holder;
 use std::sync::Wait;
 use std::time::Clock;
 
-impl<'a, R: Wait + Clock, T: Tells> SessionPool<'a, R, T> {
+impl<'a, R: Wait + Clock, T: SessionObserver> SessionPool<'a, R, T> {
     /// What a session holds is posted; whether it may go on: there is room for it, or others are ended for it. One that holds nothing may.
     pub fn admits(&self, pooled: &mut PooledSession) -> bool {
         let held = pooled.held();
@@ -102,7 +102,7 @@ impl<'a, R: Wait + Clock, T: Tells> SessionPool<'a, R, T> {
     }
 }
 
-impl<'a, R: Wait + Clock, T: Tells> MakesRoom for SessionPool<'a, R, T> {
+impl<'a, R: Wait + Clock, T: SessionObserver> MakesRoom for SessionPool<'a, R, T> {
     fn makes_room(&self, own: Holder, more: u64) -> bool {
         self.budget.post(0, more);
         if self.has_room(own) {

@@ -84,7 +84,7 @@ pub trait MakesRoom {
 
 /// What a read of a socket gave.
 #[derive(Clone, Copy, Debug, PartialEq, Eq)]
-pub enum Heard {
+pub enum ReadOutcome {
     Octets,
     Nothing,
     Ends(SessionEnd),
@@ -144,27 +144,27 @@ fn hear_from<R: Read, M: MakesRoom>(
     posted: &mut u64,
     read: &mut u64,
     room: &M,
-) -> Heard
+) -> ReadOutcome
     ensures { HasHeard (R.remaining reader.old) (R.remaining reader.new)
         (conversation_view conversation.old) buffer.new (conversation_view conversation.new) result }
 {
     match reader.read(buffer) {
-        Ok(0) => Heard::Ends(conversation.end_of_input()),
+        Ok(0) => ReadOutcome::Ends(conversation.end_of_input()),
         Ok(count) => {
             *read = read.saturating_add(count as u64);
             if !has_room(conversation, count, posted, room) {
-                return Heard::Ends(SessionEnd::NoMemory);
+                return ReadOutcome::Ends(SessionEnd::NoMemory);
             }
             match conversation.hear(&buffer[..count]) {
-                Ok(()) => Heard::Octets,
-                Err(_) => Heard::Ends(SessionEnd::NoMemory),
+                Ok(()) => ReadOutcome::Octets,
+                Err(_) => ReadOutcome::Ends(SessionEnd::NoMemory),
             }
         }
         Err(error) => {
             if is_pause(error.kind()) {
-                Heard::Nothing
+                ReadOutcome::Nothing
             } else {
-                Heard::Ends(SessionEnd::ReadFailed)
+                ReadOutcome::Ends(SessionEnd::ReadFailed)
             }
         }
     }
@@ -292,7 +292,7 @@ impl PooledSession {
     }
 
     /// Reads once. What is heard is put into the conversation. Where that makes a message whole, the next one has not begun.
-    pub fn hear<M: MakesRoom>(&mut self, buffer: &mut [u8], room: &M) -> Heard
+    pub fn hear<M: MakesRoom>(&mut self, buffer: &mut [u8], room: &M) -> ReadOutcome
         ensures same { IsSame self.old self.new }
         ensures heard { HasHeard None None (talk self.old) buffer.new (talk self.new) result }
         ensures began { self.new.began ≡ began_while (due_next (talk self.new)) self.old.began }

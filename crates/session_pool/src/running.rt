@@ -1,6 +1,6 @@
 //! The threads of a pool. Directories come in, one a thread; sessions are served until the door is closed.
 use crate::pool::SessionPool;
-use crate::tells::Tells;
+use crate::tells::SessionObserver;
 use client_link::Directory;
 use std::alloc::AllocError;
 use std::net::TcpListener;
@@ -13,7 +13,7 @@ use std::time::Clock;
 fn sit_all<R, T, D>(pool: &SessionPool<'_, R, T>, seats: Vec<D>) -> Result<(), AllocError>
 where
     R: Wait + Clock + Threads + Sync,
-    T: Tells + Sync,
+    T: SessionObserver + Sync,
     D: Directory + Send + Drop,
 {
     pool.teller.begins();
@@ -29,7 +29,7 @@ fn update_all<R, T, D>(
 ) -> Result<(), AllocError>
 where
     R: Wait + Clock + Threads + Sync,
-    T: Tells + Sync,
+    T: SessionObserver + Sync,
     D: Directory + Send + Drop,
 {
     pool.teller.begins();
@@ -49,7 +49,7 @@ fn serve_all<R, T, D, U>(
 ) -> Result<(), AllocError>
 where
     R: Wait + Clock + Threads + Sync,
-    T: Tells + Sync,
+    T: SessionObserver + Sync,
     D: Directory + Send + Drop,
     U: Directory + Send + Drop,
 {
@@ -72,7 +72,7 @@ pub fn serve_sessions<R, T, D, U>(
 ) -> Result<(), AllocError>
 where
     R: Wait + Clock + Threads + Sync,
-    T: Tells + Sync,
+    T: SessionObserver + Sync,
     D: Directory + Send + Drop,
     U: Directory + Send + Drop,
 {

@@ -24,7 +24,7 @@ pub struct Traffic {
 }
 
 /// Who is told of sessions.
-pub trait Tells {
+pub trait SessionObserver {
     /// A thread has begun that the pool can't do without: one that takes connections, one that reads, and one that updates.
     fn begins(&self);
 

@@ -8,12 +8,12 @@ ghost use Rattle.session_pool.specs.Sittings.{HasUpdatedSome};
 use crate::no_node::NoNode;
 use crate::pool::SessionPool;
 use crate::pooled::PooledSession;
-use crate::tells::Tells;
+use crate::tells::SessionObserver;
 use client_link::{Config, Directory};
 use std::sync::Wait;
 use std::time::Clock;
 
-impl<'a, R: Wait + Clock, T: Tells> SessionPool<'a, R, T> {
+impl<'a, R: Wait + Clock, T: SessionObserver> SessionPool<'a, R, T> {
     /// The update of a session waits no more.
     pub fn unwatch(&self, thread: usize, pooled: &PooledSession) {
         self.table.lock(self.rt).updaters.unpost(thread);

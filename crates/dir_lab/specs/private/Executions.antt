@@ -9,7 +9,7 @@ use Rattle.state_machine.specs.dir_store.ldap_schema.Schema.{SchemaModel}
 use Rattle.state_machine.specs.dir_store.ldap_dn.Names.{RdnModel}
 use Rattle.state_machine.specs.dir_store.ldap_op.Values.{OpValue}
 use Rattle.dir_lab.specs.Shown.{Shown, shown_view}
-use Rattle.dir_lab.specs.declared.running.Running.{Running}
+use Rattle.dir_lab.specs.declared.running.LabRun.{LabRun}
 use Rattle.vr_world.specs.Cluster.{world as world_of}
 use Rattle.dir_lab.specs.Schedule.{happening, shown_at}
 use Rattle.dir_lab.specs.declared.events.LabEvent.{LabEvent}
@@ -76,13 +76,13 @@ pub record IsAdvancedAt (w : World OpValue) (old : List (Option ExecutedValue)) 
   pub there : (j : ℕ) → j ≢ i → records_by new j ≡ records_by old j
 
 -- what a run of a lab has so far: as many replicas as there are to be, and something kept of each, over the schema and the root
-pub record IsRunning (s : SchemaModel) (root : List RdnModel) (n : ℕ) (run : Running) : Type 0 where
+pub record IsRunning (s : SchemaModel) (root : List RdnModel) (n : ℕ) (run : LabRun) : Type 0 where
   pub counted : run.cluster.count ≡ n
   pub kept : length run.kept.items ≡ n
   pub over : AreOver s root run.kept.items
 
 -- one event further: the world, what was executed, and what is shown
-pub record IsNext (s : SchemaModel) (root : List RdnModel) (n : ℕ) (old new : Running) (e : LabEvent) : Type 0 where
+pub record IsNext (s : SchemaModel) (root : List RdnModel) (n : ℕ) (old new : LabRun) (e : LabEvent) : Type 0 where
   pub world : world_of new.cluster ≡ run n (happening e) (world_of old.cluster)
   pub records : records_by new.kept.items ≡ moved_on (records_by old.kept.items) (world_of new.cluster) e
   pub shown : map shown_view new.shown.items ≡ map shown_view old.shown.items ++ shown_at s root n (records_by new.kept.items) (world_of old.cluster) (world_of new.cluster) e

@@ -4,7 +4,7 @@ use Rattle.indexed_tree.specs.dir_entry.Entry.{attributes_of}
 use Rattle.indexed_tree.specs.directory_api.Answers.{ReplyModel}
 use Rattle.dir_store.specs.Updates.{PlacedModel, KeptModel, MoveModel, MoveNamesModel}
 use Rattle.dir_store.specs.declared.adding.Placed.{Placed}
-use Rattle.dir_store.specs.declared.modifying.Kept.{Kept}
+use Rattle.dir_store.specs.declared.modifying.ChangedEntry.{ChangedEntry}
 use Rattle.dir_store.specs.declared.renaming.Moved.{Moved}
 use Rattle.dir_store.specs.declared.renaming.MoveNames.{MoveNames}
 use Rattle.indexed_tree.specs.directory_api.View.{reply_view}
@@ -21,7 +21,7 @@ abbrev pub placed_view : Placed → PlacedModel
 placed_view p = record { name = p.name; attributes = attributes_of p.entry }
 
 -- a changed entry with its number
-abbrev pub kept_view : Kept → KeptModel
+abbrev pub kept_view : ChangedEntry → KeptModel
 kept_view k = record { number = k.number; attributes = attributes_of k.entry }
 
 -- a moved entry

@@ -22,8 +22,8 @@ use Rattle.session_pool.specs.declared.place_state.Turn.{Turn}
 use Rattle.session_pool.specs.declared.place_state.Roused.{Roused}
 use Rattle.session_pool.specs.declared.place_state.Turn.TheVariants.{Update}
 use Rattle.session_pool.specs.declared.pooled.PooledSession.{PooledSession}
-use Rattle.session_pool.specs.declared.pooled.Heard.{Heard}
-use Rattle.session_pool.specs.declared.pooled.Heard.TheVariants.{Octets, Nothing, Ends as HeardEnds}
+use Rattle.session_pool.specs.declared.pooled.ReadOutcome.{ReadOutcome}
+use Rattle.session_pool.specs.declared.pooled.ReadOutcome.TheVariants.{Octets, Nothing, Ends as HeardEnds}
 use Rattle.session_pool.specs.declared.pooled.Notice.{Notice}
 use Rattle.session_pool.specs.declared.pooled.Notice.TheVariants.{Over, SendsNoMore}
 use Rattle.session_pool.specs.declared.pooled.Then.{Then}
@@ -39,7 +39,7 @@ abbrev pub IsSlow : PooledSession → Duration → Type 0
 IsSlow g limit = min (as_nanos limit * min (g.taken / 1048576 + 1) 4294967295) max_nanos ≤ as_nanos g.waited
 
 -- What a read of an input gave: octets, nothing, or the end.
-abbrev pub HasHeard : Option (List ℕ) → Option (List ℕ) → ConversationValue → List ℕ → ConversationValue → Heard → Type 0
+abbrev pub HasHeard : Option (List ℕ) → Option (List ℕ) → ConversationValue → List ℕ → ConversationValue → ReadOutcome → Type 0
 HasHeard input left v buffer w Octets = HearsSome input left v buffer w
 HasHeard input left v buffer w Nothing = (w ≡ v) × Consumes input left []
 HasHeard input left v buffer w (HeardEnds end) = (w ≡ v) × IsHeardEnd v end

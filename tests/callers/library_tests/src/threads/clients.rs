@@ -6,7 +6,7 @@ use crate::threads::signal::Signal;
 use client_link::{Door, Limits, SessionEnd, close};
 use ldap_session::{Config, Name};
 use schema_reader::built_in_schema;
-use session_pool::{Away, Budget, SessionPool, Tells, PoolSettings, Traffic, serve_sessions};
+use session_pool::{Away, Budget, SessionPool, SessionObserver, PoolSettings, Traffic, serve_sessions};
 use std::alloc::{AllocError, Global};
 use std::io::{Read, Write};
 use std::net::{Net, SocketAddr, TcpListener, TcpStream};
@@ -63,7 +63,7 @@ fn counts<'a, R>(rt: &'a R) -> Counts<'a, R> {
     }
 }
 
-impl<'a, R: Wait> Tells for Counts<'a, R> {
+impl<'a, R: Wait> SessionObserver for Counts<'a, R> {
     fn begins(&self) {}
 
     fn came(&self, _session: u64, _address: SocketAddr) {}

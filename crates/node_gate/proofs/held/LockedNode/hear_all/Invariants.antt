@@ -1,5 +1,5 @@
 use Rattle.std.proofs.Common.{◌≡◌}
-use Rattle.node_gate.proofs.held.Held.hear_all.Given as goal
+use Rattle.node_gate.proofs.held.LockedNode.hear_all.Given as goal
 
 abbrev pub invariant-loop-one : goal.invariant-loop-one
 invariant-loop-one g l = l.self.published ≡ l.fn.self.published

@@ -1,6 +1,4 @@
-//! Strangers at the port for peers: connections that have shown no greeting yet. They are looked at without waiting,
-//! all by one thread, and those whose first octets may begin another replica's greeting are handed to a thread that
-//! reads.
+//! Looks at connections that have shown no greeting yet, without waiting, and hands those on that may be replicas'.
 use crate::heading::{HEADING, Senders};
 use crate::reporter::Reporter;
 use crate::telling::tell_unverified;
@@ -12,13 +10,13 @@ use std::io::ErrorKind;
 use std::sync::Wait;
 use std::time::{Clock, Duration};
 
-/// How many strangers stand on the porch at once, at most: where one more comes, the one that stood there longest goes.
-const STRANGERS: usize = 64;
+/// How many unverified peers wait at once, at most: for another one the one that has waited longest is disconnected.
+const MOST: usize = 64;
 
-/// How often strangers are looked at, in milliseconds.
+/// How often unverified peers are looked at, in milliseconds.
 const LOOK: u64 = 10;
 
-/// What a look at a stranger shows.
+/// What a look at an unverified peer shows.
 #[derive(Clone, Copy, Debug, PartialEq, Eq)]
 enum Look {
     /// Not enough of a frame has come.
@@ -29,26 +27,26 @@ enum Look {
     Fault(&'static str),
 }
 
-/// A connection on the porch.
-struct Stranger<'a, R> {
+/// A connection that has shown no greeting yet.
+struct UnverifiedPeer<'a, R> {
     peer: PeerConnection<'a, R>,
     /// Whether it is one of those who wait for a thread that reads.
     is_waiting: bool,
 }
 
 // Not derived: see "What the gate takes" in docs/ARCHITECTURE.md.
-impl<'a, R> Drop for Stranger<'a, R> {
+impl<'a, R> Drop for UnverifiedPeer<'a, R> {
     fn drop(self) {
-        let Stranger {
+        let UnverifiedPeer {
             peer: _,
             is_waiting: _,
         } = self;
     }
 }
 
-impl<'a, R> Stranger<'a, R> {
+impl<'a, R> UnverifiedPeer<'a, R> {
     fn into_peer(self) -> PeerConnection<'a, R> {
-        let Stranger {
+        let UnverifiedPeer {
             peer,
             is_waiting: _,
         } = self;
@@ -64,12 +62,12 @@ enum Arrival<'a, R> {
     Over,
 }
 
-/// All strangers, the one that was looked at last at the back.
-type Strangers<'a, R> = VecDeque<Stranger<'a, R>, Global>;
+/// All unverified peers, the one that was looked at last at the back.
+type UnverifiedPeers<'a, R> = VecDeque<UnverifiedPeer<'a, R>, Global>;
 
-/// Where strangers stand.
+/// What looks at unverified peers.
 #[derive(Drop)]
-pub struct Porch<'a, R> {
+pub struct PeerVerifier<'a, R> {
     pub rt: &'a R,
     pub alloc: Global,
     pub senders: Senders,
@@ -91,8 +89,8 @@ fn shown(senders: &Senders, heading: [u8; HEADING], count: usize) -> Look {
     }
 }
 
-impl<'a, R: Wait + Clock> Porch<'a, R> {
-    /// What has come of a stranger.
+impl<'a, R: Wait + Clock> PeerVerifier<'a, R> {
+    /// What has come of an unverified peer.
     fn look(&self, peer: &PeerConnection<'a, R>) -> Look {
         let mut heading = [0u8; HEADING];
         match peer.peek(&mut heading) {
@@ -107,48 +105,48 @@ impl<'a, R: Wait + Clock> Porch<'a, R> {
         }
     }
 
-    /// A stranger goes.
-    fn send_away(&self, stranger: Stranger<'a, R>, why: &str) {
-        if stranger.is_waiting {
+    /// An unverified peer goes.
+    fn send_away(&self, unverified: UnverifiedPeer<'a, R>, why: &str) {
+        if unverified.is_waiting {
             self.door.sit(self.rt);
         }
-        let address = stranger.peer.address();
+        let address = unverified.peer.address();
         tell_unverified(self.rt, self.alloc, self.reporter, address, why);
     }
 
-    /// Puts a stranger on the porch.
-    fn put(&self, strangers: &mut Strangers<'a, R>, stranger: Stranger<'a, R>) {
-        let address = stranger.peer.address();
-        if strangers.push_back(stranger).is_err() {
+    /// Puts an unverified peer that waits.
+    fn put(&self, waiting: &mut UnverifiedPeers<'a, R>, unverified: UnverifiedPeer<'a, R>) {
+        let address = unverified.peer.address();
+        if waiting.push_back(unverified).is_err() {
             tell_unverified(self.rt, self.alloc, self.reporter, address, "out of memory");
         }
     }
 
-    /// A stranger comes. It waits for no thread yet.
-    fn let_in(&self, strangers: &mut Strangers<'a, R>, peer: PeerConnection<'a, R>) {
-        if strangers.len() >= STRANGERS {
-            if let Some(first) = strangers.pop_front() {
+    /// An unverified peer comes. It waits for no thread yet.
+    fn let_in(&self, waiting: &mut UnverifiedPeers<'a, R>, peer: PeerConnection<'a, R>) {
+        if waiting.len() >= MOST {
+            if let Some(first) = waiting.pop_front() {
                 self.send_away(first, "others came after it");
             }
         }
         self.put(
-            strangers,
-            Stranger {
+            waiting,
+            UnverifiedPeer {
                 peer,
                 is_waiting: false,
             },
         );
     }
 
-    /// Hands a stranger to a thread that reads, where one is free. Else it comes back, and is counted with those who wait for one, so that only where all
+    /// Hands an unverified peer to a thread that reads, where one is free. Else it comes back, and is counted with those who wait for one, so that only where all
     /// are busy a place is given up.
     fn hand_over(
         &self,
         to: &Sender<PeerConnection<'a, R>>,
-        stranger: Stranger<'a, R>,
-    ) -> Option<Stranger<'a, R>> {
-        let was_waiting = stranger.is_waiting;
-        match to.try_send(self.rt, stranger.into_peer()) {
+        unverified: UnverifiedPeer<'a, R>,
+    ) -> Option<UnverifiedPeer<'a, R>> {
+        let was_waiting = unverified.is_waiting;
+        match to.try_send(self.rt, unverified.into_peer()) {
             Ok(()) | Err(TrySendError::Disconnected(_)) => {
                 if was_waiting {
                     self.door.sit(self.rt);
@@ -159,7 +157,7 @@ impl<'a, R: Wait + Clock> Porch<'a, R> {
                 if !was_waiting {
                     self.door.wait(self.rt);
                 }
-                Some(Stranger {
+                Some(UnverifiedPeer {
                     peer,
                     is_waiting: true,
                 })
@@ -167,38 +165,42 @@ impl<'a, R: Wait + Clock> Porch<'a, R> {
         }
     }
 
-    /// Looks at a stranger, and gives it back where it stays.
+    /// Looks at an unverified peer, and gives it back where it stays.
     fn keep(
         &self,
         to: &Sender<PeerConnection<'a, R>>,
-        stranger: Stranger<'a, R>,
-    ) -> Option<Stranger<'a, R>> {
-        match self.look(&stranger.peer) {
-            Look::Heading => return self.hand_over(to, stranger),
+        unverified: UnverifiedPeer<'a, R>,
+    ) -> Option<UnverifiedPeer<'a, R>> {
+        match self.look(&unverified.peer) {
+            Look::Heading => return self.hand_over(to, unverified),
             Look::Nothing => {
-                if !stranger.peer.is_late().unwrap_or(true) {
-                    return Some(stranger);
+                if !unverified.peer.is_late().unwrap_or(true) {
+                    return Some(unverified);
                 }
-                self.send_away(stranger, "it showed no greeting for too long");
+                self.send_away(unverified, "it showed no greeting for too long");
             }
-            Look::Fault(why) => self.send_away(stranger, why),
+            Look::Fault(why) => self.send_away(unverified, why),
         }
         None
     }
 
-    /// Looks at each stranger.
-    fn look_at_all(&self, strangers: &mut Strangers<'a, R>, to: &Sender<PeerConnection<'a, R>>) {
-        'each: for _ in 0..strangers.len() {
-            let Some(stranger) = strangers.pop_front() else {
+    /// Looks at each unverified peer.
+    fn look_at_all(
+        &self,
+        waiting: &mut UnverifiedPeers<'a, R>,
+        to: &Sender<PeerConnection<'a, R>>,
+    ) {
+        'each: for _ in 0..waiting.len() {
+            let Some(unverified) = waiting.pop_front() else {
                 break;
             };
-            if let Some(stays) = self.keep(to, stranger) {
-                self.put(strangers, stays);
+            if let Some(stays) = self.keep(to, unverified) {
+                self.put(waiting, stays);
             }
         }
     }
 
-    /// Waits for the next connection, while nobody stands on the porch; else for as long as until the next look.
+    /// Waits for the next connection, while nobody stands that waits; else for as long as until the next look.
     fn next(
         &self,
         from: &Receiver<(u64, PeerConnection<'a, R>)>,
@@ -224,14 +226,14 @@ impl<'a, R: Wait + Clock> Porch<'a, R> {
         from: Receiver<(u64, PeerConnection<'a, R>)>,
         to: Sender<PeerConnection<'a, R>>,
     ) -> Result<(), AllocError> {
-        let mut strangers = VecDeque::with_capacity(self.alloc, STRANGERS)?;
+        let mut waiting = VecDeque::with_capacity(self.alloc, MOST)?;
         for _ in self.rt.forever() {
-            match self.next(&from, strangers.is_empty()) {
-                Arrival::Came(peer) => self.let_in(&mut strangers, peer),
+            match self.next(&from, waiting.is_empty()) {
+                Arrival::Came(peer) => self.let_in(&mut waiting, peer),
                 Arrival::Nobody => {}
                 Arrival::Over => break,
             }
-            self.look_at_all(&mut strangers, &to);
+            self.look_at_all(&mut waiting, &to);
         }
         Ok(())
     }
