@@ -36,7 +36,7 @@ impl<'a, R: Wait + Clock> PeerStream for BufReader<PieceReader<'a, R, FrameHeadi
     }
 }
 
-/// A stream that another replica, or a stranger, has opened. It is a stranger's until it is trusted.
+/// A stream that another replica, or anybody else, has opened. It is unverified until it is trusted.
 pub struct PeerConnection<'a, R> {
     reader: PieceReader<'a, R, FrameHeading>,
     address: SocketAddr,
@@ -80,10 +80,10 @@ impl<'a, R: Wait + Clock> PeerConnection<'a, R> {
 
     /// Whether 2 seconds have passed since it came.
     pub fn is_late(&self) -> io::Result<bool> {
-        self.reader.is_strange_for_long()
+        self.reader.is_unverified_for_long()
     }
 
-    /// What frames are read from, once it has a thread. It is a stranger there, until it is trusted.
+    /// What frames are read from, once it has a thread. It is unverified there too, until it is trusted.
     pub fn seated(self, alloc: Global) -> io::Result<BufReader<PieceReader<'a, R, FrameHeading>>> {
         let PeerConnection { reader, address: _ } = self;
         BufReader::new(alloc, reader)

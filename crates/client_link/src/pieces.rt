@@ -9,11 +9,11 @@ use std::net::TcpStream;
 use std::sync::Wait;
 use std::time::{Clock, Duration, Instant};
 
-/// How long a stranger may take to be no stranger any more, in milliseconds.
+/// How long an unverified peer may take to show a greeting, in milliseconds.
 const PROBATION: u64 = 2_000;
 
 /// Reads a socket, and fails where the door is closed, where the other end is silent for too long inside a message, and where it sends no
-/// whole message for too long while another waits for the place. A stranger has 2 seconds from when it came; what it has sent is read before it is
+/// whole message for too long while another waits for the place. An unverified peer has 2 seconds from when it came; what it has sent is read before it is
 /// judged, and it gives its place up where nothing comes while another waits.
 pub struct PieceReader<'a, R, H> {
     rt: &'a R,
@@ -24,8 +24,8 @@ pub struct PieceReader<'a, R, H> {
     count: u64,
     since_message: Instant,
     since_octet: Instant,
-    /// Since when it is a stranger, where it is one.
-    stranger_since: Option<Instant>,
+    /// Since when it is unverified, where it is.
+    unverified_since: Option<Instant>,
     /// How long it may be silent, where it says in time that it is there.
     silence: Option<Duration>,
 }
@@ -41,7 +41,7 @@ impl<'a, R, H: Drop> Drop for PieceReader<'a, R, H> {
             count: _,
             since_message: _,
             since_octet: _,
-            stranger_since: _,
+            unverified_since: _,
             silence: _,
         } = self;
     }
@@ -65,7 +65,7 @@ impl<'a, R: Wait + Clock, H: Heading> PieceReader<'a, R, H> {
             count: 0,
             since_message: now,
             since_octet: now,
-            stranger_since: None,
+            unverified_since: None,
             silence: None,
         })
     }
@@ -85,28 +85,28 @@ impl<'a, R: Wait + Clock, H: Heading> PieceReader<'a, R, H> {
         self.silence = Some(silence);
     }
 
-    /// The other end is a stranger, and has been since its socket was taken.
+    /// The other end is unverified, and has been since its socket was taken.
     pub fn doubt(&mut self) {
-        self.stranger_since = Some(self.since_message);
+        self.unverified_since = Some(self.since_message);
     }
 
-    /// The other end is no stranger.
+    /// The other end is verified.
     pub fn trust(&mut self) {
-        self.stranger_since = None;
+        self.unverified_since = None;
     }
 
-    /// Whether the other end has been a stranger for too long.
-    pub fn is_strange_for_long(&self) -> io::Result<bool> {
-        let Some(since) = self.stranger_since else {
+    /// Whether the other end has been unverified for too long.
+    pub fn is_unverified_for_long(&self) -> io::Result<bool> {
+        let Some(since) = self.unverified_since else {
             return Ok(false);
         };
         let now = Instant::now(self.rt)?;
         Ok(now.saturating_duration_since(since) >= Duration::from_millis(PROBATION))
     }
 
-    /// Whether a stranger of which nothing has come gives its place up to one that waits for it.
+    /// Whether an unverified peer of which nothing has come gives its place up to one that waits for it.
     fn is_to_go(&self) -> bool {
-        self.stranger_since.is_some() && self.door.give_up(self.rt)
+        self.unverified_since.is_some() && self.door.give_up(self.rt)
     }
 
     /// The first octets that have come, without taking them, as many as the buffer has room for; how many. Where none has come it fails with
@@ -133,7 +133,7 @@ impl<'a, R: Wait + Clock, H: Heading> PieceReader<'a, R, H> {
     fn is_over(&self) -> io::Result<bool> {
         let now = Instant::now(self.rt)?;
         let limits = self.door.limits();
-        if self.door.is_closed() || self.is_strange_for_long()? {
+        if self.door.is_closed() || self.is_unverified_for_long()? {
             return Ok(true);
         }
         let silent = now.saturating_duration_since(self.since_octet);

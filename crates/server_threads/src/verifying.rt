@@ -105,7 +105,7 @@ impl<'a, R: Wait + Clock> PeerVerifier<'a, R> {
         }
     }
 
-    /// An unverified peer goes.
+    /// Disconnects an unverified peer, and says why.
     fn send_away(&self, unverified: UnverifiedPeer<'a, R>, why: &str) {
         if unverified.is_waiting {
             self.door.sit(self.rt);
@@ -114,7 +114,7 @@ impl<'a, R: Wait + Clock> PeerVerifier<'a, R> {
         tell_unverified(self.rt, self.alloc, self.reporter, address, why);
     }
 
-    /// Puts an unverified peer that waits.
+    /// Puts a peer behind those that wait.
     fn put(&self, waiting: &mut UnverifiedPeers<'a, R>, unverified: UnverifiedPeer<'a, R>) {
         let address = unverified.peer.address();
         if waiting.push_back(unverified).is_err() {
@@ -122,7 +122,7 @@ impl<'a, R: Wait + Clock> PeerVerifier<'a, R> {
         }
     }
 
-    /// An unverified peer comes. It waits for no thread yet.
+    /// Takes a new connection. It waits for no thread yet.
     fn let_in(&self, waiting: &mut UnverifiedPeers<'a, R>, peer: PeerConnection<'a, R>) {
         if waiting.len() >= MOST {
             if let Some(first) = waiting.pop_front() {
@@ -200,7 +200,7 @@ impl<'a, R: Wait + Clock> PeerVerifier<'a, R> {
         }
     }
 
-    /// Waits for the next connection, while nobody stands that waits; else for as long as until the next look.
+    /// Waits for the next connection: while none waits as long as it takes, else until the next look.
     fn next(
         &self,
         from: &Receiver<(u64, PeerConnection<'a, R>)>,
