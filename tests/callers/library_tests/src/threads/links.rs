@@ -2,7 +2,7 @@
 
 use crate::threads::signal::Signal;
 use peer_link::{
-    Address, Bytes, Dial, FrameEnd, Framing, Heard, LinkTimes, Outbox, REFUSAL, SocketDialer,
+    Address, Bytes, Dial, FrameEnd, Framing, StreamState, LinkTimes, Outbox, REFUSAL, SocketDialer,
     read_head, read_rest, send_all,
 };
 use std::alloc::{AllocError, Global};
@@ -239,8 +239,8 @@ impl<'a, R: Wait> Dial for PaperDialer<'a, R> {
         })
     }
 
-    fn hear(&mut self, _stream: &Paper<'a, R>) -> Heard {
-        Heard::Nothing
+    fn hear(&mut self, _stream: &Paper<'a, R>) -> StreamState {
+        StreamState::Nothing
     }
 }
 
@@ -337,8 +337,8 @@ impl<'a, R: Wait> Dial for LateDialer<'a, R> {
         self.paper.dial()
     }
 
-    fn hear(&mut self, _stream: &Paper<'a, R>) -> Heard {
-        Heard::Nothing
+    fn hear(&mut self, _stream: &Paper<'a, R>) -> StreamState {
+        StreamState::Nothing
     }
 }
 
