@@ -8,7 +8,7 @@ use index_choice::NumberSet;
 use std::alloc::AllocError;
 
 /// What keeps posting lists.
-pub trait Kept {
+pub trait PostingLists {
     ghost lists: { Self → Lists };
 
     /// The numbers of a posting, in rising order. It takes a look-up, and no memory.

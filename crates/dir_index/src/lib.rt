@@ -8,7 +8,7 @@
 //! postings are computed as a set (`marks`). Where its attributes change (`moves`), only postings that may differ are
 //! looked at: those of types that one side lacks, and of keys that the two sides don't have in common at the front or at
 //! the end (`apart`, `key_changes`). Each of them is looked for on both sides (`membership`). A range is a walk from its
-//! first key to its last (`ranges`). Plans ask the trait `Kept`.
+//! first key to its last (`ranges`). Plans ask the trait `PostingLists`.
 //!
 //! Proved: the lists of presence, equality, order and runs of three octets are those of the entries, after each change;
 //! out of memory, nothing has changed (`Postings::add`, `remove`, `replace`, `push_range`).
@@ -35,7 +35,7 @@ pub use index_choice::{
     Schema, Truth, TypeAndValue, TypeId, are_same, copy_values, is_of_syntax, print_before,
     print_behind, print_from_leaf,
 };
-pub use kept::Kept;
+pub use kept::PostingLists;
 pub use laws::may_cross;
 pub use posting::{Posting, Range};
 pub use postings::Postings;

@@ -9,7 +9,9 @@ ghost use Rattle.dir_index.specs.Whole.{AreOf};
 ghost use Rattle.indexed_tree.specs.Listed.{listed_of};
 
 use crate::listing::{listed_more, relisted, unlisted};
-use dir_index::{Indexes, Kept, Name, NumberSet, Posting, Postings, Range, Rdn, has_in_range};
+use dir_index::{
+    Indexes, Name, NumberSet, Posting, PostingLists, Postings, Range, Rdn, has_in_range,
+};
 use directory_api::{SharedEntry, Tree};
 use std::alloc::{AllocError, Global};
 use std::marker::Model;
@@ -139,7 +141,7 @@ impl IndexedTree {
     }
 }
 
-impl Kept for IndexedTree {
+impl PostingLists for IndexedTree {
     ghost use Rattle.indexed_tree.specs.Listed.{lists_of};
 
     ghost lists = { lists_of };

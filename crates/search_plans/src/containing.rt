@@ -7,12 +7,12 @@ ghost use Rattle.search_plans.specs.private.Sets.{is_in_when};
 
 use crate::plan::Plan;
 use crate::scope::Scope;
-use dir_index::Kept;
+use dir_index::PostingLists;
 
 /// Whether a number is in the set of a plan, where the caller knows whether it is in scope. Each posting list
 /// that the plan names costs two look-ups: of the list, and of the number in it.
 #[cycle(contains)]
-fn is_member<K: Kept>(plan: &Plan, kept: &K, in_scope: bool, number: u64) -> bool
+fn is_member<K: PostingLists>(plan: &Plan, kept: &K, in_scope: bool, number: u64) -> bool
     ensures { result ≡ is_in_when (K.lists kept.now) in_scope plan.now number }
 {
     match plan {
@@ -30,7 +30,7 @@ fn is_member<K: Kept>(plan: &Plan, kept: &K, in_scope: bool, number: u64) -> boo
 
 /// Whether a number is in the set of one of the plans.
 #[cycle(contains)]
-fn in_any<K: Kept>(plans: &[Plan], kept: &K, in_scope: bool, number: u64) -> bool
+fn in_any<K: PostingLists>(plans: &[Plan], kept: &K, in_scope: bool, number: u64) -> bool
     ensures { result ≡ list_any (λ p. is_in_when (K.lists kept.now) in_scope p number) plans.now }
 {
     for plan in plans {
@@ -43,7 +43,7 @@ fn in_any<K: Kept>(plans: &[Plan], kept: &K, in_scope: bool, number: u64) -> boo
 
 /// Whether a number is in the set of all the plans.
 #[cycle(contains)]
-fn in_all<K: Kept>(plans: &[Plan], kept: &K, in_scope: bool, number: u64) -> bool
+fn in_all<K: PostingLists>(plans: &[Plan], kept: &K, in_scope: bool, number: u64) -> bool
     ensures { result ≡ list_all (λ p. is_in_when (K.lists kept.now) in_scope p number) plans.now }
 {
     for plan in plans {
@@ -56,7 +56,7 @@ fn in_all<K: Kept>(plans: &[Plan], kept: &K, in_scope: bool, number: u64) -> boo
 
 /// Whether a number is in the set of a plan. The scope costs one look-up, and each posting list that the plan
 /// names two.
-pub fn contains<K: Kept>(plan: &Plan, kept: &K, scope: &Scope, number: u64) -> bool
+pub fn contains<K: PostingLists>(plan: &Plan, kept: &K, scope: &Scope, number: u64) -> bool
     ensures { result ≡ is_in (K.lists kept.now) scope.now plan.now number }
 {
     is_member(plan, kept, scope.has(number), number)

@@ -3,7 +3,7 @@
 
 use crate::plan::Plan;
 use crate::scope::Scope;
-use dir_index::Kept;
+use dir_index::PostingLists;
 
 /// About how many looks at a walk it costs to ask the plans of one candidate.
 const LOOKS_TO_ASK: u64 = 32;
@@ -71,7 +71,7 @@ fn looks(cost: Cost) -> u64 {
 
 /// What it costs to draw from the plan.
 #[cycle(estimate)]
-fn cost_of<K: Kept>(plan: &Plan, kept: &K, scope: &Scope) -> Cost {
+fn cost_of<K: PostingLists>(plan: &Plan, kept: &K, scope: &Scope) -> Cost {
     match plan {
         Plan::Empty => of_nothing(),
         Plan::Scope => of_walk(scope.len()),
@@ -85,7 +85,7 @@ fn cost_of<K: Kept>(plan: &Plan, kept: &K, scope: &Scope) -> Cost {
 
 /// The costs of all of them together.
 #[cycle(estimate)]
-fn cost_of_each<K: Kept>(plans: &[Plan], kept: &K, scope: &Scope) -> Cost {
+fn cost_of_each<K: PostingLists>(plans: &[Plan], kept: &K, scope: &Scope) -> Cost {
     let mut sum = of_nothing();
     for plan in plans {
         sum = of_both(sum, cost_of(plan, kept, scope));
@@ -95,7 +95,7 @@ fn cost_of_each<K: Kept>(plans: &[Plan], kept: &K, scope: &Scope) -> Cost {
 
 /// The least of the costs, and of the scope's.
 #[cycle(estimate)]
-fn cost_of_one<K: Kept>(plans: &[Plan], kept: &K, scope: &Scope) -> Cost {
+fn cost_of_one<K: PostingLists>(plans: &[Plan], kept: &K, scope: &Scope) -> Cost {
     let mut least = of_walk(scope.len());
     for plan in plans {
         let cost = cost_of(plan, kept, scope);
@@ -107,7 +107,7 @@ fn cost_of_one<K: Kept>(plans: &[Plan], kept: &K, scope: &Scope) -> Cost {
 }
 
 /// The place of the plan that costs least; the number of plans, where none costs less than the scope.
-pub fn smallest<K: Kept>(plans: &[Plan], kept: &K, scope: &Scope) -> usize {
+pub fn smallest<K: PostingLists>(plans: &[Plan], kept: &K, scope: &Scope) -> usize {
     let mut best = plans.len();
     let mut least = looks(of_walk(scope.len()));
     for (i, plan) in plans.iter().enumerate() {
@@ -128,6 +128,6 @@ pub fn is_cheap_listed(numbers: u64, lists: usize, scope: &Scope) -> bool {
 
 /// Whether drawing from the plan costs less than going through the scope. It takes no memory: nothing is
 /// gathered for it.
-pub fn is_cheap<K: Kept>(plan: &Plan, kept: &K, scope: &Scope) -> bool {
+pub fn is_cheap<K: PostingLists>(plan: &Plan, kept: &K, scope: &Scope) -> bool {
     looks(cost_of(plan, kept, scope)) < looks(of_walk(scope.len()))
 }

@@ -15,7 +15,7 @@ use crate::plan::{Plan, Sided};
 use crate::scope::Scope;
 use crate::stream::Stream;
 use crate::walking::Walk;
-use dir_index::{Kept, NumberSet, Range};
+use dir_index::{NumberSet, PostingLists, Range};
 use std::alloc::{AllocError, Global};
 
 /// Puts one walk behind those that are there.
@@ -29,7 +29,11 @@ fn push_walk<'a>(walk: Walk<'a>, into: &mut Vec<Walk<'a>>) -> Result<(), AllocEr
 }
 
 /// The numbers of a range, each once, in rising order.
-fn numbers_in<K: Kept>(alloc: Global, range: &Range, kept: &K) -> Result<Vec<u64>, AllocError>
+fn numbers_in<K: PostingLists>(
+    alloc: Global,
+    range: &Range,
+    kept: &K,
+) -> Result<Vec<u64>, AllocError>
     ensures same { IfOk result (λ v. (n : ℕ)
         → has_number n v.items ≡ has_number n ((K.lists kept.now).range range.now)) }
     ensures rising { IfOk result (λ v. IsRising v.items) }
@@ -42,7 +46,7 @@ fn numbers_in<K: Kept>(alloc: Global, range: &Range, kept: &K) -> Result<Vec<u64
 }
 
 /// Puts a walk through the numbers of a range behind those that are there.
-fn push_range<'a, K: Kept>(
+fn push_range<'a, K: PostingLists>(
     alloc: Global,
     range: &Range,
     kept: &K,
@@ -75,7 +79,7 @@ fn push_scope<'a>(scope: &Scope<'a>, into: &mut Vec<Walk<'a>>) -> Result<(), All
 
 /// Puts walks behind those that are there that together have each number of the scope that is in the set of the plan.
 #[cycle(gather)]
-fn push_walks<'a, K: Kept>(
+fn push_walks<'a, K: PostingLists>(
     alloc: Global,
     plan: &Plan,
     kept: &'a K,
@@ -99,7 +103,7 @@ fn push_walks<'a, K: Kept>(
 
 /// The same for all that are in the set of one of the plans.
 #[cycle(gather)]
-fn push_each<'a, K: Kept>(
+fn push_each<'a, K: PostingLists>(
     alloc: Global,
     plans: &[Plan],
     kept: &'a K,
@@ -119,7 +123,7 @@ fn push_each<'a, K: Kept>(
 /// The same for all that are in the sets of all the plans: the walks of the plan that seems to cost least, or
 /// the scope.
 #[cycle(gather)]
-fn push_one<'a, K: Kept>(
+fn push_one<'a, K: PostingLists>(
     alloc: Global,
     plans: &[Plan],
     kept: &'a K,
@@ -173,7 +177,7 @@ fn scope_alone<'a>(alloc: Global, scope: &Scope<'a>) -> Result<Drawn<'a>, AllocE
 }
 
 /// The candidates from the plan's walks.
-fn from_plan<'a, K: Kept>(
+fn from_plan<'a, K: PostingLists>(
     alloc: Global,
     plan: &Plan,
     kept: &'a K,
@@ -197,7 +201,7 @@ fn from_plan<'a, K: Kept>(
 
 /// The candidates, from the plan's walks where that is cheap, else from the scope. Nothing is gathered before
 /// that is settled.
-pub fn draw<'a, K: Kept>(
+pub fn draw<'a, K: PostingLists>(
     alloc: Global,
     plan: &Plan,
     kept: &'a K,
@@ -233,7 +237,7 @@ fn from_lists<'a>(walks: Vec<Walk<'a>>) -> Drawn<'a>
 
 /// The candidates of a run. Where what must be and what may be are the same posting lists, each list is looked up once, and nothing else is asked of
 /// what they hold.
-pub fn draw_sided<'a, K: Kept>(
+pub fn draw_sided<'a, K: PostingLists>(
     alloc: Global,
     sided: &Sided,
     kept: &'a K,
@@ -261,7 +265,7 @@ pub fn draw_sided<'a, K: Kept>(
 /// The candidates of a plan, in rising order: all numbers of the scope that are in its set are among them,
 /// and others may be. What they are drawn from stays borrowed. The walks, and the numbers of a range, which
 /// are gathered once and sorted, are all the memory that is taken, here and later.
-pub fn candidates<'a, K: Kept>(
+pub fn candidates<'a, K: PostingLists>(
     alloc: Global,
     plan: &Plan,
     kept: &'a K,

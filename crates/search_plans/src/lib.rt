@@ -48,7 +48,7 @@ mod walking;
 pub use agreeing::sets_are_of_entries;
 pub use compiling::compile;
 pub use containing::contains;
-pub use dir_index::{Indexes, Kept, NumberSet, Posting, Range, Truth};
+pub use dir_index::{Indexes, NumberSet, Posting, PostingLists, Range, Truth};
 pub use gathering::candidates;
 pub use having::has;
 pub use ldap_eval::{

@@ -10,7 +10,7 @@ ghost use Rattle.search_plans.specs.private.Sets.{is_listed};
 
 use crate::plan::Plan;
 use crate::walking::Walk;
-use dir_index::{Kept, NumberSet, Posting};
+use dir_index::{NumberSet, Posting, PostingLists};
 use std::alloc::{AllocError, Global};
 
 /// Whether two postings are the same.
@@ -107,7 +107,7 @@ pub struct ListWalks<'a> {
 
 /// Where two plans are the same `or` of posting lists, a walk through each of these. The lists are looked up together. None where the plans aren't
 /// the same.
-pub fn listed<'a, K: Kept>(
+pub fn listed<'a, K: PostingLists>(
     alloc: Global,
     one: &Plan,
     other: &Plan,

@@ -9,7 +9,7 @@ ghost use Rattle.search_plans.specs.private.Sets.{AreSameFrom};
 
 use crate::plan::{Plan, Sided};
 use crate::probing::Probe;
-use dir_index::{Kept, Range};
+use dir_index::{PostingLists, Range};
 use std::alloc::{AllocError, Global};
 
 /// A plan whose posting lists were looked up. It is asked about numbers in scope, in rising order.
@@ -62,7 +62,7 @@ fn difference<'a>(
 
 /// Looks up each posting list that a plan names. It takes the memory of the tree.
 #[cycle(resolve)]
-fn resolve<'a, K: Kept>(
+fn resolve<'a, K: PostingLists>(
     alloc: Global,
     plan: &'a Plan,
     kept: &'a K,
@@ -86,7 +86,7 @@ fn resolve<'a, K: Kept>(
 
 /// The same of each plan of a row, in one piece of memory.
 #[cycle(resolve)]
-fn resolve_each<'a, K: Kept>(
+fn resolve_each<'a, K: PostingLists>(
     alloc: Global,
     plans: &'a [Plan],
     kept: &'a K,
@@ -102,7 +102,7 @@ fn resolve_each<'a, K: Kept>(
 
 /// Looks up each posting list that a plan names, unless all numbers that will be asked about are known to be in its set. Then the
 /// scope stands for the plan, since it has each of them too: nothing is looked up, and no memory is taken.
-fn resolve_unless_sure<'a, K: Kept>(
+fn resolve_unless_sure<'a, K: PostingLists>(
     alloc: Global,
     plan: &'a Plan,
     kept: &'a K,
@@ -131,7 +131,7 @@ impl<'a> Drop for ResolvedSides<'a> {
 }
 
 /// Looks up each posting list that the two plans of a run name, unless all its candidates are known to be among what must be found.
-pub fn resolve_sided<'a, K: Kept>(
+pub fn resolve_sided<'a, K: PostingLists>(
     alloc: Global,
     sided: &'a Sided,
     kept: &'a K,
@@ -148,7 +148,7 @@ pub fn resolve_sided<'a, K: Kept>(
 /// Whether a number that is in scope is in the set of a resolved plan. Each posting list that is asked goes forward to the number, so the
 /// plan says nothing of lower numbers any more; of this number and of those above it the plan says what it said.
 #[cycle(has)]
-pub fn has_inside<K: Kept>(plan: &mut ResolvedPlan, kept: &K, number: u64) -> bool
+pub fn has_inside<K: PostingLists>(plan: &mut ResolvedPlan, kept: &K, number: u64) -> bool
     ensures found { result ≡ is_in_resolved (K.lists kept.now) plan.old number }
     ensures same { AreSameFrom number (is_in_resolved (K.lists kept.now) plan.new) (is_in_resolved (K.lists kept.now) plan.old) }
 {
@@ -165,7 +165,7 @@ pub fn has_inside<K: Kept>(plan: &mut ResolvedPlan, kept: &K, number: u64) -> bo
 
 /// Whether a number that is in scope is in the set of one of the plans. Those behind the first that has it aren't asked.
 #[cycle(has)]
-fn any_has<K: Kept>(plans: &mut [ResolvedPlan], kept: &K, number: u64) -> bool
+fn any_has<K: PostingLists>(plans: &mut [ResolvedPlan], kept: &K, number: u64) -> bool
     ensures found { result ≡ list_any (λ p. is_in_resolved (K.lists kept.now) p number) plans.old }
     ensures same { AreSameInRow number (K.lists kept.now) plans.new plans.old }
 {
@@ -179,7 +179,7 @@ fn any_has<K: Kept>(plans: &mut [ResolvedPlan], kept: &K, number: u64) -> bool
 
 /// Whether a number that is in scope is in the set of all the plans. Those behind the first that lacks it aren't asked.
 #[cycle(has)]
-fn all_have<K: Kept>(plans: &mut [ResolvedPlan], kept: &K, number: u64) -> bool
+fn all_have<K: PostingLists>(plans: &mut [ResolvedPlan], kept: &K, number: u64) -> bool
     ensures found { result ≡ list_all (λ p. is_in_resolved (K.lists kept.now) p number) plans.old }
     ensures same { AreSameInRow number (K.lists kept.now) plans.new plans.old }
 {

@@ -11,13 +11,13 @@ use crate::scope::Scope;
 use crate::stream::Stream;
 use crate::telling::{Criteria, is_found};
 use crate::values::Values;
-use dir_index::Kept;
+use dir_index::PostingLists;
 use std::alloc::{AllocError, Global};
 use std::marker::Model;
 
 /// A run under way: the numbers that it still has to give, and how many values it has asked for.
 #[derive(Drop)]
-pub struct PlanRun<'a, K: Kept, V: Values> {
+pub struct PlanRun<'a, K: PostingLists, V: Values> {
     // prover: contracts speak of the plans that the run was started with
     sided: &'a Sided,
     /// The same plans, resolved: their posting lists go forward with the candidates.
@@ -30,7 +30,7 @@ pub struct PlanRun<'a, K: Kept, V: Values> {
     read: u64,
 }
 
-impl<'a, K: Kept, V: Values> Model for PlanRun<'a, K, V> {
+impl<'a, K: PostingLists, V: Values> Model for PlanRun<'a, K, V> {
     ghost use Rattle.search_plans.specs.Sets.{is_in};
     ghost use Rattle.search_plans.specs.Runs.{Progress, progress_of};
     ghost use Rattle.search_plans.specs.private.Resolved.{is_in_resolved};
@@ -66,7 +66,7 @@ fn expect_heads<V: Values>(alloc: Global, is_sure: bool, stream: &Stream, values
 
 /// Starts a run of two plans that bound the entries whose value is True, within a scope. It looks up the posting lists that the
 /// plans name, and takes the memory for the candidates and for the resolved plans; the run takes none.
-pub fn start<'a, K: Kept, V: Values + Drop>(
+pub fn start<'a, K: PostingLists, V: Values + Drop>(
     alloc: Global,
     sided: &'a Sided,
     kept: &'a K,
@@ -102,7 +102,7 @@ pub fn start<'a, K: Kept, V: Values + Drop>(
     })
 }
 
-impl<'a, K: Kept, V: Values> PlanRun<'a, K, V> {
+impl<'a, K: PostingLists, V: Values> PlanRun<'a, K, V> {
     /// The next number of the scope whose value is True, in order. It takes no memory.
     pub fn next(&mut self) -> Option<u64>
         ensures gives { MatchOption result ((self.old.to_come ≡ []) × (self.new.to_come ≡ []))
@@ -164,7 +164,7 @@ pub struct Ran<V> {
 }
 
 /// A whole run: its start, and all its numbers.
-pub fn run<K: Kept, V: Values + Drop>(
+pub fn run<K: PostingLists, V: Values + Drop>(
     alloc: Global,
     sided: &Sided,
     kept: &K,

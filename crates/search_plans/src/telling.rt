@@ -10,10 +10,10 @@ ghost use Rattle.search_plans.specs.private.Sets.{AreSameFrom};
 use crate::resolved::{ResolvedSides, has_inside};
 use crate::scope::Scope;
 use crate::values::Values;
-use dir_index::{Kept, Truth};
+use dir_index::{PostingLists, Truth};
 
 /// What decides about the candidates of a run, besides its plans: what is kept, and the scope. It stays the same for all of them.
-pub struct Criteria<'a, K: Kept> {
+pub struct Criteria<'a, K: PostingLists> {
     pub kept: &'a K,
     pub scope: &'a Scope<'a>,
     /// Whether all candidates are known to be in scope.
@@ -21,7 +21,7 @@ pub struct Criteria<'a, K: Kept> {
 }
 
 // Not derived: see "What the gate takes" in docs/ARCHITECTURE.md.
-impl<'a, K: Kept> Drop for Criteria<'a, K> {
+impl<'a, K: PostingLists> Drop for Criteria<'a, K> {
     fn drop(self) {
         let Criteria {
             kept: _,
@@ -35,7 +35,7 @@ impl<'a, K: Kept> Drop for Criteria<'a, K> {
 /// intersection fail there, and the scope is the largest set. The value is asked for only where the plans leave it open. Whether it must be
 /// True is asked before whether it may: a filter that the indexes decide then is asked about once, and one that they don't has little that must be.
 /// Of this candidate and of those above it the plans say afterwards what they said.
-pub fn is_found<K: Kept, V: Values>(
+pub fn is_found<K: PostingLists, V: Values>(
     sides: &mut ResolvedSides,
     criteria: &Criteria<K>,
     values: &mut V,

@@ -5,7 +5,7 @@ use Rattle.search_plans.proofs.running.start.Goals as goal
 
 pub invariant_of-result : goal.invariant_of-result
 invariant_of-result g c =
-    let lists = g.K.Kept.lists c.args.kept.now in
+    let lists = g.K.PostingLists.lists c.args.kept.now in
     let scope = c.args.scope.now in
     let sided = c.args.sided.now in
     let stream = c.in_ok-drawn.drawn.stream in

@@ -4,7 +4,7 @@
 use crate::plans::shelf::set_of;
 use schema_reader::built_in_schema;
 use search_plans::{
-    BoundFilter, Indexes, Kept, Key, Leaf, NumberSet, Posting, Range, Scope, Test, Truth, TypeId,
+    BoundFilter, Indexes, PostingLists, Key, Leaf, NumberSet, Posting, Range, Scope, Test, Truth, TypeId,
     Values, compile, run,
 };
 use std::alloc::{AllocError, Global};
@@ -59,7 +59,7 @@ fn is_in(range: &Range, value: u8) -> bool {
     from && upto
 }
 
-impl Kept for Entries {
+impl PostingLists for Entries {
     ghost use Rattle.library_tests.specs.Shelf.{no_lists};
 
     ghost lists = { λ e. no_lists };

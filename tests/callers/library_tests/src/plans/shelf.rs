@@ -1,7 +1,7 @@
 // A made-up shelf of posting lists, and values that are always the same. Plain data for tests.
 // What must not be here: entries.
 
-use search_plans::{Kept, NumberSet, Posting, Range, Truth, Values};
+use search_plans::{PostingLists, NumberSet, Posting, Range, Truth, Values};
 use std::alloc::{AllocError, Global};
 use std::marker::Model;
 
@@ -21,7 +21,7 @@ impl Model for Shelf {
     ghost view = { λ s. record { even = s.even; three = s.three } };
 }
 
-impl Kept for Shelf {
+impl PostingLists for Shelf {
     ghost use Rattle.library_tests.specs.Shelf.{lists_of_shelf};
 
     ghost lists = { lists_of_shelf };

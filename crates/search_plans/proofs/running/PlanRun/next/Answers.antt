@@ -9,8 +9,8 @@ use Rattle.search_plans.proofs.running.PlanRun.next.Goals as goal
 pub invariant_of-self : goal.invariant_of-self
 invariant_of-self g c =
     let run = c.loop-number.self-inside in
-    let sets = is_in (g.K.Kept.lists run.criteria.kept.now) run.criteria.scope.now in
-    let resolved = is_in_resolved (g.K.Kept.lists run.criteria.kept.now) in (
+    let sets = is_in (g.K.PostingLists.lists run.criteria.kept.now) run.criteria.scope.now in
+    let resolved = is_in_resolved (g.K.PostingLists.lists run.criteria.kept.now) in (
       (passed_by (sets run.sided.now.must) (sets run.sided.now.may) (resolved run.sides.must) (resolved run.sides.may) (g.V.Values.value_at run.values) (g.V.Values.value_at c.is_found.new.values) run.criteria.scope.now run.stream c.next.new.self
           c.in-Some.number run.tests (g.V.Values.looks run.values) c.is_found.new.tests (g.V.Values.looks c.is_found.new.values)
           c.in-Some.ensures c.loop-number.invariant.under_way c.loop-number.invariant.must_same c.loop-number.invariant.may_same c.is_found.ensures.same c.is_found.ensures.tests c.is_found.ensures.counted).under_way,
@@ -28,8 +28,8 @@ is_found-requires-clause-inside g c =
 pub is_found-requires-clause-guides : goal.is_found-requires-clause-guides
 is_found-requires-clause-guides g c =
     let run = c.loop-number.self-inside in
-    let sets = is_in (g.K.Kept.lists run.criteria.kept.now) run.criteria.scope.now in
-    let resolved = is_in_resolved (g.K.Kept.lists run.criteria.kept.now) in
+    let sets = is_in (g.K.PostingLists.lists run.criteria.kept.now) run.criteria.scope.now in
+    let resolved = is_in_resolved (g.K.PostingLists.lists run.criteria.kept.now) in
     guided (sets run.sided.now.must) (sets run.sided.now.may) (resolved run.sides.must) (resolved run.sides.may) (g.V.Values.value_at run.values) run.criteria.scope.now c.in-Some.number c.loop-number.invariant.under_way.guides
     (same_first (resolved run.sides.must) (sets run.sided.now.must) c.in-Some.number c.next.new.self run.criteria.scope.now run.stream c.in-Some.ensures c.loop-number.invariant.must_same)
     (same_first (resolved run.sides.may) (sets run.sided.now.may) c.in-Some.number c.next.new.self run.criteria.scope.now run.stream c.in-Some.ensures c.loop-number.invariant.may_same)
@@ -37,16 +37,16 @@ is_found-requires-clause-guides g c =
 pub is_found-requires-clause-room : goal.is_found-requires-clause-room
 is_found-requires-clause-room g c =
     let run = c.loop-number.self-inside in
-    let sets = is_in (g.K.Kept.lists run.criteria.kept.now) run.criteria.scope.now in
-    let resolved = is_in_resolved (g.K.Kept.lists run.criteria.kept.now) in
+    let sets = is_in (g.K.PostingLists.lists run.criteria.kept.now) run.criteria.scope.now in
+    let resolved = is_in_resolved (g.K.PostingLists.lists run.criteria.kept.now) in
     room_for (sets run.sided.now.must) (sets run.sided.now.may) (resolved run.sides.must) (resolved run.sides.may) (g.V.Values.value_at run.values) run.criteria.scope.now run.stream c.next.new.self c.in-Some.number run.tests (g.V.Values.looks run.values)
     c.in-Some.ensures c.loop-number.invariant.under_way c.loop-number.invariant.must_same c.loop-number.invariant.may_same
 
 pub returns-then-is_found-clause-asked : goal.returns-then-is_found-clause-asked
 returns-then-is_found-clause-asked g c =
     let run = c.loop-number.self-inside in
-    let sets = is_in (g.K.Kept.lists run.criteria.kept.now) run.criteria.scope.now in
-    let resolved = is_in_resolved (g.K.Kept.lists run.criteria.kept.now) in
+    let sets = is_in (g.K.PostingLists.lists run.criteria.kept.now) run.criteria.scope.now in
+    let resolved = is_in_resolved (g.K.PostingLists.lists run.criteria.kept.now) in
     (passed_by (sets run.sided.now.must) (sets run.sided.now.may) (resolved run.sides.must) (resolved run.sides.may) (g.V.Values.value_at run.values) (g.V.Values.value_at c.is_found.new.values) run.criteria.scope.now run.stream c.next.new.self
     c.in-Some.number run.tests (g.V.Values.looks run.values) c.is_found.new.tests (g.V.Values.looks c.is_found.new.values)
     c.in-Some.ensures c.loop-number.invariant.under_way c.loop-number.invariant.must_same c.loop-number.invariant.may_same c.is_found.ensures.same c.is_found.ensures.tests c.is_found.ensures.counted).asked
@@ -58,8 +58,8 @@ returns-clause-asked g c = none_left _ _ _ _ _ _ _ c.loop-number.invariant.under
 pub loop-number-preserved : goal.loop-number-preserved
 loop-number-preserved g c =
     let run = c.loop-number.self-inside in
-    let sets = is_in (g.K.Kept.lists run.criteria.kept.now) run.criteria.scope.now in
-    let resolved = is_in_resolved (g.K.Kept.lists run.criteria.kept.now) in
+    let sets = is_in (g.K.PostingLists.lists run.criteria.kept.now) run.criteria.scope.now in
+    let resolved = is_in_resolved (g.K.PostingLists.lists run.criteria.kept.now) in
     record {
       under_way = (passed_by (sets run.sided.now.must) (sets run.sided.now.may) (resolved run.sides.must) (resolved run.sides.may) (g.V.Values.value_at run.values) (g.V.Values.value_at c.is_found.new.values) run.criteria.scope.now run.stream c.next.new.self
           c.in-Some.number run.tests (g.V.Values.looks run.values) c.is_found.new.tests (g.V.Values.looks c.is_found.new.values)

@@ -1,7 +1,7 @@
 use Rattle.std.proofs.Common.{◌≡◌, List, [], ◌∷◌, map, Result, Ok, Err, IfOk, refl, ap, ap₂, ◌∙◌}
 use Rattle.dir_index.specs.Whole.{list_of}
 use Rattle.indexed_tree.specs.Listed.{IndexedModel, lists_of}
-use Rattle.indexed_tree.proofs.indexed.IndexedTreeKept.numbers_of_each.Goals as goal
+use Rattle.indexed_tree.proofs.indexed.IndexedTreePostingLists.numbers_of_each.Goals as goal
 
 map_same : {X Y : Type 0} (f g : X → Y) → ((x : X) → f x ≡ g x) → (xs : List X) → map f xs ≡ map g xs
 map_same f g same [] = refl

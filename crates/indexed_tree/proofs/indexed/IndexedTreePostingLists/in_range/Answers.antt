@@ -4,7 +4,7 @@ use Rattle.dir_index.specs.dir_entry.Entry.{KeyedAttribute}
 use Rattle.dir_index.specs.index_choice.Choice.{kinds_of}
 use Rattle.dir_index.specs.Postings.{has_in_range}
 use Rattle.indexed_tree.proofs.Ranged.{told_by_held, told_by_none}
-use Rattle.indexed_tree.proofs.indexed.IndexedTreeKept.in_range.Goals as goal
+use Rattle.indexed_tree.proofs.indexed.IndexedTreePostingLists.in_range.Goals as goal
 
 pub returns-in-Some : goal.returns-in-Some
 returns-in-Some c =
