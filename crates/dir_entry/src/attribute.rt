@@ -11,7 +11,7 @@ ghost use Rattle.dir_entry.specs.Picked.{picked};
 ghost use Rattle.dir_entry.specs.Entry.{are_in_syntax};
 ghost use Rattle.dir_entry.specs.Values.{has_repeats, has_twice as has_some_twice};
 
-use crate::kept::{Held, Lists};
+use crate::kept::{Lists, StoredValues};
 use crate::repeats::has_twice;
 use ldap_match::{
     Form, Key, Rule, Schema, TypeId, ValueError, equality_rule, is_of_syntax, key, tests_are_items,
@@ -24,7 +24,7 @@ use std::marker::Model;
 /// each. Most have one value, which stands in place.
 pub struct Attribute {
     type_id: TypeId,
-    held: Held,
+    held: StoredValues,
 }
 
 // Not derived: see "What the gate takes" in docs/ARCHITECTURE.md.

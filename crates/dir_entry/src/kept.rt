@@ -35,7 +35,7 @@ impl Drop for Lists {
 }
 
 /// What is kept of an attribute's values.
-pub enum Held {
+pub enum StoredValues {
     /// One value with its key, as most attributes have: it stands in place.
     One(Octets, Key, Form),
     /// Owners in common, so that a copy of an entry costs nothing for attributes that stay as they are.
@@ -43,11 +43,11 @@ pub enum Held {
 }
 
 // Not derived: see "What the gate takes" in docs/ARCHITECTURE.md.
-impl Drop for Held {
+impl Drop for StoredValues {
     fn drop(self) {
         match self {
-            Held::One(_, _, _) => {}
-            Held::Many(_) => {}
+            StoredValues::One(_, _, _) => {}
+            StoredValues::Many(_) => {}
         }
     }
 }
@@ -98,7 +98,7 @@ impl Lists {
     }
 
     /// Them as they are kept: one value with a key in place.
-    pub fn held(self, alloc: Global) -> Result<Held, AllocError>
+    pub fn held(self, alloc: Global) -> Result<StoredValues, AllocError>
         ensures values { IfOk result (λ h. values_in h ≡ self.values.items) }
         ensures keys { IfOk result (λ h. keys_in h ≡ self.keys.items) }
         ensures forms { IfOk result (λ h. forms_in h ≡ self.forms.items) }
@@ -110,7 +110,7 @@ impl Lists {
         } = self;
         if values.len() == 1 && keys.len() == 1 && forms.len() == 1 {
             if let (Some(value), Some(key), Some(form)) = (values.pop(), keys.pop(), forms.pop()) {
-                return Ok(Held::One(value, key, form));
+                return Ok(StoredValues::One(value, key, form));
             }
             unreachable!()
         }
@@ -119,7 +119,7 @@ impl Lists {
             keys.shrink_to_fit();
             forms.shrink_to_fit();
         }
-        Ok(Held::Many(Arc::new(
+        Ok(StoredValues::Many(Arc::new(
             alloc,
             Lists {
                 values,
@@ -143,14 +143,14 @@ impl Lists {
     }
 }
 
-impl Held {
+impl StoredValues {
     /// The values.
     pub fn values(&self) -> &[Octets]
         ensures { result.now ≡ values_in self.now }
     {
         match self {
-            Held::One(value, _, _) => slice::from_ref(value),
-            Held::Many(lists) => &lists.values,
+            StoredValues::One(value, _, _) => slice::from_ref(value),
+            StoredValues::Many(lists) => &lists.values,
         }
     }
 
@@ -159,8 +159,8 @@ impl Held {
         ensures { result.now ≡ keys_in self.now }
     {
         match self {
-            Held::One(_, key, _) => slice::from_ref(key),
-            Held::Many(lists) => &lists.keys,
+            StoredValues::One(_, key, _) => slice::from_ref(key),
+            StoredValues::Many(lists) => &lists.keys,
         }
     }
 
@@ -169,8 +169,8 @@ impl Held {
         ensures { result.now ≡ forms_in self.now }
     {
         match self {
-            Held::One(_, _, form) => slice::from_ref(form),
-            Held::Many(lists) => &lists.forms,
+            StoredValues::One(_, _, form) => slice::from_ref(form),
+            StoredValues::Many(lists) => &lists.forms,
         }
     }
 
@@ -181,28 +181,28 @@ impl Held {
         ensures forms { IfOk result (λ l. l.forms.items ≡ forms_in self) }
     {
         match self {
-            Held::One(value, key, form) => Ok(Lists {
+            StoredValues::One(value, key, form) => Ok(Lists {
                 values: list_of(alloc, value)?,
                 keys: list_of(alloc, key)?,
                 forms: list_of(alloc, form)?,
             }),
-            Held::Many(lists) => owned(alloc, lists),
+            StoredValues::Many(lists) => owned(alloc, lists),
         }
     }
 
     /// A copy.
-    pub fn copy(&self, alloc: Global) -> Result<Held, AllocError>
+    pub fn copy(&self, alloc: Global) -> Result<StoredValues, AllocError>
         ensures values { IfOk result (λ h. values_in h ≡ values_in self.now) }
         ensures keys { IfOk result (λ h. keys_in h ≡ keys_in self.now) }
         ensures forms { IfOk result (λ h. forms_in h ≡ forms_in self.now) }
     {
         match self {
-            Held::One(value, key, form) => Ok(Held::One(
+            StoredValues::One(value, key, form) => Ok(StoredValues::One(
                 value.share()?,
                 key.copy(alloc)?,
                 form.copy(alloc)?,
             )),
-            Held::Many(lists) => Ok(Held::Many(Arc::try_clone(lists)?)),
+            StoredValues::Many(lists) => Ok(StoredValues::Many(Arc::try_clone(lists)?)),
         }
     }
 }

@@ -37,7 +37,7 @@ impl Drop for ListKey {
 
 /// What stands for such a key, with octets that stand elsewhere.
 #[derive(Clone, Copy)]
-pub struct Place<'a> {
+pub struct BorrowedKey<'a> {
     pub type_id: TypeId,
     pub rank: u8,
     pub octets: &'a [u8],

@@ -6,7 +6,7 @@ ghost use Rattle.dir_index.specs.ListKeys.{key_of, list_order, is_same_list};
 ghost use Rattle.dir_index.specs.OrderLaws.{list_equiv, list_total, list_ties};
 ghost use Rattle.dir_index.specs.Places.{key_at};
 
-use crate::list_key::{ListKey, Place};
+use crate::list_key::{BorrowedKey, ListKey};
 use crate::ordering::{octets, rank, type_number};
 use crate::posting::Posting;
 use index_choice::{Shared, Sought};
@@ -76,7 +76,7 @@ impl Shared for ListKey {
     }
 }
 
-impl<'a> Sought<ListKey> for Place<'a> {
+impl<'a> Sought<ListKey> for BorrowedKey<'a> {
     ghost key = { key_at };
 
     fn compare(&self, other: &ListKey) -> Ordering {

@@ -12,7 +12,7 @@ ghost use Rattle.dir_index.specs.private.Stored.{has_in_lists};
 ghost use Rattle.index_choice.specs.dir_entry.shared_map.Runs.{entries_after};
 ghost use Rattle.dir_index.specs.ListKeys.{list_order};
 
-use crate::list_key::{ListKey, Place, RUN, VALUE};
+use crate::list_key::{BorrowedKey, ListKey, RUN, VALUE};
 use crate::lists::Lists;
 use crate::posting::Range;
 use index_choice::{Attribute, Entry, Indexes, Key, NumberSet, Walk};
@@ -66,14 +66,14 @@ fn is_list_in(range: &Range, key: &ListKey) -> bool
 }
 
 /// The least key that a list of the range may have.
-fn start_of(range: &Range) -> Place<'_>
+fn start_of(range: &Range) -> BorrowedKey<'_>
     ensures { key_at result ≡ range_start range.now }
 {
     let octets: &[u8] = match &range.from {
         Some(from) => from.as_octets(),
         None => &[],
     };
-    Place {
+    BorrowedKey {
         type_id: range.type_id,
         rank: VALUE,
         octets,
@@ -96,7 +96,7 @@ fn push_numbers(numbers: &NumberSet, into: &mut Vec<u64>) -> Result<(), AllocErr
 fn push_first(
     lists: &Lists,
     range: &Range,
-    start: &Place<'_>,
+    start: &BorrowedKey<'_>,
     into: &mut Vec<u64>,
 ) -> Result<(), AllocError>
     ensures { OnOk result ((n : ℕ) → has_number n into.new.items ≡ (has_number n into.old.items || (in_range range.now start.now.octets.now && has_number n (list_at lists.now (key_at start.now))))) }
@@ -114,7 +114,7 @@ fn push_first(
 fn push_rest(
     lists: &Lists,
     range: &Range,
-    start: &Place<'_>,
+    start: &BorrowedKey<'_>,
     into: &mut Vec<u64>,
 ) -> Result<(), AllocError>
     requires { key_at start.now ≡ range_start range.now }
@@ -175,12 +175,12 @@ pub fn about_lists(lists: &Lists, range: &Range) -> u64 {
 /// How many lists are behind the end of a range.
 fn count_beyond(lists: &Lists, range: &Range) -> u64 {
     match &range.upto {
-        Some(upto) => lists.count_after(&Place {
+        Some(upto) => lists.count_after(&BorrowedKey {
             type_id: range.type_id,
             rank: VALUE,
             octets: upto.as_octets(),
         }),
-        None => lists.count_after(&Place {
+        None => lists.count_after(&BorrowedKey {
             type_id: range.type_id,
             rank: RUN,
             octets: &[],

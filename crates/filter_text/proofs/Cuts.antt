@@ -14,7 +14,7 @@ use Rattle.filter_text.specs.declared.fault.FilterTextError.{FilterTextError}
 use Rattle.filter_text.specs.declared.fault.FilterTextError.TheVariants.{BadFilterText, TooDeep, TooManyItems, NoMemory}
 use Rattle.filter_text.specs.private.Reads.{PartFault}
 use Rattle.filter_text.specs.private.Scanned.{spelled, turned, scanned, value_of}
-use Rattle.filter_text.specs.declared.value_reading.Reading.TheVariants.{Between, Escape}
+use Rattle.filter_text.specs.declared.value_reading.ValueState.TheVariants.{Between, Escape}
 use Rattle.filter_text.specs.declared.value_reading.Turn.TheVariants.{Refuses, Reads, Gives}
 use Rattle.filter_text.specs.private.Cuts.{is_name_octet, is_other, front, behind, tail, begins_with, is_empty, part_of, spread, parts_of, substrings_of, starred, equal_or_starred, equality, Applied, worded, applied, described_by, extensible_with, item_at, item_of}
 use Rattle.filter_text.specs.declared.place.OidPlace.{OidPlace}

@@ -12,8 +12,8 @@ use Rattle.filter_text.specs.declared.place.ItemPlace.{ItemPlace}
 use Rattle.filter_text.specs.declared.place.ItemPlace.TheVariants.{Start, Name, Sign, Plain, Part, Star, BareColon, Colon, Rule, DnColon, LastRule, Assign}
 use Rattle.filter_text.specs.declared.place.Around.{Around}
 use Rattle.filter_text.specs.declared.place.Around.TheVariants.{Row, Negation}
-use Rattle.filter_text.specs.declared.place.Place.{Place}
-use Rattle.filter_text.specs.declared.place.Place.TheVariants.{Opening, Inside, InItem, Behind}
+use Rattle.filter_text.specs.declared.place.ScanState.{ScanState}
+use Rattle.filter_text.specs.declared.place.ScanState.TheVariants.{Opening, Inside, InItem, Behind}
 use Rattle.filter_text.proofs.Machines.{false_true, none_some, one_step, embed, takes}
 use Rattle.filter_text.proofs.ItemRuns.{IsOther, no_oid, no_name, item_runs}
 use Rattle.filter_text.proofs.ItemsSpelled.{item_spelled}
@@ -161,13 +161,13 @@ Round (Row ∷ around) text = RowThen (Round around) text
 Round (Negation ∷ around) text = CloseThen (Round around) text
 
 -- what a text completes from a place
-abbrev Completes : Place → List Around → List ℕ → Type 0
+abbrev Completes : ScanState → List Around → List ℕ → Type 0
 Completes Opening around text = FilterThen (Round around) text
 Completes Inside around text = FilterThen (Round around) (40 ∷ text)
 Completes (InItem s) around text = BodyThen (Round around) s text
 Completes Behind around text = Round around text
 
-abbrev Accepts : Place → List Around → List ℕ → Type 0
+abbrev Accepts : ScanState → List Around → List ℕ → Type 0
 Accepts p around text = accepts filter_step filter_ends (at p around) text ≡ true
 
 abbrev led : Option Spot → List ℕ → Bool
@@ -203,7 +203,7 @@ item_then around c cs s e b =
     }
 
 inside_accepts : (a b d : Bool) (r : Option ItemPlace) (around : List Around) (c : ℕ) (cs : List ℕ) → nat_eq c 38 ≡ a → nat_eq c 124 ≡ b → nat_eq c 33 ≡ d → item_step Start c ≡ r
-    → ((p : Place) (over : List Around) → Accepts p over cs → Completes p over cs)
+    → ((p : ScanState) (over : List Around) → Accepts p over cs → Completes p over cs)
     → led (cond (a || b) (Some (at Behind (Row ∷ around))) (cond d (Some (at Opening (Negation ∷ around))) (option_map (put_item around) r))) cs ≡ true → FilterThen (Round around) (40 ∷ c ∷ cs)
 inside_accepts true b d r around c cs e f g k more h = subst (λ x. FilterThen (Round around) (40 ∷ x ∷ cs)) (sym (eqb-true c 38 e)) (conj_then around cs (more Behind (Row ∷ around) h))
 inside_accepts false true d r around c cs e f g k more h = subst (λ x. FilterThen (Round around) (40 ∷ x ∷ cs)) (sym (eqb-true c 124 f)) (disj_then around cs (more Behind (Row ∷ around) h))
@@ -221,7 +221,7 @@ longer_body around c cs s t e b = record {
 }
 
 body_at : (a d : Bool) (r : Option ItemPlace) (around : List Around) (s : ItemPlace) (c : ℕ) (cs : List ℕ) → nat_eq c 41 ≡ a → item_ends s ≡ d → item_step s c ≡ r
-    → ((p : Place) (over : List Around) → Accepts p over cs → Completes p over cs)
+    → ((p : ScanState) (over : List Around) → Accepts p over cs → Completes p over cs)
     → led (cond a (cond d (Some (at Behind around)) None) (option_map (put_item around) r)) cs ≡ true → BodyThen (Round around) s (c ∷ cs)
 body_at true true r around s c cs e f g more h = record { body = []; after = cs; parts = ap (λ x. x ∷ cs) (eqb-true c 41 e); accepted = f; follows = more Behind around h }
 body_at true false r around s c cs e f g more h = absurd (false_true h)
@@ -231,7 +231,7 @@ body_at false d (Some t) around s c cs e f g more h = longer_body around c cs s 
 one_more : (around : List Around) (cs : List ℕ) → FilterThen (RowThen (Round around)) cs → RowThen (Round around) cs
 one_more around cs f = record { trees = tree f.is f.follows.trees; after = f.follows.after; spell = record { between = f.after; first = f.spells; next = f.follows.spell }; follows = f.follows.follows }
 
-row_at : (a b : Bool) (around : List Around) (c : ℕ) (cs : List ℕ) → nat_eq c 40 ≡ a → nat_eq c 41 ≡ b → ((p : Place) (over : List Around) → Accepts p over cs → Completes p over cs)
+row_at : (a b : Bool) (around : List Around) (c : ℕ) (cs : List ℕ) → nat_eq c 40 ≡ a → nat_eq c 41 ≡ b → ((p : ScanState) (over : List Around) → Accepts p over cs → Completes p over cs)
     → led (cond a (Some (at Inside (Row ∷ around))) (cond b (Some (at Behind around)) None)) cs ≡ true → RowThen (Round around) (c ∷ cs)
 row_at true b around c cs e f more h = subst (λ x. RowThen (Round around) (x ∷ cs)) (sym (eqb-true c 40 e)) (one_more around (40 ∷ cs) (more Inside (Row ∷ around) h))
 row_at false true around c cs e f more h = record { trees = no_trees; after = cs; spell = ap (λ x. x ∷ cs) (eqb-true c 41 f); follows = more Behind around h }
@@ -246,7 +246,7 @@ round_end : (around : List Around) → is_empty around ≡ true → Round around
 round_end [] h = refl
 round_end (a ∷ around) h = absurd (false_true h)
 
-completes : (text : List ℕ) (p : Place) (around : List Around) → Accepts p around text → Completes p around text
+completes : (text : List ℕ) (p : ScanState) (around : List Around) → Accepts p around text → Completes p around text
 completes [] Opening around h = absurd (false_true h)
 completes [] Inside around h = absurd (false_true h)
 completes [] (InItem s) around h = absurd (false_true h)

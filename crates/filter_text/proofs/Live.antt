@@ -18,8 +18,8 @@ use Rattle.filter_text.specs.declared.place.ItemPlace.{ItemPlace}
 use Rattle.filter_text.specs.declared.place.ItemPlace.TheVariants.{Start, Name, Sign, Plain, Part, Star, BareColon, Colon, Rule, DnColon, LastRule, Assign}
 use Rattle.filter_text.specs.declared.place.Around.{Around}
 use Rattle.filter_text.specs.declared.place.Around.TheVariants.{Row, Negation}
-use Rattle.filter_text.specs.declared.place.Place.{Place}
-use Rattle.filter_text.specs.declared.place.Place.TheVariants.{Opening, Inside, InItem, Behind}
+use Rattle.filter_text.specs.declared.place.ScanState.{ScanState}
+use Rattle.filter_text.specs.declared.place.ScanState.TheVariants.{Opening, Inside, InItem, Behind}
 use Rattle.filter_text.proofs.Machines.{false_true, none_some, some_same, one_step}
 use Rattle.filter_text.proofs.FilterRuns.{item_close, filter_accepted, accepted_filter}
 use Rattle.std.specs.Option.{option_and_then}
@@ -125,13 +125,13 @@ closing_live [] = refl
 closing_live (Row ∷ around) = closing_live around
 closing_live (Negation ∷ around) = closing_live around
 
-abbrev finish : Place → List Around → List ℕ
+abbrev finish : ScanState → List Around → List ℕ
 finish Opening around = 40 ∷ 38 ∷ 41 ∷ closing around
 finish Inside around = 38 ∷ 41 ∷ closing around
 finish (InItem s) around = finish_item s ++ 41 ∷ closing around
 finish Behind around = closing around
 
-live_at : (p : Place) (around : List Around) → accepts filter_step filter_ends (at p around) (finish p around) ≡ true
+live_at : (p : ScanState) (around : List Around) → accepts filter_step filter_ends (at p around) (finish p around) ≡ true
 live_at Opening around = closing_live around
 live_at Inside around = closing_live around
 live_at (InItem s) around = ap (holds filter_ends) (item_close around s (finish_item s) (closing around) (item_live s)) ∙ closing_live around

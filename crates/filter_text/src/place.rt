@@ -84,7 +84,7 @@ pub enum Around {
 
 /// Where a scanner of a filter stands.
 #[derive(Clone, Copy)]
-pub enum Place {
+pub enum ScanState {
     /// Before a filter.
     Opening,
     /// Behind a filter's `(`.

@@ -5,11 +5,11 @@ ghost use Rattle.std.specs.List.{list_all};
 ghost use Rattle.filter_text.specs.private.Cuts.{is_name_octet};
 ghost use Rattle.filter_text.specs.private.Reads.{PartFault};
 ghost use Rattle.filter_text.specs.private.Scanned.{turn as turn_from, value_of};
-ghost use Rattle.filter_text.specs.declared.value_reading.Reading.TheVariants.{Between};
+ghost use Rattle.filter_text.specs.declared.value_reading.ValueState.TheVariants.{Between};
 
 use crate::fault::FilterTextError;
 use crate::printing_value::is_normal;
-use crate::value_reading::{Reading, Turn};
+use crate::value_reading::{Turn, ValueState};
 use ldap_words::hex_octet;
 use std::alloc::{AllocError, Global};
 
@@ -18,7 +18,7 @@ fn begin(octet: u8) -> Turn
     ensures { result ≡ turn_from Between octet }
 {
     if octet == b'\\' {
-        Turn::Reads(Reading::Escape)
+        Turn::Reads(ValueState::Escape)
     } else if is_normal(octet) {
         Turn::Gives(octet)
     } else {
@@ -27,13 +27,13 @@ fn begin(octet: u8) -> Turn
 }
 
 /// What an octet does where the reader stands so.
-fn turn(reading: Reading, octet: u8) -> Turn
+fn turn(reading: ValueState, octet: u8) -> Turn
     ensures { result ≡ turn_from reading octet }
 {
     match reading {
-        Reading::Between => begin(octet),
-        Reading::Escape => Turn::Reads(Reading::Half(octet)),
-        Reading::Half(high) => match hex_octet(high, octet) {
+        ValueState::Between => begin(octet),
+        ValueState::Escape => Turn::Reads(ValueState::Half(octet)),
+        ValueState::Half(high) => match hex_octet(high, octet) {
             Some(spelled) => Turn::Gives(spelled),
             None => Turn::Refuses,
         },
@@ -46,20 +46,20 @@ pub fn value(alloc: Global, text: &[u8]) -> Result<Vec<u8>, FilterTextError>
     ensures fault { IfErr result (λ e. PartFault e (value_of text.now ≡ None)) }
 {
     let mut value = Vec::new(alloc);
-    let mut reading = Reading::Between;
+    let mut reading = ValueState::Between;
     for octet in text {
         match turn(reading, *octet) {
             Turn::Refuses => return Err(FilterTextError::BadFilterText { at: 0 }),
             Turn::Reads(next) => reading = next,
             Turn::Gives(given) => {
                 value.push(given)?;
-                reading = Reading::Between;
+                reading = ValueState::Between;
             }
         }
     }
     match reading {
-        Reading::Between => Ok(value),
-        Reading::Escape | Reading::Half(_) => Err(FilterTextError::BadFilterText { at: 0 }),
+        ValueState::Between => Ok(value),
+        ValueState::Escape | ValueState::Half(_) => Err(FilterTextError::BadFilterText { at: 0 }),
     }
 }
 

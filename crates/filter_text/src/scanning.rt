@@ -6,18 +6,18 @@ ghost use Rattle.filter_text.specs.private.FilterScan as scan;
 ghost use Rattle.filter_text.specs.private.Scanning.{spot, stop, IsScanFault};
 
 use crate::fault::FilterTextError;
-use crate::place::{Around, ItemPlace, Place};
+use crate::place::{Around, ItemPlace, ScanState};
 use crate::scanner::Scanner;
 use crate::scanning_item::{item_ends, item_step};
 use std::alloc::Global;
 
 /// The scanner in an item, or none.
 fn in_item(place: Option<ItemPlace>, around: Vec<Around>) -> Option<Scanner>
-    ensures { option_map spot result ≡ option_map (λ s. scan.at (Place.InItem s) (reverse around.items)) place }
+    ensures { option_map spot result ≡ option_map (λ s. scan.at (ScanState.InItem s) (reverse around.items)) place }
 {
     match place {
         Some(item) => Some(Scanner {
-            place: Place::InItem(item),
+            place: ScanState::InItem(item),
             around,
         }),
         None => None,
@@ -25,7 +25,11 @@ fn in_item(place: Option<ItemPlace>, around: Vec<Around>) -> Option<Scanner>
 }
 
 /// The scanner inside one more filter.
-fn deeper(mut around: Vec<Around>, new: Around, place: Place) -> Result<Scanner, FilterTextError>
+fn deeper(
+    mut around: Vec<Around>,
+    new: Around,
+    place: ScanState,
+) -> Result<Scanner, FilterTextError>
     ensures found { IfOk result (λ s. spot s ≡ scan.at place (new ∷ reverse around.items)) }
     ensures fault { IfErr result (λ e. e ≡ FilterTextError.NoMemory) }
 {
@@ -39,9 +43,9 @@ fn inside_step(around: Vec<Around>, octet: u8) -> Result<Option<Scanner>, Filter
     ensures fault { IfErr result (λ e. e ≡ FilterTextError.NoMemory) }
 {
     if octet == b'&' || octet == b'|' {
-        Ok(Some(deeper(around, Around::Row, Place::Behind)?))
+        Ok(Some(deeper(around, Around::Row, ScanState::Behind)?))
     } else if octet == b'!' {
-        Ok(Some(deeper(around, Around::Negation, Place::Opening)?))
+        Ok(Some(deeper(around, Around::Negation, ScanState::Opening)?))
     } else {
         Ok(in_item(item_step(ItemPlace::Start, octet), around))
     }
@@ -53,10 +57,10 @@ fn row_step(around: Vec<Around>, octet: u8) -> Result<Option<Scanner>, FilterTex
     ensures fault { IfErr result (λ e. e ≡ FilterTextError.NoMemory) }
 {
     if octet == b'(' {
-        Ok(Some(deeper(around, Around::Row, Place::Inside)?))
+        Ok(Some(deeper(around, Around::Row, ScanState::Inside)?))
     } else if octet == b')' {
         Ok(Some(Scanner {
-            place: Place::Behind,
+            place: ScanState::Behind,
             around,
         }))
     } else {
@@ -70,7 +74,7 @@ fn negation_step(around: Vec<Around>, octet: u8) -> Option<Scanner>
 {
     if octet == b')' {
         Some(Scanner {
-            place: Place::Behind,
+            place: ScanState::Behind,
             around,
         })
     } else {
@@ -92,14 +96,14 @@ fn behind_step(mut around: Vec<Around>, octet: u8) -> Result<Option<Scanner>, Fi
 
 /// An octet of an item, or the `)` behind it.
 fn item_or_close(place: ItemPlace, around: Vec<Around>, octet: u8) -> Option<Scanner>
-    ensures { option_map spot result ≡ scan.step_at (Place.InItem place) (reverse around.items) octet }
+    ensures { option_map spot result ≡ scan.step_at (ScanState.InItem place) (reverse around.items) octet }
 {
     if octet == b')' {
         if !item_ends(place) {
             return None;
         }
         return Some(Scanner {
-            place: Place::Behind,
+            place: ScanState::Behind,
             around,
         });
     }
@@ -113,19 +117,19 @@ fn step(scanner: Scanner, octet: u8) -> Result<Option<Scanner>, FilterTextError>
 {
     let Scanner { place, around } = scanner;
     match place {
-        Place::Opening => {
+        ScanState::Opening => {
             if octet == b'(' {
                 Ok(Some(Scanner {
-                    place: Place::Inside,
+                    place: ScanState::Inside,
                     around,
                 }))
             } else {
                 Ok(None)
             }
         }
-        Place::Inside => inside_step(around, octet),
-        Place::InItem(item) => Ok(item_or_close(item, around, octet)),
-        Place::Behind => behind_step(around, octet),
+        ScanState::Inside => inside_step(around, octet),
+        ScanState::InItem(item) => Ok(item_or_close(item, around, octet)),
+        ScanState::Behind => behind_step(around, octet),
     }
 }
 
@@ -134,8 +138,8 @@ fn ends(scanner: &Scanner) -> bool
     ensures { result ≡ scan.filter_ends (spot scanner.now) }
 {
     match scanner.place {
-        Place::Behind => scanner.around.is_empty(),
-        Place::Opening | Place::Inside | Place::InItem(_) => false,
+        ScanState::Behind => scanner.around.is_empty(),
+        ScanState::Opening | ScanState::Inside | ScanState::InItem(_) => false,
     }
 }
 
@@ -145,7 +149,7 @@ pub fn scan(alloc: Global, text: &[u8]) -> Result<(), FilterTextError>
     ensures stopped { IfErr result (λ e. IsScanFault e text.now) }
 {
     let mut scanner = Scanner {
-        place: Place::Opening,
+        place: ScanState::Opening,
         around: Vec::new(alloc),
     };
     let mut at = 0;

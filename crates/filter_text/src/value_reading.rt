@@ -2,7 +2,7 @@
 
 /// Where a reader of octets stands.
 #[derive(Clone, Copy)]
-pub enum Reading {
+pub enum ValueState {
     Between,
     /// Behind a backslash.
     Escape,
@@ -14,6 +14,6 @@ pub enum Reading {
 #[derive(Clone, Copy)]
 pub enum Turn {
     Refuses,
-    Reads(Reading),
+    Reads(ValueState),
     Gives(u8),
 }

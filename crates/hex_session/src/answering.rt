@@ -61,12 +61,12 @@ fn end_of_input(session: &Session) -> SessionEnd
 
 /// What each answer of a session needs beside the session.
 #[derive(Clone, Copy)]
-struct Terms<'a> {
+struct AnswerContext<'a> {
     alloc: Global,
     config: Config<'a>,
 }
 
-impl Terms<'_> {
+impl AnswerContext<'_> {
     /// Answers all whole messages that are there.
     fn answer_ready<W: Write, D: Directory>(
         &self,
@@ -159,7 +159,7 @@ pub fn answer_lines<R: BufRead, W: Write, D: Directory>(
     ensures err { IfErr result (λ fault. Fails D.allows (config_view config.now) directory.old directory.new (R.remaining input.old)
         (W.contents output.old) (W.contents output.new) fault) }
 {
-    let terms = Terms {
+    let terms = AnswerContext {
         alloc,
         config: *config,
     };

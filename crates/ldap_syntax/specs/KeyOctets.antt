@@ -1,9 +1,9 @@
 -- What a key is seen as.
 use Rattle.std.specs.Prelude.{ℕ, List, take}
-use Rattle.ldap_syntax.specs.declared.key.Held.{Held}
-use Rattle.ldap_syntax.specs.declared.key.Held.TheVariants.{Short, Long}
+use Rattle.ldap_syntax.specs.declared.key.KeyStorage.{KeyStorage}
+use Rattle.ldap_syntax.specs.declared.key.KeyStorage.TheVariants.{Short, Long}
 
 -- the octets
-abbrev pub octets_in : Held → List ℕ
+abbrev pub octets_in : KeyStorage → List ℕ
 octets_in (Short n room) = take n room
 octets_in (Long all) = all.items

@@ -10,18 +10,18 @@ use std::marker::Model;
 /// So many octets need no memory of their own: with their count, and which form it is, they fill four words.
 const ROOM: usize = 30;
 
-enum Held {
+enum KeyStorage {
     /// How many of the octets count.
     Short(u8, [u8; ROOM]),
     Long(Vec<u8>),
 }
 
 // Not derived: see "What the gate takes" in docs/ARCHITECTURE.md.
-impl Drop for Held {
+impl Drop for KeyStorage {
     fn drop(self) {
         match self {
-            Held::Short(_, _) => {}
-            Held::Long(_) => {}
+            KeyStorage::Short(_, _) => {}
+            KeyStorage::Long(_) => {}
         }
     }
 }
@@ -29,7 +29,7 @@ impl Drop for Held {
 /// The key of a value under a rule: two keys of one rule are equal, and stand in byte order, as the meanings of their
 /// values are and do. A short one needs no memory of its own.
 pub struct Key {
-    held: Held,
+    held: KeyStorage,
 }
 
 const _: () = prove!(size_of::<Key>() == 32);
@@ -61,7 +61,7 @@ impl Default for Key {
 
     fn default() -> Key {
         Key {
-            held: Held::Short(0, [0; ROOM]),
+            held: KeyStorage::Short(0, [0; ROOM]),
         }
     }
 }
@@ -75,7 +75,7 @@ fn short(octets: &[u8]) -> Key
     let mut room = [0; ROOM];
     room[..count].copy_from_slice(octets);
     Key {
-        held: Held::Short(count as u8, room),
+        held: KeyStorage::Short(count as u8, room),
     }
 }
 
@@ -88,7 +88,7 @@ impl Key {
             return short(octets.as_slice());
         }
         Key {
-            held: Held::Long(octets),
+            held: KeyStorage::Long(octets),
         }
     }
 
@@ -100,7 +100,7 @@ impl Key {
             return Ok(short(octets));
         }
         Ok(Key {
-            held: Held::Long(Vec::from_slice(alloc, octets)?),
+            held: KeyStorage::Long(Vec::from_slice(alloc, octets)?),
         })
     }
 
@@ -116,8 +116,8 @@ impl Key {
         ensures { result.now ≡ self.now }
     {
         match &self.held {
-            Held::Short(count, room) => &room[..*count as usize],
-            Held::Long(octets) => octets.as_slice(),
+            KeyStorage::Short(count, room) => &room[..*count as usize],
+            KeyStorage::Long(octets) => octets.as_slice(),
         }
     }
 

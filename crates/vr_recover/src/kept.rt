@@ -4,7 +4,7 @@ use vr_state::message::Response;
 
 /// What was changed as a response was kept.
 #[derive(Drop)]
-pub enum Kept<P> {
+pub enum KeptResponse<P> {
     /// The sender's earlier response stays.
     Nothing,
     /// It stands at the end.

@@ -4,7 +4,7 @@
 //!
 //! `stepping` calls the handlers of all three crates; each is split as its definition is. A GETSTATE copies the records that the asker
 //! hasn't committed; a NEWSTATE moves these, and the receiver's own beginning stays where it is; the client table is made anew by one walk.
-//! Where a later change may be refused memory, the earlier one is taken back (`Kept`, a list cut to its former length).
+//! Where a later change may be refused memory, the earlier one is taken back (`KeptResponse`, a list cut to its former length).
 //!
 //! Proved: the step at every event, and the return after a crash, are the definitions': state, messages in order, replies, the view to
 //! store. Without memory nothing changes (`step`, `recover`, each handler).

@@ -4,7 +4,7 @@ ghost use Rattle.vr_recover.specs.private.Responses.{place_of, taken_back};
 ghost use Rattle.vr_state.specs.Outcome.{indices};
 ghost use Rattle.vr_state.specs.Recovery.{keep, latest_view};
 
-use crate::kept::Kept;
+use crate::kept::KeptResponse;
 use std::alloc::AllocError;
 use std::mem::replace;
 use vr_state::message::Response;
@@ -16,7 +16,7 @@ pub fn keep<P: Drop>(
     responses: &mut Vec<(u64, Response<P>)>,
     from: u64,
     response: Response<P>,
-) -> Result<Kept<P>, AllocError>
+) -> Result<KeptResponse<P>, AllocError>
     ensures ok { IfOk result (λ kept. responses.new.items ≡ keep from response responses.old.items) }
     ensures back { IfOk result (λ kept. taken_back kept responses.new.items ≡ responses.old.items) }
     ensures err { OnErr result (responses.new.items ≡ responses.old.items) }
@@ -26,21 +26,21 @@ pub fn keep<P: Drop>(
         Ok(keep_greater(responses, place, from, response))
     } else {
         responses.push((from, response))?;
-        Ok(Kept::Added)
+        Ok(KeptResponse::Added)
     }
 }
 
 /// Has the responses as they were before one was kept.
-pub fn take_back<P: Drop>(responses: &mut Vec<(u64, Response<P>)>, kept: Kept<P>)
+pub fn take_back<P: Drop>(responses: &mut Vec<(u64, Response<P>)>, kept: KeptResponse<P>)
     ensures { responses.new.items ≡ taken_back kept responses.old.items }
 {
     match kept {
-        Kept::Nothing => {}
-        Kept::Added => {
+        KeptResponse::Nothing => {}
+        KeptResponse::Added => {
             let length = responses.as_slice().len();
             responses.truncate(length.saturating_sub(1));
         }
-        Kept::Changed { place, old } => {
+        KeptResponse::Changed { place, old } => {
             if place < responses.as_slice().len() {
                 responses[place] = old;
             }
@@ -55,7 +55,7 @@ fn keep_greater<P: Drop>(
     place: usize,
     from: u64,
     response: Response<P>,
-) -> Kept<P>
+) -> KeptResponse<P>
     requires within { place < length responses.old.items }
     requires first { place ≡ place_of from responses.old.items }
     ensures ok { responses.new.items ≡ keep from response responses.old.items }
@@ -63,9 +63,9 @@ fn keep_greater<P: Drop>(
 {
     if responses[place].1.view_number < response.view_number {
         let old = replace(&mut responses[place], (from, response));
-        Kept::Changed { place, old }
+        KeptResponse::Changed { place, old }
     } else {
-        Kept::Nothing
+        KeptResponse::Nothing
     }
 }
 

@@ -2,10 +2,10 @@
 use Rattle.std.specs.Prelude.{List, [], ◌∷◌}
 use Rattle.ldap_match.specs.ldap_syntax.Forms.{FormModel}
 use Rattle.std.specs.Arc.{arc_value}
-use Rattle.dir_entry.specs.declared.kept.Held.{Held}
-use Rattle.dir_entry.specs.declared.kept.Held.TheVariants.{One, Many}
+use Rattle.dir_entry.specs.declared.kept.StoredValues.{StoredValues}
+use Rattle.dir_entry.specs.declared.kept.StoredValues.TheVariants.{One, Many}
 
 -- the texts of each value
-abbrev pub forms_in : Held → List FormModel
+abbrev pub forms_in : StoredValues → List FormModel
 forms_in (One value key form) = form ∷ []
 forms_in (Many lists) = (arc_value lists).forms.items

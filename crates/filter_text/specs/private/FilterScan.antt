@@ -5,16 +5,16 @@ use Rattle.filter_text.specs.private.ItemScan.{item_step, item_ends}
 use Rattle.filter_text.specs.declared.place.ItemPlace.TheVariants.{Start}
 use Rattle.filter_text.specs.declared.place.Around.{Around}
 use Rattle.filter_text.specs.declared.place.Around.TheVariants.{Row, Negation}
-use Rattle.filter_text.specs.declared.place.Place.{Place}
-use Rattle.filter_text.specs.declared.place.Place.TheVariants.{Opening, Inside, InItem, Behind}
+use Rattle.filter_text.specs.declared.place.ScanState.{ScanState}
+use Rattle.filter_text.specs.declared.place.ScanState.TheVariants.{Opening, Inside, InItem, Behind}
 
 -- a place, and what is round it, the innermost first
 pub record Spot : Type 0 where
-  pub place : Place
+  pub place : ScanState
   pub around : List Around
 
 -- a place with this round it
-abbrev pub at : Place → List Around → Spot
+abbrev pub at : ScanState → List Around → Spot
 at p around = record { place = p; around = around }
 
 -- behind `(`
@@ -32,7 +32,7 @@ behind_step (Row ∷ around) c =
 behind_step (Negation ∷ around) c = cond (nat_eq c 41) (Some (at Behind around)) None
 
 -- a further octet of a filter, from each place
-abbrev pub step_at : Place → List Around → ℕ → Option Spot
+abbrev pub step_at : ScanState → List Around → ℕ → Option Spot
 step_at Opening around c = cond (nat_eq c 40) (Some (at Inside around)) None
 step_at Inside around c = inside_step around c
 step_at (InItem s) around c =
@@ -50,7 +50,7 @@ is_empty [] = true
 is_empty (a ∷ around) = false
 
 -- a filter may end at this place
-abbrev pub ends_at : Place → List Around → Bool
+abbrev pub ends_at : ScanState → List Around → Bool
 ends_at Opening around = false
 ends_at Inside around = false
 ends_at (InItem s) around = false

@@ -4,7 +4,7 @@ use Rattle.filter_text.specs.declared.fault.FilterTextError.{FilterTextError}
 use Rattle.filter_text.specs.declared.fault.FilterTextError.TheVariants.{BadFilterText, TooDeep, TooManyItems, NoMemory}
 use Rattle.filter_text.specs.private.Machine.{stops}
 use Rattle.filter_text.specs.private.FilterScan.{Spot, at, filter_step, filter_ends}
-use Rattle.filter_text.specs.declared.place.Place.TheVariants.{Opening}
+use Rattle.filter_text.specs.declared.place.ScanState.TheVariants.{Opening}
 use Rattle.filter_text.specs.declared.scanner.Scanner.{Scanner}
 
 -- the place that a scanner stands for

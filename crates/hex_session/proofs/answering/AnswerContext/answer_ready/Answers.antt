@@ -3,7 +3,7 @@ use Rattle.ldap_session.specs.session_handler.declared.answered.Next.TheVariants
 use Rattle.ldap_session.specs.View.{session_view}
 use Rattle.ldap_session.proofs.Progressed.{goes_apart, goes_apart_too}
 use Rattle.hex_session.proofs.Worked.{answered_some, put_as, more_answered, last_answered, not_put, not_answered}
-use Rattle.hex_session.proofs.answering.Terms.answer_ready.Goals as goal
+use Rattle.hex_session.proofs.answering.AnswerContext.answer_ready.Goals as goal
 
 pub returns-in-Ok-Unbound-clause-ok : goal.returns-in-Ok-Unbound-clause-ok
 returns-in-Ok-Unbound-clause-ok g c =
