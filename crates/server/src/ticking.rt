@@ -12,7 +12,7 @@ use node_gate::{
     SharedNode, Standing, Steps, Ticked, copies, send_all,
 };
 use server_threads::{
-    Build, Engine, Figures, Lack, Monitored, Role, ServerError, SharedParts, Trouble,
+    Build, Engine, Figures, Lack, MessageHandler, Monitored, Role, ServerError, SharedParts, Trouble,
 };
 use std::alloc::{AllocError, Global};
 use std::fs::{File, Files};
@@ -390,13 +390,7 @@ pub fn micros(time: Duration) -> u64 {
     u64::try_from(micros).unwrap_or(u64::MAX)
 }
 
-// prover: the type that reads a folder has a name, so that what is known of it holds in every thread.
-impl<'a, 'r, R, N, I> Engine for TimedNode<'a, 'r, R, I>
-where
-    R: Wait + Clock + Files<File = File, Dir = N>,
-    N: Read + Drop,
-    I: NodeIdentity,
-{
+impl<'a, 'r, R: Wait + Clock, I: NodeIdentity> MessageHandler for TimedNode<'a, 'r, R, I> {
     fn hear(&self, from: u64, message: PeerMessage<Op>, noted: Option<u64>) -> bool {
         let now = self.now();
         self.shared_parts.counters.hear(from);
@@ -438,7 +432,15 @@ where
     fn hear_part(&self, from: u64) {
         self.running.hear_part(self.rt, from, self.now());
     }
+}
 
+// prover: the type that reads a folder has a name, so that what is known of it holds in every thread.
+impl<'a, 'r, R, N, I> Engine for TimedNode<'a, 'r, R, I>
+where
+    R: Wait + Clock + Files<File = File, Dir = N>,
+    N: Read + Drop,
+    I: NodeIdentity,
+{
     fn run(&self) -> Result<(), ServerError> {
         let pulse = self.running.pulse(self.rt);
         tell_pulse(self.rt, self.alloc, &self.shared_parts.reporter, &pulse);

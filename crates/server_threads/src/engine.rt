@@ -1,7 +1,7 @@
-//! What the threads of a server ask of its node. A trait.
+//! What the threads of a server ask of its node. Traits.
 use crate::fault::ServerError;
-use replica_greeting::{Op, PeerMessage};
-use status_page::Figures;
+use peer_threads::MessageHandler;
+use server_monitor::Figures;
 
 /// What monitors are shown.
 pub trait Monitored {
@@ -13,14 +13,7 @@ pub trait Monitored {
 }
 
 /// The node behind a server's threads.
-pub trait Engine: Monitored {
-    /// Hands on a message of the replica of this index, with the number that was noted before it, if one was; whether the node goes on. A message that
-    /// finds no memory is lost, as the network may lose one, and the node goes on.
-    fn hear(&self, from: u64, message: PeerMessage<Op>, noted: Option<u64>) -> bool;
-
-    /// Takes note that a part of a long message of the replica of this index has come.
-    fn hear_part(&self, from: u64);
-
+pub trait Engine: Monitored + MessageHandler {
     /// Does what is due, moment by moment, until the node is stopped, or has stopped for good.
     fn run(&self) -> Result<(), ServerError>;
 

@@ -3,25 +3,16 @@ ghost use denote.Param.Send.{IsSend, IsSync};
 
 use crate::engine::Engine;
 use crate::fault::{Audience, ServerError};
-use crate::framing::MessageFrames;
-use crate::heading::Senders;
-use crate::logged::Logged;
-use crate::monitoring::Monitoring;
-use crate::needed_threads::readers as readers_of;
-use crate::places::ReplicaAddresses;
-use crate::reaching::TellingDialer;
-use crate::receiving::PeerReaders;
-use crate::reporter::StandardError;
+use crate::pages::ServerPages;
 use crate::session_events::SessionReporter;
 use crate::shared_parts::{SharedParts, listen};
 use crate::telling::{tell_fault, tell_room};
-use crate::verifying::PeerVerifier;
-use crossbeam_channel::{Receiver, Sender, bounded};
-use peer_link::{SocketDialer, send_all};
-use replica_greeting::{Claim, Cluster};
+use logged_directory::Logged;
+use peer_threads::{Claim, Cluster, PeerThreads, ReplicaAddresses};
+use server_log::StandardError;
+use server_monitor::Monitoring;
 use session_pool::{
-    Config, Directory, Door, PeerConnection, PoolSettings, SessionPool, accept_all, close,
-    descriptors, serve_sessions,
+    Config, Directory, Door, PoolSettings, SessionPool, close, descriptors, serve_sessions,
 };
 use std::alloc::{AllocError, Global};
 use std::io::Eprint;
@@ -32,9 +23,6 @@ use std::time::{Clock, Duration};
 
 /// How often it is looked whether the node has a state, in milliseconds.
 const LOOK: u64 = 10;
-
-/// How long a connection to a replica may take to be made, in milliseconds.
-const DIAL_LIMIT: u64 = 2_000;
 
 /// A server: what its threads share.
 #[derive(Drop)]
@@ -60,185 +48,23 @@ where
         + Sync,
     E: Engine + Sync,
 {
-    /// Sends messages to one replica, until its queue is stopped.
-    fn send_to(&self, to: usize) {
-        if let (Some(outbox), Some(place)) = (
-            self.shared_parts.boxes.get(to),
-            self.places.get(to),
-        ) {
-            let times = self.shared_parts.link_times;
-            let limit = times.silence.min(Duration::from_millis(DIAL_LIMIT));
-            let (rt, alloc, cluster) = (self.rt, self.alloc, self.cluster);
-            let address = place.peer_address;
-            let socket_dialer = SocketDialer::new(rt, address, limit);
-            let reporter = &self.shared_parts.reporter;
-            let mut dialer = TellingDialer::new(rt, alloc, reporter, to, address, socket_dialer);
-            let mut frames = MessageFrames::new(
-                rt,
-                alloc,
-                self.shared_parts,
-                cluster,
-                self.claim,
-                to,
-            );
-            send_all(rt, alloc, outbox, &mut frames, &mut dialer, times);
-        }
-    }
-
-    /// The indices of the other replicas.
-    fn others(&self) -> Result<Vec<usize>, AllocError> {
-        let mut others = Vec::new(self.alloc);
-        let own = usize::from(self.shared_parts.sender);
-        for index in 0..self.places.len() {
-            if index != own {
-                others.push(index)?;
-            }
-        }
-        Ok(others)
-    }
-
-    /// A number for each thread that reads from other replicas.
-    fn readers(&self) -> Result<Vec<usize>, AllocError> {
-        let mut readers = Vec::new(self.alloc);
-        for index in 0..readers_of(self.places.len()) {
-            readers.push(index as usize)?;
-        }
-        Ok(readers)
-    }
-
-    /// Takes the connections of other replicas, until the server closes.
-    fn take_peers(&self, to: Sender<(u64, PeerConnection<'a, R>)>) {
-        self.shared_parts.needed_threads.begin();
-        accept_all(
-            self.rt,
-            self.alloc,
-            &self.shared_parts.peers,
-            &self.shared_parts.peer_door,
-            to,
-        );
-    }
-
-    /// Whom frames are heard from.
-    fn senders(&self) -> Senders {
-        Senders {
-            cluster: self.cluster,
-            count: self.places.len() as u64,
-            own: self.shared_parts.sender,
-        }
-    }
-
-    /// What all who read from other replicas share.
-    fn peer_readers(&self) -> PeerReaders<'a, R, E> {
-        PeerReaders {
-            rt: self.rt,
-            alloc: self.alloc,
-            senders: self.senders(),
-            engine: self.engine,
-            reporter: &self.shared_parts.reporter,
-            links: &self.shared_parts.links,
-            progress: &self.shared_parts.progress,
-            counters: &self.shared_parts.counters,
-            terms: self.shared_parts.terms,
-            silence: self
-                .shared_parts
-                .link_times
-                .silence
-                .saturating_add(self.shared_parts.link_times.silence),
-        }
-    }
-
-    /// Looks at unverified peers, and hands on those that may be other replicas.
-    fn greet_peers(
-        &self,
-        arrivals: Receiver<(u64, PeerConnection<'a, R>)>,
-        to_readers: Sender<PeerConnection<'a, R>>,
-    ) -> Result<(), AllocError> {
-        self.shared_parts.needed_threads.begin();
-        let verifier = PeerVerifier {
-            rt: self.rt,
-            alloc: self.alloc,
-            senders: self.senders(),
-            door: &self.shared_parts.peer_door,
-            reporter: &self.shared_parts.reporter,
-        };
-        verifier.greet(arrivals, to_readers)
-    }
-
-    /// Hears other replicas, a connection in each thread.
-    fn hear_peers(
-        &self,
-        readers: Vec<usize>,
-        waiting: Receiver<PeerConnection<'a, R>>,
-    ) -> Result<(), AllocError> {
-        let peer_readers = self.peer_readers();
-        let needed_threads = &self.shared_parts.needed_threads;
-        let shared = &waiting;
-        let hears = |_index: usize| {
-            needed_threads.begin();
-            peer_readers.hear_each(shared);
-        };
-        let _heard = thread::map_vec(self.rt, readers, &hears)?;
-        Ok(())
-    }
-
-    /// Sends to other replicas, to one in each thread.
-    fn send_messages(&self, writers: Vec<usize>) -> Result<(), AllocError> {
-        let sends = |to: usize| {
-            self.shared_parts.needed_threads.begin();
-            self.send_to(to);
-        };
-        let _sent = thread::map_vec(self.rt, writers, &sends)?;
-        Ok(())
-    }
-
-    /// Hears those whom unverified peers turn out to be, until nobody comes any more.
-    fn hear_arrivals(
-        &self,
-        readers: Vec<usize>,
-        arrivals: Receiver<(u64, PeerConnection<'a, R>)>,
-        to_readers: Sender<PeerConnection<'a, R>>,
-        waiting: Receiver<PeerConnection<'a, R>>,
-    ) -> Result<(), AllocError> {
-        let (greeted, heard) = thread::join(
-            self.rt,
-            || self.greet_peers(arrivals, to_readers),
-            || self.hear_peers(readers, waiting),
-        );
-        greeted?;
-        heard
-    }
-
-    /// Hears and sends, side by side.
-    fn pass_frames(
-        &self,
-        readers: Vec<usize>,
-        writers: Vec<usize>,
-        arrivals: Receiver<(u64, PeerConnection<'a, R>)>,
-        to_readers: Sender<PeerConnection<'a, R>>,
-        waiting: Receiver<PeerConnection<'a, R>>,
-    ) -> Result<(), AllocError> {
-        let (heard, sent) = thread::join(
-            self.rt,
-            || self.hear_arrivals(readers, arrivals, to_readers, waiting),
-            || self.send_messages(writers),
-        );
-        heard?;
-        sent
-    }
-
     /// Sends to the other replicas and hears them, until the server closes.
     fn link(&self) -> Result<(), AllocError> {
-        self.shared_parts.needed_threads.begin();
-        let writers = self.others()?;
-        let readers = self.readers()?;
-        let (to_verifier, arrivals) = bounded(self.alloc, 1)?;
-        let (to_readers, waiting) = bounded(self.alloc, 0)?;
-        let ((), passed) = thread::join(
-            self.rt,
-            || self.take_peers(to_verifier),
-            || self.pass_frames(readers, writers, arrivals, to_readers, waiting),
-        );
-        passed
+        let shared_parts: &'a SharedParts = self.shared_parts;
+        let peer_threads = PeerThreads {
+            rt: self.rt,
+            alloc: self.alloc,
+            parts: shared_parts.peer_parts(),
+            listener: &shared_parts.peers,
+            door: &shared_parts.peer_door,
+            needed_threads: &shared_parts.needed_threads,
+            handler: self.engine,
+            cluster: self.cluster,
+            places: self.places,
+            claim: self.claim,
+            times: shared_parts.link_times,
+        };
+        peer_threads.link()
     }
 
     /// How many sessions there may be: as many as were asked for, and as the system has descriptors for.
@@ -464,11 +290,17 @@ where
     /// Answers monitors, where they are, until the server closes.
     fn serve_monitors(&self) {
         if let Some(listener) = &self.shared_parts.monitors {
-            let monitoring = Monitoring {
+            self.shared_parts.needed_threads.begin();
+            let pages = ServerPages {
                 rt: self.rt,
                 alloc: self.alloc,
                 shared_parts: self.shared_parts,
                 engine: self.engine,
+            };
+            let monitoring = Monitoring {
+                rt: self.rt,
+                alloc: self.alloc,
+                source: &pages,
             };
             monitoring.serve_all(listener);
         }

@@ -1,10 +1,8 @@
 //! Logs the events of sessions, a line each.
 use crate::addresses::Addresses;
-use crate::counters::Counters;
 use crate::engine::Engine;
-use crate::needed_threads::NeededThreads;
-use crate::reporter::Reporter;
 use crate::telling::{tell_begin, tell_end, tell_let_go, tell_refused, tell_session};
+use peer_threads::{Counters, NeededThreads, Reporter};
 use session_pool::{Away, SessionEnd, SessionObserver, Traffic};
 use std::alloc::{AllocError, Global};
 use std::net::SocketAddr;
@@ -78,7 +76,7 @@ impl<'a, R: Wait, E: Engine> SessionObserver for SessionReporter<'a, R, E> {
     }
 
     fn passed(&self, traffic: Traffic) {
-        self.counters.pass(traffic);
+        self.counters.pass(traffic.read, traffic.written);
     }
 
     fn left(&self) {

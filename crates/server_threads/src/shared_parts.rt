@@ -1,21 +1,16 @@
 //! What a server's threads share, made before any of them begins: the listener of replicas, doors, queues.
 use crate::addresses::Addresses;
-use crate::counters::Counters;
 use crate::fault::{Audience, ListenFailure, ServerError};
-use crate::links::Links;
-use crate::logs::Logs;
-use crate::needed_threads::NeededThreads;
-use crate::places::{ReplicaAddresses, own};
-use crate::process_files::ProcessFiles;
-use crate::progress::PeerProgress;
-use crate::reporter::Reporter;
-use crate::start::StartProgress;
-use peer_link::{LinkTimes, Outbox};
-use replica_greeting::{Op, PeerMessage, Terms};
+use peer_threads::{
+    Address, Counters, LinkTimes, Links, NeededThreads, Op, Outbox, PeerMessage, PeerParts,
+    PeerProgress, ReplicaAddresses, Reporter, Terms,
+};
+use server_log::Logs;
+use server_monitor::{ProcessFiles, StartProgress};
 use session_pool::{Budget, Door, HasDoor, Limits};
 use std::alloc::{AllocError, Global};
 use std::net::{Net, SocketAddr, TcpListener, TcpStream};
-use std::sync::Mutex;
+use std::sync::{Mutex, Wait};
 use std::sync::atomic::{AtomicBool, AtomicU64, Ordering};
 
 /// How many messages wait for a replica, at most.
@@ -64,6 +59,14 @@ pub fn listen<R: Net<Listener = TcpListener, Stream = TcpStream>>(
             address,
             cause: error.kind(),
         })),
+    }
+}
+
+/// The address at which this replica is to listen: of a name's the first.
+fn own<R: Net>(rt: &R, address: Address<'_>) -> Result<SocketAddr, ServerError> {
+    match address.first(rt) {
+        Some(address) => Ok(address),
+        None => Err(ServerError::NoSuchHost),
     }
 }
 
@@ -137,6 +140,25 @@ impl SharedParts {
     /// How many clients are connected.
     pub fn sessions(&self) -> u64 {
         self.sessions.load(Ordering::SeqCst)
+    }
+
+    /// What the links to the other replicas share.
+    pub fn peer_parts(&self) -> PeerParts<'_> {
+        PeerParts {
+            boxes: self.boxes.as_slice(),
+            links: &self.links,
+            progress: &self.progress,
+            counters: &self.counters,
+            reporter: &self.reporter,
+            is_refused: &self.is_refused,
+            sender: self.sender,
+            terms: self.terms,
+        }
+    }
+
+    /// Puts a message into the queue to the replica of this index: see `PeerParts::post`.
+    pub fn post<R: Wait>(&self, rt: &R, to: u64, message: PeerMessage<Op>) {
+        self.peer_parts().post(rt, to, message);
     }
 }
 

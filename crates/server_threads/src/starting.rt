@@ -1,9 +1,9 @@
 //! Answers monitors and writes what is said while the node is opened, which may take minutes over a long journal.
 use crate::engine::Monitored;
-use crate::monitoring::Monitoring;
-use crate::reporter::StandardError;
+use crate::pages::ServerPages;
 use crate::shared_parts::SharedParts;
-use status_page::{Build, Figures, Role, Start, Trouble};
+use server_log::StandardError;
+use server_monitor::{Build, Figures, Monitoring, Role, Start, Trouble};
 use std::alloc::Global;
 use std::collections::VecDeque;
 use std::io::Eprint;
@@ -113,11 +113,16 @@ impl<'a, R: Wait + Clock + Eprint + Threads + Sync> Starting<'a, R> {
             build: self.build,
             shared_parts: self.shared_parts,
         };
-        let monitoring = Monitoring {
+        let pages = ServerPages {
             rt: self.rt,
             alloc: self.alloc,
             shared_parts: self.shared_parts,
             engine: &unopened,
+        };
+        let monitoring = Monitoring {
+            rt: self.rt,
+            alloc: self.alloc,
+            source: &pages,
         };
         let mut error = StandardError { rt: self.rt };
         let mut monitors = VecDeque::new(self.alloc);

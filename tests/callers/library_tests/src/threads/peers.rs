@@ -9,7 +9,7 @@ use ldap_session::{Config, Name};
 use replica_greeting::{Claim, Terms, greeting};
 use schema_reader::built_in_schema;
 use server_threads::{
-    Address, Build, Choices, Engine, Figures, LinkTimes, Logs, ReplicaAddresses, ProcessFiles, Role, Server,
+    Address, Build, Choices, Engine, Figures, LinkTimes, Logs, MessageHandler, ReplicaAddresses, ProcessFiles, Role, Server,
     ServerError, SharedParts, Monitored, Start, Trouble, make_shared_parts,
 };
 use std::alloc::Global;
@@ -89,7 +89,7 @@ struct Ear<'a, R> {
     is_over: Signal,
 }
 
-impl<'a, R: Wait + Clock> Engine for Ear<'a, R> {
+impl<'a, R: Wait + Clock> MessageHandler for Ear<'a, R> {
     fn hear(&self, from: u64, _message: PeerMessage<Op>, _noted: Option<u64>) -> bool {
         let _ = self.heard.lock(self.rt).push(from);
         self.has_heard.give(self.rt);
@@ -97,7 +97,9 @@ impl<'a, R: Wait + Clock> Engine for Ear<'a, R> {
     }
 
     fn hear_part(&self, _from: u64) {}
+}
 
+impl<'a, R: Wait + Clock> Engine for Ear<'a, R> {
     fn run(&self) -> Result<(), ServerError> {
         let _is_over = self.is_over.wait(self.rt, Duration::from_secs(50));
         Ok(())

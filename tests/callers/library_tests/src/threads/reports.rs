@@ -202,7 +202,7 @@ fn a_greeting_tells_the_terms(rt: HostRuntime) -> Result<(), Fail> {
         last_normal: 4,
         length: 12,
     };
-    let mut frames = MessageFrames::new(&rt, rt.alloc(), &shared_parts, cluster, claim, 1);
+    let mut frames = MessageFrames::new(&rt, rt.alloc(), shared_parts.peer_parts(), cluster, claim, 1);
     let greeting = frames.greeting().expect(&rt, "there is memory");
     let alike = meet(greeting.as_slice(), cluster, &terms);
     assert!(rt;

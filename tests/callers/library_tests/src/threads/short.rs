@@ -81,8 +81,8 @@ fn one_copy_of_a_long_log_is_made_at_a_time(rt: HostRuntime) -> Result<(), Fail>
     let alloc = rt.alloc();
     let cluster = Cluster::new(9).expect(&rt, "9 is the number of a cluster");
     let shared_parts = parts_under(&rt, terms_under("dc=example,dc=com")).expect(&rt, "there are ports");
-    let mut first = MessageFrames::new(&rt, alloc, &shared_parts, cluster, claim(), 1);
-    let mut second = MessageFrames::new(&rt, alloc, &shared_parts, cluster, claim(), 2);
+    let mut first = MessageFrames::new(&rt, alloc, shared_parts.peer_parts(), cluster, claim(), 1);
+    let mut second = MessageFrames::new(&rt, alloc, shared_parts.peer_parts(), cluster, claim(), 2);
     first.begin(long_answer(alloc, 5, 17)?);
     assert!(rt; first.next_frame().is_some());
     // The other gets none meanwhile, but a short one; and the same isn't made again for the first.
@@ -150,7 +150,7 @@ fn what_both_have_is_left_out(rt: HostRuntime) -> Result<(), Fail> {
     let cluster = Cluster::new(9).expect(&rt, "9 is the number of a cluster");
     let terms = terms_under("dc=example,dc=com");
     let shared_parts = parts_under(&rt, terms).expect(&rt, "there are ports");
-    let mut frames = MessageFrames::new(&rt, alloc, &shared_parts, cluster, claim(), 1);
+    let mut frames = MessageFrames::new(&rt, alloc, shared_parts.peer_parts(), cluster, claim(), 1);
 
     // Nothing is known of the other: it may be of an earlier version.
     frames.begin(six(alloc)?);

@@ -1,9 +1,9 @@
 //! Looks at connections that have shown no greeting yet, without waiting, and hands those on that may be replicas'.
 use crate::heading::{HEADING, Senders};
-use crate::reporter::Reporter;
 use crate::telling::tell_unverified;
+use client_link::{Door, PeerConnection};
 use crossbeam_channel::{Receiver, RecvTimeoutError, Sender, TrySendError};
-use session_pool::{Door, PeerConnection};
+use peer_messages::Reporter;
 use std::alloc::{AllocError, Global};
 use std::collections::VecDeque;
 use std::io::ErrorKind;

@@ -1,5 +1,5 @@
 //! Puts messages to other replicas into the queues of their receivers.
-use crate::shared_parts::SharedParts;
+use crate::parts::PeerParts;
 use replica_greeting::{Op, PeerMessage};
 use std::sync::Wait;
 
@@ -31,7 +31,7 @@ fn weight_of(message: &PeerMessage<Op>) -> usize {
         .saturating_add(MESSAGE)
 }
 
-impl SharedParts {
+impl<'a> PeerParts<'a> {
     /// Puts a message into the queue to the replica of this index, behind those that wait there. It takes no memory and waits for nothing but
     /// that queue's lock, which is held for no longer than a few steps; a thread of its own makes frames of the message and sends them. Where
     /// the queue is full the oldest messages are lost, as the network may lose them. A message to nobody is lost, and so is a DOVIEWCHANGE, a log or a state

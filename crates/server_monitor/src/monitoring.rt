@@ -1,10 +1,6 @@
 //! Answers monitors over HTTP/1.1, each once, sixteen beside one another. One thread looks at all of them, and waits
 //! for none.
-use crate::counters::Others;
-use crate::engine::Monitored;
-use crate::process_files::descriptor_limit;
-use crate::shared_parts::SharedParts;
-use status_page::{Counts, Head, Method, Page, ProcessCounts, bad_request, head_of, page};
+use status_page::{Head, Method, Page, bad_request, head_of};
 use std::alloc::{AllocError, Global};
 use std::collections::VecDeque;
 use std::io::{self, ErrorKind, Read, Write};
@@ -62,64 +58,28 @@ fn is_pause(kind: ErrorKind) -> bool {
     kind == ErrorKind::WouldBlock || kind == ErrorKind::Interrupted
 }
 
-/// What answers monitors.
-#[derive(Drop)]
-pub struct Monitoring<'a, R, E> {
-    pub rt: &'a R,
-    pub alloc: Global,
-    pub shared_parts: &'a SharedParts,
-    pub engine: &'a E,
+/// What monitors are told, and for how long.
+pub trait PageSource {
+    /// A page, of what the replica does now.
+    fn page(&self, method: Method, asked: Page) -> Result<String, AllocError>;
+
+    /// Whether no monitor is answered any more.
+    fn is_closed(&self) -> bool;
 }
 
-impl<'a, R: Wait + Clock, E: Monitored> Monitoring<'a, R, E> {
-    /// What the system tells of the process, and what the replica keeps.
-    fn process(&self) -> ProcessCounts {
-        let shared_parts: &SharedParts = self.shared_parts;
-        ProcessCounts {
-            memory: shared_parts.process_files.memory(),
-            processors: shared_parts.process_files.processors(),
-            descriptors: self.engine.descriptors(),
-            descriptor_limit: descriptor_limit(),
-            began: shared_parts.process_files.began,
-            journal: shared_parts.counters.journal(),
-            dropped_lines: shared_parts.reporter.dropped(self.rt),
-        }
-    }
+/// What answers monitors.
+#[derive(Drop)]
+pub struct Monitoring<'a, R, S> {
+    pub rt: &'a R,
+    pub alloc: Global,
+    pub source: &'a S,
+}
 
-    /// What the replica counts.
-    fn counts(&self) -> Result<Counts, AllocError> {
-        let shared_parts: &SharedParts = self.shared_parts;
-        let own = usize::from(shared_parts.sender);
-        let connected = shared_parts.links.connected(self.rt, self.alloc, own)?;
-        shared_parts.counters.counts(
-            self.alloc,
-            connected,
-            Others {
-                own,
-                update_threads: shared_parts.leaves.len(),
-                process: self.process(),
-                budget: &shared_parts.budget,
-            },
-        )
-    }
-
-    /// A page, of what the replica does now.
-    fn page(&self, method: Method, asked: Page) -> Result<String, AllocError> {
-        let counts = self.counts()?;
-        page(
-            self.alloc,
-            method,
-            asked,
-            self.shared_parts.version.as_str(),
-            &self.engine.figures(),
-            &counts,
-        )
-    }
-
+impl<'a, R: Wait + Clock, S: PageSource> Monitoring<'a, R, S> {
     /// The answer to a request of which this has come; none, where more of it is to come.
     fn answer(&self, octets: &[u8]) -> Result<Option<String>, AllocError> {
         match head_of(octets) {
-            Head::Asks(method, asked) => Ok(Some(self.page(method, asked)?)),
+            Head::Asks(method, asked) => Ok(Some(self.source.page(method, asked)?)),
             Head::Part => Ok(None),
             Head::Bad => Ok(Some(bad_request(self.alloc)?)),
         }
@@ -244,15 +204,14 @@ impl<'a, R: Wait + Clock, E: Monitored> Monitoring<'a, R, E> {
         Ok(())
     }
 
-    /// Answers monitors, until the door is closed.
+    /// Answers monitors, until none is answered any more.
     pub fn serve_all(&self, listener: &TcpListener) {
-        self.shared_parts.needed_threads.begin();
         let mut monitors = VecDeque::new(self.alloc);
         for _ in self.rt.forever() {
             if self.next(listener, &mut monitors).is_err() {
                 thread::sleep(self.rt, Duration::from_millis(PAUSE));
             }
-            if self.shared_parts.monitor_door.is_closed() {
+            if self.source.is_closed() {
                 break;
             }
             self.go_on_with_all(&mut monitors);

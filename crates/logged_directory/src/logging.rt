@@ -1,8 +1,7 @@
 //! What is logged of updates and of slow searches, a line an event.
-use crate::reporter::Reporter;
-use crate::showing::shown;
+use directory_api::{Client, Ended, SearchRequest, Update};
 use filter_text::print_text;
-use session_pool::{Client, Ended, SearchRequest, Update};
+use server_log::{Reporter, shown};
 use std::alloc::{AllocError, Global};
 use std::sync::Wait;
 use text_faults::code_word;

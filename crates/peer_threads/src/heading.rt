@@ -1,9 +1,8 @@
 //! The first octets of a frame: whether it may be one that another replica of this cluster sends.
-use replica_greeting::{
+use peer_messages::{
     Cluster, HEADING as GREETING_HEADING, Heading, WireError, greeting_heading,
-    heading as kind_and_sender, rest,
+    heading as kind_and_sender, note_sender, rest,
 };
-use vr_short::note_sender;
 
 /// How many octets of a frame are looked at before more of it is read: its length, and what tells its version, cluster, kind and sender.
 pub const HEADING: usize = 13;

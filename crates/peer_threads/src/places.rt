@@ -1,8 +1,6 @@
 //! Where replicas are found: their addresses. Plain data.
-use crate::fault::ServerError;
-use peer_link::Address;
+use peer_messages::Address;
 use std::alloc::{AllocError, Global};
-use std::net::{Net, SocketAddr};
 
 /// Where one replica is found.
 #[derive(Clone, Copy)]
@@ -22,13 +20,5 @@ impl<'a> ReplicaAddresses<'a> {
             Some(uri) => String::from_str(alloc, uri),
             None => format!(in alloc; "ldap://{}", self.ldap_address),
         }
-    }
-}
-
-/// The address at which this replica is to listen: of a name's the first.
-pub fn own<R: Net>(rt: &R, address: Address<'_>) -> Result<SocketAddr, ServerError> {
-    match address.first(rt) {
-        Some(address) => Ok(address),
-        None => Err(ServerError::NoSuchHost),
     }
 }

@@ -1,40 +1,30 @@
 //! What other replicas send: a greeting, and then frames, which become messages that the node hears.
-use crate::counters::Counters;
-use crate::engine::Engine;
 use crate::heading::{BEHIND_LENGTH, HEADING, Senders, refusal_of};
-use crate::links::{Forgetful, Links};
-use crate::progress::PeerProgress;
-use crate::reporter::Reporter;
+use crate::handler::MessageHandler;
 use crate::telling::{
     tell_forgetful, tell_parts_lost, tell_peer_connected, tell_peer_connected_again,
     tell_peer_disconnected, tell_peer_refused, tell_unverified,
 };
+use client_link::{PeerConnection, PeerStream};
 use crossbeam_channel::Receiver;
-use peer_link::{FrameEnd, read_head, read_more, read_rest};
-use replica_greeting::{
-    Came, Claim, Gathering, Met, Term, Terms, WireError, meet, refusal_octets, rest,
+use peer_messages::{
+    Came, Claim, Forgetful, FrameEnd, Gathering, Met, NOTE_REST, PeerParts, Term, WireError, meet,
+    note_number, read_head, read_more, read_rest, refusal_octets, rest,
 };
-use session_pool::{PeerConnection, PeerStream};
 use std::alloc::Global;
 use std::io::Read;
 use std::net::SocketAddr;
 use std::sync::Wait;
 use std::time::{Clock, Duration};
-use vr_short::{NOTE_REST, note_number};
 
 /// What all who read from other replicas share.
 #[derive(Drop)]
-pub struct PeerReaders<'a, R, E> {
+pub struct PeerReaders<'a, R, H> {
     pub rt: &'a R,
     pub alloc: Global,
     pub senders: Senders,
-    pub engine: &'a E,
-    pub reporter: &'a Reporter,
-    pub links: &'a Links,
-    pub progress: &'a PeerProgress,
-    pub counters: &'a Counters,
-    /// What other replicas must have alike.
-    pub terms: Terms,
+    pub handler: &'a H,
+    pub parts: PeerParts<'a>,
     /// How long a replica may be silent that asks whether it is heard.
     pub silence: Duration,
 }
@@ -71,7 +61,7 @@ fn heading_of(frame: &[u8]) -> Result<[u8; HEADING], &'static str> {
     }
 }
 
-impl<'a, R: Wait + Clock, E: Engine> PeerReaders<'a, R, E> {
+impl<'a, R: Wait + Clock, H: MessageHandler> PeerReaders<'a, R, H> {
     /// Reads the first octets of a frame behind its length. No more than these get room, whatever length is announced.
     fn heading_behind<S: Read>(
         &self,
@@ -104,7 +94,7 @@ impl<'a, R: Wait + Clock, E: Engine> PeerReaders<'a, R, E> {
             if reader.answer().is_err() {
                 break;
             }
-            self.progress.read_notes(peer);
+            self.parts.progress.read_notes(peer);
             reader.expect_within(self.silence);
         }
         Err("it failed")
@@ -137,7 +127,7 @@ impl<'a, R: Wait + Clock, E: Engine> PeerReaders<'a, R, E> {
                 None => {
                     let left = self.senders.rest_of(heading).map_err(refusal_of)?;
                     read_more(reader, &mut frame, left).map_err(reason_of)?;
-                    self.counters.receive_octets(heard.peer, frame.len());
+                    self.parts.counters.receive_octets(heard.peer, frame.len());
                     return Ok(frame);
                 }
             }
@@ -153,27 +143,27 @@ impl<'a, R: Wait + Clock, E: Engine> PeerReaders<'a, R, E> {
             return Err("E20: it sent what no replica sends");
         };
         read_more(reader, &mut frame, behind).map_err(reason_of)?;
-        meet(&frame, self.senders.cluster, &self.terms).map_err(refusal_of)
+        meet(&frame, self.senders.cluster, &self.parts.terms).map_err(refusal_of)
     }
 
     /// Hands on what has come of a frame, and gives its sender; else why the connection ends.
     fn hand_on(&self, heard: &mut PartialMessage, came: Came) -> Result<u64, &'static str> {
         match came {
             Came::Message(sender, message) => {
-                self.links.hear(self.rt, u64::from(sender), &message);
+                self.parts.links.hear(self.rt, u64::from(sender), &message);
                 let noted = heard.noted.take();
-                if self.engine.hear(u64::from(sender), message, noted) {
+                if self.handler.hear(u64::from(sender), message, noted) {
                     Ok(u64::from(sender))
                 } else {
                     Err("the node has stopped")
                 }
             }
             Came::Part(sender) => {
-                self.engine.hear_part(u64::from(sender));
+                self.handler.hear_part(u64::from(sender));
                 Ok(u64::from(sender))
             }
             Came::Dropped(sender) => {
-                tell_parts_lost(self.rt, self.alloc, self.reporter, u64::from(sender));
+                tell_parts_lost(self.rt, self.alloc, self.parts.reporter, u64::from(sender));
                 Ok(u64::from(sender))
             }
         }
@@ -220,20 +210,20 @@ impl<'a, R: Wait + Clock, E: Engine> PeerReaders<'a, R, E> {
 
     /// Hears a replica that greeted with the same terms from this address, to the end of the connection.
     fn hear_peer<S: Read + PeerStream>(&self, reader: &mut S, peer: u64, address: SocketAddr) {
-        if self.links.come(self.rt, peer) {
-            tell_peer_connected_again(self.rt, self.alloc, self.reporter, peer, address);
+        if self.parts.links.come(self.rt, peer) {
+            tell_peer_connected_again(self.rt, self.alloc, self.parts.reporter, peer, address);
         } else {
-            tell_peer_connected(self.rt, self.alloc, self.reporter, peer, address);
+            tell_peer_connected(self.rt, self.alloc, self.parts.reporter, peer, address);
         }
         let reason = self.read_all(reader, peer);
-        self.links.go(self.rt, peer);
-        tell_peer_disconnected(self.rt, self.alloc, self.reporter, peer, address, reason);
+        self.parts.links.go(self.rt, peer);
+        tell_peer_disconnected(self.rt, self.alloc, self.parts.reporter, peer, address, reason);
     }
 
     /// Refuses a replica that has this term otherwise.
     fn refuse(&self, peer: u64, term: Term) {
-        if self.links.refuse(self.rt, peer, term) {
-            tell_peer_refused(self.rt, self.alloc, self.reporter, peer, term);
+        if self.parts.links.refuse(self.rt, peer, term) {
+            tell_peer_refused(self.rt, self.alloc, self.parts.reporter, peer, term);
         }
     }
 
@@ -248,8 +238,8 @@ impl<'a, R: Wait + Clock, E: Engine> PeerReaders<'a, R, E> {
         let forgotten = forgetful.forgotten;
         let _ = reader.refuse(&refusal_octets(forgotten));
         if forgetful.is_news {
-            self.counters.refuse(peer);
-            tell_forgetful(self.rt, self.alloc, self.reporter, peer, claim, forgotten);
+            self.parts.counters.refuse(peer);
+            tell_forgetful(self.rt, self.alloc, self.parts.reporter, peer, claim, forgotten);
         }
     }
 
@@ -262,9 +252,9 @@ impl<'a, R: Wait + Clock, E: Engine> PeerReaders<'a, R, E> {
         address: SocketAddr,
         claim: Option<Claim>,
     ) {
-        self.links.note_version(self.rt, peer, claim.is_none());
+        self.parts.links.note_version(self.rt, peer, claim.is_none());
         if let Some(claim) = claim {
-            if let Some(forgetful) = self.links.greet(self.rt, peer, claim) {
+            if let Some(forgetful) = self.parts.links.greet(self.rt, peer, claim) {
                 self.turn_away(reader, peer, &claim, forgetful);
                 return;
             }
@@ -276,7 +266,7 @@ impl<'a, R: Wait + Clock, E: Engine> PeerReaders<'a, R, E> {
     fn hear(&self, peer: PeerConnection<'a, R>) {
         let address = peer.address();
         let Ok(mut reader) = peer.seated(self.alloc) else {
-            tell_unverified(self.rt, self.alloc, self.reporter, address, "out of memory");
+            tell_unverified(self.rt, self.alloc, self.parts.reporter, address, "out of memory");
             return;
         };
         match self.greeting(&mut reader) {
@@ -285,7 +275,7 @@ impl<'a, R: Wait + Clock, E: Engine> PeerReaders<'a, R, E> {
                 self.hear_start(&mut reader, u64::from(sender), address, claim);
             }
             Ok(Met::Other { sender, term }) => self.refuse(u64::from(sender), term),
-            Err(reason) => tell_unverified(self.rt, self.alloc, self.reporter, address, reason),
+            Err(reason) => tell_unverified(self.rt, self.alloc, self.parts.reporter, address, reason),
         }
     }
 

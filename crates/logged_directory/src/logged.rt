@@ -2,18 +2,45 @@
 //! and its answer comes back as it is.
 ghost use Rattle.std.specs.Prelude.{◌≡◌};
 
-use crate::counters::Counters;
 use crate::logging::{tell_slow, tell_update, text_of_update};
-use crate::logs::Logs;
-use crate::reporter::Reporter;
-use session_pool::{
+use directory_api::{
     Client, CompareRequest, Directory, Ended, Found, LookError, Reply, Role, SearchAnswer,
     SearchRequest, Update,
 };
+use server_log::{Logs, Reporter};
+use server_monitor::Counters;
 use std::alloc::{AllocError, Global};
 use std::marker::Model;
 use std::sync::Wait;
 use std::time::{Clock, Duration, Instant};
+
+/// The codes of answers that no directory gave (RFC 4511 4.1.9): the state that was named isn't there yet, there is no state any more, a client
+/// has made a later request, and any other error.
+const BUSY: u64 = 51;
+
+const UNAVAILABLE: u64 = 52;
+
+const UNWILLING: u64 = 53;
+
+const OTHER: u64 = 80;
+
+/// The code of a read without an answer.
+fn code_of(error: &LookError) -> u64 {
+    match error {
+        LookError::NotYet { .. } => BUSY,
+        LookError::Gone => UNAVAILABLE,
+        LookError::NoMemory => OTHER,
+    }
+}
+
+/// The code of an update that ended so.
+fn code_of_end(ended: &Ended) -> u64 {
+    match ended {
+        Ended::Done { number: _, reply } => u64::from(reply.code.number()),
+        Ended::Stale => UNWILLING,
+        Ended::Lost | Ended::NoMemory => OTHER,
+    }
+}
 
 /// A directory whose answers are counted, and whose updates and slow searches are logged. Contracts see it as that directory.
 #[derive(Drop)]
@@ -61,6 +88,31 @@ impl<'a, R: Wait + Clock, D> Logged<'a, R, D> {
     fn since(&self, began: Option<Instant>) -> Option<Duration> {
         let now = Instant::now(self.rt).ok()?;
         Some(now.saturating_duration_since(began?))
+    }
+
+    /// Counts a search that was answered, and that began at this moment.
+    fn count_search(
+        &self,
+        found: &Result<Found<SearchAnswer>, LookError>,
+        began: Option<Instant>,
+    ) {
+        let (code, tests) = match found {
+            Ok(found) => (
+                u64::from(found.answer.code.number()),
+                found.answer.tests as u64,
+            ),
+            Err(error) => (code_of(error), 0),
+        };
+        self.counters.end_search(code, tests, self.since(began));
+    }
+
+    /// Counts a compare that was answered, and that began at this moment.
+    fn count_compare(&self, found: &Result<Found<Reply>, LookError>, began: Option<Instant>) {
+        let code = match found {
+            Ok(found) => u64::from(found.answer.code.number()),
+            Err(error) => code_of(error),
+        };
+        self.counters.end_compare(code, self.since(began));
     }
 
     /// Logs a search that was answered, where it evaluated its filter on too many entries.
@@ -116,7 +168,7 @@ impl<'a, R: Wait + Clock, D: Directory> Directory for Logged<'a, R, D> {
         let began = Instant::now(self.rt).ok();
         self.counters.begin_read();
         let found = self.directory.search(alloc, named, request);
-        self.counters.end_search(&found, self.since(began));
+        self.count_search(&found, began);
         self.log_search(alloc, request, &found);
         found
     }
@@ -130,7 +182,7 @@ impl<'a, R: Wait + Clock, D: Directory> Directory for Logged<'a, R, D> {
         let began = Instant::now(self.rt).ok();
         self.counters.begin_read();
         let found = self.directory.compare(alloc, named, request);
-        self.counters.end_compare(&found, self.since(began));
+        self.count_compare(&found, began);
         found
     }
 
@@ -151,7 +203,8 @@ impl<'a, R: Wait + Clock, D: Directory> Directory for Logged<'a, R, D> {
         let began = Instant::now(self.rt).ok();
         self.counters.begin_update();
         let ended = self.directory.update(alloc, client, number, update);
-        self.counters.end_update(&ended, self.since(began));
+        self.counters
+            .end_update(code_of_end(&ended), self.since(began));
         self.log_update(alloc, client, text, &ended);
         ended
     }

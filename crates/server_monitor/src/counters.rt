@@ -1,6 +1,6 @@
 //! Counts of what a server answers, for monitors. All of its threads count, and none takes a lock for it.
 use crate::seconds::Seconds;
-use session_pool::{Budget, Ended, Found, LookError, Reply, SearchAnswer, Traffic};
+use session_memory::Budget;
 use status_page::{ClientCounts, Counts, Histograms, Labelled, PeerCounts, ProcessCounts};
 use std::alloc::{AllocError, Global};
 use std::sync::atomic::{AtomicU64, Ordering};
@@ -9,17 +9,8 @@ use std::time::Duration;
 /// How many result codes are told apart: RFC 4511 has none above 80.
 const CODES: usize = 128;
 
-/// The codes of answers that no directory gave (RFC 4511 4.1.9): another replica takes updates, the state that was named isn't there yet, there
-/// is no state any more, and any other error.
+/// The code of an update that another replica takes (RFC 4511 4.1.9).
 const REFERRAL: u64 = 10;
-
-const BUSY: u64 = 51;
-
-const UNAVAILABLE: u64 = 52;
-
-const UNWILLING: u64 = 53;
-
-const OTHER: u64 = 80;
 
 /// So many counters, each at 0.
 fn zeros(alloc: Global, count: usize) -> Result<Vec<AtomicU64>, AllocError> {
@@ -68,15 +59,6 @@ fn of_others(
         }
     }
     Ok(others)
-}
-
-/// The code of a read without an answer.
-fn code_of(error: &LookError) -> u64 {
-    match error {
-        LookError::NotYet { .. } => BUSY,
-        LookError::Gone => UNAVAILABLE,
-        LookError::NoMemory => OTHER,
-    }
 }
 
 /// Counts so many octets at this index; nothing, where there is no such counter.
@@ -306,11 +288,10 @@ impl Counters {
         count_at(&self.binds, u64::from(code));
     }
 
-    /// This has passed between a session and its client.
-    pub fn pass(&self, traffic: Traffic) {
-        self.octets_read.fetch_add(traffic.read, Ordering::Relaxed);
-        self.octets_written
-            .fetch_add(traffic.written, Ordering::Relaxed);
+    /// So many octets were read of a client, and so many written to it.
+    pub fn pass(&self, read: u64, written: u64) {
+        self.octets_read.fetch_add(read, Ordering::Relaxed);
+        self.octets_written.fetch_add(written, Ordering::Relaxed);
     }
 
     /// A session was ended, or not begun, since there was no room for it.
@@ -372,32 +353,19 @@ impl Counters {
         self.reads.fetch_add(1, Ordering::Relaxed);
     }
 
-    /// A search was answered so, after this time.
-    pub fn end_search(
-        &self,
-        found: &Result<Found<SearchAnswer>, LookError>,
-        time: Option<Duration>,
-    ) {
+    /// A search was answered with this code, after this time; it evaluated its filter on so many entries.
+    pub fn end_search(&self, code: u64, tests: u64, time: Option<Duration>) {
         self.reads.fetch_sub(1, Ordering::Relaxed);
         self.seconds.searches.note(time);
-        match found {
-            Ok(found) => {
-                let tests = found.answer.tests as u64;
-                self.evaluated.fetch_add(tests, Ordering::Relaxed);
-                count_at(&self.searches, u64::from(found.answer.code.number()));
-            }
-            Err(error) => count_at(&self.searches, code_of(error)),
-        }
+        self.evaluated.fetch_add(tests, Ordering::Relaxed);
+        count_at(&self.searches, code);
     }
 
-    /// A compare was answered so, after this time.
-    pub fn end_compare(&self, found: &Result<Found<Reply>, LookError>, time: Option<Duration>) {
+    /// A compare was answered with this code, after this time.
+    pub fn end_compare(&self, code: u64, time: Option<Duration>) {
         self.reads.fetch_sub(1, Ordering::Relaxed);
         self.seconds.compares.note(time);
-        match found {
-            Ok(found) => count_at(&self.compares, u64::from(found.answer.code.number())),
-            Err(error) => count_at(&self.compares, code_of(error)),
-        }
+        count_at(&self.compares, code);
     }
 
     /// An update begins to be made.
@@ -405,15 +373,10 @@ impl Counters {
         self.updating.fetch_add(1, Ordering::Relaxed);
     }
 
-    /// An update ended so, after this time.
-    pub fn end_update(&self, ended: &Ended, time: Option<Duration>) {
+    /// An update ended with this code, after this time.
+    pub fn end_update(&self, code: u64, time: Option<Duration>) {
         self.updating.fetch_sub(1, Ordering::Relaxed);
         self.seconds.updates.note(time);
-        let code = match ended {
-            Ended::Done { number: _, reply } => u64::from(reply.code.number()),
-            Ended::Stale => UNWILLING,
-            Ended::Lost | Ended::NoMemory => OTHER,
-        };
         count_at(&self.updates, code);
     }
 

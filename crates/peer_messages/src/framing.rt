@@ -1,19 +1,15 @@
 //! Makes frames of messages, in the thread that sends them and outside every lock. A message to a replica that reads notes leaves out what that
 //! replica has said that it has committed.
-use crate::counters::Counters;
-use crate::links::Links;
-use crate::progress::PeerProgress;
-use crate::reporter::Reporter;
-use crate::shared_parts::SharedParts;
+use crate::parts::PeerParts;
 use crate::telling::{tell_lost, tell_refused_by, tell_silent};
 use peer_link::{Bytes, Framing, REFUSAL};
 use replica_greeting::{
-    Claim, Cluster, FrameSizes, Frames, Op, PeerMessage, Terms, WireError, earlier_greeting,
-    greeting, read_refusal,
+    Claim, Cluster, FrameSizes, Frames, Op, PeerMessage, WireError, earlier_greeting, greeting,
+    read_refusal,
 };
 use std::alloc::{AllocError, Global};
 use std::sync::Wait;
-use std::sync::atomic::{AtomicBool, Ordering};
+use std::sync::atomic::Ordering;
 use vr_short::{note, noted};
 use vr_state::words::LogEntry;
 
@@ -57,16 +53,9 @@ fn are_long(records: &[LogEntry<Op>], octets: usize) -> bool {
 pub struct MessageFrames<'a, R> {
     rt: &'a R,
     alloc: Global,
-    reporter: &'a Reporter,
-    counters: &'a Counters,
-    progress: &'a PeerProgress,
+    parts: PeerParts<'a>,
     cluster: Cluster,
-    sender: u8,
-    terms: Terms,
     claim: Claim,
-    /// Whether another replica has refused this start.
-    is_refused: &'a AtomicBool,
-    links: &'a Links,
     to: usize,
     /// How many messages were begun: each has another number in its parts.
     number: u64,
@@ -83,15 +72,9 @@ impl<'a, R> Drop for MessageFrames<'a, R> {
         let MessageFrames {
             rt: _,
             alloc: _,
-            reporter: _,
-            counters: _,
-            progress: _,
+            parts: _,
             cluster: _,
-            sender: _,
-            terms: _,
             claim: _,
-            is_refused: _,
-            links: _,
             to: _,
             number: _,
             frames: _,
@@ -106,7 +89,7 @@ impl<'a, R> MessageFrames<'a, R> {
     pub fn new(
         rt: &'a R,
         alloc: Global,
-        shared_parts: &'a SharedParts,
+        parts: PeerParts<'a>,
         cluster: Cluster,
         claim: Claim,
         to: usize,
@@ -114,15 +97,9 @@ impl<'a, R> MessageFrames<'a, R> {
         MessageFrames {
             rt,
             alloc,
-            reporter: &shared_parts.reporter,
-            counters: &shared_parts.counters,
-            progress: &shared_parts.progress,
+            parts,
             cluster,
-            sender: shared_parts.sender,
-            terms: shared_parts.terms,
             claim,
-            is_refused: &shared_parts.is_refused,
-            links: &shared_parts.links,
             to,
             number: 0,
             frames: None,
@@ -137,29 +114,29 @@ impl<'a, R: Wait> MessageFrames<'a, R> {
     fn end(&mut self) {
         self.frames = None;
         self.noted = None;
-        self.progress.begin::<R, Op>(self.rt, self.to, None);
-        self.progress.end_answer(self.rt, self.to);
+        self.parts.progress.begin::<R, Op>(self.rt, self.to, None);
+        self.parts.progress.end_answer(self.rt, self.to);
     }
 
     /// Nothing more comes of a message, for this reason.
     fn lose(&mut self, error: WireError) {
         self.end();
-        tell_lost(self.rt, self.alloc, self.reporter, self.to, error);
+        tell_lost(self.rt, self.alloc, self.parts.reporter, self.to, error);
     }
 
     /// The greeting, as the other replica wants it.
     fn greeting_octets(&self) -> Result<Vec<u8>, AllocError> {
-        let (alloc, cluster, sender) = (self.alloc, self.cluster, self.sender);
-        if self.links.is_earlier(self.rt, self.to) {
-            earlier_greeting(alloc, cluster, sender, &self.terms)
+        let (alloc, cluster, sender) = (self.alloc, self.cluster, self.parts.sender);
+        if self.parts.links.is_earlier(self.rt, self.to) {
+            earlier_greeting(alloc, cluster, sender, &self.parts.terms)
         } else {
-            greeting(alloc, cluster, sender, &self.terms, &self.claim)
+            greeting(alloc, cluster, sender, &self.parts.terms, &self.claim)
         }
     }
 
     /// The frames of the next message.
     fn frames_of(&self, message: &PeerMessage<Op>) -> Result<Frames, WireError> {
-        let (alloc, cluster, sender) = (self.alloc, self.cluster, self.sender);
+        let (alloc, cluster, sender) = (self.alloc, self.cluster, self.parts.sender);
         let sizes = FrameSizes {
             most: PART,
             part_size: PART,
@@ -171,7 +148,7 @@ impl<'a, R: Wait> MessageFrames<'a, R> {
     fn waits(&self, message: &PeerMessage<Op>) -> bool {
         match answer_in(message) {
             Some(records) => {
-                are_long(records, LONG) && !self.progress.begin_answer(self.rt, self.to)
+                are_long(records, LONG) && !self.parts.progress.begin_answer(self.rt, self.to)
             }
             None => false,
         }
@@ -179,8 +156,8 @@ impl<'a, R: Wait> MessageFrames<'a, R> {
 
     /// Makes ready the frames of the next message, and the note before them.
     fn make(&mut self, message: PeerMessage<Op>) -> Result<(), WireError> {
-        let (number, message) = match self.progress.said(self.to) {
-            Some(said) => noted(self.alloc, message, said, self.progress.committed())?,
+        let (number, message) = match self.parts.progress.said(self.to) {
+            Some(said) => noted(self.alloc, message, said, self.parts.progress.committed())?,
             None => (None, message),
         };
         self.frames = Some(self.frames_of(&message)?);
@@ -191,7 +168,7 @@ impl<'a, R: Wait> MessageFrames<'a, R> {
     /// The octets of the next frame, where there is one. Who asks for one more has written those before.
     fn next_octets(&mut self) -> Result<Option<Vec<u8>>, WireError> {
         if let Some(number) = self.noted.take() {
-            let octets = Vec::from_array(self.alloc, note(self.cluster, self.sender, number))?;
+            let octets = Vec::from_array(self.alloc, note(self.cluster, self.parts.sender, number))?;
             return Ok(Some(octets));
         }
         let Some(frames) = self.frames.as_mut() else {
@@ -200,7 +177,7 @@ impl<'a, R: Wait> MessageFrames<'a, R> {
         let next = frames.next(self.alloc)?;
         if next.is_some() {
             if self.handed >= UNREAD {
-                self.progress.take_part(self.to);
+                self.parts.progress.take_part(self.to);
             }
             self.handed = self.handed.saturating_add(1);
         }
@@ -228,8 +205,8 @@ impl<'a, R: Wait> Framing<PeerMessage<Op>> for MessageFrames<'a, R> {
             return;
         }
         self.number = self.number.wrapping_add(1);
-        self.counters.send(self.to as u64);
-        self.progress.begin(self.rt, self.to, Some(&message));
+        self.parts.counters.send(self.to as u64);
+        self.parts.progress.begin(self.rt, self.to, Some(&message));
         self.handed = 0;
         if let Err(error) = self.make(message) {
             self.lose(error);
@@ -248,7 +225,7 @@ impl<'a, R: Wait> Framing<PeerMessage<Op>> for MessageFrames<'a, R> {
                 return None;
             }
         };
-        self.counters.send_octets(self.to as u64, octets.len());
+        self.parts.counters.send_octets(self.to as u64, octets.len());
         match bytes_of(octets) {
             Ok(frame) => Some(frame),
             Err(error) => {
@@ -263,18 +240,18 @@ impl<'a, R: Wait> Framing<PeerMessage<Op>> for MessageFrames<'a, R> {
     }
 
     fn heard(&mut self) {
-        self.counters.hear(self.to as u64);
+        self.parts.counters.hear(self.to as u64);
     }
 
     fn refused(&mut self, why: [u8; REFUSAL]) {
         let Some(forgotten) = read_refusal(why) else {
             return;
         };
-        if !self.is_refused.swap(true, Ordering::SeqCst) {
+        if !self.parts.is_refused.swap(true, Ordering::SeqCst) {
             tell_refused_by(
                 self.rt,
                 self.alloc,
-                self.reporter,
+                self.parts.reporter,
                 self.to,
                 &self.claim,
                 forgotten,
@@ -283,6 +260,6 @@ impl<'a, R: Wait> Framing<PeerMessage<Op>> for MessageFrames<'a, R> {
     }
 
     fn silent(&mut self) {
-        tell_silent(self.rt, self.alloc, self.reporter, self.to);
+        tell_silent(self.rt, self.alloc, self.parts.reporter, self.to);
     }
 }

@@ -1,0 +1,34 @@
+//! Queues messages to the other replicas, makes their frames, and keeps what is known of each replica.
+//!
+//! `parts` names what a server's threads share of this. `posting` puts a message into its replica's queue. `framing` makes its frames in the
+//! thread that sends: one, or parts of 1 MiB where one can't hold it. `reaching` dials another replica and says where it can't be reached.
+//! `progress` keeps how far each replica is, `links` on how many connections it is heard, and what it has said.
+//!
+//! Of all this, safety alone is proved.
+#![tactic(auto)]
+
+mod framing;
+mod links;
+mod parts;
+mod posting;
+mod progress;
+mod reaching;
+mod telling;
+
+pub use framing::MessageFrames;
+pub use links::{Forgetful, Links};
+pub use parts::PeerParts;
+pub use peer_link::{
+    Address, FrameEnd, LinkTimes, Outbox, SocketDialer, read_head, read_more, read_rest, send_all,
+};
+pub use progress::PeerProgress;
+pub use reaching::TellingDialer;
+pub use replica_clock::Lack;
+pub use replica_greeting::{
+    Came, Claim, Cluster, Forgotten, Gathering, HEADING, Heading, Met, Op, PeerMessage, Term, Terms,
+    WireError, greeting_heading, heading, meet, refusal_octets, rest,
+};
+pub use server_log::Reporter;
+pub use server_monitor::Counters;
+pub use telling::text_of_forgotten;
+pub use vr_short::{NOTE_REST, note_number, note_sender};
