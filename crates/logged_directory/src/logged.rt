@@ -91,11 +91,7 @@ impl<'a, R: Wait + Clock, D> Logged<'a, R, D> {
     }
 
     /// Counts a search that was answered, and that began at this moment.
-    fn count_search(
-        &self,
-        found: &Result<Found<SearchAnswer>, LookError>,
-        began: Option<Instant>,
-    ) {
+    fn count_search(&self, found: &Result<Found<SearchAnswer>, LookError>, began: Option<Instant>) {
         let (code, tests) = match found {
             Ok(found) => (
                 u64::from(found.answer.code.number()),

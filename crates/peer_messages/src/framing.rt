@@ -168,7 +168,10 @@ impl<'a, R: Wait> MessageFrames<'a, R> {
     /// The octets of the next frame, where there is one. Who asks for one more has written those before.
     fn next_octets(&mut self) -> Result<Option<Vec<u8>>, WireError> {
         if let Some(number) = self.noted.take() {
-            let octets = Vec::from_array(self.alloc, note(self.cluster, self.parts.sender, number))?;
+            let octets = Vec::from_array(
+                self.alloc,
+                note(self.cluster, self.parts.sender, number),
+            )?;
             return Ok(Some(octets));
         }
         let Some(frames) = self.frames.as_mut() else {
@@ -225,7 +228,9 @@ impl<'a, R: Wait> Framing<PeerMessage<Op>> for MessageFrames<'a, R> {
                 return None;
             }
         };
-        self.parts.counters.send_octets(self.to as u64, octets.len());
+        self.parts
+            .counters
+            .send_octets(self.to as u64, octets.len());
         match bytes_of(octets) {
             Ok(frame) => Some(frame),
             Err(error) => {

@@ -25,8 +25,8 @@ pub use progress::PeerProgress;
 pub use reaching::TellingDialer;
 pub use replica_clock::Lack;
 pub use replica_greeting::{
-    Came, Claim, Cluster, Forgotten, Gathering, HEADING, Heading, Met, Op, PeerMessage, Term, Terms,
-    WireError, greeting_heading, heading, meet, refusal_octets, rest,
+    Came, Claim, Cluster, Forgotten, Gathering, HEADING, Heading, Met, Op, PeerMessage, Term,
+    Terms, WireError, greeting_heading, heading, meet, refusal_octets, rest,
 };
 pub use server_log::Reporter;
 pub use server_monitor::Counters;

@@ -22,7 +22,7 @@ pub use handler::MessageHandler;
 pub use linking::PeerThreads;
 pub use needed_threads::NeededThreads;
 pub use peer_messages::{
-    Address, Claim, Cluster, Counters, Lack, LinkTimes, Links, MessageFrames, Op, Outbox, PeerMessage,
-    PeerParts, PeerProgress, Reporter, Terms,
+    Address, Claim, Cluster, Counters, Lack, LinkTimes, Links, MessageFrames, Op, Outbox,
+    PeerMessage, PeerParts, PeerProgress, Reporter, Terms,
 };
 pub use places::ReplicaAddresses;

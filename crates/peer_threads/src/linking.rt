@@ -45,10 +45,7 @@ where
     /// Sends messages to one replica, until its queue is stopped.
     fn send_to(&self, to: usize) {
         if let (Some(outbox), Some(place)) = (self.parts.boxes.get(to), self.places.get(to)) {
-            let limit = self
-                .times
-                .silence
-                .min(Duration::from_millis(DIAL_LIMIT));
+            let limit = self.times.silence.min(Duration::from_millis(DIAL_LIMIT));
             let (rt, alloc, address) = (self.rt, self.alloc, place.peer_address);
             let socket_dialer = SocketDialer::new(rt, address, limit);
             let reporter = self.parts.reporter;

@@ -1,6 +1,6 @@
 //! What other replicas send: a greeting, and then frames, which become messages that the node hears.
-use crate::heading::{BEHIND_LENGTH, HEADING, Senders, refusal_of};
 use crate::handler::MessageHandler;
+use crate::heading::{BEHIND_LENGTH, HEADING, Senders, refusal_of};
 use crate::telling::{
     tell_forgetful, tell_parts_lost, tell_peer_connected, tell_peer_connected_again,
     tell_peer_disconnected, tell_peer_refused, tell_unverified,
@@ -217,7 +217,14 @@ impl<'a, R: Wait + Clock, H: MessageHandler> PeerReaders<'a, R, H> {
         }
         let reason = self.read_all(reader, peer);
         self.parts.links.go(self.rt, peer);
-        tell_peer_disconnected(self.rt, self.alloc, self.parts.reporter, peer, address, reason);
+        tell_peer_disconnected(
+            self.rt,
+            self.alloc,
+            self.parts.reporter,
+            peer,
+            address,
+            reason,
+        );
     }
 
     /// Refuses a replica that has this term otherwise.
@@ -239,7 +246,14 @@ impl<'a, R: Wait + Clock, H: MessageHandler> PeerReaders<'a, R, H> {
         let _ = reader.refuse(&refusal_octets(forgotten));
         if forgetful.is_news {
             self.parts.counters.refuse(peer);
-            tell_forgetful(self.rt, self.alloc, self.parts.reporter, peer, claim, forgotten);
+            tell_forgetful(
+                self.rt,
+                self.alloc,
+                self.parts.reporter,
+                peer,
+                claim,
+                forgotten,
+            );
         }
     }
 
@@ -252,7 +266,9 @@ impl<'a, R: Wait + Clock, H: MessageHandler> PeerReaders<'a, R, H> {
         address: SocketAddr,
         claim: Option<Claim>,
     ) {
-        self.parts.links.note_version(self.rt, peer, claim.is_none());
+        self.parts
+            .links
+            .note_version(self.rt, peer, claim.is_none());
         if let Some(claim) = claim {
             if let Some(forgetful) = self.parts.links.greet(self.rt, peer, claim) {
                 self.turn_away(reader, peer, &claim, forgetful);
@@ -266,7 +282,13 @@ impl<'a, R: Wait + Clock, H: MessageHandler> PeerReaders<'a, R, H> {
     fn hear(&self, peer: PeerConnection<'a, R>) {
         let address = peer.address();
         let Ok(mut reader) = peer.seated(self.alloc) else {
-            tell_unverified(self.rt, self.alloc, self.parts.reporter, address, "out of memory");
+            tell_unverified(
+                self.rt,
+                self.alloc,
+                self.parts.reporter,
+                address,
+                "out of memory",
+            );
             return;
         };
         match self.greeting(&mut reader) {
@@ -275,7 +297,13 @@ impl<'a, R: Wait + Clock, H: MessageHandler> PeerReaders<'a, R, H> {
                 self.hear_start(&mut reader, u64::from(sender), address, claim);
             }
             Ok(Met::Other { sender, term }) => self.refuse(u64::from(sender), term),
-            Err(reason) => tell_unverified(self.rt, self.alloc, self.parts.reporter, address, reason),
+            Err(reason) => tell_unverified(
+                self.rt,
+                self.alloc,
+                self.parts.reporter,
+                address,
+                reason,
+            ),
         }
     }
 

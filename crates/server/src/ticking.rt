@@ -12,7 +12,8 @@ use node_gate::{
     SharedNode, Standing, Steps, Ticked, copies, send_all,
 };
 use server_threads::{
-    Build, Engine, Figures, Lack, MessageHandler, Monitored, Role, ServerError, SharedParts, Trouble,
+    Build, Engine, Figures, Lack, MessageHandler, Monitored, Role, ServerError, SharedParts,
+    Trouble,
 };
 use std::alloc::{AllocError, Global};
 use std::fs::{File, Files};

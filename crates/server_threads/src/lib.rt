@@ -28,8 +28,8 @@ pub use peer_threads::{
 };
 pub use server_log::{Lines, Logs, Note, NoteWriter, StandardError, takes_a_line};
 pub use server_monitor::{
-    Build, Figures, GROUP_MEMORY, MACHINE_MEMORY, ProcessFiles, Role, Start, StartProgress, Trouble,
-    available_octets,
+    Build, Figures, GROUP_MEMORY, MACHINE_MEMORY, ProcessFiles, Role, Start, StartProgress,
+    Trouble, available_octets,
 };
 pub use serving::Server;
 pub use session_pool::{Config, Limits, NoReads, limit_of};

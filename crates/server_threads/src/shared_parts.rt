@@ -10,8 +10,8 @@ use server_monitor::{ProcessFiles, StartProgress};
 use session_pool::{Budget, Door, HasDoor, Limits};
 use std::alloc::{AllocError, Global};
 use std::net::{Net, SocketAddr, TcpListener, TcpStream};
-use std::sync::{Mutex, Wait};
 use std::sync::atomic::{AtomicBool, AtomicU64, Ordering};
+use std::sync::{Mutex, Wait};
 
 /// How many messages wait for a replica, at most.
 const MESSAGES: usize = 1024;
