@@ -1,5 +1,5 @@
-//! A directory whose answers are counted, and of which updates and slow searches are logged (`logged`). Each request goes on to the
-//! directory that it wraps, and the answer comes back as it is. `logging` has the lines.
+//! A directory whose answers are counted, and of which updates and slow searches are logged (`logged`). Each
+//! request goes on to the directory that it wraps, and the answer comes back as it is. `logging` has the lines.
 //!
 //! Proved: it answers as the directory that it wraps (`Logged`).
 #![tactic(auto)]

@@ -1,14 +1,14 @@
 //! What is logged of updates and of slow searches, a line an event.
 use directory_api::{Client, Ended, SearchRequest, Update};
 use filter_text::print_text;
-use server_log::{Reporter, shown};
+use server_log::{Reporter, one_line};
 use std::alloc::{AllocError, Global};
 use std::sync::Wait;
 use text_faults::code_word;
 
 /// An update of this kind, of the entry of this name.
 fn update_text(alloc: Global, kind: &str, name: &str) -> Result<String, AllocError> {
-    let name = shown(alloc, name)?;
+    let name = one_line(alloc, name)?;
     format!(in alloc; "{kind} {name}")
 }
 
@@ -87,7 +87,7 @@ pub fn tell_update<R: Wait>(
 /// The filter of a search as it is logged.
 fn filter_of(alloc: Global, request: &SearchRequest) -> Result<String, AllocError> {
     match print_text(alloc, &request.filter) {
-        Ok(filter) => shown(alloc, filter.as_str()),
+        Ok(filter) => one_line(alloc, filter.as_str()),
         Err(_) => String::from_str(alloc, "a filter without a text"),
     }
 }
@@ -95,7 +95,7 @@ fn filter_of(alloc: Global, request: &SearchRequest) -> Result<String, AllocErro
 /// A search that evaluated its filter on so many entries.
 fn slow_text(alloc: Global, request: &SearchRequest, tests: u64) -> Result<String, AllocError> {
     let filter = filter_of(alloc, request)?;
-    let base = shown(alloc, request.base.as_str())?;
+    let base = one_line(alloc, request.base.as_str())?;
     format!(in alloc; "slow search: {tests} entries evaluated: {filter}: base {base}")
 }
 

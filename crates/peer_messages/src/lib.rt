@@ -1,8 +1,9 @@
 //! Queues messages to the other replicas, makes their frames, and keeps what is known of each replica.
 //!
-//! `parts` names what a server's threads share of this. `posting` puts a message into its replica's queue. `framing` makes its frames in the
-//! thread that sends: one, or parts of 1 MiB where one can't hold it. `reaching` dials another replica and says where it can't be reached.
-//! `progress` keeps how far each replica is, `links` on how many connections it is heard, and what it has said.
+//! `parts` names what a server's threads share of this. `posting` puts a message into its replica's queue.
+//! `framing` makes its frames in the thread that sends: one, or parts of 1 MiB where one can't hold it.
+//! `reaching` dials another replica and says where it can't be reached. `progress` keeps how far each replica is;
+//! `links` keeps on how many connections it is heard, and what it has said.
 //!
 //! Of all this, safety alone is proved.
 #![tactic(auto)]

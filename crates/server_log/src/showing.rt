@@ -17,7 +17,7 @@ fn push_character(line: &mut String, character: char) -> Result<(), AllocError> 
 }
 
 /// A client's text as it is shown: one line, its front and two dots where it is long.
-pub fn shown(alloc: Global, text: &str) -> Result<String, AllocError> {
+pub fn one_line(alloc: Global, text: &str) -> Result<String, AllocError> {
     let mut line = String::new(alloc);
     for (index, character) in text.chars().enumerate() {
         if index == LIMIT {

@@ -1,8 +1,9 @@
 //! Counts what a server answers, and answers monitors over HTTP.
 //!
-//! `counters` counts what the threads of a server answer, `seconds` how long that took, and `start` says how far a start is: all threads
-//! count, and none takes a lock for it. `process_files` and `resident` read what the system says of the process and of the machine.
-//! `monitoring` answers monitors, which it asks a trait about (`PageSource`); `status_page` writes the pages.
+//! `counters` counts what the threads of a server answer, `seconds` how long that took, and `start` says how far
+//! a start is: all threads count, and none takes a lock for it. `process_files` and `resident` read what the
+//! system says of the process and of the machine. `monitoring` answers monitors, with pages that it asks of a
+//! trait (`PageSource`); `status_page` writes them.
 //!
 //! Of all this, safety alone is proved.
 #![tactic(auto)]

@@ -1,11 +1,13 @@
-//! Runs the threads of a server: they take connections, serve clients, exchange frames with the other replicas, answer monitors, and write
-//! standard error. The node is behind a small trait; its clock and its files are in `server`.
+//! Runs the threads of a server: they take connections, serve clients, exchange frames with the other replicas,
+//! answer monitors, and write standard error. The node is behind a small trait; its clock and its files are in
+//! `server`.
 //!
-//! The threads of a server, which know the node by a trait alone (`engine`). `shared_parts` has what they share; `serving` begins and ends
-//! them. Those that exchange messages with other replicas are in `peer_threads`, those that serve sessions in `session_pool`, and monitors are
-//! answered by `server_monitor`, which `pages` makes pages for. One more thread writes what is said (`server_log`); nobody else waits for it.
-//! `session_events` and `telling` have the lines of sessions. `starting` answers monitors and writes lines while the node is opened. Directories
-//! are wrapped by `logged_directory`. The node's clock has the thread that calls.
+//! The threads of a server, which know the node by a trait alone (`engine`). `shared_parts` has what they share;
+//! `serving` begins and ends them. Those that exchange messages with other replicas are in `peer_threads`, those
+//! that serve sessions in `session_pool`. `server_monitor` answers monitors with the pages of `pages`. One more
+//! thread writes what is said (`server_log`). `session_events` and `telling` have the lines of sessions.
+//! `starting` answers monitors and writes lines while the node is opened. Directories are wrapped by
+//! `logged_directory`. The node's clock has the thread that calls.
 //!
 //! Of all this, safety alone is proved.
 #![tactic(auto)]

@@ -1,6 +1,6 @@
 //! What a server says of its sessions and of its end, a line an event.
 use crate::fault::ServerError;
-use server_log::{Reporter, shown};
+use server_log::{Reporter, one_line};
 use session_pool::{Away, SessionEnd};
 use std::alloc::{AllocError, Global};
 use std::net::SocketAddr;
@@ -72,7 +72,7 @@ fn text_of_refused(
     name: Result<&str, AllocError>,
     code: u8,
 ) -> Result<String, AllocError> {
-    let name = shown(alloc, name?)?;
+    let name = one_line(alloc, name?)?;
     if name.is_empty() {
         return format!(in alloc; "session {session}: bind refused ({code})");
     }
