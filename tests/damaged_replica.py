@@ -5,10 +5,11 @@ from __future__ import annotations
 import errno
 import os
 import re
-import select
+import signal
 import socket
 import subprocess
 import tempfile
+import threading
 
 import ldap_client as ldap
 from damages import changes, fronts
@@ -18,6 +19,7 @@ from serving import HOST
 NUMBER = 9
 # How long it may be silent, in seconds, before that counts as a hang.
 PATIENCE = 60
+UNREACHED = re.compile(r"\S+Z replica \d can't be reached at .+\n")
 RECOVERS = re.compile(r"\S+Z view \d+: recovering\n")
 REFUSALS = r"(?:no stored view|foreign cluster|cannot open the stored view|E25)\n--store: .+"
 
@@ -45,19 +47,23 @@ def stores(is_whole: bool) -> tuple[int, list[str]]:
 
 def start_fault(command: list[str]) -> str:
     """What is wrong with a start, which is ended as soon as it recovers: it has a view, and nobody to recover from."""
-    with subprocess.Popen(command, stdin=subprocess.DEVNULL, stdout=subprocess.PIPE, stderr=subprocess.PIPE, text=True) as process:
+    with subprocess.Popen(command, stdin=subprocess.DEVNULL, stdout=subprocess.DEVNULL, stderr=subprocess.PIPE, text=True) as process:
+        silence = threading.Timer(PATIENCE, process.kill)
+        silence.start()
         try:
-            if not select.select([process.stderr], [], [], PATIENCE)[0]:
-                return f"neither recovers nor ends within {PATIENCE} s"
-            first = process.stderr.readline()
-            if first.rstrip("\n") == UNPROVED:
-                first = process.stderr.readline()
-            if RECOVERS.fullmatch(first):
-                return ""
-            said = (first + process.stderr.read()).removesuffix("\n")
-            status = process.wait(PATIENCE)
-            return "" if status == 1 and re.fullmatch(REFUSALS, said) else f"status {status}, {said[-500:]!r}"
+            said = ""
+            for line in process.stderr:
+                if RECOVERS.fullmatch(line):
+                    return ""
+                # It may find out first that the others can't be reached.
+                if line.rstrip("\n") != UNPROVED and not UNREACHED.fullmatch(line):
+                    said += line
+            status = process.wait()
+            if status == -signal.SIGKILL:
+                return f"neither recovers nor ends within {PATIENCE} s: {said[-500:]!r}"
+            return "" if status == 1 and re.fullmatch(REFUSALS, said.removesuffix("\n")) else f"status {status}, {said[-500:]!r}"
         finally:
+            silence.cancel()
             process.kill()
 
 
