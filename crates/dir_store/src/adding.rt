@@ -16,7 +16,7 @@ use crate::finding::asked_entry;
 use crate::names::{asked_name, own_rdn, parent_of_name};
 use entry_updates::{AddRequest, PartialAttribute, ResultCode, entry_asked};
 use indexed_tree::{
-    Entry, Name, NamedEntry, Rdn, Reply, Schema, Tree, TypeAndValue, is_same, is_taken,
+    Entry, Name, Rdn, Reply, Schema, StoredEntry, Tree, TypeAndValue, is_same, is_taken,
 };
 use std::alloc::{AllocError, Global};
 
@@ -55,7 +55,7 @@ fn place_below(
 {
     tree.is_placed_as_spelled();
     let (_, held) = asked_entry(alloc, schema, tree, parent_of_name(name))?;
-    let NamedEntry {
+    let StoredEntry {
         name: above,
         entry: _,
     } = held;

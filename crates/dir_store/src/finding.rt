@@ -8,7 +8,7 @@ ghost use Rattle.indexed_tree.specs.Stored.{entered_of, named, directory, AreKey
 ghost use Rattle.dir_store.specs.private.View.{RefusedWith};
 
 use crate::fault::StoreError;
-use indexed_tree::{NamedEntry, Rdn, Schema, Tree, not_found, standing};
+use indexed_tree::{Rdn, Schema, StoredEntry, Tree, not_found, standing};
 use std::alloc::Global;
 
 /// The number of a name's entry, and the entry with its name; 32 where there is none.
@@ -18,7 +18,7 @@ pub fn asked_entry<'a>(
     schema: &Schema,
     tree: &'a Tree,
     name: &[Rdn],
-) -> Result<(u64, NamedEntry<'a>), StoreError>
+) -> Result<(u64, StoredEntry<'a>), StoreError>
     requires keyed { AreKeyedBy schema.now tree.now.entries }
     ensures ok { IfOk result (λ p. entry_asked (directory schema.now tree.now) name.now ≡ Ok (named (entered_of p.0 p.1))) }
     ensures found { IfOk result (λ p. find (rdns name.now) tree.now.entries ≡ Some (entered_of p.0 p.1)) }

@@ -10,7 +10,7 @@ use crate::fault::{StoreError, refused_attributes};
 use crate::finding::asked_entry;
 use crate::names::{asked_name, own_rdn};
 use entry_updates::{Change, ModifyRequest, entry_changed};
-use indexed_tree::{Entry, NamedEntry, Schema, Tree};
+use indexed_tree::{Entry, Schema, StoredEntry, Tree};
 use std::alloc::Global;
 
 /// A number, and what its entry is changed to.
@@ -26,7 +26,7 @@ fn change(
     schema: &Schema,
     changes: &[Change],
     number: u64,
-    held: &NamedEntry<'_>,
+    held: &StoredEntry<'_>,
 ) -> Result<ChangedEntry, StoreError>
     requires keyed { IsKeyedBy schema.now held.now.entry.now }
     ensures ok { IfOk result (λ k. change_of schema.now (map change_view changes.now) (named (entered_of number held.now)) ≡ Ok (kept_view k)) }

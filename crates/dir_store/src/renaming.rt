@@ -16,7 +16,7 @@ use crate::fault::{StoreError, refused_attributes};
 use crate::finding::asked_entry;
 use crate::names::{asked_name, asked_rdn, asked_superior, own_rdn};
 use entry_updates::{ModifyDnRequest, ResultCode, entry_renamed};
-use indexed_tree::{Entry, Name, NamedEntry, Rdn, Reply, Schema, Tree, is_front, is_same};
+use indexed_tree::{Entry, Name, Rdn, Reply, Schema, StoredEntry, Tree, is_front, is_same};
 use std::alloc::{AllocError, Global};
 use std::marker::Model;
 
@@ -106,7 +106,7 @@ struct Move<'a> {
     tree: &'a Tree,
     delete_old: bool,
     number: u64,
-    held: &'a NamedEntry<'a>,
+    held: &'a StoredEntry<'a>,
     rdn: &'a Rdn,
 }
 
@@ -139,7 +139,7 @@ impl Move<'_> {
             None => Ok(parent(self.alloc, &self.held.name)?),
             Some(above) => {
                 let (_, held) = asked_entry(self.alloc, self.schema, self.tree, above.rdns())?;
-                let NamedEntry { name, entry: _ } = held;
+                let StoredEntry { name, entry: _ } = held;
                 Ok(name)
             }
         }

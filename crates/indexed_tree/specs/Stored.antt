@@ -4,10 +4,10 @@ use Rattle.dir_index.specs.ldap_schema.Schema.{SchemaModel}
 use Rattle.dir_index.specs.dir_entry.Entry.{attributes_of, IsKeyedBy}
 use Rattle.directory_api.specs.dir_tree.Directory.{Entered, TreeModel}
 use Rattle.indexed_tree.specs.Directory.{Directory, NamedEntry}
-use Rattle.indexed_tree.specs.declared.held.NamedEntry.{NamedEntry}
+use Rattle.indexed_tree.specs.declared.held.StoredEntry.{StoredEntry}
 
 -- an entry under its number, where it is
-abbrev pub entered_of : ℕ → NamedEntry → Entered
+abbrev pub entered_of : ℕ → StoredEntry → Entered
 entered_of k s = record { number = k; name = s.name; entry = s.entry.now }
 
 -- an entry without its keys

@@ -9,7 +9,7 @@ ghost use Rattle.indexed_tree.specs.Replies.{not_found as not_found_reply};
 ghost use Rattle.indexed_tree.specs.Stored.{directory, entered_of};
 ghost use Rattle.directory_api.specs.View.{reply_view};
 
-use crate::held::NamedEntry;
+use crate::held::StoredEntry;
 use dir_index::{Rdn, Schema};
 use directory_api::{Reply, ResultCode, SharedEntry, Tree};
 use std::alloc::{AllocError, Global};
@@ -34,7 +34,7 @@ pub fn standing<'a>(
     alloc: Global,
     tree: &'a Tree,
     name: &[Rdn],
-) -> Result<Option<(u64, NamedEntry<'a>)>, AllocError>
+) -> Result<Option<(u64, StoredEntry<'a>)>, AllocError>
     ensures { IfOk result (λ o. option_map (λ p. entered_of p.0 p.1) o ≡ find (rdns name.now) tree.now.entries) }
 {
     tree.is_directory();
@@ -42,7 +42,7 @@ pub fn standing<'a>(
         None => Ok(None),
         Some((number, entry)) => match tree.name(alloc, number)? {
             None => Ok(None),
-            Some(name) => Ok(Some((number, NamedEntry { name, entry }))),
+            Some(name) => Ok(Some((number, StoredEntry { name, entry }))),
         },
     }
 }

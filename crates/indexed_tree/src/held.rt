@@ -5,7 +5,7 @@ use directory_api::SharedEntry;
 
 /// An entry with its name, as it is spelled.
 #[derive(Drop)]
-pub struct NamedEntry<'a> {
+pub struct StoredEntry<'a> {
     pub name: Name,
     pub entry: &'a SharedEntry,
 }

@@ -29,6 +29,6 @@ pub use directory_api::{
     Visit, Wanted,
 };
 pub use finding::{entry_of, is_front, is_same, is_taken, not_found, standing};
-pub use held::NamedEntry;
+pub use held::StoredEntry;
 pub use indexed::IndexedTree;
 pub use reading::Reading;
