@@ -9,8 +9,8 @@ use ldap_session::{Config, Name};
 use replica_greeting::{Claim, Terms, greeting};
 use schema_reader::built_in_schema;
 use server_threads::{
-    Address, Build, Choices, Engine, Figures, LinkTimes, Logs, MessageHandler, ReplicaAddresses, ProcessFiles, Role, Server,
-    ServerError, SharedParts, Monitored, Start, Trouble, make_shared_parts,
+    Address, Build, Choices, Engine, Figures, LinkTimes, Logs, MessageHandler, ReplicaAddresses, ProcessFiles, Role,
+    Server, ServerError, SharedParts, Monitored, Start, Trouble, make_shared_parts,
 };
 use std::alloc::Global;
 use std::io::{self, ErrorKind, Read, Write};
