@@ -1,18 +1,20 @@
 -- What a process stands for after it was given events, or ended.
-use Rattle.std.proofs.Common.{◌≡◌, ◌≢◌, ℕ, ◌<◌, ◌≤◌, ◌==◌, Bool, false, cond, ◌⊎◌, inl, inr, List, [], ◌∷◌, ◌++◌, take, Some, None, Result, slice_get, Vec, refl, sym, ap, ◌∙◌, subst, eq-eqb}
+use Rattle.std.proofs.Common.{◌≡◌, ◌≢◌, ℕ, ◌<◌, ◌≤◌, ◌==◌, Bool, true, false, cond, ◌⊎◌, inl, inr, List, [], ◌∷◌, ◌++◌, take, Option, Some, None, Result, slice_get, Vec, refl, sym, ap, ◌∙◌, subst, eq-eqb}
 use Rattle.std.specs.Arc.{arc_value}
 use Rattle.std.specs.Global.{Global}
 use Rattle.std.specs.declared.alloc.AllocError.{AllocError}
 use Rattle.dir_node.specs.Handling.{MakesSteps}
-use Rattle.dir_node.specs.NodeState.{pair_of}
+use Rattle.dir_node.specs.NodeState.{head, pair_of}
 use Rattle.dir_node.specs.declared.error.NodeError.{NodeError}
 use Rattle.dir_node.specs.log_journal.Taken.{MakesSome}
+use Rattle.dir_node.specs.log_journal.Told.{Told}
+use Rattle.journal.specs.Frames.{recorded}
 use Rattle.dir_node.specs.declared.error.NodeError.TheVariants.{NoMemory}
 use Rattle.state_machine.specs.dir_store.ldap_op.Values.{OpValue}
 use Rattle.view_store.specs.Slots.{IsWellPlaced, found, own}
 use Rattle.view_store.specs.declared.slot.Pair.{Pair}
 use Rattle.vr_state.proofs.Laws.{prefix_trans}
-use Rattle.vr_state.specs.State.{State}
+use Rattle.vr_state.specs.State.{State, is_recovering}
 use Rattle.vr_state.specs.declared.event.Event.{Event}
 use Rattle.vr_state.specs.declared.message.Outputs.{Outputs}
 use Rattle.vr_world.proofs.Laws.{run-append}
@@ -20,17 +22,19 @@ use Rattle.vr_world.specs.Law.{IsSize}
 use Rattle.vr_world.specs.World.{World, has_used, happens, kept_of, put, run}
 use Rattle.vr_world.specs.declared.events.WorldEvent.{WorldEvent}
 use Rattle.vr_world.specs.declared.events.WorldEvent.TheVariants.{Crash}
+use Rattle.dir_machine.proofs.Journals.{left_tells, log_told, recovers_since}
 use Rattle.dir_machine.proofs.Processes.{Moved}
 use Rattle.dir_machine.proofs.Taking.{Ran, RanSome, caught_up, none_taken, ran, some_ran}
 use Rattle.dir_machine.proofs.Worlds.{IsLater, IsReached, crashed_is, later_refl, later_trans, not_eqb, put_here, put_there}
 use Rattle.dir_machine.specs.Happening.{EndsInside, MayHappen, TakesEach}
 use Rattle.dir_machine.specs.Shown.{Stage, unborn, up, down, stopped, message_in, stage}
 use Rattle.dir_machine.specs.private.Givens.{AreAsked}
-use Rattle.dir_machine.specs.private.Processes.{EndedInside, IsEnded, IsGiven, MemoryNode, Took}
-use Rattle.dir_machine.specs.private.Running.{AreSent, AreUpTo, IsDown, IsUp, StandsFor}
+use Rattle.dir_machine.specs.private.Processes.{EndedInside, IsEnded, IsGiven, MemoryNode, TellsIn, Took}
+use Rattle.dir_machine.specs.private.Running.{AreSent, AreUpTo, IsDown, IsKeptBy, IsUp, Laws, StandsFor}
 use Rattle.dir_machine.specs.declared.events.Given.{Given}
 use Rattle.dir_machine.specs.declared.events.MachineEvent.TheVariants as event
 use Rattle.dir_machine.specs.declared.machine.Machine.{Machine}
+use Rattle.dir_machine.specs.declared.process.Left.{Left}
 use Rattle.dir_machine.specs.declared.process.Process.{Process}
 use Rattle.dir_machine.specs.declared.process.Process.TheVariants.{Unborn, Up, Down}
 use Rattle.dir_machine.specs.declared.replies.MachineReply.{MachineReply}
@@ -79,7 +83,7 @@ pub record Acted (m : Machine) (w : World OpValue) (i : ℕ) (shown : List Machi
 crash_later : (n i : ℕ) (w : World OpValue) (r : State OpValue) → i < n → w.replicas i ≡ Some r → IsLater w (happens n w (Crash i)) i
 crash_later n i w r lt up_is =
     subst (λ (u : World OpValue). IsLater w u i) (sym (crashed_is n i w r lt up_is))
-    (record { others = λ j ne. record { replica = put_there i j None w.replicas ne; stored = refl; nonces = refl }; sent = λ k x h. h })
+    (record { others = λ j ne. record { replica = put_there i j None w.replicas ne; stored = refl; kept = put_there i j (kept_of r) w.kept ne; nonces = refl }; sent = λ k x h. h })
 
 -- another replica's stage stays
 pub stage_apart : (i j k : ℕ) (t s : Stage) → j ≡ i → k ≢ i → cond (j == k) t s ≡ s
@@ -89,7 +93,7 @@ stage_apart i j k t s is ne = ap (λ b. cond b t s) (not_eqb k j (λ e. ne (sym 
 pub stage_own : (i j : ℕ) (t s : Stage) → j ≡ i → cond (j == i) t s ≡ t
 stage_own i j t s is = ap (λ b. cond b t s) (eq-eqb j i is)
 
-module _ (m : Machine) (size : IsSize m.count) (w : World OpValue) (i : ℕ) (lt : i < m.count) (shown : List MachineReply) (reached : IsReached m.count w) (sent : AreSent shown w) where
+module _ (laws : Laws) (m : Machine) (size : IsSize m.count) (w : World OpValue) (i : ℕ) (lt : i < m.count) (shown : List MachineReply) (reached : IsReached m.count w) (sent : AreSent shown w) where
   -- a node that took events
   took : (gs : List Given) (es : List (Event OpValue)) (old new : MemoryNode) (outs : List (Result (Outputs OpValue) AllocError)) (behind : Bool) → AreAsked shown i gs es → IsUp m w i old
       → Took es old new outs behind → Ran m.count i shown gs outs w old.replica new.replica
@@ -104,7 +108,6 @@ module _ (m : Machine) (size : IsSize m.count) (w : World OpValue) (i : ℕ) (lt
     index = t.same.index ∙ u.index;
     count = t.same.count ∙ u.count;
     cluster = t.same.cluster ∙ u.cluster;
-    alone = t.same.journaled ∙ u.alone;
     running = t.running;
     replica = r.replica;
     stored = r.stored;
@@ -113,18 +116,20 @@ module _ (m : Machine) (size : IsSize m.count) (w : World OpValue) (i : ℕ) (lt
     suffix = t.same.suffix ∙ u.suffix;
     executed = caught_up behind old.executed.records new.executed.records (take new.replica.commit_number new.replica.log) (prefix_trans u.executed r.committed) t.executed;
     pair = t.pair;
+    log = t.log;
+    started = subst (λ (k : ℕ). 0 < k) (sym t.same.restarts) u.started;
     placed = t.placed u.running u.placed.seen;
   }
 
   -- Its process ends in this world.
-  ends_down : (v : World OpValue) (s : State OpValue) (pair : Pair) (image : List ℕ) → v.replicas i ≡ Some s → found m.cluster image ≡ own pair → pair.journaled ≡ false
-      → v.stored i ≡ pair.view → AreUpTo v i pair.restarts → IsWellPlaced image → IsDown m (happens m.count v (Crash i)) i image
-  ends_down v s pair image here found_is alone stored nonces placed = record {
+  ends_down : (v : World OpValue) (s : State OpValue) (pair : Pair) (left : Left) (t : Told) → v.replicas i ≡ Some s → v.stored i ≡ s.view_number → found m.cluster left.image.items ≡ own pair → AreUpTo v i pair.restarts
+      → IsWellPlaced left.image.items → 0 < t.restarts → TellsIn t s left.journal → (left.journal ≡ None → s.view_number ≡ pair.view) → (is_recovering s.status ≡ true → s.view_number ≡ pair.view)
+      → IsDown m (happens m.count v (Crash i)) i left
+  ends_down v s pair left t here stored found_is nonces placed started tells alone recovers = record {
     pair = pair;
     found_is = found_is;
-    alone = alone;
     down = ap (λ (u : World OpValue). u.replicas i) to ∙ put_here i None v.replicas;
-    stored = ap (λ (u : World OpValue). u.stored i) to ∙ stored;
+    kept = go left.journal alone tells;
     nonces = λ x h. nonces x (ap (λ (u : World OpValue). has_used x (u.nonces i)) (sym to) ∙ h);
     placed = placed;
   }
@@ -132,44 +137,59 @@ module _ (m : Machine) (size : IsSize m.count) (w : World OpValue) (i : ℕ) (lt
       to : happens m.count v (Crash i) ≡ record v { replicas = put i None v.replicas; kept = put i (kept_of s) v.kept }
       to = crashed_is m.count i v s lt here
 
+      now : (happens m.count v (Crash i)).stored i ≡ s.view_number
+      now = ap (λ (u : World OpValue). u.stored i) to ∙ stored
+
+      go : (o : Option (Vec ℕ Global)) → (o ≡ None → s.view_number ≡ pair.view) → TellsIn t s o → IsKeptBy (happens m.count v (Crash i)) i pair.view o
+      go None alone tells = now ∙ alone refl
+      go (Some octets) alone tells =
+          log_told laws.one (happens m.count v (Crash i)) i s t (recorded octets.items) pair.view tells started now (ap (λ (u : World OpValue). u.kept i) to ∙ put_here i (kept_of s) v.kept) recovers
+
   -- It ended after some first of what it was given.
-  ended_after : (gs : List Given) (old : MemoryNode) (image : Vec ℕ Global) (j : ℕ) (e : NodeError) → j ≡ i → e ≢ NoMemory → stage shown i ≡ up → IsUp m w i old → (s : State OpValue) → RanSome m.count i shown gs w s
-      → found old.cluster image.items ≡ own (record (pair_of old) { view = s.view_number }) → IsWellPlaced image.items
-      → Acted m w i shown (reply.Stopped j e) (Down image) (λ h. MayBeGiven m.count shown i gs (reply.Stopped j e) h w)
-  ended_after gs old image j e own_is cause was u s r found_is placed = record {
+  ended_after : (gs : List Given) (old : MemoryNode) (left : Left) (j : ℕ) (e : NodeError) → j ≡ i → e ≢ NoMemory → stage shown i ≡ up → IsUp m w i old → (s : State OpValue) → RanSome m.count i shown gs w s
+      → (pair : Pair) → pair.restarts ≡ old.restarts → found old.cluster left.image.items ≡ own pair → IsWellPlaced left.image.items → TellsIn (head old) s left.journal
+      → (left.journal ≡ None → s.view_number ≡ pair.view) → (is_recovering s.status ≡ true → s.view_number ≡ pair.view)
+      → Acted m w i shown (reply.Stopped j e) (Down left) (λ h. MayBeGiven m.count shown i gs (reply.Stopped j e) h w)
+  ended_after gs old left j e own_is cause was u s r pair restarts found_is placed tells alone recovers = record {
     happened = r.happened ++ Crash i ∷ [];
     may = (own_is, cause, record { taken = r.happened; some = r.some; crash = refl });
-    moved = subst (λ (v : World OpValue). Moved m w v i shown (reply.Stopped j e) (Down image)) (sym (run-append m.count r.happened (Crash i ∷ []) w)) (record {
+    moved = subst (λ (v : World OpValue). Moved m w v i shown (reply.Stopped j e) (Down left)) (sym (run-append m.count r.happened (Crash i ∷ []) w)) (record {
       later = later_trans w (run m.count r.happened w) (happens m.count (run m.count r.happened w) (Crash i)) i r.later (crash_later m.count i (run m.count r.happened w) s lt r.replica);
       apart = λ k ne t. stage_apart i j k (stopped t) t own_is ne;
       stands = (
         stage_own i j (stopped (stage shown i)) (stage shown i) own_is ∙ ap stopped was,
-        ends_down (run m.count r.happened w) s (record (pair_of old) { view = s.view_number }) image.items r.replica (ap (λ (c : ℕ). found c image.items) (sym u.cluster) ∙ found_is) u.alone r.stored
-            (λ x h. u.nonces x (ap (λ l. has_used x l) (sym r.nonces) ∙ h)) placed,
+        ends_down (run m.count r.happened w) s pair left (head old) r.replica r.stored (ap (λ (c : ℕ). found c left.image.items) (sym u.cluster) ∙ found_is)
+            (λ x h. subst (λ (k : ℕ). x ≤ k) (sym restarts) (u.nonces x (ap (λ l. has_used x l) (sym r.nonces) ∙ h))) placed u.started tells alone recovers,
       );
       sent = λ part at y h. absurd (cc);
     });
   }
 
   -- It ended inside a call: before what it was given, or after some first of that.
-  ended_inside : (gs : List Given) (es : List (Event OpValue)) (old : MemoryNode) (image : Vec ℕ Global) (j : ℕ) (e : NodeError) → j ≡ i → e ≢ NoMemory → stage shown i ≡ up → IsUp m w i old → AreAsked shown i gs es → EndedInside es old image.items
-      → Acted m w i shown (reply.Stopped j e) (Down image) (λ h. MayBeGiven m.count shown i gs (reply.Stopped j e) h w)
-  ended_inside gs es old image j e own_is cause was u asked ended = go ended.pair.pair
+  ended_inside : (gs : List Given) (es : List (Event OpValue)) (old : MemoryNode) (left : Left) (j : ℕ) (e : NodeError) → j ≡ i → e ≢ NoMemory → stage shown i ≡ up → IsUp m w i old → AreAsked shown i gs es → EndedInside es old left
+      → Acted m w i shown (reply.Stopped j e) (Down left) (λ h. MayBeGiven m.count shown i gs (reply.Stopped j e) h w)
+  ended_inside gs es old left j e own_is cause was u asked ended = go left.journal refl ended.pair
     where
-      go : (found old.cluster image.items ≡ own (pair_of old)) ⊎ (found old.cluster image.items ≡ own (record (pair_of old) { view = ended.replica.view_number }))
-          → Acted m w i shown (reply.Stopped j e) (Down image) (λ h. MayBeGiven m.count shown i gs (reply.Stopped j e) h w)
-      go (inl former) = ended_after gs old image j e own_is cause was u old.replica (record {
-        happened = [];
-        some = none_taken m.count shown i gs w;
-        later = later_refl w i;
-        replica = u.replica;
-        stored = u.stored;
-        nonces = refl;
-      }) former ended.pair.placed
-      go (inr after) = ended_after gs old image j e own_is cause was u ended.replica
-          (some_ran m.count i lt shown size gs es w old.replica ended.replica sent asked u.replica u.stored
-          (subst (λ (k : ℕ). MakesSome m.count k old.replica es ended.replica) u.index (subst (λ (k : ℕ). MakesSome k old.index old.replica es ended.replica) u.count ended.steps)))
-          after ended.pair.placed
+      Ends : Type 0
+      Ends = Acted m w i shown (reply.Stopped j e) (Down left) (λ h. MayBeGiven m.count shown i gs (reply.Stopped j e) h w)
+
+      ran_is : RanSome m.count i shown gs w ended.replica
+      ran_is = some_ran m.count i lt shown size gs es w old.replica ended.replica sent asked u.replica u.stored
+          (subst (λ (k : ℕ). MakesSome m.count k old.replica es ended.replica) u.index (subst (λ (k : ℕ). MakesSome k old.index old.replica es ended.replica) u.count ended.steps))
+
+      stay : is_recovering ended.replica.status ≡ true → ended.replica.view_number ≡ old.replica.view_number
+      stay rec = (recovers_since laws.last laws.stays old.count old.index old.replica es ended.replica ended.steps rec).0
+
+      none : RanSome m.count i shown gs w old.replica
+      none = record { happened = []; some = none_taken m.count shown i gs w; later = later_refl w i; replica = u.replica; stored = u.stored; nonces = refl }
+
+      go : (o : Option (Vec ℕ Global)) → left.journal ≡ o
+          → (found old.cluster left.image.items ≡ own (pair_of old)) ⊎ (found old.cluster left.image.items ≡ own (record (pair_of old) { view = ended.replica.view_number })) → Ends
+      go None is (inl former) =
+          ended_after gs old left j e own_is cause was u old.replica none (pair_of old) refl former ended.placed (subst (λ (o : Option (Vec ℕ Global)). TellsIn (head old) old.replica o) (sym is) tt) (λ q. refl) (λ q. refl)
+      go (Some octets) is (inl former) = ended_after gs old left j e own_is cause was u ended.replica ran_is (pair_of old) refl former ended.placed ended.log (λ q. absurd (cc (is, q))) stay
+      go o is (inr after) =
+          ended_after gs old left j e own_is cause was u ended.replica ran_is (record (pair_of old) { view = ended.replica.view_number }) refl after ended.placed ended.log (λ q. refl) (λ q. refl)
 
   -- Replica i is given events.
   pub given_on : (gs : List Given) (es : List (Event OpValue)) (old new : Process) (x : MachineReply) → AreAsked shown i gs es → StandsFor m w i (stage shown i) old → IsGiven i es old new x
@@ -197,15 +217,15 @@ module _ (m : Machine) (size : IsSize m.count) (w : World OpValue) (i : ℕ) (lt
       sent = λ part at y h. absurd (cc);
     };
   }
-  given_on gs es (Up old f) (Down image) (reply.Stopped j e) asked stands is =
-      ended_inside gs es old image j e is.0 is.1 stands.0 stands.1 asked (is.2 stands.1.running stands.1.placed.seen)
+  given_on gs es (Up old f) (Down left) (reply.Stopped j e) asked stands is =
+      ended_inside gs es old left j e is.0 is.1 stands.0 stands.1 asked (is.2 stands.1.running stands.1.placed.seen stands.1.pair)
   given_on gs es (Down old) (Down new) reply.Nothing asked stands is = record {
     happened = [];
     may = (refl, down_not_up stands.0);
     moved = record {
       later = later_refl w i;
       apart = λ k ne s. refl;
-      stands = subst (λ (l : List ℕ). (stage shown i ≡ down) × IsDown m w i l) (sym is) stands;
+      stands = subst (λ (l : Left). (stage shown i ≡ down) × IsDown m w i l) (sym is) stands;
       sent = λ part at y h. absurd (cc);
     };
   }
@@ -224,7 +244,7 @@ module _ (m : Machine) (size : IsSize m.count) (w : World OpValue) (i : ℕ) (lt
 
   -- Replica i's process ends.
   pub ended_on : (old new : Process) (x : MachineReply) → StandsFor m w i (stage shown i) old → IsEnded i old new x → Acted m w i shown x new (λ h. MayEnd x h)
-  ended_on (Up old f) (Down image) (reply.Crashed j) stands is = record {
+  ended_on (Up old f) (Down left) (reply.Crashed j) stands is = record {
     happened = Crash i ∷ [];
     may = (is.0, refl);
     moved = record {
@@ -232,8 +252,8 @@ module _ (m : Machine) (size : IsSize m.count) (w : World OpValue) (i : ℕ) (lt
       apart = λ k ne s. stage_apart i j k down s is.0 ne;
       stands = (
         stage_own i j down (stage shown i) is.0,
-        ends_down w old.replica (pair_of old) image.items stands.1.replica (ap (λ (c : ℕ). found c image.items) (sym stands.1.cluster) ∙ stands.1.pair image.items is.1) stands.1.alone stands.1.stored stands.1.nonces
-            (stands.1.placed.left image.items is.1),
+        ends_down w old.replica (pair_of old) left (head old) stands.1.replica stands.1.stored (ap (λ (c : ℕ). found c left.image.items) (sym stands.1.cluster) ∙ stands.1.pair left.image.items is.1.image)
+            stands.1.nonces (stands.1.placed.left left.image.items is.1.image) stands.1.started (left_tells old stands.1.log left.journal is.1.journal) (λ q. refl) (λ q. refl),
       );
       sent = λ part at y h. absurd (cc);
     };
@@ -244,7 +264,7 @@ module _ (m : Machine) (size : IsSize m.count) (w : World OpValue) (i : ℕ) (lt
     moved = record {
       later = later_refl w i;
       apart = λ k ne s. refl;
-      stands = subst (λ (l : List ℕ). (stage shown i ≡ down) × IsDown m w i l) (sym is) stands;
+      stands = subst (λ (l : Left). (stage shown i ≡ down) × IsDown m w i l) (sym is) stands;
       sent = λ part at y h. absurd (cc);
     };
   }

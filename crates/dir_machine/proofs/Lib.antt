@@ -2,6 +2,8 @@ pub mod Worlds
 pub mod Shown
 pub mod Turns
 pub mod Taking
+pub mod Journals
+pub mod Returns
 pub mod Processes
 pub mod Gives
 pub mod Starts

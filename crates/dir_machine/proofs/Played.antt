@@ -14,11 +14,12 @@ use Rattle.vr_state.specs.StepLaw.{LatestIsOfClient}
 use Rattle.vr_state.specs.Words.{Client}
 use Rattle.vr_state.specs.declared.event.Event.{Event}
 use Rattle.vr_world.proofs.Laws.{chosen_lists_agree, committed_grows, committed_is_longest, commits_are_held, numbers_rise, replicas_agree}
+use Rattle.vr_world.proofs.Holding.{majorities_hold}
 use Rattle.vr_world.specs.Law.{IsSize}
 use Rattle.vr_world.specs.World.{World, after, run, start}
 use Rattle.vr_world.specs.declared.events.WorldEvent.{WorldEvent}
-use Rattle.view_store.specs.declared.crashing.Fate.{Fate}
-use Rattle.view_store.specs.declared.record.Fault.{Fault}
+use Rattle.dir_machine.specs.declared.events.Fates.{Fates}
+use Rattle.dir_machine.specs.declared.events.Faults.{Faults}
 use Rattle.dir_machine.proofs.Asks.{answered_on, told_on}
 use Rattle.dir_machine.proofs.Gives.{Acted, MayEnd, ended_on, given_on, may_all, may_one}
 use Rattle.dir_machine.proofs.Processes.{IsQuiet, played_on, stands_on, stands_still}
@@ -30,7 +31,7 @@ use Rattle.dir_machine.specs.Headline.{CommittedIsOneList, IsWhole, committed_af
 use Rattle.dir_machine.specs.Shown.{stage}
 use Rattle.dir_machine.specs.private.Givens.{AreAsked, IsAsked}
 use Rattle.dir_machine.specs.private.Processes.{IsAnswered, IsCompared, IsEnded, IsGiven, IsNew, IsSearched, IsStarted, IsToldOf}
-use Rattle.dir_machine.specs.private.Running.{AreNew, AreSent, GoesOn, IsNothingShown, IsPlayed, Stands, StandsFor}
+use Rattle.dir_machine.specs.private.Running.{AreNew, AreSent, GoesOn, Laws, IsNothingShown, IsPlayed, Stands, StandsFor}
 use Rattle.dir_machine.specs.declared.events.Given.{Given}
 use Rattle.dir_machine.specs.declared.events.MachineEvent.{MachineEvent}
 use Rattle.dir_machine.specs.declared.events.MachineEvent.TheVariants as event
@@ -47,20 +48,20 @@ acted_as : (m : Machine) (w : World OpValue) (i : ℕ) (shown : List MachineRepl
 acted_as m w i shown x p May Might f a = record { happened = a.happened; may = f a.happened a.may; moved = a.moved }
 
 -- a process that is to end
-may_end : (m : Machine) (size : IsSize m.count) (w : World OpValue) (i : ℕ) (lt : i < m.count) (shown : List MachineReply) (reached : IsReached m.count w) (sent : AreSent shown w) (fate : Fate) (x : MachineReply) (h : List (WorldEvent OpValue))
-    → MayEnd m size w i lt shown reached sent x h → MayHappen (arc_value m.schema) m.suffix m.count shown (event.Crash i fate) x h w
-may_end m size w i lt shown reached sent fate reply.Nothing h may = (may.0, inr may.1)
-may_end m size w i lt shown reached sent fate (reply.Crashed j) h may = may
-may_end m size w i lt shown reached sent fate _ h may = absurd may
+may_end : (laws : Laws) (m : Machine) (size : IsSize m.count) (w : World OpValue) (i : ℕ) (lt : i < m.count) (shown : List MachineReply) (reached : IsReached m.count w) (sent : AreSent shown w) (fates : Fates) (x : MachineReply) (h : List (WorldEvent OpValue))
+    → MayEnd laws m size w i lt shown reached sent x h → MayHappen (arc_value m.schema) m.suffix m.count shown (event.Crash i fates) x h w
+may_end laws m size w i lt shown reached sent fates reply.Nothing h may = (may.0, inr may.1)
+may_end laws m size w i lt shown reached sent fates (reply.Crashed j) h may = may
+may_end laws m size w i lt shown reached sent fates _ h may = absurd may
 
 -- a process that is to start
 may_start : (m : Machine) (w : World OpValue) (i : ℕ) (lt : i < m.count) (shown : List MachineReply) (x : MachineReply) (h : List (WorldEvent OpValue))
-    → (fault : Fault) (fate : Fate) → MayStart m w i lt shown x h → MayHappen (arc_value m.schema) m.suffix m.count shown (event.Start i fault fate) x h w
-may_start m w i lt shown reply.Nothing h fault fate may = (may.0, inr may.1)
-may_start m w i lt shown (reply.Started j restarts out) h fault fate may = may
-may_start m w i lt shown (reply.Refused j e) h fault fate may = may
-may_start m w i lt shown (reply.Stopped j e) h fault fate may = may
-may_start m w i lt shown _ h fault fate may = absurd may
+    → (faults : Faults) (fates : Fates) → MayStart m w i lt shown x h → MayHappen (arc_value m.schema) m.suffix m.count shown (event.Start i faults fates) x h w
+may_start m w i lt shown reply.Nothing h faults fates may = (may.0, inr may.1)
+may_start m w i lt shown (reply.Started j restarts out) h faults fates may = may
+may_start m w i lt shown (reply.Refused j e) h faults fates may = may
+may_start m w i lt shown (reply.Stopped j e) h faults fates may = may
+may_start m w i lt shown _ h faults fates may = absurd may
 
 -- one process was taken out and put back
 pub record Turned (m : Machine) (i : ℕ) (old new : Running) (before after : Process) (x : MachineReply) : Type 0 where
@@ -111,32 +112,33 @@ module _ (m : Machine) (e : MachineEvent) (old new : Running) where
 quiet_nothing : IsQuiet reply.Nothing
 quiet_nothing = record { stages = λ j s. refl; silent = λ part at y h. absurd (cc) }
 
-module _ (m : Machine) (old new : Running) where
+module _ (laws : Laws) (m : Machine) (old new : Running) where
   -- A node that is up handles one event, or a batch.
   pub give_on : (i : ℕ) (g : Given) (e : Event OpValue) (before after : Process) (x : MachineReply) → Turned m i old new before after x → IsAsked old.shown.items i g e → IsGiven i (e ∷ []) before after x
       → GoesOn m (event.Give i g) old new
   give_on i g e before after x t asked is = turned_on m (event.Give i g) old new i before after x t
       (λ size w reached sent stands. acted_as m w i old.shown.items x after _ _ (λ h. may_one m old.shown.items i g x h w)
-      (given_on m size w i t.within old.shown.items reached sent (g ∷ []) (e ∷ []) before after x (asked, tt) stands is))
+      (given_on laws m size w i t.within old.shown.items reached sent (g ∷ []) (e ∷ []) before after x (asked, tt) stands is))
 
   pub batch_on : (i : ℕ) (gs : Vec Given Global) (es : List (Event OpValue)) (before after : Process) (x : MachineReply) → Turned m i old new before after x → AreAsked old.shown.items i gs.items es
       → IsGiven i es before after x → GoesOn m (event.GiveAll i gs) old new
   batch_on i gs es before after x t asked is = turned_on m (event.GiveAll i gs) old new i before after x t
       (λ size w reached sent stands. acted_as m w i old.shown.items x after _ _ (λ h. may_all m old.shown.items i gs x h w)
-      (given_on m size w i t.within old.shown.items reached sent gs.items es before after x asked stands is))
+      (given_on laws m size w i t.within old.shown.items reached sent gs.items es before after x asked stands is))
 
   -- A process ends.
-  pub end_on : (i : ℕ) (fate : Fate) (before after : Process) (x : MachineReply) → Turned m i old new before after x → IsEnded i before after x → GoesOn m (event.Crash i fate) old new
-  end_on i fate before after x t is = turned_on m (event.Crash i fate) old new i before after x t
-      (λ size w reached sent stands. acted_as m w i old.shown.items x after _ _ (λ h. may_end m size w i t.within old.shown.items reached sent fate x h)
-      (ended_on m size w i t.within old.shown.items reached sent before after x stands is))
+  pub end_on : (i : ℕ) (fates : Fates) (before after : Process) (x : MachineReply) → Turned m i old new before after x → IsEnded i before after x → GoesOn m (event.Crash i fates) old new
+  end_on i fates before after x t is = turned_on m (event.Crash i fates) old new i before after x t
+      (λ size w reached sent stands. acted_as m w i old.shown.items x after _ _ (λ h. may_end laws m size w i t.within old.shown.items reached sent fates x h)
+      (ended_on laws m size w i t.within old.shown.items reached sent before after x stands is))
 
   -- A process starts.
-  pub start_on : (i : ℕ) (fault : Fault) (fate : Fate) (before after : Process) (x : MachineReply) → Turned m i old new before after x → IsStarted m i before after x → GoesOn m (event.Start i fault fate) old new
-  start_on i fault fate before after x t is = turned_on m (event.Start i fault fate) old new i before after x t
-      (λ size w reached sent stands. acted_as m w i old.shown.items x after _ _ (λ h. may_start m w i t.within old.shown.items x h fault fate)
-      (started_on m w i t.within old.shown.items before after x stands is))
+  pub start_on : (i : ℕ) (faults : Faults) (fates : Fates) (before after : Process) (x : MachineReply) → Turned m i old new before after x → IsStarted m i before after x → GoesOn m (event.Start i faults fates) old new
+  start_on i faults fates before after x t is = turned_on m (event.Start i faults fates) old new i before after x t
+      (λ size w reached sent stands. acted_as m w i old.shown.items x after _ _ (λ h. may_start m w i t.within old.shown.items x h faults fates)
+      (started_on m w i t.within old.shown.items laws.one before after x stands is))
 
+module _ (m : Machine) (old new : Running) where
   -- A node is asked.
   pub ask_on : LatestIsOfClient OpValue → (i : ℕ) (client : Client) (number : ℕ) (p : Process) (x : MachineReply) → new.processes.items ≡ old.processes.items → new.shown.items ≡ old.shown.items ++ x ∷ []
       → slice_get old.processes.items i ≡ Some p → IsAnswered i client number p x → GoesOn m (event.Ask i client number) old new
@@ -194,6 +196,7 @@ committed_is_one n size es = record {
   replicas = λ i r up. replicas_agree n size es i r up;
   held = λ i r up. commits_are_held n size es i r up;
   rising = numbers_rise n size es;
+  majorities = λ quorum most part. majorities_hold n size es quorum most part;
 }
 
 -- The promise of a schedule that was played.

@@ -1,6 +1,7 @@
 -- Processes that stand for a world still do after one event at one of them.
-use Rattle.std.proofs.Common.{◌≡◌, ◌≢◌, ℕ, zero, suc, ◌+◌, ◌<◌, ◌⊎◌, inl, inr, List, [], ◌∷◌, ◌++◌, length, set, Some, slice_get, refl, sym, ap, ◌∙◌, subst, arith, length-append}
+use Rattle.std.proofs.Common.{◌≡◌, ◌≢◌, ℕ, zero, suc, ◌+◌, ◌<◌, ◌⊎◌, inl, inr, List, [], ◌∷◌, ◌++◌, length, set, Option, Some, None, Vec, slice_get, refl, sym, ap, ◌∙◌, subst, arith, length-append}
 use Rattle.std.specs.Arc.{arc_value}
+use Rattle.std.specs.Global.{Global}
 use Rattle.std.proofs.lemmas.List.{length-set}
 use Rattle.state_machine.specs.dir_store.ldap_op.Values.{OpValue}
 use Rattle.vr_world.proofs.Laws.{run-append}
@@ -14,7 +15,7 @@ use Rattle.dir_machine.specs.Happening.{MayHappen}
 use Rattle.dir_machine.specs.Headline.{joined}
 use Rattle.dir_machine.specs.Shown.{Stage, message_at, message_shown, stage, stage_by}
 use Rattle.dir_machine.specs.private.Processes.{IsNew}
-use Rattle.dir_machine.specs.private.Running.{AreNew, AreSent, IsPlayed, Stands, StandsFor}
+use Rattle.dir_machine.specs.private.Running.{AreNew, AreSent, IsKeptBy, IsPlayed, Stands, StandsFor}
 use Rattle.dir_machine.specs.declared.events.MachineEvent.{MachineEvent}
 use Rattle.dir_machine.specs.declared.events.Place.{Place}
 use Rattle.dir_machine.specs.declared.machine.Machine.{Machine}
@@ -48,6 +49,16 @@ one_new n processes p new is = record { counted = omega (arith, length-append pr
     go i q (inl h) = new.each i q h
     go i q (inr e) = subst IsNew (sym e) is
 
+-- what is kept where nothing happened
+kept_apart : (old new : World OpValue) (j view : ℕ) (log : Option (Vec ℕ Global)) → SameAt old new j → IsKeptBy old j view log → IsKeptBy new j view log
+kept_apart old new j view None same h = same.stored ∙ h
+kept_apart old new j view (Some octets) same h = λ t tells.
+    let k = h t tells in
+    record {
+      resumes = λ may. let r = k.resumes may in record { stored = same.stored ∙ r.stored; change = r.change; kept = same.kept ∙ r.kept; log = r.log; last = r.last; low = r.low };
+      lost = λ may. same.stored ∙ k.lost may;
+    }
+
 -- a process where nothing happened
 stands_apart : (m : Machine) (old new : World OpValue) (j : ℕ) (s : Stage) (p : Process) → SameAt old new j → StandsFor m old j s p → StandsFor m new j s p
 stands_apart m old new j s (Up n f) same h = (
@@ -56,7 +67,6 @@ stands_apart m old new j s (Up n f) same h = (
     index = h.1.index;
     count = h.1.count;
     cluster = h.1.cluster;
-    alone = h.1.alone;
     running = h.1.running;
     replica = same.replica ∙ h.1.replica;
     stored = same.stored ∙ h.1.stored;
@@ -65,17 +75,18 @@ stands_apart m old new j s (Up n f) same h = (
     suffix = h.1.suffix;
     executed = h.1.executed;
     pair = h.1.pair;
+    log = h.1.log;
+    started = h.1.started;
     placed = h.1.placed;
   },
 )
-stands_apart m old new j s (Down image) same h = (
+stands_apart m old new j s (Down left) same h = (
   h.0,
   record {
     pair = h.1.pair;
     found_is = h.1.found_is;
-    alone = h.1.alone;
     down = same.replica ∙ h.1.down;
-    stored = same.stored ∙ h.1.stored;
+    kept = kept_apart old new j h.1.pair.view left.journal same h.1.kept;
     nonces = λ x u. h.1.nonces x (ap (λ l. has_used x l) (sym same.nonces) ∙ u);
     placed = h.1.placed;
   },

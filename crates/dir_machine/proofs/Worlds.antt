@@ -2,19 +2,20 @@
 use Rattle.std.proofs.Common.{◌≡◌, ◌≢◌, ℕ, zero, suc, ◌-◌, ◌<◌, ◌≤◌, ◌==◌, nat_lt, nat_le, Bool, true, false, cond, ◌&&◌, ◌⊎◌, inl, inr, List, [], ◌∷◌, ◌++◌, length, take, Option, Some, None, slice_get, refl, sym, ap, ◌∙◌, subst, arith, eqb-true, eq-eqb, true≢false, lt-ltb, ltb-true, le-leb, leb-true}
 use Rattle.vr_state.proofs.Laws.{both_true}
 use Rattle.vr_state.specs.Lists.{IsPrefix}
-use Rattle.vr_state.specs.Outcome.{Outcome, to_all}
-use Rattle.vr_state.specs.State.{State, recovering}
+use Rattle.vr_state.specs.Outcome.{Outcome, idle, to_all}
+use Rattle.vr_state.specs.State.{State, recovering, resuming}
 use Rattle.vr_state.specs.Step.{step}
 use Rattle.vr_state.specs.Words.{LogEntry}
 use Rattle.vr_state.specs.declared.event.Event.TheVariants as event
+use Rattle.vr_state.specs.declared.message.Change.{Change}
 use Rattle.vr_state.specs.declared.message.PeerMessage.TheVariants.{Recovery}
 use Rattle.vr_state.specs.declared.message.Send.{Send}
 use Rattle.vr_world.proofs.Laws.{replicas_agree, run-append, steps_keep}
 use Rattle.vr_world.specs.Committed.{committed}
 use Rattle.vr_world.specs.Law.{IsSize}
-use Rattle.vr_world.specs.World.{World, after, crashed, delivered, happens, has_used, kept_of, made, posted, put, recovered, run, sent_as, start, stepped}
+use Rattle.vr_world.specs.World.{World, after, crashed, delivered, happens, has_used, kept_of, made, posted, put, recovered, resumed, run, sent_as, start, stepped}
 use Rattle.vr_world.specs.declared.events.WorldEvent.{WorldEvent}
-use Rattle.vr_world.specs.declared.events.WorldEvent.TheVariants.{Request, Deliver, Suspect, Beat, Crash, Recover}
+use Rattle.vr_world.specs.declared.events.WorldEvent.TheVariants.{Request, Deliver, Suspect, Beat, Crash, Recover, Resume}
 use Rattle.vr_world.specs.declared.words.Message.{Message}
 
 -- Places.
@@ -89,6 +90,7 @@ posted_has i (suc at) (t ∷ sends) ms s h = posted_has i at sends _ s h
 pub record SameAt {P : Type 0} (old new : World P) (j : ℕ) : Type 0 where
   pub replica : new.replicas j ≡ old.replicas j
   pub stored : new.stored j ≡ old.stored j
+  pub kept : new.kept j ≡ old.kept j
   pub nonces : new.nonces j ≡ old.nonces j
 
 -- Of a world to another: what happens at replica i leaves the others, and each message has its number.
@@ -97,13 +99,14 @@ pub record IsLater {P : Type 0} (old new : World P) (i : ℕ) : Type 0 where
   pub sent : (k : ℕ) (x : Message P) → sent_as k old.messages ≡ Some x → sent_as k new.messages ≡ Some x
 
 pub later_refl : {P : Type 0} (w : World P) (i : ℕ) → IsLater w w i
-later_refl w i = record { others = λ j ne. record { replica = refl; stored = refl; nonces = refl }; sent = λ k x h. h }
+later_refl w i = record { others = λ j ne. record { replica = refl; stored = refl; kept = refl; nonces = refl }; sent = λ k x h. h }
 
 pub later_trans : {P : Type 0} (a b c : World P) (i : ℕ) → IsLater a b i → IsLater b c i → IsLater a c i
 later_trans a b c i p q = record {
   others = λ j ne. record {
     replica = (q.others j ne).replica ∙ (p.others j ne).replica;
     stored = (q.others j ne).stored ∙ (p.others j ne).stored;
+    kept = (q.others j ne).kept ∙ (p.others j ne).kept;
     nonces = (q.others j ne).nonces ∙ (p.others j ne).nonces;
   };
   sent = λ k x h. q.sent k x (p.sent k x h);
@@ -112,7 +115,7 @@ later_trans a b c i p q = record {
 -- a step of replica i
 pub made_later : {P : Type 0} (i : ℕ) (d : Outcome P) (w : World P) → IsLater w (made i d w) i
 made_later i d w = record {
-  others = λ j ne. record { replica = put_there i j (Some d.state) w.replicas ne; stored = put_there i j d.state.view_number w.stored ne; nonces = refl };
+  others = λ j ne. record { replica = put_there i j (Some d.state) w.replicas ne; stored = put_there i j d.state.view_number w.stored ne; kept = refl; nonces = refl };
   sent = λ k x h. posted_keeps i k d.sends w.messages x h;
 }
 
@@ -145,6 +148,15 @@ recovered_with n i x w = made i (record { state = recovering n (w.stored i) x; s
 pub recovered_is : {P : Type 0} (n i x : ℕ) (w : World P) → i < n → w.replicas i ≡ None → has_used x (w.nonces i) ≡ false → happens n w (Recover i x) ≡ recovered_with n i x w
 recovered_is {P} n i x w lt down new =
     ap (λ b. cond b (recovered n i x (w.replicas i) w) w) (lt-ltb i n lt) ∙ ap (λ o. recovered n i x o w) down ∙ ap (λ b. cond b w (recovered_with n i x w)) new
+
+-- the world that a replica leaves that goes on from its journal
+abbrev pub resumed_with : {P : Type 0} → ℕ → ℕ → ℕ → Change P → World P → World P
+resumed_with n i k c w = made i (idle (resuming n (w.stored i) k c)) (record w { kept = put i None w.kept })
+
+-- A replica that is down goes on from its journal.
+pub resumed_is : {P : Type 0} (n i k : ℕ) (c : Change P) (w : World P) → i < n → w.replicas i ≡ None → w.kept i ≡ Some c → happens n w (Resume i k) ≡ resumed_with n i k c w
+resumed_is {P} n i k c w lt down kept =
+    ap (λ b. cond b (resumed n i k (w.replicas i) (w.kept i) w) w) (lt-ltb i n lt) ∙ ap (λ o. resumed n i k o (w.kept i) w) down ∙ ap (λ (o : Option (Change P)). resumed n i k None o w) kept
 
 -- The law, of a world that events lead to.
 pub record IsReached {P : Type 0} (n : ℕ) (w : World P) : Type 0 where

@@ -18,12 +18,13 @@ use Rattle.vr_state.specs.ClientTable.{latest}
 use Rattle.vr_state.specs.Lists.{EntryAt}
 use Rattle.vr_state.specs.State.{State, leads, primary}
 use Rattle.vr_state.specs.Words.{Client, LogEntry}
+use Rattle.vr_state.specs.declared.message.Change.{Change}
 use Rattle.vr_state.specs.declared.message.Outputs.{Outputs}
 use Rattle.vr_state.specs.declared.words.Latest.{Latest}
 use Rattle.vr_world.specs.Committed.{committed}
 use Rattle.vr_world.specs.World.{World, answered, happens, posted, run, sent_as}
 use Rattle.vr_world.specs.declared.events.WorldEvent.{WorldEvent}
-use Rattle.vr_world.specs.declared.events.WorldEvent.TheVariants.{Request, Deliver, Suspect, Beat, Crash, Recover}
+use Rattle.vr_world.specs.declared.events.WorldEvent.TheVariants.{Request, Deliver, Suspect, Beat, Crash, Recover, Resume}
 use Rattle.vr_world.specs.declared.words.Message.{Message}
 use Rattle.dir_machine.specs.Shown.{unborn, up, down, became_view, message_at, stage}
 use Rattle.dir_machine.specs.declared.events.Given.{Given}
@@ -104,6 +105,16 @@ pub record StartsAgain (n : ℕ) (before : List MachineReply) (i restarts : ℕ)
   pub gives : GivesOut n i out (Recover i restarts) w
   pub one : h ≡ Recover i restarts ∷ []
 
+-- A later start over a journal may go on as that has kept the replica, with some of what it had committed.
+pub record GoesOnOver (n : ℕ) (before : List MachineReply) (i : ℕ) (out : Outputs OpValue) (h : List (WorldEvent OpValue)) (w : World OpValue) : Type 0 where
+  pub again : stage before i ≡ down
+  pub kept : Change OpValue
+  pub is_kept : w.kept i ≡ Some kept
+  pub many : ℕ
+  pub low : many ≤ kept.commit_number
+  pub gives : GivesOut n i out (Resume i many) w
+  pub one : h ≡ Resume i many ∷ []
+
 -- A request is at one place of what is committed, that client's with that number, with that reply.
 pub record IsMadeIn (s : SchemaModel) (root : List RdnModel) (l : List (LogEntry OpValue)) (client : Client) (number place : ℕ) (reply : ReplyModel) : Type 0 where
   pub entry : LogEntry OpValue
@@ -162,12 +173,12 @@ MayHappen s root n before (event.GiveAll i gs) reply.Nothing h w = (h ≡ []) ×
 MayHappen s root n before (event.GiveAll i gs) (reply.Handled j outs behind) h w = (j ≡ i) × TakesEach n before i gs.items outs.items h w
 MayHappen s root n before (event.GiveAll i gs) (reply.Refused j e) h w = (j ≡ i) × (e ≡ NoMemory) × (h ≡ [])
 MayHappen s root n before (event.GiveAll i gs) (reply.Stopped j e) h w = (j ≡ i) × (e ≢ NoMemory) × EndsInside n before i gs.items h w
-MayHappen s root n before (event.Crash i fate) reply.Nothing h w = (h ≡ []) × IsAway n before i
-MayHappen s root n before (event.Crash i fate) (reply.Crashed j) h w = (j ≡ i) × (h ≡ Crash i ∷ [])
-MayHappen s root n before (event.Start i fault fate) reply.Nothing h w = (h ≡ []) × IsNotToStart n before i
-MayHappen s root n before (event.Start i fault fate) (reply.Started j restarts out) h w = (j ≡ i) × (StartsFirst before i restarts out h ⊎ StartsAgain n before i restarts out h w)
-MayHappen s root n before (event.Start i fault fate) (reply.Refused j e) h w = (j ≡ i) × (h ≡ [])
-MayHappen s root n before (event.Start i fault fate) (reply.Stopped j e) h w = (j ≡ i) × (h ≡ [])
+MayHappen s root n before (event.Crash i fates) reply.Nothing h w = (h ≡ []) × IsAway n before i
+MayHappen s root n before (event.Crash i fates) (reply.Crashed j) h w = (j ≡ i) × (h ≡ Crash i ∷ [])
+MayHappen s root n before (event.Start i faults fates) reply.Nothing h w = (h ≡ []) × IsNotToStart n before i
+MayHappen s root n before (event.Start i faults fates) (reply.Started j restarts out) h w = (j ≡ i) × (StartsFirst before i restarts out h ⊎ StartsAgain n before i restarts out h w ⊎ GoesOnOver n before i out h w)
+MayHappen s root n before (event.Start i faults fates) (reply.Refused j e) h w = (j ≡ i) × (h ≡ [])
+MayHappen s root n before (event.Start i faults fates) (reply.Stopped j e) h w = (j ≡ i) × (h ≡ [])
 MayHappen s root n before (event.Ask i client number) reply.Nothing h w = (h ≡ []) × IsAway n before i
 MayHappen s root n before (event.Ask i client number) (reply.Outcome j o) h w = (j ≡ i) × (h ≡ []) × IsByReplica n i w client number (became_view o) × IsDoneIn s root (committed n w.messages) client number (became_view o)
 MayHappen s root n before (event.Search i named q) reply.Nothing h w = (h ≡ []) × IsAway n before i

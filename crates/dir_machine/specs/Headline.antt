@@ -1,12 +1,14 @@
 -- What is promised of every schedule of a machine.
-use Rattle.std.specs.Prelude.{◌≡◌, ◌⊎◌, ◌≤◌, ℕ, List, [], ◌∷◌, ◌++◌, length, take, Some}
+use Rattle.std.specs.Prelude.{◌≡◌, ◌⊎◌, ◌<◌, ◌≤◌, ◌/◌, ℕ, Bool, true, List, [], ◌∷◌, ◌++◌, length, take, Some}
 use Rattle.state_machine.specs.dir_store.ldap_dn.Names.{RdnModel}
 use Rattle.state_machine.specs.dir_store.ldap_op.Values.{OpValue}
 use Rattle.state_machine.specs.dir_store.ldap_schema.Schema.{SchemaModel}
 use Rattle.vr_state.specs.Lists.{IsPrefix, Rising}
+use Rattle.vr_state.specs.Outcome.{count, indices}
 use Rattle.vr_state.specs.State.{State}
 use Rattle.vr_state.specs.Words.{LogEntry}
 use Rattle.vr_world.specs.Committed.{IsChosen, committed}
+use Rattle.vr_world.specs.Law.{IsHeld, TakesPart}
 use Rattle.vr_world.specs.World.{after, start}
 use Rattle.vr_world.specs.declared.events.WorldEvent.{WorldEvent}
 use Rattle.dir_machine.specs.Happening.{HappenInTurn}
@@ -23,7 +25,8 @@ abbrev pub committed_after : ℕ → List (WorldEvent OpValue) → List (LogEntr
 committed_after n es = committed n (after n es).messages
 
 -- What is committed after these events is one list: it begins with each list that is chosen in any view, of which one begins with the other; it only grows; it
--- begins with what each replica has committed, which its log has; and each client's request numbers rise along it, so that each request is there once at most.
+-- begins with what each replica has committed, which its log has; each client's request numbers rise along it, so that each request is there once at most; and
+-- of any majority of replicas that are up and don't recover, one has all of it, whatever ended before.
 pub record CommittedIsOneList (n : ℕ) (es : List (WorldEvent OpValue)) : Type 0 where
   pub agree : (a b : List (LogEntry OpValue)) → IsChosen n (after n es).messages a → IsChosen n (after n es).messages b → IsPrefix a b ⊎ IsPrefix b a
   pub longest : (a : List (LogEntry OpValue)) → IsChosen n (after n es).messages a → IsPrefix a (committed_after n es)
@@ -32,6 +35,7 @@ pub record CommittedIsOneList (n : ℕ) (es : List (WorldEvent OpValue)) : Type 
   pub replicas : (i : ℕ) (r : State OpValue) → (after n es).replicas i ≡ Some r → IsPrefix (take r.commit_number r.log) (committed_after n es)
   pub held : (i : ℕ) (r : State OpValue) → (after n es).replicas i ≡ Some r → r.commit_number ≤ length r.log
   pub rising : Rising (committed_after n es)
+  pub majorities : (quorum : ℕ → Bool) → n / 2 < count quorum (indices n) → ((j : ℕ) → quorum j ≡ true → TakesPart (after n es) j) → IsHeld (after n es) (committed_after n es)
 
 -- There is one list of what happened in the world: the schedule gives it in turn, as what is shown says, and what is committed after it is one list.
 pub record IsWhole (s : SchemaModel) (root : List RdnModel) (n : ℕ) (schedule : List MachineEvent) (shown : List MachineReply) : Type 0 where

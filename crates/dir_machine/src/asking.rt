@@ -35,11 +35,11 @@ pub fn ask(
     ensures { IfOk result (λ x. IsAnswered replica client number process.now x) }
 {
     match process {
-        Process::Up { node, fate: _ } => Ok(MachineReply::Outcome {
+        Process::Up { node, fates: _ } => Ok(MachineReply::Outcome {
             replica,
             became: became(alloc, node.outcome(client, number))?,
         }),
-        Process::Unborn { image: _ } | Process::Down { image: _ } => Ok(MachineReply::Nothing),
+        Process::Unborn { image: _ } | Process::Down { left: _ } => Ok(MachineReply::Nothing),
     }
 }
 
@@ -48,13 +48,13 @@ pub fn tell(process: &Process, replica: u64) -> MachineReply
     ensures { IsToldOf replica process.now result }
 {
     match process {
-        Process::Up { node, fate: _ } => MachineReply::Standing {
+        Process::Up { node, fates: _ } => MachineReply::Standing {
             replica,
             view_number: node.view_number(),
             standing: node.standing(),
             op_number: node.log_len(),
             commit_number: node.commit_number(),
         },
-        Process::Unborn { image: _ } | Process::Down { image: _ } => MachineReply::Nothing,
+        Process::Unborn { image: _ } | Process::Down { left: _ } => MachineReply::Nothing,
     }
 }

@@ -2,6 +2,7 @@
 
 use dir_node::{Client, LogEntry, Op};
 use dir_search::{CompareRequest, SearchRequest};
+use journal::{Fate as JournalFate, Fault as JournalFault};
 use view_store::{Fate, Fault};
 
 /// A message that a node gave out: at the event of this index of the schedule, in this part of it, at this place among its sends; each from 0. An event that
@@ -11,6 +12,24 @@ pub struct Place {
     pub event: u64,
     pub part: u64,
     pub send: u64,
+}
+
+/// What becomes, as a process ends, of what it wrote on each of its devices and no sync settled.
+#[derive(Clone, Copy, Debug, PartialEq, Eq)]
+pub struct Fates {
+    /// On the pair's device.
+    pub pair: Fate,
+    /// On the journal's, where there is one.
+    pub journal: JournalFate,
+}
+
+/// Which calls of a process's devices fail, counted from its start on.
+#[derive(Clone, Copy, Debug, PartialEq, Eq)]
+pub struct Faults {
+    /// Of the pair's device.
+    pub pair: Fault,
+    /// Of the journal's, where there is one.
+    pub journal: JournalFault,
 }
 
 /// What a node is given.
@@ -39,18 +58,18 @@ pub enum MachineEvent {
         replica: u64,
         given: Vec<Given>,
     },
-    /// A process that is up ends; what it wrote and no sync settled has this fate.
+    /// A process that is up ends; what it wrote and no sync settled has these fates.
     Crash {
         replica: u64,
-        fate: Fate,
+        fates: Fates,
     },
-    /// A process that isn't up starts over what its device holds: until a start has succeeded, for the first time. Its device fails at
-    /// the call that the fault names, counted from this start on. The process ends there, in whatever call of its node that is; what it
-    /// wrote and no sync settled has this fate then.
+    /// A process that isn't up starts over what its devices hold: until a start has succeeded, for the first time, over an empty journal.
+    /// Its devices fail at the calls that the faults name. The process ends there, in whatever call of its node that is; what it wrote and
+    /// no sync settled has these fates then.
     Start {
         replica: u64,
-        fault: Fault,
-        fate: Fate,
+        faults: Faults,
+        fates: Fates,
     },
     /// A node that is up is asked what became of a client's request.
     Ask {

@@ -3,25 +3,25 @@ ghost use Rattle.std.specs.Prelude.{[], ◌∷◌, IfOk};
 ghost use Rattle.dir_machine.specs.private.Processes.{IsGiven, IsStopped};
 
 use crate::crashing::left_of;
+use crate::events::Fates;
 use crate::process::{MemoryNode, Process};
 use crate::replies::MachineReply;
 use dir_node::{AllHandled, Event, Handled, NodeError, Op};
 use std::alloc::{AllocError, Global};
-use view_store::Fate;
 
 /// The process of a node whose device failed inside a call: it ends there. Its only error is want of memory for what is left.
 fn stopped(
     alloc: Global,
     node: MemoryNode,
-    fate: Fate,
+    fates: Fates,
     replica: u64,
     error: NodeError,
 ) -> Result<(Process, MachineReply), AllocError>
-    ensures { IfOk result (λ x. IsStopped replica node.device error x.0 x.1) }
+    ensures { IfOk result (λ x. IsStopped replica node error x.0 x.1) }
 {
-    let image = left_of(alloc, node, fate)?;
+    let left = left_of(alloc, node, fates)?;
     Ok((
-        Process::Down { image },
+        Process::Down { left },
         MachineReply::Stopped { replica, error },
     ))
 }
@@ -36,7 +36,7 @@ pub fn give_one(
     ensures { IfOk result (λ x. IsGiven replica (event ∷ []) process x.0 x.1) }
 {
     match process {
-        Process::Up { node, fate } => {
+        Process::Up { node, fates } => {
             let mut node = node;
             match node.handle(alloc, event) {
                 Ok(handled) => {
@@ -44,7 +44,7 @@ pub fn give_one(
                     let mut given = Vec::new(alloc);
                     given.push(Ok(outputs))?;
                     Ok((
-                        Process::Up { node, fate },
+                        Process::Up { node, fates },
                         MachineReply::Handled {
                             replica,
                             given,
@@ -53,17 +53,17 @@ pub fn give_one(
                     ))
                 }
                 Err(NodeError::NoMemory) => Ok((
-                    Process::Up { node, fate },
+                    Process::Up { node, fates },
                     MachineReply::Refused {
                         replica,
                         error: NodeError::NoMemory,
                     },
                 )),
-                Err(error) => stopped(alloc, node, fate, replica, error),
+                Err(error) => stopped(alloc, node, fates, replica, error),
             }
         }
         Process::Unborn { image } => Ok((Process::Unborn { image }, MachineReply::Nothing)),
-        Process::Down { image } => Ok((Process::Down { image }, MachineReply::Nothing)),
+        Process::Down { left } => Ok((Process::Down { left }, MachineReply::Nothing)),
     }
 }
 
@@ -77,13 +77,13 @@ pub fn give_all(
     ensures { IfOk result (λ x. IsGiven replica events.items process x.0 x.1) }
 {
     match process {
-        Process::Up { node, fate } => {
+        Process::Up { node, fates } => {
             let mut node = node;
             match node.handle_all(alloc, events) {
                 Ok(handled) => {
                     let AllHandled { outputs, behind } = handled;
                     Ok((
-                        Process::Up { node, fate },
+                        Process::Up { node, fates },
                         MachineReply::Handled {
                             replica,
                             given: outputs,
@@ -92,16 +92,16 @@ pub fn give_all(
                     ))
                 }
                 Err(NodeError::NoMemory) => Ok((
-                    Process::Up { node, fate },
+                    Process::Up { node, fates },
                     MachineReply::Refused {
                         replica,
                         error: NodeError::NoMemory,
                     },
                 )),
-                Err(error) => stopped(alloc, node, fate, replica, error),
+                Err(error) => stopped(alloc, node, fates, replica, error),
             }
         }
         Process::Unborn { image } => Ok((Process::Unborn { image }, MachineReply::Nothing)),
-        Process::Down { image } => Ok((Process::Down { image }, MachineReply::Nothing)),
+        Process::Down { left } => Ok((Process::Down { left }, MachineReply::Nothing)),
     }
 }

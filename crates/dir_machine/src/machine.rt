@@ -24,6 +24,8 @@ pub struct Machine {
     pub count: u64,
     /// How many calls a device has room to record; one past that fails.
     pub room: usize,
+    /// Whether each replica keeps a journal.
+    pub journaled: bool,
 }
 
 // Not derived: see "What the gate takes" in docs/ARCHITECTURE.md.
@@ -36,6 +38,7 @@ impl Drop for Machine {
             cluster: _,
             count: _,
             room: _,
+            journaled: _,
         } = self;
     }
 }
@@ -48,8 +51,8 @@ impl Machine {
         schedule: Vec<MachineEvent>,
     ) -> Result<Vec<MachineReply>, AllocError>
         // For 2f + 1 replicas there is a list of world events that the schedule gives in turn, as what is shown says: each event that a node took is one of
-        // them. What is committed after it is one list, which only grows. What a search or a compare finds is what it finds after some first of the updates
-        // that are committed by then, no fewer than it named.
+        // them. What is committed after it is one list, which only grows, also where all processes end at once. What a search or a compare finds is what it
+        // finds after some first of the updates that are committed by then, no fewer than it named.
         ensures whole { IfOk result (λ shown. IsSize self.now.count
             → IsWhole (arc_value self.now.schema) self.now.suffix self.now.count schedule.items shown.items) }
     {

@@ -42,7 +42,7 @@ pub fn search(
     ensures { IsSearched replica named (search_view request.now) process.now result }
 {
     match process {
-        Process::Up { node, fate: _ } => {
+        Process::Up { node, fates: _ } => {
             let number = node.executed_len() as u64;
             if number < named {
                 return MachineReply::NotYet { replica, number };
@@ -59,7 +59,7 @@ pub fn search(
                 },
             }
         }
-        Process::Unborn { image: _ } | Process::Down { image: _ } => MachineReply::Nothing,
+        Process::Unborn { image: _ } | Process::Down { left: _ } => MachineReply::Nothing,
     }
 }
 
@@ -74,7 +74,7 @@ pub fn compare(
     ensures { IsCompared replica named (compare_view request.now) process.now result }
 {
     match process {
-        Process::Up { node, fate: _ } => {
+        Process::Up { node, fates: _ } => {
             let number = node.executed_len() as u64;
             if number < named {
                 return MachineReply::NotYet { replica, number };
@@ -91,6 +91,6 @@ pub fn compare(
                 },
             }
         }
-        Process::Unborn { image: _ } | Process::Down { image: _ } => MachineReply::Nothing,
+        Process::Unborn { image: _ } | Process::Down { left: _ } => MachineReply::Nothing,
     }
 }

@@ -2,11 +2,11 @@
 ghost use Rattle.std.specs.Prelude.{◌≡◌, ◌++◌, ◌∷◌, ◌<◌, [], List, IfOk, OnOk, length};
 ghost use Rattle.dir_machine.specs.declared.events.MachineEvent.TheVariants as kinds;
 ghost use Rattle.dir_machine.specs.private.Processes.{IsNew};
-ghost use Rattle.dir_machine.specs.private.Running.{AreNew, GoesOn, IsNothingShown};
+ghost use Rattle.dir_machine.specs.private.Running.{AreNew, GoesOn, IsNothingShown, Laws};
 
 use crate::asking::{ask, tell};
 use crate::crashing::crash;
-use crate::events::{Given, MachineEvent};
+use crate::events::{Fates, Faults, Given, MachineEvent};
 use crate::giving::{give_all, give_one};
 use crate::machine::Machine;
 use crate::network::{asked, asked_all};
@@ -16,9 +16,9 @@ use crate::replies::MachineReply;
 use crate::starting::start;
 use dir_node::{Client, Op};
 use dir_search::{CompareRequest, SearchRequest};
+use log_journal::one_is_told;
 use std::alloc::{AllocError, Global};
 use std::mem::replace;
-use view_store::{Fate, Fault};
 use vr_state::each_step;
 
 /// What a run has so far.
@@ -70,6 +70,14 @@ fn show_nothing(run: &mut Running) -> Result<(), AllocError>
     Ok(())
 }
 
+/// The laws of journals and of steps that a process which ends or starts again rests on.
+fn laws()
+    ensures { Laws }
+{
+    each_step::<Op>();
+    one_is_told();
+}
+
 /// A node that is up handles one event. Its only error is want of memory.
 fn give(
     alloc: Global,
@@ -87,6 +95,7 @@ fn give(
     match asked(alloc, run.shown.as_slice(), replica, given)? {
         None => show_nothing(run),
         Some(event) => {
+            laws();
             let before = replace(&mut run.processes[replica as usize], no_process(alloc));
             let (after, reply) = give_one(alloc, before, replica, event)?;
             run.processes[replica as usize] = after;
@@ -113,6 +122,7 @@ fn give_batch(
     match asked_all(alloc, run.shown.as_slice(), replica, given)? {
         None => show_nothing(run),
         Some(events) => {
+            laws();
             let before = replace(&mut run.processes[replica as usize], no_process(alloc));
             let (after, reply) = give_all(alloc, before, replica, events)?;
             run.processes[replica as usize] = after;
@@ -128,16 +138,17 @@ fn end(
     machine: &Machine,
     run: &mut Running,
     replica: u64,
-    fate: Fate,
+    fates: Fates,
 ) -> Result<(), AllocError>
     requires { length run.old.processes.items ≡ machine.now.count }
-    ensures { OnOk result (GoesOn machine.now (kinds.Crash replica fate) run.old run.new) }
+    ensures { OnOk result (GoesOn machine.now (kinds.Crash replica fates) run.old run.new) }
 {
     if machine.count <= replica {
         return show_nothing(run);
     }
+    laws();
     let before = replace(&mut run.processes[replica as usize], no_process(alloc));
-    let (after, reply) = crash(alloc, before, replica, fate)?;
+    let (after, reply) = crash(alloc, before, replica, fates)?;
     run.processes[replica as usize] = after;
     run.shown.push(reply)?;
     Ok(())
@@ -149,17 +160,18 @@ fn start_one(
     machine: &Machine,
     run: &mut Running,
     replica: u64,
-    fault: Fault,
-    fate: Fate,
+    faults: Faults,
+    fates: Fates,
 ) -> Result<(), AllocError>
     requires { length run.old.processes.items ≡ machine.now.count }
-    ensures { OnOk result (GoesOn machine.now (kinds.Start replica fault fate) run.old run.new) }
+    ensures { OnOk result (GoesOn machine.now (kinds.Start replica faults fates) run.old run.new) }
 {
     if machine.count <= replica {
         return show_nothing(run);
     }
+    laws();
     let before = replace(&mut run.processes[replica as usize], no_process(alloc));
-    let (after, reply) = start(alloc, machine, before, replica, fault, fate)?;
+    let (after, reply) = start(alloc, machine, before, replica, faults, fates)?;
     run.processes[replica as usize] = after;
     run.shown.push(reply)?;
     Ok(())
@@ -270,12 +282,12 @@ pub fn take_event(
     match event {
         MachineEvent::Give { replica, given } => give(alloc, machine, run, replica, given),
         MachineEvent::GiveAll { replica, given } => give_batch(alloc, machine, run, replica, given),
-        MachineEvent::Crash { replica, fate } => end(alloc, machine, run, replica, fate),
+        MachineEvent::Crash { replica, fates } => end(alloc, machine, run, replica, fates),
         MachineEvent::Start {
             replica,
-            fault,
-            fate,
-        } => start_one(alloc, machine, run, replica, fault, fate),
+            faults,
+            fates,
+        } => start_one(alloc, machine, run, replica, faults, fates),
         MachineEvent::Ask {
             replica,
             client,

@@ -1,16 +1,19 @@
 //! Starts a process: for the first time, or again over what its device holds.
-ghost use Rattle.std.specs.Prelude.{◌≡◌, ◌<◌, IfOk};
+ghost use Rattle.std.specs.Prelude.{◌≡◌, ◌<◌, Some, None, IfOk};
 ghost use Rattle.std.specs.Arc.{arc_value};
 ghost use Rattle.dir_machine.specs.declared.process.Process.TheVariants.{Down, Unborn};
 ghost use Rattle.dir_machine.specs.private.Processes.{IsRefusal, IsStarted};
 
+use crate::crashing::left_on;
+use crate::events::{Fates, Faults};
 use crate::machine::Machine;
-use crate::process::Process;
+use crate::process::{Left, Process};
 use crate::replies::MachineReply;
-use dir_node::{Node, NodeConfig, NodeError, Refused, ViewStoreError};
+use dir_node::{Node, NodeConfig, NodeError, NoteError, Refused, ViewStoreError};
+use journal::Fault as JournalFault;
 use std::alloc::{AllocError, Global};
 use std::sync::Arc;
-use view_store::{Fate, Fault, MemoryDevice};
+use view_store::MemoryDevice;
 
 /// The configuration of a replica. Its only error is want of memory.
 fn config(alloc: Global, machine: &Machine, replica: u64) -> Result<NodeConfig, AllocError>
@@ -38,30 +41,46 @@ fn refusal(replica: u64, error: NodeError) -> MachineReply
     ensures { IsRefusal replica result }
 {
     match error {
-        NodeError::Store(ViewStoreError::DeviceFailed) => MachineReply::Stopped { replica, error },
+        NodeError::Store(ViewStoreError::DeviceFailed)
+        | NodeError::Journal(NoteError::DeviceFailed) => MachineReply::Stopped { replica, error },
         _ => MachineReply::Refused { replica, error },
     }
 }
 
-/// A process starts for the first time: whatever its device holds is written over. Its only error is want of memory.
+/// The journal's device of a first start, which is empty; none where replicas keep no journal. Its only error is want of memory.
+fn first_journal(
+    alloc: Global,
+    machine: &Machine,
+    fault: JournalFault,
+) -> Result<Option<journal::MemoryDevice>, AllocError> {
+    if machine.journaled {
+        let device = journal::MemoryDevice::new(alloc, Vec::new(alloc), machine.room, fault)?;
+        Ok(Some(device))
+    } else {
+        Ok(None)
+    }
+}
+
+/// A process starts for the first time: whatever the pair's device holds is written over. Its only error is want of memory.
 fn start_first(
     alloc: Global,
     machine: &Machine,
     replica: u64,
     image: Vec<u8>,
-    fault: Fault,
-    fate: Fate,
+    faults: Faults,
+    fates: Fates,
 ) -> Result<(Process, MachineReply), AllocError>
     requires { replica < machine.now.count }
     ensures { IfOk result (λ x. IsStarted machine.now replica (Unborn image) x.0 x.1) }
 {
     let config = config(alloc, machine, replica)?;
-    let device = MemoryDevice::new(alloc, image, machine.room, fault)?;
-    match Node::fresh(alloc, device, None, config) {
+    let device = MemoryDevice::new(alloc, image, machine.room, faults.pair)?;
+    let journal = first_journal(alloc, machine, faults.journal)?;
+    match Node::fresh(alloc, device, journal, config) {
         Ok((node, outputs)) => {
             let restarts = node.restarts();
             Ok((
-                Process::Up { node, fate },
+                Process::Up { node, fates },
                 MachineReply::Started {
                     replica,
                     restarts,
@@ -75,31 +94,31 @@ fn start_first(
                 device,
                 journal: _,
             } = refused;
-            let image = device.left_by_crash(alloc, fate)?;
+            let image = device.left_by_crash(alloc, fates.pair)?;
             Ok((Process::Unborn { image }, refusal(replica, error)))
         }
     }
 }
 
-/// A process starts again over what its device holds. Its only error is want of memory.
-fn start_again(
+/// A process without a journal starts again over what its device holds. Its only error is want of memory.
+fn start_alone(
     alloc: Global,
     machine: &Machine,
     replica: u64,
     image: Vec<u8>,
-    fault: Fault,
-    fate: Fate,
+    faults: Faults,
+    fates: Fates,
 ) -> Result<(Process, MachineReply), AllocError>
     requires { replica < machine.now.count }
-    ensures { IfOk result (λ x. IsStarted machine.now replica (Down image) x.0 x.1) }
+    ensures { IfOk result (λ x. IsStarted machine.now replica (Down (record { image = image; journal = None })) x.0 x.1) }
 {
     let config = config(alloc, machine, replica)?;
-    let device = MemoryDevice::new(alloc, image, machine.room, fault)?;
+    let device = MemoryDevice::new(alloc, image, machine.room, faults.pair)?;
     match Node::reopen(alloc, device, None, config) {
         Ok((node, outputs)) => {
             let restarts = node.restarts();
             Ok((
-                Process::Up { node, fate },
+                Process::Up { node, fates },
                 MachineReply::Started {
                     replica,
                     restarts,
@@ -113,9 +132,72 @@ fn start_again(
                 device,
                 journal: _,
             } = refused;
-            let image = device.left_by_crash(alloc, fate)?;
-            Ok((Process::Down { image }, refusal(replica, error)))
+            let image = device.left_by_crash(alloc, fates.pair)?;
+            let left = Left {
+                image,
+                journal: None,
+            };
+            Ok((Process::Down { left }, refusal(replica, error)))
         }
+    }
+}
+
+/// A process starts again over its journal and what its device holds. Its only error is want of memory.
+fn start_over(
+    alloc: Global,
+    machine: &Machine,
+    replica: u64,
+    image: Vec<u8>,
+    octets: Vec<u8>,
+    faults: Faults,
+    fates: Fates,
+) -> Result<(Process, MachineReply), AllocError>
+    requires { replica < machine.now.count }
+    ensures { IfOk result (λ x. IsStarted machine.now replica (Down (record { image = image; journal = Some octets })) x.0 x.1) }
+{
+    let config = config(alloc, machine, replica)?;
+    let device = MemoryDevice::new(alloc, image, machine.room, faults.pair)?;
+    let journal = journal::MemoryDevice::new(alloc, octets, machine.room, faults.journal)?;
+    match Node::reopen(alloc, device, Some(journal), config) {
+        Ok((node, outputs)) => {
+            let restarts = node.restarts();
+            Ok((
+                Process::Up { node, fates },
+                MachineReply::Started {
+                    replica,
+                    restarts,
+                    outputs,
+                },
+            ))
+        }
+        Err(refused) => {
+            let Refused {
+                error,
+                device,
+                journal,
+            } = refused;
+            let left = left_on(alloc, &device, &journal, fates)?;
+            Ok((Process::Down { left }, refusal(replica, error)))
+        }
+    }
+}
+
+/// A process starts again over what its devices hold. Its only error is want of memory.
+fn start_again(
+    alloc: Global,
+    machine: &Machine,
+    replica: u64,
+    left: Left,
+    faults: Faults,
+    fates: Fates,
+) -> Result<(Process, MachineReply), AllocError>
+    requires { replica < machine.now.count }
+    ensures { IfOk result (λ x. IsStarted machine.now replica (Down left) x.0 x.1) }
+{
+    let Left { image, journal } = left;
+    match journal {
+        None => start_alone(alloc, machine, replica, image, faults, fates),
+        Some(octets) => start_over(alloc, machine, replica, image, octets, faults, fates),
     }
 }
 
@@ -125,15 +207,15 @@ pub fn start(
     machine: &Machine,
     process: Process,
     replica: u64,
-    fault: Fault,
-    fate: Fate,
+    faults: Faults,
+    fates: Fates,
 ) -> Result<(Process, MachineReply), AllocError>
     requires { replica < machine.now.count }
     ensures { IfOk result (λ x. IsStarted machine.now replica process x.0 x.1) }
 {
     match process {
-        Process::Unborn { image } => start_first(alloc, machine, replica, image, fault, fate),
-        Process::Down { image } => start_again(alloc, machine, replica, image, fault, fate),
-        Process::Up { node, fate } => Ok((Process::Up { node, fate }, MachineReply::Nothing)),
+        Process::Unborn { image } => start_first(alloc, machine, replica, image, faults, fates),
+        Process::Down { left } => start_again(alloc, machine, replica, left, faults, fates),
+        Process::Up { node, fates } => Ok((Process::Up { node, fates }, MachineReply::Nothing)),
     }
 }

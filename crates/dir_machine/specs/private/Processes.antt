@@ -1,13 +1,18 @@
 -- What is made of one process at one call.
-use Rattle.std.specs.Prelude.{◌≡◌, ◌≢◌, ◌⊎◌, ℕ, ◌<◌, ◌≤◌, Bool, false, List, [], length, Result, is_some}
+use Rattle.std.specs.Prelude.{◌≡◌, ◌≢◌, ◌⊎◌, ℕ, ◌+◌, ◌<◌, ◌≤◌, Bool, false, List, [], length, Option, Some, None, Vec, Result}
+use Rattle.std.specs.Global.{Global}
 use Rattle.std.specs.Arc.{arc_value}
 use Rattle.std.specs.declared.alloc.AllocError.{AllocError}
 use Rattle.dir_node.specs.Handling.{MakesSteps}
-use Rattle.dir_node.specs.NodeState.{CatchesUp, IsOwn, IsSameNode, KeepsPair, NodeValue, given, pair_of, started_pair}
+use Rattle.dir_node.specs.Logged.{IsBegun, device_in}
+use Rattle.dir_node.specs.NodeState.{CatchesUp, IsSameNode, KeepsLog, KeepsPair, NodeValue, given, head, pair_of}
+use Rattle.dir_node.specs.Restarting.{IsRestart, Restart}
+use Rattle.dir_node.specs.declared.owner.Owner.{Owner}
 use Rattle.dir_node.specs.Outcomes.{outcome_of, standing_of}
 use Rattle.dir_node.specs.declared.error.NodeError.{NodeError}
 use Rattle.dir_node.specs.declared.error.NodeError.TheVariants.{NoMemory}
 use Rattle.dir_node.specs.log_journal.Taken.{MakesSome}
+use Rattle.dir_node.specs.log_journal.Told.{Told, Tells, nothing_told}
 use Rattle.dir_node.specs.log_journal.vr_recover.Rules.{recovers}
 use Rattle.dir_search.specs.Answer.{answer}
 use Rattle.dir_search.specs.Compared.{compared}
@@ -16,17 +21,21 @@ use Rattle.dir_search.specs.indexed_tree.Directory.{Directory}
 use Rattle.dir_search.specs.ldap_msg.Messages.{CompareRequestValue, SearchRequestValue}
 use Rattle.state_machine.specs.Executing.{directory_at, due_after}
 use Rattle.state_machine.specs.dir_store.ldap_op.Values.{OpValue}
+use Rattle.journal.specs.Frames.{recorded}
 use Rattle.journal.specs.Memory as journals
 use Rattle.view_store.specs.Memory.{MemoryModel, MayLeave, seen_after}
+use Rattle.view_store.specs.declared.slot.Pair.{Pair}
 use Rattle.view_store.specs.Slots.{IsWellPlaced, found, own}
 use Rattle.view_store.specs.Store.{IsFormerOrNew}
+use Rattle.vr_state.specs.Journaled.{Kept, IsKeptOf}
 use Rattle.vr_state.specs.Outcome.{idle}
-use Rattle.vr_state.specs.State.{State, first, recovering}
+use Rattle.vr_state.specs.State.{State, first}
 use Rattle.vr_state.specs.Words.{Client}
 use Rattle.vr_state.specs.declared.event.Event.{Event}
 use Rattle.vr_state.specs.declared.message.Outputs.{Outputs}
 use Rattle.dir_machine.specs.Shown.{became_view}
 use Rattle.dir_machine.specs.declared.machine.Machine.{Machine}
+use Rattle.dir_machine.specs.declared.process.Left.{Left}
 use Rattle.dir_machine.specs.declared.process.Process.{Process}
 use Rattle.dir_machine.specs.declared.process.Process.TheVariants.{Unborn, Up, Down}
 use Rattle.dir_machine.specs.declared.replies.MachineReply.{MachineReply}
@@ -39,6 +48,27 @@ MemoryNode = NodeValue MemoryModel journals.MemoryModel
 -- every crash leaves the node's pair
 abbrev pub KeepsIt : MemoryNode → Type 0
 KeepsIt n = KeepsPair (λ d. MayLeave d.base d.events) n
+
+-- every crash leaves a journal that tells the node, where it keeps one
+abbrev pub LogsIt : MemoryNode → Type 0
+LogsIt n = KeepsLog (λ j. journals.MayLeave j.base j.events) n
+
+-- A journal's octets are what a crash may leave of its device, where there is one.
+abbrev pub IsJournalLeft : Option journals.MemoryModel → Option (Vec ℕ Global) → Type 0
+IsJournalLeft None None = Unit {0}
+IsJournalLeft (Some j) (Some octets) = journals.MayLeave j.base j.events octets.items
+IsJournalLeft _ _ = ⊥
+
+-- Strings tell a replica's state below the head of t.
+pub record IsKeptIn (t : Told) (r : State OpValue) (strings : List (List ℕ)) : Type 0 where
+  pub kept : Kept OpValue
+  pub tells : Tells nothing_told strings (record t { kept = kept })
+  pub of : IsKeptOf kept r
+
+-- Where there is a journal, its octets tell this state below this head.
+abbrev pub TellsIn : Told → State OpValue → Option (Vec ℕ Global) → Type 0
+TellsIn t r None = Unit {0}
+TellsIn t r (Some octets) = IsKeptIn t r (recorded octets.items)
 
 -- What the device gives, and what a crash may leave of it, is as stores leave it.
 pub record IsPlaced (d : MemoryModel) : Type 0 where
@@ -54,44 +84,53 @@ pub record Took (events : List (Event OpValue)) (old new : MemoryNode) (outs : L
   pub steps : MakesSteps old.count old.index old.replica events outs new.replica
   pub executed : CatchesUp behind old.executed.records (due_after (length old.executed.records) new.replica.commit_number new.replica.log) new.executed.records
   pub pair : KeepsIt new
+  pub log : LogsIt new
   pub running : new.is_halted ≡ false
   pub same : IsSameNode old new
   pub placed : old.is_halted ≡ false → HeldPlaced old.device → IsPlaced new.device
 
--- A node's process ended inside a call: the node took some first of these events, and the device holds the pair from before them or from after.
-pub record EndedInside (events : List (Event OpValue)) (old : MemoryNode) (image : List ℕ) : Type 0 where
+-- A node's process ended inside a call: the node took some first of these events, the pair's device holds the pair from before them or from after, and
+-- the journal, where there is one, tells the replica after them.
+pub record EndedInside (events : List (Event OpValue)) (old : MemoryNode) (left : Left) : Type 0 where
   pub replica : State OpValue
   pub steps : MakesSome old.count old.index old.replica events replica
-  pub pair : IsFormerOrNew old.cluster (own (pair_of old)) (record (pair_of old) { view = replica.view_number }) image
+  pub pair : (found old.cluster left.image.items ≡ own (pair_of old)) ⊎ (found old.cluster left.image.items ≡ own (record (pair_of old) { view = replica.view_number }))
+  pub placed : IsWellPlaced left.image.items
+  pub log : TellsIn (head old) replica left.journal
 
 -- A process was never up.
 abbrev pub IsNew : Process → Type 0
 IsNew (Unborn image) = Unit {0}
 IsNew _ = ⊥
 
--- A process ended since its device failed: it is down, over what a crash may leave of that device.
-abbrev pub IsStopped : ℕ → MemoryModel → NodeError → Process → MachineReply → Type 0
-IsStopped i d error (Down image) (reply.Stopped j e) = (j ≡ i) × (e ≡ error) × MayLeave d.base d.events image.items
-IsStopped i d error _ _ = ⊥
+-- What is left is what a crash may leave of a node's devices.
+pub record IsLeftOf (n : MemoryNode) (left : Left) : Type 0 where
+  pub image : MayLeave n.device.base n.device.events left.image.items
+  pub journal : IsJournalLeft (device_in n.journal) left.journal
+
+-- A process ended since a device failed: it is down, over what a crash may leave of the node's devices.
+abbrev pub IsStopped : ℕ → MemoryNode → NodeError → Process → MachineReply → Type 0
+IsStopped i n error (Down left) (reply.Stopped j e) = (j ≡ i) × (e ≡ error) × IsLeftOf n left
+IsStopped i n error _ _ = ⊥
 
 -- Replica i's process is given these events.
 abbrev pub IsGiven : ℕ → List (Event OpValue) → Process → Process → MachineReply → Type 0
 IsGiven i events (Up old f) (Up new g) (reply.Handled j outs behind) = (j ≡ i) × Took events old new outs.items behind
 IsGiven i events (Up old f) (Up new g) (reply.Refused j e) = (j ≡ i) × (e ≡ NoMemory) × (new ≡ old)
-IsGiven i events (Up old f) (Down image) (reply.Stopped j e) =
-    (j ≡ i) × (e ≢ NoMemory) × (old.is_halted ≡ false → HeldPlaced old.device → EndedInside events old image.items)
-IsGiven i events (Down old) (Down new) reply.Nothing = new.items ≡ old.items
+IsGiven i events (Up old f) (Down left) (reply.Stopped j e) =
+    (j ≡ i) × (e ≢ NoMemory) × (old.is_halted ≡ false → HeldPlaced old.device → KeepsIt old → EndedInside events old left)
+IsGiven i events (Down old) (Down new) reply.Nothing = new ≡ old
 IsGiven i events (Unborn old) (Unborn new) reply.Nothing = Unit {0}
 IsGiven i events _ _ _ = ⊥
 
 -- Replica i's process ends, if it is up.
 abbrev pub IsEnded : ℕ → Process → Process → MachineReply → Type 0
-IsEnded i (Up old f) (Down image) (reply.Crashed j) = (j ≡ i) × MayLeave old.device.base old.device.events image.items
-IsEnded i (Down old) (Down new) reply.Nothing = new.items ≡ old.items
+IsEnded i (Up old f) (Down left) (reply.Crashed j) = (j ≡ i) × IsLeftOf old left
+IsEnded i (Down old) (Down new) reply.Nothing = new ≡ old
 IsEnded i (Unborn old) (Unborn new) reply.Nothing = Unit {0}
 IsEnded i _ _ _ = ⊥
 
--- A node as it is made for replica i of a machine: this state, nothing executed, no journal.
+-- A node as it is made for replica i of a machine: this state, nothing executed.
 pub record IsBorn (m : Machine) (i : ℕ) (r : State OpValue) (restarts : ℕ) (n : MemoryNode) : Type 0 where
   pub index : n.index ≡ i
   pub count : n.count ≡ m.count
@@ -102,8 +141,8 @@ pub record IsBorn (m : Machine) (i : ℕ) (r : State OpValue) (restarts : ℕ) (
   pub records : n.executed.records ≡ []
   pub restarts_is : n.restarts ≡ restarts
   pub running : n.is_halted ≡ false
-  pub alone : is_some n.journal ≡ false
   pub pair : KeepsIt n
+  pub log : LogsIt n
 
 -- What is shown of a start of replica i that was refused.
 abbrev pub IsRefusal : ℕ → MachineReply → Type 0
@@ -111,20 +150,60 @@ IsRefusal i (reply.Refused j e) = j ≡ i
 IsRefusal i (reply.Stopped j e) = j ≡ i
 IsRefusal i _ = ⊥
 
--- A start that was refused leaves what the device held, or the pair from before it or from after it.
-abbrev pub IsLeftByStart : ℕ → (old new : List ℕ) → Type 0
-IsLeftByStart cluster old new = (new ≡ old) ⊎ IsFormerOrNew cluster (found cluster old) (started_pair (found cluster old)) new
+-- who owns the journal of a machine's replica
+abbrev pub owner : Machine → ℕ → Owner
+owner m i = record { cluster = m.cluster; index = i; count = m.count }
+
+-- a later start without a journal: the replica recovers in its stored view
+abbrev pub alone : Owner → Pair → Restart
+alone o pair = record {
+  pair = record { view = pair.view; restarts = pair.restarts + 1; journaled = false };
+  notes = [];
+  outcome = recovers o.count o.index pair.view (pair.restarts + 1);
+  catch_up = 0;
+}
+
+-- A later start over this pair and what a journal holds, where there is one.
+abbrev pub IsStartOver : Owner → Pair → Option (Vec ℕ Global) → Restart → Type 0
+IsStartOver o pair None start = start ≡ alone o pair
+IsStartOver o pair (Some octets) start = IsRestart o pair (recorded octets.items) start
+
+-- A node that started again over what was left.
+pub record StartsOver (m : Machine) (i : ℕ) (left : Left) (n : MemoryNode) (out : Outputs OpValue) : Type 0 where
+  pub pair : Pair
+  pub found_is : found m.cluster left.image.items ≡ own pair
+  pub start : Restart
+  pub is : IsStartOver (owner m i) pair left.journal start
+  pub born : IsBorn m i start.outcome.state start.pair.restarts n
+  pub gives : given n.replica out ≡ start.outcome
+
+-- A start that was refused leaves the octets that were there, or the pair from before it or from after it.
+abbrev pub IsPairLeft : Machine → ℕ → (old new : Left) → Type 0
+IsPairLeft m i old new = (new.image.items ≡ old.image.items)
+    ⊎ ((pair : Pair) × (start : Restart) × (found m.cluster old.image.items ≡ own pair) × IsStartOver (owner m i) pair old.journal start
+    × IsFormerOrNew m.cluster (own pair) start.pair new.image.items)
+
+-- And a journal that is read as before, or as that and some first of what it notes.
+abbrev pub IsLogLeft : Machine → ℕ → Left → Option (Vec ℕ Global) → Option (Vec ℕ Global) → Type 0
+IsLogLeft m i left None None = Unit {0}
+IsLogLeft m i left (Some old) (Some new) = (recorded new.items ≡ recorded old.items)
+    ⊎ ((pair : Pair) × (start : Restart) × (found m.cluster left.image.items ≡ own pair) × IsRestart (owner m i) pair (recorded old.items) start
+    × IsBegun (recorded old.items) start.notes new.items)
+IsLogLeft m i left _ _ = ⊥
+
+-- What a start leaves that was refused.
+pub record IsLeftByStart (m : Machine) (i : ℕ) (old new : Left) : Type 0 where
+  pub pair : IsPairLeft m i old new
+  pub log : IsLogLeft m i old old.journal new.journal
 
 -- Replica i's process starts, if it isn't up.
 abbrev pub IsStarted : Machine → ℕ → Process → Process → MachineReply → Type 0
 IsStarted m i (Unborn old) (Up n f) (reply.Started j restarts out) =
     (j ≡ i) × (restarts ≡ n.restarts) × IsBorn m i (first m.count) 1 n × (given n.replica out ≡ idle (first m.count)) × IsPlaced n.device
 IsStarted m i (Unborn old) (Unborn new) x = IsRefusal i x
-IsStarted m i (Down image) (Up n f) (reply.Started j restarts out) =
-    let pair = started_pair (found m.cluster image.items) in
-    (j ≡ i) × (restarts ≡ n.restarts) × IsOwn (found m.cluster image.items) × IsBorn m i (recovering m.count pair.view pair.restarts) pair.restarts n
-    × (given n.replica out ≡ recovers m.count i pair.view pair.restarts) × (IsWellPlaced image.items → IsPlaced n.device)
-IsStarted m i (Down old) (Down new) x = IsRefusal i x × (IsWellPlaced old.items → IsLeftByStart m.cluster old.items new.items)
+IsStarted m i (Down left) (Up n f) (reply.Started j restarts out) =
+    (j ≡ i) × (restarts ≡ n.restarts) × StartsOver m i left n out × (IsWellPlaced left.image.items → IsPlaced n.device)
+IsStarted m i (Down old) (Down new) x = IsRefusal i x × (IsWellPlaced old.image.items → (p : Pair) → found m.cluster old.image.items ≡ own p → IsLeftByStart m i old new)
 IsStarted m i (Up old f) (Up new g) reply.Nothing = new ≡ old
 IsStarted m i _ _ _ = ⊥
 

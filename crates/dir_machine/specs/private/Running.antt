@@ -1,11 +1,18 @@
 -- What the processes of a machine stand for in the world of the protocol.
-use Rattle.std.specs.Prelude.{◌≡◌, ℕ, ◌≤◌, true, false, List, [], ◌∷◌, ◌++◌, length, take, Some, None, slice_get, is_some}
+use Rattle.std.specs.Prelude.{◌≡◌, ℕ, ◌<◌, ◌≤◌, true, false, Option, Vec, List, [], ◌∷◌, ◌++◌, length, take, Some, None, slice_get}
+use Rattle.std.specs.Global.{Global}
 use Rattle.std.specs.Arc.{arc_value}
+use Rattle.dir_node.specs.Restarting.{may_resume}
+use Rattle.dir_node.specs.log_journal.Batches.{OneIsTold}
+use Rattle.dir_node.specs.log_journal.Told.{Told, Tells, nothing_told}
+use Rattle.journal.specs.Frames.{recorded}
 use Rattle.state_machine.specs.dir_store.ldap_op.Values.{OpValue}
 use Rattle.view_store.specs.Slots.{IsWellPlaced, own, found}
 use Rattle.view_store.specs.declared.slot.Pair.{Pair}
 use Rattle.vr_state.specs.Lists.{IsPrefix}
 use Rattle.vr_state.specs.State.{first}
+use Rattle.vr_state.specs.StepLaw.{LastIsKept, LatestIsOfClient, RecoversInItsView}
+use Rattle.vr_state.specs.declared.message.Change.{Change}
 use Rattle.vr_world.specs.Law.{IsSize}
 use Rattle.vr_world.specs.World.{World, after, has_used, sent_as, start}
 use Rattle.vr_world.specs.declared.events.WorldEvent.{WorldEvent}
@@ -16,12 +23,21 @@ use Rattle.dir_machine.specs.Shown.{Stage, unborn, up, down, message_at, stage}
 use Rattle.dir_machine.specs.declared.events.MachineEvent.{MachineEvent}
 use Rattle.dir_machine.specs.declared.events.Place.{Place}
 use Rattle.dir_machine.specs.declared.machine.Machine.{Machine}
+use Rattle.dir_machine.specs.declared.process.Left.{Left}
 use Rattle.dir_machine.specs.declared.process.Process.{Process}
 use Rattle.dir_machine.specs.declared.process.Process.TheVariants.{Unborn, Up, Down}
 use Rattle.dir_machine.specs.declared.replies.MachineReply.{MachineReply}
 use Rattle.dir_machine.specs.declared.replies.MachineReply.TheVariants as reply
 use Rattle.dir_machine.specs.declared.running.Running.{Running}
-use Rattle.dir_machine.specs.private.Processes.{IsNew, IsPlaced, KeepsIt, MemoryNode}
+use Rattle.dir_machine.specs.private.Processes.{IsNew, IsPlaced, KeepsIt, LogsIt, MemoryNode}
+
+-- Laws of the crates below: strings of a journal tell one thing; a replica that isn't normal after a step has the last normal view that it had; one that
+-- recovers stays in its view; a client table's place is that of the client's record.
+pub record Laws : Type 0 where
+  pub one : OneIsTold
+  pub last : LastIsKept OpValue
+  pub stays : RecoversInItsView OpValue
+  pub latest : LatestIsOfClient OpValue
 
 -- No nonce of replica i is above this number.
 abbrev pub AreUpTo : World OpValue → ℕ → ℕ → Type 0
@@ -32,7 +48,6 @@ pub record IsUp (m : Machine) (w : World OpValue) (i : ℕ) (n : MemoryNode) : T
   pub index : n.index ≡ i
   pub count : n.count ≡ m.count
   pub cluster : n.cluster ≡ m.cluster
-  pub alone : is_some n.journal ≡ false
   pub running : n.is_halted ≡ false
   pub replica : w.replicas i ≡ Some n.replica
   pub stored : w.stored i ≡ n.replica.view_number
@@ -41,17 +56,41 @@ pub record IsUp (m : Machine) (w : World OpValue) (i : ℕ) (n : MemoryNode) : T
   pub suffix : n.executed.suffix ≡ m.suffix
   pub executed : IsPrefix n.executed.records (take n.replica.commit_number n.replica.log)
   pub pair : KeepsIt n
+  pub log : LogsIt n
+  pub started : 0 < n.restarts
   pub placed : IsPlaced n.device
 
--- A process that ended: its replica is down, and its device holds the stored view.
-pub record IsDown (m : Machine) (w : World OpValue) (i : ℕ) (image : List ℕ) : Type 0 where
+-- What a journal tells that may be gone on from is what the world keeps of replica i.
+pub record HasKept (w : World OpValue) (i : ℕ) (t : Told) : Type 0 where
+  pub stored : w.stored i ≡ t.kept.view
+  pub change : Change OpValue
+  pub kept : w.kept i ≡ Some change
+  pub log : change.log ≡ t.kept.log
+  pub last : change.last_normal_view ≡ t.kept.last
+  pub low : t.kept.k ≤ change.commit_number
+
+-- What a journal tells may be gone on from, and then it is what the world keeps; else replica i has this view stored.
+pub record IsKeptTold (w : World OpValue) (i view : ℕ) (t : Told) : Type 0 where
+  pub resumes : may_resume t ≡ true → HasKept w i t
+  pub lost : may_resume t ≡ false → w.stored i ≡ view
+
+-- So with whatever these strings tell.
+abbrev pub IsLogOf : World OpValue → ℕ → ℕ → List (List ℕ) → Type 0
+IsLogOf w i view strings = (t : Told) → Tells nothing_told strings t → IsKeptTold w i view t
+
+-- The view of a pair, and a journal, where there is one, are those of replica i, which is down.
+abbrev pub IsKeptBy : World OpValue → ℕ → ℕ → Option (Vec ℕ Global) → Type 0
+IsKeptBy w i view None = w.stored i ≡ view
+IsKeptBy w i view (Some octets) = IsLogOf w i view (recorded octets.items)
+
+-- A process that ended: its replica is down, and its devices hold its stored view, and what its journal keeps.
+pub record IsDown (m : Machine) (w : World OpValue) (i : ℕ) (left : Left) : Type 0 where
   pub pair : Pair
-  pub found_is : found m.cluster image ≡ own pair
-  pub alone : pair.journaled ≡ false
+  pub found_is : found m.cluster left.image.items ≡ own pair
   pub down : w.replicas i ≡ None
-  pub stored : w.stored i ≡ pair.view
+  pub kept : IsKeptBy w i pair.view left.journal
   pub nonces : AreUpTo w i pair.restarts
-  pub placed : IsWellPlaced image
+  pub placed : IsWellPlaced left.image.items
 
 -- A process that was never up: its replica is as at the start.
 pub record IsUnborn (m : Machine) (w : World OpValue) (i : ℕ) : Type 0 where
@@ -62,7 +101,7 @@ pub record IsUnborn (m : Machine) (w : World OpValue) (i : ℕ) : Type 0 where
 -- A process stands for replica i of a world, and this is what was shown of it.
 abbrev pub StandsFor : Machine → World OpValue → ℕ → Stage → Process → Type 0
 StandsFor m w i s (Up n f) = (s ≡ up) × IsUp m w i n
-StandsFor m w i s (Down image) = (s ≡ down) × IsDown m w i image.items
+StandsFor m w i s (Down left) = (s ≡ down) × IsDown m w i left
 StandsFor m w i s (Unborn image) = (s ≡ unborn) × IsUnborn m w i
 
 -- Each message that was given out is one of the world.

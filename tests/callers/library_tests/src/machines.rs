@@ -1,8 +1,9 @@
-//! Machines of three whole nodes: an update, the end of its primary, a view change without it, and its recovery; devices that fail inside a start or a step; reads; and
-//! events that name nothing that is there.
+//! Machines of three whole nodes: an update, the end of its primary, a view change without it, and its recovery; devices that fail inside a start or a step; reads;
+//! journals, over the end of all three at once and where their devices fail; and events that name nothing that is there.
 use dir_machine::{
-    Became, Client, Cluster, CompareRequest, Fate, Fault, Given, Indexes, LogEntry, Machine,
-    MachineEvent, MachineReply, Name, Place, SearchRequest, Standing,
+    Became, Client, Cluster, CompareRequest, Fate, Fates, Fault, Faults, Given, Indexes,
+    JournalFate, JournalFault, LogEntry, Machine, MachineEvent, MachineReply, Name, Place,
+    SearchRequest, Standing,
 };
 use filter_text::read_text;
 use ldap_msg::{AttributeValueAssertion, DerefAliases, Scope};
@@ -27,12 +28,26 @@ const SEVEN: Client = Client {
     number: 7,
 };
 
+/// Devices that don't fail.
+const NO_FAULTS: Faults = Faults {
+    pair: Fault::None,
+    journal: JournalFault::None,
+};
+
+/// Nothing lasts that no sync settled.
+const ALL_LOST: Fates = Fates {
+    pair: Fate::Lost,
+    journal: JournalFate::Lost,
+};
+
 /// One event of a schedule, as it is written here.
 #[derive(Clone, Copy)]
 enum Step {
     Start(u64),
     /// A start over a device that stops at this call, and what becomes then of what no sync has settled.
     StartUntil(u64, usize, Fate),
+    /// So of the journal's device.
+    NoteUntil(u64, usize, JournalFate),
     Crash(u64),
     /// Client 7's request of this number, with the update's octets.
     Request(u64, u64, &'static str),
@@ -154,22 +169,95 @@ const READS: &[(Step, &str)] = &[
     (Step::Search(0, 1), "not yet 0"),
 ];
 
+/// Nodes with journals that all end at once, and go on.
+const ALL_END: &[(Step, &str)] = &[
+    (Step::Start(0), "started 1"),
+    (Step::Start(1), "started 1"),
+    (Step::Start(2), "started 1"),
+    // 3: an update, and its acknowledgement by one backup
+    (Step::Request(0, 1, ADD), "handled"),
+    (Step::Hear(1, 3, 0), "handled"),
+    (Step::Hear(0, 4, 0), "handled"),
+    (Step::Search(0, 1), "found 1 0 1"),
+    // 7: all end
+    (Step::Crash(0), "crashed"),
+    (Step::Crash(1), "crashed"),
+    (Step::Crash(2), "crashed"),
+    (Step::Start(2), "started 2"),
+    (Step::State(2), "backup 0 0 0"),
+    (Step::Start(1), "started 2"),
+    // no record was noted since the update was committed, so none says that it is
+    (Step::State(1), "backup 0 1 0"),
+    // 14: the two that weren't told of it change the view, and keep it
+    (Step::Suspect(1), "handled"),
+    (Step::Suspect(2), "handled"),
+    (Step::Hear(2, 14, 1), "handled"),
+    (Step::Hear(1, 15, 1), "handled"),
+    (Step::Hear(1, 16, 0), "handled"),
+    (Step::State(1), "primary 1 1 0"),
+    (Step::Hear(2, 18, 1), "handled"),
+    (Step::Request(1, 2, DELETE), "handled"),
+    (Step::Hear(2, 21, 1), "handled"),
+    (Step::Hear(1, 22, 0), "handled"),
+    (Step::Ask(1, 2), "done 2 0"),
+    // 25: the former primary goes on in its view
+    (Step::Start(0), "started 2"),
+    (Step::State(0), "primary 0 1 0"),
+];
+
+/// Journals whose devices stop. A first start calls its journal's device 9 times; a step that appends to the log calls it three times more, the last of which is
+/// the sync.
+const NOTED: &[(Step, &str)] = &[
+    (Step::Start(0), "started 1"),
+    (Step::NoteUntil(1, 12, JournalFate::Done), "started 1"),
+    (Step::NoteUntil(2, 12, JournalFate::First(20)), "started 1"),
+    // 3: an update, whose notes last whole at one backup, and cut at the other
+    (Step::Request(0, 1, ADD), "handled"),
+    (Step::Hear(1, 3, 0), "stopped E21: the device failed"),
+    (Step::Hear(2, 3, 1), "stopped E21: the device failed"),
+    (Step::State(1), "nothing"),
+    // 7: a start that stops is made again
+    (Step::NoteUntil(1, 1, JournalFate::Lost), "stopped E21: the device failed"),
+    (Step::Start(1), "started 2"),
+    (Step::State(1), "backup 0 1 0"),
+    (Step::Start(2), "started 2"),
+    (Step::State(2), "backup 0 0 0"),
+    // 12: the update comes again
+    (Step::Hear(2, 3, 1), "handled"),
+    (Step::Hear(0, 12, 0), "handled"),
+    (Step::Ask(0, 1), "done 1 0"),
+];
+
 /// An event of a machine.
 fn event_of(alloc: Global, step: Step) -> Result<MachineEvent, Fail> {
     Ok(match step {
         Step::Start(replica) => MachineEvent::Start {
             replica,
-            fault: Fault::None,
-            fate: Fate::Lost,
+            faults: NO_FAULTS,
+            fates: ALL_LOST,
         },
-        Step::StartUntil(replica, call, fate) => MachineEvent::Start {
+        Step::StartUntil(replica, call, pair) => MachineEvent::Start {
             replica,
-            fault: Fault::StopAt(call),
-            fate,
+            faults: Faults {
+                pair: Fault::StopAt(call),
+                ..NO_FAULTS
+            },
+            fates: Fates { pair, ..ALL_LOST },
+        },
+        Step::NoteUntil(replica, call, journal) => MachineEvent::Start {
+            replica,
+            faults: Faults {
+                journal: JournalFault::StopAt(call),
+                ..NO_FAULTS
+            },
+            fates: Fates {
+                journal,
+                ..ALL_LOST
+            },
         },
         Step::Crash(replica) => MachineEvent::Crash {
             replica,
-            fate: Fate::Lost,
+            fates: ALL_LOST,
         },
         Step::Request(replica, request_number, text) => {
             let octets = hex::decode(alloc, text)?;
@@ -335,7 +423,12 @@ fn words_of(alloc: Global, reply: &MachineReply) -> Result<String, Fail> {
 }
 
 /// Three nodes play a schedule, and what is shown of it is this.
-fn play(rt: &impl Abort, alloc: Global, steps: &[(Step, &str)]) -> Result<(), Fail> {
+fn play(
+    rt: &impl Abort,
+    alloc: Global,
+    journaled: bool,
+    steps: &[(Step, &str)],
+) -> Result<(), Fail> {
     let schema = Arc::new(alloc, built_in_schema(alloc)?)?;
     let suffix = Name::read(alloc, &schema, "dc=example,dc=com")?;
     let machine = Machine {
@@ -345,6 +438,7 @@ fn play(rt: &impl Abort, alloc: Global, steps: &[(Step, &str)]) -> Result<(), Fa
         cluster: Cluster::new(9).expect(rt, "the number of a cluster"),
         count: 3,
         room: 1000,
+        journaled,
     };
     let mut schedule = Vec::new(alloc);
     for (step, _) in steps {
@@ -364,17 +458,29 @@ fn play(rt: &impl Abort, alloc: Global, steps: &[(Step, &str)]) -> Result<(), Fa
 /// Three nodes play the schedule.
 #[test]
 fn three_nodes(rt: HostRuntime) -> Result<(), Fail> {
-    play(&rt, rt.alloc(), SCHEDULE)
+    play(&rt, rt.alloc(), false, SCHEDULE)
 }
 
 /// Three nodes whose devices stop inside calls.
 #[test]
 fn devices_stop(rt: HostRuntime) -> Result<(), Fail> {
-    play(&rt, rt.alloc(), STOPPED)
+    play(&rt, rt.alloc(), false, STOPPED)
 }
 
 /// Three nodes that are asked searches and compares.
 #[test]
 fn nodes_are_read(rt: HostRuntime) -> Result<(), Fail> {
-    play(&rt, rt.alloc(), READS)
+    play(&rt, rt.alloc(), false, READS)
+}
+
+/// Three nodes that keep journals.
+#[test]
+fn all_end_at_once(rt: HostRuntime) -> Result<(), Fail> {
+    play(&rt, rt.alloc(), true, ALL_END)
+}
+
+/// Three nodes, one of whose journals stops.
+#[test]
+fn journals_stop(rt: HostRuntime) -> Result<(), Fail> {
+    play(&rt, rt.alloc(), true, NOTED)
 }

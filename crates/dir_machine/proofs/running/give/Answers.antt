@@ -22,7 +22,7 @@ returns-in-None c =
     (subst (λ (o : Option (Event OpValue)). IsAskedOr c.as_slice.result.now c.args.replica c.args.given o) c.in-None.is c.in_ok-asked.ensures)) shown) c.show_nothing-in-None.ensures
 
 pub returns-in_ok-push-in-Some : goal.returns-in_ok-push-in-Some
-returns-in_ok-push-in-Some c = give_on c.args.machine.now c.args.run.now _ c.args.replica c.args.given c.in-Some.event c.replace-before.result c.in_ok-after-in-Some.after c.in_ok-after-in-Some.reply
+returns-in_ok-push-in-Some c = give_on c.laws.ensures c.args.machine.now c.args.run.now _ c.args.replica c.args.given c.in-Some.event c.replace-before.result c.in_ok-after-in-Some.after c.in_ok-after-in-Some.reply
     (record {
       hole = c.replace-before.new.dest;
       counted = c.requires;

@@ -23,7 +23,7 @@ returns-in-None c =
     (subst (λ (o : Option (Vec (Event OpValue) Global)). AreAskedOr c.as_slice.result.now c.args.replica c.args.given.items o) c.in-None.is c.in_ok-asked_all.ensures)) shown) c.show_nothing-in-None.ensures
 
 pub returns-in_ok-push-in-Some : goal.returns-in_ok-push-in-Some
-returns-in_ok-push-in-Some c = batch_on c.args.machine.now c.args.run.now _ c.args.replica c.args.given c.in-Some.events.items c.replace-before.result c.in_ok-after-in-Some.after c.in_ok-after-in-Some.reply
+returns-in_ok-push-in-Some c = batch_on c.laws.ensures c.args.machine.now c.args.run.now _ c.args.replica c.args.given c.in-Some.events.items c.replace-before.result c.in_ok-after-in-Some.after c.in_ok-after-in-Some.reply
     (record {
       hole = c.replace-before.new.dest;
       counted = c.requires;

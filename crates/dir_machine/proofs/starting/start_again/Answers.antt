@@ -1,15 +1,13 @@
-use Rattle.std.proofs.Common.{refl}
-use Rattle.dir_machine.proofs.Starts.{again_started, start_refused, started_placed}
+use Rattle.std.proofs.Common.{ℕ, Option, Vec, IfOk, sym, subst}
+use Rattle.std.specs.Global.{Global}
+use Rattle.dir_machine.specs.private.Processes.{IsStarted}
+use Rattle.dir_machine.specs.declared.process.Process.TheVariants.{Down}
 use Rattle.dir_machine.proofs.starting.start_again.Goals as goal
 
-pub returns-in-Ok : goal.returns-in-Ok
-returns-in-Ok c =
-    again_started c.args.machine.now c.args.replica c.args.image c.in_ok-config.config c.in_ok-device.device c.in-Ok.node c.in-Ok.outputs c.restarts-restarts.result c.in_ok-config.ensures.schema c.in_ok-config.ensures.suffix
-    c.in_ok-config.ensures.cluster c.in_ok-config.ensures.index c.in_ok-config.ensures.count c.in_ok-device.ensures (c.in-Ok.ensures.own refl) (c.in-Ok.ensures.made refl) (c.in-Ok.ensures.outputs refl) c.in-Ok.ensures.journaled
-    c.in-Ok.ensures.kept c.restarts-restarts.ensures
-    (started_placed c.in_ok-config.config.cluster c.args.image.items c.in_ok-device.device c.in-Ok.node.device c.in_ok-device.ensures c.in-Ok.ensures.placed (c.in-Ok.ensures.any_moment refl)) c.args.fate
+pub returns-in-None : goal.returns-in-None
+returns-in-None c =
+    subst (λ (o : Option (Vec ℕ Global)). IfOk c.start_alone.result (λ x. IsStarted c.args.machine.now c.args.replica (Down (record { image = c.args.left.image; journal = o })) x.0 x.1)) (sym c.in-None.is) c.start_alone.ensures
 
-pub returns-in_ok-image-in-Err : goal.returns-in_ok-image-in-Err
-returns-in_ok-image-in-Err c =
-    start_refused c.args.machine.now c.args.replica c.in_ok-config.config.cluster c.args.image c.in_ok-image-in-Err.image c.in_ok-device.device c.in-Err.refused.device c.refusal.result c.in_ok-config.ensures.cluster c.in_ok-device.ensures
-    (c.in-Err.ensures.refused_moment refl) c.in_ok-image-in-Err.ensures c.refusal.ensures
+pub returns-in-Some : goal.returns-in-Some
+returns-in-Some c =
+    subst (λ (o : Option (Vec ℕ Global)). IfOk c.start_over.result (λ x. IsStarted c.args.machine.now c.args.replica (Down (record { image = c.args.left.image; journal = o })) x.0 x.1)) (sym c.in-Some.is) c.start_over.ensures
