@@ -1,11 +1,12 @@
 //! A machine: a node over its disks with seats and sessions while its process runs, and its disks alone while it doesn't.
+//! Its clock has a speed of its own, and its disk may hang.
 
 use crate::disk::Disk;
 use crate::gates::{Here, Noted};
-use dir_node::{Event, Node, Op, Standing};
+use dir_node::{Event, Node, Op, PeerMessage, Standing};
 use dir_seats::{Publisher, Seat, Teller};
 use ldap_session::Conversation;
-use replica_clock::ReplicaClock;
+use replica_clock::{Pace, ReplicaClock, Steps};
 use std::sync::Wait;
 use vr_state::words::Status;
 use vr_wire::Gathering;
@@ -24,6 +25,15 @@ pub struct Served {
     pub standing: Standing,
 }
 
+/// A disk that hangs: the node stays inside of a step, while the other threads go on.
+#[derive(Drop)]
+pub struct Hang {
+    /// When it ends.
+    pub until: u64,
+    pub steps: Steps,
+    pub pace: Pace,
+}
+
 /// A process.
 #[derive(Drop)]
 pub struct Running<'a, R: Wait> {
@@ -38,6 +48,9 @@ pub struct Running<'a, R: Wait> {
     pub gatherings: Vec<Gathering>,
     /// Events that wait for the thread that drives the node.
     pub inbox: Vec<Event<Op>>,
+    /// The messages of the node's last beat, which the clock repeats while a step lasts, and the view that they are of.
+    pub beat: Vec<(usize, PeerMessage<Op>)>,
+    pub beat_view: u64,
     /// How many of its executed records were compared with what is committed.
     pub compared: usize,
 }
@@ -52,11 +65,30 @@ pub struct Machine<'a, R: Wait> {
     pub was_born: bool,
     /// It does nothing before this moment.
     pub busy_until: u64,
+    /// How its disk hangs.
+    pub hang: Option<Hang>,
+    /// How fast its clock goes, in thousandths of true time.
+    pub speed: u64,
     /// Whether it lacks its state: it has ended without a journal, or with one that can't be gone on from, and isn't normal again.
     pub lacks_state: bool,
     pub starts: u64,
     /// Whether one of its disks fails soon, which ends its process.
     pub is_doomed: bool,
+}
+
+impl<'a, R: Wait> Machine<'a, R> {
+    /// What its clock shows at a moment.
+    pub fn local(&self, moment: u64) -> u64 {
+        moment * self.speed / 1000
+    }
+
+    /// Whether its disk hangs at a moment.
+    pub fn is_hung(&self, moment: u64) -> bool {
+        match &self.hang {
+            Some(hang) => moment < hang.until,
+            None => false,
+        }
+    }
 }
 
 /// A replica's status, where it stands so.

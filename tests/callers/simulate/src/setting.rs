@@ -24,6 +24,8 @@ pub enum Planted {
     ForgetfulStart,
     /// Nothing is published once a node has executed so many records.
     NoPublication,
+    /// A primary whose disk hangs repeats its last beat for ever.
+    EndlessBeats,
 }
 
 /// Their words on the command line.
@@ -37,6 +39,7 @@ pub const PLANTS: &[(&str, Planted)] = &[
     ("other-outcome", Planted::OtherOutcome),
     ("forgetful-start", Planted::ForgetfulStart),
     ("no-publication", Planted::NoPublication),
+    ("endless-beats", Planted::EndlessBeats),
 ];
 
 /// What a run is of.
@@ -54,6 +57,8 @@ pub struct Setting {
     pub repeats: u64,
     /// How often messages overtake one another, in thousandths.
     pub shuffles: u64,
+    /// By how many thousandths clocks are faster or slower than true time, at most.
+    pub drift: u64,
     pub planted: Planted,
     pub traces: bool,
 }
@@ -76,6 +81,7 @@ impl Setting {
             losses: if is_calm { 0 } else { chance.below(60) },
             repeats: chance.below(60),
             shuffles: if is_calm { 0 } else { chance.below(500) },
+            drift: if is_calm { 0 } else { chance.below(200) },
             planted,
             traces,
         }

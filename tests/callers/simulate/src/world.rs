@@ -6,7 +6,7 @@ use crate::chance::Chance;
 use crate::disk::{Disk, Trouble};
 use crate::gates::{AskingGate, Blind, Here, Lent, TurnGate};
 use crate::judging::{ReadAnswer, Record, UpdateAnswer, Wanted};
-use crate::machine::{Machine, Running, Served, status_of};
+use crate::machine::{Hang, Machine, Running, Served, status_of};
 use crate::names::{Path, SUFFIX};
 use crate::setting::{Planted, Setting};
 use crate::spelling::{MANAGER, PASSWORD, bind_request, octets, question_request, update_request};
@@ -16,7 +16,7 @@ use dir_node::{
 };
 use dir_seats::seats;
 use ldap_session::{Config, Conversation, Due as Next, Step};
-use replica_clock::{Due, ReplicaClock, Times, sign_of};
+use replica_clock::{Due, Pace, ReplicaClock, Steps, Times, sign_of};
 use schema_reader::built_in_schema;
 use std::alloc::{AllocError, Global};
 use std::collections::BTreeMap;
@@ -50,6 +50,7 @@ pub struct Counts {
     pub power_cuts: u64,
     pub device_failures: u64,
     pub refused_starts: u64,
+    pub hangs: u64,
     pub views: u64,
     pub messages: u64,
     pub searches: u64,
@@ -128,6 +129,7 @@ impl<'a, R: Wait + Eprint> World<'a, R> {
                 power_cuts: 0,
                 device_failures: 0,
                 refused_starts: 0,
+                hangs: 0,
                 views: 0,
                 messages: 0,
                 searches: 0,
@@ -136,6 +138,7 @@ impl<'a, R: Wait + Eprint> World<'a, R> {
             },
         };
         for at in 0..setting.count {
+            let speed = 1000 - setting.drift + world.chance.between(0, 2 * setting.drift);
             world.machines.push(Machine {
                 running: None,
                 views: Some(Disk::new(alloc)),
@@ -143,6 +146,8 @@ impl<'a, R: Wait + Eprint> World<'a, R> {
                 has_journal: setting.has_journals,
                 was_born: false,
                 busy_until: 0,
+                hang: None,
+                speed,
                 lacks_state: false,
                 starts: 0,
                 is_doomed: false,
@@ -272,7 +277,7 @@ impl<'a, R: Wait + Eprint> World<'a, R> {
             self.setting.count as u64,
             node.view_number(),
             status,
-            self.now,
+            self.machines[at].local(self.now),
         );
         let mut gatherings = Vec::new(self.alloc);
         for _ in 0..self.setting.count {
@@ -290,6 +295,8 @@ impl<'a, R: Wait + Eprint> World<'a, R> {
             next_session: 1,
             gatherings,
             inbox: Vec::new(self.alloc),
+            beat: Vec::new(self.alloc),
+            beat_view: 0,
             compared: 0,
         });
         self.publish(at)
@@ -329,6 +336,7 @@ impl<'a, R: Wait + Eprint> World<'a, R> {
         }
         let Running { node, .. } = running;
         let (views, journal) = node.into_devices();
+        self.machines[at].hang = None;
         self.machines[at].views = Some(views);
         self.machines[at].journal = journal;
         self.machines[at].lacks_state = self.machines[at].lacks_state || !self.machines[at].has_journal;
@@ -436,13 +444,14 @@ impl<'a, R: Wait + Eprint> World<'a, R> {
             return Err(AllocError);
         };
         let breaks = !self.is_healed && self.chance.hits(10);
+        let local = self.machines[to].local(self.now);
         let Some(running) = &mut self.machines[to].running else {
             return Ok(());
         };
         while let Ok(Some(frame)) = frames.next(self.alloc) {
             match running.gatherings[from].take(self.alloc, &frame, cluster) {
                 Ok(Came::Message(sender, came)) => {
-                    running.clock.hear(sender as u64, sign_of(&came), self.now);
+                    running.clock.hear(sender as u64, sign_of(&came), local);
                     running.inbox.push(Event::Message {
                         from: sender as u64,
                         message: came,
@@ -465,9 +474,10 @@ impl<'a, R: Wait + Eprint> World<'a, R> {
     /// The node of a machine is given what waits for it, one event or a batch.
     fn drive(&mut self, at: usize) -> Result<(), AllocError> {
         let most = self.chance.between(1, 8) as usize;
-        if self.now < self.machines[at].busy_until {
+        if self.now < self.machines[at].busy_until || self.machines[at].is_hung(self.now) {
             return Ok(());
         }
+        let local = self.machines[at].local(self.now);
         let is_dropped = self.setting.planted == Planted::DroppedEvents && self.chance.hits(500);
         let Some(running) = &mut self.machines[at].running else {
             return Ok(());
@@ -480,6 +490,7 @@ impl<'a, R: Wait + Eprint> World<'a, R> {
             return Ok(());
         }
         let view_before = running.node.view_number();
+        let is_beat = matches!(events.first(), Some(Event::Beat));
         let result = if events.len() == 1 {
             let Some(event) = events.pop() else {
                 return Ok(());
@@ -500,7 +511,7 @@ impl<'a, R: Wait + Eprint> World<'a, R> {
         };
         let view_number = running.node.view_number();
         let status = status_of(running.node.standing());
-        running.clock.note(view_number, status, self.now);
+        running.clock.note(view_number, status, local);
         if running.is_normal() {
             self.machines[at].lacks_state = false;
         }
@@ -511,10 +522,15 @@ impl<'a, R: Wait + Eprint> World<'a, R> {
         }
         match result {
             Some(outputs) => {
+                let mut keeps_beat = is_beat;
                 for one in outputs {
                     if let Ok(outputs) = one {
+                        if keeps_beat {
+                            self.keep_beat(at, &outputs)?;
+                        }
                         self.post(at, outputs)?;
                     }
+                    keeps_beat = false;
                 }
                 self.compare(at)?;
                 let shows = self.is_healed || !self.chance.hits(20);
@@ -529,6 +545,62 @@ impl<'a, R: Wait + Eprint> World<'a, R> {
                 self.crash(at, loses_power)
             }
         }
+    }
+
+    /// Keeps the messages of a node's beat, as the clock's thread does.
+    fn keep_beat(&mut self, at: usize, outputs: &Outputs<Op>) -> Result<(), AllocError> {
+        let Some(running) = &mut self.machines[at].running else {
+            return Ok(());
+        };
+        let mut beat = Vec::new(self.alloc);
+        for send in &outputs.sends {
+            beat.push((send.to as usize, copy_message(self.alloc, &send.message)?))?;
+        }
+        running.beat = beat;
+        running.beat_view = running.node.view_number();
+        Ok(())
+    }
+
+    /// The clock of a machine whose node stays inside of a step is asked: a primary repeats its last beat, for a time.
+    fn beat_again(&mut self, at: usize) -> Result<(), AllocError> {
+        let local = self.machines[at].local(self.now);
+        let is_endless = self.setting.planted == Planted::EndlessBeats;
+        let machine = &mut self.machines[at];
+        let (Some(running), Some(hang)) = (&machine.running, &mut machine.hang) else {
+            return Ok(());
+        };
+        let leads = running.node.standing() == Standing::Primary
+            && running.beat_view == running.node.view_number();
+        let beats = if is_endless {
+            leads && hang.pace.take_turn(local)
+        } else {
+            hang.steps.beats_again(leads, &mut hang.pace, local)
+        };
+        if beats {
+            for (to, message) in &running.beat {
+                self.flights.push(Flight {
+                    from: at,
+                    to: *to,
+                    message: copy_message(self.alloc, message)?,
+                })?;
+            }
+        }
+        Ok(())
+    }
+
+    /// The disk of a machine hangs for so long.
+    fn hang(&mut self, at: usize, time: u64) {
+        if self.machines[at].running.is_none() || self.machines[at].is_hung(self.now) {
+            return;
+        }
+        let mut steps = Steps::new(Times::new(BEAT, SUSPECT));
+        steps.busy(0, self.machines[at].local(self.now));
+        self.counts.hangs += 1;
+        self.machines[at].hang = Some(Hang {
+            until: self.now + time,
+            steps,
+            pace: Pace::new(Times::new(BEAT, SUSPECT)),
+        });
     }
 
     /// Shows the seats what the node has executed.
@@ -581,13 +653,17 @@ impl<'a, R: Wait + Eprint> World<'a, R> {
         if self.now < self.machines[at].busy_until {
             return Ok(());
         }
+        if self.machines[at].is_hung(self.now) {
+            return self.beat_again(at);
+        }
+        let local = self.machines[at].local(self.now);
         let forges = self.setting.planted == Planted::ForgedPrepareOk;
         let Some(running) = &mut self.machines[at].running else {
             return Ok(());
         };
         let status = status_of(running.node.standing());
-        running.clock.note(running.node.view_number(), status, self.now);
-        match running.clock.ask(self.now).due {
+        running.clock.note(running.node.view_number(), status, local);
+        match running.clock.ask(local).due {
             Due::Nothing => {}
             Due::Beat => running.inbox.push(Event::Beat)?,
             Due::Suspect => running.inbox.push(Event::Suspect)?,
@@ -615,6 +691,7 @@ impl<'a, R: Wait + Eprint> World<'a, R> {
             return Ok(());
         }
         let gives_up = self.chance.hits(if self.is_healed { 0 } else { 5 });
+        let is_hung = self.machines[at].is_hung(self.now);
         let planted = self.setting.planted;
         let other = self.chance.hits(200);
         let Some(running) = &mut self.machines[at].running else {
@@ -680,6 +757,10 @@ impl<'a, R: Wait + Eprint> World<'a, R> {
             if session.own.answer(self.alloc, &config, &mut (seat, gate)) == Step::Answered {
                 session.answered += 1;
             }
+            return Ok(());
+        }
+        if is_hung {
+            // The outcome is the node's, which is inside of a step.
             return Ok(());
         }
         let Some(noted) = &session.noted else {
@@ -1152,7 +1233,11 @@ impl<'a, R: Wait + Eprint> World<'a, R> {
                     self.cuts[pair] = false;
                 }
             }
-            _ => self.machines[at].busy_until = self.now + self.chance.spread(10, 4000),
+            90..95 => self.machines[at].busy_until = self.now + self.chance.spread(10, 4000),
+            _ => {
+                let time = self.chance.spread(10, 8 * SUSPECT);
+                self.hang(at, time);
+            }
         }
         Ok(())
     }
@@ -1183,7 +1268,8 @@ impl<'a, R: Wait + Eprint> World<'a, R> {
         for more in 0..self.setting.count {
             let at = (from + more) % self.setting.count;
             if let Some(running) = &self.machines[at].running {
-                if !running.inbox.is_empty() && self.now >= self.machines[at].busy_until {
+                let is_busy = self.now < self.machines[at].busy_until || self.machines[at].is_hung(self.now);
+                if !running.inbox.is_empty() && !is_busy {
                     return at;
                 }
             }
@@ -1247,11 +1333,18 @@ impl<'a, R: Wait + Eprint> World<'a, R> {
         }
         for at in 0..self.setting.count {
             self.machines[at].busy_until = 0;
+            self.machines[at].hang = None;
             if self.machines[at].running.is_none() {
                 self.start(at)?;
             }
             // What was not published for want of memory is with the next event, which may not come.
             self.publish(at)?;
+        }
+        if self.chance.hits(300) && self.stateless() == 0 {
+            // One fault stays: a disk hangs for good, the primary's where there is one.
+            let first = self.chance.below(self.setting.count as u64) as usize;
+            let at = self.primary().unwrap_or(first);
+            self.hang(at, u64::MAX - self.now);
         }
         let end = self.now + periods * SUSPECT;
         while self.now < end {
@@ -1262,6 +1355,16 @@ impl<'a, R: Wait + Eprint> World<'a, R> {
             self.now += 20;
         }
         Ok(false)
+    }
+
+    /// The first machine that leads.
+    fn primary(&self) -> Option<usize> {
+        for at in 0..self.setting.count {
+            if self.standing(at) == Some(Standing::Primary) {
+                return Some(at);
+            }
+        }
+        None
     }
 
     /// Everything that can happen now does.
@@ -1279,7 +1382,7 @@ impl<'a, R: Wait + Eprint> World<'a, R> {
             let mut waits = true;
             while waits {
                 waits = match &self.machines[at].running {
-                    Some(running) => !running.inbox.is_empty(),
+                    Some(running) => !running.inbox.is_empty() && !self.machines[at].is_hung(self.now),
                     None => false,
                 };
                 if waits {
@@ -1303,11 +1406,14 @@ impl<'a, R: Wait + Eprint> World<'a, R> {
         Ok(())
     }
 
-    /// Whether all replicas are normal in one view with all that is committed, and no client waits.
+    /// Whether all replicas whose disks don't hang are normal in one view with all that is committed, and none of their clients waits.
     fn is_well(&mut self) -> Result<bool, AllocError> {
         let mut view = None;
         let mut primaries = 0;
         for at in 0..self.setting.count {
+            if self.machines[at].is_hung(self.now) {
+                continue;
+            }
             let Some(running) = &self.machines[at].running else {
                 return Ok(false);
             };
@@ -1328,8 +1434,10 @@ impl<'a, R: Wait + Eprint> World<'a, R> {
             view = Some(running.node.view_number());
         }
         for caller in &self.callers {
-            if caller.session.is_some() && !caller.pending.is_empty() {
-                return Ok(false);
+            if let Some((at, _)) = caller.session {
+                if !caller.pending.is_empty() && !self.machines[at].is_hung(self.now) {
+                    return Ok(false);
+                }
             }
         }
         Ok(primaries == 1)
