@@ -164,9 +164,9 @@ module _ (m : Machine) (w : World OpValue) (i : ℕ) where
 
   -- What is shown of how far a process is.
   pub told_on : (shown : List MachineReply) (p : Process) (x : MachineReply) → StandsFor m w i (stage shown i) p → IsToldOf i p x
-      → MayHappen (arc_value m.schema) m.suffix m.count shown (event.State i) x [] w × IsQuiet x
+      → MayHappen (arc_value m.schema) m.suffix m.count m.journaled shown (event.State i) x [] w × IsQuiet x
   told_on shown (Up n f) x stands is =
-      subst (λ (y : MachineReply). MayHappen (arc_value m.schema) m.suffix m.count shown (event.State i) y [] w × IsQuiet y) (sym is)
+      subst (λ (y : MachineReply). MayHappen (arc_value m.schema) m.suffix m.count m.journaled shown (event.State i) y [] w × IsQuiet y) (sym is)
       ((refl, record { replica = n.replica; there = stands.1.replica; shown = far n stands.1 }), record { stages = λ j s. refl; silent = λ part at y h. absurd (cc) })
   told_on shown (Down image) reply.Nothing stands is = ((refl, inr (down_not_up stands.0)), record { stages = λ j s. refl; silent = λ part at y h. absurd (cc) })
   told_on shown (Unborn image) reply.Nothing stands is = ((refl, inr (unborn_not_up stands.0)), record { stages = λ j s. refl; silent = λ part at y h. absurd (cc) })
@@ -219,7 +219,7 @@ module _ (m : Machine) (size : IsSize m.count) (w : World OpValue) (i : ℕ) (re
 
   -- What is shown of a client's request at a process.
   pub answered_on : (shown : List MachineReply) (client : Client) (number : ℕ) (p : Process) (x : MachineReply) → StandsFor m w i (stage shown i) p → IsAnswered i client number p x
-      → MayHappen (arc_value m.schema) m.suffix m.count shown (event.Ask i client number) x [] w × IsQuiet x
+      → MayHappen (arc_value m.schema) m.suffix m.count m.journaled shown (event.Ask i client number) x [] w × IsQuiet x
   answered_on shown client number (Up n f) (reply.Outcome j o) stands is =
       ((is.0, refl, by_replica m w i n stands.1 client number (became_view o) is.1, done_or n stands.1 client number (became_view o) (sym is.1)), record { stages = λ j s. refl; silent = λ part at y h. absurd (cc) })
   answered_on shown client number (Down image) reply.Nothing stands is = ((refl, inr (down_not_up stands.0)), record { stages = λ j s. refl; silent = λ part at y h. absurd (cc) })

@@ -1,5 +1,5 @@
 -- What a process stands for after it was given events, or ended.
-use Rattle.std.proofs.Common.{◌≡◌, ◌≢◌, ℕ, ◌<◌, ◌≤◌, ◌==◌, Bool, true, false, cond, ◌⊎◌, inl, inr, List, [], ◌∷◌, ◌++◌, take, Option, Some, None, Result, slice_get, Vec, refl, sym, ap, ◌∙◌, subst, eq-eqb}
+use Rattle.std.proofs.Common.{◌≡◌, ◌≢◌, ℕ, ◌<◌, ◌≤◌, ◌==◌, Bool, true, false, cond, ◌⊎◌, inl, inr, List, [], ◌∷◌, ◌++◌, take, Option, Some, None, is_some, Result, slice_get, Vec, refl, sym, ap, ◌∙◌, subst, eq-eqb}
 use Rattle.std.specs.Arc.{arc_value}
 use Rattle.std.specs.Global.{Global}
 use Rattle.std.specs.declared.alloc.AllocError.{AllocError}
@@ -22,9 +22,9 @@ use Rattle.vr_world.specs.Law.{IsSize}
 use Rattle.vr_world.specs.World.{World, has_used, happens, kept_of, put, run}
 use Rattle.vr_world.specs.declared.events.WorldEvent.{WorldEvent}
 use Rattle.vr_world.specs.declared.events.WorldEvent.TheVariants.{Crash}
-use Rattle.dir_machine.proofs.Journals.{left_tells, log_told, recovers_since}
+use Rattle.dir_machine.proofs.Journals.{left_some, left_tells, log_told, stays_active}
 use Rattle.dir_machine.proofs.Processes.{Moved}
-use Rattle.dir_machine.proofs.Taking.{Ran, RanSome, caught_up, none_taken, ran, some_ran}
+use Rattle.dir_machine.proofs.Taking.{Ran, RanSome, caught_up, none_taken, ran, some_ran, steps_some}
 use Rattle.dir_machine.proofs.Worlds.{IsLater, IsReached, crashed_is, later_refl, later_trans, not_eqb, put_here, put_there}
 use Rattle.dir_machine.specs.Happening.{EndsInside, MayHappen, TakesEach}
 use Rattle.dir_machine.specs.Shown.{Stage, unborn, up, down, stopped, message_in, stage}
@@ -57,7 +57,7 @@ MayBeGiven n before i gs _ h w = ⊥
 
 -- one event
 pub may_one : (m : Machine) (before : List MachineReply) (i : ℕ) (g : Given) (x : MachineReply) (h : List (WorldEvent OpValue)) (w : World OpValue) → MayBeGiven m.count before i (g ∷ []) x h w
-    → MayHappen (arc_value m.schema) m.suffix m.count before (event.Give i g) x h w
+    → MayHappen (arc_value m.schema) m.suffix m.count m.journaled before (event.Give i g) x h w
 may_one m before i g reply.Nothing h w may = (may.0, inl (inr may.1))
 may_one m before i g (reply.Handled j outs behind) h w may = may
 may_one m before i g (reply.Refused j e) h w may = may
@@ -66,7 +66,7 @@ may_one m before i g _ h w may = absurd may
 
 -- a batch
 pub may_all : (m : Machine) (before : List MachineReply) (i : ℕ) (gs : Vec Given Global) (x : MachineReply) (h : List (WorldEvent OpValue)) (w : World OpValue) → MayBeGiven m.count before i gs.items x h w
-    → MayHappen (arc_value m.schema) m.suffix m.count before (event.GiveAll i gs) x h w
+    → MayHappen (arc_value m.schema) m.suffix m.count m.journaled before (event.GiveAll i gs) x h w
 may_all m before i gs reply.Nothing h w may = (may.0, inl (inr may.1))
 may_all m before i gs (reply.Handled j outs behind) h w may = may
 may_all m before i gs (reply.Refused j e) h w may = may
@@ -117,19 +117,22 @@ module _ (laws : Laws) (m : Machine) (size : IsSize m.count) (w : World OpValue)
     executed = caught_up behind old.executed.records new.executed.records (take new.replica.commit_number new.replica.log) (prefix_trans u.executed r.committed) t.executed;
     pair = t.pair;
     log = t.log;
+    journaled = t.same.journaled ∙ u.journaled;
+    active = λ kept. stays_active laws.last old.count old.index old.replica es new.replica (steps_some old.count old.index old.replica es outs new.replica t.steps) (u.active kept);
     started = subst (λ (k : ℕ). 0 < k) (sym t.same.restarts) u.started;
     placed = t.placed u.running u.placed.seen;
   }
 
   -- Its process ends in this world.
   ends_down : (v : World OpValue) (s : State OpValue) (pair : Pair) (left : Left) (t : Told) → v.replicas i ≡ Some s → v.stored i ≡ s.view_number → found m.cluster left.image.items ≡ own pair → AreUpTo v i pair.restarts
-      → IsWellPlaced left.image.items → 0 < t.restarts → TellsIn t s left.journal → (left.journal ≡ None → s.view_number ≡ pair.view) → (is_recovering s.status ≡ true → s.view_number ≡ pair.view)
+      → IsWellPlaced left.image.items → 0 < t.restarts → TellsIn t s left.journal → (left.journal ≡ None → s.view_number ≡ pair.view) → is_some left.journal ≡ m.journaled → (m.journaled ≡ true → is_recovering s.status ≡ false)
       → IsDown m (happens m.count v (Crash i)) i left
-  ends_down v s pair left t here stored found_is nonces placed started tells alone recovers = record {
+  ends_down v s pair left t here stored found_is nonces placed started tells alone journaled active = record {
     pair = pair;
     found_is = found_is;
     down = ap (λ (u : World OpValue). u.replicas i) to ∙ put_here i None v.replicas;
-    kept = go left.journal alone tells;
+    journaled = journaled;
+    kept = go left.journal alone journaled tells;
     nonces = λ x h. nonces x (ap (λ (u : World OpValue). has_used x (u.nonces i)) (sym to) ∙ h);
     placed = placed;
   }
@@ -140,17 +143,17 @@ module _ (laws : Laws) (m : Machine) (size : IsSize m.count) (w : World OpValue)
       now : (happens m.count v (Crash i)).stored i ≡ s.view_number
       now = ap (λ (u : World OpValue). u.stored i) to ∙ stored
 
-      go : (o : Option (Vec ℕ Global)) → (o ≡ None → s.view_number ≡ pair.view) → TellsIn t s o → IsKeptBy (happens m.count v (Crash i)) i pair.view o
-      go None alone tells = now ∙ alone refl
-      go (Some octets) alone tells =
-          log_told laws.one (happens m.count v (Crash i)) i s t (recorded octets.items) pair.view tells started now (ap (λ (u : World OpValue). u.kept i) to ∙ put_here i (kept_of s) v.kept) recovers
+      go : (o : Option (Vec ℕ Global)) → (o ≡ None → s.view_number ≡ pair.view) → is_some o ≡ m.journaled → TellsIn t s o → IsKeptBy (happens m.count v (Crash i)) i pair.view o
+      go None alone is tells = now ∙ alone refl
+      go (Some octets) alone is tells =
+          log_told laws.one (happens m.count v (Crash i)) i s t (recorded octets.items) tells started now (ap (λ (u : World OpValue). u.kept i) to ∙ put_here i (kept_of s) v.kept) (active (sym is))
 
   -- It ended after some first of what it was given.
   ended_after : (gs : List Given) (old : MemoryNode) (left : Left) (j : ℕ) (e : NodeError) → j ≡ i → e ≢ NoMemory → stage shown i ≡ up → IsUp m w i old → (s : State OpValue) → RanSome m.count i shown gs w s
       → (pair : Pair) → pair.restarts ≡ old.restarts → found old.cluster left.image.items ≡ own pair → IsWellPlaced left.image.items → TellsIn (head old) s left.journal
-      → (left.journal ≡ None → s.view_number ≡ pair.view) → (is_recovering s.status ≡ true → s.view_number ≡ pair.view)
+      → (left.journal ≡ None → s.view_number ≡ pair.view) → is_some left.journal ≡ m.journaled → (m.journaled ≡ true → is_recovering s.status ≡ false)
       → Acted m w i shown (reply.Stopped j e) (Down left) (λ h. MayBeGiven m.count shown i gs (reply.Stopped j e) h w)
-  ended_after gs old left j e own_is cause was u s r pair restarts found_is placed tells alone recovers = record {
+  ended_after gs old left j e own_is cause was u s r pair restarts found_is placed tells alone journaled active = record {
     happened = r.happened ++ Crash i ∷ [];
     may = (own_is, cause, record { taken = r.happened; some = r.some; crash = refl });
     moved = subst (λ (v : World OpValue). Moved m w v i shown (reply.Stopped j e) (Down left)) (sym (run-append m.count r.happened (Crash i ∷ []) w)) (record {
@@ -159,7 +162,7 @@ module _ (laws : Laws) (m : Machine) (size : IsSize m.count) (w : World OpValue)
       stands = (
         stage_own i j (stopped (stage shown i)) (stage shown i) own_is ∙ ap stopped was,
         ends_down (run m.count r.happened w) s pair left (head old) r.replica r.stored (ap (λ (c : ℕ). found c left.image.items) (sym u.cluster) ∙ found_is)
-            (λ x h. subst (λ (k : ℕ). x ≤ k) (sym restarts) (u.nonces x (ap (λ l. has_used x l) (sym r.nonces) ∙ h))) placed u.started tells alone recovers,
+            (λ x h. subst (λ (k : ℕ). x ≤ k) (sym restarts) (u.nonces x (ap (λ l. has_used x l) (sym r.nonces) ∙ h))) placed u.started tells alone journaled active,
       );
       sent = λ part at y h. absurd (cc);
     });
@@ -177,8 +180,11 @@ module _ (laws : Laws) (m : Machine) (size : IsSize m.count) (w : World OpValue)
       ran_is = some_ran m.count i lt shown size gs es w old.replica ended.replica sent asked u.replica u.stored
           (subst (λ (k : ℕ). MakesSome m.count k old.replica es ended.replica) u.index (subst (λ (k : ℕ). MakesSome k old.index old.replica es ended.replica) u.count ended.steps))
 
-      stay : is_recovering ended.replica.status ≡ true → ended.replica.view_number ≡ old.replica.view_number
-      stay rec = (recovers_since laws.last laws.stays old.count old.index old.replica es ended.replica ended.steps rec).0
+      journaled : is_some left.journal ≡ m.journaled
+      journaled = ended.journaled ∙ u.journaled
+
+      active : m.journaled ≡ true → is_recovering ended.replica.status ≡ false
+      active kept = stays_active laws.last old.count old.index old.replica es ended.replica ended.steps (u.active kept)
 
       none : RanSome m.count i shown gs w old.replica
       none = record { happened = []; some = none_taken m.count shown i gs w; later = later_refl w i; replica = u.replica; stored = u.stored; nonces = refl }
@@ -186,10 +192,10 @@ module _ (laws : Laws) (m : Machine) (size : IsSize m.count) (w : World OpValue)
       go : (o : Option (Vec ℕ Global)) → left.journal ≡ o
           → (found old.cluster left.image.items ≡ own (pair_of old)) ⊎ (found old.cluster left.image.items ≡ own (record (pair_of old) { view = ended.replica.view_number })) → Ends
       go None is (inl former) =
-          ended_after gs old left j e own_is cause was u old.replica none (pair_of old) refl former ended.placed (subst (λ (o : Option (Vec ℕ Global)). TellsIn (head old) old.replica o) (sym is) tt) (λ q. refl) (λ q. refl)
-      go (Some octets) is (inl former) = ended_after gs old left j e own_is cause was u ended.replica ran_is (pair_of old) refl former ended.placed ended.log (λ q. absurd (cc (is, q))) stay
+          ended_after gs old left j e own_is cause was u old.replica none (pair_of old) refl former ended.placed (subst (λ (o : Option (Vec ℕ Global)). TellsIn (head old) old.replica o) (sym is) tt) (λ q. refl) journaled u.active
+      go (Some octets) is (inl former) = ended_after gs old left j e own_is cause was u ended.replica ran_is (pair_of old) refl former ended.placed ended.log (λ q. absurd (cc (is, q))) journaled active
       go o is (inr after) =
-          ended_after gs old left j e own_is cause was u ended.replica ran_is (record (pair_of old) { view = ended.replica.view_number }) refl after ended.placed ended.log (λ q. refl) (λ q. refl)
+          ended_after gs old left j e own_is cause was u ended.replica ran_is (record (pair_of old) { view = ended.replica.view_number }) refl after ended.placed ended.log (λ q. refl) journaled active
 
   -- Replica i is given events.
   pub given_on : (gs : List Given) (es : List (Event OpValue)) (old new : Process) (x : MachineReply) → AreAsked shown i gs es → StandsFor m w i (stage shown i) old → IsGiven i es old new x
@@ -253,7 +259,7 @@ module _ (laws : Laws) (m : Machine) (size : IsSize m.count) (w : World OpValue)
       stands = (
         stage_own i j down (stage shown i) is.0,
         ends_down w old.replica (pair_of old) left (head old) stands.1.replica stands.1.stored (ap (λ (c : ℕ). found c left.image.items) (sym stands.1.cluster) ∙ stands.1.pair left.image.items is.1.image)
-            stands.1.nonces (stands.1.placed.left left.image.items is.1.image) stands.1.started (left_tells old stands.1.log left.journal is.1.journal) (λ q. refl) (λ q. refl),
+            stands.1.nonces (stands.1.placed.left left.image.items is.1.image) stands.1.started (left_tells old stands.1.log left.journal is.1.journal) (λ q. refl) (left_some old.journal left.journal is.1.journal ∙ stands.1.journaled) stands.1.active,
       );
       sent = λ part at y h. absurd (cc);
     };

@@ -23,7 +23,7 @@ use Rattle.vr_state.specs.State.{State}
 use Rattle.vr_state.specs.Step.{step}
 use Rattle.vr_state.specs.declared.event.Event.{Event}
 use Rattle.vr_state.specs.declared.message.Outputs.{Outputs}
-use Rattle.dir_machine.proofs.Journals.{IsLeftWith, left_tells, log_now, taken_some}
+use Rattle.dir_machine.proofs.Journals.{IsLeftWith, left_some, left_tells, log_now, taken_some}
 use Rattle.dir_machine.proofs.Starts.{left_now, placed_now}
 use Rattle.dir_machine.specs.private.Processes.{EndedInside, HeldPlaced, IsGiven, IsLeftOf, IsStopped, KeepsIt, LogsIt, MemoryNode, TellsIn, Took}
 use Rattle.dir_machine.specs.declared.events.Fates.{Fates}
@@ -110,6 +110,7 @@ module _ {T : Type 0} (es : List (Event OpValue)) (old new : MemoryNode) (view :
     steps = made.0;
     pair = go pair.pair;
     placed = pair.placed;
+    journaled = left_some new.journal left.journal of.journal ∙ stops.same.journaled;
     log = subst (λ (t : Told). TellsIn t new.replica left.journal) (head_same old new stops.same) (left_tells new made.2 left.journal of.journal);
   }
     where
@@ -140,6 +141,7 @@ module _ {T : Type 0} (es : List (Event OpValue)) (old new : MemoryNode) (view :
         steps = none_made old.count old.index old.replica es;
         pair = inl former;
         placed = placed;
+        journaled = left_some new.journal left.journal of.journal ∙ stops.same.journaled;
         log = subst (λ (x : Option (Vec ℕ Global)). TellsIn (head old) old.replica x) (sym none) tt;
       }
       go (Some octets) some h = record {
@@ -147,6 +149,7 @@ module _ {T : Type 0} (es : List (Event OpValue)) (old new : MemoryNode) (view :
         steps = taken_some old.count old.index h.of.kept.count old.replica h.of.taken es h.of.some;
         pair = inl former;
         placed = placed;
+        journaled = left_some new.journal left.journal of.journal ∙ stops.same.journaled;
         log = subst (λ (x : Option (Vec ℕ Global)). TellsIn (head old) (after_events old.count old.index old.replica (take h.of.kept.count h.of.taken)) x) (sym some) (record { kept = h.kept; tells = h.tells; of = h.of.kept.kept });
       }
 

@@ -1,5 +1,5 @@
 -- A run goes on by one event of each kind, from none to a whole schedule.
-use Rattle.std.proofs.Common.{◌≡◌, ℕ, ◌<◌, ◌≤◌, cond, inr, List, [], ◌∷◌, ◌++◌, length, set, take, drop, Some, None, Vec, slice_get, refl, sym, ap, ◌∙◌, subst, arith, lt-ltb, append-nil, append_assoc, take-append-drop}
+use Rattle.std.proofs.Common.{◌≡◌, ℕ, ◌<◌, ◌≤◌, true, cond, inr, List, [], ◌∷◌, ◌++◌, length, set, take, drop, Option, Some, None, Vec, slice_get, refl, sym, ap, ◌∙◌, subst, arith, lt-ltb, append-nil, append_assoc, take-append-drop}
 use Rattle.std.specs.Arc.{arc_value}
 use Rattle.std.specs.Global.{Global}
 use Rattle.std.proofs.lemmas.List.{length-set}
@@ -15,20 +15,20 @@ use Rattle.vr_state.specs.Words.{Client}
 use Rattle.vr_state.specs.declared.event.Event.{Event}
 use Rattle.vr_world.proofs.Laws.{chosen_lists_agree, committed_grows, committed_is_longest, commits_are_held, numbers_rise, replicas_agree}
 use Rattle.vr_world.proofs.Holding.{majorities_hold}
-use Rattle.vr_world.specs.Law.{IsSize}
+use Rattle.vr_world.specs.Law.{IsSize, TakesPart}
 use Rattle.vr_world.specs.World.{World, after, run, start}
 use Rattle.vr_world.specs.declared.events.WorldEvent.{WorldEvent}
 use Rattle.dir_machine.specs.declared.events.Fates.{Fates}
 use Rattle.dir_machine.specs.declared.events.Faults.{Faults}
 use Rattle.dir_machine.proofs.Asks.{answered_on, told_on}
-use Rattle.dir_machine.proofs.Gives.{Acted, MayEnd, ended_on, given_on, may_all, may_one}
-use Rattle.dir_machine.proofs.Processes.{IsQuiet, played_on, stands_on, stands_still}
+use Rattle.dir_machine.proofs.Gives.{Acted, MayEnd, down_not_up, ended_on, given_on, may_all, may_one, unborn_not_up}
+use Rattle.dir_machine.proofs.Processes.{IsQuiet, not_missing, played_on, stands_on, stands_still, takes_part}
 use Rattle.dir_machine.proofs.Looks.{compared_on, searched_on}
 use Rattle.dir_machine.proofs.Starts.{MayStart, started_on}
 use Rattle.dir_machine.proofs.Worlds.{IsReached}
 use Rattle.dir_machine.specs.Happening.{IsMissing, IsOneMissing, MayHappen}
-use Rattle.dir_machine.specs.Headline.{CommittedIsOneList, IsWhole, committed_after, joined}
-use Rattle.dir_machine.specs.Shown.{stage}
+use Rattle.dir_machine.specs.Headline.{CommittedIsOneList, IsWhole, MajoritiesKeep, committed_after, joined}
+use Rattle.dir_machine.specs.Shown.{stage, up}
 use Rattle.dir_machine.specs.private.Givens.{AreAsked, IsAsked}
 use Rattle.dir_machine.specs.private.Processes.{IsAnswered, IsCompared, IsEnded, IsGiven, IsNew, IsSearched, IsStarted, IsToldOf}
 use Rattle.dir_machine.specs.private.Running.{AreNew, AreSent, GoesOn, Laws, IsNothingShown, IsPlayed, Stands, StandsFor}
@@ -37,7 +37,7 @@ use Rattle.dir_machine.specs.declared.events.MachineEvent.{MachineEvent}
 use Rattle.dir_machine.specs.declared.events.MachineEvent.TheVariants as event
 use Rattle.dir_machine.specs.declared.machine.Machine.{Machine}
 use Rattle.dir_machine.specs.declared.process.Process.{Process}
-use Rattle.dir_machine.specs.declared.process.Process.TheVariants.{Unborn}
+use Rattle.dir_machine.specs.declared.process.Process.TheVariants.{Unborn, Up, Down}
 use Rattle.dir_machine.specs.declared.replies.MachineReply.{MachineReply}
 use Rattle.dir_machine.specs.declared.replies.MachineReply.TheVariants as reply
 use Rattle.dir_machine.specs.declared.running.Running.{Running}
@@ -49,14 +49,14 @@ acted_as m w i shown x p May Might f a = record { happened = a.happened; may = f
 
 -- a process that is to end
 may_end : (laws : Laws) (m : Machine) (size : IsSize m.count) (w : World OpValue) (i : ℕ) (lt : i < m.count) (shown : List MachineReply) (reached : IsReached m.count w) (sent : AreSent shown w) (fates : Fates) (x : MachineReply) (h : List (WorldEvent OpValue))
-    → MayEnd laws m size w i lt shown reached sent x h → MayHappen (arc_value m.schema) m.suffix m.count shown (event.Crash i fates) x h w
+    → MayEnd laws m size w i lt shown reached sent x h → MayHappen (arc_value m.schema) m.suffix m.count m.journaled shown (event.Crash i fates) x h w
 may_end laws m size w i lt shown reached sent fates reply.Nothing h may = (may.0, inr may.1)
 may_end laws m size w i lt shown reached sent fates (reply.Crashed j) h may = may
 may_end laws m size w i lt shown reached sent fates _ h may = absurd may
 
 -- a process that is to start
 may_start : (m : Machine) (w : World OpValue) (i : ℕ) (lt : i < m.count) (shown : List MachineReply) (x : MachineReply) (h : List (WorldEvent OpValue))
-    → (faults : Faults) (fates : Fates) → MayStart m w i lt shown x h → MayHappen (arc_value m.schema) m.suffix m.count shown (event.Start i faults fates) x h w
+    → (faults : Faults) (fates : Fates) → MayStart m w i lt shown x h → MayHappen (arc_value m.schema) m.suffix m.count m.journaled shown (event.Start i faults fates) x h w
 may_start m w i lt shown reply.Nothing h faults fates may = (may.0, inr may.1)
 may_start m w i lt shown (reply.Started j restarts out) h faults fates may = may
 may_start m w i lt shown (reply.Refused j e) h faults fates may = may
@@ -76,14 +76,14 @@ module _ (m : Machine) (e : MachineEvent) (old new : Running) where
   -- so the run goes on, where that was an act of the process
   turned_on : (i : ℕ) (before after : Process) (x : MachineReply) → Turned m i old new before after x
       → (IsSize m.count → (w : World OpValue) → IsReached m.count w → AreSent old.shown.items w → StandsFor m w i (stage old.shown.items i) before
-      → Acted m w i old.shown.items x after (λ h. MayHappen (arc_value m.schema) m.suffix m.count old.shown.items e x h w)) → GoesOn m e old new
+      → Acted m w i old.shown.items x after (λ h. MayHappen (arc_value m.schema) m.suffix m.count m.journaled old.shown.items e x h w)) → GoesOn m e old new
   turned_on i before after x t act = record {
     counted = ap length t.processes ∙ length-set (set old.processes.items i t.hole) i after ∙ length-set old.processes.items i t.hole;
     played = λ size es p. go size es p (act size (run m.count (joined p.happened) (start m.count)) (record { past = joined p.happened; is = refl }) p.stands.sent (p.stands.each i before t.was));
   }
     where
       go : IsSize m.count → (es : List MachineEvent) (p : IsPlayed m es old.processes.items old.shown.items)
-          → Acted m (run m.count (joined p.happened) (start m.count)) i old.shown.items x after (λ h. MayHappen (arc_value m.schema) m.suffix m.count old.shown.items e x h (run m.count (joined p.happened) (start m.count)))
+          → Acted m (run m.count (joined p.happened) (start m.count)) i old.shown.items x after (λ h. MayHappen (arc_value m.schema) m.suffix m.count m.journaled old.shown.items e x h (run m.count (joined p.happened) (start m.count)))
           → IsPlayed m (es ++ e ∷ []) new.processes.items new.shown.items
       go size es p a =
           subst (λ (l : List MachineReply). IsPlayed m (es ++ e ∷ []) new.processes.items l) (sym t.shown)
@@ -94,14 +94,14 @@ module _ (m : Machine) (e : MachineEvent) (old new : Running) where
   -- so it does where something is shown and nothing happens
   still_on : (x : MachineReply) → new.processes.items ≡ old.processes.items → new.shown.items ≡ old.shown.items ++ x ∷ []
       → (IsSize m.count → (w : World OpValue) → IsReached m.count w → Stands m w old.processes.items old.shown.items
-      → MayHappen (arc_value m.schema) m.suffix m.count old.shown.items e x [] w × IsQuiet x) → GoesOn m e old new
+      → MayHappen (arc_value m.schema) m.suffix m.count m.journaled old.shown.items e x [] w × IsQuiet x) → GoesOn m e old new
   still_on x same shown act = record {
     counted = ap length same;
     played = λ size es p. go size es p (act size (run m.count (joined p.happened) (start m.count)) (record { past = joined p.happened; is = refl }) p.stands);
   }
     where
       go : IsSize m.count → (es : List MachineEvent) (p : IsPlayed m es old.processes.items old.shown.items)
-          → MayHappen (arc_value m.schema) m.suffix m.count old.shown.items e x [] (run m.count (joined p.happened) (start m.count)) × IsQuiet x → IsPlayed m (es ++ e ∷ []) new.processes.items new.shown.items
+          → MayHappen (arc_value m.schema) m.suffix m.count m.journaled old.shown.items e x [] (run m.count (joined p.happened) (start m.count)) × IsQuiet x → IsPlayed m (es ++ e ∷ []) new.processes.items new.shown.items
       go size es p a =
           subst (λ (l : List MachineReply). IsPlayed m (es ++ e ∷ []) new.processes.items l) (sym shown)
           (subst (λ (l : List Process). IsPlayed m (es ++ e ∷ []) l (old.shown.items ++ x ∷ [])) (sym same)
@@ -164,7 +164,7 @@ module _ (m : Machine) (old new : Running) where
 
   -- There is no such replica.
   pub away_on : (i : ℕ) → m.count ≤ i → IsNothingShown old new → (e : MachineEvent)
-      → ((w : World OpValue) → MayHappen (arc_value m.schema) m.suffix m.count old.shown.items e reply.Nothing [] w) → GoesOn m e old new
+      → ((w : World OpValue) → MayHappen (arc_value m.schema) m.suffix m.count m.journaled old.shown.items e reply.Nothing [] w) → GoesOn m e old new
   away_on i le nothing e may = still_on m e old new reply.Nothing nothing.processes nothing.shown (λ size w reached stands. (may w, quiet_nothing))
 
   -- There is no such message.
@@ -193,16 +193,34 @@ committed_is_one n size es = record {
   longest = λ a x. (committed_is_longest n size es).0 a x;
   chosen = (committed_is_longest n size es).1;
   grows = λ k. subst (λ (l : List (WorldEvent OpValue)). IsPrefix (committed_after n (take k es)) (committed_after n l)) (take-append-drop k es) (committed_grows n size (take k es) (drop k es));
-  replicas = λ i r up. replicas_agree n size es i r up;
-  held = λ i r up. commits_are_held n size es i r up;
+  replicas = λ i r there. replicas_agree n size es i r there;
+  held = λ i r there. commits_are_held n size es i r there;
   rising = numbers_rise n size es;
   majorities = λ quorum most part. majorities_hold n size es quorum most part;
 }
 
+-- With journals a majority of processes that are up has all that is committed.
+kept_by_majorities : (m : Machine) (schedule : List MachineEvent) (processes : List Process) (shown : List MachineReply) → IsSize m.count → (p : IsPlayed m schedule processes shown) → m.journaled ≡ true → MajoritiesKeep m.count shown (joined p.happened)
+kept_by_majorities m schedule processes shown size p journaled quorum most ups = majorities_hold m.count size (joined p.happened) quorum most (λ j q. part j (ups j q) (slice_get processes j) refl)
+  where
+    by : (j : ℕ) → stage shown j ≡ up → (q : Process) → StandsFor m (after m.count (joined p.happened)) j (stage shown j) q → TakesPart (after m.count (joined p.happened)) j
+    by j is (Up n f) s = takes_part m (after m.count (joined p.happened)) j n s.1 journaled
+    by j is (Down left) s = absurd (down_not_up s.0 is)
+    by j is (Unborn image) s = absurd (unborn_not_up s.0 is)
+
+    part : (j : ℕ) → (j < m.count) × (stage shown j ≡ up) → (o : Option Process) → slice_get processes j ≡ o → TakesPart (after m.count (joined p.happened)) j
+    part j is None e = absurd (not_missing processes j (omega (arith, p.stands.counted, is.0)) e)
+    part j is (Some q) e = by j is.1 q (p.stands.each j q e)
+
 -- The promise of a schedule that was played.
 pub whole : (m : Machine) (schedule : List MachineEvent) (processes : List Process) (shown : List MachineReply) → IsSize m.count → IsPlayed m schedule processes shown
-    → IsWhole (arc_value m.schema) m.suffix m.count schedule shown
-whole m schedule processes shown size p = record { happened = p.happened; in_turn = p.in_turn; committed = committed_is_one m.count size (joined p.happened) }
+    → IsWhole (arc_value m.schema) m.suffix m.count m.journaled schedule shown
+whole m schedule processes shown size p = record {
+  happened = p.happened;
+  in_turn = p.in_turn;
+  committed = committed_is_one m.count size (joined p.happened);
+  kept = kept_by_majorities m schedule processes shown size p;
+}
 
 -- So much of a schedule was played, and this is left.
 pub record IsPlayedSoFar (m : Machine) (schedule left : List MachineEvent) (r : Running) : Type 0 where
@@ -230,6 +248,6 @@ one_so_far m schedule left e old new h on = record {
 }
 
 -- all
-pub all_so_far : (m : Machine) (schedule : List MachineEvent) (r : Running) → IsPlayedSoFar m schedule [] r → IsSize m.count → IsWhole (arc_value m.schema) m.suffix m.count schedule r.shown.items
+pub all_so_far : (m : Machine) (schedule : List MachineEvent) (r : Running) → IsPlayedSoFar m schedule [] r → IsSize m.count → IsWhole (arc_value m.schema) m.suffix m.count m.journaled schedule r.shown.items
 all_so_far m schedule r h size =
     whole m schedule r.processes.items r.shown.items size (subst (λ (l : List MachineEvent). IsPlayed m l r.processes.items r.shown.items) (sym (append-nil h.gone) ∙ h.split) (h.played size))

@@ -1,10 +1,11 @@
 -- Processes that stand for a world still do after one event at one of them.
-use Rattle.std.proofs.Common.{◌≡◌, ◌≢◌, ℕ, zero, suc, ◌+◌, ◌<◌, ◌⊎◌, inl, inr, List, [], ◌∷◌, ◌++◌, length, set, Option, Some, None, Vec, slice_get, refl, sym, ap, ◌∙◌, subst, arith, length-append}
+use Rattle.std.proofs.Common.{◌≡◌, ◌≢◌, ℕ, zero, suc, ◌+◌, ◌<◌, true, ◌⊎◌, inl, inr, List, [], ◌∷◌, ◌++◌, length, set, Option, Some, None, Vec, slice_get, refl, sym, ap, ◌∙◌, subst, arith, length-append}
 use Rattle.std.specs.Arc.{arc_value}
 use Rattle.std.specs.Global.{Global}
 use Rattle.std.proofs.lemmas.List.{length-set}
 use Rattle.state_machine.specs.dir_store.ldap_op.Values.{OpValue}
 use Rattle.vr_world.proofs.Laws.{run-append}
+use Rattle.vr_world.specs.Law.{TakesPart}
 use Rattle.vr_world.specs.World.{World, after, has_used, run, sent_as, start}
 use Rattle.vr_world.specs.declared.events.WorldEvent.{WorldEvent}
 use Rattle.vr_world.specs.declared.words.Message.{Message}
@@ -14,8 +15,8 @@ use Rattle.dir_machine.proofs.Worlds.{IsLater, SameAt, same_or}
 use Rattle.dir_machine.specs.Happening.{MayHappen}
 use Rattle.dir_machine.specs.Headline.{joined}
 use Rattle.dir_machine.specs.Shown.{Stage, message_at, message_shown, stage, stage_by}
-use Rattle.dir_machine.specs.private.Processes.{IsNew}
-use Rattle.dir_machine.specs.private.Running.{AreNew, AreSent, IsKeptBy, IsPlayed, Stands, StandsFor}
+use Rattle.dir_machine.specs.private.Processes.{IsNew, MemoryNode}
+use Rattle.dir_machine.specs.private.Running.{AreNew, AreSent, IsKeptBy, IsPlayed, IsUp, Stands, StandsFor}
 use Rattle.dir_machine.specs.declared.events.MachineEvent.{MachineEvent}
 use Rattle.dir_machine.specs.declared.events.Place.{Place}
 use Rattle.dir_machine.specs.declared.machine.Machine.{Machine}
@@ -37,6 +38,12 @@ get_there (y ∷ ys) zero (suc j) x ne = refl
 get_there (y ∷ ys) (suc i) zero x ne = refl
 get_there (y ∷ ys) (suc i) (suc j) x ne = get_there ys i j x (λ e. ne (ap suc e))
 
+-- there is something at each index of a list
+pub not_missing : {A : Type 0} (xs : List A) (i : ℕ) → i < length xs → slice_get xs i ≡ None → ⊥
+not_missing [] i lt e = absurd (omega arith)
+not_missing (y ∷ ys) zero lt e = absurd (cc)
+not_missing (y ∷ ys) (suc i) lt e = not_missing ys i (omega arith) e
+
 -- None yet was up.
 pub none_new : AreNew 0 []
 none_new = record { counted = refl; each = λ i q h. absurd (cc) }
@@ -55,8 +62,8 @@ kept_apart old new j view None same h = same.stored ∙ h
 kept_apart old new j view (Some octets) same h = λ t tells.
     let k = h t tells in
     record {
-      resumes = λ may. let r = k.resumes may in record { stored = same.stored ∙ r.stored; change = r.change; kept = same.kept ∙ r.kept; log = r.log; last = r.last; low = r.low };
-      lost = λ may. same.stored ∙ k.lost may;
+      whole = k.whole;
+      has = record { stored = same.stored ∙ k.has.stored; change = k.has.change; kept = same.kept ∙ k.has.kept; log = k.has.log; last = k.has.last; low = k.has.low };
     }
 
 -- a process where nothing happened
@@ -76,6 +83,8 @@ stands_apart m old new j s (Up n f) same h = (
     executed = h.1.executed;
     pair = h.1.pair;
     log = h.1.log;
+    journaled = h.1.journaled;
+    active = h.1.active;
     started = h.1.started;
     placed = h.1.placed;
   },
@@ -86,6 +95,7 @@ stands_apart m old new j s (Down left) same h = (
     pair = h.1.pair;
     found_is = h.1.found_is;
     down = same.replica ∙ h.1.down;
+    journaled = h.1.journaled;
     kept = kept_apart old new j h.1.pair.view left.journal same h.1.kept;
     nonces = λ x u. h.1.nonces x (ap (λ l. has_used x l) (sym same.nonces) ∙ u);
     placed = h.1.placed;
@@ -99,6 +109,10 @@ stands_apart m old new j s (Unborn image) same h = (
     nonces = λ x u. h.1.nonces x (ap (λ l. has_used x l) (sym same.nonces) ∙ u);
   },
 )
+
+-- A process that is up takes part, where it keeps a journal.
+pub takes_part : (m : Machine) (w : World OpValue) (j : ℕ) (n : MemoryNode) → IsUp m w j n → m.journaled ≡ true → TakesPart w j
+takes_part m w j n u kept = record { replica = n.replica; up = u.replica; active = u.active kept }
 
 -- What became of process i at one event, in the world and in what is shown.
 pub record Moved (m : Machine) (old new : World OpValue) (i : ℕ) (shown : List MachineReply) (x : MachineReply) (p : Process) : Type 0 where
@@ -154,10 +168,10 @@ stands_still m w shown x processes stands quiet = record {
 
 -- One event more was played.
 pub played_on : (m : Machine) (es : List MachineEvent) (before after : List Process) (shown : List MachineReply) (e : MachineEvent) (x : MachineReply) (h : List (WorldEvent OpValue)) (p : IsPlayed m es before shown)
-    → MayHappen (arc_value m.schema) m.suffix m.count shown e x h (run m.count (joined p.happened) (start m.count)) → Stands m (run m.count h (run m.count (joined p.happened) (start m.count))) after (shown ++ x ∷ [])
+    → MayHappen (arc_value m.schema) m.suffix m.count m.journaled shown e x h (run m.count (joined p.happened) (start m.count)) → Stands m (run m.count h (run m.count (joined p.happened) (start m.count))) after (shown ++ x ∷ [])
     → IsPlayed m (es ++ e ∷ []) after (shown ++ x ∷ [])
 played_on m es before after shown e x h p may stands = record {
   happened = p.happened ++ h ∷ [];
-  in_turn = in_turn_more (arc_value m.schema) m.suffix m.count [] es shown p.happened (start m.count) e x h p.in_turn may;
+  in_turn = in_turn_more (arc_value m.schema) m.suffix m.count m.journaled [] es shown p.happened (start m.count) e x h p.in_turn may;
   stands = subst (λ (u : World OpValue). Stands m u after (shown ++ x ∷ [])) (sym (ap (λ (l : List (WorldEvent OpValue)). run m.count l (start m.count)) (joined_more p.happened h) ∙ run-append m.count (joined p.happened) h (start m.count))) stands;
 }

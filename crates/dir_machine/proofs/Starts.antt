@@ -1,5 +1,5 @@
 -- What a process stands for after it started.
-use Rattle.std.proofs.Common.{◌≡◌, ℕ, ◌+◌, ◌<◌, ◌≤◌, ◌==◌, min, cond, Bool, true, false, ◌⊎◌, inl, inr, List, [], ◌∷◌, length, take, Option, Some, None, Vec, slice_get, refl, sym, ap, ◌∙◌, subst, arith, eqb-true}
+use Rattle.std.proofs.Common.{◌≡◌, ℕ, ◌+◌, ◌<◌, ◌≤◌, ◌==◌, min, cond, Bool, true, false, ◌⊎◌, inl, inr, List, [], ◌∷◌, length, take, Option, Some, None, is_some, Vec, slice_get, refl, sym, ap, ◌∙◌, subst, arith, eqb-true, true≢false}
 use Rattle.std.specs.Arc.{arc_value}
 use Rattle.std.specs.Global.{Global}
 use Rattle.dir_node.specs.Logged.{IsBegun, LeavesOnlyIn}
@@ -23,7 +23,7 @@ use Rattle.view_store.specs.declared.slot.Pair.{Pair}
 use Rattle.vr_state.proofs.Laws.{either_true, prefix_nil}
 use Rattle.vr_state.specs.Lists.{IsPrefix}
 use Rattle.vr_state.specs.Outcome.{Outcome, idle, to_all}
-use Rattle.vr_state.specs.State.{State, first, recovering, resuming}
+use Rattle.vr_state.specs.State.{State, first, is_recovering, recovering, resuming}
 use Rattle.vr_state.specs.Words.{LogEntry}
 use Rattle.vr_state.specs.declared.message.Outputs.{Outputs}
 use Rattle.vr_state.specs.declared.message.PeerMessage.TheVariants.{Recovery}
@@ -35,7 +35,7 @@ use Rattle.vr_world.specs.declared.events.WorldEvent.TheVariants.{Recover, Resum
 use Rattle.vr_world.specs.declared.words.Message.{Message}
 use Rattle.dir_machine.proofs.Gives.{Acted, stage_apart, stage_own}
 use Rattle.dir_machine.proofs.Journals.{IsLeftWith, log_now}
-use Rattle.dir_machine.proofs.Returns.{notes_left, view_left}
+use Rattle.dir_machine.proofs.Returns.{notes_left}
 use Rattle.dir_machine.proofs.Worlds.{IsLater, later_refl, made_later, posted_has, put_here, put_there, recovered_is, recovered_with, resumed_is, resumed_with}
 use Rattle.dir_machine.specs.Happening.{GoesOnOver, StartsAgain, StartsFirst}
 use Rattle.dir_machine.specs.Shown.{Stage, up, down, stopped, message_by, message_of, stage}
@@ -69,14 +69,14 @@ module _ (m : Machine) (w : World OpValue) (i : ℕ) (lt : i < m.count) (shown :
   -- what may happen where replica i's process is to start
   abbrev pub MayStart : MachineReply → List (WorldEvent OpValue) → Type 0
   MayStart reply.Nothing h = (h ≡ []) × (stage shown i ≡ up)
-  MayStart (reply.Started j restarts out) h = (j ≡ i) × (StartsFirst shown i restarts out h ⊎ StartsAgain m.count shown i restarts out h w ⊎ GoesOnOver m.count shown i out h w)
+  MayStart (reply.Started j restarts out) h = (j ≡ i) × (StartsFirst shown i restarts out h ⊎ StartsAgain m.count m.journaled shown i restarts out h w ⊎ GoesOnOver m.count m.journaled shown i out h w)
   MayStart (reply.Refused j e) h = (j ≡ i) × (h ≡ [])
   MayStart (reply.Stopped j e) h = (j ≡ i) × (h ≡ [])
   MayStart _ h = ⊥
 
   -- the first start
-  first_up : (n : MemoryNode) → IsUnborn m w i → IsBorn m i (first m.count) 1 n → IsPlaced n.device → IsUp m w i n
-  first_up n u b placed = record {
+  first_up : (n : MemoryNode) → IsUnborn m w i → IsBorn m i (first m.count) 1 n → IsPlaced n.device → is_some n.journal ≡ m.journaled → IsUp m w i n
+  first_up n u b placed journaled = record {
     index = b.index;
     count = b.count;
     cluster = b.cluster;
@@ -89,9 +89,16 @@ module _ (m : Machine) (w : World OpValue) (i : ℕ) (lt : i < m.count) (shown :
     executed = subst (λ (l : List (LogEntry OpValue)). IsPrefix l (take n.replica.commit_number n.replica.log)) (sym b.records) (prefix_nil (take n.replica.commit_number n.replica.log));
     pair = b.pair;
     log = b.log;
+    journaled = journaled;
+    active = λ kept. ap (λ (r : State OpValue). is_recovering r.status) b.replica;
     started = omega (arith, b.restarts_is);
     placed = placed;
   }
+
+  -- a replica that goes on doesn't recover
+  goes_active : (b : Bool) → is_recovering (cond b Normal ViewChange) ≡ false
+  goes_active true = refl
+  goes_active false = refl
 
   -- no message is among none
   none_of : (j : ℕ) (out : Outputs OpValue) (at : ℕ) (y : Message OpValue) → out.sends.items ≡ [] → message_of j out at ≡ Some y → ⊥
@@ -99,7 +106,7 @@ module _ (m : Machine) (w : World OpValue) (i : ℕ) (lt : i < m.count) (shown :
 
   -- a later start at which the replica recovers
   module _ (n : MemoryNode) (out : Outputs OpValue) (restarts view x most : ℕ) (down_is : w.replicas i ≡ None) (stored_is : w.stored i ≡ view) (nonces_are : AreUpTo w i most) (above : most < x)
-      (b : IsBorn m i (recovering m.count view x) x n) (is : restarts ≡ n.restarts) (sends : gives n.replica out ≡ recovers m.count i view x) where
+      (b : IsBorn m i (recovering m.count view x) x n) (is : restarts ≡ n.restarts) (sends : gives n.replica out ≡ recovers m.count i view x) (alone_is : m.journaled ≡ false) (journaled_is : is_some n.journal ≡ m.journaled) where
     -- the numbers are one
     nonce : x ≡ restarts
     nonce = sym (is ∙ b.restarts_is)
@@ -130,8 +137,9 @@ module _ (m : Machine) (w : World OpValue) (i : ℕ) (lt : i < m.count) (shown :
     again_messages : (happens m.count w (Recover i restarts)).messages ≡ posted i out.sends.items w.messages
     again_messages = ap (λ (u : World OpValue). u.messages) to ∙ ap (λ (l : List (Send OpValue)). posted i l w.messages) (sym sent_is)
 
-    again_may : stage shown i ≡ down → StartsAgain m.count shown i restarts out (Recover i restarts ∷ []) w
+    again_may : stage shown i ≡ down → StartsAgain m.count m.journaled shown i restarts out (Recover i restarts ∷ []) w
     again_may s = record {
+      alone = alone_is;
       again = s;
       gives = record { sends = again_messages; replies = ap (λ (u : World OpValue). u.replies) to ∙ ap (λ (o : Outcome OpValue). answered i o.replies w.replies) (sym sends) };
       one = refl;
@@ -158,6 +166,8 @@ module _ (m : Machine) (w : World OpValue) (i : ℕ) (lt : i < m.count) (shown :
       executed = subst (λ (l : List (LogEntry OpValue)). IsPrefix l (take n.replica.commit_number n.replica.log)) (sym b.records) (prefix_nil (take n.replica.commit_number n.replica.log));
       pair = b.pair;
       log = b.log;
+      journaled = journaled_is;
+      active = λ kept. absurd (true≢false (sym kept ∙ alone_is));
       started = omega (arith, b.restarts_is, above);
       placed = placed;
     }
@@ -186,7 +196,8 @@ module _ (m : Machine) (w : World OpValue) (i : ℕ) (lt : i < m.count) (shown :
 
   -- a later start at which the replica goes on from its journal
   module _ (n : MemoryNode) (out : Outputs OpValue) (restarts x most : ℕ) (t : Told) (k : HasKept w i t) (down_is : w.replicas i ≡ None) (nonces_are : AreUpTo w i most) (above : most < x)
-      (b : IsBorn m i (resuming m.count t.kept.view t.kept.k (change_of t.kept)) x n) (is : restarts ≡ n.restarts) (sends : gives n.replica out ≡ idle (resuming m.count t.kept.view t.kept.k (change_of t.kept))) where
+      (b : IsBorn m i (resuming m.count t.kept.view t.kept.k (change_of t.kept)) x n) (is : restarts ≡ n.restarts) (sends : gives n.replica out ≡ idle (resuming m.count t.kept.view t.kept.k (change_of t.kept)))
+      (over_is : m.journaled ≡ true) (journaled_is : is_some n.journal ≡ m.journaled) where
     -- a replica that goes on, by what is kept of it
     abbrev gone_on : ℕ → ℕ → List (LogEntry OpValue) → ℕ → State OpValue
     gone_on view last log many = record (first m.count) { view_number = view; status = cond (last == view) Normal ViewChange; last_normal_view = last; log = log; commit_number = many }
@@ -228,6 +239,8 @@ module _ (m : Machine) (w : World OpValue) (i : ℕ) (lt : i < m.count) (shown :
       executed = subst (λ (l : List (LogEntry OpValue)). IsPrefix l (take n.replica.commit_number n.replica.log)) (sym b.records) (prefix_nil (take n.replica.commit_number n.replica.log));
       pair = b.pair;
       log = b.log;
+      journaled = journaled_is;
+      active = λ kept. ap (λ (r : State OpValue). is_recovering r.status) b.replica ∙ goes_active (t.kept.last == t.kept.view);
       started = omega (arith, b.restarts_is, above);
       placed = placed;
     }
@@ -238,6 +251,7 @@ module _ (m : Machine) (w : World OpValue) (i : ℕ) (lt : i < m.count) (shown :
       may = (
         own_is,
         inr (inr (record {
+          over = over_is;
           again = was;
           kept = k.change;
           is_kept = k.kept;
@@ -261,7 +275,7 @@ module _ (m : Machine) (w : World OpValue) (i : ℕ) (lt : i < m.count) (shown :
   -- a later start
   over_on : OneIsTold → (left : Left) (n : MemoryNode) (f : Fates) (out : Outputs OpValue) (j restarts : ℕ) → j ≡ i → restarts ≡ n.restarts → stage shown i ≡ down → IsDown m w i left → (so : StartsOver m i left n out) → IsPlaced n.device
       → Acted m w i shown (reply.Started j restarts out) (Up n f) (λ h. MayStart (reply.Started j restarts out) h)
-  over_on one left n f out j restarts own_is is was d so placed = go left.journal so.is d.kept
+  over_on one left n f out j restarts own_is is was d so placed = go left.journal d.journaled so.is d.kept
     where
       same : d.pair ≡ so.pair
       same = cc (d.found_is, so.found_is)
@@ -275,23 +289,18 @@ module _ (m : Machine) (w : World OpValue) (i : ℕ) (lt : i < m.count) (shown :
       view_is : w.stored i ≡ d.pair.view → w.stored i ≡ so.pair.view
       view_is e = e ∙ ap (λ (p : Pair). p.view) same
 
-      more : ap (λ (p : Pair). p.restarts) same ≡ ap (λ (p : Pair). p.restarts) same
-      more = refl
+      journaled : is_some n.journal ≡ m.journaled
+      journaled = so.journaled ∙ d.journaled
 
-      go : (o : Option (Vec ℕ Global)) → IsStartOver (owner m i) so.pair o so.start → IsKeptBy w i d.pair.view o → Acted m w i shown (reply.Started j restarts out) (Up n f) (λ h. MayStart (reply.Started j restarts out) h)
-      go None e kept =
+      go : (o : Option (Vec ℕ Global)) → is_some o ≡ m.journaled → IsStartOver (owner m i) so.pair o so.start → IsKeptBy w i d.pair.view o → Acted m w i shown (reply.Started j restarts out) (Up n f) (λ h. MayStart (reply.Started j restarts out) h)
+      go None keeps e kept =
           recovers_on n out restarts so.pair.view (so.pair.restarts + 1) d.pair.restarts d.down (view_is kept) d.nonces (omega (arith, ap (λ (p : Pair). p.restarts) same)) (born (alone (owner m i) so.pair) e) is (given_is (alone (owner m i) so.pair) e)
-          j own_is was f placed
-      go (Some octets) (inl b) kept =
-          recovers_on n out restarts so.pair.view (so.pair.restarts + 2) d.pair.restarts d.down
-          (view_is ((kept nothing_told (subst (λ (l : List (List ℕ)). Tells nothing_told l nothing_told) (sym b.empty) refl)).lost refl)) d.nonces (omega (arith, ap (λ (p : Pair). p.restarts) same))
-          (born (recovered true (owner m i) so.pair) b.is) is (given_is (recovered true (owner m i) so.pair) b.is) j own_is was f placed
-      go (Some octets) (inr (inl b)) kept =
-          recovers_on n out restarts so.pair.view (so.pair.restarts + 2) d.pair.restarts d.down (view_is ((kept b.told b.tells).lost b.lost)) d.nonces (omega (arith, ap (λ (p : Pair). p.restarts) same))
-          (born (recovered false (owner m i) so.pair) b.is) is (given_is (recovered false (owner m i) so.pair) b.is) j own_is was f placed
-      go (Some octets) (inr (inr b)) kept =
-          goes_on_so n out restarts (so.pair.restarts + 1) d.pair.restarts b.told ((kept b.told b.tells).resumes b.whole) d.down d.nonces (omega (arith, ap (λ (p : Pair). p.restarts) same))
-          (born (resumed (owner m i) so.pair b.told) b.is) is (given_is (resumed (owner m i) so.pair b.told) b.is) j own_is was f placed
+          (sym keeps) journaled j own_is was f placed
+      go (Some octets) keeps (inl b) kept = absurd (true≢false (sym (kept nothing_told (subst (λ (l : List (List ℕ)). Tells nothing_told l nothing_told) (sym b.empty) refl)).whole))
+      go (Some octets) keeps (inr (inl b)) kept = absurd (true≢false (sym (kept b.told b.tells).whole ∙ b.lost))
+      go (Some octets) keeps (inr (inr b)) kept =
+          goes_on_so n out restarts (so.pair.restarts + 1) d.pair.restarts b.told (kept b.told b.tells).has d.down d.nonces (omega (arith, ap (λ (p : Pair). p.restarts) same))
+          (born (resumed (owner m i) so.pair b.told) b.is) is (given_is (resumed (owner m i) so.pair b.told) b.is) (sym keeps) journaled j own_is was f placed
 
   -- A start that was refused leaves the process down.
   left_down : OneIsTold → (old new : Left) → IsDown m w i old → IsLeftByStart m i old new → IsDown m w i new
@@ -300,11 +309,21 @@ module _ (m : Machine) (w : World OpValue) (i : ℕ) (lt : i < m.count) (shown :
       -- what is kept, by the view of the pair that is there then
       kept_left : (view : ℕ) → IsKeptBy w i view old.journal → (o p : Option (Vec ℕ Global)) → old.journal ≡ o → new.journal ≡ p → IsLogLeft m i old o p → IsKeptBy w i view p
       kept_left view h None None e f l = subst (λ (x : Option (Vec ℕ Global)). IsKeptBy w i view x) e h
-      kept_left view h (Some a) (Some b) e f (inl same) = subst (λ (l : List (List ℕ)). IsLogOf w i view l) (sym same) (subst (λ (x : Option (Vec ℕ Global)). IsKeptBy w i view x) e h)
+      kept_left view h (Some a) (Some b) e f (inl same) = subst (λ (l : List (List ℕ)). IsLogOf w i l) (sym same) (subst (λ (x : Option (Vec ℕ Global)). IsKeptBy w i view x) e h)
       kept_left view h (Some a) (Some b) e f (inr (pair, start, found_is, is, begun)) =
-          notes_left one w i (owner m i) pair (recorded a.items) start view b.items is (subst (λ (x : Option (Vec ℕ Global)). IsKeptBy w i view x) e h) begun
+          notes_left one w i (owner m i) pair (recorded a.items) start b.items is (subst (λ (x : Option (Vec ℕ Global)). IsKeptBy w i view x) e h) begun
       kept_left view h None (Some b) e f l = absurd l
       kept_left view h (Some a) None e f l = absurd l
+
+      -- there is a journal as there was
+      there_is : (o p : Option (Vec ℕ Global)) → IsLogLeft m i old o p → is_some p ≡ is_some o
+      there_is None None l = refl
+      there_is (Some a) (Some b) l = refl
+      there_is None (Some b) l = absurd l
+      there_is (Some a) None l = absurd l
+
+      journaled : is_some new.journal ≡ m.journaled
+      journaled = there_is old.journal new.journal left.log ∙ d.journaled
 
       kept_at : (view : ℕ) → IsKeptBy w i view old.journal → IsKeptBy w i view new.journal
       kept_at view h = kept_left view h old.journal new.journal refl refl left.log
@@ -312,8 +331,7 @@ module _ (m : Machine) (w : World OpValue) (i : ℕ) (lt : i < m.count) (shown :
       -- the view of a start over a journal, or over none
       view_at : (pair : Pair) (start : Restart) → d.pair ≡ pair → (o : Option (Vec ℕ Global)) → IsStartOver (owner m i) pair o start → IsKeptBy w i d.pair.view o → IsKeptBy w i start.pair.view o
       view_at pair start same None is h = h ∙ ap (λ (p : Pair). p.view) same ∙ sym (ap (λ (s : Restart). s.pair.view) is)
-      view_at pair start same (Some octets) is h =
-          view_left one w i (owner m i) pair (recorded octets.items) start is (subst (λ (p : Pair). IsLogOf w i p.view (recorded octets.items)) same h)
+      view_at pair start same (Some octets) is h = h
 
       more_at : (pair : Pair) (start : Restart) → d.pair ≡ pair → (o : Option (Vec ℕ Global)) → IsStartOver (owner m i) pair o start → d.pair.restarts ≤ start.pair.restarts
       more_at pair start same None is = omega (arith, ap (λ (p : Pair). p.restarts) same, ap (λ (s : Restart). s.pair.restarts) is)
@@ -326,6 +344,7 @@ module _ (m : Machine) (w : World OpValue) (i : ℕ) (lt : i < m.count) (shown :
         pair = d.pair;
         found_is = ap (λ (l : List ℕ). found m.cluster l) same ∙ d.found_is;
         down = d.down;
+        journaled = journaled;
         kept = kept_at d.pair.view d.kept;
         nonces = d.nonces;
         placed = subst IsWellPlaced (sym same) d.placed;
@@ -340,6 +359,7 @@ module _ (m : Machine) (w : World OpValue) (i : ℕ) (lt : i < m.count) (shown :
             pair = d.pair;
             found_is = former ∙ ap (λ (p : Pair). own p) (sym same);
             down = d.down;
+            journaled = journaled;
             kept = kept_at d.pair.view d.kept;
             nonces = d.nonces;
             placed = image.placed;
@@ -348,6 +368,7 @@ module _ (m : Machine) (w : World OpValue) (i : ℕ) (lt : i < m.count) (shown :
             pair = start.pair;
             found_is = next;
             down = d.down;
+            journaled = journaled;
             kept = kept_at start.pair.view (view_at pair start same old.journal is d.kept);
             nonces = λ x h. let le : x ≤ d.pair.restarts = d.nonces x h in let up_to : d.pair.restarts ≤ start.pair.restarts = more_at pair start same old.journal is in omega (arith, le, up_to);
             placed = image.placed;
@@ -381,7 +402,7 @@ module _ (m : Machine) (w : World OpValue) (i : ℕ) (lt : i < m.count) (shown :
     moved = record {
       later = later_refl w i;
       apart = λ k ne s. stage_apart i j k up s is.0 ne;
-      stands = (stage_own i j up (stage shown i) is.0, first_up n stands.1 is.2 is.4);
+      stands = (stage_own i j up (stage shown i) is.0, first_up n stands.1 is.2 is.4 is.5);
       sent = λ part at y h. absurd (none_of j out at y none h);
     };
   }
@@ -454,9 +475,9 @@ module _ (m : Machine) (i : ℕ) (config : NodeConfig) (schema : arc_value confi
       → IsMade config (recovering config.count (started_pair (found config.cluster (seen_after device.base device.events))).view (started_pair (found config.cluster (seen_after device.base device.events))).restarts)
       (started_pair (found config.cluster (seen_after device.base device.events))).restarts n
       → gives n.replica out ≡ recovers config.count config.index (started_pair (found config.cluster (seen_after device.base device.events))).view (started_pair (found config.cluster (seen_after device.base device.events))).restarts
-      → KeepsIt n → LogsIt n → restarts ≡ n.restarts → (IsWellPlaced (seen_after device.base device.events) → IsPlaced n.device)
+      → KeepsIt n → LogsIt n → is_some n.journal ≡ false → restarts ≡ n.restarts → (IsWellPlaced (seen_after device.base device.events) → IsPlaced n.device)
       → IsStarted m i (Down (record { image = image; journal = None })) (Up n fates) (reply.Started i restarts out)
-  alone_started n out restarts fates owned_is made sends keeps logs restarts_is placed = go (own_pair (found config.cluster (seen_after device.base device.events)) owned_is)
+  alone_started n out restarts fates owned_is made sends keeps logs journaled restarts_is placed = go (own_pair (found config.cluster (seen_after device.base device.events)) owned_is)
     where
       go : (p : Pair) × (found config.cluster (seen_after device.base device.events) ≡ own p) → IsStarted m i (Down (record { image = image; journal = None })) (Up n fates) (reply.Started i restarts out)
       go (p, e) = (
@@ -470,6 +491,7 @@ module _ (m : Machine) (i : ℕ) (config : NodeConfig) (schema : arc_value confi
           born = made_born m i config (recovering m.count p.view (p.restarts + 1)) (p.restarts + 1) n schema suffix cluster index count
               (subst (λ (k : ℕ). IsMade config (recovering k p.view (p.restarts + 1)) (p.restarts + 1) n) count
               (subst (λ (f : Finding). IsMade config (recovering config.count (started_pair f).view (started_pair f).restarts) (started_pair f).restarts n) e made)) keeps logs;
+          journaled = journaled;
           gives = sends ∙ ap (λ (f : Finding). recovers config.count config.index (started_pair f).view (started_pair f).restarts) e ∙ ap (λ (k : ℕ). recovers k config.index p.view (p.restarts + 1)) count
               ∙ ap (λ (k : ℕ). recovers m.count k p.view (p.restarts + 1)) index;
         },
@@ -479,9 +501,9 @@ module _ (m : Machine) (i : ℕ) (config : NodeConfig) (schema : arc_value confi
   -- A start over a journal.
   pub over_started : (octets : Vec ℕ Global) (j : journals.MemoryModel) → j ≡ record { base = octets.items; events = []; failures = 0 } → (n : MemoryNode) (out : Outputs OpValue) (restarts : ℕ) (fates : Fates)
       → IsRestarted config (found config.cluster (seen_after device.base device.events)) (recorded (journals.seen_after j.base j.events)) n out
-      → KeepsIt n → LogsIt n → restarts ≡ n.restarts → (IsWellPlaced (seen_after device.base device.events) → IsPlaced n.device)
+      → KeepsIt n → LogsIt n → is_some n.journal ≡ true → restarts ≡ n.restarts → (IsWellPlaced (seen_after device.base device.events) → IsPlaced n.device)
       → IsStarted m i (Down (record { image = image; journal = Some octets })) (Up n fates) (reply.Started i restarts out)
-  over_started octets j j_is n out restarts fates r keeps logs restarts_is placed = (
+  over_started octets j j_is n out restarts fates r keeps logs journaled restarts_is placed = (
     refl,
     restarts_is,
     record {
@@ -491,6 +513,7 @@ module _ (m : Machine) (i : ℕ) (config : NodeConfig) (schema : arc_value confi
       is = subst (λ (o : Owner). IsRestart o r.former (recorded octets.items) r.start) owner_same
           (subst (λ (x : journals.MemoryModel). IsRestart (owner_of config) r.former (recorded (journals.seen_after x.base x.events)) r.start) j_is r.is);
       born = made_born m i config r.start.outcome.state r.start.pair.restarts n schema suffix cluster index count r.made keeps logs;
+      journaled = journaled;
       gives = r.sends;
     },
     λ h. placed (held h),

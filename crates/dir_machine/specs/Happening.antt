@@ -1,5 +1,5 @@
 -- What happens in the world of the protocol at each event of a machine.
-use Rattle.std.specs.Prelude.{◌≡◌, ◌≢◌, ◌⊎◌, ℕ, ◌-◌, ◌<◌, ◌≤◌, true, false, List, [], ◌∷◌, ◌++◌, length, take, Option, Some, None, Result, Ok, Err, slice_get}
+use Rattle.std.specs.Prelude.{◌≡◌, ◌≢◌, ◌⊎◌, ℕ, ◌-◌, ◌<◌, ◌≤◌, Bool, true, false, List, [], ◌∷◌, ◌++◌, length, take, Option, Some, None, Result, Ok, Err, slice_get}
 use Rattle.std.specs.declared.alloc.AllocError.{AllocError}
 use Rattle.dir_node.specs.Outcomes.{OutcomeValue, done, lost, pending, stale, standing_by}
 use Rattle.dir_node.specs.declared.error.NodeError.TheVariants.{NoMemory}
@@ -99,14 +99,16 @@ pub record StartsFirst (before : List MachineReply) (i restarts : ℕ) (out : Ou
   pub sends : out.sends.items ≡ []
   pub nothing : h ≡ []
 
--- A later start is a recovery, with the number of the start as its nonce.
-pub record StartsAgain (n : ℕ) (before : List MachineReply) (i restarts : ℕ) (out : Outputs OpValue) (h : List (WorldEvent OpValue)) (w : World OpValue) : Type 0 where
+-- A later start without a journal is a recovery, with the number of the start as its nonce.
+pub record StartsAgain (n : ℕ) (journaled : Bool) (before : List MachineReply) (i restarts : ℕ) (out : Outputs OpValue) (h : List (WorldEvent OpValue)) (w : World OpValue) : Type 0 where
+  pub alone : journaled ≡ false
   pub again : stage before i ≡ down
   pub gives : GivesOut n i out (Recover i restarts) w
   pub one : h ≡ Recover i restarts ∷ []
 
--- A later start over a journal may go on as that has kept the replica, with some of what it had committed.
-pub record GoesOnOver (n : ℕ) (before : List MachineReply) (i : ℕ) (out : Outputs OpValue) (h : List (WorldEvent OpValue)) (w : World OpValue) : Type 0 where
+-- A later start over a journal goes on as that has kept the replica, with some of what it had committed.
+pub record GoesOnOver (n : ℕ) (journaled : Bool) (before : List MachineReply) (i : ℕ) (out : Outputs OpValue) (h : List (WorldEvent OpValue)) (w : World OpValue) : Type 0 where
+  pub over : journaled ≡ true
   pub again : stage before i ≡ down
   pub kept : Change OpValue
   pub is_kept : w.kept i ≡ Some kept
@@ -164,39 +166,39 @@ pub record IsReplica (n i : ℕ) (w : World OpValue) (x : MachineReply) : Type 0
   pub shown : x ≡ reply.Standing i replica.view_number (standing_by i (primary n replica.view_number) replica.status) (length replica.log) replica.commit_number
 
 -- What may happen in the world at an event that gets this reply.
-abbrev pub MayHappen : SchemaModel → List RdnModel → ℕ → List MachineReply → MachineEvent → MachineReply → List (WorldEvent OpValue) → World OpValue → Type 0
-MayHappen s root n before (event.Give i g) reply.Nothing h w = (h ≡ []) × (IsAway n before i ⊎ IsMissing before i g)
-MayHappen s root n before (event.Give i g) (reply.Handled j outs behind) h w = (j ≡ i) × TakesEach n before i (g ∷ []) outs.items h w
-MayHappen s root n before (event.Give i g) (reply.Refused j e) h w = (j ≡ i) × (e ≡ NoMemory) × (h ≡ [])
-MayHappen s root n before (event.Give i g) (reply.Stopped j e) h w = (j ≡ i) × (e ≢ NoMemory) × EndsInside n before i (g ∷ []) h w
-MayHappen s root n before (event.GiveAll i gs) reply.Nothing h w = (h ≡ []) × (IsAway n before i ⊎ IsOneMissing before i gs.items)
-MayHappen s root n before (event.GiveAll i gs) (reply.Handled j outs behind) h w = (j ≡ i) × TakesEach n before i gs.items outs.items h w
-MayHappen s root n before (event.GiveAll i gs) (reply.Refused j e) h w = (j ≡ i) × (e ≡ NoMemory) × (h ≡ [])
-MayHappen s root n before (event.GiveAll i gs) (reply.Stopped j e) h w = (j ≡ i) × (e ≢ NoMemory) × EndsInside n before i gs.items h w
-MayHappen s root n before (event.Crash i fates) reply.Nothing h w = (h ≡ []) × IsAway n before i
-MayHappen s root n before (event.Crash i fates) (reply.Crashed j) h w = (j ≡ i) × (h ≡ Crash i ∷ [])
-MayHappen s root n before (event.Start i faults fates) reply.Nothing h w = (h ≡ []) × IsNotToStart n before i
-MayHappen s root n before (event.Start i faults fates) (reply.Started j restarts out) h w = (j ≡ i) × (StartsFirst before i restarts out h ⊎ StartsAgain n before i restarts out h w ⊎ GoesOnOver n before i out h w)
-MayHappen s root n before (event.Start i faults fates) (reply.Refused j e) h w = (j ≡ i) × (h ≡ [])
-MayHappen s root n before (event.Start i faults fates) (reply.Stopped j e) h w = (j ≡ i) × (h ≡ [])
-MayHappen s root n before (event.Ask i client number) reply.Nothing h w = (h ≡ []) × IsAway n before i
-MayHappen s root n before (event.Ask i client number) (reply.Outcome j o) h w = (j ≡ i) × (h ≡ []) × IsByReplica n i w client number (became_view o) × IsDoneIn s root (committed n w.messages) client number (became_view o)
-MayHappen s root n before (event.Search i named q) reply.Nothing h w = (h ≡ []) × IsAway n before i
-MayHappen s root n before (event.Search i named q) (reply.Found j number a) h w =
+abbrev pub MayHappen : SchemaModel → List RdnModel → ℕ → Bool → List MachineReply → MachineEvent → MachineReply → List (WorldEvent OpValue) → World OpValue → Type 0
+MayHappen s root n journaled before (event.Give i g) reply.Nothing h w = (h ≡ []) × (IsAway n before i ⊎ IsMissing before i g)
+MayHappen s root n journaled before (event.Give i g) (reply.Handled j outs behind) h w = (j ≡ i) × TakesEach n before i (g ∷ []) outs.items h w
+MayHappen s root n journaled before (event.Give i g) (reply.Refused j e) h w = (j ≡ i) × (e ≡ NoMemory) × (h ≡ [])
+MayHappen s root n journaled before (event.Give i g) (reply.Stopped j e) h w = (j ≡ i) × (e ≢ NoMemory) × EndsInside n before i (g ∷ []) h w
+MayHappen s root n journaled before (event.GiveAll i gs) reply.Nothing h w = (h ≡ []) × (IsAway n before i ⊎ IsOneMissing before i gs.items)
+MayHappen s root n journaled before (event.GiveAll i gs) (reply.Handled j outs behind) h w = (j ≡ i) × TakesEach n before i gs.items outs.items h w
+MayHappen s root n journaled before (event.GiveAll i gs) (reply.Refused j e) h w = (j ≡ i) × (e ≡ NoMemory) × (h ≡ [])
+MayHappen s root n journaled before (event.GiveAll i gs) (reply.Stopped j e) h w = (j ≡ i) × (e ≢ NoMemory) × EndsInside n before i gs.items h w
+MayHappen s root n journaled before (event.Crash i fates) reply.Nothing h w = (h ≡ []) × IsAway n before i
+MayHappen s root n journaled before (event.Crash i fates) (reply.Crashed j) h w = (j ≡ i) × (h ≡ Crash i ∷ [])
+MayHappen s root n journaled before (event.Start i faults fates) reply.Nothing h w = (h ≡ []) × IsNotToStart n before i
+MayHappen s root n journaled before (event.Start i faults fates) (reply.Started j restarts out) h w = (j ≡ i) × (StartsFirst before i restarts out h ⊎ StartsAgain n journaled before i restarts out h w ⊎ GoesOnOver n journaled before i out h w)
+MayHappen s root n journaled before (event.Start i faults fates) (reply.Refused j e) h w = (j ≡ i) × (h ≡ [])
+MayHappen s root n journaled before (event.Start i faults fates) (reply.Stopped j e) h w = (j ≡ i) × (h ≡ [])
+MayHappen s root n journaled before (event.Ask i client number) reply.Nothing h w = (h ≡ []) × IsAway n before i
+MayHappen s root n journaled before (event.Ask i client number) (reply.Outcome j o) h w = (j ≡ i) × (h ≡ []) × IsByReplica n i w client number (became_view o) × IsDoneIn s root (committed n w.messages) client number (became_view o)
+MayHappen s root n journaled before (event.Search i named q) reply.Nothing h w = (h ≡ []) × IsAway n before i
+MayHappen s root n journaled before (event.Search i named q) (reply.Found j number a) h w =
     (j ≡ i) × (h ≡ []) × IsReadIn s root (committed n w.messages) named number (λ d. answer d (search_view q)) (answer_view a)
-MayHappen s root n before (event.Search i named q) (reply.NotYet j number) h w = (j ≡ i) × (h ≡ []) × IsTooEarly (committed n w.messages) named number
-MayHappen s root n before (event.Search i named q) (reply.Refused j e) h w = (j ≡ i) × (e ≡ NoMemory) × (h ≡ [])
-MayHappen s root n before (event.Compare i named q) reply.Nothing h w = (h ≡ []) × IsAway n before i
-MayHappen s root n before (event.Compare i named q) (reply.Compared j number r) h w =
+MayHappen s root n journaled before (event.Search i named q) (reply.NotYet j number) h w = (j ≡ i) × (h ≡ []) × IsTooEarly (committed n w.messages) named number
+MayHappen s root n journaled before (event.Search i named q) (reply.Refused j e) h w = (j ≡ i) × (e ≡ NoMemory) × (h ≡ [])
+MayHappen s root n journaled before (event.Compare i named q) reply.Nothing h w = (h ≡ []) × IsAway n before i
+MayHappen s root n journaled before (event.Compare i named q) (reply.Compared j number r) h w =
     (j ≡ i) × (h ≡ []) × IsReadIn s root (committed n w.messages) named number (λ d. compared d (compare_view q)) (reply_view r)
-MayHappen s root n before (event.Compare i named q) (reply.NotYet j number) h w = (j ≡ i) × (h ≡ []) × IsTooEarly (committed n w.messages) named number
-MayHappen s root n before (event.Compare i named q) (reply.Refused j e) h w = (j ≡ i) × (e ≡ NoMemory) × (h ≡ [])
-MayHappen s root n before (event.State i) reply.Nothing h w = (h ≡ []) × IsAway n before i
-MayHappen s root n before (event.State i) (reply.Standing j v st p k) h w = (h ≡ []) × IsReplica n i w (reply.Standing j v st p k)
-MayHappen s root n before _ _ h w = ⊥
+MayHappen s root n journaled before (event.Compare i named q) (reply.NotYet j number) h w = (j ≡ i) × (h ≡ []) × IsTooEarly (committed n w.messages) named number
+MayHappen s root n journaled before (event.Compare i named q) (reply.Refused j e) h w = (j ≡ i) × (e ≡ NoMemory) × (h ≡ [])
+MayHappen s root n journaled before (event.State i) reply.Nothing h w = (h ≡ []) × IsAway n before i
+MayHappen s root n journaled before (event.State i) (reply.Standing j v st p k) h w = (h ≡ []) × IsReplica n i w (reply.Standing j v st p k)
+MayHappen s root n journaled before _ _ h w = ⊥
 
 -- What happens in the world at the events of a schedule, one after another: of each event one reply, and a list of world events that may happen at it.
-abbrev pub HappenInTurn : SchemaModel → List RdnModel → ℕ → (before : List MachineReply) → List MachineEvent → List MachineReply → List (List (WorldEvent OpValue)) → World OpValue → Type 0
-HappenInTurn s root n before [] [] [] w = Unit {0}
-HappenInTurn s root n before (e ∷ es) (x ∷ xs) (h ∷ hs) w = MayHappen s root n before e x h w × HappenInTurn s root n (before ++ x ∷ []) es xs hs (run n h w)
-HappenInTurn s root n before _ _ _ w = ⊥
+abbrev pub HappenInTurn : SchemaModel → List RdnModel → ℕ → Bool → (before : List MachineReply) → List MachineEvent → List MachineReply → List (List (WorldEvent OpValue)) → World OpValue → Type 0
+HappenInTurn s root n journaled before [] [] [] w = Unit {0}
+HappenInTurn s root n journaled before (e ∷ es) (x ∷ xs) (h ∷ hs) w = MayHappen s root n journaled before e x h w × HappenInTurn s root n journaled (before ++ x ∷ []) es xs hs (run n h w)
+HappenInTurn s root n journaled before _ _ _ w = ⊥

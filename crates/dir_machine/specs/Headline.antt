@@ -12,6 +12,7 @@ use Rattle.vr_world.specs.Law.{IsHeld, TakesPart}
 use Rattle.vr_world.specs.World.{after, start}
 use Rattle.vr_world.specs.declared.events.WorldEvent.{WorldEvent}
 use Rattle.dir_machine.specs.Happening.{HappenInTurn}
+use Rattle.dir_machine.specs.Shown.{stage, up}
 use Rattle.dir_machine.specs.declared.events.MachineEvent.{MachineEvent}
 use Rattle.dir_machine.specs.declared.replies.MachineReply.{MachineReply}
 
@@ -37,8 +38,14 @@ pub record CommittedIsOneList (n : ℕ) (es : List (WorldEvent OpValue)) : Type 
   pub rising : Rising (committed_after n es)
   pub majorities : (quorum : ℕ → Bool) → n / 2 < count quorum (indices n) → ((j : ℕ) → quorum j ≡ true → TakesPart (after n es) j) → IsHeld (after n es) (committed_after n es)
 
--- There is one list of what happened in the world: the schedule gives it in turn, as what is shown says, and what is committed after it is one list.
-pub record IsWhole (s : SchemaModel) (root : List RdnModel) (n : ℕ) (schedule : List MachineEvent) (shown : List MachineReply) : Type 0 where
+-- Of any majority of processes that are up one has all that is committed in its log, whatever ended before, all at once too.
+abbrev pub MajoritiesKeep : ℕ → List MachineReply → List (WorldEvent OpValue) → Type 0
+MajoritiesKeep n shown es = (quorum : ℕ → Bool) → n / 2 < count quorum (indices n) → ((j : ℕ) → quorum j ≡ true → (j < n) × (stage shown j ≡ up)) → IsHeld (after n es) (committed_after n es)
+
+-- There is one list of what happened in the world: the schedule gives it in turn, as what is shown says, and what is committed after it is one list, which
+-- journals keep.
+pub record IsWhole (s : SchemaModel) (root : List RdnModel) (n : ℕ) (journaled : Bool) (schedule : List MachineEvent) (shown : List MachineReply) : Type 0 where
   pub happened : List (List (WorldEvent OpValue))
-  pub in_turn : HappenInTurn s root n [] schedule shown happened (start n)
+  pub in_turn : HappenInTurn s root n journaled [] schedule shown happened (start n)
   pub committed : CommittedIsOneList n (joined happened)
+  pub kept : journaled ≡ true → MajoritiesKeep n shown (joined happened)

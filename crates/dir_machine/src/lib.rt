@@ -7,10 +7,10 @@
 //! named by its place there. What a call gave out that ended inside is shown nowhere, and never comes.
 //!
 //! Proved: what the nodes do is what happens in a world of the protocol, one world event for each event that a node took. What is
-//! committed in that world is one list, which only grows, also where all processes end at once. Of any majority of replicas that are up
-//! and don't recover, one has all of it. Each answer of a search or a compare is that of one beginning of it, no shorter than the search
-//! named (`Machine::run`). A first start that failed is made again, over an empty journal: a stop inside it promises nothing of the
-//! device (`Node::fresh`), and nobody has heard of the replica by then.
+//! committed in that world is one list, which only grows. With journals each later start goes on as its journal has kept the replica, and
+//! of any majority of processes that are up one has all that is committed, also after all ended at once. Each answer of a search or a
+//! compare is that of one beginning of it, no shorter than the search named (`Machine::run`). A first start that failed is made again,
+//! over an empty journal: a stop inside it promises nothing of the device (`Node::fresh`), and nobody has heard of the replica by then.
 #![tactic(auto)]
 
 mod asking;

@@ -1,5 +1,5 @@
 //! Starts a process: for the first time, or again over what its device holds.
-ghost use Rattle.std.specs.Prelude.{◌≡◌, ◌<◌, Some, None, IfOk};
+ghost use Rattle.std.specs.Prelude.{◌≡◌, ◌<◌, Some, None, is_some, IfOk};
 ghost use Rattle.std.specs.Arc.{arc_value};
 ghost use Rattle.dir_machine.specs.declared.process.Process.TheVariants.{Down, Unborn};
 ghost use Rattle.dir_machine.specs.private.Processes.{IsRefusal, IsStarted};
@@ -52,7 +52,9 @@ fn first_journal(
     alloc: Global,
     machine: &Machine,
     fault: JournalFault,
-) -> Result<Option<journal::MemoryDevice>, AllocError> {
+) -> Result<Option<journal::MemoryDevice>, AllocError>
+    ensures { IfOk result (λ device. is_some device ≡ machine.now.journaled) }
+{
     if machine.journaled {
         let device = journal::MemoryDevice::new(alloc, Vec::new(alloc), machine.room, fault)?;
         Ok(Some(device))

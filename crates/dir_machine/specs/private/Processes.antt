@@ -1,5 +1,5 @@
 -- What is made of one process at one call.
-use Rattle.std.specs.Prelude.{◌≡◌, ◌≢◌, ◌⊎◌, ℕ, ◌+◌, ◌<◌, ◌≤◌, Bool, false, List, [], length, Option, Some, None, Vec, Result}
+use Rattle.std.specs.Prelude.{◌≡◌, ◌≢◌, ◌⊎◌, ℕ, ◌+◌, ◌<◌, ◌≤◌, Bool, false, List, [], length, Option, Some, None, is_some, Vec, Result}
 use Rattle.std.specs.Global.{Global}
 use Rattle.std.specs.Arc.{arc_value}
 use Rattle.std.specs.declared.alloc.AllocError.{AllocError}
@@ -96,6 +96,7 @@ pub record EndedInside (events : List (Event OpValue)) (old : MemoryNode) (left 
   pub steps : MakesSome old.count old.index old.replica events replica
   pub pair : (found old.cluster left.image.items ≡ own (pair_of old)) ⊎ (found old.cluster left.image.items ≡ own (record (pair_of old) { view = replica.view_number }))
   pub placed : IsWellPlaced left.image.items
+  pub journaled : is_some left.journal ≡ is_some old.journal
   pub log : TellsIn (head old) replica left.journal
 
 -- A process was never up.
@@ -175,6 +176,7 @@ pub record StartsOver (m : Machine) (i : ℕ) (left : Left) (n : MemoryNode) (ou
   pub start : Restart
   pub is : IsStartOver (owner m i) pair left.journal start
   pub born : IsBorn m i start.outcome.state start.pair.restarts n
+  pub journaled : is_some n.journal ≡ is_some left.journal
   pub gives : given n.replica out ≡ start.outcome
 
 -- A start that was refused leaves the octets that were there, or the pair from before it or from after it.
@@ -199,7 +201,7 @@ pub record IsLeftByStart (m : Machine) (i : ℕ) (old new : Left) : Type 0 where
 -- Replica i's process starts, if it isn't up.
 abbrev pub IsStarted : Machine → ℕ → Process → Process → MachineReply → Type 0
 IsStarted m i (Unborn old) (Up n f) (reply.Started j restarts out) =
-    (j ≡ i) × (restarts ≡ n.restarts) × IsBorn m i (first m.count) 1 n × (given n.replica out ≡ idle (first m.count)) × IsPlaced n.device
+    (j ≡ i) × (restarts ≡ n.restarts) × IsBorn m i (first m.count) 1 n × (given n.replica out ≡ idle (first m.count)) × IsPlaced n.device × (is_some n.journal ≡ m.journaled)
 IsStarted m i (Unborn old) (Unborn new) x = IsRefusal i x
 IsStarted m i (Down left) (Up n f) (reply.Started j restarts out) =
     (j ≡ i) × (restarts ≡ n.restarts) × StartsOver m i left n out × (IsWellPlaced left.image.items → IsPlaced n.device)

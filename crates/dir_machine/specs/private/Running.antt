@@ -1,5 +1,5 @@
 -- What the processes of a machine stand for in the world of the protocol.
-use Rattle.std.specs.Prelude.{◌≡◌, ℕ, ◌<◌, ◌≤◌, true, false, Option, Vec, List, [], ◌∷◌, ◌++◌, length, take, Some, None, slice_get}
+use Rattle.std.specs.Prelude.{◌≡◌, ℕ, ◌<◌, ◌≤◌, true, false, Option, Vec, List, [], ◌∷◌, ◌++◌, length, take, Some, None, is_some, slice_get}
 use Rattle.std.specs.Global.{Global}
 use Rattle.std.specs.Arc.{arc_value}
 use Rattle.dir_node.specs.Restarting.{may_resume}
@@ -10,8 +10,8 @@ use Rattle.state_machine.specs.dir_store.ldap_op.Values.{OpValue}
 use Rattle.view_store.specs.Slots.{IsWellPlaced, own, found}
 use Rattle.view_store.specs.declared.slot.Pair.{Pair}
 use Rattle.vr_state.specs.Lists.{IsPrefix}
-use Rattle.vr_state.specs.State.{first}
-use Rattle.vr_state.specs.StepLaw.{LastIsKept, LatestIsOfClient, RecoversInItsView}
+use Rattle.vr_state.specs.State.{first, is_recovering}
+use Rattle.vr_state.specs.StepLaw.{LastIsKept, LatestIsOfClient}
 use Rattle.vr_state.specs.declared.message.Change.{Change}
 use Rattle.vr_world.specs.Law.{IsSize}
 use Rattle.vr_world.specs.World.{World, after, has_used, sent_as, start}
@@ -31,19 +31,18 @@ use Rattle.dir_machine.specs.declared.replies.MachineReply.TheVariants as reply
 use Rattle.dir_machine.specs.declared.running.Running.{Running}
 use Rattle.dir_machine.specs.private.Processes.{IsNew, IsPlaced, KeepsIt, LogsIt, MemoryNode}
 
--- Laws of the crates below: strings of a journal tell one thing; a replica that isn't normal after a step has the last normal view that it had; one that
--- recovers stays in its view; a client table's place is that of the client's record.
+-- Laws of the crates below: strings of a journal tell one thing; a replica that isn't normal after a step recovers if it did before; a client table's
+-- place is that of the client's record.
 pub record Laws : Type 0 where
   pub one : OneIsTold
   pub last : LastIsKept OpValue
-  pub stays : RecoversInItsView OpValue
   pub latest : LatestIsOfClient OpValue
 
 -- No nonce of replica i is above this number.
 abbrev pub AreUpTo : World OpValue → ℕ → ℕ → Type 0
 AreUpTo w i most = (x : ℕ) → has_used x (w.nonces i) ≡ true → x ≤ most
 
--- A node that is up has its replica's state.
+-- A node that is up has its replica's state. With a journal that never recovers.
 pub record IsUp (m : Machine) (w : World OpValue) (i : ℕ) (n : MemoryNode) : Type 0 where
   pub index : n.index ≡ i
   pub count : n.count ≡ m.count
@@ -57,10 +56,12 @@ pub record IsUp (m : Machine) (w : World OpValue) (i : ℕ) (n : MemoryNode) : T
   pub executed : IsPrefix n.executed.records (take n.replica.commit_number n.replica.log)
   pub pair : KeepsIt n
   pub log : LogsIt n
+  pub journaled : is_some n.journal ≡ m.journaled
+  pub active : m.journaled ≡ true → is_recovering n.replica.status ≡ false
   pub started : 0 < n.restarts
   pub placed : IsPlaced n.device
 
--- What a journal tells that may be gone on from is what the world keeps of replica i.
+-- What a journal tells is what the world keeps of replica i.
 pub record HasKept (w : World OpValue) (i : ℕ) (t : Told) : Type 0 where
   pub stored : w.stored i ≡ t.kept.view
   pub change : Change OpValue
@@ -69,25 +70,26 @@ pub record HasKept (w : World OpValue) (i : ℕ) (t : Told) : Type 0 where
   pub last : change.last_normal_view ≡ t.kept.last
   pub low : t.kept.k ≤ change.commit_number
 
--- What a journal tells may be gone on from, and then it is what the world keeps; else replica i has this view stored.
-pub record IsKeptTold (w : World OpValue) (i view : ℕ) (t : Told) : Type 0 where
-  pub resumes : may_resume t ≡ true → HasKept w i t
-  pub lost : may_resume t ≡ false → w.stored i ≡ view
+-- What a journal tells may be gone on from, and is what the world keeps.
+pub record IsKeptTold (w : World OpValue) (i : ℕ) (t : Told) : Type 0 where
+  pub whole : may_resume t ≡ true
+  pub has : HasKept w i t
 
 -- So with whatever these strings tell.
-abbrev pub IsLogOf : World OpValue → ℕ → ℕ → List (List ℕ) → Type 0
-IsLogOf w i view strings = (t : Told) → Tells nothing_told strings t → IsKeptTold w i view t
+abbrev pub IsLogOf : World OpValue → ℕ → List (List ℕ) → Type 0
+IsLogOf w i strings = (t : Told) → Tells nothing_told strings t → IsKeptTold w i t
 
--- The view of a pair, and a journal, where there is one, are those of replica i, which is down.
+-- The journal is that of replica i, which is down; where there is none, so is the view of the pair.
 abbrev pub IsKeptBy : World OpValue → ℕ → ℕ → Option (Vec ℕ Global) → Type 0
 IsKeptBy w i view None = w.stored i ≡ view
-IsKeptBy w i view (Some octets) = IsLogOf w i view (recorded octets.items)
+IsKeptBy w i view (Some octets) = IsLogOf w i (recorded octets.items)
 
--- A process that ended: its replica is down, and its devices hold its stored view, and what its journal keeps.
+-- A process that ended: its replica is down, and its devices hold its stored view, or, with a journal, what that keeps.
 pub record IsDown (m : Machine) (w : World OpValue) (i : ℕ) (left : Left) : Type 0 where
   pub pair : Pair
   pub found_is : found m.cluster left.image.items ≡ own pair
   pub down : w.replicas i ≡ None
+  pub journaled : is_some left.journal ≡ m.journaled
   pub kept : IsKeptBy w i pair.view left.journal
   pub nonces : AreUpTo w i pair.restarts
   pub placed : IsWellPlaced left.image.items
@@ -122,7 +124,7 @@ pub record Stands (m : Machine) (w : World OpValue) (processes : List Process) (
 -- So much of a schedule was played.
 pub record IsPlayed (m : Machine) (played : List MachineEvent) (processes : List Process) (shown : List MachineReply) : Type 0 where
   pub happened : List (List (WorldEvent OpValue))
-  pub in_turn : HappenInTurn (arc_value m.schema) m.suffix m.count [] played shown happened (start m.count)
+  pub in_turn : HappenInTurn (arc_value m.schema) m.suffix m.count m.journaled [] played shown happened (start m.count)
   pub stands : Stands m (after m.count (joined happened)) processes shown
 
 -- A run goes on by one event.

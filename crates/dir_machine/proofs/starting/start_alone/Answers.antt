@@ -5,7 +5,7 @@ use Rattle.dir_machine.proofs.starting.start_alone.Goals as goal
 pub returns-in-Ok : goal.returns-in-Ok
 returns-in-Ok c = alone_started c.args.machine.now c.args.replica c.in_ok-config.config c.in_ok-config.ensures.schema c.in_ok-config.ensures.suffix c.in_ok-config.ensures.cluster c.in_ok-config.ensures.index c.in_ok-config.ensures.count
     c.args.image c.in_ok-device.device c.in_ok-device.ensures
-    c.in-Ok.node c.in-Ok.outputs c.restarts-restarts.result c.args.fates (c.in-Ok.ensures.own refl) (c.in-Ok.ensures.made refl) (c.in-Ok.ensures.outputs refl) c.in-Ok.ensures.kept c.in-Ok.ensures.logged c.restarts-restarts.ensures
+    c.in-Ok.node c.in-Ok.outputs c.restarts-restarts.result c.args.fates (c.in-Ok.ensures.own refl) (c.in-Ok.ensures.made refl) (c.in-Ok.ensures.outputs refl) c.in-Ok.ensures.kept c.in-Ok.ensures.logged c.in-Ok.ensures.journaled c.restarts-restarts.ensures
     (alone_placed c.args.machine.now c.args.replica c.in_ok-config.config c.in_ok-config.ensures.schema c.in_ok-config.ensures.suffix c.in_ok-config.ensures.cluster c.in_ok-config.ensures.index c.in_ok-config.ensures.count
     c.args.image c.in_ok-device.device c.in_ok-device.ensures
     c.in-Ok.node.device c.in-Ok.ensures.placed (c.in-Ok.ensures.any_moment refl))
