@@ -1,5 +1,4 @@
-"""A replica that is given what is damaged: the file of its stored view, and frames at its peers' port. Whether the run is the whole one flows in; how many
-inputs there were, and what was wrong, flows out."""
+"""Gives a replica what is damaged: the file of its stored view, and frames at its port for peers. Returns how many inputs there were, and what was wrong."""
 from __future__ import annotations
 
 import errno
